@@ -15,7 +15,7 @@ use Rattle.fb_types.proofs.KeyLaws.{earlier_precedes, key_cmp_total, same_key_is
 use Rattle.fb_agenda.specs.Agendas.{Contents, waiting, AreRising, AreApart, IsFirst, IsFirstTick, IsLeast, IsNext, IsQueue}
 use Rattle.fb_agenda.specs.Calendars.{BeginsAt, Leads, Sets}
 use Rattle.fb_types.specs.declared.run.Event.{Event}
-use Rattle.fb_agenda.specs.Places.{taken}
+use Rattle.fb_agenda.specs.Indexes.{taken}
 use Rattle.fb_agenda.specs.declared.least.Least.{Least}
 use Rattle.fb_agenda.proofs.Orders.{less_from, not_none, absent, all_later, precedes, without_first}
 use Rattle.fb_types.proofs.Lookups.{or_else_none, or_else_nones}

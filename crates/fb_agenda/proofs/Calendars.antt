@@ -16,7 +16,7 @@ use Rattle.fb_types.specs.Keys.{Precedes, key_cmp, or_else, same_key}
 use Rattle.fb_types.specs.declared.key.Key.{Key}
 use Rattle.fb_types.proofs.KeyLaws.{before_least, earlier_precedes, key_cmp_total, same_key_is, same_key_itself}
 use Rattle.fb_agenda.specs.Agendas.{AreRising, IsFirst, IsFirstTick}
-use Rattle.fb_agenda.specs.Calendars.{AreSplit, BeginsAt, IsPlaceOf, IsQuiet, Leads, Sets}
+use Rattle.fb_agenda.specs.Calendars.{AreSplit, BeginsAt, IsIndexOf, IsQuiet, Leads, Sets}
 use Rattle.fb_types.specs.declared.run.Event.{Event}
 use Rattle.fb_types.proofs.Lookups.{or_else_none}
 use Rattle.fb_agenda.proofs.Apart.{before_both, either_some, precedes_tick, first_is, first_some}
@@ -255,23 +255,23 @@ err_known (Err x) p = p
 
 -- ---- A key in the row
 
-pub place_here : {X : Type 0} (es : List (Key × X)) (k : Key) (i : ℕ) → i < length es → ((d : Key × X) → (get_or es i d).0 ≡ k) → IsSome (lookup (same_key k) es)
-place_here [] k i within there = absurd (omega arith)
-place_here (e ∷ es) k zero within there =
+pub index_here : {X : Type 0} (es : List (Key × X)) (k : Key) (i : ℕ) → i < length es → ((d : Key × X) → (get_or es i d).0 ≡ k) → IsSome (lookup (same_key k) es)
+index_here [] k i within there = absurd (omega arith)
+index_here (e ∷ es) k zero within there =
     subst (λ (z : Key). IsSome (lookup (same_key z) (e ∷ es))) (there e) (ap (λ b. is_some (cond b (Some e.1) (lookup (same_key e.0) es))) (same_key_itself e.0))
-place_here {X} (e ∷ es) k (suc i) within there = go (same_key k e.0) (place_here es k i (omega arith) there)
+index_here {X} (e ∷ es) k (suc i) within there = go (same_key k e.0) (index_here es k i (omega arith) there)
   where
     go : (b : Bool) → IsSome (lookup (same_key k) es) → IsSome (cond b (Some e.1) (lookup (same_key k) es))
     go true rest = refl
     go false rest = rest
 
 -- the key at an index is in the row, and so not in the map
-pub alone : (few many : List (Key × Event)) → AreSplit few many → (k : Key) (i : ℕ) → IsPlaceOf few k i → lookup (same_key k) many ≡ None
-alone few many split k i place = split.apart k (place_here few k i place.within place.there)
+pub alone : (few many : List (Key × Event)) → AreSplit few many → (k : Key) (i : ℕ) → IsIndexOf few k i → lookup (same_key k) many ≡ None
+alone few many split k i index = split.apart k (index_here few k i index.within index.there)
 
 -- an event replaces another
-pub over_is : (es : List (Key × Event)) (k : Key) (v : Event) (i : ℕ) → AreRising es → IsPlaceOf es k i → set es i (k, v) ≡ insert_entry key_cmp es k v
-over_is es k v i rising place = put_over k v es i rising place.within (λ d. subst (λ (z : Key). key_cmp z k ≡ Equal) (sym (place.there d)) (equal_itself k))
+pub over_is : (es : List (Key × Event)) (k : Key) (v : Event) (i : ℕ) → AreRising es → IsIndexOf es k i → set es i (k, v) ≡ insert_entry key_cmp es k v
+over_is es k v i rising index = put_over k v es i rising index.within (λ d. subst (λ (z : Key). key_cmp z k ≡ Equal) (sym (index.there d)) (equal_itself k))
   where
     equal_itself : (z : Key) → key_cmp z z ≡ Equal
     equal_itself z = go (key_cmp z z) (same_key_itself z)
@@ -343,14 +343,14 @@ absent_before k [] d rising some before = absurd (omega arith)
 absent_before k (e ∷ es) d rising some before = absent k (e ∷ es) (before, all_later k e.0 es before rising.0)
 
 -- what a search returns
-pub place_found : (es : List (Key × Event)) (k : Key) (r : Result ℕ ℕ) (n : ℕ) → n ≡ length es → IsSearchInRange r n → IsBinarySearchResult (λ e. key_cmp e.0 k) es r
-    → IfSome (result_ok r) (IsPlaceOf es k)
-place_found es k (Ok i) n count within found = record { within = subst (λ m. i < m) count within; there = λ d. same_key_is (get_or es i d).0 k (ap is_eq (found d)) }
-place_found es k (Err i) n count within found = tt
+pub index_found : (es : List (Key × Event)) (k : Key) (r : Result ℕ ℕ) (n : ℕ) → n ≡ length es → IsSearchInRange r n → IsBinarySearchResult (λ e. key_cmp e.0 k) es r
+    → IfSome (result_ok r) (IsIndexOf es k)
+index_found es k (Ok i) n count within found = record { within = subst (λ m. i < m) count within; there = λ d. same_key_is (get_or es i d).0 k (ap is_eq (found d)) }
+index_found es k (Err i) n count within found = tt
 
-pub place_none : {X : Type 0} (es : List (Key × X)) (k : Key) → Rise es → (r : Result ℕ ℕ) → IsBinarySearchResult (λ e. key_cmp e.0 k) es r → IfNone (result_ok r) (lookup (same_key k) es ≡ None)
-place_none es k rising (Ok i) found = tt
-place_none es k rising (Err i) found =
+pub index_none : {X : Type 0} (es : List (Key × X)) (k : Key) → Rise es → (r : Result ℕ ℕ) → IsBinarySearchResult (λ e. key_cmp e.0 k) es r → IfNone (result_ok r) (lookup (same_key k) es ≡ None)
+index_none es k rising (Ok i) found = tt
+index_none es k rising (Err i) found =
     let parted = found (searchable k es rising) in
     absent_between k es i (λ j d less. parted.0 j d (omega arith) less) (λ j d le less. parted.1 j d le less)
 

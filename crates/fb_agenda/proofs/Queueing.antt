@@ -18,9 +18,9 @@ use Rattle.fb_types.specs.declared.run.Target.{Target}
 use Rattle.fb_types.proofs.KeyLaws.{same_key_is}
 use Rattle.fb_types.proofs.Lookups.{cmp_equal}
 use Rattle.fb_agenda.specs.Agendas.{AreRising, IsFirst, IsQueue, MayFollow, local_events}
-use Rattle.fb_agenda.specs.Calendars.{BeginsAt, IsPlaceOf, Sets}
+use Rattle.fb_agenda.specs.Calendars.{BeginsAt, IsIndexOf, Sets}
 use Rattle.fb_agenda.proofs.Apart.{first_is, queue_class, queue_less, queue_more}
-use Rattle.fb_agenda.proofs.Calendars.{over_is, place_here, put_rises, put_sets, removed_rises, removed_sets}
+use Rattle.fb_agenda.proofs.Calendars.{over_is, index_here, put_rises, put_sets, removed_rises, removed_sets}
 use Rattle.fb_agenda.proofs.Orders.{AllBefore, Rise, all_before, not_none, put_last}
 
 -- ---- Targets and events
@@ -52,18 +52,18 @@ no_target : Key × Target
 no_target = (local_key 0 0 0, record { instance = 0; event = 0; is_output = false })
 
 -- the key at an index
-key_at : (ts : List (Key × Target)) (i : ℕ) (k : Key) → i < length ts → ((d : Key × Target) → (get_or ts i d).0 ≡ k) → IsPlaceOf (local_events ts) k i
+key_at : (ts : List (Key × Target)) (i : ℕ) (k : Key) → i < length ts → ((d : Key × Target) → (get_or ts i d).0 ≡ k) → IsIndexOf (local_events ts) k i
 key_at ts i k within there = record {
   within = let same = length-map ts event_at in omega (arith, same, within);
   there = λ d. ap (λ (e : Key × Event). e.0) (get_or-map event_at ts i no_target d within) ∙ there no_target;
 }
 
-pub place_within : (ts : List (Key × Target)) (k : Key) (i : ℕ) → IsPlaceOf (local_events ts) k i → i < length ts
-place_within ts k i place = let same = length-map ts event_at in let within = place.within in omega (arith, same, within)
+pub index_within : (ts : List (Key × Target)) (k : Key) (i : ℕ) → IsIndexOf (local_events ts) k i → i < length ts
+index_within ts k i index = let same = length-map ts event_at in let within = index.within in omega (arith, same, within)
 
 -- what a search returns
 pub found_target : (ts : List (Key × Target)) (k : Key) (r : Result ℕ ℕ) (n : ℕ) → n ≡ length ts → IsSearchInRange r n → IsBinarySearchResult (λ t. key_cmp t.0 k) ts r
-    → IfSome (result_ok r) (IsPlaceOf (local_events ts) k)
+    → IfSome (result_ok r) (IsIndexOf (local_events ts) k)
 found_target ts k (Ok i) n count within found = key_at ts i k (subst (λ m. i < m) count within) (λ d. same_key_is (get_or ts i d).0 k (ap is_eq (found d)))
 found_target ts k (Err i) n count within found = tt
 
@@ -99,7 +99,7 @@ follows_none (t ∷ ts) k none = absurd (none (omega arith))
 pub follows_last : (ts : List (Key × Target)) (k last : Key) (n : ℕ) (d : Key × Target) → IsQueue (local_events ts) → k.class ≡ 3 → length ts ≡ suc n → (get_or ts n d).0 ≡ last
     → last.tick ≡ k.tick → last.resource ≡ k.resource → last.a < k.a → MayFollow (local_events ts) k
 follows_last ts k last n d queue local count is tick resource less =
-    let here : IsSome (lookup (same_key last) (local_events ts)) = subst (λ o. IsSome o) (sym (lookup_same last ts)) (mapped (lookup (same_key last) ts) (place_here ts last n (omega (arith, count)) at)) in
+    let here : IsSome (lookup (same_key last) (local_events ts)) = subst (λ o. IsSome o) (sym (lookup_same last ts)) (mapped (lookup (same_key last) ts) (index_here ts last n (omega (arith, count)) at)) in
     let before : Precedes last k = local_precedes last k tick resource (queue_class (local_events ts) queue last here ∙ sym local) less in
     let all : AllBefore k ts = all_before k ts n d (rise_targets ts queue.rising) count (subst (λ (z : Key). Precedes z k) (sym is) before) in
     record { before = subst (λ ks. AllByRecursion (λ j. Precedes j k) ks) (sym (keys_same ts)) all; tick = λ j there. queue.tick j last there here ∙ tick }
@@ -130,12 +130,12 @@ set_same [] i t = refl
 set_same (x ∷ ts) zero t = refl
 set_same (x ∷ ts) (suc i) t = ap (λ es. event_at x ∷ es) (set_same ts i t)
 
-module _ (ts : List (Key × Target)) (k : Key) (i : ℕ) (t : Target) (queue : IsQueue (local_events ts)) (place : IsPlaceOf (local_events ts) k i) where
+module _ (ts : List (Key × Target)) (k : Key) (i : ℕ) (t : Target) (queue : IsQueue (local_events ts)) (index : IsIndexOf (local_events ts) k i) where
   over_same : local_events (set ts i (k, t)) ≡ insert_entry key_cmp (local_events ts) k (Local t)
-  over_same = set_same ts i (k, t) ∙ over_is (local_events ts) k (Local t) i queue.rising place
+  over_same = set_same ts i (k, t) ∙ over_is (local_events ts) k (Local t) i queue.rising index
 
   pub here : IsSome (lookup (same_key k) (local_events ts))
-  here = place_here (local_events ts) k i place.within place.there
+  here = index_here (local_events ts) k i index.within index.there
 
   pub set_sets : Sets k (Some (Local t)) (local_events ts) (local_events (set ts i (k, t)))
   set_sets = put_sets (local_events ts) (local_events (set ts i (k, t))) k (Local t) over_same
@@ -152,12 +152,12 @@ remove_same [] (suc i) = refl
 remove_same (x ∷ ts) zero = refl
 remove_same (x ∷ ts) (suc i) = ap (λ es. event_at x ∷ es) (remove_same ts i)
 
-module _ (ts new : List (Key × Target)) (k : Key) (i : ℕ) (queue : IsQueue (local_events ts)) (place : IsPlaceOf (local_events ts) k i) (is : new ≡ remove ts i) where
+module _ (ts new : List (Key × Target)) (k : Key) (i : ℕ) (queue : IsQueue (local_events ts)) (index : IsIndexOf (local_events ts) k i) (is : new ≡ remove ts i) where
   gone_is : local_events new ≡ remove (local_events ts) i
   gone_is = ap local_events is ∙ remove_same ts i
 
   pub gone_sets : Sets k None (local_events ts) (local_events new)
-  gone_sets = subst (λ es. Sets k None (local_events ts) es) (sym gone_is) (removed_sets (local_events ts) k i queue.rising place.within place.there)
+  gone_sets = subst (λ es. Sets k None (local_events ts) es) (sym gone_is) (removed_sets (local_events ts) k i queue.rising index.within index.there)
 
   pub gone_queue : IsQueue (local_events new)
   gone_queue = queue_less (local_events ts) (local_events new) k queue (subst (λ es. AreRising es) (sym gone_is) (removed_rises (local_events ts) i queue.rising)) gone_sets

@@ -22,7 +22,7 @@ pub record Leads (these those : List (Key × Event)) : Type 0 where
   pub none : these ≡ [] → those ≡ []
 
 -- This is the index of the key.
-pub record IsPlaceOf (es : List (Key × Event)) (k : Key) (i : ℕ) : Type 0 where
+pub record IsIndexOf (es : List (Key × Event)) (k : Key) (i : ℕ) : Type 0 where
   pub within : i < length es
   pub there : (d : Key × Event) → (slice_index_or es i d).0 ≡ k
 

@@ -2,4 +2,4 @@ pub mod Agendas
 pub mod Arrivals
 pub mod Calendars
 pub mod Inside
-pub mod Places
+pub mod Indexes

@@ -9,7 +9,7 @@ ghost use Rattle.fb_types.specs.declared.run.Event.TheVariants.{Local, Timer};
 ghost use Rattle.fb_agenda.specs.Agendas.{waiting, AreRising, IsNext, IsTimed, LiesIn, MayFollow, local_events, timer_set};
 ghost use Rattle.fb_agenda.specs.Arrivals.{AreNew, arrivals_at};
 ghost use Rattle.fb_agenda.specs.Calendars.{BeginsAt, Leads, Sets};
-ghost use Rattle.fb_agenda.specs.Places.{taken};
+ghost use Rattle.fb_agenda.specs.Indexes.{taken};
 
 use crate::calendar::Calendar;
 use crate::later::Later;
@@ -85,15 +85,15 @@ fn is_now_less(now: &VecDeque<(Key, Target)>, later: &Calendar) -> bool
 /// Takes the first event of the calendar, if its tick is below the horizon, and moves it into the slot. Returns whether
 /// it did.
 #[inline(never)]
-fn pop_later(later: &mut Calendar, horizon: u64, place: &mut Least) -> bool
-    ensures value { IfSome (taken result place.new) (λ r. lookup (same_key r.0) later.old ≡ Some r.1) }
-    ensures none_before { IfSome (taken result place.new) (λ r. (j : Key) → Precedes j r.0 → lookup (same_key j) later.old ≡ None) }
-    ensures left { IfSome (taken result place.new) (λ r. Sets r.0 None later.old later.new) }
-    ensures below { IfSome (taken result place.new) (λ r. r.0.tick < horizon) }
-    ensures none { IfNone (taken result place.new) (BeginsAt horizon later.old) }
-    ensures kept { IfNone (taken result place.new) (later.new ≡ later.old) }
+fn pop_later(later: &mut Calendar, horizon: u64, index: &mut Least) -> bool
+    ensures value { IfSome (taken result index.new) (λ r. lookup (same_key r.0) later.old ≡ Some r.1) }
+    ensures none_before { IfSome (taken result index.new) (λ r. (j : Key) → Precedes j r.0 → lookup (same_key j) later.old ≡ None) }
+    ensures left { IfSome (taken result index.new) (λ r. Sets r.0 None later.old later.new) }
+    ensures below { IfSome (taken result index.new) (λ r. r.0.tick < horizon) }
+    ensures none { IfNone (taken result index.new) (BeginsAt horizon later.old) }
+    ensures kept { IfNone (taken result index.new) (later.new ≡ later.old) }
 {
-    place.hold(later.pop_below(horizon))
+    index.hold(later.pop_below(horizon))
 }
 
 impl Agenda {
@@ -187,7 +187,7 @@ impl Agenda {
         ensures due { self.new.due ≡ self.old.due }
         ensures err { OnErr result (self.new ≡ self.old) }
     {
-        let Some(index) = queue::place_of(&self.now, &key) else {
+        let Some(index) = queue::index_of(&self.now, &key) else {
             return self.later.insert_local(key, event);
         };
         if let Some(target) = queue::target_of(&event) {
@@ -216,30 +216,30 @@ impl Agenda {
         ensures err { OnErr result (AreNew receiver messages.items self.old → (j : Key) → waiting self.new j ≡ waiting self.old j) }
         ensures due { self.new.due ≡ self.old.due }
     {
-        if arrivals::hold_places(&mut self.later.events, receiver, &messages).is_err() {
-            arrivals::free_places(&mut self.later.events, receiver, &messages);
+        if arrivals::hold_indexes(&mut self.later.events, receiver, &messages).is_err() {
+            arrivals::free_indexes(&mut self.later.events, receiver, &messages);
             return Err((AllocError, messages));
         }
-        arrivals::fill_places(&mut self.later.events, receiver, messages);
+        arrivals::fill_indexes(&mut self.later.events, receiver, messages);
         Ok(())
     }
 
     /// Takes the event with the least key, if its tick is below the horizon (in milliseconds), and moves it into the
     /// slot. Returns whether it did.
     #[inline(always)]
-    pub fn take_least_into(&mut self, horizon: u64, place: &mut Least) -> bool
-        ensures found { OnTrue result (waiting self.old place.new.key ≡ Some place.new.event) }
-        ensures below { OnTrue result (place.new.key.tick < horizon) }
-        ensures least { OnTrue result ((j : Key) → Precedes j place.new.key → waiting self.old j ≡ None) }
-        ensures left { OnTrue result ((j : Key) → waiting self.new j ≡ (if same_key place.new.key j then None else waiting self.old j)) }
+    pub fn take_least_into(&mut self, horizon: u64, index: &mut Least) -> bool
+        ensures found { OnTrue result (waiting self.old index.new.key ≡ Some index.new.event) }
+        ensures below { OnTrue result (index.new.key.tick < horizon) }
+        ensures least { OnTrue result ((j : Key) → Precedes j index.new.key → waiting self.old j ≡ None) }
+        ensures left { OnTrue result ((j : Key) → waiting self.new j ≡ (if same_key index.new.key j then None else waiting self.old j)) }
         ensures due { self.new.due ≡ self.old.due }
         ensures none { OnFalse result ((j : Key) → j.tick < horizon → waiting self.old j ≡ None) }
         ensures kept { OnFalse result (self.new ≡ self.old) }
     {
         if is_now_first(&self.now, &mut self.later.events) {
-            queue::pop_into(&mut self.now, horizon, place)
+            queue::pop_into(&mut self.now, horizon, index)
         } else {
-            pop_later(&mut self.later.events, horizon, place)
+            pop_later(&mut self.later.events, horizon, index)
         }
     }
 

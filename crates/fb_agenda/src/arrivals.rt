@@ -26,7 +26,7 @@ fn key_of_arrival(receiver: u32, message: &Message) -> Key
 /// # Errors
 ///
 /// When memory runs out. Some of the keys may then have a placeholder.
-pub(crate) fn hold_places(
+pub(crate) fn hold_indexes(
     events: &mut Calendar,
     receiver: u32,
     messages: &[Message],
@@ -41,7 +41,7 @@ pub(crate) fn hold_places(
 }
 
 /// Removes the events under the keys of the messages.
-pub(crate) fn free_places(events: &mut Calendar, receiver: u32, messages: &[Message])
+pub(crate) fn free_indexes(events: &mut Calendar, receiver: u32, messages: &[Message])
     ensures kept { KeepsOthers (arrivals_at receiver messages.now) events.old events.new }
     ensures freed { LacksKeys (arrivals_at receiver messages.now) events.new }
 {
@@ -51,7 +51,7 @@ pub(crate) fn free_places(events: &mut Calendar, receiver: u32, messages: &[Mess
 }
 
 /// Puts a message under its key, which is reserved.
-fn fill_place(events: &mut Calendar, receiver: u32, message: Message)
+fn fill_index(events: &mut Calendar, receiver: u32, message: Message)
     requires held { IsSome (lookup (same_key (arrival_at receiver message).0) events.old) }
     ensures filled { (j : keys.Key) → lookup (same_key j) events.new ≡ (if same_key (arrival_at receiver message).0 j then Some (Arrival message) else lookup (same_key j) events.old) }
 {
@@ -60,11 +60,11 @@ fn fill_place(events: &mut Calendar, receiver: u32, message: Message)
 }
 
 /// Puts the messages under their keys, which are reserved.
-pub(crate) fn fill_places(events: &mut Calendar, receiver: u32, messages: Vec<Message>)
+pub(crate) fn fill_indexes(events: &mut Calendar, receiver: u32, messages: Vec<Message>)
     requires held { HasKeys (arrivals_at receiver messages.items) events.old }
     ensures filled { (j : keys.Key) → lookup (same_key j) events.new ≡ or_else (found j (arrivals_at receiver messages.items)) (lookup (same_key j) events.old) }
 {
     for message in messages {
-        fill_place(events, receiver, message);
+        fill_index(events, receiver, message);
     }
 }

@@ -97,7 +97,7 @@ impl Calendar {
         if self.many.is_empty() && self.few.len() < FEW {
             return rising::insert(&mut self.few, key, event);
         }
-        if let Some(index) = rising::place_of(&self.few, &key) {
+        if let Some(index) = rising::index_of(&self.few, &key) {
             self.few[index] = (key, event);
             return Ok(());
         }
@@ -109,7 +109,7 @@ impl Calendar {
     pub(crate) fn remove(&mut self, key: &Key) -> Option<Event>
         ensures { Sets key.now None self.old self.new }
     {
-        let Some(index) = rising::place_of(&self.few, key) else {
+        let Some(index) = rising::index_of(&self.few, key) else {
             return self.many.remove(key);
         };
         let (_, event) = self.few.remove(index)?;

@@ -1,7 +1,7 @@
 //! The slot for the event that is taken.
 
 ghost use Rattle.std.specs.Prelude.{◌≡◌};
-ghost use Rattle.fb_agenda.specs.Places.{taken};
+ghost use Rattle.fb_agenda.specs.Indexes.{taken};
 
 use fb_types::{Event, Key};
 

@@ -9,8 +9,8 @@ ghost use Rattle.std.specs.Map.{lookup};
 ghost use Rattle.fb_types.specs.Keys.{same_key};
 ghost use Rattle.fb_types.specs.declared.run.Event.TheVariants.{Local};
 ghost use Rattle.fb_agenda.specs.Agendas.{AreRising, IsFirst, IsQueue, MayFollow, local_events};
-ghost use Rattle.fb_agenda.specs.Calendars.{BeginsAt, IsPlaceOf};
-ghost use Rattle.fb_agenda.specs.Places.{taken};
+ghost use Rattle.fb_agenda.specs.Calendars.{BeginsAt, IsIndexOf};
+ghost use Rattle.fb_agenda.specs.Indexes.{taken};
 
 use crate::least::Least;
 use fb_types::{Event, Key, Target};
@@ -42,9 +42,9 @@ pub(crate) fn first(queue: &VecDeque<(Key, Target)>) -> Option<&Key>
 }
 
 /// The index of a key, if the queue has it.
-pub(crate) fn place_of(queue: &VecDeque<(Key, Target)>, key: &Key) -> Option<usize>
+pub(crate) fn index_of(queue: &VecDeque<(Key, Target)>, key: &Key) -> Option<usize>
     requires { AreRising (local_events queue.now.items) }
-    ensures there { IfSome result (IsPlaceOf (local_events queue.now.items) key.now) }
+    ensures there { IfSome result (IsIndexOf (local_events queue.now.items) key.now) }
     ensures absent { IfNone result (lookup (same_key key.now) (local_events queue.now.items) ≡ None) }
 {
     queue.binary_search_by_key(key, |(other, _)| *other).ok()
@@ -62,11 +62,11 @@ pub(crate) fn target_of(event: &Event) -> Option<Target>
 
 /// Takes the first event, if its tick is below the horizon, and moves it into the slot. Returns whether it did.
 #[inline(always)]
-pub(crate) fn pop_into(queue: &mut VecDeque<(Key, Target)>, horizon: u64, place: &mut Least) -> bool
+pub(crate) fn pop_into(queue: &mut VecDeque<(Key, Target)>, horizon: u64, index: &mut Least) -> bool
     requires { AreRising (local_events queue.old.items) }
-    ensures items { local_events queue.old.items ≡ option_to_list (taken result place.new) ++ local_events queue.new.items }
-    ensures below { IfSome (taken result place.new) (λ r. r.0.tick < horizon) }
-    ensures none { IfNone (taken result place.new) (BeginsAt horizon (local_events queue.old.items)) }
+    ensures items { local_events queue.old.items ≡ option_to_list (taken result index.new) ++ local_events queue.new.items }
+    ensures below { IfSome (taken result index.new) (λ r. r.0.tick < horizon) }
+    ensures none { IfNone (taken result index.new) (BeginsAt horizon (local_events queue.old.items)) }
     ensures kept { OnFalse result (queue.new.items ≡ queue.old.items) }
 {
     let Some((first, _)) = queue.front() else {
@@ -78,7 +78,7 @@ pub(crate) fn pop_into(queue: &mut VecDeque<(Key, Target)>, horizon: u64, place:
     let Some((key, target)) = queue.pop_front() else {
         return false;
     };
-    place.key = key;
-    place.event = Event::Local(target);
+    index.key = key;
+    index.event = Event::Local(target);
     true
 }

@@ -8,7 +8,7 @@ ghost use Rattle.std.specs.Map.{keys_of, lookup};
 ghost use Rattle.std.specs.BTreeMap.{insert_entry};
 ghost use Rattle.fb_types.specs.Keys.{Precedes, key_cmp, same_key};
 ghost use Rattle.fb_agenda.specs.Agendas.{AreRising, IsFirst, IsFirstTick};
-ghost use Rattle.fb_agenda.specs.Calendars.{BeginsAt, IsBetween, IsPlaceOf};
+ghost use Rattle.fb_agenda.specs.Calendars.{BeginsAt, IsBetween, IsIndexOf};
 
 use fb_types::{Event, Key};
 use std::alloc::AllocError;
@@ -72,9 +72,9 @@ pub(crate) fn first_tick(events: &VecDeque<(Key, Event)>) -> Option<u64>
 }
 
 /// The index of a key, if the list has it.
-pub(crate) fn place_of(events: &VecDeque<(Key, Event)>, key: &Key) -> Option<usize>
+pub(crate) fn index_of(events: &VecDeque<(Key, Event)>, key: &Key) -> Option<usize>
     requires { AreRising events.now.items }
-    ensures there { IfSome result (IsPlaceOf events.now.items key.now) }
+    ensures there { IfSome result (IsIndexOf events.now.items key.now) }
     ensures absent { IfNone result (lookup (same_key key.now) events.now.items ≡ None) }
 {
     // A timer that has gone off is usually before all others.
@@ -107,20 +107,20 @@ fn is_past(events: &VecDeque<(Key, Event)>, key: &Key) -> bool
 }
 
 /// The index of a new key near the back, if it belongs there.
-fn place_near(events: &VecDeque<(Key, Event)>, key: &Key) -> Option<usize>
+fn index_near(events: &VecDeque<(Key, Event)>, key: &Key) -> Option<usize>
     requires { AreRising events.now.items }
     ensures { IfSome result (IsBetween events.now.items key.now) }
 {
-    let mut place = events.len();
+    let mut index = events.len();
     for _ in 0..NEAR {
-        if place == 0 {
+        if index == 0 {
             return Some(0);
         }
-        let (before, _) = &events[place - 1];
+        let (before, _) = &events[index - 1];
         match before.cmp(key) {
-            Ordering::Less => return Some(place),
+            Ordering::Less => return Some(index),
             Ordering::Equal => return None,
-            Ordering::Greater => place -= 1,
+            Ordering::Greater => index -= 1,
         }
     }
     None
@@ -138,7 +138,7 @@ fn insert_within(
     ensures absent { OnErr result (lookup (same_key key) events.old.items ≡ None) }
     ensures err { OnErr result (events.new.items ≡ events.old.items) }
 {
-    if let Some(index) = place_near(events, &key) {
+    if let Some(index) = index_near(events, &key) {
         events.insert(index, (key, event))?;
         return Ok(());
     }

@@ -98,8 +98,8 @@ module _ {J D : Type 0} {does : J → D → Type 0} {jobs : List J} (s : BoardSt
         let flag_is = rule.flags k (omega arith) in omega arith
 
   -- a number that was drawn is out with one seat, or home
-  drawn_place : (k : ℕ) (job : J) → slice_get jobs k ≡ Some job → k < draw_count s → IsOut s k ⊎ IsBack s k does job
-  drawn_place k job there reached =
+  drawn_index : (k : ℕ) (job : J) → slice_get jobs k ≡ Some job → k < draw_count s → IsOut s k ⊎ IsBack s k does job
+  drawn_index k job there reached =
       let room = slice_get_within jobs k job there in
       let found = find_one (times_drawn k) s.views (drawn_below k (omega arith)) in
       let seat : ℕ = found.0 in let v : View J = found.1 in let at : Knows s seat v = found.2 in
@@ -133,11 +133,11 @@ module _ {J D : Type 0} {does : J → D → Type 0} {jobs : List J} (s : BoardSt
       })
 
   -- each number waits, is out with one seat, or is home
-  pub place : (k : ℕ) (job : J) → slice_get jobs k ≡ Some job → IsWaiting s k job ⊎ (IsOut s k ⊎ IsBack s k does job)
-  place k job there = dite (dec_le (draw_count s) k)
+  pub index : (k : ℕ) (job : J) → slice_get jobs k ≡ Some job → IsWaiting s k job ⊎ (IsOut s k ⊎ IsBack s k does job)
+  index k job there = dite (dec_le (draw_count s) k)
       (λ beyond. inl record {
         lowered = rule.flags k (slice_get_within jobs k job there) ∙ not_back k beyond;
         undrawn = λ seat v at. undrawn seat v at k (omega arith);
         slot = rule.waiting k job there beyond;
       })
-      (λ no. inr (drawn_place k job there (lt_of_not-le no)))
+      (λ no. inr (drawn_index k job there (lt_of_not-le no)))

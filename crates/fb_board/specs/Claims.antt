@@ -35,7 +35,7 @@ module _ {J D : Type 0} (s : BoardState J D) where
 
   -- the slot of k is at home, with this in it
   abbrev pub SlotHas : ℕ → SlotContent J D → Type 0
-  SlotHas k place = get_elem? s.homes k ≡ some (some place)
+  SlotHas k index = get_elem? s.homes k ≡ some (some index)
 
 -- Seats are numbered as they come, and only seat 0, the opener, may have more split off.
 -- Each seat knows the jobs that the board was opened with

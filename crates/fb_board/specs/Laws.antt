@@ -38,8 +38,8 @@ module _ {J D : Type 0} (s : BoardState J D) (k : ℕ) where
 
 module _ {J D : Type 0} (does : J → D → Type 0) where
   -- each number waits, is out with one seat, or is home
-  abbrev pub EachNumberHasAPlace : Type 0
-  EachNumberHasAPlace = (jobs : List J) (s : BoardState J D) (k : ℕ) (job : J) → MeetsRule does jobs s
+  abbrev pub EachNumberHasAnIndex : Type 0
+  EachNumberHasAnIndex = (jobs : List J) (s : BoardState J D) (k : ℕ) (job : J) → MeetsRule does jobs s
       → slice_get jobs k ≡ Some job → IsWaiting s k job ⊎ (IsOut s k ⊎ IsBack s k does job)
 
   -- two seats that drew one number are one seat, which drew it once

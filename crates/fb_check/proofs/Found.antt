@@ -4,7 +4,7 @@ use Rattle.std.specs.Prelude.{option_map, option_and_then, position, slice_get}
 use Rattle.std.proofs.lemmas.Option.{slice_get-map}
 use Rattle.fb_types.specs.Names.{Name, same_name}
 use Rattle.fb_types.specs.Blocks.{Kind, Event, named, event_blocks, event_block_named, ports_of, ports_of_event_block}
-use Rattle.fb_types.specs.EventPorts.{kind_place}
+use Rattle.fb_types.specs.EventPorts.{kind_index}
 use Rattle.fb_types.specs.Flat.{kind_of, type_name, type_named, kind_of_instance}
 use Rattle.fb_types.specs.declared.event_kind.EventKind.{EventKind}
 use Rattle.fb_types.specs.declared.library.Library.{Library}
@@ -12,7 +12,7 @@ use Rattle.fb_types.specs.declared.library.BlockType.{BlockType}
 use Rattle.fb_types.specs.declared.library.Instance.{Instance}
 use Rattle.fb_types.specs.declared.library.Ports.{Ports}
 use Rattle.fb_types.proofs.Positions.{named-position}
-use Rattle.fb_check.specs.Directory.{IsFound, IsDirectory, ports_at, ports_at_place}
+use Rattle.fb_check.specs.Directory.{IsFound, IsDirectory, ports_at, ports_at_index}
 use Rattle.fb_check.specs.declared.directory_making.TypeInputs.{TypeInputs}
 use Rattle.fb_check.specs.declared.directory.Directory.{Directory}
 
@@ -46,9 +46,9 @@ declared_ports lib n h =
 
 pub found_event :
     (lib : Library) (d : Directory) (n : Name) (k : EventKind) → event_block_named n ≡ Some k → IsDirectory lib d
-    → IsFound (ports_named lib n) (slice_get d.event_blocks (kind_place k))
+    → IsFound (ports_named lib n) (slice_get d.event_blocks (kind_index k))
 found_event lib d n k h is =
-    let P : Option Ports → Type 0 = λ o. IsFound o (slice_get d.event_blocks (kind_place k)) in
+    let P : Option Ports → Type 0 = λ o. IsFound o (slice_get d.event_blocks (kind_index k)) in
     subst P (sym (event_ports lib n k h)) (is.event_blocks k)
 
 pub found_none : (lib : Library) (n : Name) → event_block_named n ≡ None → position (same_name n) (map type_name lib.blocks) ≡ None → IsFound (ports_named lib n) None
@@ -70,7 +70,7 @@ instance_name i = i.name
 
 -- the interface of an instance is that at the index of its name
 pub ports_placed :
-    (lib : Library) (n : Name) (i : ℕ) → position (same_name n) (map instance_name lib.application.network.instances) ≡ Some i → ports_at lib n ≡ ports_at_place lib i
+    (lib : Library) (n : Name) (i : ℕ) → position (same_name n) (map instance_name lib.application.network.instances) ≡ Some i → ports_at lib n ≡ ports_at_index lib i
 ports_placed lib n i at =
     let instances = lib.application.network.instances in
     ap (λ o. option_map ports_of (option_and_then (kind_of_instance lib) o)) (named-position instance_name n instances ∙ ap (option_and_then (slice_get instances)) at)
@@ -87,12 +87,12 @@ unknown_instance lib n none =
 abbrev ports_of_found : Library → Option Instance → Option Ports
 ports_of_found lib o = option_map ports_of (option_and_then (kind_of_instance lib) o)
 
-pub missing_instance : (lib : Library) (i : ℕ) → slice_get lib.application.network.instances i ≡ None → IsFound (ports_at_place lib i) None
+pub missing_instance : (lib : Library) (i : ℕ) → slice_get lib.application.network.instances i ≡ None → IsFound (ports_at_index lib i) None
 missing_instance lib i none =
     let P : Option Instance → Type 0 = λ o. IsFound (ports_of_found lib o) None in subst P (sym none) tt
 
 pub found_instance :
     (lib : Library) (i : ℕ) (x : Instance) (o : Option TypeInputs) → slice_get lib.application.network.instances i ≡ Some x → IsFound (ports_named lib x.block_type) o
-    → IsFound (ports_at_place lib i) o
+    → IsFound (ports_at_index lib i) o
 found_instance lib i x o there found =
     let P : Option Instance → Type 0 = λ p. IsFound (ports_of_found lib p) o in subst P (sym there) found

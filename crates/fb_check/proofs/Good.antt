@@ -23,8 +23,8 @@ use Rattle.fb_types.specs.declared.deploy.Setting.{Setting}
 use Rattle.fb_types.proofs.Positions.{is_some-position, named-position, position_is}
 use Rattle.fb_types.proofs.Elements.{Contains-nil, Contains-cons_cases, Contains-here, Contains-there, Contains-map, map-Contains}
 use Rattle.fb_types.proofs.NameLaws.{same_from_same_name}
-use Rattle.fb_check_names.specs.Places.{IsIndex, place_in}
-use Rattle.fb_check.specs.Directory.{first_of, input_in, input_of, lists, leads_to, ports_at, ports_at_place, is_settable, can_set, AreTaken, CanTake, IsInputs, IsFound, IsDirectory}
+use Rattle.fb_check_names.specs.Indexes.{IsIndex, index_in}
+use Rattle.fb_check.specs.Directory.{first_of, input_in, input_of, lists, leads_to, ports_at, ports_at_index, is_settable, can_set, AreTaken, CanTake, IsInputs, IsFound, IsDirectory}
 use Rattle.fb_system.specs.declared.rows.StimulusRow.{StimulusRow}
 use Rattle.fb_check.specs.declared.directory_making.Input.{Input}
 use Rattle.fb_check.specs.declared.directory_making.TypeInputs.{TypeInputs}
@@ -81,17 +81,17 @@ named-among {A} f n (y ∷ ys) x h =
 -- ---- Event inputs
 
 -- the first with a name is at its index
-pub first_place :
+pub first_index :
     {A : Type 0} (name : A → Name) (xs : List A) (n : Name) → first_of {A = A} {X = ℕ} name (λ k x. k) xs n ≡ position (same_name n) (map name xs)
-first_place {A} name xs n =
+first_index {A} name xs n =
     elim (position (same_name n) (map name xs)) as (λ o. position (same_name n) (map name xs) ≡ o → option_and_then (λ k. option_map (λ (x : A). k) (slice_get xs k)) o ≡ o) [
       | None ↦ λ e. refl
       | Some k ↦ λ e. ap (option_map (λ (x : A). k)) (position_is name n xs k e).1
     ] refl
 
-is_event-is : (p : Ports) (x : TypeInputs) (n : Name) → IsInputs p x → is_some (place_in x.events n) ≡ is_event_input p n
+is_event-is : (p : Ports) (x : TypeInputs) (n : Name) → IsInputs p x → is_some (index_in x.events n) ≡ is_event_input p n
 is_event-is p x n is =
-    ap is_some (is.events.first n ∙ first_place (λ (e : EventPort). e.name) p.event_inputs n) ∙ is_some-position (same_name n) (event_names p.event_inputs)
+    ap is_some (is.events.first n ∙ first_index (λ (e : EventPort). e.name) p.event_inputs n) ∙ is_some-position (same_name n) (event_names p.event_inputs)
 
 -- ---- One setting
 
@@ -173,12 +173,12 @@ inputs_of_ports o x p found of = let P : Option Ports → Type 0 = λ o. IsFound
 
 -- the index that a table has for a name
 pub placed_at :
-    (names : List Name) (m : BTreeMap (Bor Name) ℕ) (n b : Name) (o : Option ℕ) → IsIndex names m → b ≡ n → o ≡ place_in m b → position (same_name n) names ≡ o
-placed_at names m n b o index same is = sym (index.place n) ∙ ap (place_in m) (sym same) ∙ sym is
+    (names : List Name) (m : BTreeMap (Bor Name) ℕ) (n b : Name) (o : Option ℕ) → IsIndex names m → b ≡ n → o ≡ index_in m b → position (same_name n) names ≡ o
+placed_at names m n b o index same is = sym (index.index n) ∙ ap (index_in m) (sym same) ∙ sym is
 
 -- what was found for the instance at the index of its name
-abbrev pub IsFoundAt : Library → Stimulus → (place : ℕ) → Option TypeInputs → Type 0
-IsFoundAt lib s k o = (position (same_name s.instance) (instance_names lib.application.network) ≡ Some k) × IsFound (ports_at_place lib k) o
+abbrev pub IsFoundAt : Library → Stimulus → (index : ℕ) → Option TypeInputs → Type 0
+IsFoundAt lib s k o = (position (same_name s.instance) (instance_names lib.application.network) ≡ Some k) × IsFound (ports_at_index lib k) o
 
 pub found_at : (lib : Library) (s : Stimulus) (k : ℕ) (o : Option TypeInputs) → IsFoundAt lib s k o → IsFound (ports_at lib s.instance) o
 found_at lib s k o h = let P : Option Ports → Type 0 = λ p. IsFound p o in subst P (sym (ports_placed lib s.instance k h.0)) h.1
@@ -188,7 +188,7 @@ no_instance lib s found take =
     let P : Option Ports → Type 0 = λ o. IsFound o None in
     let f : ⊥ = subst P take.of_ports found in f
 
-pub no_event : (lib : Library) (s : Stimulus) (x : TypeInputs) → IsFound (ports_at lib s.instance) (Some x) → is_some (place_in x.events s.event) ≡ false → ¬ (CanTake lib s)
+pub no_event : (lib : Library) (s : Stimulus) (x : TypeInputs) → IsFound (ports_at lib s.instance) (Some x) → is_some (index_in x.events s.event) ≡ false → ¬ (CanTake lib s)
 no_event lib s x found absent take =
     let is = inputs_of_ports (ports_at lib s.instance) x take.ports found take.of_ports in
     absurd (true≢false (sym (is_event-is take.ports x s.event is ∙ take.is_event) ∙ absent))
@@ -201,7 +201,7 @@ all-is p q [] same = refl
 all-is p q (x ∷ xs) same = λ i. same x i && all-is p q xs same i
 
 pub can_take :
-    (lib : Library) (d : Directory) (x : TypeInputs) (s : Stimulus) → IsDirectory lib d → IsFound (ports_at lib s.instance) (Some x) → is_some (place_in x.events s.event) ≡ true
+    (lib : Library) (d : Directory) (x : TypeInputs) (s : Stimulus) → IsDirectory lib d → IsFound (ports_at lib s.instance) (Some x) → is_some (index_in x.events s.event) ≡ true
     → ¬ (Twice (set_names s)) → Decides (list_all (is_settable d x s) s.settings) (CanTake lib s)
 can_take lib d x s directory found event distinct = (
   λ all.

@@ -22,9 +22,9 @@ use Rattle.fb_types.specs.declared.library.Ports.{Ports}
 use Rattle.fb_types.specs.declared.library.Variable.{Variable}
 use Rattle.fb_check_names.proofs.Each.{each_parts, is_some-each}
 use Rattle.fb_types.proofs.Positions.{named-position, position_is}
-use Rattle.fb_check_names.specs.Numbers.{each_or_none, place_of}
-use Rattle.fb_types.proofs.ByPlace.{slice_get-push}
-use Rattle.fb_check_names.specs.Places.{place_in}
+use Rattle.fb_check_names.specs.Numbers.{each_or_none, index_of}
+use Rattle.fb_types.proofs.ByIndex.{slice_get-push}
+use Rattle.fb_check_names.specs.Indexes.{index_in}
 use Rattle.fb_system.specs.declared.rows.SlotValue.{SlotValue}
 use Rattle.fb_system.specs.declared.rows.StimulusRow.{StimulusRow}
 use Rattle.fb_system.specs.Rows.{IsSet, AreSets, IsRow, AreRows, AreRowsUpTo}
@@ -32,14 +32,14 @@ use Rattle.fb_check.specs.Directory.{CanTake, IsDirectory, IsInputs, IsTaken, ha
 use Rattle.fb_check.specs.declared.directory_making.Input.{Input}
 use Rattle.fb_check.specs.declared.directory_making.TypeInputs.{TypeInputs}
 use Rattle.fb_check.specs.declared.directory.Directory.{Directory}
-use Rattle.fb_check.proofs.Good.{IsFoundAt, all-is, can_take, first_place, found_at, kind_of_ports, the_ports}
+use Rattle.fb_check.proofs.Good.{IsFoundAt, all-is, can_take, first_index, found_at, kind_of_ports, the_ports}
 
 -- ---- Slots
 
 held_some : (o : Option Input) (v : Value) → is_some (held_slot o v) ≡ elim o as (λ _. Bool) [ None ↦ false | Some i ↦ fits i.ty v ]
 held_some None v = refl
 held_some (Some i) v =
-    let it : SlotValue = record { place = i.place; value = v } in
+    let it : SlotValue = record { index = i.index; value = v } in
     elim (fits i.ty v) as (λ b. is_some (if b then Some it else None) ≡ b) [ true ↦ refl | false ↦ refl ]
 
 -- there is a slot exactly for a setting that can be made
@@ -62,7 +62,7 @@ slots_some d x s =
     is_some-each (slot_of d x s) s.settings ∙ all-is (λ v. is_some (slot_of d x s v)) (is_settable d x s) s.settings (slot_some d x s)
 
 -- what the index of a variable sets is the variable
-set_is : (p : Ports) (s : Setting) (k n : ℕ) → place_of (data_ins p) s.variable ≡ Some k → n ≡ k → IsSet p.inputs s (record { place = n; value = s.value })
+set_is : (p : Ports) (s : Setting) (k n : ℕ) → index_of (data_ins p) s.variable ≡ Some k → n ≡ k → IsSet p.inputs s (record { index = n; value = s.value })
 set_is p s k n h e =
     let at = position_is (λ (v : Variable). v.name) s.variable p.inputs k h in
     let name : slice_get (variable_names p.inputs) n ≡ Some s.variable =
@@ -76,12 +76,12 @@ set_is p s k n h e =
 held_set : (p : Ports) (x : TypeInputs) (v : Setting) (y : SlotValue) → IsInputs p x → held_slot (input_in x.variables v.variable) v.value ≡ Some y → IsSet p.inputs v y
 held_set p x v y is h =
     let name : Variable → Name = λ w. w.name in
-    let place : Option ℕ = position (same_name v.variable) (variable_names p.inputs) in
-    elim place as (λ o. place ≡ o → held_slot (option_and_then (λ k. option_map (input_of k) (slice_get p.inputs k)) o) v.value ≡ Some y → IsSet p.inputs v y) [
+    let index : Option ℕ = position (same_name v.variable) (variable_names p.inputs) in
+    elim index as (λ o. index ≡ o → held_slot (option_and_then (λ k. option_map (input_of k) (slice_get p.inputs k)) o) v.value ≡ Some y → IsSet p.inputs v y) [
       | None ↦ λ e g. absurd (cc)
       | Some k ↦ λ e g.
           let at = position_is name v.variable p.inputs k e in
-          let it : SlotValue = record { place = k; value = v.value } in
+          let it : SlotValue = record { index = k; value = v.value } in
           (elim (fits at.0.ty v.value) as (λ b. (if b then Some it else None) ≡ Some y → IsSet p.inputs v y) [
             | false ↦ λ f. absurd (cc)
             | true ↦ λ f. subst (λ (z : SlotValue). IsSet p.inputs v z) (same_Some it y f) (set_is p v k k e refl)
@@ -101,20 +101,20 @@ slots_set :
     → AreSets p.inputs vs ys
 slots_set p d x s [] ys is h =
     let none : [] ≡ ys = cc in
-    subst (λ (zs : List SlotValue). AreSets p.inputs [] zs) none (record { named = refl; within = All-nil (λ (y : SlotValue). y.place < length p.inputs) })
+    subst (λ (zs : List SlotValue). AreSets p.inputs [] zs) none (record { named = refl; within = All-nil (λ (y : SlotValue). y.index < length p.inputs) })
 slots_set p d x s (v ∷ vs) ys is h =
     let r = each_parts (slot_of d x s) v vs ys h in
     let here = slot_set p d x s v r.0 is r.2 in
     let rest = slots_set p d x s vs r.1 is r.3 in
     subst (λ (zs : List SlotValue). AreSets p.inputs (v ∷ vs) zs) (sym r.4) (record {
       named = λ j. here.named j ∷ rest.named j;
-      within = All-cons (λ (y : SlotValue). y.place < length p.inputs) r.0 r.1 here.within rest.within;
+      within = All-cons (λ (y : SlotValue). y.index < length p.inputs) r.0 r.1 here.within rest.within;
     })
 
 -- ---- Events
 
-event_at_place : (p : Ports) (n : Name) (k j : ℕ) → place_of (event_ins p) n ≡ Some k → j ≡ k → slice_get (event_names p.event_inputs) j ≡ Some n
-event_at_place p n k j h e =
+event_at_index : (p : Ports) (n : Name) (k j : ℕ) → index_of (event_ins p) n ≡ Some k → j ≡ k → slice_get (event_names p.event_inputs) j ≡ Some n
+event_at_index p n k j h e =
     let at = position_is (λ (e : EventPort). e.name) n p.event_inputs k h in
     ap (slice_get (event_names p.event_inputs)) e ∙ slice_get-map (λ (e : EventPort). e.name) p.event_inputs k
     ∙ ap (option_map (λ (e : EventPort). e.name)) at.1 ∙ ap (λ (m : Name). Some m) at.2
@@ -124,7 +124,7 @@ event_at_place p n k j h e =
 -- what was made of a stimulus that can be taken
 pub taken_is :
     (lib : Library) (d : Directory) (s : Stimulus) (x : TypeInputs) (row : StimulusRow) (k e : ℕ) → IsDirectory lib d → IsFoundAt lib s k (Some x)
-    → place_in x.events s.event ≡ Some e → ¬ (Twice (set_names s)) → each_or_none (slot_of d x s) s.settings ≡ Some row.sets
+    → index_in x.events s.event ≡ Some e → ¬ (Twice (set_names s)) → each_or_none (slot_of d x s) s.settings ≡ Some row.sets
     → row.tick ≡ s.tick → row.instance ≡ k → row.event ≡ e → IsTaken lib s row
 taken_is lib d s x row k e directory placed event distinct slots tick instance event_is =
     let instances = lib.application.network.instances in
@@ -136,8 +136,8 @@ taken_is lib d s x row k e directory placed event distinct slots tick instance e
     let at = position_is (λ (i : Instance). i.name) s.instance instances k placed.0 in
     let named_is : instance_in lib.application.network s.instance ≡ Some at.0 =
     named-position (λ (i : Instance). i.name) s.instance instances ∙ ap (option_and_then (slice_get instances)) placed.0 ∙ at.1 in
-    let place : place_of (event_ins p) s.event ≡ Some e =
-    sym (first_place (λ (e : EventPort). e.name) p.event_inputs s.event) ∙ sym (its.2.events.first s.event) ∙ event in
+    let index : index_of (event_ins p) s.event ≡ Some e =
+    sym (first_index (λ (e : EventPort). e.name) p.event_inputs s.event) ∙ sym (its.2.events.first s.event) ∙ event in
     let Event : Ports → Type 0 = λ q. slice_get (event_names q.event_inputs) row.event ≡ Some s.event in
     let Sets : Ports → Type 0 = λ q. AreSets q.inputs s.settings row.sets in
     record {
@@ -151,14 +151,14 @@ taken_is lib d s x row k e directory placed event distinct slots tick instance e
         kind = kind.0;
         of_instance = sym (ap (option_and_then (kind_of_instance lib)) named_is) ∙ kind.1;
         of_kind = kind.1;
-        event = subst Event (sym kind.2) (event_at_place p s.event e row.event place event_is);
+        event = subst Event (sym kind.2) (event_at_index p s.event e row.event index event_is);
         sets = subst Sets (sym kind.2) (slots_set p d x s s.settings row.sets its.2 slots);
       };
     }
 
 -- a stimulus of which a slot can't be set
 pub slots_none :
-    (lib : Library) (d : Directory) (s : Stimulus) (x : TypeInputs) (k e : ℕ) → IsDirectory lib d → IsFoundAt lib s k (Some x) → place_in x.events s.event ≡ Some e
+    (lib : Library) (d : Directory) (s : Stimulus) (x : TypeInputs) (k e : ℕ) → IsDirectory lib d → IsFoundAt lib s k (Some x) → index_in x.events s.event ≡ Some e
     → ¬ (Twice (set_names s)) → each_or_none (slot_of d x s) s.settings ≡ None → ¬ (CanTake lib s)
 slots_none lib d s x k e directory placed event distinct slots takes =
     let all = (can_take lib d x s directory (found_at lib s k (Some x) placed) (ap is_some event) distinct).1 takes in

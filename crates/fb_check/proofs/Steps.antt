@@ -15,13 +15,13 @@ use Rattle.std.proofs.lemmas.Option.{slice_get-map}
 use Rattle.std.proofs.lemmas.Map.Text.{is_eq-slice_cmp}
 use Rattle.fb_types.specs.Names.{Name, same_name, same_port}
 use Rattle.fb_types.specs.Blocks.{among, ports_of_event_block}
-use Rattle.fb_types.specs.EventPorts.{ArePortsOfKinds, kind_place}
+use Rattle.fb_types.specs.EventPorts.{ArePortsOfKinds, kind_index}
 use Rattle.fb_types.specs.Flat.{port_in}
 use Rattle.fb_types.specs.declared.event_kind.EventKind.{EventKind}
 use Rattle.fb_types.specs.declared.library.EventPort.{EventPort}
 use Rattle.fb_types.specs.declared.library.Connection.{Connection}
 use Rattle.fb_types.specs.declared.library.Ports.{Ports}
-use Rattle.fb_types.proofs.ByPlace.{slice_get-append_here, slice_get-append_left}
+use Rattle.fb_types.proofs.ByIndex.{slice_get-append_here, slice_get-append_left}
 use Rattle.fb_types.proofs.LoopSteps.{more_of_part}
 use Rattle.fb_types.proofs.Positions.{is_some-position, position-append_old, position-push_new, position_is}
 use Rattle.fb_types.proofs.NameLaws.{same_name-is, same_from_same_name, same_name-flip}
@@ -281,7 +281,7 @@ inputs_more f ts i a p xs ys x h at is so_far new grown =
 -- the event blocks at the indices of their interfaces
 pub event_inputs :
     (ps : List Ports) (xs : List TypeInputs) → ArePortsOfKinds ps → AreInputs (map (λ p. p) ps) xs → (k : EventKind)
-    → IsFound (Some (ports_of_event_block k)) (slice_get xs (kind_place k))
+    → IsFound (Some (ports_of_event_block k)) (slice_get xs (kind_index k))
 event_inputs ps xs known made k =
-    subst (λ (o : Option Ports). IsFound o (slice_get xs (kind_place k)))
-    (slice_get-map (λ (p : Ports). p) ps (kind_place k) ∙ ap (option_map (λ (p : Ports). p)) (known k)) (made.each (kind_place k))
+    subst (λ (o : Option Ports). IsFound o (slice_get xs (kind_index k)))
+    (slice_get-map (λ (p : Ports). p) ps (kind_index k) ∙ ap (option_map (λ (p : Ports). p)) (known k)) (made.each (kind_index k))

@@ -10,7 +10,7 @@ use Rattle.std.specs.Borrow.{Bor}
 use Rattle.fb_types.specs.Names.{Name, same_name, same_port}
 use Rattle.fb_types.specs.Values.{fits}
 use Rattle.fb_types.specs.Blocks.{among, ports_of, ports_of_event_block, is_event_input}
-use Rattle.fb_types.specs.EventPorts.{kind_place}
+use Rattle.fb_types.specs.EventPorts.{kind_index}
 use Rattle.fb_types.specs.Flat.{kind_of, kind_of_instance, instance_in, port_in}
 use Rattle.fb_types.specs.Repeated.{Twice}
 use Rattle.fb_types.specs.Accepted.{BadStimulus, set_names, is_held}
@@ -72,7 +72,7 @@ pub record AreWiths (events : List EventPort) (s : set.BTreeSet Pair) : Type 0 w
   pub has : (n m : Name) → has_pair s n m ≡ lists events n m
 
 abbrev pub input_of : ℕ → Variable → Input
-input_of k v = record { place = k; ty = v.ty }
+input_of k v = record { index = k; ty = v.ty }
 
 -- the indices and the types of the variables
 abbrev pub AreVariables : List Variable → tree.BTreeMap (Bor Name) Input → Type 0
@@ -108,15 +108,15 @@ pub record AreTargets (cs : List Connection) (s : set.BTreeSet Pair) : Type 0 wh
 -- the event blocks at the indices of their interfaces, the block types of the declaration at theirs, and the targets of
 -- the application's data connections
 pub record IsDirectory (lib : Library) (d : Directory) : Type 0 where
-  pub event_blocks : (k : EventKind) → IsFound (Some (ports_of_event_block k)) (slice_get d.event_blocks (kind_place k))
+  pub event_blocks : (k : EventKind) → IsFound (Some (ports_of_event_block k)) (slice_get d.event_blocks (kind_index k))
   pub declared : AreInputs (map (λ t. ports_of (kind_of t)) lib.blocks) d.declared
   pub targets : AreTargets lib.application.network.data_connections d.targets
 
 -- ---- Stimuli
 
 -- the interface of the instance of the application at an index
-abbrev pub ports_at_place : Library → ℕ → Option Ports
-ports_at_place lib k = option_map ports_of (option_and_then (kind_of_instance lib) (slice_get lib.application.network.instances k))
+abbrev pub ports_at_index : Library → ℕ → Option Ports
+ports_at_index lib k = option_map ports_of (option_and_then (kind_of_instance lib) (slice_get lib.application.network.instances k))
 
 -- the interface of the instance with a name
 abbrev pub ports_at : Library → Name → Option Ports
@@ -149,7 +149,7 @@ is_settable d x s v =
 -- the slot of an input, if its type contains the value
 abbrev pub held_slot : Option Input → Value → Option SlotValue
 held_slot None v = None
-held_slot (Some i) v = if fits i.ty v then Some (record { place = i.place; value = v }) else None
+held_slot (Some i) v = if fits i.ty v then Some (record { index = i.index; value = v }) else None
 
 -- the slot of a setting, if it is settable
 abbrev pub slot_of : Directory → TypeInputs → Stimulus → Setting → Option SlotValue

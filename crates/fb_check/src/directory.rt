@@ -2,14 +2,14 @@
 
 ghost use Rattle.std.specs.Prelude.{◌≡◌, map, option_map, IfOk};
 ghost use Rattle.std.specs.Option.{option_copied};
-ghost use Rattle.fb_check_names.specs.Places.{IsIndex};
+ghost use Rattle.fb_check_names.specs.Indexes.{IsIndex};
 ghost use Rattle.fb_types.specs.Blocks.{ports_of};
 ghost use Rattle.fb_types.specs.EventPorts.{ArePortsOfKinds};
 ghost use Rattle.fb_types.specs.Flat.{type_name, type_named};
 ghost use Rattle.fb_check.specs.Directory.{IsDirectory, IsFound};
 
 use crate::directory_making::{Pairs, TypeInputs, inputs_of_each, targets_of};
-use fb_check_names::{Places, place_of};
+use fb_check_names::{Indexes, index_of};
 use fb_types::{Items, Library, Ports, kind_named};
 use std::alloc::{AllocError, Global};
 
@@ -46,7 +46,7 @@ pub fn directory_of<'a>(
 pub fn inputs_named<'d, 'a>(
     library: &Library,
     directory: &'d Directory<'a>,
-    types: &Places,
+    types: &Indexes,
     name: &[u8],
 ) -> Option<&'d TypeInputs<'a>>
     requires directory { IsDirectory library.now directory.now }
@@ -54,7 +54,7 @@ pub fn inputs_named<'d, 'a>(
     ensures { IsFound (option_map ports_of (type_named library.now name.now)) (option_copied result) }
 {
     match kind_named(name) {
-        Some(kind) => directory.event_blocks.get(kind.place()),
-        None => directory.declared.get(place_of(types, name)?),
+        Some(kind) => directory.event_blocks.get(kind.index()),
+        None => directory.declared.get(index_of(types, name)?),
     }
 }

@@ -45,7 +45,7 @@ pub type Pairs<'a> = BTreeSet<(&'a [u8], &'a [u8]), Global>;
 #[derive(Clone, Copy)]
 pub struct Input {
     /// The index among the data inputs of its type.
-    pub place: u32,
+    pub index: u32,
     /// The type of its values.
     pub ty: Ty,
 }
@@ -68,14 +68,14 @@ fn events_of<'a>(
 ) -> Result<BTreeMap<&'a [u8], u32, Global>, AllocError>
     ensures { IfOk result (AreEvents events.now) }
 {
-    let mut places = BTreeMap::new(alloc);
-    for (place, event) in events.iter().enumerate() {
+    let mut indexes = BTreeMap::new(alloc);
+    for (index, event) in events.iter().enumerate() {
         let name = event.name.as_bytes();
-        if !places.contains_key(name) {
-            places.insert(name, number_of(place)?)?;
+        if !indexes.contains_key(name) {
+            indexes.insert(name, number_of(index)?)?;
         }
     }
-    Ok(places)
+    Ok(indexes)
 }
 
 /// Adds the variables WITH an event.
@@ -110,12 +110,12 @@ fn variables_of<'a>(
     ensures { IfOk result (AreVariables variables.now) }
 {
     let mut inputs = BTreeMap::new(alloc);
-    for (place, variable) in variables.iter().enumerate() {
+    for (index, variable) in variables.iter().enumerate() {
         let name = variable.name.as_bytes();
         if !inputs.contains_key(name) {
-            let place = number_of(place)?;
+            let index = number_of(index)?;
             let ty = variable.ty;
-            inputs.insert(name, Input { place, ty })?;
+            inputs.insert(name, Input { index, ty })?;
         }
     }
     Ok(inputs)

@@ -9,12 +9,12 @@ ghost use Rattle.fb_types.specs.Unknown.{NameUnknown};
 ghost use Rattle.fb_types.specs.declared.deploy.Plan.{Plan};
 ghost use Rattle.fb_check_names.specs.Catalog.{IsCatalog};
 ghost use Rattle.fb_check_names.specs.Numbers.{each_or_none};
-ghost use Rattle.fb_check_names.specs.Places.{names_in, place_in};
-ghost use Rattle.fb_check.specs.Directory.{IsDirectory, IsFound, CanTake, IsTaken, AreTaken, held_slot, input_in, ports_at_place, slot_of};
+ghost use Rattle.fb_check_names.specs.Indexes.{names_in, index_in};
+ghost use Rattle.fb_check.specs.Directory.{IsDirectory, IsFound, CanTake, IsTaken, AreTaken, held_slot, input_in, ports_at_index, slot_of};
 
 use crate::directory::{Directory, directory_of, inputs_named};
 use crate::directory_making::TypeInputs;
-use fb_check_names::{Catalog, place_of, places_of};
+use fb_check_names::{Catalog, index_of, indexes_of};
 use fb_system::{SlotValue, StimulusRow, number_of};
 use fb_types::{Items, Library, Name, Ports, Setting, Stimulus, Value, all_ports};
 use std::alloc::{AllocError, Global};
@@ -24,20 +24,20 @@ fn inputs_at<'d, 'a>(
     library: &Library,
     catalog: &Catalog,
     directory: &'d Directory<'a>,
-    place: usize,
+    index: usize,
 ) -> Option<&'d TypeInputs<'a>>
     requires catalog { (plan : Plan) × IsCatalog library.now plan catalog.now }
     requires directory { IsDirectory library.now directory.now }
-    ensures { IsFound (ports_at_place library.now place) (option_copied result) }
+    ensures { IsFound (ports_at_index library.now index) (option_copied result) }
 {
-    let instance = library.application.network.instances.get(place)?;
+    let instance = library.application.network.instances.get(index)?;
     let name = instance.block_type.as_bytes();
     inputs_named(library, directory, &catalog.types, name)
 }
 
 /// The index of an event input.
-fn event_place(inputs: &TypeInputs, event: &[u8]) -> Option<u32>
-    ensures { result ≡ place_in inputs.now.events event.now }
+fn event_index(inputs: &TypeInputs, event: &[u8]) -> Option<u32>
+    ensures { result ≡ index_in inputs.now.events event.now }
 {
     inputs.events.get(event).copied()
 }
@@ -58,18 +58,18 @@ fn has_setting_twice(alloc: Global, stimulus: &Stimulus) -> Result<bool, AllocEr
 {
     let mut names = Vec::new(alloc);
     push_names(&mut names, stimulus.settings.as_slice())?;
-    Ok(places_of(alloc, names.as_slice())?.is_none())
+    Ok(indexes_of(alloc, names.as_slice())?.is_none())
 }
 
 /// The slot of a data input with its value, if the type contains the value.
 fn held_slot(inputs: &TypeInputs, variable: &[u8], value: Value) -> Option<SlotValue>
     ensures { result ≡ held_slot (input_in inputs.now.variables variable.now) value }
 {
-    let place = match inputs.variables.get(variable) {
-        Some(input) if input.ty.holds(value) => input.place,
+    let index = match inputs.variables.get(variable) {
+        Some(input) if input.ty.holds(value) => input.index,
         _ => return None,
     };
-    Some(SlotValue { place, value })
+    Some(SlotValue { index, value })
 }
 
 /// The slot of a variable that goes WITH the event of the stimulus, is not connected, and can contain the value.
@@ -122,19 +122,19 @@ fn row_of<'a>(
     requires directory { IsDirectory library.now directory.now }
     ensures { IfOk result (λ o. MatchOption o (¬ (CanTake library.now stimulus.now)) (IsTaken library.now stimulus.now)) }
 {
-    let Some(place) = place_of(&catalog.instances, stimulus.instance.as_bytes()) else {
+    let Some(index) = index_of(&catalog.instances, stimulus.instance.as_bytes()) else {
         return Ok(None);
     };
-    let Some(inputs) = inputs_at(library, catalog, directory, place) else {
+    let Some(inputs) = inputs_at(library, catalog, directory, index) else {
         return Ok(None);
     };
-    let Some(event) = event_place(inputs, stimulus.event.as_bytes()) else {
+    let Some(event) = event_index(inputs, stimulus.event.as_bytes()) else {
         return Ok(None);
     };
     if has_setting_twice(alloc, stimulus)? {
         return Ok(None);
     }
-    let instance = number_of(place)?;
+    let instance = number_of(index)?;
     let tick = stimulus.tick;
     match slots_of(alloc, directory, inputs, stimulus)? {
         Some(sets) => Ok(Some(StimulusRow {

@@ -7,16 +7,16 @@ use Rattle.fb_types.specs.declared.library.BlockType.{BlockType}
 use Rattle.fb_types.specs.declared.library.BlockType.TheVariants as block
 use Rattle.fb_types.specs.declared.library.CompositeType.{CompositeType}
 use Rattle.fb_types.specs.declared.library.Library.{Library}
-use Rattle.fb_check_names.specs.Places.{IsIndex}
-use Rattle.fb_check_names.specs.declared.catalog.BlockPlaces.{BlockPlaces}
+use Rattle.fb_check_names.specs.Indexes.{IsIndex}
+use Rattle.fb_check_names.specs.declared.catalog.BlockIndexes.{BlockIndexes}
 use Rattle.fb_check_names.specs.declared.catalog.Catalog.{Catalog}
 use Rattle.fb_types.proofs.Elements.{Contains-here, Contains-flat_map}
-use Rattle.fb_check_names.specs.Sorts.{ArePlacesOf}
+use Rattle.fb_check_names.specs.Sorts.{AreIndexesOf}
 use Rattle.fb_check_names.specs.Types.{HasTypes}
 use Rattle.fb_check_names.specs.Unknown.{AreBlocks, BlockUnknown, IsBlockNumbers, NetworkUnknown}
 use Rattle.fb_check_names.specs.declared.numbers.NetworkNumbers.{NetworkNumbers}
-use Rattle.fb_types.proofs.ByPlace.{element_of_place, slice_get-push, element_at}
-use Rattle.fb_check_names.proofs.Lookups.{block_places}
+use Rattle.fb_types.proofs.ByIndex.{element_of_index, slice_get-push, element_at}
+use Rattle.fb_check_names.proofs.Lookups.{block_indexes}
 
 -- those of the first n types
 pub record AreFirst (lib : Library) (n : ℕ) (all : List (Option NetworkNumbers)) : Type 0 where
@@ -51,28 +51,28 @@ next_block lib bs n b o all more e h at is so_far grown = first_more lib n b o a
 pub composite_unknown :
     (lib : Library) (n : ℕ) (t : CompositeType) → slice_get lib.blocks n ≡ Some (block.Composite t) → NetworkUnknown lib (Some t, t.network) → BlockUnknown lib
 composite_unknown lib n t at unknown =
-    let place : Placed = (Some t, t.network) in (
-      place,
-      Contains-flat_map networks_in lib.blocks (block.Composite t) place (element_of_place lib.blocks n (block.Composite t) at) (Contains-here place []),
+    let index : Placed = (Some t, t.network) in (
+      index,
+      Contains-flat_map networks_in lib.blocks (block.Composite t) index (element_of_index lib.blocks n (block.Composite t) at) (Contains-here index []),
       unknown,
     )
 
-pub has_places : (lib : Library) (c : Catalog) (n : ℕ) (t : BlockType) → HasTypes lib c → slice_get lib.blocks n ≡ Some t → n < length c.blocks.items
-has_places lib c n t has at = subst (λ (m : ℕ). n < m) (sym has.counted) (slice_get_within lib.blocks n t at)
+pub has_indexes : (lib : Library) (c : Catalog) (n : ℕ) (t : BlockType) → HasTypes lib c → slice_get lib.blocks n ≡ Some t → n < length c.blocks.items
+has_indexes lib c n t has at = subst (λ (m : ℕ). n < m) (sym has.counted) (slice_get_within lib.blocks n t at)
 
 -- the indices of its ports and of its instances
 pub composite_ports :
-    (lib : Library) (c : Catalog) (n : ℕ) (t : CompositeType) (x : BlockPlaces) → HasTypes lib c → slice_get lib.blocks n ≡ Some (block.Composite t)
-    → x ≡ get_or c.blocks.items n x → ArePlacesOf t.ports x.ports
+    (lib : Library) (c : Catalog) (n : ℕ) (t : CompositeType) (x : BlockIndexes) → HasTypes lib c → slice_get lib.blocks n ≡ Some (block.Composite t)
+    → x ≡ get_or c.blocks.items n x → AreIndexesOf t.ports x.ports
 composite_ports lib c n t x has at there =
-    block_places lib c c.blocks.items n (block.Composite t) x t.ports has at refl (has_places lib c n (block.Composite t) has at) there refl
+    block_indexes lib c c.blocks.items n (block.Composite t) x t.ports has at refl (has_indexes lib c n (block.Composite t) has at) there refl
 
 pub composite_instances :
-    (lib : Library) (c : Catalog) (n : ℕ) (t : CompositeType) (x : BlockPlaces) → HasTypes lib c → slice_get lib.blocks n ≡ Some (block.Composite t)
+    (lib : Library) (c : Catalog) (n : ℕ) (t : CompositeType) (x : BlockIndexes) → HasTypes lib c → slice_get lib.blocks n ≡ Some (block.Composite t)
     → x ≡ get_or c.blocks.items n x → IsIndex (instance_names t.network) x.instances
 composite_instances lib c n t x has at there =
     (has.blocks n (block.Composite t) x at
-    (slice_get_read c.blocks.items (length c.blocks.items) n x refl (has_places lib c n (block.Composite t) has at) there)).instances
+    (slice_get_read c.blocks.items (length c.blocks.items) n x refl (has_indexes lib c n (block.Composite t) has at) there)).instances
 
 pub first_all : (lib : Library) (n : ℕ) (all : List (Option NetworkNumbers)) → n ≡ length lib.blocks → AreFirst lib n all → AreBlocks lib all
 first_all lib n all counted are =

@@ -8,17 +8,17 @@ use Rattle.fb_types.specs.Repeated.{NameTwice, instance_names}
 use Rattle.fb_types.specs.declared.library.Library.{Library}
 use Rattle.fb_types.specs.declared.library.BlockType.{BlockType}
 use Rattle.fb_types.specs.declared.deploy.Plan.{Plan}
-use Rattle.fb_check_names.specs.declared.catalog.BlockPlaces.{BlockPlaces}
+use Rattle.fb_check_names.specs.declared.catalog.BlockIndexes.{BlockIndexes}
 use Rattle.fb_check_names.specs.declared.catalog.Catalog.{Catalog}
 use Rattle.fb_check_names.specs.Both.{both_of}
 use Rattle.fb_check_names.specs.Catalog.{IsCatalog}
 use Rattle.fb_check_names.specs.GivenTwice.{Unless, AreBlocks, BlockTwice, NetworkTwice, PlanTwice, TypeTwice}
-use Rattle.fb_check_names.specs.Places.{IsIndex}
+use Rattle.fb_check_names.specs.Indexes.{IsIndex}
 use Rattle.fb_check_names.proofs.NameTwice.{types_twice, block_twice, network_twice, plan_twice, name_once}
 use Rattle.fb_check_names.proofs.BothFound.{both_answer}
 
-abbrev Places : Type 0
-Places = BTreeMap (Bor Name) ℕ
+abbrev Indexes : Type 0
+Indexes = BTreeMap (Bor Name) ℕ
 
 -- a block type gives something twice
 abbrev SomeBlockTwice : List BlockType → Type 0
@@ -52,13 +52,13 @@ catalog_answer lib plan c ts us same types same' blocks instances resources =
 -- ---- All parts
 
 -- the indices of the types' names and of what is in them, and of the application's instances and the resources
-abbrev pub AreAll : Library → Plan → (Places × Vec BlockPlaces Global) × (Places × Places) → Type 0
+abbrev pub AreAll : Library → Plan → (Indexes × Vec BlockIndexes Global) × (Indexes × Indexes) → Type 0
 AreAll lib plan z = IsCatalog lib plan (record { types = z.0.0; blocks = z.0.1; instances = z.1.0; resources = z.1.1 })
 
 pub catalog_found :
-    {X : Type 0} (lib : Library) (plan : Plan) (ts : List BlockType) (types instances resources : Result (Option Places) X)
-    (blocks : Result (Option (Vec BlockPlaces Global)) X) (declared : Result (Option (Places × Vec BlockPlaces Global)) X)
-    (placed : Result (Option (Places × Places)) X) (o : Option ((Places × Vec BlockPlaces Global) × (Places × Places)))
+    {X : Type 0} (lib : Library) (plan : Plan) (ts : List BlockType) (types instances resources : Result (Option Indexes) X)
+    (blocks : Result (Option (Vec BlockIndexes Global)) X) (declared : Result (Option (Indexes × Vec BlockIndexes Global)) X)
+    (placed : Result (Option (Indexes × Indexes)) X) (o : Option ((Indexes × Vec BlockIndexes Global) × (Indexes × Indexes)))
     → ts ≡ lib.blocks → declared ≡ both_of types blocks → placed ≡ both_of instances resources → Ok o ≡ both_of declared placed
     → IfOk types (Unless (TypeTwice ts) (IsIndex (map type_name ts)))
     → IfOk blocks (Unless (SomeBlockTwice ts) (λ xs. AreBlocks ts xs.items))
@@ -67,10 +67,10 @@ pub catalog_found :
     → MatchOption o (NameTwice lib plan) (AreAll lib plan)
 catalog_found lib plan ts types instances resources blocks declared placed o same of_declared of_placed found t b i r =
     let Fault : Type 0 = NameTwice lib plan in
-    let T : Places → Type 0 = λ x. ¬ (TypeTwice ts) × IsIndex (map type_name ts) x in
-    let B : Vec BlockPlaces Global → Type 0 = λ xs. ¬ (SomeBlockTwice ts) × AreBlocks ts xs.items in
-    let I : Places → Type 0 = λ x. ¬ (NetworkTwice lib.application.network) × IsIndex (instance_names lib.application.network) x in
-    let R : Places → Type 0 = λ x. ¬ (PlanTwice plan) × IsIndex (resource_names_of plan) x in
+    let T : Indexes → Type 0 = λ x. ¬ (TypeTwice ts) × IsIndex (map type_name ts) x in
+    let B : Vec BlockIndexes Global → Type 0 = λ xs. ¬ (SomeBlockTwice ts) × AreBlocks ts xs.items in
+    let I : Indexes → Type 0 = λ x. ¬ (NetworkTwice lib.application.network) × IsIndex (instance_names lib.application.network) x in
+    let R : Indexes → Type 0 = λ x. ¬ (PlanTwice plan) × IsIndex (resource_names_of plan) x in
     let first = both_answer declared types blocks (TypeTwice ts) (SomeBlockTwice ts) Fault T B (λ z. T z.0 × B z.1) of_declared
     (λ f. types_twice lib plan (subst (λ (us : List BlockType). TypeTwice us) same f))
     (λ f. block_twice lib plan f.0 (subst (λ (us : List BlockType). Contains us f.0) same f.1) f.2) (λ x y p q. (p, q)) t b in

@@ -19,13 +19,13 @@ use Rattle.fb_types.specs.declared.library.PortName.{PortName}
 use Rattle.fb_types.specs.declared.library.Ports.{Ports}
 use Rattle.fb_types.proofs.Positions.{named-position, is_some-position}
 use Rattle.fb_types.proofs.NameLaws.{any_from_contains, contains_from_any, any-named}
-use Rattle.fb_check_names.specs.Numbers.{IsNetwork, each_or_none, place_of, type_number, end_at, end_number, both_ends, event_wire, data_wire, parameter_numbers, ports_at_place}
+use Rattle.fb_check_names.specs.Numbers.{IsNetwork, each_or_none, index_of, type_number, end_at, end_number, both_ends, event_wire, data_wire, parameter_numbers, ports_at_index}
 use Rattle.fb_check_names.specs.Unknown.{NetworkUnknown, network_wanted}
-use Rattle.fb_check_names.specs.declared.numbers.WireEnd.{WireEnd}
+use Rattle.fb_check_names.specs.declared.numbers.ConnectionEnd.{ConnectionEnd}
 use Rattle.fb_check_names.specs.declared.numbers.NetworkNumbers.{NetworkNumbers}
 use Rattle.fb_check_names.specs.declared.numbers.TypeNumber.{TypeNumber}
 use Rattle.fb_check_names.specs.declared.numbers.TypeNumber.TheVariants as number
-use Rattle.fb_check_names.specs.declared.numbers.Wire.{Wire}
+use Rattle.fb_check_names.specs.declared.numbers.NumberedConnection.{NumberedConnection}
 use Rattle.fb_types.proofs.Options.{is_some-option_map}
 use Rattle.fb_types.proofs.ListTests.{fails_at, fails_from, list_all-map, list_all-flat_map, list_all-agree, list_all-both}
 use Rattle.fb_check_names.specs.Both.{both_of}
@@ -43,11 +43,11 @@ pub list_all-all_of : (ns sort : List Name) → list_all met (all_of ns sort) �
 list_all-all_of ns sort = list_all-map met (λ n. (n, sort)) ns
 
 -- all names are known if they have indices
-pub places_met : (ns sort : List Name) → list_all met (all_of ns sort) ≡ is_some (each_or_none (place_of sort) ns)
-places_met ns sort =
+pub indexes_met : (ns sort : List Name) → list_all met (all_of ns sort) ≡ is_some (each_or_none (index_of sort) ns)
+indexes_met ns sort =
     list_all-all_of ns sort
-    ∙ list_all-agree (λ n. list_any (same_name n) sort) (λ n. is_some (place_of sort n)) (λ n. sym (is_some-position (same_name n) sort)) ns
-    ∙ sym (is_some-each (place_of sort) ns)
+    ∙ list_all-agree (λ n. list_any (same_name n) sort) (λ n. is_some (index_of sort n)) (λ n. sym (is_some-position (same_name n) sort)) ns
+    ∙ sym (is_some-each (index_of sort) ns)
 
 pub unmet_wanted : (ws : List Wanted) → list_all met ws ≡ false → (w : Wanted) × Contains ws w × ¬ (Contains w.1 w.0)
 unmet_wanted ws h =
@@ -64,10 +64,10 @@ type_met lib n =
     list_any-append (same_name n) (map (λ e. e.0) event_blocks) (map type_name lib.blocks)
     ∙ (λ i. any-named (λ e. e.0) n event_blocks i || sym (is_some-position (same_name n) (map type_name lib.blocks)) i)
     ∙ (elim (named (λ e. e.0) n event_blocks) as
-    (λ o. (is_some o || is_some (place_of (map type_name lib.blocks) n))
-    ≡ is_some (elim (option_map (λ e. e.1) o) as (λ _. Option TypeNumber) [ Some k ↦ Some (number.Event k) | None ↦ option_map (λ t. number.Declared t) (place_of (map type_name lib.blocks) n) ])) [
+    (λ o. (is_some o || is_some (index_of (map type_name lib.blocks) n))
+    ≡ is_some (elim (option_map (λ e. e.1) o) as (λ _. Option TypeNumber) [ Some k ↦ Some (number.Event k) | None ↦ option_map (λ t. number.Declared t) (index_of (map type_name lib.blocks) n) ])) [
       | Some e ↦ refl
-      | None ↦ is_some-option_map (λ t. number.Declared t) (place_of (map type_name lib.blocks) n)
+      | None ↦ is_some-option_map (λ t. number.Declared t) (index_of (map type_name lib.blocks) n)
     ])
 
 abbrev is_typed : Library → Instance → Bool
@@ -85,16 +85,16 @@ abbrev wanted_of : Instance → Option Kind → List Wanted
 wanted_of i o = elim o [ None ↦ [] | Some k ↦ all_of (map (λ x. x.name) i.parameters) (variable_names (ports_of k).inputs) ]
 
 abbrev numbers_of : Instance → Option Kind → Option (List ℕ)
-numbers_of i o = elim o [ None ↦ None | Some k ↦ each_or_none (λ x. place_of (data_ins (ports_of k)) x.name) i.parameters ]
+numbers_of i o = elim o [ None ↦ None | Some k ↦ each_or_none (λ x. index_of (data_ins (ports_of k)) x.name) i.parameters ]
 
 known_met : (i : Instance) (k : Kind) → list_all met (wanted_of i (Some k)) ≡ is_some (numbers_of i (Some k))
 known_met i k =
     let sort = data_ins (ports_of k) in
     list_all-all_of (map (λ x. x.name) i.parameters) sort
     ∙ list_all-map (λ n. list_any (same_name n) sort) (λ x. x.name) i.parameters
-    ∙ list_all-agree (λ (x : Parameter). list_any (same_name x.name) sort) (λ x. is_some (place_of sort x.name))
+    ∙ list_all-agree (λ (x : Parameter). list_any (same_name x.name) sort) (λ x. is_some (index_of sort x.name))
     (λ x. sym (is_some-position (same_name x.name) sort)) i.parameters
-    ∙ sym (is_some-each (λ (x : Parameter). place_of sort x.name) i.parameters)
+    ∙ sym (is_some-each (λ (x : Parameter). index_of sort x.name) i.parameters)
 
 instance_met : (lib : Library) (i : Instance) → (is_typed lib i && list_all met (parameters_wanted lib i)) ≡ is_some (parameter_numbers lib i)
 instance_met lib i =
@@ -134,7 +134,7 @@ at_kind :
 at_kind component e i None = refl
 at_kind component e i (Some k) =
     sym (is_some-position (same_name e.port) (component (ports_of k)))
-    ∙ is_some-option_map (λ (f : ℕ). let r : WireEnd = record { component = Some i; port = f } in r) (place_of (component (ports_of k)) e.port)
+    ∙ is_some-option_map (λ (f : ℕ). let r : ConnectionEnd = record { component = Some i; port = f } in r) (index_of (component (ports_of k)) e.port)
 
 abbrev found : Library → (Ports → List Name) → PortName → Option Instance → Bool
 found lib component e o = elim (option_and_then (kind_of_instance lib) o) [ None ↦ false | Some k ↦ among (component (ports_of k)) e.port ]
@@ -142,12 +142,12 @@ found lib component e o = elim (option_and_then (kind_of_instance lib) o) [ None
 component_known :
     (lib : Library) (n : Placed) (component : Ports → List Name) (c : Name) (e : PortName)
     → found lib component e (instance_in n.1 c)
-    ≡ is_some (option_and_then (λ i. option_and_then (λ p. end_at (Some i) (component p) e) (ports_at_place lib n i)) (place_of (instance_names n.1) c))
+    ≡ is_some (option_and_then (λ i. option_and_then (λ p. end_at (Some i) (component p) e) (ports_at_index lib n i)) (index_of (instance_names n.1) c))
 component_known lib n component c e =
     ap (found lib component e) (named-position (λ (i : Instance). i.name) c n.1.instances)
-    ∙ (elim (place_of (instance_names n.1) c) as
+    ∙ (elim (index_of (instance_names n.1) c) as
     (λ o. found lib component e (option_and_then (slice_get n.1.instances) o)
-    ≡ is_some (option_and_then (λ i. option_and_then (λ p. end_at (Some i) (component p) e) (ports_at_place lib n i)) o)) [
+    ≡ is_some (option_and_then (λ i. option_and_then (λ p. end_at (Some i) (component p) e) (ports_at_index lib n i)) o)) [
       | None ↦ refl
       | Some i ↦ at_kind component e i (option_and_then (kind_of_instance lib) (slice_get n.1.instances i))
     ])
@@ -158,7 +158,7 @@ boundary_known :
 boundary_known boundary e None = refl
 boundary_known boundary e (Some t) =
     sym (is_some-position (same_name e.port) (boundary t.ports))
-    ∙ is_some-option_map (λ (f : ℕ). let r : WireEnd = record { component = None; port = f } in r) (place_of (boundary t.ports) e.port)
+    ∙ is_some-option_map (λ (f : ℕ). let r : ConnectionEnd = record { component = None; port = f } in r) (index_of (boundary t.ports) e.port)
 
 -- an end stands for a port if it has a number
 end_known :
@@ -170,15 +170,15 @@ end_known lib n component boundary e =
       | None ↦ elim n.0 [ None ↦ false | Some t ↦ among (boundary t.ports) e.port ]
       | Some c ↦ found lib component e (instance_in n.1 c)
     ])
-    ≡ is_some (elim o as (λ _. Option WireEnd) [
+    ≡ is_some (elim o as (λ _. Option ConnectionEnd) [
       | None ↦ option_and_then (λ t. end_at None (boundary t.ports) e) n.0
-      | Some c ↦ option_and_then (λ i. option_and_then (λ p. end_at (Some i) (component p) e) (ports_at_place lib n i)) (place_of (instance_names n.1) c)
+      | Some c ↦ option_and_then (λ i. option_and_then (λ p. end_at (Some i) (component p) e) (ports_at_index lib n i)) (index_of (instance_names n.1) c)
     ])) [
       | None ↦ boundary_known boundary e n.0
       | Some c ↦ component_known lib n component c e
     ]
 
-both_known : (a b : Option WireEnd) → (is_some a && is_some b) ≡ is_some (both_ends a b)
+both_known : (a b : Option ConnectionEnd) → (is_some a && is_some b) ≡ is_some (both_ends a b)
 both_known None b = refl
 both_known (Some x) None = refl
 both_known (Some x) (Some y) = refl
@@ -218,7 +218,7 @@ unknown_parameter lib n h =
 
 unknown_event : (lib : Library) (n : Placed) → each_or_none (event_wire lib n) n.1.event_connections ≡ None → NetworkUnknown lib n
 unknown_event lib n h =
-    inr (ends_met lib n ∙ ap (λ (o : Option (List Wire)). is_some o && is_some (each_or_none (data_wire lib n) n.1.data_connections)) h)
+    inr (ends_met lib n ∙ ap (λ (o : Option (List NumberedConnection)). is_some o && is_some (each_or_none (data_wire lib n) n.1.data_connections)) h)
 
 and-false : (b : Bool) → (b && false) ≡ false
 and-false true = refl
@@ -227,7 +227,7 @@ and-false false = refl
 unknown_data : (lib : Library) (n : Placed) → each_or_none (data_wire lib n) n.1.data_connections ≡ None → NetworkUnknown lib n
 unknown_data lib n h =
     inr (ends_met lib n
-    ∙ ap (λ (o : Option (List Wire)). is_some (each_or_none (event_wire lib n) n.1.event_connections) && is_some o) h
+    ∙ ap (λ (o : Option (List NumberedConnection)). is_some (each_or_none (event_wire lib n) n.1.event_connections) && is_some o) h
     ∙ and-false (is_some (each_or_none (event_wire lib n) n.1.event_connections)))
 
 -- if a network has numbers, all that it names is known
@@ -244,7 +244,7 @@ abbrev Typed : Type 0
 Typed = List TypeNumber × List (List ℕ)
 
 abbrev Wires : Type 0
-Wires = List Wire × List Wire
+Wires = List NumberedConnection × List NumberedConnection
 
 -- the types and the parameters, and the connections of events and of data
 abbrev pub AreAll : Library → Placed → Typed × Wires → Type 0
@@ -252,7 +252,7 @@ AreAll lib n z = IsNetwork lib n (record { types = z.0.0; parameters = z.0.1; ev
 
 pub network_found :
     {X : Type 0} (lib : Library) (n : Placed) (is : List Instance) (es ds : List Connection) (kinds : List TypeNumber)
-    (parameters : Result (Option (List (List ℕ))) X) (events values : Result (Option (List Wire)) X) (typed : Result (Option Typed) X) (wires : Result (Option Wires) X)
+    (parameters : Result (Option (List (List ℕ))) X) (events values : Result (Option (List NumberedConnection)) X) (typed : Result (Option Typed) X) (wires : Result (Option Wires) X)
     (o : Option (Typed × Wires)) → is ≡ n.1.instances → es ≡ n.1.event_connections → ds ≡ n.1.data_connections
     → each_or_none (λ i. type_number lib i.block_type) n.1.instances ≡ Some kinds
     → typed ≡ both_of (Ok (Some kinds)) parameters → wires ≡ both_of events values → Ok o ≡ both_of typed wires
@@ -262,8 +262,8 @@ network_found {X} lib n is es ds kinds parameters events values typed wires o sa
     let Fault : Type 0 = NetworkUnknown lib n in
     let T : List TypeNumber → Type 0 = λ ts. each_or_none (λ (i : Instance). type_number lib i.block_type) n.1.instances ≡ Some ts in
     let P : List (List ℕ) → Type 0 = λ ps. each_or_none (parameter_numbers lib) n.1.instances ≡ Some ps in
-    let E : List Wire → Type 0 = λ ws. each_or_none (event_wire lib n) n.1.event_connections ≡ Some ws in
-    let D : List Wire → Type 0 = λ ws. each_or_none (data_wire lib n) n.1.data_connections ≡ Some ws in
+    let E : List NumberedConnection → Type 0 = λ ws. each_or_none (event_wire lib n) n.1.event_connections ≡ Some ws in
+    let D : List NumberedConnection → Type 0 = λ ws. each_or_none (data_wire lib n) n.1.data_connections ≡ Some ws in
     let kept : Result (Option (List TypeNumber)) X = Ok (Some kinds) in
     let first = both_answer typed kept parameters Fault (each_or_none (parameter_numbers lib) n.1.instances ≡ None) Fault T P (λ z. T z.0 × P z.1) of_typed
     (λ f. f) (unknown_parameter lib n) (λ x y a b. (a, b)) numbered

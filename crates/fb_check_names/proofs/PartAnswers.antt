@@ -17,10 +17,10 @@ use Rattle.fb_types.specs.declared.library.Instance.{Instance}
 use Rattle.fb_types.specs.declared.library.Network.{Network}
 use Rattle.fb_types.specs.declared.library.Ports.{Ports}
 use Rattle.fb_types.specs.declared.library.Variable.{Variable}
-use Rattle.fb_check_names.specs.declared.catalog.BlockPlaces.{BlockPlaces}
+use Rattle.fb_check_names.specs.declared.catalog.BlockIndexes.{BlockIndexes}
 use Rattle.fb_check_names.specs.Catalog.{IsBlock}
 use Rattle.fb_check_names.specs.GivenTwice.{TwiceIn, Unless, AreBlocks, BlockTwice, NetworkTwice, PortTwice, TypeTwice, names_of_ports}
-use Rattle.fb_check_names.specs.Places.{IsIndex, names_in}
+use Rattle.fb_check_names.specs.Indexes.{IsIndex, names_in}
 use Rattle.fb_types.proofs.NameLaws.{any_from_contains, contains_from_any, same_name-flip}
 use Rattle.fb_types.proofs.Elements.{Contains-nil, Contains-cons_cases, Contains-here, Contains-there, Contains-map, map-Contains}
 use Rattle.fb_types.proofs.TwiceLaws.{Twice-append_right, Twice-both}
@@ -29,8 +29,8 @@ use Rattle.fb_check_names.proofs.Unless.{Unless-from, Unless-some}
 
 -- ---- Ports
 
-abbrev Places : Type 0
-Places = BTreeMap (Bor Name) ℕ
+abbrev Indexes : Type 0
+Indexes = BTreeMap (Bor Name) ℕ
 
 -- an event has a variable twice in its WITH list
 abbrev WithTwice : List EventPort → Type 0
@@ -75,7 +75,7 @@ with_once p es fs a b same says fails same' says' fails' t =
     ]
 
 pub ports_answer :
-    {X : Type 0} (r : Result (Option Places) X) (p : Ports) (vs : List Variable) (ns all : List (Bor Name)) (es fs : List EventPort) (a b : Bool)
+    {X : Type 0} (r : Result (Option Indexes) X) (p : Ports) (vs : List Variable) (ns all : List (Bor Name)) (es fs : List EventPort) (a b : Bool)
     → es ≡ p.event_inputs → IsTrue a ↔ WithTwice es → a ≡ false → fs ≡ p.event_outputs → IsTrue b ↔ WithTwice fs → b ≡ false
     → all ≡ ns → names_in ns ≡ names_of_ports p vs → IfOk r (λ o. MatchOption o (Twice (names_in all)) (IsIndex (names_in all)))
     → IfOk r (Unless (PortTwice p vs) (IsIndex (names_of_ports p vs)))
@@ -84,8 +84,8 @@ ports_answer r p vs ns all es fs a b same says fails same' says' fails' taken ga
     Unless-from r (Twice (names_in all)) (PortTwice p vs) (IsIndex (names_in all)) (IsIndex (names_of_ports p vs))
     (λ t. inl (subst (λ (ns : List Name). Twice ns) named t))
     (λ x is.
-    let places : IsIndex (names_of_ports p vs) x = subst (λ (ns : List Name). IsIndex ns x) named is in
-    (λ t. elim t [ inl n ↦ places.once n | inr w ↦ with_once p es fs a b same says fails same' says' fails' w ], places))
+    let indexes : IsIndex (names_of_ports p vs) x = subst (λ (ns : List Name). IsIndex ns x) named is in
+    (λ t. elim t [ inl n ↦ indexes.once n | inr w ↦ with_once p es fs a b same says fails same' says' fails' w ], indexes))
     h
 
 -- ---- Networks
@@ -94,7 +94,7 @@ abbrev ParameterTwice : List Instance → Type 0
 ParameterTwice is = (i : Instance) × Contains is i × Twice (map (λ x. x.name) i.parameters)
 
 pub network_answer :
-    {X : Type 0} (r : Result (Option Places) X) (net : Network) (is js : List Instance) (cs : List Connection) (a b : Bool)
+    {X : Type 0} (r : Result (Option Indexes) X) (net : Network) (is js : List Instance) (cs : List Connection) (a b : Bool)
     → is ≡ net.instances → IsTrue a ↔ ParameterTwice is → a ≡ false → cs ≡ net.event_connections → IsTrue b ↔ Twice (pairs_in [] cs) → b ≡ false
     → js ≡ net.instances → IfOk r (λ o. MatchOption o (Twice (map (λ i. i.name) js)) (IsIndex (map (λ i. i.name) js)))
     → IfOk r (Unless (NetworkTwice net) (IsIndex (instance_names net)))
@@ -103,9 +103,9 @@ network_answer r net is js cs a b same says fails same' says' fails' taken h =
     Unless-from r (Twice (map (λ (i : Instance). i.name) js)) (NetworkTwice net) (IsIndex (map (λ (i : Instance). i.name) js)) (IsIndex (instance_names net))
     (λ t. inl (subst (λ (ns : List Name). Twice ns) names t))
     (λ x found.
-    let places : IsIndex (instance_names net) x = subst (λ (ns : List Name). IsIndex ns x) names found in (
+    let indexes : IsIndex (instance_names net) x = subst (λ (ns : List Name). IsIndex ns x) names found in (
       λ t. elim t [
-        | inl n ↦ places.once n
+        | inl n ↦ indexes.once n
         | inr rest ↦ elim rest [
           | inl p ↦
               let q = map-TwiceIn (λ (i : Instance). map (λ x. x.name) i.parameters) net.instances p in
@@ -113,7 +113,7 @@ network_answer r net is js cs a b same says fails same' says' fails' taken h =
           | inr c ↦ true≢false (sym (says'.1 (subst (λ (cs : List Connection). Twice (pairs_in [] cs)) (sym same') c)) ∙ fails')
         ]
       ],
-      places,
+      indexes,
     ))
     h
 
@@ -211,7 +211,7 @@ types_once ts none once t =
     ]
 
 pub types_answer :
-    {X : Type 0} (r : Result (Option Places) X) (ts : List BlockType) (b : Bool) → b ≡ list_any has_event_name ts → b ≡ false
+    {X : Type 0} (r : Result (Option Indexes) X) (ts : List BlockType) (b : Bool) → b ≡ list_any has_event_name ts → b ≡ false
     → IfOk r (λ o. MatchOption o (Twice (map type_name ts)) (IsIndex (map type_name ts)))
     → IfOk r (Unless (TypeTwice ts) (IsIndex (map type_name ts)))
 types_answer r ts b says fails h =
@@ -223,18 +223,18 @@ types_answer r ts b says fails h =
 -- ---- Block types, one more at a time
 
 -- the block types so far give nothing twice, and their names have their indices
-pub record AreSoFar (ts : List BlockType) (xs : List BlockPlaces) : Type 0 where
+pub record AreSoFar (ts : List BlockType) (xs : List BlockIndexes) : Type 0 where
   pub blocks : AreBlocks ts xs
   pub once : (t : BlockType) → Contains ts t → ¬ (BlockTwice t)
 
 push_each :
-    (ts : List BlockType) (xs : List BlockPlaces) (t : BlockType) (x : BlockPlaces) → length xs ≡ length ts
-    → ((k : ℕ) (t : BlockType) (x : BlockPlaces) → slice_get ts k ≡ Some t → slice_get xs k ≡ Some x → IsBlock t x) → IsBlock t x
-    → (k : ℕ) (u : BlockType) (y : BlockPlaces) → slice_get (ts ++ t ∷ []) k ≡ Some u → slice_get (xs ++ x ∷ []) k ≡ Some y → IsBlock u y
+    (ts : List BlockType) (xs : List BlockIndexes) (t : BlockType) (x : BlockIndexes) → length xs ≡ length ts
+    → ((k : ℕ) (t : BlockType) (x : BlockIndexes) → slice_get ts k ≡ Some t → slice_get xs k ≡ Some x → IsBlock t x) → IsBlock t x
+    → (k : ℕ) (u : BlockType) (y : BlockIndexes) → slice_get (ts ++ t ∷ []) k ≡ Some u → slice_get (xs ++ x ∷ []) k ≡ Some y → IsBlock u y
 push_each [] [] t x counted each is zero u y h g =
     let e : t ≡ u = cc in
     let f : x ≡ y = cc in
-    subst (λ (u : BlockType). IsBlock u y) e (subst (λ (y : BlockPlaces). IsBlock t y) f is)
+    subst (λ (u : BlockType). IsBlock u y) e (subst (λ (y : BlockIndexes). IsBlock t y) f is)
 push_each [] [] t x counted each is (suc k) u y h g = absurd (cc)
 push_each [] (z ∷ xs) t x counted each is k u y h g = absurd (cc)
 push_each (s ∷ ts) [] t x counted each is k u y h g = absurd (cc)
@@ -244,13 +244,13 @@ push_each (s ∷ ts) (z ∷ xs) t x counted each is (suc k) u y h g =
     push_each ts xs t x same (λ k. each (suc k)) is k u y h g
 
 pub blocks_more :
-    (ts : List BlockType) (i : ℕ) (t : BlockType) (xs zs : List BlockPlaces) (x : BlockPlaces) (o : Option BlockPlaces) → i < length ts → t ≡ get_or ts i t
+    (ts : List BlockType) (i : ℕ) (t : BlockType) (xs zs : List BlockIndexes) (x : BlockIndexes) (o : Option BlockIndexes) → i < length ts → t ≡ get_or ts i t
     → AreSoFar (take i ts) xs → o ≡ Some x → Unless (BlockTwice t) (IsBlock t) o → zs ≡ xs ++ x ∷ [] → AreSoFar (take (i + 1) ts) zs
 blocks_more ts i t xs zs x o h e so_far some gives grown =
     let is = Unless-some o x (BlockTwice t) (IsBlock t) some gives in
     let more : take (i + 1) ts ≡ take i ts ++ t ∷ [] = take_more ts i t h ∙ ap (λ (u : BlockType). take i ts ++ u ∷ []) (sym e) in
     let P : List BlockType → Type 0 = λ ts. AreSoFar ts zs in
-    let Q : List BlockPlaces → Type 0 = λ zs. AreSoFar (take i ts ++ t ∷ []) zs in
+    let Q : List BlockIndexes → Type 0 = λ zs. AreSoFar (take i ts ++ t ∷ []) zs in
     subst P (sym more) (subst Q (sym grown) (record {
       blocks = record {
         counted = length-append xs (x ∷ []) ∙ ap (λ n. n + 1) so_far.blocks.counted ∙ sym (length-append (take i ts) (t ∷ []));

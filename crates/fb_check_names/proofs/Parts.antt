@@ -46,19 +46,19 @@ Twice-both n (x ∷ xs) ys c d =
       | inr rest ↦ inr (Twice-both n xs ys rest d)
     ]
 
-place_contains : (n : Name) (xs : List Name) (i : ℕ) → position (same_name n) xs ≡ Some i → Contains xs n
-place_contains n xs i h = contains_from_any n xs (sym (is_some-position (same_name n) xs) ∙ ap is_some h)
+index_contains : (n : Name) (xs : List Name) (i : ℕ) → position (same_name n) xs ≡ Some i → Contains xs n
+index_contains n xs i h = contains_from_any n xs (sym (is_some-position (same_name n) xs) ∙ ap is_some h)
 
-pub place_within : (n : Name) (xs : List Name) (i : ℕ) → position (same_name n) xs ≡ Some i → i < length xs
-place_within n xs i h = (position-Some (same_name n) xs i [] h).0
+pub index_within : (n : Name) (xs : List Name) (i : ℕ) → position (same_name n) xs ≡ Some i → i < length xs
+index_within n xs i h = (position-Some (same_name n) xs i [] h).0
 
 -- ---- The index in a part
 
 abbrev Skips : ℕ → Option ℕ → Option ℕ → Type 0
-Skips k place r = MatchOption place (r ≡ None) (λ i. SomeIff r (k ≤ i) (i - k))
+Skips k index r = MatchOption index (r ≡ None) (λ i. SomeIff r (k ≤ i) (i - k))
 
 abbrev Keeps : ℕ → Option ℕ → Option ℕ → Type 0
-Keeps k place r = MatchOption place (r ≡ None) (λ i. SomeIff r (i < k) i)
+Keeps k index r = MatchOption index (r ≡ None) (λ i. SomeIff r (i < k) i)
 
 -- an element of the first part has no index in the second
 skipped : (k i : ℕ) (r : Option ℕ) → i < k → Skips k (Some i) r → r ≡ None
@@ -74,19 +74,19 @@ skips k None r s = s
 skips k (Some j) r s = moved k j r s
 
 pub after_part :
-    (n : Name) (xs ys : List Name) (k : ℕ) (place r : Option ℕ) → ¬ (Twice (xs ++ ys)) → k ≡ length xs → place ≡ position (same_name n) (xs ++ ys)
-    → Skips k place r → r ≡ position (same_name n) ys
-after_part n xs ys k place r once counted e s =
+    (n : Name) (xs ys : List Name) (k : ℕ) (index r : Option ℕ) → ¬ (Twice (xs ++ ys)) → k ≡ length xs → index ≡ position (same_name n) (xs ++ ys)
+    → Skips k index r → r ≡ position (same_name n) ys
+after_part n xs ys k index r once counted e s =
     let q = position (same_name n) ys in
-    let at : place ≡ or_later (length xs) (position (same_name n) xs) q = e ∙ position-append (same_name n) xs ys in
+    let at : index ≡ or_later (length xs) (position (same_name n) xs) q = e ∙ position-append (same_name n) xs ys in
     elim (position (same_name n) xs) as
-    (λ o. position (same_name n) xs ≡ o → place ≡ or_later (length xs) o q → r ≡ q) [
+    (λ o. position (same_name n) xs ≡ o → index ≡ or_later (length xs) o q → r ≡ q) [
       | Some i ↦ λ found at.
-          let within : i < k = subst (λ (k : ℕ). i < k) (sym counted) (place_within n xs i found) in
+          let within : i < k = subst (λ (k : ℕ). i < k) (sym counted) (index_within n xs i found) in
           skipped k i r within (subst (λ (o : Option ℕ). Skips k o r) at s)
           ∙ (elim q as (λ o. q ≡ o → None ≡ o) [
             | None ↦ λ _. refl
-            | Some j ↦ λ there. absurd (once (Twice-both n xs ys (place_contains n xs i found) (place_contains n ys j there)))
+            | Some j ↦ λ there. absurd (once (Twice-both n xs ys (index_contains n xs i found) (index_contains n ys j there)))
           ] refl)
       | None ↦ λ _ at.
           skips k q r (subst (λ (o : Option ℕ). Skips k o r) (at ∙ ap (λ m. option_map (λ j. m + j) q) (sym counted)) s)
@@ -105,15 +105,15 @@ keeps_none k None r s = s
 keeps_none k (Some j) r s = past k j r s
 
 pub first_part :
-    (n : Name) (xs ys : List Name) (k : ℕ) (place r : Option ℕ) → k ≡ length xs → place ≡ position (same_name n) (xs ++ ys)
-    → Keeps k place r → r ≡ position (same_name n) xs
-first_part n xs ys k place r counted e s =
+    (n : Name) (xs ys : List Name) (k : ℕ) (index r : Option ℕ) → k ≡ length xs → index ≡ position (same_name n) (xs ++ ys)
+    → Keeps k index r → r ≡ position (same_name n) xs
+first_part n xs ys k index r counted e s =
     let q = position (same_name n) ys in
-    let at : place ≡ or_later (length xs) (position (same_name n) xs) q = e ∙ position-append (same_name n) xs ys in
+    let at : index ≡ or_later (length xs) (position (same_name n) xs) q = e ∙ position-append (same_name n) xs ys in
     elim (position (same_name n) xs) as
-    (λ o. position (same_name n) xs ≡ o → place ≡ or_later (length xs) o q → r ≡ o) [
+    (λ o. position (same_name n) xs ≡ o → index ≡ or_later (length xs) o q → r ≡ o) [
       | Some i ↦ λ found at.
-          let within : i < k = subst (λ (k : ℕ). i < k) (sym counted) (place_within n xs i found) in
+          let within : i < k = subst (λ (k : ℕ). i < k) (sym counted) (index_within n xs i found) in
           kept k i r within (subst (λ (o : Option ℕ). Keeps k o r) at s)
       | None ↦ λ _ at.
           keeps_none k q r (subst (λ (o : Option ℕ). Keeps k o r) (at ∙ ap (λ m. option_map (λ j. m + j) q) (sym counted)) s)

@@ -16,20 +16,20 @@ use Rattle.fb_types.specs.declared.library.Library.{Library}
 use Rattle.fb_types.specs.declared.deploy.Plan.{Plan}
 use Rattle.fb_types.specs.declared.deploy.Link.{Link}
 use Rattle.fb_types.specs.declared.deploy.ResourceEntry.{ResourceEntry}
-use Rattle.fb_check_names.specs.Places.{IsIndex, place_in}
+use Rattle.fb_check_names.specs.Indexes.{IsIndex, index_in}
 use Rattle.fb_check_names.specs.Parts.{ArePartsKnown}
 use Rattle.fb_types.proofs.Positions.{is_some-position}
 use Rattle.fb_types.proofs.Elements.{Contains-nil, Contains-cons_cases, Contains-here, Contains-there, Contains-flat_map, flat_map-Contains}
-use Rattle.fb_check_names.specs.Numbers.{IsNetwork, IsResolved, each_or_none, place_of, held_numbers, link_ends}
+use Rattle.fb_check_names.specs.Numbers.{IsNetwork, IsResolved, each_or_none, index_of, held_numbers, link_ends}
 use Rattle.fb_check_names.specs.Unknown.{NetworkUnknown, BlockUnknown, DeploymentUnknown, AreBlocks}
 use Rattle.fb_check_names.specs.declared.numbers.LinkEnds.{LinkEnds}
 use Rattle.fb_check_names.specs.declared.numbers.NetworkNumbers.{NetworkNumbers}
-use Rattle.fb_types.proofs.ByPlace.{place_of_element}
+use Rattle.fb_types.proofs.ByIndex.{index_of_element}
 use Rattle.fb_types.proofs.ListTests.{list_all-flat_map, list_all-agree}
 use Rattle.fb_check_names.specs.Both.{both_of}
 use Rattle.fb_check_names.proofs.BothFound.{both_answer, told}
 use Rattle.fb_check_names.proofs.Each.{is_some-each, each-agree}
-use Rattle.fb_check_names.proofs.NetworkUnknown.{met, places_met, unmet_wanted, met_wanted, network_known}
+use Rattle.fb_check_names.proofs.NetworkUnknown.{met, indexes_met, unmet_wanted, met_wanted, network_known}
 
 -- ---- The names of a declaration and a deployment, by their parts
 
@@ -146,13 +146,13 @@ lists_met : (lib : Library) (plan : Plan) → list_all met (of_lists lib plan) �
 lists_met lib plan =
     list_all-flat_map met (λ (r : ResourceEntry). all_of r.instances (instance_names lib.application.network)) plan.resources
     ∙ list_all-agree (λ (r : ResourceEntry). list_all met (all_of r.instances (instance_names lib.application.network))) (λ r. is_some (held_numbers lib r))
-    (λ r. places_met r.instances (instance_names lib.application.network)) plan.resources
+    (λ r. indexes_met r.instances (instance_names lib.application.network)) plan.resources
     ∙ sym (is_some-each (held_numbers lib) plan.resources)
 
-abbrev both_places : Option ℕ → Option ℕ → Option LinkEnds
-both_places a b = option_and_then (λ x. option_map (λ y. record { from = x; to = y }) b) a
+abbrev both_indexes : Option ℕ → Option ℕ → Option LinkEnds
+both_indexes a b = option_and_then (λ x. option_map (λ y. record { from = x; to = y }) b) a
 
-two_known : (a b : Option ℕ) → (is_some a && (is_some b && true)) ≡ is_some (both_places a b)
+two_known : (a b : Option ℕ) → (is_some a && (is_some b && true)) ≡ is_some (both_indexes a b)
 two_known None b = refl
 two_known (Some x) None = refl
 two_known (Some x) (Some y) = refl
@@ -161,7 +161,7 @@ link_met : (plan : Plan) (l : Link) → list_all met (all_of (l.from ∷ l.to �
 link_met plan l =
     let ns = resource_names_of plan in
     (λ i. sym (is_some-position (same_name l.from) ns) i && (sym (is_some-position (same_name l.to) ns) i && true))
-    ∙ two_known (place_of ns l.from) (place_of ns l.to)
+    ∙ two_known (index_of ns l.from) (index_of ns l.to)
 
 links_met : (plan : Plan) → list_all met (of_links plan) ≡ is_some (each_or_none (link_ends plan) plan.links)
 links_met plan =
@@ -198,18 +198,18 @@ deployment_known lib plan hs ls h g unknown =
 
 -- the numbers by the maps of indices
 held_are :
-    (lib : Library) (places : BTreeMap (Bor Name) ℕ) (rs : List ResourceEntry) → IsIndex (instance_names lib.application.network) places
-    → each_or_none (λ r. each_or_none (place_in places) r.instances) rs ≡ each_or_none (held_numbers lib) rs
-held_are lib places rs is =
-    each-agree (λ (r : ResourceEntry). each_or_none (place_in places) r.instances) (held_numbers lib)
-    (λ r. each-agree (place_in places) (place_of (instance_names lib.application.network)) is.place r.instances) rs
+    (lib : Library) (indexes : BTreeMap (Bor Name) ℕ) (rs : List ResourceEntry) → IsIndex (instance_names lib.application.network) indexes
+    → each_or_none (λ r. each_or_none (index_in indexes) r.instances) rs ≡ each_or_none (held_numbers lib) rs
+held_are lib indexes rs is =
+    each-agree (λ (r : ResourceEntry). each_or_none (index_in indexes) r.instances) (held_numbers lib)
+    (λ r. each-agree (index_in indexes) (index_of (instance_names lib.application.network)) is.index r.instances) rs
 
 links_are :
-    (plan : Plan) (places : BTreeMap (Bor Name) ℕ) (ls : List Link) → IsIndex (resource_names_of plan) places
-    → each_or_none (λ l. both_places (place_in places l.from) (place_in places l.to)) ls ≡ each_or_none (link_ends plan) ls
-links_are plan places ls is =
-    each-agree (λ (l : Link). both_places (place_in places l.from) (place_in places l.to)) (link_ends plan)
-    (λ l i. both_places (is.place l.from i) (is.place l.to i)) ls
+    (plan : Plan) (indexes : BTreeMap (Bor Name) ℕ) (ls : List Link) → IsIndex (resource_names_of plan) indexes
+    → each_or_none (λ l. both_indexes (index_in indexes l.from) (index_in indexes l.to)) ls ≡ each_or_none (link_ends plan) ls
+links_are plan indexes ls is =
+    each-agree (λ (l : Link). both_indexes (index_in indexes l.from) (index_in indexes l.to)) (link_ends plan)
+    (λ l i. both_indexes (is.index l.from i) (is.index l.to i)) ls
 
 -- ---- The networks of composite types
 
@@ -218,7 +218,7 @@ block_known : (lib : Library) (xs : List (Option NetworkNumbers)) (t : BlockType
 block_known lib xs (block.Basic t) n are c d = absurd (Contains-nil n d)
 block_known lib xs (block.Composite t) n are c d =
     let here : Placed = (Some t, t.network) in
-    let at = place_of_element lib.blocks (block.Composite t) c in
+    let at = index_of_element lib.blocks (block.Composite t) c in
     let x = are.composites at.0 t at.1 in
     elim (Contains-cons_cases here [] n d) [
       | inl e ↦ subst (λ (n : Placed). ¬ (NetworkUnknown lib n)) e (network_known lib here x.0 x.2)
@@ -270,8 +270,8 @@ pub numbers_found :
     → networks ≡ both_of application blocks → deployed ≡ both_of held links → Ok o ≡ both_of networks deployed
     → IfOk application (λ o. MatchOption o (NetworkUnknown lib (None, lib.application.network)) (IsNetwork lib (None, lib.application.network)))
     → IfOk blocks (λ o. MatchOption o (BlockUnknown lib) (AreBlocks lib))
-    → IfOk held (λ o. o ≡ each_or_none (λ r. each_or_none (place_in instances) r.instances) rs)
-    → IfOk links (λ o. o ≡ each_or_none (λ l. both_places (place_in resources l.from) (place_in resources l.to)) ls)
+    → IfOk held (λ o. o ≡ each_or_none (λ r. each_or_none (index_in instances) r.instances) rs)
+    → IfOk links (λ o. o ≡ each_or_none (λ l. both_indexes (index_in resources l.from) (index_in resources l.to)) ls)
     → MatchOption o (NameUnknown lib plan) (AreAll lib plan)
 numbers_found lib plan instances resources rs ls application blocks held links networks deployed o parts is_instances is_resources same_rs same_ls of_networks of_deployed found
     a b h k =
@@ -283,9 +283,9 @@ numbers_found lib plan instances resources rs ls application blocks held links n
     (λ z. N z.0 × AreBlocks lib z.1) of_networks (of_application lib plan) (of_block lib plan) (λ x y p q. (p, q)) a b in
     let second = both_answer deployed held links (each_or_none (held_numbers lib) plan.resources ≡ None) (each_or_none (link_ends plan) plan.links ≡ None) Fault H L
     (λ z. H z.0 × L z.1) of_deployed (unknown_instance lib plan) (unknown_resource lib plan) (λ x y p q. (p, q))
-    (told held (each_or_none (λ (r : ResourceEntry). each_or_none (place_in instances) r.instances) rs) (each_or_none (held_numbers lib) plan.resources)
-    (ap (each_or_none (λ (r : ResourceEntry). each_or_none (place_in instances) r.instances)) same_rs ∙ held_are lib instances plan.resources is_instances) h)
-    (told links (each_or_none (λ (l : Link). both_places (place_in resources l.from) (place_in resources l.to)) ls) (each_or_none (link_ends plan) plan.links)
-    (ap (each_or_none (λ (l : Link). both_places (place_in resources l.from) (place_in resources l.to))) same_ls ∙ links_are plan resources plan.links is_resources) k) in
+    (told held (each_or_none (λ (r : ResourceEntry). each_or_none (index_in instances) r.instances) rs) (each_or_none (held_numbers lib) plan.resources)
+    (ap (each_or_none (λ (r : ResourceEntry). each_or_none (index_in instances) r.instances)) same_rs ∙ held_are lib instances plan.resources is_instances) h)
+    (told links (each_or_none (λ (l : Link). both_indexes (index_in resources l.from) (index_in resources l.to)) ls) (each_or_none (link_ends plan) plan.links)
+    (ap (each_or_none (λ (l : Link). both_indexes (index_in resources l.from) (index_in resources l.to))) same_ls ∙ links_are plan resources plan.links is_resources) k) in
     both_answer (Ok o) networks deployed Fault Fault Fault (λ z. N z.0 × AreBlocks lib z.1) (λ z. H z.0 × L z.1) (AreAll lib plan) found (λ f. f) (λ f. f)
     (λ x y p q. resolved lib plan x.0 x.1 y.0 y.1 parts p.0 p.1 q.0 q.1) first second

@@ -17,7 +17,7 @@ use Rattle.std.proofs.lemmas.Bool.{false_from_ne_true, true≢false}
 use Rattle.std.proofs.lemmas.List.Elements.{Contains-append_left, Contains-push, Contains-push_cases}
 use Rattle.fb_types.specs.Names.{Name, Path, Port, same_name}
 use Rattle.fb_types.specs.Repeated.{Twice}
-use Rattle.fb_check_names.specs.Places.{IsIndex}
+use Rattle.fb_check_names.specs.Indexes.{IsIndex}
 use Rattle.fb_check_names.specs.Ends.{End, end_port}
 use Rattle.fb_types.proofs.Options.{none_from_is_some}
 use Rattle.fb_types.proofs.LoopSteps.{more_of_part, twice_of_part}
@@ -179,7 +179,7 @@ at_name n = record { ref_ptr = (0, 0); now = n }
 pub index_none : (m : tree.BTreeMap (Bor Name) ℕ) → m.entries ≡ [] → IsIndex [] m
 index_none m e = record {
   once = λ t. t;
-  place = λ n. ap (lookup (λ (k : Bor Name). is_eq (slice_cmp nat_cmp n k.now))) e;
+  index = λ n. ap (lookup (λ (k : Bor Name). is_eq (slice_cmp nat_cmp n k.now))) e;
 }
 
 -- one more name, which the index does not have
@@ -189,10 +189,10 @@ index_push :
     → ((q : Bor Name) → tree.get name_cmp m' q ≡ cond (is_eq (name_cmp k q)) (Some i) (tree.get name_cmp m q))
     → IsIndex (names ++ k.now ∷ []) m'
 index_push names i m m' k is counted new updates =
-    let absent : list_any (same_name k.now) names ≡ false = sym (is_some-position (same_name k.now) names) ∙ ap is_some (sym (is.place k.now) ∙ new) in
+    let absent : list_any (same_name k.now) names ≡ false = sym (is_some-position (same_name k.now) names) ∙ ap is_some (sym (is.index k.now) ∙ new) in
     record {
       once = once_push names k.now is.once (λ c. true≢false (sym (any_from_contains k.now names c) ∙ absent));
-      place = λ n.
+      index = λ n.
           updates (at_name n)
           ∙ (elim (is_eq (slice_cmp nat_cmp k.now n)) as (λ b. is_eq (slice_cmp nat_cmp k.now n) ≡ b → cond b (Some i) (tree.get_by (λ q. slice_cmp nat_cmp n q.now) m) ≡ position (same_name n) (names ++ k.now ∷ [])) [
             | true ↦ λ e.
@@ -202,7 +202,7 @@ index_push names i m m' k is counted new updates =
                 (ap (λ n. Some n) (sym counted)
                 ∙ sym (position-push_new (same_name k.now) names k.now absent ∙ ap (λ b. cond b (Some (length names)) None) (same_name-itself k.now)))
             | false ↦ λ e.
-                is.place n
+                is.index n
                 ∙ (elim (position (same_name n) names) as (λ o. position (same_name n) names ≡ o → o ≡ position (same_name n) (names ++ k.now ∷ [])) [
                   | Some j ↦ λ o. sym (position-append_old (same_name n) names (k.now ∷ []) j o)
                   | None ↦ λ o.
@@ -233,4 +233,4 @@ index_twice f xs i x m k o h e g is old found =
     let names = map f (take i xs) in
     twice_of_part f xs i x k.now h e g
     (Twice-push names k.now
-    (contains_from_any k.now names (sym (is_some-position (same_name k.now) names) ∙ ap is_some (sym (is.place k.now) ∙ sym old) ∙ found)))
+    (contains_from_any k.now names (sym (is_some-position (same_name k.now) names) ∙ ap is_some (sym (is.index k.now) ∙ sym old) ∙ found)))

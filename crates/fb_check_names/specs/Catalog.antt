@@ -8,9 +8,9 @@ use Rattle.fb_types.specs.declared.library.Library.{Library}
 use Rattle.fb_types.specs.declared.library.BlockType.{BlockType}
 use Rattle.fb_types.specs.declared.library.BlockType.TheVariants as block
 use Rattle.fb_types.specs.declared.deploy.Plan.{Plan}
-use Rattle.fb_check_names.specs.declared.catalog.BlockPlaces.{BlockPlaces}
+use Rattle.fb_check_names.specs.declared.catalog.BlockIndexes.{BlockIndexes}
 use Rattle.fb_check_names.specs.declared.catalog.Catalog.{Catalog}
-use Rattle.fb_check_names.specs.Places.{IsIndex}
+use Rattle.fb_check_names.specs.Indexes.{IsIndex}
 
 -- the names of a basic type's states, none of a composite type
 abbrev pub states_of : BlockType → List Name
@@ -26,7 +26,7 @@ abbrev pub instances_of : BlockType → List Name
 instances_of (block.Basic t) = []
 instances_of (block.Composite t) = instance_names t.network
 
-pub record IsBlock (t : BlockType) (x : BlockPlaces) : Type 0 where
+pub record IsBlock (t : BlockType) (x : BlockIndexes) : Type 0 where
   pub ports : IsIndex (port_names t) x.ports
   pub states : IsIndex (states_of t) x.states
   pub algorithms : IsIndex (algorithms_of t) x.algorithms
@@ -37,6 +37,6 @@ pub record IsCatalog (lib : Library) (plan : Plan) (c : Catalog) : Type 0 where
   pub once : ¬ (NameTwice lib plan)
   pub types : IsIndex (map type_name lib.blocks) c.types
   pub counted : length c.blocks.items ≡ length lib.blocks
-  pub blocks : (k : ℕ) (t : BlockType) (x : BlockPlaces) → slice_get lib.blocks k ≡ Some t → slice_get c.blocks.items k ≡ Some x → IsBlock t x
+  pub blocks : (k : ℕ) (t : BlockType) (x : BlockIndexes) → slice_get lib.blocks k ≡ Some t → slice_get c.blocks.items k ≡ Some x → IsBlock t x
   pub instances : IsIndex (instance_names lib.application.network) c.instances
   pub resources : IsIndex (resource_names_of plan) c.resources

@@ -10,7 +10,7 @@ use Rattle.fb_types.specs.declared.library.Network.{Network}
 use Rattle.fb_types.specs.declared.library.Ports.{Ports}
 use Rattle.fb_types.specs.declared.library.Variable.{Variable}
 use Rattle.fb_types.specs.declared.deploy.Plan.{Plan}
-use Rattle.fb_check_names.specs.declared.catalog.BlockPlaces.{BlockPlaces}
+use Rattle.fb_check_names.specs.declared.catalog.BlockIndexes.{BlockIndexes}
 use Rattle.fb_check_names.specs.Catalog.{IsBlock}
 
 -- A name is twice in one of the lists.
@@ -43,6 +43,6 @@ abbrev pub Unless : {A : Type 0} → Type 0 → (A → Type 0) → Option A → 
 Unless E P o = MatchOption o E (λ x. ¬ E × P x)
 
 -- The names of each block type by their indices.
-pub record AreBlocks (ts : List BlockType) (xs : List BlockPlaces) : Type 0 where
+pub record AreBlocks (ts : List BlockType) (xs : List BlockIndexes) : Type 0 where
   pub counted : length xs ≡ length ts
-  pub each : (k : ℕ) (t : BlockType) (x : BlockPlaces) → slice_get ts k ≡ Some t → slice_get xs k ≡ Some x → IsBlock t x
+  pub each : (k : ℕ) (t : BlockType) (x : BlockIndexes) → slice_get ts k ≡ Some t → slice_get xs k ≡ Some x → IsBlock t x

@@ -1,4 +1,4 @@
-pub mod Places
+pub mod Indexes
 pub mod Ends
 pub mod Catalog
 pub mod GivenTwice

@@ -19,8 +19,8 @@ use Rattle.fb_types.specs.declared.deploy.Link.{Link}
 use Rattle.fb_types.specs.declared.deploy.ResourceEntry.{ResourceEntry}
 use Rattle.fb_check_names.specs.declared.numbers.TypeNumber.{TypeNumber}
 use Rattle.fb_check_names.specs.declared.numbers.TypeNumber.TheVariants as number
-use Rattle.fb_check_names.specs.declared.numbers.WireEnd.{WireEnd}
-use Rattle.fb_check_names.specs.declared.numbers.Wire.{Wire}
+use Rattle.fb_check_names.specs.declared.numbers.ConnectionEnd.{ConnectionEnd}
+use Rattle.fb_check_names.specs.declared.numbers.NumberedConnection.{NumberedConnection}
 use Rattle.fb_check_names.specs.declared.numbers.LinkEnds.{LinkEnds}
 use Rattle.fb_check_names.specs.declared.numbers.NetworkNumbers.{NetworkNumbers}
 use Rattle.fb_check_names.specs.declared.numbers.Resolved.{Resolved}
@@ -30,8 +30,8 @@ abbrev pub each_or_none : {A B : Type 0} → (A → Option B) → List A → Opt
 each_or_none f [] = Some []
 each_or_none f (x ∷ xs) = option_and_then (λ y. option_map (λ ys. y ∷ ys) (each_or_none f xs)) (f x)
 
-abbrev pub place_of : List Name → Name → Option ℕ
-place_of ns n = position (same_name n) ns
+abbrev pub index_of : List Name → Name → Option ℕ
+index_of ns n = position (same_name n) ns
 
 -- ---- Types
 
@@ -40,7 +40,7 @@ abbrev pub type_number : Library → Name → Option TypeNumber
 type_number lib n =
     elim (event_block_named n) [
       | Some k ↦ Some (number.Event k)
-      | None ↦ option_map (λ t. number.Declared t) (place_of (map type_name lib.blocks) n)
+      | None ↦ option_map (λ t. number.Declared t) (index_of (map type_name lib.blocks) n)
     ]
 
 abbrev pub kind_of_number : Library → TypeNumber → Option Kind
@@ -50,27 +50,27 @@ kind_of_number lib (number.Declared t) = option_map kind_of (slice_get lib.block
 -- ---- Ends of connections
 
 -- the ports of the component at an index
-abbrev pub ports_at_place : Library → Placed → ℕ → Option Ports
-ports_at_place lib n i = option_map ports_of (option_and_then (kind_of_instance lib) (slice_get n.1.instances i))
+abbrev pub ports_at_index : Library → Placed → ℕ → Option Ports
+ports_at_index lib n i = option_map ports_of (option_and_then (kind_of_instance lib) (slice_get n.1.instances i))
 
-abbrev pub end_at : Option ℕ → List Name → PortName → Option WireEnd
-end_at component ports e = option_map (λ k. record { component = component; port = k }) (place_of ports e.port)
+abbrev pub end_at : Option ℕ → List Name → PortName → Option ConnectionEnd
+end_at component ports e = option_map (λ k. record { component = component; port = k }) (index_of ports e.port)
 
 -- an end among the ports of the one kind at a component, or of the other at the boundary
-abbrev pub end_number : Library → Placed → (component boundary : Ports → List Name) → PortName → Option WireEnd
+abbrev pub end_number : Library → Placed → (component boundary : Ports → List Name) → PortName → Option ConnectionEnd
 end_number lib n component boundary e =
     elim e.component [
       | None ↦ option_and_then (λ t. end_at None (boundary t.ports) e) n.0
-      | Some c ↦ option_and_then (λ i. option_and_then (λ p. end_at (Some i) (component p) e) (ports_at_place lib n i)) (place_of (instance_names n.1) c)
+      | Some c ↦ option_and_then (λ i. option_and_then (λ p. end_at (Some i) (component p) e) (ports_at_index lib n i)) (index_of (instance_names n.1) c)
     ]
 
-abbrev pub both_ends : Option WireEnd → Option WireEnd → Option Wire
+abbrev pub both_ends : Option ConnectionEnd → Option ConnectionEnd → Option NumberedConnection
 both_ends a b = option_and_then (λ x. option_map (λ y. record { from = x; to = y }) b) a
 
-abbrev pub event_wire : Library → Placed → Connection → Option Wire
+abbrev pub event_wire : Library → Placed → Connection → Option NumberedConnection
 event_wire lib n c = both_ends (end_number lib n event_outs event_ins c.from) (end_number lib n event_ins event_outs c.to)
 
-abbrev pub data_wire : Library → Placed → Connection → Option Wire
+abbrev pub data_wire : Library → Placed → Connection → Option NumberedConnection
 data_wire lib n c = both_ends (end_number lib n data_outs data_ins c.from) (end_number lib n data_ins data_outs c.to)
 
 -- ---- Networks
@@ -78,7 +78,7 @@ data_wire lib n c = both_ends (end_number lib n data_outs data_ins c.from) (end_
 -- the indices of the data inputs that an instance's parameters set
 abbrev pub parameter_numbers : Library → Instance → Option (List ℕ)
 parameter_numbers lib i =
-    elim (kind_of_instance lib i) [ None ↦ None | Some k ↦ each_or_none (λ x. place_of (data_ins (ports_of k)) x.name) i.parameters ]
+    elim (kind_of_instance lib i) [ None ↦ None | Some k ↦ each_or_none (λ x. index_of (data_ins (ports_of k)) x.name) i.parameters ]
 
 pub record IsNetwork (lib : Library) (n : Placed) (x : NetworkNumbers) : Type 0 where
   pub types : each_or_none (λ i. type_number lib i.block_type) n.1.instances ≡ Some x.types
@@ -89,11 +89,11 @@ pub record IsNetwork (lib : Library) (n : Placed) (x : NetworkNumbers) : Type 0 
 -- ---- Deployments
 
 abbrev pub held_numbers : Library → ResourceEntry → Option (List ℕ)
-held_numbers lib r = each_or_none (place_of (instance_names lib.application.network)) r.instances
+held_numbers lib r = each_or_none (index_of (instance_names lib.application.network)) r.instances
 
 abbrev pub link_ends : Plan → Link → Option LinkEnds
 link_ends plan l =
-    option_and_then (λ x. option_map (λ y. record { from = x; to = y }) (place_of (resource_names_of plan) l.to)) (place_of (resource_names_of plan) l.from)
+    option_and_then (λ x. option_map (λ y. record { from = x; to = y }) (index_of (resource_names_of plan) l.to)) (index_of (resource_names_of plan) l.from)
 
 -- ---- All numbers
 

@@ -6,7 +6,7 @@ use Rattle.std.specs.BTreeMap.{BTreeMap}
 use Rattle.fb_types.specs.Names.{Name}
 use Rattle.fb_types.specs.Unknown.{event_ins, event_outs, data_ins, data_outs}
 use Rattle.fb_types.specs.declared.library.Ports.{Ports}
-use Rattle.fb_check_names.specs.Places.{IsIndex}
+use Rattle.fb_check_names.specs.Indexes.{IsIndex}
 use Rattle.fb_check_names.specs.declared.ports.PortSort.{PortSort}
 use Rattle.fb_check_names.specs.declared.ports.PortSort.TheVariants.{EventInput, EventOutput, Input, Output}
 
@@ -18,6 +18,6 @@ names_of_sort Input = data_ins
 names_of_sort Output = data_outs
 
 -- The map has the indices of the ports, and of the internal variables after them, as one list.
-pub record ArePlacesOf (p : Ports) (places : BTreeMap (Bor Name) ℕ) : Type 0 where
+pub record AreIndexesOf (p : Ports) (indexes : BTreeMap (Bor Name) ℕ) : Type 0 where
   pub internals : List Name
-  pub index : IsIndex (event_ins p ++ (event_outs p ++ (data_ins p ++ (data_outs p ++ internals)))) places
+  pub index : IsIndex (event_ins p ++ (event_outs p ++ (data_ins p ++ (data_outs p ++ internals)))) indexes

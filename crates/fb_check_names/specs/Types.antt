@@ -7,11 +7,11 @@ use Rattle.fb_types.specs.Flat.{kind_of, type_name}
 use Rattle.fb_types.specs.declared.library.BlockType.{BlockType}
 use Rattle.fb_types.specs.declared.library.Library.{Library}
 use Rattle.fb_types.specs.declared.library.Ports.{Ports}
-use Rattle.fb_check_names.specs.Places.{IsIndex}
+use Rattle.fb_check_names.specs.Indexes.{IsIndex}
 use Rattle.fb_check_names.specs.Catalog.{IsBlock}
-use Rattle.fb_check_names.specs.declared.catalog.BlockPlaces.{BlockPlaces}
+use Rattle.fb_check_names.specs.declared.catalog.BlockIndexes.{BlockIndexes}
 use Rattle.fb_check_names.specs.declared.catalog.Catalog.{Catalog}
-use Rattle.fb_check_names.specs.Numbers.{place_of, kind_of_number}
+use Rattle.fb_check_names.specs.Numbers.{index_of, kind_of_number}
 use Rattle.fb_check_names.specs.declared.numbers.TypeNumber.{TypeNumber}
 use Rattle.fb_check_names.specs.declared.types.Types.{Types}
 
@@ -19,7 +19,7 @@ use Rattle.fb_check_names.specs.declared.types.Types.{Types}
 pub record HasTypes (lib : Library) (c : Catalog) : Type 0 where
   pub types : IsIndex (map type_name lib.blocks) c.types
   pub counted : length c.blocks.items ≡ length lib.blocks
-  pub blocks : (k : ℕ) (t : BlockType) (x : BlockPlaces) → slice_get lib.blocks k ≡ Some t → slice_get c.blocks.items k ≡ Some x → IsBlock t x
+  pub blocks : (k : ℕ) (t : BlockType) (x : BlockIndexes) → slice_get lib.blocks k ≡ Some t → slice_get c.blocks.items k ≡ Some x → IsBlock t x
 
 pub record AreTypes (t : Types) : Type 0 where
   pub has : HasTypes t.library.now t.catalog.now
@@ -30,4 +30,4 @@ ports_of_block t = ports_of (kind_of t)
 
 -- the index of a port of a type among those of its kind
 abbrev pub port_number : Library → TypeNumber → (Ports → List Name) → Name → Option ℕ
-port_number lib t sort n = option_and_then (λ k. place_of (sort (ports_of k)) n) (kind_of_number lib t)
+port_number lib t sort n = option_and_then (λ k. index_of (sort (ports_of k)) n) (kind_of_number lib t)

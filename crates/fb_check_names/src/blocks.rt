@@ -16,21 +16,21 @@ use std::alloc::{AllocError, Global};
 fn block_numbers(
     alloc: Global,
     types: &Types,
-    place: usize,
+    index: usize,
     block: &BlockType,
 ) -> Result<Option<Option<NetworkNumbers>>, AllocError>
     requires types { AreTypes types.now }
-    requires place { slice_get types.now.library.now.blocks place ≡ Some block.now }
+    requires index { slice_get types.now.library.now.blocks index ≡ Some block.now }
     ensures { IfOk result (λ o. MatchOption o (BlockUnknown types.now.library.now) (IsBlockNumbers types.now.library.now block.now)) }
 {
     match block {
         BlockType::Basic(_) => Ok(Some(None)),
         BlockType::Composite(composite) => {
-            let places = &types.catalog.blocks[place];
+            let indexes = &types.catalog.blocks[index];
             let scope = NetworkScope {
-                composite: Some((composite, &places.ports)),
+                composite: Some((composite, &indexes.ports)),
                 network: &composite.network,
-                instances: &places.instances,
+                instances: &indexes.instances,
             };
             match network_numbers(alloc, types, &scope)? {
                 Some(numbers) => Ok(Some(Some(numbers))),
@@ -51,8 +51,8 @@ pub fn blocks_of(
 {
     let blocks = types.library.blocks.as_slice();
     let mut all = Items::new(alloc);
-    for (place, block) in blocks.iter().enumerate() {
-        match block_numbers(alloc, types, place, block)? {
+    for (index, block) in blocks.iter().enumerate() {
+        match block_numbers(alloc, types, index, block)? {
             Some(numbers) => all.push(numbers)?,
             None => return Ok(None),
         }

@@ -5,27 +5,27 @@ ghost use Rattle.fb_types.specs.Repeated.{NameTwice};
 ghost use Rattle.fb_check_names.specs.Catalog.{IsCatalog};
 
 use crate::both::both;
-use crate::placing::Places;
-use crate::spaces::{blocks_places, network_places, resource_places, type_places};
+use crate::placing::Indexes;
+use crate::spaces::{blocks_indexes, network_indexes, resource_indexes, type_indexes};
 use fb_types::{Library, Plan};
 use std::alloc::{AllocError, Global};
 
 /// The indices of the names of a block type.
-pub struct BlockPlaces<'a> {
+pub struct BlockIndexes<'a> {
     /// Event inputs, event outputs, inputs, outputs and internal variables, numbered in this order as one list.
-    pub ports: Places<'a>,
+    pub ports: Indexes<'a>,
     /// The states of a basic type, otherwise none.
-    pub states: Places<'a>,
+    pub states: Indexes<'a>,
     /// The algorithms of a basic type, otherwise none.
-    pub algorithms: Places<'a>,
+    pub algorithms: Indexes<'a>,
     /// The instances of a composite type, otherwise none.
-    pub instances: Places<'a>,
+    pub instances: Indexes<'a>,
 }
 
 // Drop is written by hand, so that callers need not prove it again (docs/DECISIONS.md, "Drop").
-impl Drop for BlockPlaces<'_> {
+impl Drop for BlockIndexes<'_> {
     fn drop(self) {
-        let BlockPlaces {
+        let BlockIndexes {
             ports: _,
             states: _,
             algorithms: _,
@@ -37,13 +37,13 @@ impl Drop for BlockPlaces<'_> {
 /// The indices of the names of a declaration and a deployment, in which no name is given twice.
 pub struct Catalog<'a> {
     /// The block types of the declaration. The event blocks are not among them.
-    pub types: Places<'a>,
+    pub types: Indexes<'a>,
     /// For each block type of the declaration, its names.
-    pub blocks: Vec<BlockPlaces<'a>>,
+    pub blocks: Vec<BlockIndexes<'a>>,
     /// The instances of the application.
-    pub instances: Places<'a>,
+    pub instances: Indexes<'a>,
     /// The resources.
-    pub resources: Places<'a>,
+    pub resources: Indexes<'a>,
 }
 
 impl Drop for Catalog<'_> {
@@ -66,10 +66,10 @@ pub fn catalog_of<'a>(
     ensures { IfOk result (λ o. MatchOption o (NameTwice library.now plan.now) (IsCatalog library.now plan.now)) }
 {
     let blocks = library.blocks.as_slice();
-    let declared = both(type_places(alloc, blocks), blocks_places(alloc, blocks));
+    let declared = both(type_indexes(alloc, blocks), blocks_indexes(alloc, blocks));
     let placed = both(
-        network_places(alloc, &library.application.network),
-        resource_places(alloc, plan),
+        network_indexes(alloc, &library.application.network),
+        resource_indexes(alloc, plan),
     );
     let found = both(declared, placed)?;
     match found {

@@ -2,13 +2,13 @@
 
 ghost use Rattle.std.specs.Prelude.{◌≡◌, IfOk, option_and_then};
 ghost use Rattle.fb_check_names.specs.Numbers.{each_or_none, end_at, end_number};
-ghost use Rattle.fb_check_names.specs.Scopes.{IsScope, AreTyped, component_number, placed, wire_number};
+ghost use Rattle.fb_check_names.specs.Scopes.{IsScope, AreTyped, component_number, placed, connection_number};
 ghost use Rattle.fb_check_names.specs.Sorts.{names_of_sort};
 ghost use Rattle.fb_check_names.specs.Types.{AreTypes};
 
-use crate::numbers::{TypeNumber, Wire, WireEnd};
-use crate::placing::{Places, place_of};
-use crate::ports::{PortSort, place_in};
+use crate::numbers::{ConnectionEnd, NumberedConnection, TypeNumber};
+use crate::placing::{Indexes, index_of};
+use crate::ports::{PortSort, index_in};
 use crate::types::Types;
 use fb_types::{CompositeType, Connection, Items, Name, Network, PortName};
 use std::alloc::{AllocError, Global};
@@ -17,17 +17,17 @@ use std::alloc::{AllocError, Global};
 #[derive(Clone, Copy)]
 pub struct NetworkScope<'a, 'b> {
     /// The composite type that contains the network, with the indices of its names, or none for the application's.
-    pub composite: Option<(&'a CompositeType, &'a Places<'b>)>,
+    pub composite: Option<(&'a CompositeType, &'a Indexes<'b>)>,
     /// The network itself.
     pub network: &'a Network,
     /// The instances of the network.
-    pub instances: &'a Places<'b>,
+    pub instances: &'a Indexes<'b>,
 }
 
 /// The kinds of ports at the ends of a connection: it goes from the one kind to the other at components, and the other
 /// way round at the boundary.
 #[derive(Clone, Copy)]
-pub struct WireSorts {
+pub struct ConnectionKinds {
     /// The kind from which a connection leads at components.
     pub outputs: PortSort,
     /// The kind to which a connection leads at components.
@@ -35,25 +35,25 @@ pub struct WireSorts {
 }
 
 /// From an output event to an input event.
-pub const EVENTS: WireSorts = WireSorts {
+pub const EVENTS: ConnectionKinds = ConnectionKinds {
     outputs: PortSort::EventOutput,
     inputs: PortSort::EventInput,
 };
 
 /// From an output variable to an input variable.
-pub const DATA: WireSorts = WireSorts {
+pub const DATA: ConnectionKinds = ConnectionKinds {
     outputs: PortSort::Output,
     inputs: PortSort::Input,
 };
 
 /// An end at the boundary.
-fn boundary_end(scope: &NetworkScope, sort: PortSort, end: &PortName) -> Option<WireEnd>
+fn boundary_end(scope: &NetworkScope, sort: PortSort, end: &PortName) -> Option<ConnectionEnd>
     requires { IsScope scope.now }
     ensures { result ≡ option_and_then (λ t. end_at None (names_of_sort sort t.ports) end.now) (placed scope.now).0 }
 {
-    let (composite, places) = scope.composite?;
-    let port = place_in(&composite.ports, places, sort, &end.port)?;
-    Some(WireEnd {
+    let (composite, indexes) = scope.composite?;
+    let port = index_in(&composite.ports, indexes, sort, &end.port)?;
+    Some(ConnectionEnd {
         component: None,
         port,
     })
@@ -67,16 +67,16 @@ fn component_end(
     sort: PortSort,
     component: &Name,
     end: &PortName,
-) -> Option<WireEnd>
+) -> Option<ConnectionEnd>
     requires types { AreTypes types.now }
     requires scope { IsScope scope.now }
     requires typed { AreTyped types.now.library.now scope.now.network.now.instances kinds.now }
     ensures { result ≡ component_number types.now.library.now (placed scope.now) (names_of_sort sort) component.now end.now }
 {
-    let instance = place_of(scope.instances, component.as_bytes())?;
+    let instance = index_of(scope.instances, component.as_bytes())?;
     let kind = kinds.get(instance)?;
     let port = types.port_of(*kind, sort, &end.port)?;
-    Some(WireEnd {
+    Some(ConnectionEnd {
         component: Some(instance),
         port,
     })
@@ -90,7 +90,7 @@ fn end_of(
     component: PortSort,
     boundary: PortSort,
     end: &PortName,
-) -> Option<WireEnd>
+) -> Option<ConnectionEnd>
     requires types { AreTypes types.now }
     requires scope { IsScope scope.now }
     requires typed { AreTyped types.now.library.now scope.now.network.now.instances kinds.now }
@@ -106,13 +106,13 @@ fn wire_of(
     types: &Types,
     scope: &NetworkScope,
     kinds: &Items<TypeNumber>,
-    flow: WireSorts,
+    flow: ConnectionKinds,
     connection: &Connection,
-) -> Option<Wire>
+) -> Option<NumberedConnection>
     requires types { AreTypes types.now }
     requires scope { IsScope scope.now }
     requires typed { AreTyped types.now.library.now scope.now.network.now.instances kinds.now }
-    ensures { result ≡ wire_number types.now.library.now (placed scope.now) flow connection.now }
+    ensures { result ≡ connection_number types.now.library.now (placed scope.now) flow connection.now }
 {
     let from = end_of(
         types,
@@ -130,7 +130,7 @@ fn wire_of(
         flow.outputs,
         &connection.to,
     )?;
-    Some(Wire { from, to })
+    Some(NumberedConnection { from, to })
 }
 
 /// The connections by number, or `None` if an end is no port of the right kind.
@@ -139,13 +139,13 @@ pub fn wires_of(
     types: &Types,
     scope: &NetworkScope,
     kinds: &Items<TypeNumber>,
-    flow: WireSorts,
+    flow: ConnectionKinds,
     connections: &[Connection],
-) -> Result<Option<Items<Wire>>, AllocError>
+) -> Result<Option<Items<NumberedConnection>>, AllocError>
     requires types { AreTypes types.now }
     requires scope { IsScope scope.now }
     requires typed { AreTyped types.now.library.now scope.now.network.now.instances kinds.now }
-    ensures { IfOk result (λ o. o ≡ each_or_none (wire_number types.now.library.now (placed scope.now) flow) connections.now) }
+    ensures { IfOk result (λ o. o ≡ each_or_none (connection_number types.now.library.now (placed scope.now) flow) connections.now) }
 {
     let mut wires = Items::new(alloc);
     for connection in connections {

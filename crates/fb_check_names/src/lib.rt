@@ -25,10 +25,12 @@ pub mod resolution;
 mod spaces;
 mod types;
 
-pub use catalog::{BlockPlaces, Catalog, catalog_of};
-pub use named::{Named, places, push_names};
-pub use numbers::{LinkEnds, NetworkNumbers, Resolved, TypeNumber, Wire, WireEnd};
-pub use placing::{Places, place_of, places_of};
+pub use catalog::{BlockIndexes, Catalog, catalog_of};
+pub use named::{Named, indexes, push_names};
+pub use numbers::{
+    ConnectionEnd, LinkEnds, NetworkNumbers, NumberedConnection, Resolved, TypeNumber,
+};
+pub use placing::{Indexes, index_of, indexes_of};
 pub use ports::PortSort;
 pub use repeats::{EndNames, end_names};
 pub use resolution::resolve;

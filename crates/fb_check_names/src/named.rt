@@ -1,10 +1,10 @@
 //! Items with names, and the names of a list.
 
 ghost use Rattle.std.specs.Prelude.{◌≡◌, ◌++◌, map, IfOk, MatchOption};
-ghost use Rattle.fb_check_names.specs.Places.{IsIndex, names_in};
+ghost use Rattle.fb_check_names.specs.Indexes.{IsIndex, names_in};
 ghost use Rattle.fb_types.specs.Repeated.{Twice};
 
-use crate::placing::{Places, places_of};
+use crate::placing::{Indexes, indexes_of};
 use fb_types::{
     Algorithm, BlockType, EventPort, Instance, Name, Parameter, ResourceEntry, State, Variable,
 };
@@ -106,10 +106,13 @@ pub fn push_names<'a, T: Named>(names: &mut Vec<&'a Name>, items: &'a [T]) -> Re
 }
 
 /// The indices of the names of a list, or `None` if a name is given twice.
-pub fn places<'a, T: Named>(alloc: Global, items: &'a [T]) -> Result<Option<Places<'a>>, AllocError>
+pub fn indexes<'a, T: Named>(
+    alloc: Global,
+    items: &'a [T],
+) -> Result<Option<Indexes<'a>>, AllocError>
     ensures { IfOk result (λ o. MatchOption o (Twice (map T.called items.now)) (IsIndex (map T.called items.now))) }
 {
     let mut names = Vec::new(alloc);
     push_names(&mut names, items)?;
-    places_of(alloc, names.as_slice())
+    indexes_of(alloc, names.as_slice())
 }

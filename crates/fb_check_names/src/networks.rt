@@ -34,7 +34,7 @@ fn types_of(
 }
 
 /// The indices of the inputs that an instance's parameters set, or `None` if one is no input of its type.
-fn input_places(
+fn input_indexes(
     alloc: Global,
     types: &Types,
     instance: &Instance,
@@ -45,14 +45,14 @@ fn input_places(
     let Some(number) = types.number_of(&instance.block_type) else {
         return Ok(None);
     };
-    let mut places = Items::new(alloc);
+    let mut indexes = Items::new(alloc);
     for parameter in instance.parameters.as_slice() {
         match types.port_of(number, PortSort::Input, &parameter.name) {
-            Some(place) => places.push(place)?,
+            Some(index) => indexes.push(index)?,
             None => return Ok(None),
         }
     }
-    Ok(Some(places))
+    Ok(Some(indexes))
 }
 
 /// The inputs that the parameters of each instance set, or `None` if one is no input of the instance's type.
@@ -66,8 +66,8 @@ fn parameters_of(
 {
     let mut all = Items::new(alloc);
     for instance in instances {
-        match input_places(alloc, types, instance)? {
-            Some(places) => all.push(places)?,
+        match input_indexes(alloc, types, instance)? {
+            Some(indexes) => all.push(indexes)?,
             None => return Ok(None),
         }
     }

@@ -12,7 +12,7 @@ pub enum TypeNumber {
 /// An end of a connection: the index of the component, or none at the boundary, and the index of the port among the ports
 /// of its kind and direction.
 #[derive(Clone, Copy, PartialEq, Eq)]
-pub struct WireEnd {
+pub struct ConnectionEnd {
     /// The index among the instances of the network, or none at the boundary.
     pub component: Option<usize>,
     /// The index among the ports of the kind.
@@ -21,11 +21,11 @@ pub struct WireEnd {
 
 /// A connection, of events or of data.
 #[derive(Clone, Copy)]
-pub struct Wire {
+pub struct NumberedConnection {
     /// The end from which it leads.
-    pub from: WireEnd,
+    pub from: ConnectionEnd,
     /// The end to which it leads.
-    pub to: WireEnd,
+    pub to: ConnectionEnd,
 }
 
 /// The resources of a link.
@@ -44,9 +44,9 @@ pub struct NetworkNumbers {
     /// For each instance, for each parameter, the index of the data input that it sets.
     pub parameters: Items<Items<usize>>,
     /// The event connections.
-    pub event_wires: Items<Wire>,
+    pub event_wires: Items<NumberedConnection>,
     /// The data connections.
-    pub data_wires: Items<Wire>,
+    pub data_wires: Items<NumberedConnection>,
 }
 
 // Drop is written by hand, so that callers need not prove it again (docs/DECISIONS.md, "Drop").

@@ -7,7 +7,7 @@ ghost use Rattle.fb_types.specs.Repeated.{Twice};
 ghost use Rattle.fb_types.specs.declared.library.EventPort.{EventPort};
 ghost use Rattle.fb_types.specs.declared.library.Instance.{Instance};
 
-use crate::named::{Named, places};
+use crate::named::{Named, indexes};
 use fb_types::{Connection, EventPort, Instance, Link, Name, PortName};
 use std::alloc::{AllocError, Global};
 use std::collections::BTreeSet;
@@ -16,7 +16,7 @@ use std::collections::BTreeSet;
 fn has_name_twice<T: Named>(alloc: Global, items: &[T]) -> Result<bool, AllocError>
     ensures { IfOk result (λ b. IsTrue b ↔ Twice (map T.called items.now)) }
 {
-    Ok(places(alloc, items)?.is_none())
+    Ok(indexes(alloc, items)?.is_none())
 }
 
 /// Whether a list of names has one twice.

@@ -7,8 +7,8 @@ ghost use Rattle.fb_check_names.specs.Types.{AreTypes, HasTypes, port_number};
 
 use crate::catalog::Catalog;
 use crate::numbers::TypeNumber;
-use crate::placing::place_of;
-use crate::ports::{PortSort, place_among, place_in};
+use crate::placing::index_of;
+use crate::ports::{PortSort, index_among, index_in};
 use fb_types::{Items, Library, Name, Ports, all_ports, kind_named};
 use std::alloc::{AllocError, Global};
 
@@ -52,8 +52,8 @@ impl<'a, 'b> Types<'a, 'b> {
         match kind_named(name.as_bytes()) {
             Some(kind) => Some(TypeNumber::Event(kind)),
             None => {
-                let place = place_of(&self.catalog.types, name.as_bytes())?;
-                Some(TypeNumber::Declared(place))
+                let index = index_of(&self.catalog.types, name.as_bytes())?;
+                Some(TypeNumber::Declared(index))
             }
         }
     }
@@ -65,13 +65,13 @@ impl<'a, 'b> Types<'a, 'b> {
     {
         match number {
             TypeNumber::Event(kind) => {
-                let ports = self.event_ports.get(kind.place())?;
-                place_among(ports, sort, name)
+                let ports = self.event_ports.get(kind.index())?;
+                index_among(ports, sort, name)
             }
-            TypeNumber::Declared(place) => {
-                let block = self.library.blocks.get(place)?;
-                let places = self.catalog.blocks.get(place)?;
-                place_in(block.ports(), &places.ports, sort, name)
+            TypeNumber::Declared(index) => {
+                let block = self.library.blocks.get(index)?;
+                let indexes = self.catalog.blocks.get(index)?;
+                index_in(block.ports(), &indexes.ports, sort, name)
             }
         }
     }

@@ -20,16 +20,16 @@ use Rattle.fb_types.specs.declared.deploy.Plan.{Plan}
 use Rattle.fb_types.proofs.Positions.{named-position, position_is, slice_get-Contains}
 use Rattle.fb_types.proofs.Elements.{Contains-cons_cases}
 use Rattle.fb_check_names.specs.declared.numbers.TypeNumber.{TypeNumber}
-use Rattle.fb_check_names.specs.declared.numbers.WireEnd.{WireEnd}
-use Rattle.fb_check_names.specs.declared.numbers.Wire.{Wire}
+use Rattle.fb_check_names.specs.declared.numbers.ConnectionEnd.{ConnectionEnd}
+use Rattle.fb_check_names.specs.declared.numbers.NumberedConnection.{NumberedConnection}
 use Rattle.fb_check_names.specs.declared.numbers.NetworkNumbers.{NetworkNumbers}
 use Rattle.fb_check_names.specs.declared.numbers.Resolved.{Resolved}
-use Rattle.fb_check_names.specs.Numbers.{IsNetwork, IsResolved, place_of, type_number, kind_of_number, ports_at_place, end_at, end_number, both_ends, data_wire}
+use Rattle.fb_check_names.specs.Numbers.{IsNetwork, IsResolved, index_of, type_number, kind_of_number, ports_at_index, end_at, end_number, both_ends, data_wire}
 use Rattle.fb_check_networks.specs.Ranges.{is_within}
 use Rattle.fb_check_networks.specs.Variables.{type_at, source_type, target_type}
 use Rattle.fb_types.proofs.Options.{and_then_parts, map_parts}
 use Rattle.fb_check_names.proofs.Each.{each_at, each_from}
-use Rattle.fb_types.proofs.ByPlace.{element_of_place, place_of_element}
+use Rattle.fb_types.proofs.ByIndex.{element_of_index, index_of_element}
 use Rattle.fb_check_networks.specs.Networks.{boundary, network_passes}
 use Rattle.fb_check_networks.specs.Joins.{is_out, leads_out, leads_out_in}
 use Rattle.fb_check_networks.proofs.Lists.{any_at, any_from}
@@ -58,25 +58,25 @@ named_back {A} f n (z ∷ zs) ys h =
 abbrev variable_name : Variable → Name
 variable_name v = v.name
 
-named_at : (vs : List Variable) (n : Name) (k : ℕ) → place_of (variable_names vs) n ≡ Some k → named variable_name n vs ≡ slice_get vs k
+named_at : (vs : List Variable) (n : Name) (k : ℕ) → index_of (variable_names vs) n ≡ Some k → named variable_name n vs ≡ slice_get vs k
 named_at vs n k h = named-position variable_name n vs ∙ ap (option_and_then (slice_get vs)) h
 
 -- the type of a data input by its index
-inputs_among : (p : Ports) (e : PortName) (k : ℕ) → place_of (variable_names p.inputs) e.port ≡ Some k → type_at p.inputs k ≡ type_among p e
+inputs_among : (p : Ports) (e : PortName) (k : ℕ) → index_of (variable_names p.inputs) e.port ≡ Some k → type_at p.inputs k ≡ type_among p e
 inputs_among p e k h =
     let at = position_is variable_name e.port p.inputs k h in
     let first = named_at p.inputs e.port k h ∙ at.1 in
     ap (option_map (λ (v : Variable). v.ty)) (at.1 ∙ sym (named_front variable_name e.port p.inputs p.outputs at.0 first))
 
 -- what has an index among the names is among them
-has_name : (vs : List Variable) (n : Name) (k : ℕ) → place_of (variable_names vs) n ≡ Some k → Contains (variable_names vs) n
+has_name : (vs : List Variable) (n : Name) (k : ℕ) → index_of (variable_names vs) n ≡ Some k → Contains (variable_names vs) n
 has_name vs n k h =
     let at = position_is variable_name n vs k h in
     subst (λ (m : Name). Contains (variable_names vs) m) at.2 (slice_get-Contains variable_name vs k at.0 at.1)
 
 -- the type of a data output by its index: no data input has its name
 outputs_among :
-    (p : Ports) (e : PortName) (k : ℕ) → IsApart p → place_of (variable_names p.outputs) e.port ≡ Some k → type_at p.outputs k ≡ type_among p e
+    (p : Ports) (e : PortName) (k : ℕ) → IsApart p → index_of (variable_names p.outputs) e.port ≡ Some k → type_at p.outputs k ≡ type_among p e
 outputs_among p e k apart h =
     let no_input : named variable_name e.port p.inputs ≡ None =
     elim (position (same_name e.port) (variable_names p.inputs)) as (λ o. position (same_name e.port) (variable_names p.inputs) ≡ o → named variable_name e.port p.inputs ≡ None) [
@@ -89,10 +89,10 @@ outputs_among p e k apart h =
 
 -- The types of the variables of a kind are found by their indices.
 abbrev Finds : (Ports → List Variable) → Ports → Type 0
-Finds sort p = (e : PortName) (k : ℕ) → place_of (variable_names (sort p)) e.port ≡ Some k → type_at (sort p) k ≡ type_among p e
+Finds sort p = (e : PortName) (k : ℕ) → index_of (variable_names (sort p)) e.port ≡ Some k → type_at (sort p) k ≡ type_among p e
 
 -- the type at an end, among the variables of the one kind at a component, or of the other at the boundary
-abbrev end_type : Library → (component boundary : Ports → List Variable) → Option Ports → List TypeNumber → WireEnd → Option Ty
+abbrev end_type : Library → (component boundary : Ports → List Variable) → Option Ports → List TypeNumber → ConnectionEnd → Option Ty
 end_type lib component around ports types e =
     elim e.component [
       | None ↦ option_and_then (λ p. type_at (around p) e.port) ports
@@ -100,39 +100,39 @@ end_type lib component around ports types e =
     ]
 
 boundary_end :
-    (lib : Library) (n : Placed) (types : List TypeNumber) (component around : Ports → List Variable) (e : PortName) (w : WireEnd)
+    (lib : Library) (n : Placed) (types : List TypeNumber) (component around : Ports → List Variable) (e : PortName) (w : ConnectionEnd)
     → ((t : CompositeType) → n.0 ≡ Some t → Finds around t.ports)
     → option_and_then (λ t. end_at None (variable_names (around t.ports)) e) n.0 ≡ Some w
     → end_type lib component around (boundary n) types w ≡ option_and_then (λ t. type_among t.ports e) n.0
 boundary_end lib n types component around e w finds h =
     let t = and_then_parts (λ (t : CompositeType). end_at None (variable_names (around t.ports)) e) n.0 w h in
-    let at = map_parts (λ (k : ℕ). record { component = None; port = k }) (place_of (variable_names (around t.0.ports)) e.port) w t.2 in
-    let P : WireEnd → Type 0 = λ w. end_type lib component around (boundary n) types w ≡ option_and_then (λ t. type_among t.ports e) n.0 in
+    let at = map_parts (λ (k : ℕ). record { component = None; port = k }) (index_of (variable_names (around t.0.ports)) e.port) w t.2 in
+    let P : ConnectionEnd → Type 0 = λ w. end_type lib component around (boundary n) types w ≡ option_and_then (λ t. type_among t.ports e) n.0 in
     subst P at.2
     (ap (λ (o : Option CompositeType). option_and_then (λ (p : Ports). type_at (around p) at.0) (option_map (λ t. t.ports) o)) t.1
     ∙ finds t.0 t.1 e at.0 at.1
     ∙ sym (ap (option_and_then (λ (t : CompositeType). type_among t.ports e)) t.1))
 
 component_end :
-    (lib : Library) (n : Placed) (x : NetworkNumbers) (component around : Ports → List Variable) (e : PortName) (c : Name) (w : WireEnd) → IsNetwork lib n x
+    (lib : Library) (n : Placed) (x : NetworkNumbers) (component around : Ports → List Variable) (e : PortName) (c : Name) (w : ConnectionEnd) → IsNetwork lib n x
     → ((t : TypeNumber) (k : Kind) → kind_of_number lib t ≡ Some k → Finds component (ports_of k))
-    → option_and_then (λ i. option_and_then (λ p. end_at (Some i) (variable_names (component p)) e) (ports_at_place lib n i)) (place_of (instance_names n.1) c) ≡ Some w
+    → option_and_then (λ i. option_and_then (λ p. end_at (Some i) (variable_names (component p)) e) (ports_at_index lib n i)) (index_of (instance_names n.1) c) ≡ Some w
     → end_type lib component around (boundary n) x.types w
     ≡ option_and_then (λ k. type_among (ports_of k) e) (option_and_then (kind_of_instance lib) (instance_in n.1 c))
 component_end lib n x component around e c w is finds h =
-    let i = and_then_parts (λ (i : ℕ). option_and_then (λ (p : Ports). end_at (Some i) (variable_names (component p)) e) (ports_at_place lib n i)) (place_of (instance_names n.1) c) w h in
-    let p = and_then_parts (λ (p : Ports). end_at (Some i.0) (variable_names (component p)) e) (ports_at_place lib n i.0) w i.2 in
+    let i = and_then_parts (λ (i : ℕ). option_and_then (λ (p : Ports). end_at (Some i) (variable_names (component p)) e) (ports_at_index lib n i)) (index_of (instance_names n.1) c) w h in
+    let p = and_then_parts (λ (p : Ports). end_at (Some i.0) (variable_names (component p)) e) (ports_at_index lib n i.0) w i.2 in
     let k = map_parts ports_of (option_and_then (kind_of_instance lib) (slice_get n.1.instances i.0)) p.0 p.1 in
     let inst = and_then_parts (kind_of_instance lib) (slice_get n.1.instances i.0) k.0 k.1 in
     let ends : end_at (Some i.0) (variable_names (component (ports_of k.0))) e ≡ Some w =
     ap (λ (p : Ports). end_at (Some i.0) (variable_names (component p)) e) k.2 ∙ p.2 in
-    let at = map_parts (λ (j : ℕ). record { component = Some i.0; port = j }) (place_of (variable_names (component (ports_of k.0))) e.port) w ends in
+    let at = map_parts (λ (j : ℕ). record { component = Some i.0; port = j }) (index_of (variable_names (component (ports_of k.0))) e.port) w ends in
     let t = each_at (λ (i : Instance). type_number lib i.block_type) n.1.instances x.types i.0 inst.0 is.types inst.1 in
     let kind : kind_of_number lib t.0 ≡ Some k.0 = sym (type_by_number lib inst.0.block_type t.0 t.2) ∙ inst.2 in
     let found : instance_in n.1 c ≡ slice_get n.1.instances i.0 =
     named-position (λ (i : Instance). i.name) c n.1.instances ∙ ap (option_and_then (slice_get n.1.instances)) i.1 in
     let stands : option_and_then (kind_of_instance lib) (instance_in n.1 c) ≡ Some k.0 = ap (option_and_then (kind_of_instance lib)) found ∙ k.1 in
-    let P : WireEnd → Type 0 = λ w. end_type lib component around (boundary n) x.types w ≡ option_and_then (λ k. type_among (ports_of k) e) (option_and_then (kind_of_instance lib) (instance_in n.1 c)) in
+    let P : ConnectionEnd → Type 0 = λ w. end_type lib component around (boundary n) x.types w ≡ option_and_then (λ k. type_among (ports_of k) e) (option_and_then (kind_of_instance lib) (instance_in n.1 c)) in
     subst P at.2
     (ap (option_and_then (λ (t : TypeNumber). option_and_then (λ (kind : Kind). type_at (component (ports_of kind)) at.0) (kind_of_number lib t))) t.1
     ∙ ap (option_and_then (λ (kind : Kind). type_at (component (ports_of kind)) at.0)) kind
@@ -140,7 +140,7 @@ component_end lib n x component around e c w is finds h =
     ∙ sym (ap (option_and_then (λ (k : Kind). type_among (ports_of k) e)) stands))
 
 end_by_number :
-    (lib : Library) (n : Placed) (x : NetworkNumbers) (component around : Ports → List Variable) (e : PortName) (w : WireEnd) → IsNetwork lib n x
+    (lib : Library) (n : Placed) (x : NetworkNumbers) (component around : Ports → List Variable) (e : PortName) (w : ConnectionEnd) → IsNetwork lib n x
     → ((t : TypeNumber) (k : Kind) → kind_of_number lib t ≡ Some k → Finds component (ports_of k))
     → ((t : CompositeType) → n.0 ≡ Some t → Finds around t.ports)
     → end_number lib n (λ p. variable_names (component p)) (λ p. variable_names (around p)) e ≡ Some w
@@ -148,9 +148,9 @@ end_by_number :
 end_by_number lib n x component around e w is finds finds_around h =
     elim e.component as
     (λ (o : Option Name).
-    elim o as (λ _. Option WireEnd) [
+    elim o as (λ _. Option ConnectionEnd) [
       | None ↦ option_and_then (λ t. end_at None (variable_names (around t.ports)) e) n.0
-      | Some c ↦ option_and_then (λ i. option_and_then (λ p. end_at (Some i) (variable_names (component p)) e) (ports_at_place lib n i)) (place_of (instance_names n.1) c)
+      | Some c ↦ option_and_then (λ i. option_and_then (λ p. end_at (Some i) (variable_names (component p)) e) (ports_at_index lib n i)) (index_of (instance_names n.1) c)
     ] ≡ Some w
     → end_type lib component around (boundary n) x.types w
     ≡ elim o as (λ _. Option Ty) [
@@ -163,14 +163,14 @@ end_by_number lib n x component around e w is finds finds_around h =
 
 -- ---- Networks
 
-both_parts : (a b : Option WireEnd) (w : Wire) → both_ends a b ≡ Some w → (a ≡ Some w.from) × (b ≡ Some w.to)
+both_parts : (a b : Option ConnectionEnd) (w : NumberedConnection) → both_ends a b ≡ Some w → (a ≡ Some w.from) × (b ≡ Some w.to)
 both_parts a b w h =
-    let x = and_then_parts (λ (x : WireEnd). option_map (λ (y : WireEnd). record { from = x; to = y }) b) a w h in
-    let y = map_parts (λ (y : WireEnd). record { from = x.0; to = y }) b w x.2 in
-    (x.1 ∙ ap (λ (w : Wire). Some w.from) y.2, y.1 ∙ ap (λ (w : Wire). Some w.to) y.2)
+    let x = and_then_parts (λ (x : ConnectionEnd). option_map (λ (y : ConnectionEnd). record { from = x; to = y }) b) a w h in
+    let y = map_parts (λ (y : ConnectionEnd). record { from = x.0; to = y }) b w x.2 in
+    (x.1 ∙ ap (λ (w : NumberedConnection). Some w.from) y.2, y.1 ∙ ap (λ (w : NumberedConnection). Some w.to) y.2)
 
 -- the types at the two ends of a connection
-abbrev AreTypes : Library → Placed → NetworkNumbers → Connection → Wire → Type 0
+abbrev AreTypes : Library → Placed → NetworkNumbers → Connection → NumberedConnection → Type 0
 AreTypes lib n x c w =
     (source_type lib (boundary n) x.types w.from ≡ type_at_end lib n c.from) × (target_type lib (boundary n) x.types w.to ≡ type_at_end lib n c.to)
 
@@ -188,7 +188,7 @@ around_apart lib plan n t once there h =
     ]
 
 wire_types :
-    (lib : Library) (plan : Plan) (n : Placed) (x : NetworkNumbers) (c : Connection) (w : Wire) → ¬ (NameTwice lib plan) → Contains (networks lib) n
+    (lib : Library) (plan : Plan) (n : Placed) (x : NetworkNumbers) (c : Connection) (w : NumberedConnection) → ¬ (NameTwice lib plan) → Contains (networks lib) n
     → IsNetwork lib n x → data_wire lib n c ≡ Some w → AreTypes lib n x c w
 wire_types lib plan n x c w once there is h =
     let outputs : Ports → List Variable = λ p. p.outputs in
@@ -236,9 +236,9 @@ network_by_number lib plan n x once there is = (
       let c = each_from (data_wire lib n) n.1.data_connections x.data_wires at.0 at.1 is.data_wires at.2 in
       let types = wire_types lib plan n x c.0 at.1 once there is c.2 in
       let same = ap (λ (o : Option Ty). is_out o (target_type lib (boundary n) x.types at.1.to)) types.0 ∙ ap (is_out (type_at_end lib n c.0.from)) types.1 in
-      (c.0, element_of_place n.1.data_connections at.0 c.0 c.1, (out-Decides (type_at_end lib n c.0.from) (type_at_end lib n c.0.to)).0 (sym same ∙ at.3)),
+      (c.0, element_of_index n.1.data_connections at.0 c.0 c.1, (out-Decides (type_at_end lib n c.0.from) (type_at_end lib n c.0.to)).0 (sym same ∙ at.3)),
   λ w.
-      let at = place_of_element n.1.data_connections w.0 w.1 in
+      let at = index_of_element n.1.data_connections w.0 w.1 in
       let wire = each_at (data_wire lib n) n.1.data_connections x.data_wires at.0 w.0 is.data_wires at.1 in
       let types = wire_types lib plan n x w.0 wire.0 once there is wire.2 in
       let same = ap (λ (o : Option Ty). is_out o (target_type lib (boundary n) x.types wire.0.to)) types.0 ∙ ap (is_out (type_at_end lib n w.0.from)) types.1 in

@@ -13,7 +13,7 @@ use Rattle.fb_types.specs.Names.{Name, same_name}
 use Rattle.fb_types.specs.Blocks.{named, among}
 use Rattle.fb_types.specs.Repeated.{Twice}
 use Rattle.fb_types.specs.declared.deploy.ResourceEntry.{ResourceEntry}
-use Rattle.fb_check_names.specs.Places.{place_in}
+use Rattle.fb_check_names.specs.Indexes.{index_in}
 use Rattle.fb_types.proofs.LoopSteps.{more_of_part}
 use Rattle.fb_types.proofs.Positions.{position-cons}
 use Rattle.fb_types.proofs.Options.{none_from_is_some}
@@ -103,7 +103,7 @@ is_some-number_in (p ∷ ps) n =
 pub held_none : (m : tree.BTreeMap (Bor Name) ℕ) → m.entries ≡ [] → IsHeld [] m
 held_none m e = record {
   once = λ t. t;
-  place = λ n. ap (lookup (λ (k : Bor Name). is_eq (slice_cmp nat_cmp n k.now))) e;
+  index = λ n. ap (lookup (λ (k : Bor Name). is_eq (slice_cmp nat_cmp n k.now))) e;
 }
 
 abbrev at_name : Name → Bor Name
@@ -119,25 +119,25 @@ held_push :
     → IsHeld (ps ++ (k.now, number) ∷ []) m'
 held_push ps number m m' k held new updates =
     let absent : list_any (same_name k.now) (names_of ps) ≡ false =
-    sym (is_some-number_in ps k.now) ∙ ap is_some (sym (held.place k.now) ∙ new) in
+    sym (is_some-number_in ps k.now) ∙ ap is_some (sym (held.index k.now) ∙ new) in
     record {
       once =
           let P : List Name → Type 0 = λ ns. ¬ (Twice ns) in
           subst P (sym (map-append (λ (p : Name × ℕ). p.0) ps ((k.now, number) ∷ [])))
           (once_push (names_of ps) k.now held.once (λ c. true≢false (sym (any_from_contains k.now (names_of ps) c) ∙ absent)));
-      place = λ n.
+      index = λ n.
           updates (at_name n)
-          ∙ (elim (is_eq (slice_cmp nat_cmp k.now n)) as (λ b. is_eq (slice_cmp nat_cmp k.now n) ≡ b → cond b (Some number) (place_in m n) ≡ or_else (number_in ps n) (number_in ((k.now, number) ∷ []) n)) [
+          ∙ (elim (is_eq (slice_cmp nat_cmp k.now n)) as (λ b. is_eq (slice_cmp nat_cmp k.now n) ≡ b → cond b (Some number) (index_in m n) ≡ or_else (number_in ps n) (number_in ((k.now, number) ∷ []) n)) [
             | true ↦ λ e.
                 let same : k.now ≡ n = (slice_cmp-Decides k.now n).0 e in
                 let P : Name → Type 0 = λ n. Some number ≡ or_else (number_in ps n) (number_in ((k.now, number) ∷ []) n) in
                 subst P same
-                (sym (ap (λ o. or_else o (number_in ((k.now, number) ∷ []) k.now)) (sym (held.place k.now) ∙ new)
+                (sym (ap (λ o. or_else o (number_in ((k.now, number) ∷ []) k.now)) (sym (held.index k.now) ∙ new)
                 ∙ ap (λ b. option_map (λ (p : Name × ℕ). p.1) (cond b (Some (k.now, number)) None)) (same_name-itself k.now)))
             | false ↦ λ e.
                 let apart : same_name k.now n ≡ false =
                 false_from_ne_true (same_name k.now n) (λ s. true≢false (sym ((slice_cmp-Decides k.now n).1 (same_from_same_name k.now n s)) ∙ e)) in
-                held.place n ∙ or_else-None (number_in ps n)
+                held.index n ∙ or_else-None (number_in ps n)
                 ∙ ap (λ b. or_else (number_in ps n) (option_map (λ (p : Name × ℕ). p.1) (cond b (Some (k.now, number)) None))) (sym apart)
           ] refl)
           ∙ sym (number_in-append ps ((k.now, number) ∷ []) n);
@@ -179,7 +179,7 @@ held_twice ps number ns j n m k o h e g held old found =
     let qs = ps ++ at_number number (take j ns) in
     let before : List Name = names_of ps in
     let there : Contains (names_of qs) k.now =
-    contains_from_any k.now (names_of qs) (sym (is_some-number_in qs k.now) ∙ ap is_some (sym (held.place k.now) ∙ sym old) ∙ found) in
+    contains_from_any k.now (names_of qs) (sym (is_some-number_in qs k.now) ∙ ap is_some (sym (held.index k.now) ∙ sym old) ∙ found) in
     let named_so_far : names_of qs ≡ before ++ take j ns =
     map-append (λ (p : Name × ℕ). p.0) ps (at_number number (take j ns))
     ∙ ap (λ ns. before ++ ns) (names-at_number number (take j ns)) in
@@ -231,5 +231,5 @@ listing_from_held rs number m ended held_so_far =
     let held = subst R (take_all number rs ended) held_so_far in
     record {
       once = let P : List Name → Type 0 = λ ns. ¬ (Twice ns) in subst P (names-holdings 0 rs) held.once;
-      place = λ n. held.place n ∙ number_in-holdings 0 rs n ∙ option_map-zero (position (λ r. among r.instances n) rs);
+      index = λ n. held.index n ∙ number_in-holdings 0 rs n ∙ option_map-zero (position (λ r. among r.instances n) rs);
     }

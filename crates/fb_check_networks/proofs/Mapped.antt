@@ -15,7 +15,7 @@ use Rattle.fb_types.specs.declared.library.Library.{Library}
 use Rattle.fb_types.specs.declared.library.Instance.{Instance}
 use Rattle.fb_types.specs.declared.deploy.Plan.{Plan}
 use Rattle.fb_types.specs.declared.deploy.ResourceEntry.{ResourceEntry}
-use Rattle.fb_check_names.specs.Places.{place_in}
+use Rattle.fb_check_names.specs.Indexes.{index_in}
 use Rattle.fb_types.proofs.ListTests.{fails_at, passes_at}
 use Rattle.fb_types.proofs.Positions.{is_some-position}
 use Rattle.fb_types.proofs.NameLaws.{contains_from_any, any_from_contains}
@@ -64,15 +64,15 @@ any_listed (r ∷ rs) n =
     ap (λ b. among r.instances n || b) (any_listed rs n) ∙ sym (list_any-append (same_name n) r.instances (flat_map (λ r. r.instances) rs))
 
 -- the map has a name exactly if a resource lists it
-found_is : (rs : List ResourceEntry) (m : tree.BTreeMap (Bor Name) ℕ) (n : Name) → IsListing rs m → is_some (place_in m n) ≡ list_any (same_name n) (flat_map (λ r. r.instances) rs)
-found_is rs m n listing = ap is_some (listing.place n) ∙ is_some-position (λ r. among r.instances n) rs ∙ any_listed rs n
+found_is : (rs : List ResourceEntry) (m : tree.BTreeMap (Bor Name) ℕ) (n : Name) → IsListing rs m → is_some (index_in m n) ≡ list_any (same_name n) (flat_map (λ r. r.instances) rs)
+found_is rs m n listing = ap is_some (listing.index n) ∙ is_some-position (λ r. among r.instances n) rs ∙ any_listed rs n
 
 listed_all : (lib : Library) (plan : Plan) → plan.holds_all ≡ false → mapped lib plan ≡ flat_map (λ r. r.instances) plan.resources
 listed_all lib plan h = ap (λ b. cond b (instance_names lib.application.network) (flat_map (λ r. r.instances) plan.resources)) h
 
 -- whether the map has the name of an instance
 abbrev pub is_listed : tree.BTreeMap (Bor Name) ℕ → Instance → Bool
-is_listed m i = is_some (place_in m i.name)
+is_listed m i = is_some (index_in m i.name)
 
 pub all_listed :
     (lib : Library) (plan : Plan) (m : tree.BTreeMap (Bor Name) ℕ) → plan.holds_all ≡ false → IsListing plan.resources m
@@ -86,7 +86,7 @@ all_listed lib plan m h listing all = record {
       ];
   holds = record {
     holder = λ n.
-        ap (λ o. unwrap_or o 0) (listing.place n)
+        ap (λ o. unwrap_or o 0) (listing.index n)
         ∙ sym (ap (λ b. cond b 0 (unwrap_or (position (λ r. among r.instances n) plan.resources) 0)) h);
   };
 }
@@ -111,4 +111,4 @@ not_listed lib plan m h listing some =
 -- the entry of the map for the name of an instance
 pub listed_found :
     (m : tree.BTreeMap (Bor Name) ℕ) (i : Instance) (q : Bor Name) (b c : Bool) → q.now ≡ i.name → b ≡ is_some (tree.get name_cmp m q) → b ≡ c → is_listed m i ≡ c
-listed_found m i q b c g found there = ap (λ n. is_some (place_in m n)) (sym g) ∙ sym found ∙ there
+listed_found m i q b c g found there = ap (λ n. is_some (index_in m n)) (sym g) ∙ sym found ∙ there

@@ -21,7 +21,7 @@ use Rattle.fb_check_names.specs.declared.numbers.Resolved.{Resolved}
 use Rattle.fb_check_names.specs.Numbers.{IsNetwork, IsResolved, type_number, kind_of_number}
 use Rattle.fb_check_networks.specs.Heights.{is_marked, holds_marked, marks_after}
 use Rattle.fb_check_names.proofs.Each.{each_at, each_from}
-use Rattle.fb_types.proofs.ByPlace.{element_of_place, place_of_element}
+use Rattle.fb_types.proofs.ByIndex.{element_of_index, index_of_element}
 use Rattle.fb_check_networks.proofs.Lists.{any_at, any_from, past_both}
 use Rattle.fb_check_networks.proofs.Naming.{type_by_number}
 
@@ -82,11 +82,11 @@ holds-Decides lib steps marks t x are is = (
       let at = any_at (is_marked marks) x.types h in
       let i = each_from (λ (i : Instance). type_number lib i.block_type) t.network.instances x.types at.0 at.1 is.types at.2 in
       let w = leads_from_marked lib steps marks at.1 are at.3 in
-      (w.2.0, (w.0, (i.0, element_of_place t.network.instances at.0 i.0 i.1, type_by_number lib i.0.block_type at.1 i.2 ∙ w.1), w.2.1)),
+      (w.2.0, (w.0, (i.0, element_of_index t.network.instances at.0 i.0 i.1, type_by_number lib i.0.block_type at.1 i.2 ∙ w.1), w.2.1)),
   λ w.
       let d = w.1 in
       let held = d.1 in
-      let at = place_of_element t.network.instances held.0 held.1 in
+      let at = index_of_element t.network.instances held.0 held.1 in
       let n = each_at (λ (i : Instance). type_number lib i.block_type) t.network.instances x.types at.0 held.0 is.types at.1 in
       any_from (is_marked marks) x.types at.0 n.0 n.1
       (marked_from_leads lib steps marks n.0 are (d.0, sym (type_by_number lib held.0.block_type n.0 n.2) ∙ held.2, (w.0, d.2))),
@@ -151,7 +151,7 @@ around lib n t cycle (suc steps) zero m d =
 
 some_mark : (lib : Library) (n : ℕ) (marks : List Bool) (t : CompositeType) → AreMarks lib n marks → Contains lib.blocks (block.Composite t) → Leads lib n t → list_any (λ b. b) marks ≡ true
 some_mark lib n marks t are there w =
-    let at = place_of_element lib.blocks (block.Composite t) there in
+    let at = index_of_element lib.blocks (block.Composite t) there in
     let P : Option BlockType → Type 0 = λ o. MarkOf lib n o (unwrap_or (slice_get marks at.0) false) in
     let d = subst P at.1 (are.each at.0) in
     any_from (λ b. b) marks at.0 true (is_there (slice_get marks at.0) (d.1 w)) refl
@@ -167,7 +167,7 @@ chain_of : (lib : Library) (n : ℕ) (marks : List Bool) → AreMarks lib n mark
 chain_of lib n marks are h =
     let at = any_at (λ b. b) marks h in
     let marked : unwrap_or (slice_get marks at.0) false ≡ true = ap (λ o. unwrap_or o false) at.2 ∙ at.3 in
-    from_block lib n (slice_get lib.blocks at.0) (unwrap_or (slice_get marks at.0) false) (λ b e. element_of_place lib.blocks at.0 b e) (are.each at.0) marked
+    from_block lib n (slice_get lib.blocks at.0) (unwrap_or (slice_get marks at.0) false) (λ b e. element_of_index lib.blocks at.0 b e) (are.each at.0) marked
   where
     from_block :
         (lib : Library) (n : ℕ) (o : Option BlockType) (b : Bool) → ((t : BlockType) → o ≡ Some t → Contains lib.blocks t) → MarkOf lib n o b → b ≡ true → Chain lib n

@@ -18,10 +18,10 @@ use Rattle.fb_types.specs.declared.deploy.Plan.{Plan}
 use Rattle.fb_types.proofs.Positions.{named-position}
 use Rattle.fb_types.proofs.TwiceLaws.{Twice-append_left, Twice-both}
 use Rattle.fb_types.proofs.Elements.{Contains-nil, Contains-cons_cases, Contains-here, Contains-there, Contains-map}
-use Rattle.fb_types.proofs.ByPlace.{element_of_place}
+use Rattle.fb_types.proofs.ByIndex.{element_of_index}
 use Rattle.fb_check_names.specs.declared.numbers.TypeNumber.{TypeNumber}
 use Rattle.fb_check_names.specs.declared.numbers.TypeNumber.TheVariants as number
-use Rattle.fb_check_names.specs.Numbers.{place_of, type_number, kind_of_number}
+use Rattle.fb_check_names.specs.Numbers.{index_of, type_number, kind_of_number}
 
 -- ---- Types
 
@@ -30,7 +30,7 @@ pub type_numbered : (lib : Library) (n : Name) → type_named lib n ≡ option_a
 type_numbered lib n =
     elim (named (λ e. e.0) n event_blocks) as
     (λ o. elim o [ Some e ↦ Some (Event e.1) | None ↦ option_map kind_of (named type_name n lib.blocks) ]
-    ≡ option_and_then (kind_of_number lib) (elim (option_map (λ e. e.1) o) [ Some k ↦ Some (number.Event k) | None ↦ option_map (λ t. number.Declared t) (place_of (map type_name lib.blocks) n) ])) [
+    ≡ option_and_then (kind_of_number lib) (elim (option_map (λ e. e.1) o) [ Some k ↦ Some (number.Event k) | None ↦ option_map (λ t. number.Declared t) (index_of (map type_name lib.blocks) n) ])) [
       | Some e ↦ refl
       | None ↦
           ap (option_map kind_of) (named-position type_name n lib.blocks)
@@ -143,9 +143,9 @@ kind_apart lib plan (number.Declared t) k once h =
       | Some b ↦ λ e g.
           let same : kind_of b ≡ k = cc in
           let P : Kind → Type 0 = λ k. IsApart (ports_of k) in
-          subst P same (declared_apart lib plan b once (element_of_place lib.blocks t b e))
+          subst P same (declared_apart lib plan b once (element_of_index lib.blocks t b e))
     ] refl h
 
 pub composite_apart :
     (lib : Library) (plan : Plan) (k : ℕ) (t : CompositeType) → ¬ (NameTwice lib plan) → slice_get lib.blocks k ≡ Some (block.Composite t) → IsApart t.ports
-composite_apart lib plan k t once h = declared_apart lib plan (block.Composite t) once (element_of_place lib.blocks k (block.Composite t) h)
+composite_apart lib plan k t once h = declared_apart lib plan (block.Composite t) once (element_of_index lib.blocks k (block.Composite t) h)

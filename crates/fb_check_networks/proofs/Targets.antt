@@ -17,7 +17,7 @@ use Rattle.fb_check_names.specs.Ends.{End, end_port}
 use Rattle.fb_types.proofs.Elements.{Contains-cons_cases}
 use Rattle.fb_check_names.proofs.Seen.{IsExact, IsSeen, pair_cmp-exact, seen_more_of_part, seen_twice_of_part}
 use Rattle.fb_check_names.proofs.Seen as seen
-use Rattle.fb_types.proofs.ByPlace.{element_of_place, place_of_element}
+use Rattle.fb_types.proofs.ByIndex.{element_of_index, index_of_element}
 use Rattle.fb_check_networks.specs.Sources.{targets, TwiceInside}
 use Rattle.fb_check_networks.proofs.Naming.{composite_at}
 use Rattle.fb_check_networks.proofs.Placing.{application_in, inside_in}
@@ -72,7 +72,7 @@ targets_twice cs i c s k b h e g is added old =
 
 from_inside : (lib : Library) → ((t : BlockType) × Contains lib.blocks t × TwiceInside t) → TwoSources lib
 from_inside lib w =
-    let at = place_of_element lib.blocks w.0 w.1 in
+    let at = index_of_element lib.blocks w.0 w.1 in
     elim w.0 as (λ t. slice_get lib.blocks at.0 ≡ Some t → TwiceInside t → TwoSources lib) [
       | block.Basic t ↦ λ e twice. absurd twice
       | block.Composite t ↦ λ e twice. ((Some t, t.network), inside_in lib at.0 t e, twice)
@@ -103,6 +103,6 @@ sources_later lib a cs bs (Ok b) application top h blocks inside = (
         | inr rest ↦
             let at = composite_at lib.blocks w.0 rest in
             inside.1
-            (block.Composite at.1, subst (λ (ts : List BlockType). Contains ts (block.Composite at.1)) (sym blocks) (element_of_place lib.blocks at.0 (block.Composite at.1) at.2), subst P (sym at.3) w.2)
+            (block.Composite at.1, subst (λ (ts : List BlockType). Contains ts (block.Composite at.1)) (sym blocks) (element_of_index lib.blocks at.0 (block.Composite at.1) at.2), subst P (sym at.3) w.2)
       ],
 )

@@ -18,11 +18,11 @@ use Rattle.fb_types.proofs.Positions.{named-position}
 use Rattle.fb_check_names.specs.declared.numbers.TypeNumber.{TypeNumber}
 use Rattle.fb_check_names.specs.declared.numbers.NetworkNumbers.{NetworkNumbers}
 use Rattle.fb_check_names.specs.declared.numbers.Resolved.{Resolved}
-use Rattle.fb_check_names.specs.Numbers.{IsNetwork, IsResolved, each_or_none, place_of, type_number, kind_of_number, parameter_numbers}
+use Rattle.fb_check_names.specs.Numbers.{IsNetwork, IsResolved, each_or_none, index_of, type_number, kind_of_number, parameter_numbers}
 use Rattle.fb_check_networks.specs.Variables.{type_at}
 use Rattle.fb_check_networks.specs.Networks.{network_passes}
 use Rattle.fb_check_names.proofs.Each.{each_parts}
-use Rattle.fb_types.proofs.ByPlace.{element_of_place, place_of_element}
+use Rattle.fb_types.proofs.ByIndex.{element_of_index, index_of_element}
 use Rattle.fb_check_networks.specs.Parameters.{ParameterWrong, is_wrong, has_wrong, has_wrong_in}
 use Rattle.fb_check_networks.proofs.Lists.{any_at, any_from}
 use Rattle.fb_check_networks.proofs.Naming.{type_by_number}
@@ -31,7 +31,7 @@ use Rattle.fb_check_networks.proofs.Placing.{network_tells}
 -- one parameter
 parameter_by_number :
     (lib : Library) (t : TypeNumber) (k : Kind) (x : Parameter) (p : ℕ) → kind_of_number lib t ≡ Some k
-    → place_of (data_ins (ports_of k)) x.name ≡ Some p → is_wrong lib t x p ≡ not (parameter_right (ports_of k) x)
+    → index_of (data_ins (ports_of k)) x.name ≡ Some p → is_wrong lib t x p ≡ not (parameter_right (ports_of k) x)
 parameter_by_number lib t k x p kind at =
     let inputs : List Variable = (ports_of k).inputs in
     let is_named : named (λ v. v.name) x.name inputs ≡ slice_get inputs p =
@@ -52,11 +52,11 @@ either_not a b false d h g = ap (λ x. x || b) h
 -- all parameters of an instance
 parameters_by_number :
     (lib : Library) (t : TypeNumber) (k : Kind) (xs : List Parameter) (ps : List ℕ) → kind_of_number lib t ≡ Some k
-    → each_or_none (λ x. place_of (data_ins (ports_of k)) x.name) xs ≡ Some ps
+    → each_or_none (λ x. index_of (data_ins (ports_of k)) x.name) xs ≡ Some ps
     → list_any (λ p. is_wrong lib t p.0 p.1) (zip xs ps) ≡ not (list_all (parameter_right (ports_of k)) xs)
 parameters_by_number lib t k [] ps kind h = refl
 parameters_by_number lib t k (x ∷ xs) ps kind h =
-    let r = each_parts (λ (x : Parameter). place_of (data_ins (ports_of k)) x.name) x xs ps h in
+    let r = each_parts (λ (x : Parameter). index_of (data_ins (ports_of k)) x.name) x xs ps h in
     ap (λ (ps : List ℕ). list_any (λ (p : Parameter × ℕ). is_wrong lib t p.0 p.1) (zip (x ∷ xs) ps)) r.4
     ∙ either_not (is_wrong lib t x r.0) (list_any (λ (p : Parameter × ℕ). is_wrong lib t p.0 p.1) (zip xs r.1))
     (parameter_right (ports_of k) x) (list_all (parameter_right (ports_of k)) xs)
@@ -69,7 +69,7 @@ instance_by_number :
 instance_by_number lib i t ps ty h =
     elim (kind_of_instance lib i) as
     (λ (o : Option Kind). kind_of_instance lib i ≡ o
-    → elim o as (λ _. Option (List ℕ)) [ None ↦ None | Some k ↦ each_or_none (λ x. place_of (data_ins (ports_of k)) x.name) i.parameters ] ≡ Some ps
+    → elim o as (λ _. Option (List ℕ)) [ None ↦ None | Some k ↦ each_or_none (λ x. index_of (data_ins (ports_of k)) x.name) i.parameters ] ≡ Some ps
     → has_wrong lib i t ps ≡ not (elim o as (λ _. Bool) [ None ↦ true | Some k ↦ list_all (parameter_right (ports_of k)) i.parameters ])) [
       | None ↦ λ e g. absurd (cc)
       | Some k ↦ λ e g. parameters_by_number lib t k i.parameters ps (sym (type_by_number lib i.block_type t ty) ∙ e) g
@@ -102,9 +102,9 @@ network_by_number lib n x is =
     let by_names = instances_by_number lib n.1.instances x.types x.parameters is.types is.parameters in (
       λ h.
           let at = any_at (λ i. not (parameters_right lib i)) n.1.instances (sym by_names ∙ h) in
-          (at.1, element_of_place n.1.instances at.0 at.1 at.2, false_of_not (parameters_right lib at.1) at.3),
+          (at.1, element_of_index n.1.instances at.0 at.1 at.2, false_of_not (parameters_right lib at.1) at.3),
       λ w.
-          let at = place_of_element n.1.instances w.0 w.1 in
+          let at = index_of_element n.1.instances w.0 w.1 in
           by_names ∙ any_from (λ i. not (parameters_right lib i)) n.1.instances at.0 w.0 at.1 (ap not w.2),
     )
 

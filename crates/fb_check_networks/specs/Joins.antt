@@ -6,7 +6,7 @@ use Rattle.fb_types.specs.declared.value.Ty.{Ty}
 use Rattle.fb_types.specs.declared.library.Library.{Library}
 use Rattle.fb_types.specs.declared.library.Ports.{Ports}
 use Rattle.fb_check_names.specs.declared.numbers.TypeNumber.{TypeNumber}
-use Rattle.fb_check_names.specs.declared.numbers.Wire.{Wire}
+use Rattle.fb_check_names.specs.declared.numbers.NumberedConnection.{NumberedConnection}
 use Rattle.fb_check_names.specs.declared.numbers.NetworkNumbers.{NetworkNumbers}
 use Rattle.fb_check_networks.specs.Ranges.{is_within}
 use Rattle.fb_check_networks.specs.Variables.{source_type, target_type}
@@ -18,7 +18,7 @@ is_out (Some s) (Some t) = not (is_within s t)
 is_out (Some s) None = false
 is_out None o = false
 
-abbrev pub leads_out : Library → Option Ports → List TypeNumber → Wire → Bool
+abbrev pub leads_out : Library → Option Ports → List TypeNumber → NumberedConnection → Bool
 leads_out lib around types w = is_out (source_type lib around types w.from) (target_type lib around types w.to)
 
 abbrev pub leads_out_in : Library → Placed → NetworkNumbers → Bool

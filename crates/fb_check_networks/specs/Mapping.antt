@@ -11,7 +11,7 @@ use Rattle.fb_types.specs.declared.library.Library.{Library}
 use Rattle.fb_types.specs.declared.library.PortName.{PortName}
 use Rattle.fb_types.specs.declared.deploy.Plan.{Plan}
 use Rattle.fb_types.specs.declared.deploy.ResourceEntry.{ResourceEntry}
-use Rattle.fb_check_names.specs.Places.{place_in}
+use Rattle.fb_check_names.specs.Indexes.{index_in}
 use Rattle.fb_check_networks.specs.declared.mapping.Mapping.{Mapping}
 use Rattle.fb_check_networks.specs.declared.mapping.Mapping.TheVariants.{All, Listed}
 
@@ -29,7 +29,7 @@ number_in ps n = option_map (λ p. p.1) (named (λ p. p.0) n ps)
 -- The map has these names with their numbers, and no name twice.
 pub record IsHeld (ps : List (Name × ℕ)) (m : BTreeMap (Bor Name) ℕ) : Type 0 where
   pub once : ¬ (Twice (names_of ps))
-  pub place : (n : Name) → place_in m n ≡ number_in ps n
+  pub index : (n : Name) → index_in m n ≡ number_in ps n
 
 -- The map has the names of a resource after those of before, or one name is there twice.
 pub record AreListed (names : List Name) (number : ℕ) (old new : BTreeMap (Bor Name) ℕ) (all_new : Bool) : Type 0 where
@@ -41,12 +41,12 @@ pub record AreListed (names : List Name) (number : ℕ) (old new : BTreeMap (Bor
 -- No name is listed twice, and the map gives the first resource that lists a name.
 pub record IsListing (resources : List ResourceEntry) (m : BTreeMap (Bor Name) ℕ) : Type 0 where
   pub once : ¬ (Twice (flat_map (λ r. r.instances) resources))
-  pub place : (n : Name) → place_in m n ≡ position (λ r. among r.instances n) resources
+  pub index : (n : Name) → index_in m n ≡ position (λ r. among r.instances n) resources
 
 -- the resource that a mapping gives
 abbrev pub holder_in : Mapping → Name → ℕ
 holder_in All n = 0
-holder_in (Listed m) n = unwrap_or (place_in m n) 0
+holder_in (Listed m) n = unwrap_or (index_in m n) 0
 
 -- the resource that a mapping gives for an end of a connection
 abbrev pub resource_in : Mapping → PortName → ℕ

@@ -20,8 +20,8 @@ fn ports_at<'a>(
     ensures { option_copied result ≡ option_map spec.ports_of (kind_of_number library.now number) }
 {
     match number {
-        TypeNumber::Event(kind) => interfaces.get(kind.place()),
-        TypeNumber::Declared(place) => Some(library.blocks.get(place)?.ports()),
+        TypeNumber::Event(kind) => interfaces.get(kind.index()),
+        TypeNumber::Declared(index) => Some(library.blocks.get(index)?.ports()),
     }
 }
 

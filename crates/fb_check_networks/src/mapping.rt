@@ -4,7 +4,7 @@ ghost use Rattle.std.specs.Prelude.{◌≡◌, [], IfOk, IsTrue, MatchOption, fa
 ghost use Rattle.std.specs.List.{list_all};
 ghost use Rattle.fb_types.specs.Repeated.{NameTwice, Twice};
 ghost use Rattle.fb_types.specs.Mapped.{NotMapped};
-ghost use Rattle.fb_check_names.specs.Places.{place_in};
+ghost use Rattle.fb_check_names.specs.Indexes.{index_in};
 ghost use Rattle.fb_check_networks.specs.Mapping.{AreListed, IsHeld, IsListing, IsMapping, holder_in, resource_in};
 
 use fb_types::{Instance, Items, Library, Name, Plan, PortName, ResourceEntry};
@@ -58,7 +58,7 @@ fn list_all<'a>(
 
 /// Whether each instance is listed.
 fn lists_each(listing: &Listing, instances: &[Instance]) -> bool
-    ensures { result ≡ list_all (λ i. is_some (place_in listing.now i.name)) instances.now }
+    ensures { result ≡ list_all (λ i. is_some (index_in listing.now i.name)) instances.now }
 {
     for instance in instances {
         if !listing.contains_key(instance.name.as_bytes()) {

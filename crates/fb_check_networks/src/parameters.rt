@@ -25,8 +25,8 @@ fn has_wrong(library: &Library, instance: &Instance, number: TypeNumber, inputs:
     ensures { result ≡ spec.has_wrong library.now instance.now number inputs.now }
 {
     let parameters = instance.parameters.as_slice();
-    for (place, parameter) in parameters.iter().enumerate() {
-        let Some(input) = inputs.get(place) else {
+    for (index, parameter) in parameters.iter().enumerate() {
+        let Some(input) = inputs.get(index) else {
             return false;
         };
         if is_wrong(library, number, parameter, *input) {
@@ -41,11 +41,11 @@ fn has_wrong_in(library: &Library, network: &Network, numbers: &NetworkNumbers) 
     ensures { result ≡ spec.has_wrong_in library.now network.now numbers.now }
 {
     let instances = network.instances.as_slice();
-    for (place, instance) in instances.iter().enumerate() {
-        let Some(number) = numbers.types.get(place) else {
+    for (index, instance) in instances.iter().enumerate() {
+        let Some(number) = numbers.types.get(index) else {
             return false;
         };
-        let Some(inputs) = numbers.parameters.get(place) else {
+        let Some(inputs) = numbers.parameters.get(index) else {
             return false;
         };
         if has_wrong(library, instance, *number, inputs.as_slice()) {
@@ -74,8 +74,8 @@ fn has_wrong_in_some(library: &Library, blocks: &[Option<NetworkNumbers>]) -> bo
     ensures { result ≡ some_inside_passes (λ n x. spec.has_wrong_in library.now n.1 x) library.now.blocks blocks.now }
 {
     let types = library.blocks.as_slice();
-    for (place, block) in types.iter().enumerate() {
-        let Some(numbers) = blocks.get(place) else {
+    for (index, block) in types.iter().enumerate() {
+        let Some(numbers) = blocks.get(index) else {
             return false;
         };
         if has_wrong_inside(library, block, numbers) {

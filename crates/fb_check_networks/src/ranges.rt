@@ -12,12 +12,17 @@ ghost use Rattle.fb_check_networks.specs.Joins as spec;
 
 use crate::values::is_within;
 use crate::variables::{source_type, target_type};
-use fb_check_names::{NetworkNumbers, Resolved, TypeNumber, Wire};
+use fb_check_names::{NetworkNumbers, NumberedConnection, Resolved, TypeNumber};
 use fb_types::{BlockType, Library, Ports};
 
 /// Whether a data connection leads out of the range of the type at its end, in a network with these ports
 /// around it.
-fn leads_out(library: &Library, boundary: Option<&Ports>, types: &[TypeNumber], wire: &Wire) -> bool
+fn leads_out(
+    library: &Library,
+    boundary: Option<&Ports>,
+    types: &[TypeNumber],
+    wire: &NumberedConnection,
+) -> bool
     ensures { result ≡ spec.leads_out library.now (option_copied boundary.entry) types.now wire.now }
 {
     let from = source_type(library, boundary, types, wire.from);
@@ -60,8 +65,8 @@ fn leads_out_in_some(library: &Library, blocks: &[Option<NetworkNumbers>]) -> bo
     ensures { result ≡ some_inside_passes (spec.leads_out_in library.now) library.now.blocks blocks.now }
 {
     let types = library.blocks.as_slice();
-    for (place, block) in types.iter().enumerate() {
-        let Some(numbers) = blocks.get(place) else {
+    for (index, block) in types.iter().enumerate() {
+        let Some(numbers) = blocks.get(index) else {
             return false;
         };
         if leads_out_inside(library, block, numbers) {

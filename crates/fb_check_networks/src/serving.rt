@@ -64,11 +64,11 @@ fn serve_all<'a>(
     ensures { OnOk result (AreServed library.now plan.now served.new) }
 {
     let connections = library.application.network.event_connections.as_slice();
-    for (place, connection) in connections.iter().enumerate() {
+    for (index, connection) in connections.iter().enumerate() {
         let component = component_of(&connection.from);
         let resource = resource_of(mapping, &connection.to);
         if events.insert((component, connection.from.port.as_bytes(), resource))? {
-            let names = variables_with(library, interfaces, numbers, place);
+            let names = variables_with(library, interfaces, numbers, index);
             extend(served, component, names, resource)?;
         }
     }

@@ -5,7 +5,7 @@ ghost use Rattle.std.specs.Option.{option_copied};
 ghost use Rattle.fb_types.specs.Blocks as blocks;
 ghost use Rattle.fb_check_networks.specs.Variables as spec;
 
-use fb_check_names::{TypeNumber, WireEnd};
+use fb_check_names::{ConnectionEnd, TypeNumber};
 use fb_types::{EventKind, Library, Ports, Ty, Variable};
 
 /// The types of the data inputs of an event block.
@@ -40,34 +40,34 @@ fn event_block_outputs(kind: EventKind) -> &'static [Ty]
     }
 }
 
-fn type_at(variables: &[Variable], place: usize) -> Option<Ty>
-    ensures { result ≡ spec.type_at variables.now place }
+fn type_at(variables: &[Variable], index: usize) -> Option<Ty>
+    ensures { result ≡ spec.type_at variables.now index }
 {
-    Some(variables.get(place)?.ty)
+    Some(variables.get(index)?.ty)
 }
 
 /// The type of a data input of a block type.
-pub fn input_type(library: &Library, number: TypeNumber, place: usize) -> Option<Ty>
-    ensures { result ≡ spec.input_type library.now number place }
+pub fn input_type(library: &Library, number: TypeNumber, index: usize) -> Option<Ty>
+    ensures { result ≡ spec.input_type library.now number index }
 {
     match number {
-        TypeNumber::Event(kind) => event_block_inputs(kind).get(place).copied(),
+        TypeNumber::Event(kind) => event_block_inputs(kind).get(index).copied(),
         TypeNumber::Declared(block) => {
             let ports = library.blocks.get(block)?.ports();
-            type_at(ports.inputs.as_slice(), place)
+            type_at(ports.inputs.as_slice(), index)
         }
     }
 }
 
 /// The type of a data output of a block type.
-fn output_type(library: &Library, number: TypeNumber, place: usize) -> Option<Ty>
-    ensures { result ≡ spec.output_type library.now number place }
+fn output_type(library: &Library, number: TypeNumber, index: usize) -> Option<Ty>
+    ensures { result ≡ spec.output_type library.now number index }
 {
     match number {
-        TypeNumber::Event(kind) => event_block_outputs(kind).get(place).copied(),
+        TypeNumber::Event(kind) => event_block_outputs(kind).get(index).copied(),
         TypeNumber::Declared(block) => {
             let ports = library.blocks.get(block)?.ports();
-            type_at(ports.outputs.as_slice(), place)
+            type_at(ports.outputs.as_slice(), index)
         }
     }
 }
@@ -77,7 +77,7 @@ pub fn source_type(
     library: &Library,
     boundary: Option<&Ports>,
     types: &[TypeNumber],
-    end: WireEnd,
+    end: ConnectionEnd,
 ) -> Option<Ty>
     ensures { result ≡ spec.source_type library.now (option_copied boundary.entry) types.now end }
 {
@@ -92,7 +92,7 @@ pub fn target_type(
     library: &Library,
     boundary: Option<&Ports>,
     types: &[TypeNumber],
-    end: WireEnd,
+    end: ConnectionEnd,
 ) -> Option<Ty>
     ensures { result ≡ spec.target_type library.now (option_copied boundary.entry) types.now end }
 {

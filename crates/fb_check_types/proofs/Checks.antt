@@ -10,7 +10,7 @@ use Rattle.fb_types.specs.Blocks.{among, variable_names, ports_of}
 use Rattle.fb_types.specs.Flat.{kind_of, variables_in}
 use Rattle.fb_types.specs.Repeated.{basics, basics_in, interfaces}
 use Rattle.fb_types.specs.Unknown.{all_of, withs_wanted, transition_wanted, actions_wanted, chart_wanted, Mention, mentions, mentions_body, mentioned, is_known, guards_of}
-use Rattle.fb_types.specs.Kinds.{place_in, is_condition, body_right, declared_right, ChartWrong}
+use Rattle.fb_types.specs.Kinds.{context_in, is_condition, body_right, declared_right, ChartWrong}
 use Rattle.fb_types.specs.declared.library.Library.{Library}
 use Rattle.fb_types.specs.declared.library.BlockType.{BlockType}
 use Rattle.fb_types.specs.declared.library.BlockType.TheVariants as block
@@ -120,15 +120,15 @@ pub chart_right_met :
     (t : BasicType) → chart_right t
     ≡ (list_all (is_guard_right t) t.transitions && list_all (algorithm_right t) t.algorithms)
 chart_right_met t =
-    let guards = list_all-flat_map (is_condition (place_in t)) guard_in t.transitions
-    ∙ list_all-agree (λ x. list_all (is_condition (place_in t)) (guard_in x)) (is_guard_right t) in_guard t.transitions in
-    let bodies = list_all-map (body_right (place_in t)) (λ a. body_of a.body) t.algorithms in
+    let guards = list_all-flat_map (is_condition (context_in t)) guard_in t.transitions
+    ∙ list_all-agree (λ x. list_all (is_condition (context_in t)) (guard_in x)) (is_guard_right t) in_guard t.transitions in
+    let bodies = list_all-map (body_right (context_in t)) (λ a. body_of a.body) t.algorithms in
     and_both guards bodies
   where
-    in_guard : (x : Transition) → list_all (is_condition (place_in t)) (guard_in x) ≡ is_guard_right t x
-    in_guard x = elim x.condition.guard as (λ o. list_all (is_condition (place_in t)) (elim o as (λ _. List Expr) [ None ↦ [] | Some g ↦ expr_of g ∷ [] ]) ≡ elim o as (λ _. Bool) [ None ↦ true | Some g ↦ is_condition (place_in t) (expr_of g) ]) [
+    in_guard : (x : Transition) → list_all (is_condition (context_in t)) (guard_in x) ≡ is_guard_right t x
+    in_guard x = elim x.condition.guard as (λ o. list_all (is_condition (context_in t)) (elim o as (λ _. List Expr) [ None ↦ [] | Some g ↦ expr_of g ∷ [] ]) ≡ elim o as (λ _. Bool) [ None ↦ true | Some g ↦ is_condition (context_in t) (expr_of g) ]) [
       | None ↦ refl
-      | Some g ↦ and_true (is_condition (place_in t) (expr_of g))
+      | Some g ↦ and_true (is_condition (context_in t) (expr_of g))
     ]
 
 -- ---- Names of a declaration
@@ -209,17 +209,17 @@ bodies_of t = map (λ a. body_of a.body) t.algorithms
 
 chart_wrong : (t : BasicType) → chart_right t ≡ false → ChartWrong t
 chart_wrong t h =
-    elim (one (list_all (is_condition (place_in t)) (guards_of t)) (list_all (body_right (place_in t)) (bodies_of t)) h) [
-      | inl g ↦ inl (fails_at (is_condition (place_in t)) (guards_of t) g)
-      | inr b ↦ inr (fails_at (body_right (place_in t)) (bodies_of t) b)
+    elim (one (list_all (is_condition (context_in t)) (guards_of t)) (list_all (body_right (context_in t)) (bodies_of t)) h) [
+      | inl g ↦ inl (fails_at (is_condition (context_in t)) (guards_of t) g)
+      | inr b ↦ inr (fails_at (body_right (context_in t)) (bodies_of t) b)
     ]
 
 chart_not_wrong : (t : BasicType) → chart_right t ≡ true → ¬ (ChartWrong t)
 chart_not_wrong t h wrong =
-    let r = both (list_all (is_condition (place_in t)) (guards_of t)) (list_all (body_right (place_in t)) (bodies_of t)) h in
+    let r = both (list_all (is_condition (context_in t)) (guards_of t)) (list_all (body_right (context_in t)) (bodies_of t)) h in
     elim wrong [
-      | inl g ↦ true≢false (sym (passes_at (is_condition (place_in t)) (guards_of t) g.0 r.0 g.1) ∙ g.2)
-      | inr b ↦ true≢false (sym (passes_at (body_right (place_in t)) (bodies_of t) b.0 r.1 b.1) ∙ b.2)
+      | inl g ↦ true≢false (sym (passes_at (is_condition (context_in t)) (guards_of t) g.0 r.0 g.1) ∙ g.2)
+      | inr b ↦ true≢false (sym (passes_at (body_right (context_in t)) (bodies_of t) b.0 r.1 b.1) ∙ b.2)
     ]
 
 part_wrong : (lib : Library) → list_all is_right_block lib.blocks ≡ false → PartWrong lib

@@ -17,7 +17,7 @@ use Rattle.fb_check_names.specs.Sorts.{names_of_sort}
 use Rattle.fb_check_names.specs.declared.ports.PortSort.{PortSort}
 use Rattle.fb_check_names.specs.declared.ports.PortSort.TheVariants as sort
 use Rattle.fb_check_types.specs.declared.interface.Role.{Role}
-use Rattle.fb_types.proofs.ByPlace.{element_at}
+use Rattle.fb_types.proofs.ByIndex.{element_at}
 use Rattle.fb_types.proofs.Options.{none_from_is_some}
 use Rattle.fb_types.proofs.TwiceLaws.{Twice-both, Twice-append_right}
 use Rattle.fb_check_types.specs.declared.interface.Role.TheVariants.{EventInput, EventOutput, Input, Output, Internal}

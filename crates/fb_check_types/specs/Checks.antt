@@ -6,7 +6,7 @@ use Rattle.fb_types.specs.Blocks.{among, event_names, variable_names, ports_of}
 use Rattle.fb_types.specs.Flat.{kind_of, variables_in}
 use Rattle.fb_types.specs.Repeated.{algorithm_names}
 use Rattle.fb_types.specs.Unknown.{Wanted, all_of, optional, transition_wanted, withs_wanted, chart_wanted, Mention, mentions, mentions_body, mentioned, is_known, guards_of}
-use Rattle.fb_types.specs.Kinds.{Place, place_in, is_condition, body_right, declared_right}
+use Rattle.fb_types.specs.Kinds.{Context, context_in, is_condition, body_right, declared_right}
 use Rattle.fb_types.specs.declared.library.BlockType.{BlockType}
 use Rattle.fb_types.specs.declared.library.BlockType.TheVariants as block
 use Rattle.fb_types.specs.declared.library.BasicType.{BasicType}
@@ -18,13 +18,13 @@ use Rattle.fb_types.specs.declared.library.State.{State}
 use Rattle.fb_types.specs.declared.library.Transition.{Transition}
 use Rattle.fb_check_names.specs.Catalog.{IsBlock}
 use Rattle.fb_check_names.specs.Sorts.{names_of_sort}
-use Rattle.fb_check_names.specs.declared.catalog.BlockPlaces.{BlockPlaces}
+use Rattle.fb_check_names.specs.declared.catalog.BlockIndexes.{BlockIndexes}
 use Rattle.fb_check_names.specs.declared.ports.PortSort.{PortSort}
 
 -- The indices of the names of each block type, in the order of the types.
-pub record AreBlocks (ts : List BlockType) (xs : List BlockPlaces) : Type 0 where
+pub record AreBlocks (ts : List BlockType) (xs : List BlockIndexes) : Type 0 where
   pub counted : length xs ≡ length ts
-  pub blocks : (k : ℕ) (t : BlockType) (x : BlockPlaces) → slice_get ts k ≡ Some t → slice_get xs k ≡ Some x → IsBlock t x
+  pub blocks : (k : ℕ) (t : BlockType) (x : BlockIndexes) → slice_get ts k ≡ Some t → slice_get xs k ≡ Some x → IsBlock t x
 
 -- ---- Names
 
@@ -81,18 +81,18 @@ is_known_block b = all_met (withs_wanted (ports_of (kind_of b))) && is_known_cha
 -- ---- Kinds
 
 -- the statements of a type, in a loop or not
-abbrev pub in_place : BasicType → Bool → Place
-in_place t looped = record (place_in t) { in_loop = looped }
+abbrev pub in_place : BasicType → Bool → Context
+in_place t looped = record (context_in t) { in_loop = looped }
 
 abbrev pub is_guard_right : BasicType → Transition → Bool
-is_guard_right t x = elim x.condition.guard [ None ↦ true | Some g ↦ is_condition (place_in t) (expr_of g) ]
+is_guard_right t x = elim x.condition.guard [ None ↦ true | Some g ↦ is_condition (context_in t) (expr_of g) ]
 
 abbrev pub algorithm_right : BasicType → Algorithm → Bool
-algorithm_right t a = body_right (place_in t) (body_of a.body)
+algorithm_right t a = body_right (context_in t) (body_of a.body)
 
 abbrev pub chart_right : BasicType → Bool
 chart_right t =
-    list_all (is_condition (place_in t)) (guards_of t) && list_all (body_right (place_in t)) (map (λ a. body_of a.body) t.algorithms)
+    list_all (is_condition (context_in t)) (guards_of t) && list_all (body_right (context_in t)) (map (λ a. body_of a.body) t.algorithms)
 
 abbrev pub is_right_chart : BlockType → Bool
 is_right_chart (block.Basic t) = chart_right t

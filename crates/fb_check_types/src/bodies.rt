@@ -1,7 +1,7 @@
 //! Kinds in statements (IEC 61131-3, 7.3.3).
 
 ghost use Rattle.std.specs.Prelude.{◌≡◌, false};
-ghost use Rattle.fb_types.specs.Kinds.{body_right, branches_right, choices_right, is_right, place_in};
+ghost use Rattle.fb_types.specs.Kinds.{body_right, branches_right, choices_right, is_right, context_in};
 ghost use Rattle.fb_types.specs.Syntax.{body_of, stmt_of};
 ghost use Rattle.fb_check_types.specs.Checks.{in_place};
 ghost use Rattle.fb_check_types.specs.Trees.{all_of, branches_of, choices_of};
@@ -14,7 +14,7 @@ use fb_types::{Body, Branch, Choice, Sort, Stmt};
 
 /// Whether the statements of an algorithm have the right kinds, assign no input, and have EXIT only in loops.
 pub fn is_body_right(body: &Body, scope: &Scope) -> bool
-    ensures { result ≡ body_right (place_in scope.now) (body_of body.now) }
+    ensures { result ≡ body_right (context_in scope.now) (body_of body.now) }
 {
     are_statements_right(body.statements.as_slice(), scope, false)
 }

@@ -3,11 +3,11 @@
 ghost use Rattle.std.specs.Prelude.{◌≡◌, List, option_map, slice_get};
 ghost use Rattle.fb_types.specs.Blocks.{among, named};
 ghost use Rattle.fb_types.specs.Repeated.{Twice};
-ghost use Rattle.fb_check_names.specs.Places.{IsIndex};
+ghost use Rattle.fb_check_names.specs.Indexes.{IsIndex};
 ghost use Rattle.fb_check_names.specs.Sorts.{names_of_sort};
 ghost use Rattle.fb_check_types.specs.Roles.{is_port, names_of, role_of, type_in, type_named, variables_of, with_roles};
 
-use fb_check_names::{Places, PortSort, place_of};
+use fb_check_names::{Indexes, PortSort, index_of};
 use fb_types::{Name, Ports, Ty, Variable};
 use std::marker::Model;
 
@@ -52,34 +52,34 @@ impl Role {
 pub struct Interface<'a, 'n> {
     ports: &'a Ports,
     internals: &'a [Variable],
-    places: &'a Places<'n>,
+    indexes: &'a Indexes<'n>,
 }
 
 impl<'a, 'n> Model for Interface<'a, 'n> {
-    ghost use Rattle.fb_check_names.specs.Places.{IsIndex};
+    ghost use Rattle.fb_check_names.specs.Indexes.{IsIndex};
     ghost use Rattle.fb_check_types.specs.Roles.{Declared, names_of};
 
     ghost Value = { Declared };
 
     ghost view = { λ i. record { ports = i.ports.now; internals = i.internals.now } };
 
-    ghost invariant = { λ i. IsIndex (names_of (record { ports = i.ports.now; internals = i.internals.now })) i.places.now };
+    ghost invariant = { λ i. IsIndex (names_of (record { ports = i.ports.now; internals = i.internals.now })) i.indexes.now };
 }
 
 impl<'a, 'n> Interface<'a, 'n> {
-    /// The interface with these ports and internal variables. `places` has the index of each name.
+    /// The interface with these ports and internal variables. `indexes` has the index of each name.
     pub fn new(
         ports: &'a Ports,
         internals: &'a [Variable],
-        places: &'a Places<'n>,
+        indexes: &'a Indexes<'n>,
     ) -> Interface<'a, 'n>
-        requires { IsIndex (names_of (record { ports = ports.now; internals = internals.now })) places.now }
+        requires { IsIndex (names_of (record { ports = ports.now; internals = internals.now })) indexes.now }
         ensures { result ≡ record { ports = ports.now; internals = internals.now } }
     {
         Interface {
             ports,
             internals,
-            places,
+            indexes,
         }
     }
 
@@ -91,24 +91,24 @@ impl<'a, 'n> Interface<'a, 'n> {
     }
 
     /// What is at an index of all names.
-    fn role_at(&self, place: usize) -> Option<Role>
-        ensures { result ≡ option_map (λ d. d.1) (slice_get (with_roles self.now) place) }
+    fn role_at(&self, index: usize) -> Option<Role>
+        ensures { result ≡ option_map (λ d. d.1) (slice_get (with_roles self.now) index) }
     {
         let ports = self.ports;
-        let Some(place) = place.checked_sub(ports.event_inputs.len()) else {
+        let Some(index) = index.checked_sub(ports.event_inputs.len()) else {
             return Some(Role::EventInput);
         };
-        let Some(place) = place.checked_sub(ports.event_outputs.len()) else {
+        let Some(index) = index.checked_sub(ports.event_outputs.len()) else {
             return Some(Role::EventOutput);
         };
-        if let Some(variable) = ports.inputs.get(place) {
+        if let Some(variable) = ports.inputs.get(index) {
             return Some(Role::Input(variable.ty));
         }
-        let place = place - ports.inputs.len();
-        if let Some(variable) = ports.outputs.get(place) {
+        let index = index - ports.inputs.len();
+        if let Some(variable) = ports.outputs.get(index) {
             return Some(Role::Output(variable.ty));
         }
-        match self.internals.get(place - ports.outputs.len()) {
+        match self.internals.get(index - ports.outputs.len()) {
             Some(variable) => Some(Role::Internal(variable.ty)),
             None => None,
         }
@@ -119,8 +119,8 @@ impl<'a, 'n> Interface<'a, 'n> {
         ensures role { result ≡ role_of self.now name.now }
         ensures once { ¬ (Twice (names_of self.now)) }
     {
-        let place = place_of(self.places, name.as_bytes())?;
-        self.role_at(place)
+        let index = index_of(self.indexes, name.as_bytes())?;
+        self.role_at(index)
     }
 
     /// Whether a name is that of a port of the kind.

@@ -16,7 +16,7 @@ use crate::mentions::{is_body_known, is_expression_known};
 use crate::scope::Scope;
 use crate::sorts::is_condition;
 use crate::values::are_declared_right;
-use fb_check_names::{BlockPlaces, Catalog};
+use fb_check_names::{BlockIndexes, Catalog};
 use fb_types::{Algorithm, BlockType, Library, Ports, Transition, Variable};
 
 /// Whether each name in a WITH list, a chart, a guard or a body stands for something of the kind that is required there
@@ -37,42 +37,42 @@ pub fn has_wrong_part(library: &Library, catalog: &Catalog) -> bool
     !are_blocks_right(library.blocks.as_slice(), catalog.blocks.as_slice())
 }
 
-fn are_blocks_known(blocks: &[BlockType], places: &[BlockPlaces]) -> bool
-    requires { AreBlocks blocks.now places.now }
+fn are_blocks_known(blocks: &[BlockType], indexes: &[BlockIndexes]) -> bool
+    requires { AreBlocks blocks.now indexes.now }
     ensures { result ≡ list_all is_known_block blocks.now }
 {
     for (number, block) in blocks.iter().enumerate() {
-        if !is_block_known(block, &places[number]) {
+        if !is_block_known(block, &indexes[number]) {
             return false;
         }
     }
     true
 }
 
-fn are_blocks_right(blocks: &[BlockType], places: &[BlockPlaces]) -> bool
-    requires { AreBlocks blocks.now places.now }
+fn are_blocks_right(blocks: &[BlockType], indexes: &[BlockIndexes]) -> bool
+    requires { AreBlocks blocks.now indexes.now }
     ensures { result ≡ list_all is_right_block blocks.now }
 {
     for (number, block) in blocks.iter().enumerate() {
-        if !is_block_right(block, &places[number]) {
+        if !is_block_right(block, &indexes[number]) {
             return false;
         }
     }
     true
 }
 
-fn is_block_known(block: &BlockType, places: &BlockPlaces) -> bool
-    requires { IsBlock block.now places.now }
+fn is_block_known(block: &BlockType, indexes: &BlockIndexes) -> bool
+    requires { IsBlock block.now indexes.now }
     ensures { result ≡ is_known_block block.now }
 {
     match block {
         BlockType::Basic(basic) => {
-            let scope = Scope::new(basic, places);
+            let scope = Scope::new(basic, indexes);
             let interface = scope.interface();
             are_withs_known(&interface) && is_chart_known(&scope) && are_mentions_known(&scope)
         }
         BlockType::Composite(composite) => {
-            let interface = Interface::new(&composite.ports, &[], &places.ports);
+            let interface = Interface::new(&composite.ports, &[], &indexes.ports);
             are_withs_known(&interface)
         }
     }
@@ -118,13 +118,13 @@ fn are_mentions_known(scope: &Scope) -> bool
         && are_guards_known(block.transitions.as_slice(), scope)
 }
 
-fn is_block_right(block: &BlockType, places: &BlockPlaces) -> bool
-    requires { IsBlock block.now places.now }
+fn is_block_right(block: &BlockType, indexes: &BlockIndexes) -> bool
+    requires { IsBlock block.now indexes.now }
     ensures { result ≡ is_right_block block.now }
 {
     match block {
         BlockType::Basic(basic) => {
-            let scope = Scope::new(basic, places);
+            let scope = Scope::new(basic, indexes);
             let internals = basic.internals.as_slice();
             are_values_right(&basic.ports, internals) && is_chart_right(&scope)
         }

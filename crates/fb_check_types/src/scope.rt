@@ -8,7 +8,7 @@ ghost use Rattle.fb_check_names.specs.Catalog.{IsBlock};
 
 use crate::interface::Interface;
 use crate::sorts::Typing;
-use fb_check_names::{BlockPlaces, PortSort, place_of};
+use fb_check_names::{BlockIndexes, PortSort, index_of};
 use fb_types::{BasicType, Name, Ty};
 use std::marker::Model;
 
@@ -16,7 +16,7 @@ use std::marker::Model;
 #[derive(Drop)]
 pub struct Scope<'a, 'n> {
     block: &'a BasicType,
-    places: &'a BlockPlaces<'n>,
+    indexes: &'a BlockIndexes<'n>,
 }
 
 impl<'a, 'n> Model for Scope<'a, 'n> {
@@ -33,16 +33,16 @@ impl<'a, 'n> Model for Scope<'a, 'n> {
 
     ghost view = { λ s. s.block.now };
 
-    ghost invariant = { λ s. IsBlock (Basic s.block.now) s.places.now };
+    ghost invariant = { λ s. IsBlock (Basic s.block.now) s.indexes.now };
 }
 
 impl<'a, 'n> Scope<'a, 'n> {
-    /// The scope of a basic type. `places` has the indices of its names.
-    pub fn new(block: &'a BasicType, places: &'a BlockPlaces<'n>) -> Scope<'a, 'n>
-        requires { IsBlock (Basic block.now) places.now }
+    /// The scope of a basic type. `indexes` has the indices of its names.
+    pub fn new(block: &'a BasicType, indexes: &'a BlockIndexes<'n>) -> Scope<'a, 'n>
+        requires { IsBlock (Basic block.now) indexes.now }
         ensures { result ≡ block.now }
     {
-        Scope { block, places }
+        Scope { block, indexes }
     }
 
     /// The type.
@@ -57,21 +57,25 @@ impl<'a, 'n> Scope<'a, 'n> {
         ensures { result ≡ record { ports = self.now.ports; internals = self.now.internals } }
     {
         let block = self.block;
-        Interface::new(&block.ports, block.internals.as_slice(), &self.places.ports)
+        Interface::new(
+            &block.ports,
+            block.internals.as_slice(),
+            &self.indexes.ports,
+        )
     }
 
     /// Whether a name is that of a state.
     pub fn is_state(&self, name: &Name) -> bool
         ensures { result ≡ among (state_names self.now) name.now }
     {
-        place_of(&self.places.states, name.as_bytes()).is_some()
+        index_of(&self.indexes.states, name.as_bytes()).is_some()
     }
 
     /// Whether a name is that of an algorithm.
     pub fn is_algorithm(&self, name: &Name) -> bool
         ensures { result ≡ among (algorithm_names self.now) name.now }
     {
-        place_of(&self.places.algorithms, name.as_bytes()).is_some()
+        index_of(&self.indexes.algorithms, name.as_bytes()).is_some()
     }
 
     /// Whether a name is that of a data input.

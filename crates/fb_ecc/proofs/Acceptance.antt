@@ -24,11 +24,11 @@ use Rattle.fb_types.specs.declared.deploy.Plan.{Plan}
 use Rattle.fb_types.proofs.NameLaws.{same_name-itself}
 use Rattle.fb_st.specs.Frames.{Declared, is_declared}
 use Rattle.fb_st.specs.Known.{AssignsKnown, AllKnown, ChoicesKnown, BranchesKnown}
-use Rattle.fb_st.proofs.Places.{place_of_once}
+use Rattle.fb_st.proofs.Indexes.{index_of_once}
 use Rattle.fb_ecc.specs.Opened.{IsOfDeclaration}
 use Rattle.fb_ecc.specs.Sound.{Each, IsSound, StandFirst, action_known, actions_known, declared_by, is_named}
 use Rattle.fb_types.proofs.ListTests.{passes_from}
-use Rattle.fb_types.proofs.ByPlace.{element_of_place}
+use Rattle.fb_types.proofs.ByIndex.{element_of_index}
 use Rattle.fb_types.proofs.TwiceLaws.{Twice-append_left, Twice-append_right}
 use Rattle.fb_types.proofs.Elements.{Contains-cons_cases, Contains-nil, Contains-here, Contains-there, Contains-map, Contains-flat_map}
 use Rattle.fb_ecc.proofs.Links.{names_declared}
@@ -51,7 +51,7 @@ contains-among (m ∷ ms) n h =
 
 -- names that differ stand first
 first_from_once : {A : Type 0} (f : A → Name) (xs : List A) → ¬ (Twice (map f xs)) → StandFirst f xs
-first_from_once f xs once i x at = place_of_once f (f x) xs i x once at (same_name-itself (f x))
+first_from_once f xs once i x at = index_of_once f (f x) xs i x once at (same_name-itself (f x))
 
 -- ---- Algorithms
 
@@ -272,7 +272,7 @@ module _ (lib : Library) (plan : Plan) (t : BasicType) (once : ¬ (NameTwice lib
       (λ m c. mention_fine m
       (mention_known m
       (Contains-append_left (flat_map (λ (x : Algorithm). mentions_body (body_of x.body)) t.algorithms) (flat_map mentions (guards_of t)) m
-      (Contains-flat_map (λ (x : Algorithm). mentions_body (body_of x.body)) t.algorithms a m (element_of_place t.algorithms i a at) c))))
+      (Contains-flat_map (λ (x : Algorithm). mentions_body (body_of x.body)) t.algorithms a m (element_of_index t.algorithms i a at) c))))
 
   -- Each basic type of an accepted declaration is sound.
   sound_when_accepted : IsSound t

@@ -9,7 +9,7 @@ use Rattle.std.proofs.lemmas.Option.{slice_get-map, slice_get_within, slice_get-
 use Rattle.fb_types.specs.Names.{Name, same_name}
 use Rattle.fb_types.specs.Blocks.{named, bound, outputs_with, types_of, variables_of, Bound, Emission}
 use Rattle.fb_types.specs.Bodies.{Point, End, Went, Left, Returned, Stopped, RunsAll, RunsBody, ended}
-use Rattle.fb_types.specs.Charts.{Place, Moving, Halts, Performs, Acts, emitting, at_point, algorithm_of}
+use Rattle.fb_types.specs.Charts.{Position, Moving, Halts, Performs, Acts, emitting, at_point, algorithm_of}
 use Rattle.fb_types.specs.Numbers.{event_at, emission_of, pair_up}
 use Rattle.fb_types.specs.Syntax.{Stmts, no_stmt, body_of}
 use Rattle.fb_types.specs.Values.{Values, Types}
@@ -29,29 +29,29 @@ use Rattle.fb_types.specs.declared.value.Ty.TheVariants.{Bool as Boolean}
 use Rattle.fb_types.proofs.NameLaws.{same_from_same_name}
 use Rattle.fb_st.specs.Frames.{Declared, types_in, values_of}
 use Rattle.fb_st.specs.declared.frame.Slot.{Slot}
-use Rattle.fb_st.proofs.Places.{named_at_place}
+use Rattle.fb_st.proofs.Indexes.{named_at_index}
 use Rattle.fb_st.specs.Flows.{end_of}
 use Rattle.fb_st.specs.declared.meter.Flow.{Flow}
 use Rattle.fb_st.specs.declared.meter.Flow.TheVariants as flow
 use Rattle.fb_ecc.specs.Actions.{AreActions, IsAction, IsAlgorithm, IsOutput, with_slots}
 use Rattle.fb_ecc.specs.declared.chart.Act.{Act}
 use Rattle.fb_ecc.specs.Numbered.{number_in, names_with_each}
-use Rattle.fb_ecc.specs.Places.{place, Ended, IsWellFormed}
+use Rattle.fb_ecc.specs.Indexes.{index, Ended, IsWellFormed}
 use Rattle.fb_ecc.specs.Sound.{declared_as, declared_by}
 use Rattle.fb_ecc.proofs.Trials.{Stands, stands, number_is}
 
 -- ---- An action, and what follows
 
 pub performs_then :
-    (t : BasicType) (n : Option Name) (rest : Moving) (p m q : Place) (stop : Option Reason) → Performs t n (Halts None) p None m → rest m stop q → Performs t n rest p stop q
-performs_then t None rest p m q stop (e, is) after = subst (λ (x : Place). rest x stop q) is after
-performs_then t (Some a) rest p m q stop (Went, x, run, (e, is)) after = (Went, x, run, subst (λ (y : Place). rest y stop q) is after)
-performs_then t (Some a) rest p m q stop (Left, x, run, (e, is)) after = (Left, x, run, subst (λ (y : Place). rest y stop q) is after)
-performs_then t (Some a) rest p m q stop (Returned, x, run, (e, is)) after = (Returned, x, run, subst (λ (y : Place). rest y stop q) is after)
+    (t : BasicType) (n : Option Name) (rest : Moving) (p m q : Position) (stop : Option Reason) → Performs t n (Halts None) p None m → rest m stop q → Performs t n rest p stop q
+performs_then t None rest p m q stop (e, is) after = subst (λ (x : Position). rest x stop q) is after
+performs_then t (Some a) rest p m q stop (Went, x, run, (e, is)) after = (Went, x, run, subst (λ (y : Position). rest y stop q) is after)
+performs_then t (Some a) rest p m q stop (Left, x, run, (e, is)) after = (Left, x, run, subst (λ (y : Position). rest y stop q) is after)
+performs_then t (Some a) rest p m q stop (Returned, x, run, (e, is)) after = (Returned, x, run, subst (λ (y : Position). rest y stop q) is after)
 performs_then t (Some a) rest p m q stop (Stopped r, x, run, (e, is)) after = absurd (cc)
 
 pub performs_stops :
-    (t : BasicType) (n : Option Name) (rest : Moving) (p q : Place) (r : Reason) → Performs t n (Halts None) p (Some r) q → Performs t n rest p (Some r) q
+    (t : BasicType) (n : Option Name) (rest : Moving) (p q : Position) (r : Reason) → Performs t n (Halts None) p (Some r) q → Performs t n rest p (Some r) q
 performs_stops t None rest p q r (e, is) = absurd (cc)
 performs_stops t (Some a) rest p q r (Went, x, run, (e, is)) = absurd (cc)
 performs_stops t (Some a) rest p q r (Left, x, run, (e, is)) = absurd (cc)
@@ -84,7 +84,7 @@ body_or o = elim o [ None ↦ no_stmt | Some x ↦ body_of x.body ]
 pub algorithm_is : (t : BasicType) (n : Name) (s : Stands (λ a. a.name) t.algorithms n) → algorithm_of t n ≡ body_of s.element.body
 algorithm_is t n s =
     let there : named (λ a. a.name) n t.algorithms ≡ Some s.element =
-    named_at_place (λ a. a.name) n t.algorithms ∙ ap (option_and_then (slice_get t.algorithms)) s.first ∙ s.at in
+    named_at_index (λ a. a.name) n t.algorithms ∙ ap (option_and_then (slice_get t.algorithms)) s.first ∙ s.at in
     ap body_or there
 
 -- ---- Emissions
@@ -93,12 +93,12 @@ pub pair_up-bound : (ns : List Name) (vars : Values) → pair_up ns (map vars ns
 pair_up-bound [] vars = refl
 pair_up-bound (n ∷ ns) vars = ap (λ bs. record { variable = n; value = vars n } ∷ bs) (pair_up-bound ns vars)
 
-pub event_is : (events : List EventPort) (n : Name) (s : Stands (λ p. p.name) events n) → event_at events s.place ≡ n
+pub event_is : (events : List EventPort) (n : Name) (s : Stands (λ p. p.name) events n) → event_at events s.index ≡ n
 event_is events n s =
-    ap (λ (o : Option Name). unwrap_or o []) (slice_get-map (λ (e : EventPort). e.name) events s.place ∙ ap (option_map (λ (e : EventPort). e.name)) s.at)
+    ap (λ (o : Option Name). unwrap_or o []) (slice_get-map (λ (e : EventPort). e.name) events s.index ∙ ap (option_map (λ (e : EventPort). e.name)) s.at)
     ∙ sym (same_from_same_name n s.element.name s.named)
 
--- what the place of an event output says
+-- what the index of an event output says
 pub record Output (t : BasicType) (k : ℕ) (name : Option Name) : Type 0 where
   pub event : Name
   pub is : name ≡ Some event
@@ -112,21 +112,21 @@ output_here t k (Some n) o =
     let events : List EventPort = t.ports.event_outputs in
     let s = stands (λ p. p.name) events n o.known in
     let numbered : Some k ≡ Some (number_in (λ p. p.name) events n) = o.is in
-    let here : k ≡ s.place = same_Some k (number_in (λ p. p.name) events n) numbered ∙ number_is (λ p. p.name) events n s in
+    let here : k ≡ s.index = same_Some k (number_in (λ p. p.name) events n) numbered ∙ number_is (λ p. p.name) events n s in
     let names : s.element.name ≡ n = sym (same_from_same_name n s.element.name s.named) in
     record {
       event = n;
       is = refl;
-      within = subst (λ i. i < length events) (sym here) (slice_get_within events s.place s.element s.at);
+      within = subst (λ i. i < length events) (sym here) (slice_get_within events s.index s.element s.at);
       named = ap (event_at events) here ∙ event_is events n s;
       shown = ap (slice_get (names_with_each events t.ports.outputs)) here
-          ∙ slice_get-map (λ (e : EventPort). outputs_with t.ports e.name) events s.place
+          ∙ slice_get-map (λ (e : EventPort). outputs_with t.ports e.name) events s.index
           ∙ ap (option_map (λ (e : EventPort). outputs_with t.ports e.name)) s.at
           ∙ ap (λ (m : Name). Some (outputs_with t.ports m)) names;
     }
 
 -- no output event
-pub emitted_none : (t : BasicType) (name : Option Name) (p : Place) → IsOutput t None name → p ≡ emitting t name p
+pub emitted_none : (t : BasicType) (name : Option Name) (p : Position) → IsOutput t None name → p ≡ emitting t name p
 emitted_none t None p o = refl
 emitted_none t (Some n) p o = absurd (let e = o.is in cc)
 
@@ -156,15 +156,15 @@ emission_meant t k name o vars read is =
 pub emitted_some :
     (t : BasicType) (k : ℕ) (name : Option Name) (o : Output t k name) (state left : ℕ) (slots : List Slot) (old new : List run.Emission) (read : List Name)
     → read ≡ outputs_with t.ports o.event → new ≡ old ++ record { event = k; values = map (values_of slots) read } ∷ []
-    → place t state slots left new ≡ emitting t name (place t state slots left old)
+    → index t state slots left new ≡ emitting t name (index t state slots left old)
 emitted_some t k name o state left slots old new read is grown =
     let es : List Emission = map (emission_of t.ports) old in
     let more : map (emission_of t.ports) new ≡ es ++ record { event = o.event; values = bound (outputs_with t.ports o.event) (values_of slots) } ∷ [] =
     ap (map (emission_of t.ports)) grown
     ∙ map-append (emission_of t.ports) old (record { event = k; values = map (values_of slots) read } ∷ [])
     ∙ ap (λ (e : Emission). es ++ e ∷ []) (emission_meant t k name o (values_of slots) read is) in
-    ap (λ (l : List Emission). record (place t state slots left old) { emitted = l }) more
-    ∙ ap (λ (n : Option Name). emitting t n (place t state slots left old)) (sym o.is)
+    ap (λ (l : List Emission). record (index t state slots left old) { emitted = l }) more
+    ∙ ap (λ (n : Option Name). emitting t n (index t state slots left old)) (sym o.is)
 
 pub fit_some :
     (t : BasicType) (k : ℕ) (name : Option Name) (o : Output t k name) (vars : Values) (old new : List run.Emission) (read : List Name)
@@ -181,7 +181,7 @@ shown_alone vars [] n z one is holds = absurd (omega arith)
 shown_alone vars (m ∷ []) n z one is holds = ap (λ (v : Value). v ∷ []) (sym (ap vars is) ∙ holds)
 shown_alone vars (m ∷ k ∷ ns) n z one is holds = absurd (omega arith)
 
--- what the place of an algorithm says
+-- what the index of an algorithm says
 pub record Named (t : BasicType) (k : ℕ) (name : Option Name) : Type 0 where
   pub algorithm : Name
   pub element : Algorithm
@@ -194,7 +194,7 @@ algorithm_here t k None o = absurd (let e = o.is in cc)
 algorithm_here t k (Some n) o =
     let s = stands (λ a. a.name) t.algorithms n o.known in
     let numbered : Some k ≡ Some (number_in (λ a. a.name) t.algorithms n) = o.is in
-    let here : k ≡ s.place = same_Some k (number_in (λ a. a.name) t.algorithms n) numbered ∙ number_is (λ a. a.name) t.algorithms n s in
+    let here : k ≡ s.index = same_Some k (number_in (λ a. a.name) t.algorithms n) numbered ∙ number_is (λ a. a.name) t.algorithms n s in
     record {
       algorithm = n;
       element = s.element;
@@ -219,14 +219,14 @@ runs_as t k name n y ds p q e at declared run =
     )
 
 performs_some :
-    (t : BasicType) (n : Name) (p : Place) (m : Point) (f : Flow) → RunsBody (types_of t) (algorithm_of t n) (record { vars = p.vars; left = p.left }) (ended (end_of (Ok f))) m
+    (t : BasicType) (n : Name) (p : Position) (m : Point) (f : Flow) → RunsBody (types_of t) (algorithm_of t n) (record { vars = p.vars; left = p.left }) (ended (end_of (Ok f))) m
     → Performs t (Some n) (Halts None) p None (at_point p m)
 performs_some t n p m flow.Went run = (Went, m, run, (refl, refl))
 performs_some t n p m flow.Left run = (Left, m, run, (refl, refl))
 performs_some t n p m flow.Returned run = (Went, m, run, (refl, refl))
 
 pub performed_ok :
-    (t : BasicType) (k : ℕ) (name : Option Name) (n : Named t k name) (y : Algorithm) (ds : List Declared) (p : Place) (slots new : List Slot) (left less : ℕ)
+    (t : BasicType) (k : ℕ) (name : Option Name) (n : Named t k name) (y : Algorithm) (ds : List Declared) (p : Position) (slots new : List Slot) (left less : ℕ)
     (result : Result Flow Reason) (f : Flow) → slice_get t.algorithms k ≡ Some y → ds ≡ declared_by t → result ≡ Ok f
     → RunsAll (types_in ds) (body_of y.body) (record { vars = values_of slots; left = left }) (end_of result) (record { vars = values_of new; left = less })
     → Performs t name (Halts None) (with_slots p slots left) None (with_slots p new less)
@@ -238,7 +238,7 @@ performed_ok t k name n y ds p slots new left less result f at declared ok run =
     (performs_some t n.algorithm (with_slots p slots left) m f ran)
 
 pub performed_err :
-    (t : BasicType) (k : ℕ) (name : Option Name) (n : Named t k name) (y : Algorithm) (ds : List Declared) (p : Place) (slots new : List Slot) (left less : ℕ)
+    (t : BasicType) (k : ℕ) (name : Option Name) (n : Named t k name) (y : Algorithm) (ds : List Declared) (p : Position) (slots new : List Slot) (left less : ℕ)
     (result : Result Flow Reason) (r : Reason) → slice_get t.algorithms k ≡ Some y → ds ≡ declared_by t → result ≡ Err r
     → RunsAll (types_in ds) (body_of y.body) (record { vars = values_of slots; left = left }) (end_of result) (record { vars = values_of new; left = less })
     → Performs t name (Halts None) (with_slots p slots left) (Some r) (with_slots p new less)
@@ -251,7 +251,7 @@ performed_err t k name n y ds p slots new left less result r at declared err run
 
 -- an action without an algorithm
 pub performed_none :
-    (t : BasicType) (name : Option Name) (p : Place) → IsAlgorithm t None name → Performs t name (Halts None) p None p
+    (t : BasicType) (name : Option Name) (p : Position) → IsAlgorithm t None name → Performs t name (Halts None) p None p
 performed_none t None p h = (refl, refl)
 performed_none t (Some n) p h = absurd (let e = h.is in cc)
 
@@ -263,14 +263,14 @@ read_here t k read y all within = subst (λ (l : List Algorithm). slice_get l k 
 -- ---- Actions, one after the other
 
 pub acts_stops :
-    (t : BasicType) (a : Action) (rest : List Action) (p q : Place) (left less : ℕ) (r : Reason) → left ≡ suc less
+    (t : BasicType) (a : Action) (rest : List Action) (p q : Position) (left less : ℕ) (r : Reason) → left ≡ suc less
     → Performs t a.algorithm (Halts None) (record p { left = less }) (Some r) q → Acts t (a ∷ rest) left p (Some r) q
 acts_stops t a rest p q left less r fewer run =
     subst (λ n. Acts t (a ∷ rest) n p (Some r) q) (sym fewer)
     (performs_stops t a.algorithm (λ m stop q. Acts t rest (emitting t a.output m).left (emitting t a.output m) stop q) (record p { left = less }) q r run)
 
 pub acts_goes :
-    (t : BasicType) (a : Action) (p m q : Place) (left less : ℕ) → left ≡ suc less → Performs t a.algorithm (Halts None) (record p { left = less }) None m
+    (t : BasicType) (a : Action) (p m q : Position) (left less : ℕ) → left ≡ suc less → Performs t a.algorithm (Halts None) (record p { left = less }) None m
     → q ≡ emitting t a.output m → Acts t (a ∷ []) left p None q
 acts_goes t a p m q left less fewer run is =
     subst (λ n. Acts t (a ∷ []) n p None q) (sym fewer)
@@ -278,16 +278,16 @@ acts_goes t a p m q left less fewer run is =
 
 -- where one action ended, the next ones go on
 performs_more :
-    (t : BasicType) (n : Option Name) (f : Place → Place) (rest : Moving) (p m q : Place) (stop : Option Reason)
+    (t : BasicType) (n : Option Name) (f : Position → Position) (rest : Moving) (p m q : Position) (stop : Option Reason)
     → Performs t n (λ x s y. Halts None (f x) s y) p None m → rest m stop q → Performs t n (λ x s y. rest (f x) s y) p stop q
-performs_more t None f rest p m q stop (e, is) after = subst (λ (x : Place). rest x stop q) is after
-performs_more t (Some a) f rest p m q stop (Went, x, run, (e, is)) after = (Went, x, run, subst (λ (y : Place). rest y stop q) is after)
-performs_more t (Some a) f rest p m q stop (Left, x, run, (e, is)) after = (Left, x, run, subst (λ (y : Place). rest y stop q) is after)
-performs_more t (Some a) f rest p m q stop (Returned, x, run, (e, is)) after = (Returned, x, run, subst (λ (y : Place). rest y stop q) is after)
+performs_more t None f rest p m q stop (e, is) after = subst (λ (x : Position). rest x stop q) is after
+performs_more t (Some a) f rest p m q stop (Went, x, run, (e, is)) after = (Went, x, run, subst (λ (y : Position). rest y stop q) is after)
+performs_more t (Some a) f rest p m q stop (Left, x, run, (e, is)) after = (Left, x, run, subst (λ (y : Position). rest y stop q) is after)
+performs_more t (Some a) f rest p m q stop (Returned, x, run, (e, is)) after = (Returned, x, run, subst (λ (y : Position). rest y stop q) is after)
 performs_more t (Some a) f rest p m q stop (Stopped r, x, run, (e, is)) after = absurd (cc)
 
 performs_no_more :
-    (t : BasicType) (n : Option Name) (f : Place → Place) (rest : Moving) (p q : Place) (r : Reason)
+    (t : BasicType) (n : Option Name) (f : Position → Position) (rest : Moving) (p q : Position) (r : Reason)
     → Performs t n (λ x s y. Halts None (f x) s y) p (Some r) q → Performs t n (λ x s y. rest (f x) s y) p (Some r) q
 performs_no_more t None f rest p q r (e, is) = absurd (cc)
 performs_no_more t (Some a) f rest p q r (Went, x, run, (e, is)) = absurd (cc)
@@ -296,19 +296,19 @@ performs_no_more t (Some a) f rest p q r (Returned, x, run, (e, is)) = absurd (c
 performs_no_more t (Some a) f rest p q r (Stopped s, x, run, after) = (Stopped s, x, run, after)
 
 pub next_acts :
-    (t : BasicType) (a : Action) (rest : List Action) (p m q : Place) (left : ℕ) (stop : Option Reason) → Acts t (a ∷ []) left p None m
+    (t : BasicType) (a : Action) (rest : List Action) (p m q : Position) (left : ℕ) (stop : Option Reason) → Acts t (a ∷ []) left p None m
     → Acts t rest m.left m stop q → Acts t (a ∷ rest) left p stop q
 next_acts t a rest p m q zero stop (e, is) after = absurd (cc)
 next_acts t a rest p m q (suc left) stop run after =
     performs_more t a.algorithm (emitting t a.output) (λ n s y. Acts t rest n.left n s y) (record p { left = left }) m q stop run after
 
 pub no_next_acts :
-    (t : BasicType) (a : Action) (rest : List Action) (p q : Place) (left : ℕ) (r : Reason) → Acts t (a ∷ []) left p (Some r) q → Acts t (a ∷ rest) left p (Some r) q
+    (t : BasicType) (a : Action) (rest : List Action) (p q : Position) (left : ℕ) (r : Reason) → Acts t (a ∷ []) left p (Some r) q → Acts t (a ∷ rest) left p (Some r) q
 no_next_acts t a rest p q zero r run = run
 no_next_acts t a rest p q (suc left) r run =
     performs_no_more t a.algorithm (emitting t a.output) (λ n s y. Acts t rest n.left n s y) (record p { left = left }) q r run
 
--- the action at a place
+-- the action at an index
 pub record ActionAt (t : BasicType) (act : Act) (rest : List Action) (i : ℕ) : Type 0 where
   pub action : Action
   pub is : IsAction t act action
@@ -340,7 +340,7 @@ either (Err e) a b f g = g b
 
 -- a call that ended early ends what it belongs to
 pub ended_early :
-    (h : Halt) (one all : Moving) (p m q : Place) → ((r : Reason) → one m (Some r) q → all p (Some r) q) → Ended (Err h) one m q → Ended (Err h) all p q
+    (h : Halt) (one all : Moving) (p m q : Position) → ((r : Reason) → one m (Some r) q → all p (Some r) q) → Ended (Err h) one m q → Ended (Err h) all p q
 ended_early (halt.Stop r) one all p m q goes run = goes r run
 ended_early halt.Memory one all p m q goes run = run
 

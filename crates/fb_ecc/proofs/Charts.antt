@@ -12,7 +12,7 @@ use Rattle.fb_types.specs.declared.library.Transition.{Transition}
 use Rattle.fb_types.proofs.NameLaws.{any_from_contains, same_from_same_name, same_name-itself}
 use Rattle.fb_types.proofs.Elements.{Contains-cons_cases, Contains-here, Contains-there}
 use Rattle.fb_types.proofs.Positions.{is_some-position, position-first, position_is}
-use Rattle.fb_st.proofs.Places.{position-later}
+use Rattle.fb_st.proofs.Indexes.{position-later}
 use Rattle.fb_ecc.specs.Indexed.{row_within}
 use Rattle.fb_ecc.specs.Numbered.{act_of, exit_of, exits_from}
 use Rattle.fb_ecc.specs.declared.chart.Exit.{Exit}
@@ -89,7 +89,7 @@ not_named name_of n xs x absent c =
     false_from_ne_true (same_name n (name_of x))
     (λ t. absent (let P : Name → Type 0 = λ m. Contains (map name_of xs) m in subst P (sym (same_from_same_name n (name_of x) t)) (name_within name_of xs x c)))
 
--- what stands at the place of a name changes, and nothing else
+-- what stands at the index of a name changes, and nothing else
 set_named :
     {A B : Type 0} (f g : A → B) (name_of : A → Name) (n : Name) (xs : List A) (i : ℕ) (x : A) (b : B) → ¬ (Twice (map name_of xs))
     → position (same_name n) (map name_of xs) ≡ Some i → slice_get xs i ≡ Some x → b ≡ g x → ((y : A) → same_name n (name_of y) ≡ false → f y ≡ g y)
@@ -114,7 +114,7 @@ set_named {A} {B} f g name_of n (y ∷ ys) i x b once found at is others =
           ∙ ap (λ (z : B). z ∷ map g ys) (others y e)
     ] refl
 
--- a transition more is put to the state at the place of its source ..
+-- a transition more is put to the state at the index of its source ..
 pub rows_left :
     (t : BasicType) (k i : ℕ) (x : Transition) (old after : List ChartState) (now new : ChartState) → k < length t.transitions → x ≡ get_or t.transitions k x
     → ¬ (Twice (state_names t)) → position (same_name x.from) (state_names t) ≡ Some i → old ≡ map (row_within t k) t.states → now ≡ get_or old i now

@@ -13,10 +13,10 @@ use Rattle.fb_types.specs.Blocks.{among, event_names}
 use Rattle.fb_types.specs.Repeated.{Twice}
 use Rattle.fb_types.specs.declared.library.EventPort.{EventPort}
 use Rattle.fb_types.proofs.NameLaws.{any_from_contains, same_from_same_name, same_name-flip, same_name-itself}
-use Rattle.fb_check_names.specs.Places.{IsIndex, place_in}
+use Rattle.fb_check_names.specs.Indexes.{IsIndex, index_in}
 use Rattle.fb_types.proofs.Elements.{Contains-cons_cases, Contains-here, Contains-there}
 use Rattle.fb_types.proofs.Positions.{is_some-position, position-cons, position-first}
-use Rattle.fb_st.proofs.Places.{position-later}
+use Rattle.fb_st.proofs.Indexes.{position-later}
 use Rattle.fb_ecc.specs.Numbered.{number_in}
 use Rattle.fb_ecc.specs.Indexed.{entry_of, picked}
 
@@ -29,18 +29,18 @@ position_map f n (x ∷ xs) =
     ∙ ap (λ o. cond (same_name n (f x)) (Some 0) (option_map (λ i. i + 1) o)) (position_map f n xs) ∙ sym (position-cons (λ y. same_name n (f y)) x xs)
 
 pub numbered :
-    {A : Type 0} (f : A → Name) (xs : List A) (places : BTreeMap (Bor Name) ℕ) (count : ℕ) (n : Name) (r : ℕ) → IsIndex (map f xs) places → count ≡ length xs
-    → r ≡ unwrap_or (place_in places n) count → r ≡ number_in f xs n
-numbered f xs places count n r index counted told =
-    told ∙ ap (λ o. unwrap_or o count) (index.place n ∙ position_map f n xs)
+    {A : Type 0} (f : A → Name) (xs : List A) (indexes : BTreeMap (Bor Name) ℕ) (count : ℕ) (n : Name) (r : ℕ) → IsIndex (map f xs) indexes → count ≡ length xs
+    → r ≡ unwrap_or (index_in indexes n) count → r ≡ number_in f xs n
+numbered f xs indexes count n r index counted told =
+    told ∙ ap (λ o. unwrap_or o count) (index.index n ∙ position_map f n xs)
     ∙ ap (λ k. unwrap_or (position (λ x. same_name n (f x)) xs) k) counted
 
 pub numbered_if_named :
-    {A : Type 0} (f : A → Name) (xs : List A) (places : BTreeMap (Bor Name) ℕ) (count : ℕ) (o : Option Name) (r : Option ℕ) → IsIndex (map f xs) places
-    → count ≡ length xs → r ≡ option_map (λ n. unwrap_or (place_in places n) count) o → r ≡ option_map (number_in f xs) o
-numbered_if_named f xs places count None r index counted told = told
-numbered_if_named f xs places count (Some n) r index counted told =
-    told ∙ ap Some (numbered f xs places count n (unwrap_or (place_in places n) count) index counted refl)
+    {A : Type 0} (f : A → Name) (xs : List A) (indexes : BTreeMap (Bor Name) ℕ) (count : ℕ) (o : Option Name) (r : Option ℕ) → IsIndex (map f xs) indexes
+    → count ≡ length xs → r ≡ option_map (λ n. unwrap_or (index_in indexes n) count) o → r ≡ option_map (number_in f xs) o
+numbered_if_named f xs indexes count None r index counted told = told
+numbered_if_named f xs indexes count (Some n) r index counted told =
+    told ∙ ap Some (numbered f xs indexes count n (unwrap_or (index_in indexes n) count) index counted refl)
 
 -- ---- Names that are picked
 
@@ -54,15 +54,15 @@ picked_same p q (n ∷ ns) k same =
     ap (λ (l : List (ℕ × Name)). cond (p n) ((k, n) ∷ l) l) (picked_same p q ns (suc k) (λ m c. same m (Contains-there n ns m c)))
     ∙ ap (λ b. cond b ((k, n) ∷ picked q ns (suc k)) (picked q ns (suc k))) (same n (Contains-here n ns))
 
--- a place before all others is put before them
-insert_before : (p : Name → Bool) (ns : List Name) (k place : ℕ) (m : Name) → place < k → insert_entry nat_cmp (picked p ns k) place m ≡ (place, m) ∷ picked p ns k
-insert_before p [] k place m less = refl
-insert_before p (n ∷ ns) k place m less =
-    let below : nat_cmp place k ≡ Less = grind (arith, nat_tests, less) in
+-- an index before all others is put before them
+insert_before : (p : Name → Bool) (ns : List Name) (k index : ℕ) (m : Name) → index < k → insert_entry nat_cmp (picked p ns k) index m ≡ (index, m) ∷ picked p ns k
+insert_before p [] k index m less = refl
+insert_before p (n ∷ ns) k index m less =
+    let below : nat_cmp index k ≡ Less = grind (arith, nat_tests, less) in
     let rest : List (ℕ × Name) = picked p ns (suc k) in
-    elim (p n) as (λ b. insert_entry nat_cmp (cond b ((k, n) ∷ rest) rest) place m ≡ (place, m) ∷ cond b ((k, n) ∷ rest) rest) [
-      | true ↦ ap (λ o. match_ordering o ((place, m) ∷ (k, n) ∷ rest) ((k, m) ∷ rest) ((k, n) ∷ insert_entry nat_cmp rest place m)) below
-      | false ↦ insert_before p ns (suc k) place m (omega (arith, less))
+    elim (p n) as (λ b. insert_entry nat_cmp (cond b ((k, n) ∷ rest) rest) index m ≡ (index, m) ∷ cond b ((k, n) ∷ rest) rest) [
+      | true ↦ ap (λ o. match_ordering o ((index, m) ∷ (k, n) ∷ rest) ((k, m) ∷ rest) ((k, n) ∷ insert_entry nat_cmp rest index m)) below
+      | false ↦ insert_before p ns (suc k) index m (omega (arith, less))
     ]
 
 abbrev OneMore : (Name → Bool) → (Name → Bool) → Name → Type 0
@@ -87,9 +87,9 @@ picked_apart p q ns m k more absent =
     picked_same p q ns k (λ n c. sym (more n ∙ ap (λ b. p n || b) (not_in m n ns absent c) ∙ or_false (p n)))
 
 at_here :
-    (p q : Name → Bool) (n : Name) (ns : List Name) (m : Name) (k place : ℕ) → ¬ (Contains ns n) → OneMore p q m → m ≡ n → place ≡ k
-    → insert_entry nat_cmp (picked p (n ∷ ns) k) place m ≡ picked q (n ∷ ns) k
-at_here p q n ns m k place absent more is at =
+    (p q : Name → Bool) (n : Name) (ns : List Name) (m : Name) (k index : ℕ) → ¬ (Contains ns n) → OneMore p q m → m ≡ n → index ≡ k
+    → insert_entry nat_cmp (picked p (n ∷ ns) k) index m ≡ picked q (n ∷ ns) k
+at_here p q n ns m k index absent more is at =
     let rest : List (ℕ × Name) = picked p ns (suc k) in
     let passes : q n ≡ true =
     more n ∙ ap (λ x. p n || same_name n x) is ∙ ap (λ b. p n || b) (same_name-itself n) ∙ or_true (p n) in
@@ -101,7 +101,7 @@ at_here p q n ns m k place absent more is at =
       | true ↦ ap (λ o. match_ordering o ((k, n) ∷ (k, n) ∷ rest) ((k, n) ∷ rest) ((k, n) ∷ insert_entry nat_cmp rest k n)) equal
       | false ↦ insert_before p ns (suc k) k n (omega arith)
     ] in
-    ap (λ (x : Name). insert_entry nat_cmp (picked p (n ∷ ns) k) place x) is ∙ ap (λ i. insert_entry nat_cmp (picked p (n ∷ ns) k) i n) at
+    ap (λ (x : Name). insert_entry nat_cmp (picked p (n ∷ ns) k) index x) is ∙ ap (λ i. insert_entry nat_cmp (picked p (n ∷ ns) k) i n) at
     ∙ inserted ∙ ap (λ (l : List (ℕ × Name)). (k, n) ∷ l) others
     ∙ sym (ap (λ b. cond b ((k, n) ∷ picked q ns (suc k)) (picked q ns (suc k))) passes)
 
@@ -109,26 +109,26 @@ pub some_suc : (o : Option ℕ) (i : ℕ) → option_map (λ j. suc j) o ≡ Som
 some_suc None i h = absurd (cc)
 some_suc (Some j) i h = (j, refl, let e : suc j ≡ i = cc in sym e)
 
--- a name that stands at a place is picked as well
+-- a name that stands at an index is picked as well
 picked_at :
-    (p q : Name → Bool) (ns : List Name) (m : Name) (k i place : ℕ) → ¬ (Twice ns) → OneMore p q m → position (same_name m) ns ≡ Some i → place ≡ k + i
-    → insert_entry nat_cmp (picked p ns k) place m ≡ picked q ns k
-picked_at p q [] m k i place once more found at = absurd (cc)
-picked_at p q (n ∷ ns) m k i place once more found at =
-    elim (same_name m n) as (λ b. same_name m n ≡ b → insert_entry nat_cmp (picked p (n ∷ ns) k) place m ≡ picked q (n ∷ ns) k) [
+    (p q : Name → Bool) (ns : List Name) (m : Name) (k i index : ℕ) → ¬ (Twice ns) → OneMore p q m → position (same_name m) ns ≡ Some i → index ≡ k + i
+    → insert_entry nat_cmp (picked p ns k) index m ≡ picked q ns k
+picked_at p q [] m k i index once more found at = absurd (cc)
+picked_at p q (n ∷ ns) m k i index once more found at =
+    elim (same_name m n) as (λ b. same_name m n ≡ b → insert_entry nat_cmp (picked p (n ∷ ns) k) index m ≡ picked q (n ∷ ns) k) [
       | true ↦ λ e.
           let first : Some 0 ≡ Some i = sym (position-first (same_name m) n ns e) ∙ found in
           let zeroth : 0 ≡ i = cc in
-          at_here p q n ns m k place (λ c. once (inl c)) more (same_from_same_name m n e) (omega (arith, at, zeroth))
+          at_here p q n ns m k index (λ c. once (inl c)) more (same_from_same_name m n e) (omega (arith, at, zeroth))
       | false ↦ λ e.
           let later = some_suc (position (same_name m) ns) i (sym (position-later (same_name m) n ns e) ∙ found) in
-          let next : place ≡ suc k + later.0 = let f = later.2 in omega (arith, at, f) in
-          let above : nat_cmp place k ≡ Greater = let less : k < place = omega (arith, next) in grind (arith, nat_tests, less) in
-          let rest = picked_at p q ns m (suc k) later.0 place (λ t. once (inr t)) more later.1 next in
+          let next : index ≡ suc k + later.0 = let f = later.2 in omega (arith, at, f) in
+          let above : nat_cmp index k ≡ Greater = let less : k < index = omega (arith, next) in grind (arith, nat_tests, less) in
+          let rest = picked_at p q ns m (suc k) later.0 index (λ t. once (inr t)) more later.1 next in
           let same : q n ≡ p n = more n ∙ ap (λ b. p n || b) (same_name-flip n m ∙ e) ∙ or_false (p n) in
           let others : List (ℕ × Name) = picked p ns (suc k) in
-          (elim (p n) as (λ b. insert_entry nat_cmp (cond b ((k, n) ∷ others) others) place m ≡ cond b ((k, n) ∷ picked q ns (suc k)) (picked q ns (suc k))) [
-            | true ↦ ap (λ o. match_ordering o ((place, m) ∷ (k, n) ∷ others) ((k, m) ∷ others) ((k, n) ∷ insert_entry nat_cmp others place m)) above
+          (elim (p n) as (λ b. insert_entry nat_cmp (cond b ((k, n) ∷ others) others) index m ≡ cond b ((k, n) ∷ picked q ns (suc k)) (picked q ns (suc k))) [
+            | true ↦ ap (λ o. match_ordering o ((index, m) ∷ (k, n) ∷ others) ((k, m) ∷ others) ((k, n) ∷ insert_entry nat_cmp others index m)) above
                 ∙ ap (λ (l : List (ℕ × Name)). (k, n) ∷ l) rest
             | false ↦ rest
           ])
@@ -149,23 +149,23 @@ insert_named (e ∷ es) k b =
 among_more : (ns : List Name) (m n : Name) → among (ns ++ m ∷ []) n ≡ (among ns n || same_name n m)
 among_more ns m n = list_any-append (same_name n) ns (m ∷ []) ∙ ap (λ b. among ns n || b) (or_false (same_name n m))
 
--- one more name is gone through, which stands at a place ..
+-- one more name is gone through, which stands at an index ..
 pub picks_found :
-    (all sofar : List Name) (old new : List (ℕ × Bor Name)) (m : Bor Name) (place : ℕ) (places : BTreeMap (Bor Name) ℕ) → IsIndex all places
-    → place_in places m.now ≡ Some place → new ≡ insert_entry nat_cmp old place m → map entry_of old ≡ picked (among sofar) all 0
+    (all sofar : List Name) (old new : List (ℕ × Bor Name)) (m : Bor Name) (index : ℕ) (indexes : BTreeMap (Bor Name) ℕ) → IsIndex all indexes
+    → index_in indexes m.now ≡ Some index → new ≡ insert_entry nat_cmp old index m → map entry_of old ≡ picked (among sofar) all 0
     → map entry_of new ≡ picked (among (sofar ++ m.now ∷ [])) all 0
-picks_found all sofar old new m place places index found inserted told =
-    ap (map entry_of) inserted ∙ insert_named old place m ∙ ap (λ (l : List (ℕ × Name)). insert_entry nat_cmp l place m.now) told
-    ∙ picked_at (among sofar) (among (sofar ++ m.now ∷ [])) all m.now 0 place place index.once (among_more sofar m.now) (sym (index.place m.now) ∙ found) (omega arith)
+picks_found all sofar old new m i indexes index found inserted told =
+    ap (map entry_of) inserted ∙ insert_named old i m ∙ ap (λ (l : List (ℕ × Name)). insert_entry nat_cmp l i m.now) told
+    ∙ picked_at (among sofar) (among (sofar ++ m.now ∷ [])) all m.now 0 i i index.once (among_more sofar m.now) (sym (index.index m.now) ∙ found) (omega arith)
 
 -- .. or which is none of all
 pub picks_none :
-    (all sofar : List Name) (old : List (ℕ × Bor Name)) (m : Name) (places : BTreeMap (Bor Name) ℕ) → IsIndex all places
-    → place_in places m ≡ None → map entry_of old ≡ picked (among sofar) all 0 → map entry_of old ≡ picked (among (sofar ++ m ∷ [])) all 0
-picks_none all sofar old m places index nowhere told =
+    (all sofar : List Name) (old : List (ℕ × Bor Name)) (m : Name) (indexes : BTreeMap (Bor Name) ℕ) → IsIndex all indexes
+    → index_in indexes m ≡ None → map entry_of old ≡ picked (among sofar) all 0 → map entry_of old ≡ picked (among (sofar ++ m ∷ [])) all 0
+picks_none all sofar old m indexes index nowhere told =
     told
     ∙ picked_apart (among sofar) (among (sofar ++ m ∷ [])) all m 0 (among_more sofar m)
-    (λ c. true≢false (sym (any_from_contains m all c) ∙ sym (is_some-position (same_name m) all) ∙ ap is_some (sym (index.place m) ∙ nowhere)))
+    (λ c. true≢false (sym (any_from_contains m all c) ∙ sym (is_some-position (same_name m) all) ∙ ap is_some (sym (index.index m) ∙ nowhere)))
 
 names_of_picked : (p : Name → Bool) (ns : List Name) (k : ℕ) → map (λ e. e.1) (picked p ns k) ≡ filter p ns
 names_of_picked p [] k = refl

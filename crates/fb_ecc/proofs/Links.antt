@@ -15,7 +15,7 @@ use Rattle.fb_types.specs.declared.run.Halt.{Halt}
 use Rattle.fb_types.specs.declared.run.Halt.TheVariants as halt
 use Rattle.fb_types.specs.declared.value.Value.{Value}
 use Rattle.fb_types.specs.Values.{Values}
-use Rattle.fb_types.specs.Charts.{Place, Moving, Acts, Links, Trial, Clears, NoneClears, Fails, Rests, Enters, trial_at, trial_of, leaving, actions_of, ChartReacts}
+use Rattle.fb_types.specs.Charts.{Position, Moving, Acts, Links, Trial, Clears, NoneClears, Fails, Rests, Enters, trial_at, trial_of, leaving, actions_of, ChartReacts}
 use Rattle.fb_types.specs.declared.library.Action.{Action}
 use Rattle.fb_types.specs.declared.library.BasicType.{BasicType}
 use Rattle.fb_types.specs.declared.library.EventPort.{EventPort}
@@ -23,16 +23,16 @@ use Rattle.fb_types.specs.declared.library.State.{State}
 use Rattle.fb_types.specs.declared.library.Transition.{Transition}
 use Rattle.fb_types.specs.declared.value.Reason.{Reason}
 use Rattle.fb_st.specs.Frames.{Declared, is_declared}
-use Rattle.fb_st.proofs.Places.{named_at_place}
+use Rattle.fb_st.proofs.Indexes.{named_at_index}
 use Rattle.fb_ecc.specs.Actions.{AreActions}
 use Rattle.fb_ecc.specs.Links.{Chain, Linked}
 use Rattle.fb_ecc.specs.Numbered.{exits_at, exit_of, exits_from, act_of, row_of, names_with_each, chart_of}
-use Rattle.fb_ecc.specs.Places.{IsStateOf, state_at, Ended}
+use Rattle.fb_ecc.specs.Indexes.{IsStateOf, state_at, Ended}
 use Rattle.fb_ecc.specs.Sound.{Each, IsSound, action_known, actions_known, declared_as, declared_by}
 use Rattle.fb_ecc.specs.Trials.{transitions_at, IsExit}
 use Rattle.fb_ecc.specs.declared.chart.Exit.{Exit}
 use Rattle.fb_ecc.specs.declared.chart.ChartState.{ChartState}
-use Rattle.fb_types.proofs.ByPlace.{element_at}
+use Rattle.fb_types.proofs.ByIndex.{element_at}
 use Rattle.fb_ecc.specs.declared.chart.Chart.{Chart}
 use Rattle.fb_ecc.proofs.Trials.{transition_here, state_here, list_all-at, and_left, and_right, cut_at, event_here}
 
@@ -40,21 +40,21 @@ use Rattle.fb_ecc.proofs.Trials.{transition_here, state_here, list_all-at, and_l
 
 module _ (t : BasicType) (present : Option Name) where
   pub goes_on :
-      (p m q : Place) (target : Name) (left : ℕ) (stop : Option Reason) → trial_at t present p ≡ Clears target left
+      (p m q : Position) (target : Name) (left : ℕ) (stop : Option Reason) → trial_at t present p ≡ Clears target left
       → Acts t (actions_of t target) left (record p { state = target; left = left }) None m → Chain t None m stop q → Chain t present p stop q
   goes_on p m q target left stop tried acts (n, rest) =
       (suc n, subst (λ (x : Trial). Enters t x (Links t n None) p stop q) (sym tried) (None, m, acts, rest))
 
   pub stops_in :
-      (p q : Place) (target : Name) (left : ℕ) (r : Reason) → trial_at t present p ≡ Clears target left
+      (p q : Position) (target : Name) (left : ℕ) (r : Reason) → trial_at t present p ≡ Clears target left
       → Acts t (actions_of t target) left (record p { state = target; left = left }) (Some r) q → Chain t present p (Some r) q
   stops_in p q target left r tried acts =
       (suc zero, subst (λ (x : Trial). Enters t x (Links t zero None) p (Some r) q) (sym tried) (Some r, q, acts, (refl, refl)))
 
-  pub rests : (p : Place) (left : ℕ) → trial_at t present p ≡ NoneClears left → Chain t present p None (record p { left = left })
+  pub rests : (p : Position) (left : ℕ) → trial_at t present p ≡ NoneClears left → Chain t present p None (record p { left = left })
   rests p left tried = (zero, subst (λ (x : Trial). Rests x p None (record p { left = left })) (sym tried) (refl, refl))
 
-  pub fails : (p : Place) (left : ℕ) (r : Reason) → trial_at t present p ≡ Fails r left → Chain t present p (Some r) (record p { left = left })
+  pub fails : (p : Position) (left : ℕ) (r : Reason) → trial_at t present p ≡ Fails r left → Chain t present p (Some r) (record p { left = left })
   fails p left r tried = (zero, subst (λ (x : Trial). Rests x p (Some r) (record p { left = left })) (sym tried) (refl, refl))
 
 -- ---- Rows
@@ -65,7 +65,7 @@ drop_next [] ys (suc k) x h = absurd (cc)
 drop_next (y ∷ xs) ys zero x h = (let e : y ≡ x = cc in ap (λ z. Some z) e, cc)
 drop_next (y ∷ xs) ys (suc k) x h = drop_next xs ys k x h
 
--- the transitions that leave a state stand at the places of its exits
+-- the transitions that leave a state stand at the indexes of its exits
 leaving_from :
     (t : BasicType) (n : Name) (k : ℕ) (xs : List Transition) → drop k t.transitions ≡ xs
     → transitions_at t (exits_from t n k xs) ≡ filter (λ x. same_name x.from n) xs
@@ -122,7 +122,7 @@ row_here : (t : BasicType) (i : ℕ) (s : State) → IsSound t → slice_get t.s
 row_here t i s sound at =
     let name : state_at t i ≡ s.name = state_here t i s at in
     let there : named (λ x. x.name) s.name t.states ≡ Some s =
-    named_at_place (λ x. x.name) s.name t.states ∙ ap (option_and_then (slice_get t.states)) (sound.states i s at) ∙ at in
+    named_at_index (λ x. x.name) s.name t.states ∙ ap (option_and_then (slice_get t.states)) (sound.states i s at) ∙ at in
     let actions : actions_of t (state_at t i) ≡ s.actions = ap (actions_of t) name ∙ ap actions_or there in
     record {
       leaving_is = leaving_from t s.name 0 t.transitions refl ∙ ap (leaving t) (sym name);
@@ -142,7 +142,7 @@ row_is t rows i d sound all within =
     (sym (ap (λ (l : List ChartState). slice_get l i) all ∙ slice_get-map (row_of t) t.states i ∙ ap (option_map (row_of t)) s.1) ∙ read) in
     subst (λ (r : ChartState). IsRow t i r) same (row_here t i s.0 sound s.1)
 
--- what the transitions say that leave the state at a place
+-- what the transitions say that leave the state at an index
 pub record HasExits (t : BasicType) (i : ℕ) (exits : List Exit) : Type 0 where
   pub leaving_is : transitions_at t exits ≡ leaving t (state_at t i)
   pub each : Each (IsExit t) exits
@@ -186,8 +186,8 @@ none_or_first : (ss : List State) → (ss ≡ []) ⊎ (0 < length ss)
 none_or_first [] = inl refl
 none_or_first (s ∷ ss) = inr (omega arith)
 
-pub first_place : (t : BasicType) → IsStateOf t 0
-first_place t = none_or_first t.states
+pub first_index : (t : BasicType) → IsStateOf t 0
+first_index t = none_or_first t.states
 
 pub row_within : (t : BasicType) (rows : List ChartState) (i : ℕ) → rows ≡ map (row_of t) t.states → i < length t.states → i < length rows
 row_within t rows i all within = subst (λ (l : List ChartState). i < length l) (sym all) (subst (λ n. i < n) (sym (length-map t.states (row_of t))) within)
@@ -198,20 +198,20 @@ row_read t chart rows i d sound is read within = row_is t rows i d sound (read �
 
 -- what trying the transitions at the exits comes to
 pub trial_here :
-    (t : BasicType) (exits : List Exit) (present : Option Name) (p : Place) (x : Trial) → transitions_at t exits ≡ leaving t p.state
+    (t : BasicType) (exits : List Exit) (present : Option Name) (p : Position) (x : Trial) → transitions_at t exits ≡ leaving t p.state
     → trial_of (transitions_at t exits) present p.vars p.left ≡ x → trial_at t present p ≡ x
 trial_here t exits present p x is tried = ap (λ (l : List Transition). trial_of l present p.vars p.left) (sym is) ∙ tried
 
 -- a state that was entered ended the chain
 pub linked_early :
-    (t : BasicType) (h : Halt) (present : Option Name) (moves : Moving) (p m q : Place) → ((r : Reason) → moves m (Some r) q → Chain t present p (Some r) q)
+    (t : BasicType) (h : Halt) (present : Option Name) (moves : Moving) (p m q : Position) → ((r : Reason) → moves m (Some r) q → Chain t present p (Some r) q)
     → Ended (Err h) moves m q → Linked t (Err h) present p q
 linked_early t (halt.Stop r) present moves p m q goes run = goes r run
 linked_early t halt.Memory present moves p m q goes run = run
 
 -- a link ended the reaction
 pub reacted_early :
-    (t : BasicType) (h : Halt) (e : Name) (present : Option Name) (p m q : Place)
+    (t : BasicType) (h : Halt) (e : Name) (present : Option Name) (p m q : Position)
     → ((stop : Option Reason) → Chain t present m stop q → Chain t (Some e) p stop q) → Linked t (Err h) present m q → Ended (Err h) (ChartReacts t e) p q
 reacted_early t (halt.Stop r) e present p m q goes run = goes (Some r) run
 reacted_early t halt.Memory e present p m q goes run = run
@@ -294,7 +294,7 @@ declared_each t ds e read declared is =
     let P : List Name → Type 0 = λ ns. Each (λ n. among ns n ≡ true) read in
     subst P (sym names) (subst (λ (l : List Name). Each (λ n. among (variable_names (variables_of t)) n ≡ true) l) (sym is) all)
 
--- the variables WITH the event at a place
+-- the variables WITH the event at an index
 pub variables_here :
     (t : BasicType) (chart : Chart) (all : List (List Name)) (e : ℕ) (read d : List Name) → chart ≡ chart_of t → all ≡ chart.sampled → e < length t.ports.event_inputs
     → read ≡ get_or all e d → read ≡ inputs_with t.ports (event_at t.ports.event_inputs e)

@@ -1,4 +1,4 @@
--- Transitions that are tried by their places.
+-- Transitions that are tried by their indexes.
 use Rattle.std.proofs.Common.{◌≡◌, ℕ, zero, suc, ◌+◌, ◌<◌, Bool, true, false, ◌&&◌, ◌||◌, List, [], ◌∷◌, length, get_or, drop, map, Option, Some, None, Result, Ok, refl, sym, ◌∙◌, ap, subst, arith, add-one}
 use Rattle.std.specs.Prelude.{nat_eq, position, option_map, unwrap_or, slice_get, is_some, if◌then◌else◌, IfSome}
 use Rattle.std.specs.List.{list_all}
@@ -14,8 +14,8 @@ use Rattle.fb_types.specs.declared.library.State.{State}
 use Rattle.fb_types.specs.declared.text.Expr.{Expr}
 use Rattle.fb_types.specs.declared.value.Reason.TheVariants.{Steps}
 use Rattle.fb_types.proofs.Positions.{position-first}
-use Rattle.fb_st.proofs.Places.{position-later}
-use Rattle.fb_ecc.specs.Places.{state_at}
+use Rattle.fb_st.proofs.Indexes.{position-later}
+use Rattle.fb_ecc.specs.Indexes.{state_at}
 use Rattle.fb_types.specs.Values.{Values}
 use Rattle.fb_types.specs.Charts.{Fails, is_present, is_true, guard_value, trial_of, by_condition}
 use Rattle.fb_types.specs.Numbers.{event_at}
@@ -26,7 +26,7 @@ use Rattle.fb_types.proofs.NameLaws.{same_from_same_name}
 use Rattle.fb_types.specs.declared.value.Reason.{Reason}
 use Rattle.fb_ecc.specs.Numbered.{number_in}
 use Rattle.fb_ecc.specs.Sound.{Each, IsSound, StandFirst}
-use Rattle.fb_types.proofs.ByPlace.{element_at}
+use Rattle.fb_types.proofs.ByIndex.{element_at}
 use Rattle.fb_ecc.specs.Trials.{nowhere, transition_at, transitions_at, IsExit, is_number_present}
 use Rattle.fb_ecc.specs.declared.chart.Exit.{Exit}
 
@@ -45,7 +45,7 @@ and_right false b h = absurd (true≢false (sym h))
 
 -- ---- Events
 
--- the event at a place
+-- the event at an index
 pub event_here : (events : List EventPort) (m : ℕ) (p : EventPort) → slice_get events m ≡ Some p → event_at events m ≡ p.name
 event_here events m p at =
     ap (λ (o : Option Name). unwrap_or o []) (slice_get-map (λ (e : EventPort). e.name) events m ∙ ap (option_map (λ (e : EventPort). e.name)) at)
@@ -80,14 +80,14 @@ same_event events f m p first at =
           true≢false (sym here ∙ e)))
     ] refl
 
--- whether the event of a condition is present, by its place
-pub present_by_place :
+-- whether the event of a condition is present, by its index
+pub present_by_index :
     (events : List EventPort) (present : Option ℕ) (n : Option Name) → StandFirst (λ e. e.name) events → IfSome present (λ m. m < length events)
     → is_present n (option_map (event_at events) present) ≡ is_number_present (option_map (number_in (λ e. e.name) events) n) present
-present_by_place events None None first within = refl
-present_by_place events (Some m) None first within = refl
-present_by_place events None (Some f) first within = refl
-present_by_place events (Some m) (Some f) first within =
+present_by_index events None None first within = refl
+present_by_index events (Some m) None first within = refl
+present_by_index events None (Some f) first within = refl
+present_by_index events (Some m) (Some f) first within =
     let p = element_at events m within in
     ap (same_name f) (event_here events m p.0 p.1) ∙ same_event events f m p.0 first p.1
 
@@ -95,10 +95,10 @@ present_by_place events (Some m) (Some f) first within =
 
 -- where a name stands first
 pub record Stands {A : Type 0} (name_of : A → Name) (xs : List A) (n : Name) : Type 0 where
-  pub place : ℕ
+  pub index : ℕ
   pub element : A
-  pub first : position (λ y. same_name n (name_of y)) xs ≡ Some place
-  pub at : slice_get xs place ≡ Some element
+  pub first : position (λ y. same_name n (name_of y)) xs ≡ Some index
+  pub at : slice_get xs index ≡ Some element
   pub named : same_name n (name_of element) ≡ true
 
 pub stands : {A : Type 0} (name_of : A → Name) (xs : List A) (n : Name) → among (map name_of xs) n ≡ true → Stands name_of xs n
@@ -106,7 +106,7 @@ stands name_of [] n h = absurd (true≢false (sym h))
 stands name_of (x ∷ xs) n h =
     elim (same_name n (name_of x)) as (λ b. same_name n (name_of x) ≡ b → (b || among (map name_of xs) n) ≡ true → Stands name_of (x ∷ xs) n) [
       | true ↦ λ e g. record {
-        place = 0;
+        index = 0;
         element = x;
         first = position-first (λ y. same_name n (name_of y)) x xs e;
         at = refl;
@@ -115,7 +115,7 @@ stands name_of (x ∷ xs) n h =
       | false ↦ λ e g.
           let later = stands name_of xs n g in
           record {
-            place = suc later.place;
+            index = suc later.index;
             element = later.element;
             first = position-later (λ y. same_name n (name_of y)) x xs e ∙ ap (option_map (λ i. suc i)) later.first;
             at = later.at;
@@ -123,7 +123,7 @@ stands name_of (x ∷ xs) n h =
           }
     ] refl h
 
-pub number_is : {A : Type 0} (name_of : A → Name) (xs : List A) (n : Name) (s : Stands name_of xs n) → number_in name_of xs n ≡ s.place
+pub number_is : {A : Type 0} (name_of : A → Name) (xs : List A) (n : Name) (s : Stands name_of xs n) → number_in name_of xs n ≡ s.index
 number_is name_of xs n s = ap (λ (o : Option ℕ). unwrap_or o (length xs)) s.first
 
 -- ---- Transitions
@@ -140,7 +140,7 @@ condition_meant t e present vars sound (x, at, is) within =
     let number : option_map (number_in (λ p. p.name) t.ports.event_inputs) x.condition.event ≡ e.event = sym (ap (λ (f : Exit). f.event) is) in
     let same : is_present (transition_at t e.transition).condition.event (option_map (event_at t.ports.event_inputs) present) ≡ is_number_present e.event present =
     ap (λ (y : Transition). is_present y.condition.event (option_map (event_at t.ports.event_inputs) present)) here
-    ∙ present_by_place t.ports.event_inputs present x.condition.event sound.events within
+    ∙ present_by_index t.ports.event_inputs present x.condition.event sound.events within
     ∙ ap (λ (o : Option ℕ). is_number_present o present) number in
     ap (λ (b : Bool). if b then guard_value (transition_at t e.transition).condition.guard vars else Ok false) same
 
@@ -189,16 +189,16 @@ pub record Leads (t : BasicType) (e : Exit) : Type 0 where
 pub target_meant : (t : BasicType) (e : Exit) → IsSound t → IsExit t e → Leads t e
 target_meant t e sound (x, at, is) =
     let s = stands (λ y. y.name) t.states x.to (list_all-at (λ y. among (state_names t) y.to) t.transitions e.transition x sound.targets at) in
-    let target : e.target ≡ s.place = ap (λ (f : Exit). f.target) is ∙ number_is (λ y. y.name) t.states x.to s in
+    let target : e.target ≡ s.index = ap (λ (f : Exit). f.target) is ∙ number_is (λ y. y.name) t.states x.to s in
     record {
-      named = ap (state_at t) target ∙ state_here t s.place s.element s.at ∙ sym (same_from_same_name x.to s.element.name s.named)
+      named = ap (state_at t) target ∙ state_here t s.index s.element s.at ∙ sym (same_from_same_name x.to s.element.name s.named)
           ∙ ap (λ (y : Transition). y.to) (sym (transition_here t e.transition x at));
-      within = subst (λ k. k < length t.states) (sym target) (slice_get_within t.states s.place s.element s.at);
+      within = subst (λ k. k < length t.states) (sym target) (slice_get_within t.states s.index s.element s.at);
     }
 
 -- ---- Trials
 
--- the rest of the exits, from the one at a place on
+-- the rest of the exits, from the one at an index on
 rest_at : (exits : List Exit) (i : ℕ) (e : Exit) → slice_get exits i ≡ Some e → drop i exits ≡ e ∷ drop (i + 1) exits
 rest_at exits i e at = cut_at exits i e (slice_get_within exits i e at) (sym (get_or_from_slice_get exits i e e at))
 

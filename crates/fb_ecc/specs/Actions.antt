@@ -1,8 +1,8 @@
--- Actions by the places of what they name, and how they end (IEC 61499-1, 5.2; that they go by places is this project's profile).
+-- Actions by the indexes of what they name, and how they end (IEC 61499-1, 5.2; that they go by indexes is this project's profile).
 use Rattle.std.specs.Prelude.{◌≡◌, ℕ, List, [], ◌∷◌, option_map, Option, Some, None, Result, Ok, Err, true}
 use Rattle.fb_types.specs.Names.{Name}
 use Rattle.fb_types.specs.Blocks.{event_names}
-use Rattle.fb_types.specs.Charts.{Place, Moving}
+use Rattle.fb_types.specs.Charts.{Position, Moving}
 use Rattle.fb_types.specs.Repeated.{algorithm_names}
 use Rattle.fb_types.specs.declared.library.Action.{Action}
 use Rattle.fb_types.specs.declared.library.BasicType.{BasicType}
@@ -13,7 +13,7 @@ use Rattle.fb_ecc.specs.Numbered.{number_in}
 use Rattle.fb_ecc.specs.Sound.{is_named}
 use Rattle.fb_ecc.specs.declared.chart.Act.{Act}
 
--- The place is that of an algorithm of this name, or none where there is no name.
+-- The index is that of an algorithm of this name, or none where there is no name.
 pub record IsAlgorithm (t : BasicType) (k : Option ℕ) (n : Option Name) : Type 0 where
   pub known : is_named (algorithm_names t) n ≡ true
   pub is : k ≡ option_map (number_in (λ a. a.name) t.algorithms) n
@@ -34,11 +34,11 @@ AreActions t [] (a ∷ as') = ⊥
 AreActions t (x ∷ xs) [] = ⊥
 AreActions t (x ∷ xs) (a ∷ as') = IsAction t x a × AreActions t xs as'
 
--- a place with these variables, steps left
-abbrev pub with_slots : Place → List Slot → (left : ℕ) → Place
+-- a position with these variables and steps left
+abbrev pub with_slots : Position → List Slot → (left : ℕ) → Position
 with_slots p slots left = record p { vars = values_of slots; left = left }
 
 -- How an algorithm ended.
-abbrev pub Stopped : Result (Unit {0}) Reason → Moving → Place → Place → Type 0
+abbrev pub Stopped : Result (Unit {0}) Reason → Moving → Position → Position → Type 0
 Stopped (Ok _) moves p q = moves p None q
 Stopped (Err r) moves p q = moves p (Some r) q

@@ -3,6 +3,6 @@ pub mod Indexed
 pub mod Links
 pub mod Numbered
 pub mod Opened
-pub mod Places
+pub mod Indexes
 pub mod Sound
 pub mod Trials

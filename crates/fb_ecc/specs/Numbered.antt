@@ -1,4 +1,4 @@
--- A chart with places in place of names (IEC 61499-1, 5.2; that names stand for places is this project's profile).
+-- A chart with indexes in place of names (IEC 61499-1, 5.2; that names stand for indexes is this project's profile).
 use Rattle.std.specs.Prelude.{ℕ, suc, List, [], ◌∷◌, map, length, position, option_map, unwrap_or, slice_get, is_some, Some, None, if◌then◌else◌}
 use Rattle.fb_types.specs.Names.{Name, same_name}
 use Rattle.fb_types.specs.Blocks.{variables_with}
@@ -13,25 +13,25 @@ use Rattle.fb_ecc.specs.declared.chart.Act.{Act}
 use Rattle.fb_ecc.specs.declared.chart.ChartState.{ChartState}
 use Rattle.fb_ecc.specs.declared.chart.Chart.{Chart}
 
--- the place of the first that has the name, or the length of the list where none has it
+-- the index of the first that has the name, or the length of the list where none has it
 abbrev pub number_in : {A : Type 0} → (A → Name) → List A → Name → ℕ
 number_in name_of xs n = unwrap_or (position (λ x. same_name n (name_of x)) xs) (length xs)
 
--- the transition at a place
+-- the transition at an index
 abbrev pub exit_of : BasicType → ℕ → Transition → Exit
-exit_of t place x =
+exit_of t index x =
     record {
-      transition = place;
+      transition = index;
       event = option_map (number_in (λ p. p.name) t.ports.event_inputs) x.condition.event;
       is_guarded = is_some x.condition.guard;
       target = number_in (λ s. s.name) t.states x.to;
     }
 
--- the transitions that leave a state, where the first of the list stands at that place
+-- the transitions that leave a state, where the first of the list stands at that index
 abbrev pub exits_from : BasicType → Name → ℕ → List Transition → List Exit
-exits_from t state place [] = []
-exits_from t state place (x ∷ xs) =
-    if same_name x.from state then exit_of t place x ∷ exits_from t state (suc place) xs else exits_from t state (suc place) xs
+exits_from t state index [] = []
+exits_from t state index (x ∷ xs) =
+    if same_name x.from state then exit_of t index x ∷ exits_from t state (suc index) xs else exits_from t state (suc index) xs
 
 abbrev pub act_of : BasicType → Action → Act
 act_of t a =
@@ -43,7 +43,7 @@ act_of t a =
 abbrev pub row_of : BasicType → State → ChartState
 row_of t s = record { exits = exits_from t s.name 0 t.transitions; acts = map (act_of t) s.actions }
 
--- the transitions that leave the state at a place, none where there is no state
+-- the transitions that leave the state at an index, none where there is no state
 abbrev pub exits_at : List ChartState → ℕ → List Exit
 exits_at rows i = elim (slice_get rows i) [ None ↦ [] | Some r ↦ r.exits ]
 

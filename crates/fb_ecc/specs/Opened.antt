@@ -8,7 +8,7 @@ use Rattle.fb_types.specs.declared.library.Library.{Library}
 use Rattle.fb_types.specs.declared.library.Variable.{Variable}
 use Rattle.fb_types.specs.declared.deploy.Plan.{Plan}
 use Rattle.fb_st.specs.declared.frame.Slot.{Slot}
-use Rattle.fb_ecc.specs.Places.{IsBlockOf}
+use Rattle.fb_ecc.specs.Indexes.{IsBlockOf}
 use Rattle.fb_ecc.specs.Sound.{IsSound}
 use Rattle.fb_ecc.specs.declared.state.BasicState.{BasicState}
 

@@ -12,7 +12,7 @@ use Rattle.fb_types.specs.declared.library.Variable.{Variable}
 use Rattle.fb_st.specs.Frames.{Declared}
 use Rattle.fb_st.specs.Known.{AllKnown}
 
--- each name stands first at its own place, so it stands once
+-- each name stands first at its own index, so it stands once
 abbrev pub StandFirst : {A : Type 0} → (A → Name) → List A → Type 0
 StandFirst {A} name_of xs =
     (i : ℕ) (x : A) → slice_get xs i ≡ Some x → position (λ y. same_name (name_of x) (name_of y)) xs ≡ Some i

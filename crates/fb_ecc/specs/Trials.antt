@@ -1,17 +1,17 @@
--- Transitions and events by their places (IEC 61499-1, 5.2; that they are told apart by places is this project's profile).
+-- Transitions and events by their indexes (IEC 61499-1, 5.2; that they are told apart by indexes is this project's profile).
 use Rattle.std.specs.Prelude.{◌≡◌, ℕ, List, [], map, unwrap_or, slice_get, nat_eq, Option, Some, None, Bool, true, false, Result, Ok, Err}
 use Rattle.fb_types.specs.Charts.{Trial, Clears, NoneClears, Fails}
 use Rattle.fb_types.specs.declared.library.BasicType.{BasicType}
 use Rattle.fb_types.specs.declared.library.Transition.{Transition}
 use Rattle.fb_types.specs.declared.value.Reason.{Reason}
 use Rattle.fb_ecc.specs.Numbered.{exit_of}
-use Rattle.fb_ecc.specs.Places.{state_at}
+use Rattle.fb_ecc.specs.Indexes.{state_at}
 use Rattle.fb_ecc.specs.declared.chart.Exit.{Exit}
 
 abbrev pub nowhere : Transition
 nowhere = record { from = []; to = []; condition = record { event = None; guard = None } }
 
--- the transition at a place of the text
+-- the transition at an index of the text
 abbrev pub transition_at : BasicType → ℕ → Transition
 transition_at t k = unwrap_or (slice_get t.transitions k) nowhere
 
@@ -22,7 +22,7 @@ transitions_at t = map (λ e. transition_at t e.transition)
 abbrev pub IsExit : BasicType → Exit → Type 0
 IsExit t e = (x : Transition) × (slice_get t.transitions e.transition ≡ Some x) × (e ≡ exit_of t e.transition x)
 
--- whether the event at a place is the one that is present
+-- whether the event at an index is the one that is present
 abbrev pub is_number_present : Option ℕ → Option ℕ → Bool
 is_number_present None present = true
 is_number_present (Some e) None = false

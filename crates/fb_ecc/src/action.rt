@@ -2,12 +2,12 @@
 
 ghost use Rattle.std.specs.Prelude.{◌≡◌, ◌≤◌, ◌++◌, ◌∷◌, [], All, IfOk, IfSome, OnErr, OnOk, map, ℕ, List, Option, None};
 ghost use Rattle.fb_types.specs.Names.{Name};
-ghost use Rattle.fb_types.specs.Charts.{Acts, Halts, Performs, Place, emitting};
+ghost use Rattle.fb_types.specs.Charts.{Acts, Halts, Performs, Position, emitting};
 ghost use Rattle.fb_types.specs.declared.library.Action.{Action};
 ghost use Rattle.fb_st.specs.Frames.{declared_in, values_of};
 ghost use Rattle.fb_ecc.specs.Actions.{AreActions, IsAction, IsAlgorithm, IsOutput, Stopped, with_slots};
 ghost use Rattle.fb_ecc.specs.Numbered.{names_with_each};
-ghost use Rattle.fb_ecc.specs.Places.{Ended, IsWellFormed, place};
+ghost use Rattle.fb_ecc.specs.Indexes.{Ended, IsWellFormed, index};
 ghost use Rattle.fb_ecc.specs.Sound.{Each, IsSound, declared_by};
 
 use crate::chart::Act;
@@ -45,7 +45,7 @@ fn number_shown(variables: &[Reference], frame: &Frame) -> Option<i64>
 /// The greatest number that an event output has.
 const MOST_OUTPUTS: usize = u32::MAX as usize;
 
-/// Emits the output event at a place with what the variables hold. A place beyond all numbers of outputs
+/// Emits the output event at an index with what the variables hold. An index beyond all numbers of outputs
 /// would be that of one of more outputs than memory holds, so it counts as want of memory.
 #[inline(always)]
 fn emit_with(
@@ -82,7 +82,7 @@ fn emit(
     requires shown { shown.now ≡ names_with_each block.now.ports.event_outputs block.now.ports.outputs }
     requires event { (name : Option Name) × IsOutput block.now event name }
     ensures emitted { (name : Option Name) (state left : ℕ) → IsOutput block.now event name →
-        OnOk result (place block.now state frame.now left emits.new ≡ emitting block.now name (place block.now state frame.now left emits.old)) }
+        OnOk result (index block.now state frame.now left emits.new ≡ emitting block.now name (index block.now state frame.now left emits.old)) }
     ensures well_formed { let IsFit = IsWellFormed block.now in All IsFit emits.old → All IsFit emits.new }
 {
     match event {
@@ -102,7 +102,7 @@ fn run(
     requires sound { IsSound block.now }
     requires declared { declared_in frame.old ≡ declared_by block.now }
     requires algorithm { (name : Option Name) × IsAlgorithm block.now algorithm name }
-    ensures performed { (name : Option Name) (p : Place) → IsAlgorithm block.now algorithm name →
+    ensures performed { (name : Option Name) (p : Position) → IsAlgorithm block.now algorithm name →
         Stopped result (Performs block.now name (Halts None)) (with_slots p frame.old meter.old.left) (with_slots p frame.new meter.new.left) }
     ensures declared { declared_in frame.new ≡ declared_in frame.old }
     ensures fewer { meter.new.left ≤ meter.old.left }
@@ -128,7 +128,7 @@ fn perform(
     requires shown { shown.now ≡ names_with_each block.now.ports.event_outputs block.now.ports.outputs }
     requires act { (a : Action) × IsAction block.now act a }
     ensures performed { (a : Action) (state : ℕ) → IsAction block.now act a →
-        Ended result (Acts block.now (a ∷ []) meter.old.left) (place block.now state frame.old meter.old.left emits.old) (place block.now state frame.new meter.new.left emits.new) }
+        Ended result (Acts block.now (a ∷ []) meter.old.left) (index block.now state frame.old meter.old.left emits.old) (index block.now state frame.new meter.new.left emits.new) }
     ensures declared { declared_in frame.new ≡ declared_in frame.old }
     ensures fewer { meter.new.left ≤ meter.old.left }
     ensures well_formed { let IsFit = IsWellFormed block.now in All IsFit emits.old → All IsFit emits.new }
@@ -154,7 +154,7 @@ pub(crate) fn perform_all(
     requires shown { shown.now ≡ names_with_each block.now.ports.event_outputs block.now.ports.outputs }
     requires acts { (actions : List Action) × AreActions block.now acts.now actions }
     ensures performed { (actions : List Action) (state : ℕ) → AreActions block.now acts.now actions →
-        Ended result (Acts block.now actions meter.old.left) (place block.now state frame.old meter.old.left emits.old) (place block.now state frame.new meter.new.left emits.new) }
+        Ended result (Acts block.now actions meter.old.left) (index block.now state frame.old meter.old.left emits.old) (index block.now state frame.new meter.new.left emits.new) }
     ensures declared { declared_in frame.new ≡ declared_in frame.old }
     ensures fewer { meter.new.left ≤ meter.old.left }
     ensures well_formed { let IsFit = IsWellFormed block.now in All IsFit emits.old → All IsFit emits.new }

@@ -1,4 +1,4 @@
-//! The chart of a basic type, with places in place of names. It is made once for a type, so that no name of
+//! The chart of a basic type, with indexes in place of names. It is made once for a type, so that no name of
 //! a state, an algorithm or an event is compared during a reaction.
 
 ghost use Rattle.std.specs.Prelude.{◌≡◌, ◌++◌, ◌∷◌, [], List, IfOk, OnOk, map};
@@ -7,31 +7,31 @@ ghost use Rattle.fb_types.specs.Names.{Name};
 ghost use Rattle.fb_types.specs.Blocks.{among, event_names, variable_names};
 ghost use Rattle.fb_types.specs.Repeated.{Twice};
 ghost use Rattle.fb_types.specs.declared.library.Variable.{Variable};
-ghost use Rattle.fb_check_names.specs.Places.{IsIndex};
+ghost use Rattle.fb_check_names.specs.Indexes.{IsIndex};
 ghost use Rattle.fb_ecc.specs.Indexed.{AreNumbers, entry_of, picked, row_within};
 ghost use Rattle.fb_ecc.specs.Numbered.{exit_of, act_of, row_of, names_with_each, chart_of};
 ghost use Rattle.fb_ecc.specs.Opened.{IsOfDeclaration};
 
 use crate::numbers::{Numbers, number, optional_number};
-use fb_check_names::{Places, place_of};
+use fb_check_names::{Indexes, index_of};
 use fb_types::{Action, BasicType, EventPort, Items, Name, Reference, Transition};
 use std::alloc::{AllocError, Global};
 use std::collections::BTreeMap;
 
-/// A transition, with the places of what it names.
+/// A transition, with the indexes of what it names.
 #[derive(Clone, Copy)]
 pub struct Exit {
-    /// Its own place among the transitions, where its guard stands.
+    /// Its own index among the transitions, where its guard stands.
     pub transition: usize,
-    /// The place of its event among the event inputs.
+    /// The index of its event among the event inputs.
     pub event: Option<usize>,
     /// Set where it has a guard: else it is not looked for.
     pub is_guarded: bool,
-    /// The place of the state to which it leads.
+    /// The index of the state to which it leads.
     pub target: usize,
 }
 
-/// An action, with the places of its algorithm and of its output event.
+/// An action, with the indexes of its algorithm and of its output event.
 #[derive(Clone, Copy)]
 pub struct Act {
     pub algorithm: Option<usize>,
@@ -56,16 +56,16 @@ pub struct Chart {
 fn numbered_transition(
     block: &BasicType,
     numbers: &Numbers,
-    place: usize,
+    index: usize,
     transition: &Transition,
 ) -> Exit
     requires { AreNumbers block.now numbers.now }
-    ensures { result ≡ exit_of block.now place transition.now }
+    ensures { result ≡ exit_of block.now index transition.now }
 {
     let event = &transition.condition.event;
     let events = block.ports.event_inputs.len();
     Exit {
-        transition: place,
+        transition: index,
         event: optional_number(&numbers.event_inputs, events, event),
         is_guarded: transition.condition.guard.is_some(),
         target: number(&numbers.states, block.states.len(), &transition.to),
@@ -136,34 +136,34 @@ fn rows(
     ensures { IfOk result (λ rows. rows ≡ map (row_of block.now) block.now.states) }
 {
     let mut rows = rows_begun(alloc, block, numbers)?;
-    for (place, transition) in block.transitions.as_slice().iter().enumerate() {
-        if let Some(source) = place_of(&numbers.states, transition.from.as_bytes()) {
-            let exit = numbered_transition(block, numbers, place, transition);
+    for (index, transition) in block.transitions.as_slice().iter().enumerate() {
+        if let Some(source) = index_of(&numbers.states, transition.from.as_bytes()) {
+            let exit = numbered_transition(block, numbers, index, transition);
             add_exit(&mut rows[source], exit)?;
         }
     }
     Ok(Items::from_vec(rows))
 }
 
-/// The names that stand among others, by their places among these. Those that do not are skipped; an accepted type has
+/// The names that stand among others, by their indexes among these. Those that do not are skipped; an accepted type has
 /// none.
 fn found_among<'a>(
     alloc: Global,
     names: &'a [Name],
-    places: &Places,
+    indexes: &Indexes,
 ) -> Result<BTreeMap<usize, &'a Name, Global>, AllocError>
-    ensures { IfOk result (λ found. (all : List Name) → IsIndex all places.now → map entry_of found.entries ≡ picked (among names.now) all 0) }
+    ensures { IfOk result (λ found. (all : List Name) → IsIndex all indexes.now → map entry_of found.entries ≡ picked (among names.now) all 0) }
 {
     let mut found = BTreeMap::new(alloc);
     for name in names {
-        if let Some(place) = place_of(places, name.as_bytes()) {
-            found.insert(place, name)?;
+        if let Some(index) = index_of(indexes, name.as_bytes()) {
+            found.insert(index, name)?;
         }
     }
     Ok(found)
 }
 
-/// Names with their places, in the order of the places.
+/// Names with their indexes, in the order of the indexes.
 fn in_order<'a>(
     alloc: Global,
     found: BTreeMap<usize, &'a Name, Global>,
@@ -174,11 +174,11 @@ fn in_order<'a>(
 }
 
 /// The variables WITH an event, in the order of the declaration. The first of the variables is expected at that
-/// place among all variables of the block. Names of none of them are skipped; an accepted type has none.
+/// index among all variables of the block. Names of none of them are skipped; an accepted type has none.
 fn names_with(
     alloc: Global,
     with: &[Name],
-    variables: &Places,
+    variables: &Indexes,
     first: usize,
 ) -> Result<Items<Reference>, AllocError>
     ensures { IfOk result (λ names. (all : List Name) → IsIndex all variables.now → names ≡ filter (among with.now) all) }
@@ -187,9 +187,9 @@ fn names_with(
     let entries = in_order(alloc, found)?;
     let mut names = Items::new(alloc);
     for entry in entries.as_slice() {
-        let (place, name) = *entry;
+        let (index, name) = *entry;
         let name = Reference::new(name.try_clone(alloc)?);
-        name.expect_at(first.saturating_add(place));
+        name.expect_at(first.saturating_add(index));
         names.push(name)?;
     }
     Ok(names)
@@ -199,7 +199,7 @@ fn names_with(
 fn all_names_with(
     alloc: Global,
     events: &[EventPort],
-    variables: &Places,
+    variables: &Indexes,
     first: usize,
 ) -> Result<Items<Items<Reference>>, AllocError>
     requires { ¬ (Twice (event_names events.now)) }

@@ -1,12 +1,12 @@
 //! The reaction of a basic block to an event.
 
 ghost use Rattle.std.specs.Prelude.{◌≡◌, ◌<◌, ◌≤◌, All, IfSome, OnOk, IfOk, Some, length, option_map, true};
-ghost use Rattle.fb_types.specs.Charts.{Acts, ChartReacts, Place, actions_of};
+ghost use Rattle.fb_types.specs.Charts.{Acts, ChartReacts, Position, actions_of};
 ghost use Rattle.fb_types.specs.Numbers.{event_at, pair_up};
 ghost use Rattle.fb_types.specs.Reactions.{with_values};
 ghost use Rattle.fb_st.specs.Frames.{declared_in, is_declared, values_of};
 ghost use Rattle.fb_ecc.specs.Links.{Linked};
-ghost use Rattle.fb_ecc.specs.Places.{Ended, IsBlockOf, IsWellFormed, place, sampled, state_at};
+ghost use Rattle.fb_ecc.specs.Indexes.{Ended, IsBlockOf, IsWellFormed, index, sampled, state_at};
 ghost use Rattle.fb_ecc.specs.Sound.{Each, IsSound};
 
 use crate::action::perform_all;
@@ -21,8 +21,8 @@ fn sample(variables: &[Reference], values: &[Value], frame: &mut Frame)
     ensures sampled { values_of frame.new ≡ with_values (pair_up variables.now values.now) (values_of frame.old) }
     ensures declared { declared_in frame.new ≡ declared_in frame.old }
 {
-    for (place, variable) in variables.iter().enumerate() {
-        if let Some(value) = values.get(place) {
+    for (index, variable) in variables.iter().enumerate() {
+        if let Some(value) = values.get(index) {
             frame.put(variable, *value);
         }
     }
@@ -41,7 +41,7 @@ fn enter(
     requires block { IsBlockOf block.now state.old }
     requires target { target < length block.now.states }
     ensures performed { let actions = actions_of block.now (state_at block.now target) in
-        Ended result (Acts block.now actions meter.old.left) (place block.now target state.old.frame meter.old.left emits.old) (place block.now state.new.state state.new.frame meter.new.left emits.new) }
+        Ended result (Acts block.now actions meter.old.left) (index block.now target state.old.frame meter.old.left emits.old) (index block.now state.new.state state.new.frame meter.new.left emits.new) }
     ensures block { IsBlockOf block.now state.new }
     ensures fewer { meter.new.left ≤ meter.old.left }
     ensures well_formed { let IsFit = IsWellFormed block.now in All IsFit emits.old → All IsFit emits.new }
@@ -66,7 +66,7 @@ fn link(
     requires block { IsBlockOf block.now state.old }
     requires present { IfSome present (λ event. event < length block.now.ports.event_inputs) }
     ensures linked { let event = option_map (event_at block.now.ports.event_inputs) present in
-        Linked block.now result event (place block.now state.old.state state.old.frame meter.old.left emits.old) (place block.now state.new.state state.new.frame meter.new.left emits.new) }
+        Linked block.now result event (index block.now state.old.state state.old.frame meter.old.left emits.old) (index block.now state.new.state state.new.frame meter.new.left emits.new) }
     ensures block { IsBlockOf block.now state.new }
     ensures fewer { meter.new.left ≤ meter.old.left }
     ensures less { IfOk result (λ went. went ≡ true → meter.new.left < meter.old.left) }
@@ -82,7 +82,7 @@ fn link(
     }
 }
 
-/// The reaction of a basic block to the event input at a place of its event inputs. `values` are the sampled
+/// The reaction of a basic block to the event input at an index of its event inputs. `values` are the sampled
 /// values of the variables WITH the event, in the order of the declaration. The event is present in the first
 /// trial of the transitions only. Each transition that is tried and each action that is performed costs a
 /// step, beside the steps of the statements. What is emitted is put behind the other emissions, by the
@@ -102,9 +102,9 @@ pub fn react(
     requires sound { IsSound block.now }
     requires block { IsBlockOf block.now state.old }
     requires event { event < length block.now.ports.event_inputs }
-    ensures reacted { let start = place block.now state.old.state state.old.frame meter.old.left emits.old in
+    ensures reacted { let start = index block.now state.old.state state.old.frame meter.old.left emits.old in
         let begun = record start { vars = sampled block.now event values.now (values_of state.old.frame) } in
-        Ended result (ChartReacts block.now (event_at block.now.ports.event_inputs event)) begun (place block.now state.new.state state.new.frame meter.new.left emits.new) }
+        Ended result (ChartReacts block.now (event_at block.now.ports.event_inputs event)) begun (index block.now state.new.state state.new.frame meter.new.left emits.new) }
     ensures fewer { meter.new.left ≤ meter.old.left }
 
     // Also where memory runs out.

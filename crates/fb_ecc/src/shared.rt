@@ -71,7 +71,7 @@ impl SharedChart {
         self.chart.shown.as_slice()
     }
 
-    /// The transitions that leave the state at a place, or none where there is no state.
+    /// The transitions that leave the state at an index, or none where there is no state.
     pub(crate) fn leaving(&self, state: usize) -> &[Exit]
         ensures { result.now ≡ exits_at self.now.rows state }
     {

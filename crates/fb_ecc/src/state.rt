@@ -13,7 +13,7 @@ use std::alloc::{AllocError, Global};
 
 /// A basic block: the state in which its chart is, its variables, and the chart of its type.
 pub struct BasicState {
-    /// The place of the state among the states of the type.
+    /// The index of the state among the states of the type.
     pub state: usize,
     /// The input, output and internal variables, in this order.
     pub frame: Frame,

@@ -11,7 +11,7 @@ use crate::chart::Exit;
 use fb_st::{Frame, Meter, holds};
 use fb_types::{BasicType, Reason};
 
-/// Whether the event at this place is the one that is present. No event at all always is.
+/// Whether the event at this index is the one that is present. No event at all always is.
 #[inline(always)]
 fn is_present(event: Option<usize>, present: Option<usize>) -> bool
     ensures { result ≡ is_number_present event present }

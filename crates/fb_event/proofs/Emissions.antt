@@ -20,22 +20,22 @@ use Rattle.fb_event.specs.declared.step.Step.{Step}
 use Rattle.fb_event.specs.declared.state.KindState.{KindState}
 
 -- every event output is WITH all data outputs
-outputs_with-all : (k : EventKind) (place : ℕ) → IsEventOutput k place
-    → outputs_with (ports_of_event_block k) (event_at (ports_of_event_block k).event_outputs place) ≡ variable_names (ports_of_event_block k).outputs
+outputs_with-all : (k : EventKind) (index : ℕ) → IsEventOutput k index
+    → outputs_with (ports_of_event_block k) (event_at (ports_of_event_block k).event_outputs index) ≡ variable_names (ports_of_event_block k).outputs
 outputs_with-all SetReset zero h = refl
-outputs_with-all SetReset (suc place) h = absurd (omega arith)
+outputs_with-all SetReset (suc index) h = absurd (omega arith)
 outputs_with-all DataLatch zero h = refl
-outputs_with-all DataLatch (suc place) h = absurd (omega arith)
+outputs_with-all DataLatch (suc index) h = absurd (omega arith)
 outputs_with-all CountUp zero h = refl
 outputs_with-all CountUp (suc zero) h = refl
-outputs_with-all CountUp (suc (suc place)) h = absurd (omega arith)
-outputs_with-all _ place h = refl
+outputs_with-all CountUp (suc (suc index)) h = absurd (omega arith)
+outputs_with-all _ index h = refl
 
 -- an event output with the values of all data outputs is a well-formed emission
-emission_at-IsWellFormed : (b : KindState) (place : ℕ) → IsEventOutput (state_of b).kind place
-    → IsWellFormed (state_of b).kind (emission_at b place)
-emission_at-IsWellFormed b place h =
-    (h, length-map _ _ ∙ sym (ap length (outputs_with-all (state_of b).kind place h)))
+emission_at-IsWellFormed : (b : KindState) (index : ℕ) → IsEventOutput (state_of b).kind index
+    → IsWellFormed (state_of b).kind (emission_at b index)
+emission_at-IsWellFormed b index h =
+    (h, length-map _ _ ∙ sym (ap length (outputs_with-all (state_of b).kind index h)))
 
 -- values in the order of the names are the values of the names
 pair_up-map : (vars : Values) (ns : List Name) → pair_up ns (map vars ns) ≡ bound ns vars
@@ -43,38 +43,38 @@ pair_up-map vars [] = refl
 pair_up-map vars (n ∷ ns) = rw (pair_up-map vars ns)
 
 -- what an emission by number stands for
-emission_of-emission_at : (b : KindState) (place : ℕ) → IsEventOutput (state_of b).kind place
-    → emission_of (ports_of_event_block (state_of b).kind) (emission_at b place)
+emission_of-emission_at : (b : KindState) (index : ℕ) → IsEventOutput (state_of b).kind index
+    → emission_of (ports_of_event_block (state_of b).kind) (emission_at b index)
     ≡ record {
-      event = event_at (ports_of_event_block (state_of b).kind).event_outputs place;
-      values = bound (outputs_with (ports_of_event_block (state_of b).kind) (event_at (ports_of_event_block (state_of b).kind).event_outputs place)) (output_of (state_of b).memory);
+      event = event_at (ports_of_event_block (state_of b).kind).event_outputs index;
+      values = bound (outputs_with (ports_of_event_block (state_of b).kind) (event_at (ports_of_event_block (state_of b).kind).event_outputs index)) (output_of (state_of b).memory);
     }
-emission_of-emission_at b place h = rw (outputs_with-all (state_of b).kind place h) (rw (pair_up-map (output_of (state_of b).memory) _))
+emission_of-emission_at b index h = rw (outputs_with-all (state_of b).kind index h) (rw (pair_up-map (output_of (state_of b).memory) _))
 
 -- what emissions by number stand for, by the state of the block
-meanings-emission_at : (b : KindState) (places : List ℕ) → All (IsEventOutput (state_of b).kind) places
-    → meanings (state_of b).kind (map (emission_at b) places)
+meanings-emission_at : (b : KindState) (indexes : List ℕ) → All (IsEventOutput (state_of b).kind) indexes
+    → meanings (state_of b).kind (map (emission_at b) indexes)
     ≡ emissions (ports_of_event_block (state_of b).kind) (output_of (state_of b).memory)
-    (map (event_at (ports_of_event_block (state_of b).kind).event_outputs) places)
+    (map (event_at (ports_of_event_block (state_of b).kind).event_outputs) indexes)
 meanings-emission_at b [] h = refl
-meanings-emission_at b (place ∷ places) h =
-    let here : IsEventOutput (state_of b).kind place = All-head (IsEventOutput (state_of b).kind) place places h in
-    let rest : All (IsEventOutput (state_of b).kind) places = All-tail (IsEventOutput (state_of b).kind) place places h in
-    rw (emission_of-emission_at b place here) (rw (meanings-emission_at b places rest))
+meanings-emission_at b (index ∷ indexes) h =
+    let here : IsEventOutput (state_of b).kind index = All-head (IsEventOutput (state_of b).kind) index indexes h in
+    let rest : All (IsEventOutput (state_of b).kind) indexes = All-tail (IsEventOutput (state_of b).kind) index indexes h in
+    rw (emission_of-emission_at b index here) (rw (meanings-emission_at b indexes rest))
 
 -- .. and so for a block in a known state
-meanings-state : (b : KindState) (s : State) → state_of b ≡ s → (places : List ℕ) → All (IsEventOutput s.kind) places
-    → meanings s.kind (map (emission_at b) places)
-    ≡ emissions (ports_of_event_block s.kind) (output_of s.memory) (map (event_at (ports_of_event_block s.kind).event_outputs) places)
-meanings-state b s e places =
-    subst (λ (t : State). All (IsEventOutput t.kind) places → meanings t.kind (map (emission_at b) places)
-    ≡ emissions (ports_of_event_block t.kind) (output_of t.memory) (map (event_at (ports_of_event_block t.kind).event_outputs) places))
-    e (meanings-emission_at b places)
+meanings-state : (b : KindState) (s : State) → state_of b ≡ s → (indexes : List ℕ) → All (IsEventOutput s.kind) indexes
+    → meanings s.kind (map (emission_at b) indexes)
+    ≡ emissions (ports_of_event_block s.kind) (output_of s.memory) (map (event_at (ports_of_event_block s.kind).event_outputs) indexes)
+meanings-state b s e indexes =
+    subst (λ (t : State). All (IsEventOutput t.kind) indexes → meanings t.kind (map (emission_at b) indexes)
+    ≡ emissions (ports_of_event_block t.kind) (output_of t.memory) (map (event_at (ports_of_event_block t.kind).event_outputs) indexes))
+    e (meanings-emission_at b indexes)
 
 -- a well-formed list stays so where an event output is emitted
-pub push-IsWellFormed : (b : KindState) (emits : List run.Emission) (place : ℕ) → All (IsWellFormed (state_of b).kind) emits
-    → IsEventOutput (state_of b).kind place → All (IsWellFormed (state_of b).kind) (emits ++ emission_at b place ∷ [])
-push-IsWellFormed b emits place all here = All-push (IsWellFormed (state_of b).kind) _ _ all (emission_at-IsWellFormed b place here)
+pub push-IsWellFormed : (b : KindState) (emits : List run.Emission) (index : ℕ) → All (IsWellFormed (state_of b).kind) emits
+    → IsEventOutput (state_of b).kind index → All (IsWellFormed (state_of b).kind) (emits ++ emission_at b index ∷ [])
+push-IsWellFormed b emits index all here = All-push (IsWellFormed (state_of b).kind) _ _ all (emission_at-IsWellFormed b index here)
 
 -- what a step emits is what its reaction emits
 pub emissions-Performs : (s : State) (r : Reaction) (b : KindState) (step : Step) (old new : List run.Emission) → Performs s r b step
@@ -93,11 +93,11 @@ pub silent-Performs : (s : State) (r : Reaction) (b : KindState) (step : Step) �
 silent-Performs s r b step h e = map-nil _ step.emits.now (h.emits ∙ e)
 
 -- event outputs with the values of all data outputs are well-formed emissions
-all-IsWellFormed : (b : KindState) (s : State) → state_of b ≡ s → (places : List ℕ) → All (IsEventOutput s.kind) places → All (IsWellFormed s.kind) (map (emission_at b) places)
-all-IsWellFormed b s e places within =
-    subst (λ (t : State). All (IsEventOutput t.kind) places → All (IsWellFormed t.kind) (map (emission_at b) places)) e
-    (λ here. All-map (IsWellFormed (state_of b).kind) (emission_at b) places
-    (All-weaker (IsEventOutput (state_of b).kind) (λ place. IsWellFormed (state_of b).kind (emission_at b place)) (emission_at-IsWellFormed b) places here)) within
+all-IsWellFormed : (b : KindState) (s : State) → state_of b ≡ s → (indexes : List ℕ) → All (IsEventOutput s.kind) indexes → All (IsWellFormed s.kind) (map (emission_at b) indexes)
+all-IsWellFormed b s e indexes within =
+    subst (λ (t : State). All (IsEventOutput t.kind) indexes → All (IsWellFormed t.kind) (map (emission_at b) indexes)) e
+    (λ here. All-map (IsWellFormed (state_of b).kind) (emission_at b) indexes
+    (All-weaker (IsEventOutput (state_of b).kind) (λ index. IsWellFormed (state_of b).kind (emission_at b index)) (emission_at-IsWellFormed b) indexes here)) within
 
 -- what a step emits is what its reaction emits
 emitted-Performs : (s : State) (r : Reaction) (b : KindState) (step : Step) → Performs s r b step → meanings s.kind (emitted_by b step) ≡ emissions_of s.kind r

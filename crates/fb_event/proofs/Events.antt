@@ -1,4 +1,4 @@
--- Which place the event has whose name a reaction asks for.
+-- Which index the event has whose name a reaction asks for.
 use Rattle.std.proofs.Common.{◌≡◌, ℕ, zero, suc, nat_eq, refl, sym, arith}
 use Rattle.std.proofs.lemmas.Bool.{ne_eqb}
 use Rattle.std.specs.Prelude.{codes}
@@ -45,4 +45,4 @@ count-reset zero = refl
 count-reset (suc zero) = refl
 count-reset (suc (suc event)) = sym (ne_eqb _ _ (λ e. absurd (omega arith)))
 
-pub ruleset places_of_events = (rendezvous-first, rendezvous-second, rendezvous-reset, select-low, timer-start, latch-set, count-reset)
+pub ruleset indexes_of_events = (rendezvous-first, rendezvous-second, rendezvous-reset, select-low, timer-start, latch-set, count-reset)

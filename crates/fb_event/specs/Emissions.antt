@@ -12,9 +12,9 @@ use Rattle.fb_event.specs.declared.step.Step.{Step}
 abbrev pub values_of : KindState → List Value
 values_of b = let s = state_of b in map (output_of s.memory) (variable_names (ports_of_event_block s.kind).outputs)
 
--- the event output at a place, with the values of all data outputs
+-- the event output at an index, with the values of all data outputs
 abbrev pub emission_at : KindState → ℕ → Emission
-emission_at b place = record { event = place; values = values_of b }
+emission_at b index = record { event = index; values = values_of b }
 
 -- what a block emits by a step, event after event
 abbrev pub emitted_by : KindState → Step → List Emission

@@ -1,10 +1,10 @@
--- Reactions in the terms of the program's calls, where events are places in the lists of the ports (this project's profile, in the manner of IEC 61499-1, Annex A).
+-- Reactions in the terms of the program's calls, where events are indexes in the lists of the ports (this project's profile, in the manner of IEC 61499-1, Annex A).
 use Rattle.std.specs.Prelude.{ℕ, List, [], ◌∷◌, ◌++◌, map, length, All, ◌≡◌, ◌<◌, IsTrue}
 use Rattle.fb_types.specs.Values.{fits}
 use Rattle.fb_types.specs.Blocks.{ports_of_event_block, variable_names, outputs_with, Emission}
 use Rattle.fb_types.specs.EventBlocks.{Reaction, reaction, expiry, output_of}
 use Rattle.fb_types.specs.Flat.{zero_value}
-use Rattle.fb_types.specs.Numbers.{event_at, by_place, emission_of}
+use Rattle.fb_types.specs.Numbers.{event_at, by_index, emission_of}
 use Rattle.fb_types.specs.Reactions.{emissions}
 use Rattle.fb_types.specs.declared.event_kind.EventKind.{EventKind}
 use Rattle.fb_types.specs.declared.library.Variable.{Variable}
@@ -12,7 +12,7 @@ use Rattle.fb_types.specs.declared.run.Emission as run
 use Rattle.fb_types.specs.declared.value.Value.{Value}
 use Rattle.fb_event.specs.State.{State}
 
--- The values fit the types of the variables at their places.
+-- The values fit the types of the variables at their indexes.
 abbrev pub FitTheirTypes : List Variable → List Value → Type 0
 FitTheirTypes (x ∷ xs) (v ∷ vs) = IsTrue (fits x.ty v) × FitTheirTypes xs vs
 FitTheirTypes _ _ = Unit {0}
@@ -22,11 +22,11 @@ abbrev pub first_value : List Value → Value
 first_value [] = zero_value
 first_value (v ∷ vs) = v
 
--- the reaction to the event input at a place, with the values of all data inputs in the order of the declaration
+-- the reaction to the event input at an index, with the values of all data inputs in the order of the declaration
 abbrev pub reaction_to : State → (event tick : ℕ) → List Value → Reaction
 reaction_to s event tick inputs =
     let p = ports_of_event_block s.kind in
-    reaction s.kind s.memory (event_at p.event_inputs event) tick (by_place (variable_names p.inputs) inputs)
+    reaction s.kind s.memory (event_at p.event_inputs event) tick (by_index (variable_names p.inputs) inputs)
 
 -- the reaction to the timer
 abbrev pub expiry_of : State → (tick : ℕ) → Reaction
@@ -40,9 +40,9 @@ emissions_of k r = emissions (ports_of_event_block k) (output_of r.memory) r.emi
 abbrev pub meanings : EventKind → List run.Emission → List Emission
 meanings k es = map (emission_of (ports_of_event_block k)) es
 
--- The place is one of an event output.
+-- The index is one of an event output.
 abbrev pub IsEventOutput : EventKind → ℕ → Type 0
-IsEventOutput k place = place < length (ports_of_event_block k).event_outputs
+IsEventOutput k index = index < length (ports_of_event_block k).event_outputs
 
 -- The emission is one of an event output, with as many values as there are variables WITH it.
 abbrev pub IsWellFormed : EventKind → run.Emission → Type 0

@@ -21,7 +21,7 @@ pub record Performs (s : State) (r : Reaction) (after : KindState) (step : Step)
   pub within : All (IsEventOutput s.kind) step.emits.now
   pub ask : step.ask ≡ r.timer
 
--- the reaction to the event input at a place, where every data input has this value
+-- the reaction to the event input at an index, where every data input has this value
 abbrev pub reaction_with : State → (event tick : ℕ) → Value → Reaction
 reaction_with s event tick input =
     reaction s.kind s.memory (event_at (ports_of_event_block s.kind).event_inputs event) tick (λ n. input)
@@ -33,7 +33,7 @@ pub record IsTimerAfter (r : Reaction) (after : Timer) (asked : TimerAsk) : Type
   pub emits : r.emits ≡ []
   pub ask : asked ≡ r.timer
 
--- the reaction of E_DELAY or E_CYCLE to the event input at a place, with this DT
+-- the reaction of E_DELAY or E_CYCLE to the event input at an index, with this DT
 abbrev pub timed_with : Timer → (event tick : ℕ) → Value → Reaction
 timed_with timer event tick dt =
     timed (memory_of_timer timer) (event_at (ports_of_event_block Delay).event_inputs event) tick (λ n. dt)

@@ -9,7 +9,7 @@ use crate::state::KindState;
 use fb_types::{Emission, Emits, Value, Values};
 use std::alloc::{AllocError, Global};
 
-/// Emits the events at these places in order, each with the values of all data outputs: of the fourteen
+/// Emits the events at these indexes in order, each with the values of all data outputs: of the fourteen
 /// blocks, those that have data outputs emit no event without them.
 #[inline(always)]
 pub(crate) fn emit_all(

@@ -11,7 +11,7 @@ use crate::state::EventState;
 use crate::step::{expiry, reaction};
 use fb_types::{Emits, Halt, TimerAsk, Value};
 
-/// The reaction of an event block to the event input at a place of its event inputs, in a tick that is at most
+/// The reaction of an event block to the event input at an index of its event inputs, in a tick that is at most
 /// 10^12. `inputs` are the values of all its data inputs, in the order of the declaration, as they are
 /// after the sampling. What it emits is put behind the other emissions, which stay as they are, by the allocator that
 /// they keep.

@@ -10,7 +10,7 @@ ghost use Rattle.fb_event.specs.Step.{IsTimerAfter, Performs, reaction_with, tim
 use crate::state::{KindState, Timer};
 use fb_types::{TimerAsk, Value};
 
-// Places of event inputs.
+// Indexes of event inputs.
 const EI0_OF_SELECT: u32 = 0;
 
 const EI1_OF_RENDEZVOUS: u32 = 0;
@@ -29,7 +29,7 @@ const R_OF_COUNT_UP: u32 = 1;
 /// timer.
 #[derive(Clone, Copy)]
 pub(crate) struct Step {
-    /// The places of the event outputs that are emitted, in order. The same values go with each.
+    /// The indexes of the event outputs that are emitted, in order. The same values go with each.
     pub emits: &'static [u32],
     /// What is asked of the timer.
     pub ask: TimerAsk,
@@ -44,7 +44,7 @@ impl Step {
         Step::emitting(&[])
     }
 
-    /// The event outputs at these places are emitted, in order. The timer stays as it is.
+    /// The event outputs at these indexes are emitted, in order. The timer stays as it is.
     fn emitting(emits: &'static [u32]) -> Step
         ensures emits { result.emits.now ≡ emits.now }
         ensures ask { result.ask ≡ TimerAsk.Keep }
@@ -68,9 +68,9 @@ impl Step {
     }
 }
 
-/// The reaction to the event input at a place, with the value of the data input, if the block has one. The block is
+/// The reaction to the event input at an index, with the value of the data input, if the block has one. The block is
 /// changed where it remembers something else then.
-#[tactic(auto, using(crate::proofs::Events::places_of_events))]
+#[tactic(auto, using(crate::proofs::Events::indexes_of_events))]
 #[inline(always)]
 pub(crate) fn reaction(block: &mut KindState, event: u32, tick: u64, input: Value) -> Step
     requires early { tick ≤ 10 ^ 12 }

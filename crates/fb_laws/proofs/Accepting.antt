@@ -27,22 +27,22 @@ use Rattle.fb_types.proofs.NameLaws.{same_from_same_name, same_name-itself}
 use Rattle.fb_types.proofs.PathLaws.{same_port_is}
 use Rattle.fb_laws.specs.Sound.{AreGood, IsLink, IsLinked, IsSound}
 use Rattle.fb_types.proofs.Lookups.{option_cases, none_some}
-use Rattle.fb_types.proofs.ByPlace.{element_of_place}
+use Rattle.fb_types.proofs.ByIndex.{element_of_index}
 use Rattle.fb_types.proofs.EachLaws.{each_append}
 
 -- ---- Indices in lists
 
 each_contained : {X : Type 0} (P : X → Type 0) (xs : List X) → ((x : X) → Contains xs x → P x) → Each P xs
 each_contained P [] h = tt
-each_contained P (x ∷ xs) h = (h x (element_of_place (x ∷ xs) 0 x refl), each_contained P xs (λ y c. h y (Contains-append_right (x ∷ []) xs y c)))
+each_contained P (x ∷ xs) h = (h x (element_of_index (x ∷ xs) 0 x refl), each_contained P xs (λ y c. h y (Contains-append_right (x ∷ []) xs y c)))
 
-place_below : {X : Type 0} (p : X → Bool) (xs : List X) → 1 ≤ length xs → unwrap_or (position p xs) 0 < length xs
-place_below p xs h =
+index_below : {X : Type 0} (p : X → Bool) (xs : List X) → 1 ≤ length xs → unwrap_or (position p xs) 0 < length xs
+index_below p xs h =
     ⊎_elim (λ b. rw (lt-ltb (position_or_len p xs) (length xs) b) b) (λ b. rw (le-ltb (position_or_len p xs) (length xs) b) (omega arith))
     (cases_lt (position_or_len p xs) (length xs))
 
-place_is : {X : Type 0} (p : X → Bool) (xs : List X) (i : ℕ) → position_or_len p xs ≡ i → i < length xs → unwrap_or (position p xs) 0 ≡ i
-place_is p xs i e b = rw (e, lt-ltb i (length xs) b) refl
+index_is : {X : Type 0} (p : X → Bool) (xs : List X) (i : ℕ) → position_or_len p xs ≡ i → i < length xs → unwrap_or (position p xs) 0 ≡ i
+index_is p xs i e b = rw (e, lt-ltb i (length xs) b) refl
 
 placed : {X : Type 0} (p : X → Bool) (xs : List X) (i : ℕ) → position p xs ≡ Some i → (x : X) × (slice_get xs i ≡ Some x) × (p x ≡ true)
 placed p [] i e = absurd (none_some None i refl e)
@@ -57,16 +57,16 @@ twice_at (y ∷ ys) i zero x b e f = absurd (omega arith)
 twice_at (y ∷ ys) zero (suc j) x b e f =
     let g : Some y ≡ Some x = e in
     let h : y ≡ x = cc in
-    inl (subst (λ z. Contains ys z) (sym h) (element_of_place ys j x f))
+    inl (subst (λ z. Contains ys z) (sym h) (element_of_index ys j x f))
 twice_at (y ∷ ys) (suc i) (suc j) x b e f = inr (twice_at ys i j x (omega arith) e f)
 
 -- a name that occurs once is found at its index
-name_place : (names : List Name) → (Twice names → ⊥) → (r : ℕ) → r < length names → unwrap_or (position (same_name (unwrap_or (slice_get names r) [])) names) 0 ≡ r
-name_place names once r b =
+name_index : (names : List Name) → (Twice names → ⊥) → (r : ℕ) → r < length names → unwrap_or (position (same_name (unwrap_or (slice_get names r) [])) names) 0 ≡ r
+name_index names once r b =
     let n = unwrap_or (slice_get names r) [] in
     let here : n ≡ slice_index_or names r [] = unwrap_or-slice_get names r [] in
     let at_r : slice_get names r ≡ Some n = slice_get-get_or names r [] b ∙ ap Some (sym here) in
-    place_is (same_name n) names r
+    index_is (same_name n) names r
     (position_or_len_is (same_name n) names r [] (omega arith)
     (λ k c. ⊎_elim
     (λ t. let e : n ≡ slice_index_or names k [] = same_from_same_name n (slice_index_or names k []) t in
@@ -108,7 +108,7 @@ module _ (plan : Plan) (some : 1 ≤ length plan.resources) where
   holder_below : (n : Name) → holder plan n < length (resource_names_of plan)
   holder_below n =
       let e = length-map plan.resources (λ r. r.name) in
-      go plan.holds_all (let b = place_below (λ r. among r.instances n) plan.resources some in omega arith)
+      go plan.holds_all (let b = index_below (λ r. among r.instances n) plan.resources some in omega arith)
     where
       go : (b : Bool) → unwrap_or (position (λ r. among r.instances n) plan.resources) 0 < length (resource_names_of plan)
           → (cond b 0 (unwrap_or (position (λ r. among r.instances n) plan.resources) 0)) < length (resource_names_of plan)
@@ -124,7 +124,7 @@ module _ (plan : Plan) (some : 1 ≤ length plan.resources) where
   end_below side l =
       ⊎_elim
       (λ (n : slice_get plan.links l ≡ None). rw (end_of, n) (let s = names_some in omega arith))
-      (λ (x : (y : Link) × (slice_get plan.links l ≡ Some y)). rw (end_of, x.1) (place_below (same_name (side x.0)) (resource_names_of plan) names_some))
+      (λ (x : (y : Link) × (slice_get plan.links l ≡ Some y)). rw (end_of, x.1) (index_below (same_name (side x.0)) (resource_names_of plan) names_some))
       (option_cases (slice_get plan.links l))
 
 -- ---- Links
@@ -140,8 +140,8 @@ module _ (lib : Library) (plan : Plan) (some : 1 ≤ length plan.resources) (onc
       let link : unwrap_or (link_between plan r s) 0 ≡ l = ap (λ o. unwrap_or o 0) e in
       record {
         there = rw link (slice_get_within plan.links l x.0 x.1);
-        sender = rw (link, end_of, x.1, from) (name_place (resource_names_of plan) once r b);
-        receiver = rw (link, end_of, x.1, to) (name_place (resource_names_of plan) once s c);
+        sender = rw (link, end_of, x.1, from) (name_index (resource_names_of plan) once r b);
+        receiver = rw (link, end_of, x.1, to) (name_index (resource_names_of plan) once s c);
       }
 
   abbrev IsWired : Port × Port → Type 0
@@ -192,7 +192,7 @@ module _ (lib : Library) (plan : Plan) (some : 1 ≤ length plan.resources) (onc
 -- ---- Acceptance
 
 last_contained : {X : Type 0} (xs : List X) (x : X) → Contains (xs ++ x ∷ []) x
-last_contained xs x = Contains-append_right xs (x ∷ []) x (element_of_place (x ∷ []) 0 x refl)
+last_contained xs x = Contains-append_right xs (x ∷ []) x (element_of_index (x ∷ []) 0 x refl)
 
 names_spaced : (lib : Library) (plan : Plan) → Contains (name_spaces lib plan) (resource_names_of plan)
 names_spaced lib plan =
@@ -215,7 +215,7 @@ sound_of i good =
           ⊎_elim
           (λ (n : slice_get i.plan.links l ≡ None). let e : latency_of i.plan l sent ≡ 1 = rw (latency_of, n) refl in omega arith)
           (λ (x : (y : Link) × (slice_get i.plan.links l ≡ Some y)). let e : latency_of i.plan l sent ≡ latency_at x.0.latency sent = rw (latency_of, x.1) refl in
-          let p = latency_positive x.0.latency (good.limits.latencies x.0 (element_of_place i.plan.links l x.0 x.1)) sent in omega arith)
+          let p = latency_positive x.0.latency (good.limits.latencies x.0 (element_of_index i.plan.links l x.0 x.1)) sent in omega arith)
           (option_cases (slice_get i.plan.links l));
       linked = λ p. targets_linked i.library i.plan some (no_twice i good) (no_link i good) p;
       counted = λ p. resource_below i.plan some p;

@@ -4,7 +4,7 @@ use Rattle.std.specs.Prelude.{if◌then◌else◌, codes, nat_lt}
 use Rattle.fb_types.specs.Names.{Name, Path, Port, same_path}
 use Rattle.fb_types.specs.Values.{Values, truth}
 use Rattle.fb_types.specs.Blocks.{Kind, Basic, Event, Composite, Emission, ports_of, is_event_input, bound, outputs_with}
-use Rattle.fb_types.specs.Charts.{Place}
+use Rattle.fb_types.specs.Charts.{Position}
 use Rattle.fb_types.specs.EventBlocks as blocks
 use Rattle.fb_types.specs.EventBlocks.{Memory, Idle, Marks, Flag, Running, Count, Reaction, stays, emits, emits_if, reaction, expiry, started, timed, counted, rendezvous, met, again, is, ticks, differ, flag}
 use Rattle.fb_types.specs.Systems.{System}
@@ -155,7 +155,7 @@ module _ (sys : System) (k : Key) where
   emitted_all_long p [] o h = h
   emitted_all_long p (e ∷ es) o h = emitted_all_long p es (emitted sys k p e o) (emitted_long p e o h)
 
-  settled_long : (p : Path) (c : Place) (stop : Option Reason) (o : Outcome) → IsLongOutcome k.tick o → IsLongOutcome k.tick (settled p c stop o)
+  settled_long : (p : Path) (c : Position) (stop : Option Reason) (o : Outcome) → IsLongOutcome k.tick o → IsLongOutcome k.tick (settled p c stop o)
   settled_long p c stop o h = record { world = block_long p _ o.world tt h.world; ahead = h.ahead }
 
   answered_long : (p : Path) (kind : EventKind) (x : Reaction) (o : Outcome) → IsSteady k.tick x → IsLongOutcome k.tick o → IsLongOutcome k.tick (answered sys k p kind x o)

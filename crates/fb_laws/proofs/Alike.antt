@@ -4,7 +4,7 @@ use Rattle.std.specs.Prelude.{if◌then◌else◌, ◌==◌}
 use Rattle.std.proofs.lemmas.Bool.{eqb-true}
 use Rattle.fb_types.specs.Names.{Name, Path, same_path, same_port, Port}
 use Rattle.fb_types.specs.Blocks.{Kind, Basic, Event, Composite, ports_of, is_event_input, inputs_with, outputs_with, bound, Bound, Emission, among}
-use Rattle.fb_types.specs.Charts.{Place, ChartReacts}
+use Rattle.fb_types.specs.Charts.{Position, ChartReacts}
 use Rattle.fb_types.specs.EventBlocks as blocks
 use Rattle.fb_types.specs.Systems.{System}
 use Rattle.fb_types.specs.States.{Block, InState, Remembers, Event as AnEvent, Stimulated, Expired, Arrived, Raised, path_of}
@@ -99,7 +99,7 @@ module _ (sys : System) (k : Key) where
         stop = refl;
       }
 
-  settled_same : (p : Path) (c : Place) (stop : Option Reason) (o x : Outcome) → sys.resource p ≡ k.resource → SameOutcome sys k.resource o x
+  settled_same : (p : Path) (c : Position) (stop : Option Reason) (o x : Outcome) → sys.resource p ≡ k.resource → SameOutcome sys k.resource o x
       → SameOutcome sys k.resource (settled p c stop o) (settled p c stop x)
   settled_same p c stop o x home h =
       let b = h.world.blocks p home in

@@ -5,7 +5,7 @@ use Rattle.fb_types.specs.Names.{Name}
 use Rattle.fb_types.specs.Values.{Values}
 use Rattle.fb_types.specs.Bodies.{End, Went, Left, Returned, Stopped, RunsBody}
 use Rattle.fb_types.specs.Blocks.{types_of, outputs_with, bound, Emission}
-use Rattle.fb_types.specs.Charts.{Place, Moving, Halts, Performs, AfterBody, Acts, OrHalts, Trial, Clears, NoneClears, Fails, Rests, Enters, Links, ChartReacts, trial_at, actions_of, algorithm_of, at_point, emitting}
+use Rattle.fb_types.specs.Charts.{Position, Moving, Halts, Performs, AfterBody, Acts, OrHalts, Trial, Clears, NoneClears, Fails, Rests, Enters, Links, ChartReacts, trial_at, actions_of, algorithm_of, at_point, emitting}
 use Rattle.fb_types.specs.declared.library.Action.{Action}
 use Rattle.fb_types.specs.declared.library.BasicType.{BasicType}
 use Rattle.fb_types.specs.declared.value.Reason.{Reason}
@@ -13,18 +13,18 @@ use Rattle.fb_types.specs.declared.value.Reason.TheVariants.{Steps}
 use Rattle.fb_laws.proofs.Bodies.{Keeps}
 
 -- a position with such values, where all that was emitted is good
-pub record IsGoodPlace (Good : Values → Type 0) (Told : Emission → Type 0) (p : Place) : Type 0 where
+pub record IsGoodIndex (Good : Values → Type 0) (Told : Emission → Type 0) (p : Position) : Type 0 where
   pub vars : Good p.vars
   pub emitted : All Told p.emitted
 
 module _ (b : BasicType) (Good : Values → Type 0) (Told : Emission → Type 0)
     (bodies : (a : Name) → Keeps Good (RunsBody (types_of b) (algorithm_of b a)))
     (told : (e : Name) (vars : Values) → Good vars → Told (record { event = e; values = bound (outputs_with b.ports e) vars })) where
-  abbrev Fine : Place → Type 0
-  Fine = IsGoodPlace Good Told
+  abbrev Fine : Position → Type 0
+  Fine = IsGoodIndex Good Told
 
   abbrev Stays : Moving → Type 0
-  Stays R = (p : Place) (s : Option Reason) (q : Place) → R p s q → Fine p → Fine q
+  Stays R = (p : Position) (s : Option Reason) (q : Position) → R p s q → Fine p → Fine q
 
   halts-stay : (how : Option Reason) → Stays (Halts how)
   halts-stay how p s q h fine = subst Fine (sym h.1) fine
@@ -41,7 +41,7 @@ module _ (b : BasicType) (Good : Values → Type 0) (Told : Emission → Type 0)
       after_body-stays h.0 R k (at_point p h.1) s q h.3
       (record { vars = bodies a (record { vars = p.vars; left = p.left }) h.0 h.1 h.2 fine.vars; emitted = fine.emitted })
 
-  emitting-stays : (o : Option Name) (p : Place) → Fine p → Fine (emitting b o p)
+  emitting-stays : (o : Option Name) (p : Position) → Fine p → Fine (emitting b o p)
   emitting-stays None p fine = fine
   emitting-stays (Some e) p fine = record {
     vars = fine.vars;

@@ -4,7 +4,7 @@ use Rattle.std.specs.Prelude.{if◌then◌else◌, ◌==◌}
 use Rattle.std.proofs.lemmas.Bool.{cases_lt, cases_eq, cond-true, cond-false, lt-ltb, le-ltb}
 use Rattle.fb_types.specs.declared.key.Key.{Key}
 use Rattle.fb_types.specs.Keys.{Precedes, or_else, found}
-use Rattle.fb_laws.specs.Worlds.{PlaceBefore, PlaceUpTo}
+use Rattle.fb_laws.specs.Worlds.{IndexBefore, IndexUpTo}
 use Rattle.fb_types.specs.Machines.{Machine, Item, Each, sent_by}
 use Rattle.fb_laws.specs.Facts.{IsLawful}
 use Rattle.fb_laws.specs.Worlds.{World, TakesLeast, next, Simulates, last, Simulation, IsOpening, view, reach, StopsAt}
@@ -17,16 +17,16 @@ use Rattle.fb_laws.proofs.Global.{with_at_same, with_at_other, at_mine, at_other
 
 module _ (M : Machine) where
   abbrev NoneBefore : Key → World M → Type 0
-  NoneBefore k w = (z : Key) → PlaceBefore z k → w.agenda z ≡ None
+  NoneBefore k w = (z : Key) → IndexBefore z k → w.agenda z ≡ None
 
-  up_to_tick : (x y : Key) → PlaceUpTo x y → x.tick ≤ y.tick
+  up_to_tick : (x y : Key) → IndexUpTo x y → x.tick ≤ y.tick
   up_to_tick x y h = ⊎_elim (λ e. omega arith) (λ e. let f = e.0 in omega arith) h
 
-  place_before : (x y : Key) → PlaceBefore x y → Precedes x y
-  place_before x y h = ⊎_elim (λ e. tick_before x y e) (λ e. resource_before x y e.0 e.1) h
+  index_before : (x y : Key) → IndexBefore x y → Precedes x y
+  index_before x y h = ⊎_elim (λ e. tick_before x y e) (λ e. resource_before x y e.0 e.1) h
 
-  place_trans : (x y z : Key) → PlaceBefore x y → PlaceUpTo y z → PlaceBefore x z
-  place_trans x y z h g =
+  index_trans : (x y z : Key) → IndexBefore x y → IndexUpTo y z → IndexBefore x z
+  index_trans x y z h g =
       ⊎_elim
       (λ a. ⊎_elim (λ b. inl (omega arith)) (λ b. let c = b.0 in inl (omega arith)) g)
       (λ a. let d = a.0 in let e = a.1 in ⊎_elim (λ b. inl (omega arith)) (λ b. let c = b.0 in let f = b.1 in inr (omega arith, omega arith)) g)
@@ -40,9 +40,9 @@ module _ (M : Machine) where
       (edit_none _ _
       (λ v q. let a : i.key.tick ≤ z.tick = f.edits_later z v q in let e : z.resource ≡ i.key.resource = f.edits_own z (Some v) q in
       ⊎_elim (λ b. omega arith) (λ b. let c = b.1 in omega arith) h)
-      (without_none i.key w.agenda z (x.least z (place_before z i.key h))))
+      (without_none i.key w.agenda z (x.least z (index_before z i.key h))))
 
-  least_above : (k : Key) (w : World M) (i : Item M) → TakesLeast M w i → NoneBefore k w → PlaceUpTo k i.key
+  least_above : (k : Key) (w : World M) (i : Item M) → TakesLeast M w i → NoneBefore k w → IndexUpTo k i.key
   least_above k w i x h =
       ⊎_elim
       (λ a. inl a)
@@ -53,24 +53,24 @@ module _ (M : Machine) where
       (cases_lt k.tick i.key.tick)
 
   -- the ticks and resources of the takings rise
-  pub sim_above : IsLawful M → (k : Key) (is : List (Item M)) (w : World M) → NoneBefore k w → Simulates M w is → Each (λ (i : Item M). PlaceUpTo k i.key) is
+  pub sim_above : IsLawful M → (k : Key) (is : List (Item M)) (w : World M) → NoneBefore k w → Simulates M w is → Each (λ (i : Item M). IndexUpTo k i.key) is
   sim_above law k [] w h x = tt
   sim_above law k (i ∷ is) w h x =
       let b = least_above k w i x.0 h in
-      (b, sim_above law k is (next M w i) (λ z u. next_none law w i x.0 z (place_trans z k i.key u b)) x.1)
+      (b, sim_above law k is (next M w i) (λ z u. next_none law w i x.0 z (index_trans z k i.key u b)) x.1)
 
-  pub sim_after : IsLawful M → (w : World M) (i : Item M) (is : List (Item M)) → Simulates M w (i ∷ is) → Each (λ (j : Item M). PlaceUpTo i.key j.key) is
+  pub sim_after : IsLawful M → (w : World M) (i : Item M) (is : List (Item M)) → Simulates M w (i ∷ is) → Each (λ (j : Item M). IndexUpTo i.key j.key) is
   sim_after law w i is x = sim_above law i.key is (next M w i) (next_none law w i x.0) x.1
 
   -- after the last take nothing is left before its tick and resource, and none that was taken is past them
-  pub sim_last : IsLawful M → (front : List (Item M)) (j : Item M) (w : World M) → Simulates M w (front ++ j ∷ []) → NoneBefore j.key (last M w (front ++ j ∷ [])) × Each (λ (i : Item M). PlaceUpTo i.key j.key) (front ++ j ∷ [])
+  pub sim_last : IsLawful M → (front : List (Item M)) (j : Item M) (w : World M) → Simulates M w (front ++ j ∷ []) → NoneBefore j.key (last M w (front ++ j ∷ [])) × Each (λ (i : Item M). IndexUpTo i.key j.key) (front ++ j ∷ [])
   sim_last law [] j w x = (next_none law w j x.0, (inr (refl, omega arith), tt))
   sim_last law (i ∷ front) j w x =
       let y = sim_last law front j (next M w i) x.1 in
       let b = sim_above law i.key (front ++ j ∷ []) (next M w i) (next_none law w i x.0) x.1 in
       (y.0, (last_of front b, y.1))
     where
-      last_of : (front : List (Item M)) → Each (λ (z : Item M). PlaceUpTo i.key z.key) (front ++ j ∷ []) → PlaceUpTo i.key j.key
+      last_of : (front : List (Item M)) → Each (λ (z : Item M). IndexUpTo i.key z.key) (front ++ j ∷ []) → IndexUpTo i.key j.key
       last_of [] h = h.0
       last_of (z ∷ zs) h = last_of zs h.1
 
@@ -155,9 +155,9 @@ module _ (M : Machine) where
   pub reach_most : (k : Key) (r : ℕ) → reach M k r ≤ k.tick + 1
   reach_most k r = ⊎_elim (λ h. let e = reach_low k r h in omega arith) (λ h. let e = reach_high k r h in omega arith) (cases_lt k.resource r)
 
-  pub stop_facts : IsLawful M → (is : List (Item M)) (w : World M) → Simulates M w is → (s : StopsAt M is) → NoneBefore s.item.key (last M w is) × Each (λ (i : Item M). PlaceUpTo i.key s.item.key) is
+  pub stop_facts : IsLawful M → (is : List (Item M)) (w : World M) → Simulates M w is → (s : StopsAt M is) → NoneBefore s.item.key (last M w is) × Each (λ (i : Item M). IndexUpTo i.key s.item.key) is
   stop_facts law is w x s =
-      subst (λ (z : List (Item M)). NoneBefore s.item.key (last M w z) × Each (λ (i : Item M). PlaceUpTo i.key s.item.key) z) (sym s.split)
+      subst (λ (z : List (Item M)). NoneBefore s.item.key (last M w z) × Each (λ (i : Item M). IndexUpTo i.key s.item.key) z) (sym s.split)
       (sim_last law s.front s.item w (subst (λ (z : List (Item M)). Simulates M w z) s.split x))
 
   last_stops : (front : List (Item M)) (j : Item M) (w : World M) → (last M w (front ++ j ∷ [])).stops j.key.resource ≡ j.out.stop
@@ -167,7 +167,7 @@ module _ (M : Machine) where
   pub stop_stops : (is : List (Item M)) (w : World M) (s : StopsAt M is) → (last M w is).stops s.item.key.resource ≡ Some s.reason
   stop_stops is w s = ap (λ z. (last M w z).stops s.item.key.resource) s.split ∙ last_stops s.front s.item w ∙ s.stops
 
-  up_to_reach : (x j : Key) (r : ℕ) → PlaceUpTo x j → x.resource ≡ r → x.tick < reach M j r
+  up_to_reach : (x j : Key) (r : ℕ) → IndexUpTo x j → x.resource ≡ r → x.tick < reach M j r
   up_to_reach x j r h e =
       let le = up_to_tick x j h in
       ⊎_elim

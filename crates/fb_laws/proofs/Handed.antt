@@ -151,9 +151,9 @@ module _ (sys : System) (sound : IsSound sys) (stimuli : List Stimulus) (horizon
     empty e = nothing (none_counted M _ ls (subst (λ n. IsMerge M n (λ r. lines_before M (until h.edge r) (c r).lines) ls) e h.merged))
 
     -- by a final point to which the lines are those to the edge
-    by_place : (t r : ℕ) → t < horizon → r < count_of sys → IsFinalIn M (count_of sys) c t r
+    by_index : (t r : ℕ) → t < horizon → r < count_of sys → IsFinalIn M (count_of sys) c t r
         → ((q : ℕ) → q < count_of sys → lines_before M (until h.edge q) (c q).lines ≡ lines_to sys limit t r c q) → Begins
-    by_place t r a b f same =
+    by_index t r a b f same =
         let y = final_told sys sound stimuli horizon limit es sc ts sim f.0 t r f.1 b a f.2 in
         let e : y.front ≡ ls = merge_one M (count_of sys) (lines_to sys limit t r c) y.front ls y.merged (merge_same M (count_of sys) _ _ ls same h.merged) in
         (y.rest, y.split ∙ ap (λ z. z ++ y.rest) e)
@@ -176,7 +176,7 @@ module _ (sys : System) (sound : IsSound sys) (stimuli : List Stimulus) (horizon
         last : (n : ℕ) → count_of sys ≡ n → Begins
         last zero e = empty e
         last (suc n) e =
-            by_place u n (omega arith) (omega arith) (h.final n u (omega arith) (omega arith) (f n u (omega arith) (omega arith)))
+            by_index u n (omega arith) (omega arith) (h.final n u (omega arith) (omega arith) (f n u (omega arith) (omega arith)))
             (λ q b. same q b ∙ ap (λ z. lines_before M z (c q).lines) (let g : suc u ≡ u + 1 = omega arith in g) ∙ sym (to_up u n q (omega arith)))
 
     edge_below : (tick : ℕ) → tick ≡ h.edge.tick → tick < horizon → Begins
@@ -185,7 +185,7 @@ module _ (sys : System) (sound : IsSound sys) (stimuli : List Stimulus) (horizon
         (λ (b : h.edge.resource < count_of sys).
         ⊎_elim
         (λ in_it.
-        by_place tick h.edge.resource a b (h.final h.edge.resource tick b a (let u = until_within h.edge h.edge.resource refl in_it in omega arith))
+        by_index tick h.edge.resource a b (h.final h.edge.resource tick b a (let u = until_within h.edge h.edge.resource refl in_it in omega arith))
         (λ q less.
         ⊎_elim
         (λ (l : h.edge.resource < q). ap (λ z. lines_before M z (c q).lines) (until_past h.edge q l ∙ sym e) ∙ sym (to_low tick h.edge.resource q l))
@@ -208,7 +208,7 @@ module _ (sys : System) (sound : IsSound sys) (stimuli : List Stimulus) (horizon
             flat : (q : ℕ) → until h.edge q ≡ h.edge.tick
             flat q = ⊎_elim (λ (l : h.edge.resource < q). until_past h.edge q l) (λ (l : q ≤ h.edge.resource). until_outside h.edge q (omega arith) out) (cases_lt h.edge.resource q)
         outside (suc p) i b out =
-            by_place tick p a (omega arith) (h.final p tick (omega arith) a (let u = until_before h.edge p (omega arith) in omega arith))
+            by_index tick p a (omega arith) (h.final p tick (omega arith) a (let u = until_before h.edge p (omega arith) in omega arith))
             (λ q less.
             ⊎_elim
             (λ (l : p < q).

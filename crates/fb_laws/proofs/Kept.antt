@@ -6,7 +6,7 @@ use Rattle.fb_types.specs.Names.{Name, Path, Port}
 use Rattle.fb_types.specs.Values.{fits}
 use Rattle.fb_types.specs.Blocks.{Kind, Basic, Event, Composite, ports_of, variables_of, types_of, is_event_input, outputs_with, Bound, bound}
 use Rattle.fb_types.specs.Bodies.{RunsBody}
-use Rattle.fb_types.specs.Charts.{Place, ChartReacts, algorithm_of}
+use Rattle.fb_types.specs.Charts.{Position, ChartReacts, algorithm_of}
 use Rattle.fb_types.specs.EventBlocks as blocks
 use Rattle.fb_types.specs.States.{Block, InState, Remembers, Stimulated, Expired, Arrived, Raised}
 use Rattle.fb_types.specs.Systems.{System}
@@ -55,7 +55,7 @@ algorithm-keeps t a =
     (λ n v vars fit good. with_value-fits (variables_of t) n v vars (λ x h. types-named t n v x h fit) good) (algorithm_of t a)
 
 module _ (sys : System) (sound : IsTypedSystem sys) (k : Key) where
-  settled-typed : (p : Path) (t : BasicType) → sys.kind p ≡ Some (Basic t) → (c : Place) (stop : Option Reason) (o : Outcome)
+  settled-typed : (p : Path) (t : BasicType) → sys.kind p ≡ Some (Basic t) → (c : Position) (stop : Option Reason) (o : Outcome)
       → AllFit (variables_of t) c.vars → KeepsTypes sys o → KeepsTypes sys (settled p c stop o)
   settled-typed p t is c stop o good kept = record {
     world = with_block-typed sys o.world kept.world p (record b { memory = InState c.state; variables = c.vars })
@@ -69,7 +69,7 @@ module _ (sys : System) (sound : IsTypedSystem sys) (k : Key) where
       typed : IsTypedBlock (Basic t) b
       typed = kept.world.blocks p (Basic t) is
 
-  chart-typed : (p : Path) (t : BasicType) → sys.kind p ≡ Some (Basic t) → (e : Name) (stop : Option Reason) (c : Place) (o : Outcome)
+  chart-typed : (p : Path) (t : BasicType) → sys.kind p ≡ Some (Basic t) → (e : Name) (stop : Option Reason) (c : Position) (o : Outcome)
       → KeepsTypes sys o → ChartReacts t e (start_of o p) stop c → KeepsTypes sys (charted sys k p o c stop)
   chart-typed p t is e stop c o kept h =
       let good = chart-stays t (AllFit (variables_of t)) (IsToldAt sys p) (algorithm-keeps t)

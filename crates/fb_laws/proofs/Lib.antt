@@ -57,7 +57,7 @@ pub mod Merged
 pub mod Orders
 pub mod Phase
 pub mod Phasing
-pub mod Places
+pub mod Indexes
 pub mod Reached
 pub mod FloorsRise
 pub mod Scans

@@ -3,7 +3,7 @@ use Rattle.std.proofs.Common.{◌≡◌, ℕ, ◌<◌, ◌≤◌, ◌⊎◌, Boo
 use Rattle.std.specs.Prelude.{nat_lt, ◌==◌, filter}
 use Rattle.std.proofs.lemmas.Bool.{cases_lt, cases_eq, cond-true, cond-false, lt-ltb, le-ltb, eq-eqb, ne_eqb}
 use Rattle.fb_types.specs.declared.key.Key.{Key}
-use Rattle.fb_laws.specs.Worlds.{PlaceUpTo}
+use Rattle.fb_laws.specs.Worlds.{IndexUpTo}
 use Rattle.fb_types.specs.Machines.{Machine, Item, Local, Each, after, Chain, lines_of, cut}
 use Rattle.fb_laws.specs.Facts.{IsLawful}
 use Rattle.fb_laws.specs.Worlds.{World, next, Simulates}
@@ -100,16 +100,16 @@ module _ (M : Machine) where
   abbrev From : Key → M.Line → Type 0
   From k y = (k.tick < M.line_tick y) ⊎ ((k.tick ≡ M.line_tick y) × (k.resource ≤ M.line_resource y))
 
-  from_item : (k : Key) (i : Item M) → PlaceUpTo k i.key → Here i → Each (From k) i.out.lines
-  from_item k i b h = each_map _ _ i.out.lines (λ x q. place x q) h
+  from_item : (k : Key) (i : Item M) → IndexUpTo k i.key → Here i → Each (From k) i.out.lines
+  from_item k i b h = each_map _ _ i.out.lines (λ x q. index x q) h
     where
-      place : (x : M.Line) → (M.line_tick x ≡ i.key.tick) × (M.line_resource x ≡ i.key.resource) → From k x
-      place x q =
+      index : (x : M.Line) → (M.line_tick x ≡ i.key.tick) × (M.line_resource x ≡ i.key.resource) → From k x
+      index x q =
           let e : M.line_tick x ≡ i.key.tick = q.0 in
           let f : M.line_resource x ≡ i.key.resource = q.1 in
           ⊎_elim (λ c. inl (omega arith)) (λ c. let d = c.0 in let g = c.1 in inr (omega arith, omega arith)) b
 
-  from_items : (k : Key) (is : List (Item M)) → Each (λ (j : Item M). PlaceUpTo k j.key) is → Each Here is → Each (From k) (lines_of M is)
+  from_items : (k : Key) (is : List (Item M)) → Each (λ (j : Item M). IndexUpTo k j.key) is → Each Here is → Each (From k) (lines_of M is)
   from_items k [] b h = tt
   from_items k (i ∷ is) b h = each_append _ i.out.lines (lines_of M is) (from_item k i b.0 h.0) (from_items k is b.1 h.1)
 
@@ -130,7 +130,7 @@ module _ (M : Machine) where
   -- every item is before the later ones
   abbrev pub Sorted : List (Item M) → Type 0
   Sorted [] = Unit {0}
-  Sorted (i ∷ is) = Each (λ (j : Item M). PlaceUpTo i.key j.key) is × Sorted is
+  Sorted (i ∷ is) = Each (λ (j : Item M). IndexUpTo i.key j.key) is × Sorted is
 
   pub lines_order : (is : List (Item M)) → Sorted is → Each Here is → IsInOrder M (lines_of M is)
   lines_order [] s h = tt

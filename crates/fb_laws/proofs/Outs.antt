@@ -5,7 +5,7 @@ use Rattle.std.specs.Prelude.{if◌then◌else◌}
 use Rattle.std.proofs.lemmas.Bool.{cases_eq, eq-eqb, ne_eqb}
 use Rattle.fb_types.specs.Names.{Path, Port}
 use Rattle.fb_types.specs.Blocks.{Kind, Basic, Event, Composite, ports_of, is_event_input, bound, outputs_with, Emission}
-use Rattle.fb_types.specs.Charts.{Place}
+use Rattle.fb_types.specs.Charts.{Position}
 use Rattle.fb_types.specs.EventBlocks as blocks
 use Rattle.fb_types.specs.Systems.{System}
 use Rattle.fb_types.specs.States.{Event as AnEvent, Stimulated, Expired, Arrived, Raised, path_of, Line}
@@ -60,13 +60,13 @@ module _ (sys : System) (sound : IsSound sys) (k : Key) where
   taking_good : (w : World) (q : Port) (ports : Ports) (left : ℕ) → GoodOutcome (taking sys k w q ports left)
   taking_good w q ports left = record { outs = tt; lines = (refl, tt); timer = tt }
 
-  settled_good : (p : Path) (c : Place) (stop : Option Reason) (o : Outcome) → GoodOutcome o → GoodOutcome (settled p c stop o)
+  settled_good : (p : Path) (c : Position) (stop : Option Reason) (o : Outcome) → GoodOutcome o → GoodOutcome (settled p c stop o)
   settled_good p c stop o h = record { outs = h.outs; lines = h.lines; timer = h.timer }
 
   remembered_good : (p : Path) (x : blocks.Reaction) (o : Outcome) → IsLater k.tick x.timer → GoodOutcome o → GoodOutcome (remembered p x o)
   remembered_good p x o t h = record { outs = h.outs; lines = h.lines; timer = t }
 
-  charted_good : (p : Path) (o : Outcome) (c : Place) (stop : Option Reason) → sys.resource p ≡ k.resource → GoodOutcome o → GoodOutcome (charted sys k p o c stop)
+  charted_good : (p : Path) (o : Outcome) (c : Position) (stop : Option Reason) → sys.resource p ≡ k.resource → GoodOutcome o → GoodOutcome (charted sys k p o c stop)
   charted_good p o c stop home h = emitted_all_good p c.emitted (settled p c stop o) home (settled_good p c stop o h)
 
   answered_good : (p : Path) (kind : EventKind) (x : blocks.Reaction) (o : Outcome) → sys.resource p ≡ k.resource → IsLater k.tick x.timer → GoodOutcome o → GoodOutcome (answered sys k p kind x o)

@@ -2,7 +2,7 @@
 use Rattle.std.proofs.Common.{◌≡◌, ℕ, ◌+◌, ◌<◌, ◌≤◌, Some, List, subst, ⊎_elim, arith}
 use Rattle.std.specs.Prelude.{slice_get}
 use Rattle.std.proofs.lemmas.Bool.{cases_lt}
-use Rattle.fb_laws.proofs.Places.{one_at}
+use Rattle.fb_laws.proofs.Indexes.{one_at}
 
 -- what holds at each index below, and here, holds at each index up to here
 pub holds_more : {X : Type 0} (P : X → Type 0) (xs : List X) (n : ℕ) (x : X) → slice_get xs n ≡ Some x → P x

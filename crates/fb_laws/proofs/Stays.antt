@@ -3,7 +3,7 @@ use Rattle.std.proofs.Common.{◌≡◌, ℕ, refl, ap, ◌∙◌, List, [], ◌
 use Rattle.std.specs.Prelude.{if◌then◌else◌}
 use Rattle.fb_types.specs.Names.{Path, same_path, Port}
 use Rattle.fb_types.specs.Blocks.{Kind, Basic, Event, Composite, ports_of, is_event_input, bound, outputs_with, Emission}
-use Rattle.fb_types.specs.Charts.{Place}
+use Rattle.fb_types.specs.Charts.{Position}
 use Rattle.fb_types.specs.EventBlocks as blocks
 use Rattle.fb_types.specs.Systems.{System}
 use Rattle.fb_types.specs.States.{Event as AnEvent, Stimulated, Expired, Arrived, Raised, path_of}
@@ -21,13 +21,13 @@ module _ (sys : System) (k : Key) (q p : Path) (other : same_path q p ≡ false)
   emitted_all_stays [] o = refl
   emitted_all_stays (e ∷ es) o = emitted_all_stays es (emitted sys k p e o) ∙ emitted_stays e o
 
-  settled_stays : (c : Place) (stop : Option Reason) (o : Outcome) → (settled p c stop o).world.blocks q ≡ o.world.blocks q
+  settled_stays : (c : Position) (stop : Option Reason) (o : Outcome) → (settled p c stop o).world.blocks q ≡ o.world.blocks q
   settled_stays c stop o = rw other
 
   remembered_stays : (x : blocks.Reaction) (o : Outcome) → (remembered p x o).world.blocks q ≡ o.world.blocks q
   remembered_stays x o = rw other
 
-  charted_stays : (o : Outcome) (c : Place) (stop : Option Reason) → (charted sys k p o c stop).world.blocks q ≡ o.world.blocks q
+  charted_stays : (o : Outcome) (c : Position) (stop : Option Reason) → (charted sys k p o c stop).world.blocks q ≡ o.world.blocks q
   charted_stays o c stop = emitted_all_stays c.emitted (settled p c stop o) ∙ settled_stays c stop o
 
   answered_stays : (kind : EventKind) (x : blocks.Reaction) (o : Outcome) → (answered sys k p kind x o).world.blocks q ≡ o.world.blocks q

@@ -12,11 +12,11 @@ pub record World (M : Machine) : Type 0 where
   pub agenda : Map M.Event
 
 -- less by tick, then resource
-abbrev pub PlaceBefore : Key → Key → Type 0
-PlaceBefore x y = (x.tick < y.tick) ⊎ ((x.tick ≡ y.tick) × (x.resource < y.resource))
+abbrev pub IndexBefore : Key → Key → Type 0
+IndexBefore x y = (x.tick < y.tick) ⊎ ((x.tick ≡ y.tick) × (x.resource < y.resource))
 
-abbrev pub PlaceUpTo : Key → Key → Type 0
-PlaceUpTo x y = (x.tick < y.tick) ⊎ ((x.tick ≡ y.tick) × (x.resource ≤ y.resource))
+abbrev pub IndexUpTo : Key → Key → Type 0
+IndexUpTo x y = (x.tick < y.tick) ⊎ ((x.tick ≡ y.tick) × (x.resource ≤ y.resource))
 
 module _ (M : Machine) where
   -- The event under the least key of all is taken, if nothing has stopped.

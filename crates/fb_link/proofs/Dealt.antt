@@ -40,7 +40,7 @@ dealt_more sys all boxes news m r box new to within was put set dealt =
     (λ q b apart there. dealt q b there ∙ sym (stays sys all m q (λ e. apart (e ∙ sym to)))))
 
 -- The lists before an index are sorted, and the others are as they were dealt.
-abbrev pub AreSortedTo : System → (all : List Message) → (place : ℕ) → Boxes → Type 0
+abbrev pub AreSortedTo : System → (all : List Message) → (index : ℕ) → Boxes → Type 0
 AreSortedTo sys all n boxes =
     (r : ℕ) (box : Vec Message Global) → slice_get boxes r ≡ Some box → (r < n → AreFor sys r all box.items) × (n ≤ r → box.items ≡ filter (goes_to sys r) all)
 

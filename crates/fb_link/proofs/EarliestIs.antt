@@ -8,7 +8,7 @@ use Rattle.fb_types.specs.declared.latency.Entry.{Entry}
 use Rattle.fb_types.specs.Latencies.{IsLatencyTable}
 use Rattle.fb_types.specs.Flat.{latency_at}
 use Rattle.fb_link.specs.Arrivals.{arrival_at, IsEarliest}
-use Rattle.fb_link.proofs.LatencyTables.{NoEarlier, latency_within, latency_place, arrival_least}
+use Rattle.fb_link.proofs.LatencyTables.{NoEarlier, latency_within, latency_index, arrival_least}
 
 -- the least arrival of the message that is sent at a tick, and of those that are sent as one of these entries begins later
 pub record IsEarliestOf (es table : List Entry) (from tick : ℕ) : Type 0 where
@@ -42,7 +42,7 @@ earliest_taken es table i d from tick low holds same h ahead least is =
     let e : Entry = get_or es i d in
     let at : latency_at table e.from ≡ e.latency =
     subst (λ (xs : List Entry). latency_at xs e.from ≡ e.latency) same
-    (latency_place es i d (subst IsLatencyTable (sym same) holds) h) in
+    (latency_index es i d (subst IsLatencyTable (sym same) holds) h) in
     record {
       first = let f = is.first in omega arith;
       entries =

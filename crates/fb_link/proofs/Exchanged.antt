@@ -21,17 +21,17 @@ use Rattle.fb_link.proofs.Keyed.{found_kept, found_stable, keys_rise}
 use Rattle.fb_types.proofs.EachLaws.{each_map}
 
 -- the parts of a key in which the messages for one resource differ
-abbrev pub place_of : Message → ℕ × ℕ × ℕ
-place_of m = (m.arrives, m.link, m.number)
+abbrev pub index_of : Message → ℕ × ℕ × ℕ
+index_of m = (m.arrives, m.link, m.number)
 
-abbrev pub place_cmp : ℕ × ℕ × ℕ → ℕ × ℕ × ℕ → Ordering
-place_cmp x y = ordering_then (ordering_then (nat_cmp x.0 y.0) (nat_cmp x.1 y.1)) (nat_cmp x.2 y.2)
+abbrev pub index_cmp : ℕ × ℕ × ℕ → ℕ × ℕ × ℕ → Ordering
+index_cmp x y = ordering_then (ordering_then (nat_cmp x.0 y.0) (nat_cmp x.1 y.1)) (nat_cmp x.2 y.2)
 
 abbrev less : Message → Message → Bool
-less x y = is_lt (place_cmp (place_of x) (place_of y))
+less x y = is_lt (index_cmp (index_of x) (index_of y))
 
-place_cmp_total : IsTotalOrder place_cmp
-place_cmp_total = then_total (then_total (on_total (λ t. t.0) nat_cmp_total) (on_total (λ t. t.1) nat_cmp_total)) (on_total (λ t. t.2) nat_cmp_total)
+index_cmp_total : IsTotalOrder index_cmp
+index_cmp_total = then_total (then_total (on_total (λ t. t.0) nat_cmp_total) (on_total (λ t. t.1) nat_cmp_total)) (on_total (λ t. t.2) nat_cmp_total)
 
 then_assoc : (a b c : Ordering) → ordering_then (ordering_then a b) c ≡ ordering_then a (ordering_then b c)
 then_assoc Less b c = refl
@@ -60,7 +60,7 @@ found_to sys r ms k e = sym (found_kept (key_of sys) k (goes_to sys r) ms (each_
     elsewhere m n = ⊎_elim (λ s. absurd (eqb-false (receiver_of sys m) r n (ap (λ z. z.resource) s ∙ e))) (λ s. s) (same_cases (key_of sys m) k)
 
 -- what a stable sort by these parts makes of the messages for a resource
-pub sorted : (xs ys : List Message) → IsPermutation xs ys → IsSortedByKey place_of place_cmp ys → IsStableByKey place_of place_cmp xs ys → AreSorted xs ys
+pub sorted : (xs ys : List Message) → IsPermutation xs ys → IsSortedByKey index_of index_cmp ys → IsStableByKey index_of index_cmp xs ys → AreSorted xs ys
 sorted xs ys moved up stable sys r all e =
     let mine : Each (λ m. receiver_of sys m ≡ r) xs =
     subst (Each (λ m. receiver_of sys m ≡ r)) (sym e) (each_map _ _ (filter (goes_to sys r) all) (λ m h. eqb-true (receiver_of sys m) r h) (passing (goes_to sys r) all)) in
@@ -68,7 +68,7 @@ sorted xs ys moved up stable sys r all e =
     recursion_from_All (λ m. receiver_of sys m ≡ r) ys (All-permutation (λ m. receiver_of sys m ≡ r) xs ys moved (All-from_recursion (λ m. receiver_of sys m ≡ r) xs mine)) in
     record {
       those = subst (λ z. IsPermutation z ys) e moved;
-      order = keys_rise (key_of sys) less (λ m. receiver_of sys m ≡ r) (agrees sys r) (ranks_by place_cmp_total place_of) ys same up;
+      order = keys_rise (key_of sys) less (λ m. receiver_of sys m ≡ r) (agrees sys r) (ranks_by index_cmp_total index_of) ys same up;
       last = λ k h.
           found_stable (key_of sys) less (λ m. receiver_of sys m ≡ r) (agrees sys r) xs ys mine same stable k
           ∙ ap (λ z. found k (keyed sys z)) e

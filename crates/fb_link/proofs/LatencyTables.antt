@@ -106,19 +106,19 @@ begins_all table is = λ i j d h g.
     omega (arith, rises, get_or-map (λ (e : Entry). e.from) table i d 0 (omega arith), get_or-map (λ (e : Entry). e.from) table j d 0 g)
 
 -- At its tick an entry holds.
-after_place :
+after_index :
     (held : ℕ) (es : List Entry) (k : ℕ) (d : Entry) → AllPairs Begins es → k < length es
     → after held es (get_or es k d).from ≡ (get_or es k d).latency
-after_place held [] k d rises h = absurd (omega arith)
-after_place held (e ∷ es) zero d rises h =
+after_index held [] k d rises h = absurd (omega arith)
+after_index held (e ∷ es) zero d rises h =
     after_passed held e es e.from (omega arith) ∙ after_none e.latency es e.from (λ k x g. rises 0 (suc k) x (omega arith) (omega arith))
-after_place held (e ∷ es) (suc k) d rises h =
-    after_place (cond (nat_le e.from (get_or es k d).from) e.latency held) es k d (λ i j x g l. rises (suc i) (suc j) x (omega arith) (omega arith)) (omega arith)
+after_index held (e ∷ es) (suc k) d rises h =
+    after_index (cond (nat_le e.from (get_or es k d).from) e.latency held) es k d (λ i j x g l. rises (suc i) (suc j) x (omega arith) (omega arith)) (omega arith)
 
-pub latency_place :
+pub latency_index :
     (table : List Entry) (i : ℕ) (d : Entry) → IsLatencyTable table → i < length table
     → latency_at table (get_or table i d).from ≡ (get_or table i d).latency
-latency_place table i d is h = latency-is table (get_or table i d).from ∙ after_place 1 table i d (begins_all table is) h
+latency_index table i d is h = latency-is table (get_or table i d).from ∙ after_index 1 table i d (begins_all table is) h
 
 -- ---- The least arrival
 

@@ -4,7 +4,7 @@ use Rattle.std.proofs.Math.Path.{fun_ext}
 use Rattle.fb_types.specs.Names.{Path}
 use Rattle.fb_types.specs.Values.{Values}
 use Rattle.fb_types.specs.Blocks.{Kind, Basic, inputs_with}
-use Rattle.fb_types.specs.Charts.{ChartReacts, Moving, Place}
+use Rattle.fb_types.specs.Charts.{ChartReacts, Moving, Position}
 use Rattle.fb_types.specs.Headline.{Inputs, system_of}
 use Rattle.fb_types.specs.Numbers.{event_at, pair_up, path_at}
 use Rattle.fb_types.specs.Reactions.{World, state_of, with_values}
@@ -18,7 +18,7 @@ use Rattle.fb_types.specs.declared.run.Target.{Target}
 use Rattle.fb_types.specs.declared.value.Reason.{Reason}
 use Rattle.fb_types.specs.declared.value.Value.{Value}
 use Rattle.fb_st.specs.Frames.{values_of}
-use Rattle.fb_ecc.specs.Places.{Ended, place, sampled}
+use Rattle.fb_ecc.specs.Indexes.{Ended, index, sampled}
 use Rattle.fb_ecc.specs.Sound.{IsSound}
 use Rattle.fb_ecc.specs.declared.state.BasicState.{BasicState}
 use Rattle.fb_net.specs.Blocks.{components_of, own_of}
@@ -36,13 +36,13 @@ use Rattle.fb_net.specs.Leaves.{ChartCame, ChartEnded, EachWorld, HasCharted, Is
 use Rattle.fb_net.proofs.Leaves.{basic_is, stands_basic}
 
 -- where the program's chart begins
-abbrev begun : BasicType → BasicState → (event : ℕ) → List Value → (left : ℕ) → List run.Emission → Place
+abbrev begun : BasicType → BasicState → (event : ℕ) → List Value → (left : ℕ) → List run.Emission → Position
 begun t s e values left emits =
-    record (place t s.state s.frame left emits) { vars = sampled t e values (values_of s.frame) }
+    record (index t s.state s.frame left emits) { vars = sampled t e values (values_of s.frame) }
 
 -- where it has come to
-abbrev after_it : BasicType → BasicState → (left : ℕ) → List run.Emission → Place
-after_it t s left emits = place t s.state s.frame left emits
+abbrev after_it : BasicType → BasicState → (left : ℕ) → List run.Emission → Position
+after_it t s left emits = index t s.state s.frame left emits
 
 abbrev reacting : BasicType → (event : ℕ) → Moving
 reacting t e = ChartReacts t (event_at t.ports.event_inputs e)
@@ -57,7 +57,7 @@ start_is t s b e values left h =
     ∙ ap (λ n. record (chart_start t b e values left) { state = n }) state
 
 -- the shell of a basic block has no part in its reaction
-shell_kept : (sys : System) (p : Path) (t : BasicType) (b : model.Block) (c : Place) (s : Shell) → sys.kind p ≡ Some (Basic t) → ShellStands sys p s b → ShellStands sys p s (charted_block c b)
+shell_kept : (sys : System) (p : Path) (t : BasicType) (b : model.Block) (c : Position) (s : Shell) → sys.kind p ≡ Some (Basic t) → ShellStands sys p s b → ShellStands sys p s (charted_block c b)
 shell_kept sys p t b c s kind stands = record { slots = stands.slots; published = stands.published; inputs = λ no_basic. absurd (no_basic t kind) }
 
 -- The instance is one of a basic type t.
@@ -110,7 +110,7 @@ module _ (i : Inputs) (numbered : AreNumbered i) (old : Forest) (at : Target) (t
       let sys = system_of i in
       let p : Path = path_at sys at.instance in
       let way = way_in i old.roots at.instance in
-      let c : Place = after_it t came_to after emits in
+      let c : Position = after_it t came_to after emits in
       let b : model.Block = charted_block c (block_in i w at.instance) in
       let stands : BasicStands t came_to b.memory b.variables =
       record { sound = (stood w forest lies).sound; block = changed.ends.ready; memory = refl; variables = λ n. refl } in
@@ -129,10 +129,10 @@ module _ (i : Inputs) (numbered : AreNumbered i) (old : Forest) (at : Target) (t
   came : (stop : Option Reason) → reacting t at.event (begun t changed.ends.basic at.event values before []) stop (after_it t came_to after emits)
       → EachWorld i old at (ChartCame i old at t values before stop new after emits)
   came stop moves w forest lies =
-      let c : Place = after_it t came_to after emits in
+      let c : Position = after_it t came_to after emits in
       record {
-        place = c;
-        reacts = subst (λ (q : Place). reacting t at.event q stop c) (start_is t changed.ends.basic (block_in i w at.instance) at.event values before (stood w forest lies)) moves;
+        index = c;
+        reacts = subst (λ (q : Position). reacting t at.event q stop c) (start_is t changed.ends.basic (block_in i w at.instance) at.event values before (stood w forest lies)) moves;
         stands = stands_after w forest lies;
         left = refl;
         emitted = refl;

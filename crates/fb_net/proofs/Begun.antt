@@ -22,7 +22,7 @@ use Rattle.fb_types.specs.declared.value.Value.{Value}
 use Rattle.fb_st.specs.Frames.{Declared, declared_in, is_declared, values_of}
 use Rattle.fb_st.specs.declared.frame.Slot.{Slot}
 use Rattle.fb_ecc.specs.Opened.{IsOfDeclaration, IsOpened, slot_of}
-use Rattle.fb_ecc.specs.Places.{state_at}
+use Rattle.fb_ecc.specs.Indexes.{state_at}
 use Rattle.fb_ecc.specs.declared.state.BasicState.{BasicState}
 use Rattle.fb_system.specs.Stimuli.{initial_inputs, initial_outputs}
 use Rattle.fb_net.specs.Worlds.{BasicStands, NodeStands, ShellStands, StandsFor, ValuesStand, begins}
@@ -34,7 +34,7 @@ use Rattle.fb_net.specs.declared.shell.Shell.{Shell}
 use Rattle.fb_event.specs.State as memories
 use Rattle.fb_net.specs.Opening.{AreDeclared, begun_all}
 use Rattle.fb_net.proofs.Components.{out_roll}
-use Rattle.fb_types.proofs.ByPlace.{slice_get-append_left}
+use Rattle.fb_types.proofs.ByIndex.{slice_get-append_left}
 use Rattle.fb_types.proofs.Options.{map_parts}
 use Rattle.fb_types.proofs.Positions.{slice_get-Contains}
 use Rattle.fb_types.proofs.NameLaws.{any_from_contains}
@@ -50,9 +50,9 @@ map_long f (n ∷ names) = ap suc (map_long f names)
 values_begin : (sys : System) (p : Path) (names : List Name) (values : List Value) → values ≡ map (begins sys p) names → ValuesStand sys p names values (begins sys p)
 values_begin sys p names values is = record {
   each = ap (λ (vs : List Value). length vs) is ∙ map_long (begins sys p) names;
-  at_place = λ place n v h g.
+  at_index = λ index n v h g.
       same_Some (begins sys p n) v
-      (sym (ap (λ (vs : List Value). slice_get vs place) is ∙ slice_get-map (begins sys p) names place ∙ ap (option_map (begins sys p)) h) ∙ g);
+      (sym (ap (λ (vs : List Value). slice_get vs index) is ∙ slice_get-map (begins sys p) names index ∙ ap (option_map (begins sys p)) h) ∙ g);
   others = λ n h. refl;
 }
 
@@ -167,16 +167,16 @@ names_declared : (vs : List Variable) → map (λ (d : Declared). d.0) (declared
 names_declared [] = refl
 names_declared (v ∷ vs) = ap (λ (ns : List Name). v.name ∷ ns) (names_declared vs)
 
-named_at : (vs : List Variable) (place : ℕ) (n : Name) → slice_get (variable_names vs) place ≡ Some n → (x : Variable) × (slice_get vs place ≡ Some x) × (x.name ≡ n)
-named_at vs place n h = map_parts (λ (v : Variable). v.name) (slice_get vs place) n (sym (slice_get-map (λ (v : Variable). v.name) vs place) ∙ h)
+named_at : (vs : List Variable) (index : ℕ) (n : Name) → slice_get (variable_names vs) index ≡ Some n → (x : Variable) × (slice_get vs index ≡ Some x) × (x.name ≡ n)
+named_at vs index n h = map_parts (λ (v : Variable). v.name) (slice_get vs index) n (sym (slice_get-map (λ (v : Variable). v.name) vs index) ∙ h)
 
 pub inputs_declared : (t : BasicType) (s : BasicState) → IsOpened t s → AreDeclared (declared_in s.frame) (variable_names t.ports.inputs)
-inputs_declared t s opened place n h =
+inputs_declared t s opened index n h =
     let vs = variables_of t in
-    let x = named_at t.ports.inputs place n h in
-    let there = slice_get-append_left (t.ports.inputs ++ t.ports.outputs) t.internals place x.0 (slice_get-append_left t.ports.inputs t.ports.outputs place x.0 x.1) in
+    let x = named_at t.ports.inputs index n h in
+    let there = slice_get-append_left (t.ports.inputs ++ t.ports.outputs) t.internals index x.0 (slice_get-append_left t.ports.inputs t.ports.outputs index x.0 x.1) in
     let among_all : Contains (variable_names vs) n =
-    subst (λ (m : Name). Contains (variable_names vs) m) x.2 (slice_get-Contains (λ (v : Variable). v.name) vs place x.0 there) in
+    subst (λ (m : Name). Contains (variable_names vs) m) x.2 (slice_get-Contains (λ (v : Variable). v.name) vs index x.0 there) in
     ap (λ (slots : List Slot). is_declared (declared_in slots) n) opened.variables
     ∙ ap (λ (ns : List Name). among ns n) (names_declared vs)
     ∙ any_from_contains n (variable_names vs) among_all

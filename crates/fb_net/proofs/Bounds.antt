@@ -12,7 +12,7 @@ use Rattle.fb_types.specs.Names.{Name, Path}
 use Rattle.fb_types.specs.declared.deploy.Plan.{Plan}
 use Rattle.fb_types.specs.declared.deploy.ResourceEntry.{ResourceEntry}
 
--- ---- A place that is sought
+-- ---- An index that is sought
 
 one_below : (a b : ℕ) → 0 < b → unwrap_or (cond (nat_lt a b) (Some a) None) 0 < b
 one_below a b some = go (nat_lt a b) refl

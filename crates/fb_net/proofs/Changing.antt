@@ -14,10 +14,10 @@ use Rattle.fb_types.specs.declared.library.Variable.{Variable}
 use Rattle.fb_types.specs.declared.run.Carried.{Carried}
 use Rattle.fb_types.specs.declared.value.Value.{Value}
 use Rattle.fb_types.proofs.PathLaws.{same_path_is, same_path_itself}
-use Rattle.fb_system.specs.Stands.{ArePlaces, variable_at}
+use Rattle.fb_system.specs.Stands.{AreIndexes, variable_at}
 use Rattle.fb_system.specs.Stimuli.{set_of}
 use Rattle.fb_system.specs.declared.rows.SlotValue.{SlotValue}
-use Rattle.fb_types.specs.declared.run.Place.{Place}
+use Rattle.fb_types.specs.declared.run.InstanceVariable.{InstanceVariable}
 use Rattle.fb_net.specs.Changes.{Changes, Holds, block_in, input_sampled, slot_set, with_instance}
 use Rattle.fb_net.specs.Worlds.{IsForest}
 use Rattle.fb_net.specs.declared.resource.Forest.{Forest}
@@ -25,7 +25,7 @@ use Rattle.fb_net.specs.Samples.{HoldsAll, all_sampled, slots_set}
 
 -- ---- Worlds with another block
 
--- the later of two choices at one place stands
+-- the later of two choices at one index stands
 chosen_twice : {A : Type 0} (b : Bool) (x y z : A) → cond b x (cond b y z) ≡ cond b x z
 chosen_twice true x y z = refl
 chosen_twice false x y z = refl
@@ -107,12 +107,12 @@ variable_sampled x = input_sampled x.variable x.value
 abbrev pub value_set : System → (instance : ℕ) → SlotValue → model.Block → model.Block
 value_set sys k x = slot_set (set_of sys k x).variable x.value
 
--- the variable at a place, with a value
+-- the variable at an index, with a value
 abbrev pub bound_at : List Variable → ℕ × Value → Bound
 bound_at vs x = record { variable = variable_at vs x.0; value = x.1 }
 
-pub bounds-zip : (vs : List Variable) (places : List ℕ) (values : List Value)
-    → map (bound_at vs) (zip places values) ≡ pair_up (map (variable_at vs) places) values
+pub bounds-zip : (vs : List Variable) (indexes : List ℕ) (values : List Value)
+    → map (bound_at vs) (zip indexes values) ≡ pair_up (map (variable_at vs) indexes) values
 bounds-zip vs [] values = refl
 bounds-zip vs (k ∷ ks) [] = refl
 bounds-zip vs (k ∷ ks) (x ∷ xs) = ap (λ (bs : List Bound). bound_at vs (k, x) ∷ bs) (bounds-zip vs ks xs)
@@ -141,7 +141,7 @@ pub samples_none : (i : Inputs) (a : Forest) (k : ℕ) (names : List Name) (valu
 samples_none i a k names [] none = changes_as (all_sampled names []) (changes_none i a k) (λ m. sym (nothing_sampled names m))
 samples_none i a k names (v ∷ vs) none = absurd (omega arith)
 
--- one more value, with its place
+-- one more value, with its index
 pub samples_push : {i : Inputs} {a b c : Forest} {k : ℕ} (vs : List Variable) (ys : List (Bor ℕ × Bor Value)) (y : Bor ℕ × Bor Value)
     → Changes i a k (one_by_one variable_sampled (lent_bounds vs ys)) b → Changes i b k (variable_sampled (bound_at vs (lent y))) c
     → Changes i a k (one_by_one variable_sampled (lent_bounds vs (ys ++ y ∷ []))) c
@@ -150,13 +150,13 @@ samples_push {i} {a} {b} {c} {k} vs ys y before next =
     (sym (map-append (λ (x : Bor ℕ × Bor Value). bound_at vs (lent x)) ys (y ∷ [])))
     (changes_push variable_sampled (lent_bounds vs ys) (bound_at vs (lent y)) before next)
 
--- all values, with their places
-pub samples_all : {i : Inputs} {a b : Forest} {k : ℕ} (vs : List Variable) (names : List Name) (places : List ℕ) (values : List Value) (ys : List (Bor ℕ × Bor Value))
-    → Changes i a k (one_by_one variable_sampled (lent_bounds vs ys)) b → map lent ys ≡ zip places values → ArePlaces vs names places
+-- all values, with their indexes
+pub samples_all : {i : Inputs} {a b : Forest} {k : ℕ} (vs : List Variable) (names : List Name) (indexes : List ℕ) (values : List Value) (ys : List (Bor ℕ × Bor Value))
+    → Changes i a k (one_by_one variable_sampled (lent_bounds vs ys)) b → map lent ys ≡ zip indexes values → AreIndexes vs names indexes
     → Changes i a k (all_sampled names values) b
-samples_all vs names places values ys changes all stand =
+samples_all vs names indexes values ys changes all stand =
     let bounds : lent_bounds vs ys ≡ pair_up names values =
-    bounds-lent vs ys ∙ ap (map (bound_at vs)) all ∙ bounds-zip vs places values ∙ ap (λ (ns : List Name). pair_up ns values) stand.named in
+    bounds-lent vs ys ∙ ap (map (bound_at vs)) all ∙ bounds-zip vs indexes values ∙ ap (λ (ns : List Name). pair_up ns values) stand.named in
     changes_as (all_sampled names values) changes
     (λ m. ap (λ (bs : List Bound). one_by_one variable_sampled bs m) bounds ∙ one_by_one-sampled (pair_up names values) m)
 
@@ -175,12 +175,12 @@ pub holds_none : (i : Inputs) (a : Forest) → HoldsAll i a [] a
 holds_none i a = record { resource = refl; stands = λ w h. h }
 
 -- the variable that a value is carried for
-abbrev pub place_of : Carried → Place
-place_of x = record { instance = x.instance; variable = x.variable; is_output = true }
+abbrev pub index_of : Carried → InstanceVariable
+index_of x = record { instance = x.instance; variable = x.variable; is_output = true }
 
 -- the next value of a message, after those before it
 pub holds_more : {i : Inputs} {a b c : Forest} (cs : List Carried) (n : ℕ) (d : Carried)
-    → HoldsAll i a (take n cs) b → n < length cs → Holds i b (place_of (get_or cs n d)) (get_or cs n d).value c
+    → HoldsAll i a (take n cs) b → n < length cs → Holds i b (index_of (get_or cs n d)) (get_or cs n d).value c
     → HoldsAll i a (take (n + 1) cs) c
 holds_more {i} {a} {b} {c} cs n d before within next =
     let held_of = carried_of (system_of i) in

@@ -3,7 +3,7 @@ use Rattle.std.proofs.Common.{◌≡◌, ℕ, Bool, true, false, cond, List, [],
 use Rattle.std.specs.Prelude.{None, Option, Some, Result, Ok, Err}
 use Rattle.std.proofs.Math.Path.{fun_ext}
 use Rattle.fb_types.specs.Blocks.{Kind, Basic, Emission, inputs_with}
-use Rattle.fb_types.specs.Charts.{ChartReacts, Place}
+use Rattle.fb_types.specs.Charts.{ChartReacts, Position}
 use Rattle.fb_types.specs.Headline.{Inputs, system_of}
 use Rattle.fb_types.specs.Names.{Path, Port, same_path}
 use Rattle.fb_types.specs.Numbers.{emission_of, event_at, line_of, path_at, ports_at}
@@ -47,7 +47,7 @@ emitted_all-stop sys k p (e ∷ es) o = emitted_all-stop sys k p es (emitted sys
 with_block-here : (p : Path) (b : model.Block) (w : World) → (with_block p b w).blocks p ≡ b
 with_block-here p b w = ap (λ (same : Bool). cond same b (w.blocks p)) (same_path_itself p)
 
--- the later of two choices at one place stands
+-- the later of two choices at one index stands
 chosen_twice : {A : Type 0} (b : Bool) (x y z : A) → cond b x (cond b y z) ≡ cond b x z
 chosen_twice true x y z = refl
 chosen_twice false x y z = refl
@@ -64,7 +64,7 @@ with_block-next p b g w =
 
 -- ---- Charts
 
-abbrev start_at : model.Block → ℕ → Place
+abbrev start_at : model.Block → ℕ → Position
 start_at b left = record { state = state_of b.memory; vars = b.variables; left = left; emitted = [] }
 
 -- A basic block t has reacted to an event with values that it sampled, and line and emissions were told.
@@ -99,30 +99,30 @@ module _ (i : Inputs) (k : Key) (at : Target) (t : BasicType) (is : (system_of i
       ∙ ap (λ (b : model.Block). start_at b before) (sym (with_block-here p (sampled_block w) w))
 
   -- the world where it has come to
-  settles : (w : World) (c : Place) (stop : Option Reason) → with_block p (charted_block c (w.blocks p)) w ≡ (settled p c stop (begun w)).world
+  settles : (w : World) (c : Position) (stop : Option Reason) → with_block p (charted_block c (w.blocks p)) w ≡ (settled p c stop (begun w)).world
   settles w c stop = sym (with_block-next p (sampled_block w) (charted_block c) w)
 
   came : (stop : Option Reason) → EachWorld i old at (ChartCame i old at t values before stop mid after emits)
       → ReactedIn i (Arrives i k at before) old x stop new after y
   came stop chart w h =
       let c = chart w h here in
-      let o : Outcome = settled p c.place stop (begun w) in
-      let out : Outcome = charted sys k p (begun w) c.place stop in
+      let o : Outcome = settled p c.index stop (begun w) in
+      let out : Outcome = charted sys k p (begun w) c.index stop in
       let first : IsBegun i mid (line_of sys (taken_line k at values)) o = record {
-        world = subst (λ (z : World). IsForest i mid z) (settles w c.place stop) c.stands;
+        world = subst (λ (z : World). IsForest i mid z) (settles w c.index stop) c.stands;
         lines = sym (line-sampled i k at t.ports ports input old ready.resource here values are w h before);
         outs = refl;
         timer = refl;
       } in
-      let same : map (emission_of (ports_at sys p)) emits ≡ c.place.emitted = ap (λ (z : Ports). map (emission_of z) emits) ports ∙ c.emitted in
+      let same : map (emission_of (ports_at sys p)) emits ≡ c.index.emitted = ap (λ (z : Ports). map (emission_of z) emits) ports ∙ c.emitted in
       let reacts : ReactsAt sys k w q before (Some (Basic t)) out =
-      (stop, c.place, subst (λ (s : Place). ChartReacts t q.name s stop c.place) (starts w h) c.reacts, refl) in
+      (stop, c.index, subst (λ (s : Position). ChartReacts t q.name s stop c.index) (starts w h) c.reacts, refl) in
       record {
         outcome = out;
         reacts = subst (λ (z : Port). ReactsAt sys k w z before (sys.kind p) out) (sym (port-here i k at t.ports ports input old ready.resource here values are))
             (subst (λ (z : Option Kind). ReactsAt sys k w q before z out) (sym is) reacts);
-        stops = emitted_all-stop sys k p c.place.emitted o;
-        leaves = emitted_all-left sys k p c.place.emitted o ∙ sym c.left;
+        stops = emitted_all-stop sys k p c.index.emitted o;
+        leaves = emitted_all-left sys k p c.index.emitted o ∙ sym c.left;
         stands = subst (λ (es : List Emission). Stands i (gathered i x) new y (emitted_all sys k p es o)) same (told o first);
       }
 

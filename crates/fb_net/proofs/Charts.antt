@@ -14,31 +14,31 @@ use Rattle.std.proofs.lemmas.Option.{same_Some}
 use Rattle.fb_net.proofs.Copies.{nat_same}
 
 pub no_charts : (i : Inputs) (charts : Charts) → charts.entries ≡ [] → AreCharts i charts
-no_charts i charts empty place t c here there =
-    let none : None ≡ Some c = sym (ap (lookup (is_at (nat_cmp place))) empty) ∙ there in
+no_charts i charts empty index t c here there =
+    let none : None ≡ Some c = sym (ap (lookup (is_at (nat_cmp index))) empty) ∙ there in
     absurd (cc)
 
--- the chart at the place of a type, if there is one, is that of the type
+-- the chart at the index of a type, if there is one, is that of the type
 pub known_chart :
-    (i : Inputs) (charts : Charts) (place : ℕ) (t : BasicType) → AreCharts i charts → slice_get i.library.blocks place ≡ Some (block.Basic t)
-    → IfSome (get nat_cmp charts place) (λ c. c ≡ chart_of t)
-known_chart i charts place t are here =
-    elim (get nat_cmp charts place) as (λ o. get nat_cmp charts place ≡ o → IfSome o (λ c. c ≡ chart_of t)) [
+    (i : Inputs) (charts : Charts) (index : ℕ) (t : BasicType) → AreCharts i charts → slice_get i.library.blocks index ≡ Some (block.Basic t)
+    → IfSome (get nat_cmp charts index) (λ c. c ≡ chart_of t)
+known_chart i charts index t are here =
+    elim (get nat_cmp charts index) as (λ o. get nat_cmp charts index ≡ o → IfSome o (λ c. c ≡ chart_of t)) [
       | None ↦ λ e. tt
-      | Some c ↦ λ e. are place t c here e
+      | Some c ↦ λ e. are index t c here e
     ] refl
 
 -- .. and what was there is all that is there
-pub charts_stay : (charts : Charts) (place : ℕ) (t : BasicType) → ChartsGrow charts place t charts
-charts_stay charts place t q c there = inl there
+pub charts_stay : (charts : Charts) (index : ℕ) (t : BasicType) → ChartsGrow charts index t charts
+charts_stay charts index t q c there = inl there
 
--- a chart more, of the type at the place
+-- a chart more, of the type at the index
 pub chart_more :
-    (old new : Charts) (place : ℕ) (t : BasicType) (kept : Chart) → kept ≡ chart_of t
-    → ((q : ℕ) → get nat_cmp new q ≡ cond (is_eq (nat_cmp place q)) (Some kept) (get nat_cmp old q)) → ChartsGrow old place t new
-chart_more old new place t kept is written q c there =
-    elim (is_eq (nat_cmp place q)) as (λ b. is_eq (nat_cmp place q) ≡ b → cond b (Some kept) (get nat_cmp old q) ≡ Some c → (get nat_cmp old q ≡ Some c) ⊎ ((place ≡ q) × (c ≡ chart_of t))) [
-      | true ↦ λ e at. inr (nat_same place q e, sym (same_Some kept c at) ∙ is)
+    (old new : Charts) (index : ℕ) (t : BasicType) (kept : Chart) → kept ≡ chart_of t
+    → ((q : ℕ) → get nat_cmp new q ≡ cond (is_eq (nat_cmp index q)) (Some kept) (get nat_cmp old q)) → ChartsGrow old index t new
+chart_more old new index t kept is written q c there =
+    elim (is_eq (nat_cmp index q)) as (λ b. is_eq (nat_cmp index q) ≡ b → cond b (Some kept) (get nat_cmp old q) ≡ Some c → (get nat_cmp old q ≡ Some c) ⊎ ((index ≡ q) × (c ≡ chart_of t))) [
+      | true ↦ λ e at. inr (nat_same index q e, sym (same_Some kept c at) ∙ is)
       | false ↦ λ e at. inl at
     ] refl (sym (written q) ∙ there)
 
@@ -46,9 +46,9 @@ basic_is : (a b : BasicType) → Some (block.Basic a) ≡ Some (block.Basic b) �
 basic_is a b e = cc
 
 pub charts_grow :
-    (i : Inputs) (old new : Charts) (place : ℕ) (t : BasicType) → AreCharts i old → slice_get i.library.blocks place ≡ Some (block.Basic t) → ChartsGrow old place t new
+    (i : Inputs) (old new : Charts) (index : ℕ) (t : BasicType) → AreCharts i old → slice_get i.library.blocks index ≡ Some (block.Basic t) → ChartsGrow old index t new
     → AreCharts i new
-charts_grow i old new place t are here grow q other c at there =
+charts_grow i old new index t are here grow q other c at there =
     elim (grow q c there) [
       | inl before ↦ are q other c at before
       | inr now ↦

@@ -17,11 +17,11 @@ use Rattle.fb_types.specs.declared.library.Ports.{Ports}
 use Rattle.fb_types.specs.declared.library.Variable.{Variable}
 use Rattle.fb_types.specs.declared.value.Value.{Value}
 use Rattle.fb_types.proofs.Positions.{position_of_once}
-use Rattle.fb_types.specs.declared.run.Place.{Place}
+use Rattle.fb_types.specs.declared.run.InstanceVariable.{InstanceVariable}
 use Rattle.fb_system.specs.Ports.{IsVariable, variable_of, variables_at}
 use Rattle.fb_net.specs.Worlds.{key_cmp, key_of}
-use Rattle.fb_net.specs.Opening.{Covers, CoversPlaces, Held, KeepsCovers}
-use Rattle.fb_types.proofs.ByPlace.{slice_get-append_left, slice_get-after, element_at}
+use Rattle.fb_net.specs.Opening.{Covers, CoversIndexes, Held, KeepsCovers}
+use Rattle.fb_types.proofs.ByIndex.{slice_get-append_left, slice_get-after, element_at}
 use Rattle.fb_net.proofs.Known.{kind_once, kind_there, known_of, once_of, stood}
 
 -- ---- Keys
@@ -60,7 +60,7 @@ then_both order.Less s h g = absurd (cc)
 then_both order.Equal s h g = g
 then_both order.Greater s h g = absurd (cc)
 
-key_same : (x y : Place) → is_eq (key_cmp (key_of x) (key_of y)) ≡ true → x ≡ y
+key_same : (x y : InstanceVariable) → is_eq (key_cmp (key_of x) (key_of y)) ≡ true → x ≡ y
 key_same x y h =
     let inner = ordering_then (nat_cmp x.variable y.variable) (bool_cmp x.is_output y.is_output) in
     let rest = then_second (nat_cmp x.instance y.instance) inner h in
@@ -69,7 +69,7 @@ key_same x y h =
     let c = bool_same x.is_output y.is_output (then_second (nat_cmp x.variable y.variable) (bool_cmp x.is_output y.is_output) rest) in
     λ j. record { instance = a j; variable = b j; is_output = c j }
 
-key_itself : (x : Place) → is_eq (key_cmp (key_of x) (key_of x)) ≡ true
+key_itself : (x : InstanceVariable) → is_eq (key_cmp (key_of x) (key_of x)) ≡ true
 key_itself x =
     then_both (nat_cmp x.instance x.instance) (ordering_then (nat_cmp x.variable x.variable) (bool_cmp x.is_output x.is_output)) (nat_itself x.instance)
     (then_both (nat_cmp x.variable x.variable) (bool_cmp x.is_output x.is_output) (nat_itself x.variable) (bool_itself x.is_output))
@@ -94,28 +94,28 @@ both_of its = its.inputs ++ its.outputs
 abbrev name_of : Variable → Name
 name_of v = v.name
 
--- the place among the data inputs and outputs together
-abbrev place_in : Ports → (variable : ℕ) → (is_output : Bool) → ℕ
-place_in its v o = if o then length its.inputs + v else v
+-- the index among the data inputs and outputs together
+abbrev index_in : Ports → (variable : ℕ) → (is_output : Bool) → ℕ
+index_in its v o = if o then length its.inputs + v else v
 
 abbrev side_of : Ports → Bool → List Variable
 side_of its o = if o then its.outputs else its.inputs
 
-at_place : (its : Ports) (v : ℕ) (o : Bool) (x : Variable) → slice_get (side_of its o) v ≡ Some x → slice_get (both_of its) (place_in its v o) ≡ Some x
-at_place its v true x h = slice_get-after its.inputs its.outputs v ∙ h
-at_place its v false x h = slice_get-append_left its.inputs its.outputs v x h
+at_index : (its : Ports) (v : ℕ) (o : Bool) (x : Variable) → slice_get (side_of its o) v ≡ Some x → slice_get (both_of its) (index_in its v o) ≡ Some x
+at_index its v true x h = slice_get-after its.inputs its.outputs v ∙ h
+at_index its v false x h = slice_get-append_left its.inputs its.outputs v x h
 
 names_both : (vs ws : List Variable) → map name_of (vs ++ ws) ≡ variable_names vs ++ variable_names ws
 names_both [] ws = refl
 names_both (v ∷ vs) ws = ap (λ (ns : List Name). v.name ∷ ns) (names_both vs ws)
 
-place_split : (its : Ports) (v w : ℕ) (a b : Bool) → v < length (side_of its a) → w < length (side_of its b) → place_in its v a ≡ place_in its w b → (a ≡ b) × (v ≡ w)
-place_split its v w true true h g e = (refl, omega (arith, e))
-place_split its v w true false h g e = absurd (omega (arith, g, e))
-place_split its v w false true h g e = absurd (omega (arith, h, e))
-place_split its v w false false h g e = (refl, e)
+index_split : (its : Ports) (v w : ℕ) (a b : Bool) → v < length (side_of its a) → w < length (side_of its b) → index_in its v a ≡ index_in its w b → (a ≡ b) × (v ≡ w)
+index_split its v w true true h g e = (refl, omega (arith, e))
+index_split its v w true false h g e = absurd (omega (arith, g, e))
+index_split its v w false true h g e = absurd (omega (arith, h, e))
+index_split its v w false false h g e = (refl, e)
 
--- the name at a place of a side
+-- the name at an index of a side
 abbrev name_in : Ports → ℕ → Bool → Name
 name_in its v o = if o then unwrap_or (slice_get (variable_names its.outputs) v) [] else unwrap_or (slice_get (variable_names its.inputs) v) []
 
@@ -123,17 +123,17 @@ named_at : (its : Ports) (v : ℕ) (o : Bool) (x : Variable) → slice_get (side
 named_at its v true x h = ap (λ (o : Option Name). unwrap_or o []) (slice_get-map name_of its.outputs v ∙ ap (option_map name_of) h)
 named_at its v false x h = ap (λ (o : Option Name). unwrap_or o []) (slice_get-map name_of its.inputs v ∙ ap (option_map name_of) h)
 
-one_place : (its : Ports) (v w : ℕ) (a b : Bool) → ¬ (Twice (variable_names its.inputs ++ variable_names its.outputs)) → v < length (side_of its a) → w < length (side_of its b)
+one_index : (its : Ports) (v w : ℕ) (a b : Bool) → ¬ (Twice (variable_names its.inputs ++ variable_names its.outputs)) → v < length (side_of its a) → w < length (side_of its b)
     → name_in its v a ≡ name_in its w b → (a ≡ b) × (v ≡ w)
-one_place its v w a b once h g e =
+one_index its v w a b once h g e =
     let x = element_at (side_of its a) v h in
     let y = element_at (side_of its b) w g in
     let apart : ¬ (Twice (map name_of (both_of its))) = λ t. once (subst (λ (ns : List Name). Twice ns) (names_both its.inputs its.outputs) t) in
     let same : x.0.name ≡ y.0.name = sym (named_at its v a x.0 x.1) ∙ e ∙ named_at its w b y.0 y.1 in
-    let one = position_of_once name_of (both_of its) (place_in its v a) x.0 apart (at_place its v a x.0 x.1) in
-    let two = position_of_once name_of (both_of its) (place_in its w b) y.0 apart (at_place its w b y.0 y.1) in
-    place_split its v w a b h g
-    (same_Some (place_in its v a) (place_in its w b)
+    let one = position_of_once name_of (both_of its) (index_in its v a) x.0 apart (at_index its v a x.0 x.1) in
+    let two = position_of_once name_of (both_of its) (index_in its w b) y.0 apart (at_index its w b y.0 y.1) in
+    index_split its v w a b h g
+    (same_Some (index_in its v a) (index_in its w b)
     (sym one ∙ ap (λ (n : Name). position (same_name n) (map name_of (both_of its))) same ∙ two))
 
 abbrev ports_by : Option Kind → Ports
@@ -155,7 +155,7 @@ module _ (i : Inputs) (accepted : AreAccepted i) (numbered : Numbered i) where
       subst (λ (o : Option Kind). ¬ (Twice (variable_names (ports_by o).inputs ++ variable_names (ports_by o).outputs))) (sym known.2)
       (kind_once i.library i.plan (once_of i accepted) p known.0 known.2)
 
-  at_is : (x : Place) → (variable_of (system_of i) x).at ≡ path_at (system_of i) x.instance
+  at_is : (x : InstanceVariable) → (variable_of (system_of i) x).at ≡ path_at (system_of i) x.instance
   at_is x = of x.is_output
     where
       of : (b : Bool) → (variable_of (system_of i) (record { instance = x.instance; variable = x.variable; is_output = b })).at ≡ path_at (system_of i) x.instance
@@ -174,10 +174,10 @@ module _ (i : Inputs) (accepted : AreAccepted i) (numbered : Numbered i) where
       → (variable_of (system_of i) (record { instance = k; variable = v; is_output = a })).name ≡ (variable_of (system_of i) (record { instance = k; variable = w; is_output = b })).name
       → (a ≡ b) × (v ≡ w)
   one_instance k v w a b x y e =
-      one_place (ports_at (system_of i) (path_at (system_of i) k)) v w a b (ports_once k x.instance) (within k v a x.variable) (within k w b y.variable)
+      one_index (ports_at (system_of i) (path_at (system_of i) k)) v w a b (ports_once k x.instance) (within k v a x.variable) (within k w b y.variable)
       (sym (name_is k v a) ∙ e ∙ name_is k w b)
 
-  pub variable_once : (x y : Place) → IsVariable (system_of i) x → IsVariable (system_of i) y → variable_of (system_of i) x ≡ variable_of (system_of i) y → x ≡ y
+  pub variable_once : (x y : InstanceVariable) → IsVariable (system_of i) x → IsVariable (system_of i) y → variable_of (system_of i) x ≡ variable_of (system_of i) y → x ≡ y
   variable_once x y hx hy e =
       let sys = system_of i in
       let paths : path_at sys x.instance ≡ path_at sys y.instance = sym (at_is x) ∙ ap (λ (p : Port). p.at) e ∙ at_is y in
@@ -191,25 +191,25 @@ module _ (i : Inputs) (accepted : AreAccepted i) (numbered : Numbered i) where
 
   -- ---- A copy more
 
-  module _ (r : ℕ) (old new : Held) (s : Place) (v : Value) (is : IsVariable (system_of i) s) (value : v ≡ (system_of i).initial (variable_of (system_of i) s))
+  module _ (r : ℕ) (old new : Held) (s : InstanceVariable) (v : Value) (is : IsVariable (system_of i) s) (value : v ≡ (system_of i).initial (variable_of (system_of i) s))
       (written : (q : ℕ × ℕ × Bool) → get left_cmp new q ≡ cond (is_eq (left_cmp (key_of s) q)) (Some v) (get left_cmp old q)) where
     updates : (q : ℕ × ℕ × Bool) → get key_cmp new q ≡ cond (is_eq (key_cmp (key_of s) q)) (Some v) (get key_cmp old q)
     updates q =
         subst (λ (cmp : ℕ × ℕ × Bool → ℕ × ℕ × Bool → Ordering). get cmp new q ≡ cond (is_eq (cmp (key_of s) q)) (Some v) (get cmp old q)) left_is (written q)
 
-    pub held_covers : (to : Place) → option_map (variable_of (system_of i)) (Some s) ≡ (system_of i).source (variable_of (system_of i) to) → Covers i r new to
+    pub held_covers : (to : InstanceVariable) → option_map (variable_of (system_of i)) (Some s) ≡ (system_of i).source (variable_of (system_of i) to) → Covers i r new to
     held_covers to comes x hx from outside =
         let same : s ≡ x = variable_once s x is hx (same_Some (variable_of (system_of i) s) (variable_of (system_of i) x) (comes ∙ from)) in
         updates (key_of x)
-        ∙ ap (λ b. cond b (Some v) (get key_cmp old (key_of x))) (ap (λ (z : Place). is_eq (key_cmp (key_of z) (key_of x))) same ∙ key_itself x)
-        ∙ ap (λ (w : Value). Some w) (value ∙ ap (λ (z : Place). (system_of i).initial (variable_of (system_of i) z)) same)
+        ∙ ap (λ b. cond b (Some v) (get key_cmp old (key_of x))) (ap (λ (z : InstanceVariable). is_eq (key_cmp (key_of z) (key_of x))) same ∙ key_itself x)
+        ∙ ap (λ (w : Value). Some w) (value ∙ ap (λ (z : InstanceVariable). (system_of i).initial (variable_of (system_of i) z)) same)
 
     pub held_keeps : KeepsCovers i r old new
     held_keeps to covers x hx from outside =
         updates (key_of x)
         ∙ (elim (is_eq (key_cmp (key_of s) (key_of x))) as
         (λ b. is_eq (key_cmp (key_of s) (key_of x)) ≡ b → cond b (Some v) (get key_cmp old (key_of x)) ≡ Some ((system_of i).initial (variable_of (system_of i) x))) [
-          | true ↦ λ e. ap (λ (w : Value). Some w) (value ∙ ap (λ (z : Place). (system_of i).initial (variable_of (system_of i) z)) (key_same s x e))
+          | true ↦ λ e. ap (λ (w : Value). Some w) (value ∙ ap (λ (z : InstanceVariable). (system_of i).initial (variable_of (system_of i) z)) (key_same s x e))
           | false ↦ λ e. covers x hx from outside
         ] refl)
 
@@ -230,15 +230,15 @@ within_side i k v o vs e is = subst (λ (ws : List Variable). v < length ws) (sy
 module _ (i : Inputs) (r n : ℕ) (old : Held) where
   abbrev BelowCovered : Type 0
   BelowCovered =
-      (to : Place) → to.instance < n → IsVariable (system_of i) to → (system_of i).resource (path_at (system_of i) to.instance) ≡ r → Covers i r old to
+      (to : InstanceVariable) → to.instance < n → IsVariable (system_of i) to → (system_of i).resource (path_at (system_of i) to.instance) ≡ r → Covers i r old to
 
-  side_covered : (held : Held) → CoversPlaces i r held n false → CoversPlaces i r held n true → (v : ℕ) (o : Bool)
+  side_covered : (held : Held) → CoversIndexes i r held n false → CoversIndexes i r held n true → (v : ℕ) (o : Bool)
       → IsVariable (system_of i) (record { instance = n; variable = v; is_output = o }) → Covers i r held (record { instance = n; variable = v; is_output = o })
   side_covered held ins outs v true is = outs v is
   side_covered held ins outs v false is = ins v is
 
-  pub instance_covered : (a b : Held) → BelowCovered → CoversPlaces i r a n false → KeepsCovers i r old a → CoversPlaces i r b n true → KeepsCovers i r a b →
-      (to : Place) → to.instance < n + 1 → IsVariable (system_of i) to → (system_of i).resource (path_at (system_of i) to.instance) ≡ r → Covers i r b to
+  pub instance_covered : (a b : Held) → BelowCovered → CoversIndexes i r a n false → KeepsCovers i r old a → CoversIndexes i r b n true → KeepsCovers i r a b →
+      (to : InstanceVariable) → to.instance < n + 1 → IsVariable (system_of i) to → (system_of i).resource (path_at (system_of i) to.instance) ≡ r → Covers i r b to
   instance_covered a b before ins first outs second to h is lies =
       elim (cases_lt to.instance n) [
         | inl less ↦ second to (first to (before to less is lies))
@@ -250,7 +250,7 @@ module _ (i : Inputs) (r n : ℕ) (old : Held) where
       ]
 
   pub instance_skipped : BelowCovered → (system_of i).resource (path_at (system_of i) n) ≢ r →
-      (to : Place) → to.instance < n + 1 → IsVariable (system_of i) to → (system_of i).resource (path_at (system_of i) to.instance) ≡ r → Covers i r old to
+      (to : InstanceVariable) → to.instance < n + 1 → IsVariable (system_of i) to → (system_of i).resource (path_at (system_of i) to.instance) ≡ r → Covers i r old to
   instance_skipped before outside to h is lies =
       elim (cases_lt to.instance n) [
         | inl less ↦ before to less is lies

@@ -93,7 +93,7 @@ module _ (i : Inputs) (k : Key) (kind : EventKind) (at : Target) (left : ℕ) (w
 
 -- ---- Events among the ports of a composite
 
--- the event at a place is among the events
+-- the event at an index is among the events
 event-among : (es : List EventPort) (e : ℕ) → e < length es → Contains (event_names es) (event_at es e)
 event-among es e h =
     let within : e < length (event_names es) = rw length-map h in
@@ -110,9 +110,9 @@ element-at ts e t is =
     subst (λ (z : BlockType). Contains ts z) (get_or_from_slice_get ts e t t is) (Contains-get_or ts e t (slice_get_within ts e t is))
 
 -- In accepted inputs an event output of a composite type has not the name of an event input.
-outputs-apart : (i : Inputs) → AreAccepted i → (place : ℕ) (t : CompositeType) → slice_get i.library.blocks place ≡ Some (block.Composite t)
+outputs-apart : (i : Inputs) → AreAccepted i → (index : ℕ) (t : CompositeType) → slice_get i.library.blocks index ≡ Some (block.Composite t)
     → (e : ℕ) → e < length t.ports.event_outputs → is_event_input t.ports (event_at t.ports.event_outputs e) ≡ false
-outputs-apart i accepted place t is e within =
+outputs-apart i accepted index t is e within =
     let n : Name = event_at t.ports.event_outputs e in
     let ins : List Name = event_names t.ports.event_inputs in
     let outs : List Name = event_names t.ports.event_outputs in
@@ -121,7 +121,7 @@ outputs-apart i accepted place t is e within =
     let named = Twice-append_left (ins ++ outs ++ variable_names t.ports.inputs ++ variable_names t.ports.outputs) []
     (Twice-append_left (ins ++ outs ++ variable_names t.ports.inputs) (variable_names t.ports.outputs)
     (Twice-append_left (ins ++ outs) (variable_names t.ports.inputs) two)) in
-    accepted 20 (inl (refl, block_twice i.library i.plan (block.Composite t) (element-at i.library.blocks place (block.Composite t) is) (inl (inl named)))))
+    accepted 20 (inl (refl, block_twice i.library i.plan (block.Composite t) (element-at i.library.blocks index (block.Composite t) is) (inl (inl named)))))
 
 -- ---- Composites
 
@@ -154,12 +154,12 @@ module _ (i : Inputs) (k : Key) (at : Target) (t : CompositeType) (is : (system_
       ∙ subst (λ (x : Ports). at.event < length x.event_inputs → is_event_input t.ports (event_at x.event_inputs at.event) ≡ true) (sym ports)
       (λ h. any_from_contains (event_at t.ports.event_inputs at.event) (event_names t.ports.event_inputs) (event-among t.ports.event_inputs at.event h)) within)
 
-  pub composite-leaves : AreAccepted i → (place : ℕ) → slice_get i.library.blocks place ≡ Some (block.Composite t)
+  pub composite-leaves : AreAccepted i → (index : ℕ) → slice_get i.library.blocks index ≡ Some (block.Composite t)
       → at.is_output ≡ true → (left : ℕ) (w : World) → Arrives i k at left w (leaving i k at w left)
-  composite-leaves accepted place declared output left w =
+  composite-leaves accepted index declared output left w =
       let its : Ports = ports_at sys p in
       let within : at.event < length its.event_outputs = subst (λ (b : Bool). at.event < length (cond b its.event_outputs its.event_inputs)) output port.event in
       crossing-arrives left w false
       (ap (λ (q : Port). is_event_input t.ports q.name) (output_port sys at output)
       ∙ subst (λ (x : Ports). at.event < length x.event_outputs → is_event_input t.ports (event_at x.event_outputs at.event) ≡ false) (sym ports)
-      (outputs-apart i accepted place t declared at.event) within)
+      (outputs-apart i accepted index t declared at.event) within)

@@ -3,7 +3,7 @@ use Rattle.std.proofs.Common.{◌≡◌, ℕ, ◌<◌, false, List, [], ◌∷�
 use Rattle.std.specs.Prelude.{All}
 use Rattle.std.proofs.lemmas.List.{map-append}
 use Rattle.std.proofs.lemmas.List.Elements.{All-append, All-push}
-use Rattle.fb_system.specs.Stands.{ArePlaces, variable_at}
+use Rattle.fb_system.specs.Stands.{AreIndexes, variable_at}
 use Rattle.fb_types.specs.Blocks.{Bound, Emission, outputs_with}
 use Rattle.fb_types.specs.Headline.{Inputs, system_of}
 use Rattle.fb_types.specs.Names.{Name, Path, Port}
@@ -29,13 +29,13 @@ use Rattle.fb_net.specs.declared.outbox.Outbox.{Outbox}
 -- ---- What messages carry
 
 pub carried_named :
-    (sys : System) (k : ℕ) (places : List ℕ) (values : List Value)
-    → map (carried_of sys) (carried_by k places values) ≡ carried_from (path_at sys k) (outputs_at sys k places values)
+    (sys : System) (k : ℕ) (indexes : List ℕ) (values : List Value)
+    → map (carried_of sys) (carried_by k indexes values) ≡ carried_from (path_at sys k) (outputs_at sys k indexes values)
 carried_named sys k [] values = refl
-carried_named sys k (place ∷ places) [] = refl
-carried_named sys k (place ∷ places) (v ∷ values) =
-    ap (λ (cs : List (Port × Value)). (record { at = path_at sys k; name = variable_at (ports_at sys (path_at sys k)).outputs place }, v) ∷ cs)
-    (carried_named sys k places values)
+carried_named sys k (index ∷ indexes) [] = refl
+carried_named sys k (index ∷ indexes) (v ∷ values) =
+    ap (λ (cs : List (Port × Value)). (record { at = path_at sys k; name = variable_at (ports_at sys (path_at sys k)).outputs index }, v) ∷ cs)
+    (carried_named sys k indexes values)
 
 -- each element is among the first list's, or among the others
 all_first : {A : Type 0} (P : A → Type 0) (x : A) (xs : List A) → P x → All P xs → All P (x ∷ xs)
@@ -54,13 +54,13 @@ pub others_fit : {A : Type 0} (P : A → Type 0) (x : A) (rest all : List A) →
 others_fit P x rest all parts each = λ k d lt. subst (λ (xs : List _). All P xs) parts each (suc k) d (omega arith)
 
 pub are_carried :
-    (sys : System) (k : ℕ) (places : List ℕ) (values : List Value) → k < length sys.paths
-    → All (λ place. place < length (ports_at sys (path_at sys k)).outputs) places → All (IsCarried sys) (carried_by k places values)
+    (sys : System) (k : ℕ) (indexes : List ℕ) (values : List Value) → k < length sys.paths
+    → All (λ index. index < length (ports_at sys (path_at sys k)).outputs) indexes → All (IsCarried sys) (carried_by k indexes values)
 are_carried sys k [] values h within = λ n d lt. absurd (omega arith)
-are_carried sys k (place ∷ places) [] h within = λ n d lt. absurd (omega arith)
-are_carried sys k (place ∷ places) (v ∷ values) h within =
-    all_first (IsCarried sys) _ (carried_by k places values) (record { instance = h; variable = within 0 0 (omega arith) })
-    (are_carried sys k places values h (λ n d lt. within (suc n) d (omega arith)))
+are_carried sys k (index ∷ indexes) [] h within = λ n d lt. absurd (omega arith)
+are_carried sys k (index ∷ indexes) (v ∷ values) h within =
+    all_first (IsCarried sys) _ (carried_by k indexes values) (record { instance = h; variable = within 0 0 (omega arith) })
+    (are_carried sys k indexes values h (λ n d lt. within (suc n) d (omega arith)))
 
 -- ---- Emission after emission
 
@@ -98,27 +98,27 @@ line_by key k e = record { key = key; taken = false; instance = k; event = e.eve
 
 -- how an emission was done
 pub record Doing (i : Inputs) (key : Key) (k : ℕ) (f : Forest) (x : Outbox) (e : run.Emission) (g : Forest) (y : Outbox) : Type 0 where
-  pub places : List ℕ
-  pub stand : ArePlaces (ports_at (system_of i) (path_at (system_of i) k)).outputs
-      (outputs_with (ports_at (system_of i) (path_at (system_of i) k)) (event_at (ports_at (system_of i) (path_at (system_of i) k)).event_outputs e.event)) places
-  pub published : Changes i f k (outputs_shown (outputs_at (system_of i) k places e.values)) g
+  pub indexes : List ℕ
+  pub stand : AreIndexes (ports_at (system_of i) (path_at (system_of i) k)).outputs
+      (outputs_with (ports_at (system_of i) (path_at (system_of i) k)) (event_at (ports_at (system_of i) (path_at (system_of i) k)).event_outputs e.event)) indexes
+  pub published : Changes i f k (outputs_shown (outputs_at (system_of i) k indexes e.values)) g
   pub sent : map (out_of (system_of i)) y.outs.items ≡ map (out_of (system_of i)) x.outs.items
-      ++ spread (system_of i) g.resource (map (carried_of (system_of i)) (carried_by k places e.values)) ((system_of i).targets (event_output (system_of i) k e.event))
+      ++ spread (system_of i) g.resource (map (carried_of (system_of i)) (carried_by k indexes e.values)) ((system_of i).targets (event_output (system_of i) k e.event))
   pub belong : All (IsOut (system_of i) g.resource) y.outs.items
   pub lines : y.lines.items ≡ x.lines.items ++ line_by key k e ∷ []
   pub timer : y.timer ≡ x.timer
 
 -- where there is no variable WITH the event
-pub no_places : (vs : List Variable) (names : List Name) → 0 ≡ length names → ArePlaces vs names []
-no_places vs [] none = record { named = refl; within = λ n d lt. absurd (omega arith) }
-no_places vs (n ∷ ns) none = absurd (omega arith)
+pub no_indexes : (vs : List Variable) (names : List Name) → 0 ≡ length names → AreIndexes vs names []
+no_indexes vs [] none = record { named = refl; within = λ n d lt. absurd (omega arith) }
+no_indexes vs (n ∷ ns) none = absurd (omega arith)
 
 -- the variables and values of an emission
 same_values :
-    (sys : System) (k : ℕ) (e : run.Emission) (places : List ℕ)
-    → ArePlaces (ports_at sys (path_at sys k)).outputs (outputs_with (ports_at sys (path_at sys k)) (event_at (ports_at sys (path_at sys k)).event_outputs e.event)) places
-    → outputs_at sys k places e.values ≡ (emission_of (ports_at sys (path_at sys k)) e).values
-same_values sys k e places stand = ap (λ (ns : List Name). pair_up ns e.values) stand.named
+    (sys : System) (k : ℕ) (e : run.Emission) (indexes : List ℕ)
+    → AreIndexes (ports_at sys (path_at sys k)).outputs (outputs_with (ports_at sys (path_at sys k)) (event_at (ports_at sys (path_at sys k)).event_outputs e.event)) indexes
+    → outputs_at sys k indexes e.values ≡ (emission_of (ports_at sys (path_at sys k)) e).values
+same_values sys k e indexes stand = ap (λ (ns : List Name). pair_up ns e.values) stand.named
 
 module _ (i : Inputs) (key : Key) (k : ℕ) (f : Forest) (x : Outbox) (e : run.Emission) (g : Forest) (y : Outbox) (done : Doing i key k f x e g y) where
   abbrev sys : System
@@ -134,13 +134,13 @@ module _ (i : Inputs) (key : Key) (k : ℕ) (f : Forest) (x : Outbox) (e : run.E
       ++ spread sys key.resource (carried_from p said.values) (sys.targets (record { at = p; name = said.event }))
   goes resource =
       let here : g.resource ≡ key.resource = done.published.resource ∙ sym resource in
-      let carried : map (carried_of sys) (carried_by k done.places e.values) ≡ carried_from p said.values =
-      carried_named sys k done.places e.values ∙ ap (carried_from p) (same_values sys k e done.places done.stand) in
+      let carried : map (carried_of sys) (carried_by k done.indexes e.values) ≡ carried_from p said.values =
+      carried_named sys k done.indexes e.values ∙ ap (carried_from p) (same_values sys k e done.indexes done.stand) in
       done.sent ∙ (λ n. map (out_of sys) x.outs.items ++ spread sys (here n) (carried n) (sys.targets (event_output sys k e.event)))
 
   shows : (w : World) → IsForest i f w → sys.resource p ≡ f.resource → IsForest i g (with_block p (outputs_shown said.values (w.blocks p)) w)
   shows w forest here =
-      subst (λ (bs : List Bound). IsForest i g (with_block p (outputs_shown bs (w.blocks p)) w)) (same_values sys k e done.places done.stand)
+      subst (λ (bs : List Bound). IsForest i g (with_block p (outputs_shown bs (w.blocks p)) w)) (same_values sys k e done.indexes done.stand)
       (done.published.stands w forest here)
 
   stands : sys.resource p ≡ f.resource → key.resource ≡ f.resource → (before : Gathered) (o : Outcome) → Stands i before f x o

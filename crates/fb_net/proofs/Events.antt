@@ -7,7 +7,7 @@ use Rattle.fb_types.specs.Names.{Name, Path}
 use Rattle.fb_types.specs.Blocks.{Kind, Basic, Event, ports_of_event_block, variable_names}
 use Rattle.fb_types.specs.EventBlocks.{Memory, Reaction, reaction, expiry}
 use Rattle.fb_types.specs.Headline.{Inputs, system_of}
-use Rattle.fb_types.specs.Numbers.{by_place, event_at, path_at, ports_at}
+use Rattle.fb_types.specs.Numbers.{by_index, event_at, path_at, ports_at}
 use Rattle.fb_types.specs.Reactions.{World, memory_of}
 use Rattle.fb_types.specs.States as model
 use Rattle.fb_types.specs.Systems.{System}
@@ -46,7 +46,7 @@ inputs_are : (sys : System) (p : Path) (k : EventKind) (shell : Shell) (b : mode
     → map b.variables (variable_names (ports_of_event_block k).inputs) ≡ shell.inputs
 inputs_are sys p k shell b is h =
     let stand = h.inputs (λ t e. no_basic t (sym is ∙ e)) in
-    ap (map b.variables) (sym (ports_is sys p k is)) ∙ values_by_name (input_names sys p) shell.inputs b.variables stand.each stand.at_place
+    ap (map b.variables) (sym (ports_is sys p k is)) ∙ values_by_name (input_names sys p) shell.inputs b.variables stand.each stand.at_index
   where
     no_basic : (t : BasicType) → Some (Event k) ≢ Some (Basic t)
     no_basic t e = cc
@@ -58,8 +58,8 @@ taken_agrees sys p k s shell b event tick is h stands =
     let names = variable_names (ports_of_event_block k).inputs in
     let e : Name = event_at (ports_of_event_block k).event_inputs event in
     let remembered : s.memory ≡ memory_of b.memory = sym (ap memory_of h.memory) in
-    ap (λ (j : EventKind). reaction j s.memory (event_at (ports_of_event_block j).event_inputs event) tick (by_place (variable_names (ports_of_event_block j).inputs) shell.inputs)) h.is_kind
-    ∙ ap (λ (vs : List Value). reaction k s.memory e tick (by_place names vs)) (sym (inputs_are sys p k shell b is stands))
+    ap (λ (j : EventKind). reaction j s.memory (event_at (ports_of_event_block j).event_inputs event) tick (by_index (variable_names (ports_of_event_block j).inputs) shell.inputs)) h.is_kind
+    ∙ ap (λ (vs : List Value). reaction k s.memory e tick (by_index names vs)) (sym (inputs_are sys p k shell b is stands))
     ∙ reads_inputs k s.memory e tick b.variables
     ∙ ap (λ (m : Memory). reaction k m e tick b.variables) remembered
 

@@ -13,14 +13,14 @@ use Rattle.fb_types.specs.Reactions.{spread}
 use Rattle.fb_types.specs.Systems.{System}
 use Rattle.fb_types.specs.declared.run.Carried.{Carried}
 use Rattle.fb_types.specs.declared.run.Target.{Target}
-use Rattle.fb_system.specs.declared.reached.Reached.{Reached}
+use Rattle.fb_system.specs.declared.next_target.NextTarget.{NextTarget}
 use Rattle.fb_types.specs.declared.value.Value.{Value}
 use Rattle.fb_system.specs.Ports.{IsCarried, IsTarget}
 use Rattle.fb_net.specs.Emitting.{GoesTo, others, out_at}
 use Rattle.fb_net.specs.Outs.{IsOut, out_of}
 use Rattle.fb_net.specs.declared.outbox.Out.{Out}
 use Rattle.fb_net.specs.declared.outbox.Out.TheVariants.{Local, Send}
-use Rattle.fb_net.specs.declared.outbox.Sending.{Sending}
+use Rattle.fb_net.specs.declared.outbox.OutgoingMessage.{OutgoingMessage}
 
 -- ---- One target
 
@@ -42,7 +42,7 @@ goes_local sys r carried t target here =
     }
 
 pub goes_away :
-    (sys : System) (r : ℕ) (carried : List Carried) (s : Sending) → IsTarget sys s.target → sys.resource (path_at sys s.target.instance) ≢ r
+    (sys : System) (r : ℕ) (carried : List Carried) (s : OutgoingMessage) → IsTarget sys s.target → sys.resource (path_at sys s.target.instance) ≢ r
     → s.link ≡ sys.link r (sys.resource (path_at sys s.target.instance)) → s.values ≡ carried → All (IsCarried sys) carried
     → GoesTo sys r (map (carried_of sys) carried) (port_of sys s.target) (Send s)
 goes_away sys r carried s target away link values each =
@@ -63,10 +63,10 @@ spread-append sys r carried [] qs = refl
 spread-append sys r carried (p ∷ ps) qs = ap (λ (os : List reactions.Out). out_at sys r carried p ∷ os) (spread-append sys r carried ps qs)
 
 -- What has gone out to the first targets of a port.
-pub record HaveGone (sys : System) (r : ℕ) (carried : List (Port × Value)) (targets : List Port) (before : List Out) (place : ℕ) (outs : List Out) : Type 0 where
-  pub within : place ≤ length targets
-  pub counted : length outs ≡ length before + place
-  pub sent : map (out_of sys) outs ≡ map (out_of sys) before ++ spread sys r carried (take place targets)
+pub record HaveGone (sys : System) (r : ℕ) (carried : List (Port × Value)) (targets : List Port) (before : List Out) (index : ℕ) (outs : List Out) : Type 0 where
+  pub within : index ≤ length targets
+  pub counted : length outs ≡ length before + index
+  pub sent : map (out_of sys) outs ≡ map (out_of sys) before ++ spread sys r carried (take index targets)
   pub belong : All (IsOut sys r) outs
 
 pub none_gone :
@@ -79,23 +79,23 @@ none_gone sys r carried targets outs belong = record {
   belong = belong;
 }
 
--- where the connection at a place leads, if there is one
-abbrev pub leads_to : System → Option Reached → Option Port
+-- where the connection at an index leads, if there is one
+abbrev pub leads_to : System → Option NextTarget → Option Port
 leads_to sys o = option_map (λ r. port_of sys r.target) o
 
-there : (sys : System) (targets : List Port) (place : ℕ) (o : Option Reached) (r : Reached) → leads_to sys o ≡ slice_get targets place → o ≡ Some r → slice_get targets place ≡ Some (port_of sys r.target)
-there sys targets place o r leads is = sym leads ∙ ap (leads_to sys) is
+there : (sys : System) (targets : List Port) (index : ℕ) (o : Option NextTarget) (r : NextTarget) → leads_to sys o ≡ slice_get targets index → o ≡ Some r → slice_get targets index ≡ Some (port_of sys r.target)
+there sys targets index o r leads is = sym leads ∙ ap (leads_to sys) is
 
 pub one_more_gone :
-    (sys : System) (r : ℕ) (carried : List (Port × Value)) (targets : List Port) (before : List Out) (place : ℕ) (outs : List Out) (o : Option Reached) (t : Reached) (out : Out)
-    → HaveGone sys r carried targets before place outs → leads_to sys o ≡ slice_get targets place → o ≡ Some t → GoesTo sys r carried (port_of sys t.target) out
-    → HaveGone sys r carried targets before (place + 1) (outs ++ out ∷ [])
-one_more_gone sys r carried targets before place outs o t out gone leads is goes =
+    (sys : System) (r : ℕ) (carried : List (Port × Value)) (targets : List Port) (before : List Out) (index : ℕ) (outs : List Out) (o : Option NextTarget) (t : NextTarget) (out : Out)
+    → HaveGone sys r carried targets before index outs → leads_to sys o ≡ slice_get targets index → o ≡ Some t → GoesTo sys r carried (port_of sys t.target) out
+    → HaveGone sys r carried targets before (index + 1) (outs ++ out ∷ [])
+one_more_gone sys r carried targets before index outs o t out gone leads is goes =
     let q = port_of sys t.target in
-    let at : slice_get targets place ≡ Some q = there sys targets place o t leads is in
-    let lt : place < length targets = slice_get_within targets place q at in
-    let taken : take (place + 1) targets ≡ take place targets ++ q ∷ [] =
-    take_more targets place q lt ∙ ap (λ (p : Port). take place targets ++ p ∷ []) (get_or_from_slice_get targets place q q at) in
+    let at : slice_get targets index ≡ Some q = there sys targets index o t leads is in
+    let lt : index < length targets = slice_get_within targets index q at in
+    let taken : take (index + 1) targets ≡ take index targets ++ q ∷ [] =
+    take_more targets index q lt ∙ ap (λ (p : Port). take index targets ++ p ∷ []) (get_or_from_slice_get targets index q q at) in
     let so_far = gone.counted in
     record {
       within = omega arith;
@@ -103,22 +103,22 @@ one_more_gone sys r carried targets before place outs o t out gone leads is goes
       sent =
           map-append (out_of sys) outs (out ∷ [])
           ∙ ap (λ (os : List reactions.Out). os ++ out_of sys out ∷ []) gone.sent
-          ∙ append_assoc (map (out_of sys) before) (spread sys r carried (take place targets)) (out_of sys out ∷ [])
+          ∙ append_assoc (map (out_of sys) before) (spread sys r carried (take index targets)) (out_of sys out ∷ [])
           ∙ ap (λ (os : List reactions.Out). map (out_of sys) before ++ os)
-          (ap (λ (x : reactions.Out). spread sys r carried (take place targets) ++ x ∷ []) goes.is
-          ∙ sym (spread-append sys r carried (take place targets) (q ∷ []))
+          (ap (λ (x : reactions.Out). spread sys r carried (take index targets) ++ x ∷ []) goes.is
+          ∙ sym (spread-append sys r carried (take index targets) (q ∷ []))
           ∙ ap (spread sys r carried) (sym taken));
       belong = All-push (IsOut sys r) outs out gone.belong goes.belongs;
     }
 
-behind : (targets : List Port) (place : ℕ) → slice_get targets place ≡ None → length targets ≤ place
-behind targets place none =
-    elim (cases_lt place (length targets)) [
-      | inl lt ↦ let at : slice_get targets place ≡ Some (get_or targets place (record { at = []; name = [] })) = slice_get-get_or targets place _ lt in absurd (cc)
+behind : (targets : List Port) (index : ℕ) → slice_get targets index ≡ None → length targets ≤ index
+behind targets index none =
+    elim (cases_lt index (length targets)) [
+      | inl lt ↦ let at : slice_get targets index ≡ Some (get_or targets index (record { at = []; name = [] })) = slice_get-get_or targets index _ lt in absurd (cc)
       | inr le ↦ le
     ]
 
--- no other target is behind the one at a place
+-- no other target is behind the one at an index
 pub none_behind : (more : Bool) (n m : ℕ) → IsTrue more ↔ (n < m) → not more ≡ true → m ≤ n
 none_behind true n m says off = absurd (false≢true off)
 none_behind false n m says off =
@@ -129,32 +129,32 @@ none_behind false n m says off =
 
 -- .. where no other target is behind those to which it has
 pub last_gone :
-    (sys : System) (r : ℕ) (carried : List (Port × Value)) (targets : List Port) (before : List Out) (place : ℕ) (outs : List Out)
-    → HaveGone sys r carried targets before place outs → length targets ≤ place → map (out_of sys) outs ≡ map (out_of sys) before ++ spread sys r carried targets
-last_gone sys r carried targets before place outs gone past =
-    gone.sent ∙ ap (λ (ps : List Port). map (out_of sys) before ++ spread sys r carried ps) (take_all place targets past)
+    (sys : System) (r : ℕ) (carried : List (Port × Value)) (targets : List Port) (before : List Out) (index : ℕ) (outs : List Out)
+    → HaveGone sys r carried targets before index outs → length targets ≤ index → map (out_of sys) outs ≡ map (out_of sys) before ++ spread sys r carried targets
+last_gone sys r carried targets before index outs gone past =
+    gone.sent ∙ ap (λ (ps : List Port). map (out_of sys) before ++ spread sys r carried ps) (take_all index targets past)
 
 pub all_gone :
-    (sys : System) (r : ℕ) (carried : List (Port × Value)) (targets : List Port) (before : List Out) (place : ℕ) (outs : List Out) (o : Option Reached)
-    → HaveGone sys r carried targets before place outs → leads_to sys o ≡ slice_get targets place → o ≡ None
+    (sys : System) (r : ℕ) (carried : List (Port × Value)) (targets : List Port) (before : List Out) (index : ℕ) (outs : List Out) (o : Option NextTarget)
+    → HaveGone sys r carried targets before index outs → leads_to sys o ≡ slice_get targets index → o ≡ None
     → map (out_of sys) outs ≡ map (out_of sys) before ++ spread sys r carried targets
-all_gone sys r carried targets before place outs o gone leads is =
-    let none : slice_get targets place ≡ None = sym leads ∙ ap (leads_to sys) is in
-    last_gone sys r carried targets before place outs gone (behind targets place none)
+all_gone sys r carried targets before index outs o gone leads is =
+    let none : slice_get targets index ≡ None = sym leads ∙ ap (leads_to sys) is in
+    last_gone sys r carried targets before index outs gone (behind targets index none)
 
 -- ---- The first target, and the others
 
 -- where nothing goes
 pub none_to_go :
-    (sys : System) (r : ℕ) (carried : List (Port × Value)) (targets : List Port) (outs : List Out) (o : Option Reached)
+    (sys : System) (r : ℕ) (carried : List (Port × Value)) (targets : List Port) (outs : List Out) (o : Option NextTarget)
     → leads_to sys o ≡ slice_get targets 0 → o ≡ None → map (out_of sys) outs ≡ map (out_of sys) outs ++ spread sys r carried targets
 none_to_go sys r carried [] outs o leads is = sym (append-nil (map (out_of sys) outs))
 none_to_go sys r carried (q ∷ qs) outs o leads is = let none : None ≡ Some q = sym (ap (leads_to sys) is) ∙ leads in absurd (cc)
 
 -- what is behind the first
-pub others-at : (targets : List Port) (place : ℕ) → slice_get targets (place + 1) ≡ slice_get (others targets) place
-others-at [] place = refl
-others-at (q ∷ qs) place = let next : place + 1 ≡ suc place = omega arith in ap (slice_get (q ∷ qs)) next
+pub others-at : (targets : List Port) (index : ℕ) → slice_get targets (index + 1) ≡ slice_get (others targets) index
+others-at [] index = refl
+others-at (q ∷ qs) index = let next : index + 1 ≡ suc index = omega arith in ap (slice_get (q ∷ qs)) next
 
 pub others-short : (targets : List Port) (n : ℕ) → length targets ≤ n + 1 → length (others targets) ≤ n
 others-short [] n few = omega arith

@@ -19,56 +19,56 @@ use Rattle.fb_net.specs.Blocks.{components_of, own_of}
 use Rattle.fb_net.specs.Worlds.{StandsFor}
 use Rattle.fb_net.specs.declared.block.Block.{Block}
 use Rattle.fb_net.specs.Opening.{AreDeep, AreGrown, Grown, IsDeep}
-use Rattle.fb_types.proofs.ByPlace.{slice_get-append_left, slice_get-append_here, all_at}
+use Rattle.fb_types.proofs.ByIndex.{slice_get-append_left, slice_get-append_here, all_at}
 use Rattle.fb_net.proofs.Known.{stood}
 
 -- ---- Elements of lists
 
 -- the elements of the first k, and the one behind them
-pub data Nearer {A : Type 0} (xs : List A) (k place : ℕ) (x : A) : Type 0 where
-  Before : slice_get (take k xs) place ≡ Some x → Nearer xs k place x
-  Last : place ≡ k → slice_get xs k ≡ Some x → Nearer xs k place x
+pub data Nearer {A : Type 0} (xs : List A) (k index : ℕ) (x : A) : Type 0 where
+  Before : slice_get (take k xs) index ≡ Some x → Nearer xs k index x
+  Last : index ≡ k → slice_get xs k ≡ Some x → Nearer xs k index x
 
-pub nearer : {A : Type 0} (xs : List A) (k place : ℕ) (x : A) → slice_get (take (suc k) xs) place ≡ Some x → Nearer xs k place x
-nearer [] k place x h = absurd (cc)
+pub nearer : {A : Type 0} (xs : List A) (k index : ℕ) (x : A) → slice_get (take (suc k) xs) index ≡ Some x → Nearer xs k index x
+nearer [] k index x h = absurd (cc)
 nearer (y ∷ xs) zero zero x h = Last refl h
-nearer (y ∷ xs) zero (suc place) x h = absurd (cc)
+nearer (y ∷ xs) zero (suc index) x h = absurd (cc)
 nearer (y ∷ xs) (suc k) zero x h = Before h
-nearer (y ∷ xs) (suc k) (suc place) x h =
-    elim (nearer xs k place x h) [
+nearer (y ∷ xs) (suc k) (suc index) x h =
+    elim (nearer xs k index x h) [
       | Before b ↦ Before b
       | Last e g ↦ Last (ap suc e) g
     ]
 
 -- ---- Numbers of instances
 
--- the number at a place stands for the instance there
+-- the number at an index stands for the instance there
 pub number_is :
-    (i : Inputs) (p : Path) (instances : List Instance) (numbers : List ℕ) (place k : ℕ) → AreNumbers i.library p instances numbers → slice_get numbers place ≡ Some k
-    → (x : Instance) × (slice_get instances place ≡ Some x) × (path_at (system_of i) k ≡ x.name ∷ p) × (k < length (system_of i).paths)
-number_is i p instances numbers place k are h =
-    let at : option_map (λ (x : Instance). x.name ∷ p) (slice_get instances place) ≡ Some (path_of i.library k) =
-    sym (slice_get-map (λ (x : Instance). x.name ∷ p) instances place) ∙ ap (λ (ps : List Path). slice_get ps place) (sym are.paths)
-    ∙ slice_get-map (path_of i.library) numbers place ∙ ap (option_map (path_of i.library)) h in
-    of (slice_get instances place) refl at
+    (i : Inputs) (p : Path) (instances : List Instance) (numbers : List ℕ) (index k : ℕ) → AreNumbers i.library p instances numbers → slice_get numbers index ≡ Some k
+    → (x : Instance) × (slice_get instances index ≡ Some x) × (path_at (system_of i) k ≡ x.name ∷ p) × (k < length (system_of i).paths)
+number_is i p instances numbers index k are h =
+    let at : option_map (λ (x : Instance). x.name ∷ p) (slice_get instances index) ≡ Some (path_of i.library k) =
+    sym (slice_get-map (λ (x : Instance). x.name ∷ p) instances index) ∙ ap (λ (ps : List Path). slice_get ps index) (sym are.paths)
+    ∙ slice_get-map (path_of i.library) numbers index ∙ ap (option_map (path_of i.library)) h in
+    of (slice_get instances index) refl at
   where
-    of : (o : Option Instance) → slice_get instances place ≡ o → option_map (λ (x : Instance). x.name ∷ p) o ≡ Some (path_of i.library k)
-        → (x : Instance) × (slice_get instances place ≡ Some x) × (path_at (system_of i) k ≡ x.name ∷ p) × (k < length (system_of i).paths)
+    of : (o : Option Instance) → slice_get instances index ≡ o → option_map (λ (x : Instance). x.name ∷ p) o ≡ Some (path_of i.library k)
+        → (x : Instance) × (slice_get instances index ≡ Some x) × (path_at (system_of i) k ≡ x.name ∷ p) × (k < length (system_of i).paths)
     of None e at = absurd (none-some (path_of i.library k) at)
-    of (Some x) e at = (x, e, sym (same_Some (x.name ∷ p) (path_of i.library k) at), all_at (λ k. k < length (system_of i).paths) numbers place k are.within h)
+    of (Some x) e at = (x, e, sym (same_Some (x.name ∷ p) (path_of i.library k) at), all_at (λ k. k < length (system_of i).paths) numbers index k are.within h)
 
 -- .. and each instance has a number
 pub instance_is :
-    (i : Inputs) (p : Path) (instances : List Instance) (numbers : List ℕ) (place : ℕ) (x : Instance) → AreNumbers i.library p instances numbers
-    → slice_get instances place ≡ Some x → (k : ℕ) × (slice_get numbers place ≡ Some k) × (path_at (system_of i) k ≡ x.name ∷ p)
-instance_is i p instances numbers place x are h =
-    let at : option_map (path_of i.library) (slice_get numbers place) ≡ Some (x.name ∷ p) =
-    sym (slice_get-map (path_of i.library) numbers place) ∙ ap (λ (ps : List Path). slice_get ps place) are.paths
-    ∙ slice_get-map (λ (x : Instance). x.name ∷ p) instances place ∙ ap (option_map (λ (x : Instance). x.name ∷ p)) h in
-    of (slice_get numbers place) refl at
+    (i : Inputs) (p : Path) (instances : List Instance) (numbers : List ℕ) (index : ℕ) (x : Instance) → AreNumbers i.library p instances numbers
+    → slice_get instances index ≡ Some x → (k : ℕ) × (slice_get numbers index ≡ Some k) × (path_at (system_of i) k ≡ x.name ∷ p)
+instance_is i p instances numbers index x are h =
+    let at : option_map (path_of i.library) (slice_get numbers index) ≡ Some (x.name ∷ p) =
+    sym (slice_get-map (path_of i.library) numbers index) ∙ ap (λ (ps : List Path). slice_get ps index) are.paths
+    ∙ slice_get-map (λ (x : Instance). x.name ∷ p) instances index ∙ ap (option_map (λ (x : Instance). x.name ∷ p)) h in
+    of (slice_get numbers index) refl at
   where
-    of : (o : Option ℕ) → slice_get numbers place ≡ o → option_map (path_of i.library) o ≡ Some (x.name ∷ p)
-        → (k : ℕ) × (slice_get numbers place ≡ Some k) × (path_at (system_of i) k ≡ x.name ∷ p)
+    of : (o : Option ℕ) → slice_get numbers index ≡ o → option_map (path_of i.library) o ≡ Some (x.name ∷ p)
+        → (k : ℕ) × (slice_get numbers index ≡ Some k) × (path_at (system_of i) k ≡ x.name ∷ p)
     of None e at = absurd (none-some (x.name ∷ p) at)
     of (Some k) e at = (k, e, same_Some (path_of i.library k) (x.name ∷ p) at)
 
@@ -87,12 +87,12 @@ room i depth k accepted d =
 
 pub deeper :
     (i : Inputs) (depth k : ℕ) (inner : List ℕ) → AreAccepted i → IsDeep i depth k → AreComponents i.library (path_at (system_of i) k) inner → AreDeep i (depth - 1) inner
-deeper i depth k inner accepted d are place j h = of (network_at i.library (path_at (system_of i) k)) are
+deeper i depth k inner accepted d are index j h = of (network_at i.library (path_at (system_of i) k)) are
   where
     of : (o : Option Network) → Inner i.library (path_at (system_of i) k) inner o → IsDeep i (depth - 1) j
-    of None e = absurd (none-some j (ap (λ (ks : List ℕ). slice_get ks place) (sym e) ∙ h))
+    of None e = absurd (none-some j (ap (λ (ks : List ℕ). slice_get ks index) (sym e) ∙ h))
     of (Some net) e =
-        let x = number_is i (path_at (system_of i) k) net.instances inner place j e h in
+        let x = number_is i (path_at (system_of i) k) net.instances inner index j e h in
         let long : length (path_at (system_of i) j) ≡ suc (length (path_at (system_of i) k)) = ap (λ (p : Path). length p) x.2 in
         let enough : 1 ≤ depth = room i depth k accepted d in
         let deep : length (path_at (system_of i) k) + depth ≡ 18 = d.deep in
@@ -122,17 +122,17 @@ pub grown_one :
     → Grown i (suc d) (path_at (system_of i) k) b
 grown_one i d k inner components b accepted h are grown stands holds = (
   stands,
-  λ net is place x at.
+  λ net is index x at.
       let p = path_at (system_of i) k in
       let numbers : AreNumbers i.library p net.instances inner =
       subst (λ (o : Option Network). Inner i.library p inner o) is are in
-      let j = instance_is i p net.instances inner place x numbers at in
-      let c = grown.grown place j.0 j.1 in
+      let j = instance_is i p net.instances inner index x numbers at in
+      let c = grown.grown index j.0 j.1 in
       let same : components_of b ≡ components = elim (composite_there i p net is) [
         | inl e ↦ absurd (let s = stood i k accepted h in no_path p s.instance e s.is_instance)
         | inr t ↦ holds t.0 t.1
       ] in
-      (c.0, ap (λ (bs : List Block). slice_get bs place) same ∙ c.1, subst (λ (q : Path). Grown i d q c.0) j.2 c.2),
+      (c.0, ap (λ (bs : List Block). slice_get bs index) same ∙ c.1, subst (λ (q : Path). Grown i d q c.0) j.2 c.2),
 )
   where
     no_path : (q : Path) (x : Instance) → length q ≡ 0 → instance_at i.library q ≡ Some x → ⊥
@@ -140,18 +140,18 @@ grown_one i d k inner components b accepted h are grown stands holds = (
     no_path (n ∷ q) x e g = absurd (omega (arith, e))
 
 pub grown_more :
-    (i : Inputs) (depth : ℕ) (numbers : List ℕ) (place k : ℕ) (blocks : List Block) (b : Block) → AreGrown i depth (take place numbers) blocks
-    → slice_get numbers place ≡ Some k → Grown i depth (path_at (system_of i) k) b → AreGrown i depth (take (place + 1) numbers) (blocks ++ b ∷ [])
-grown_more i depth numbers place k blocks b grown at one =
-    let next : place + 1 ≡ suc place = omega arith in
-    let within = slice_get_within numbers place k at in
-    let shorter : length (take place numbers) ≡ place = Rattle.std.proofs.lemmas.List.length-take-le place numbers (omega (arith, within)) in
-    let longer : length (take (suc place) numbers) ≡ suc place = Rattle.std.proofs.lemmas.List.length-take-le (suc place) numbers (omega (arith, within)) in
-    let last : length blocks ≡ place = grown.each ∙ shorter in
+    (i : Inputs) (depth : ℕ) (numbers : List ℕ) (index k : ℕ) (blocks : List Block) (b : Block) → AreGrown i depth (take index numbers) blocks
+    → slice_get numbers index ≡ Some k → Grown i depth (path_at (system_of i) k) b → AreGrown i depth (take (index + 1) numbers) (blocks ++ b ∷ [])
+grown_more i depth numbers index k blocks b grown at one =
+    let next : index + 1 ≡ suc index = omega arith in
+    let within = slice_get_within numbers index k at in
+    let shorter : length (take index numbers) ≡ index = Rattle.std.proofs.lemmas.List.length-take-le index numbers (omega (arith, within)) in
+    let longer : length (take (suc index) numbers) ≡ suc index = Rattle.std.proofs.lemmas.List.length-take-le (suc index) numbers (omega (arith, within)) in
+    let last : length blocks ≡ index = grown.each ∙ shorter in
     rw next (record {
-      each = Rattle.std.proofs.Common.length-append blocks (b ∷ []) ∙ (let e : length blocks + 1 ≡ suc place = omega (arith, last) in e) ∙ sym longer;
+      each = Rattle.std.proofs.Common.length-append blocks (b ∷ []) ∙ (let e : length blocks + 1 ≡ suc index = omega (arith, last) in e) ∙ sym longer;
       grown = λ other j h.
-          elim (nearer numbers place other j h) [
+          elim (nearer numbers index other j h) [
             | Before g ↦ (let c = grown.grown other j g in (c.0, slice_get-append_left blocks (b ∷ []) other c.0 c.1, c.2))
             | Last e g ↦ (
               b,
@@ -162,8 +162,8 @@ grown_more i depth numbers place k blocks b grown at one =
     })
 
 pub grown_none : (i : Inputs) (depth : ℕ) (numbers : List ℕ) → AreGrown i depth (take 0 numbers) []
-grown_none i depth [] = record { each = refl; grown = λ place k h. absurd (none-some k h) }
-grown_none i depth (n ∷ ns) = record { each = refl; grown = λ place k h. absurd (none-some k h) }
+grown_none i depth [] = record { each = refl; grown = λ index k h. absurd (none-some k h) }
+grown_none i depth (n ∷ ns) = record { each = refl; grown = λ index k h. absurd (none-some k h) }
 
 pub grown_step :
     (i : Inputs) (depth index : ℕ) (numbers inner : List ℕ) (blocks components more : List Block) (b : Block) → AreAccepted i → AreDeep i depth numbers

@@ -25,7 +25,7 @@ use Rattle.fb_types.specs.declared.library.Parameter.{Parameter}
 use Rattle.fb_types.proofs.Positions.{is_some-position, named-position, named_of_once, position_is}
 use Rattle.fb_types.proofs.Options.{and_then_parts, map_parts, some_from_is_some}
 use Rattle.fb_types.proofs.NameLaws.{any_from_contains, contains_from_any, named-Contains}
-use Rattle.fb_types.proofs.ByPlace.{place_of_element}
+use Rattle.fb_types.proofs.ByIndex.{index_of_element}
 use Rattle.fb_types.proofs.TwiceLaws.{Twice-append_left, once_right}
 use Rattle.fb_types.proofs.Elements.{Contains-cons_cases, Contains-here, Contains-nil, Contains-there, Contains-flat_map, Contains-map, flat_map-Contains}
 use Rattle.fb_system.proofs.Distinct.{AreOnce, below, paths_from}
@@ -69,7 +69,7 @@ found_at :
     (lib : Library) (p : Path) (net : Network) (i : Instance) → AreOnce lib → network_at lib p ≡ Some net → Contains net.instances i
     → instance_at lib (i.name ∷ p) ≡ Some i
 found_at lib p net i once h c =
-    let at = place_of_element net.instances i c in
+    let at = index_of_element net.instances i c in
     let known = net_known lib p net h in
     ap (option_and_then (λ (net : Network). instance_in net i.name)) h
     ∙ named_of_once name_of net.instances at.0 i (once.each (known.outer, net) known.among) at.1

@@ -5,7 +5,7 @@ use Rattle.fb_types.specs.Names.{Name, Path}
 use Rattle.fb_types.specs.Values.{Values}
 use Rattle.fb_types.specs.Blocks.{Kind, Basic, Event, ports_of_event_block, variable_names}
 use Rattle.fb_types.specs.EventBlocks.{Memory, reaction}
-use Rattle.fb_types.specs.Numbers.{by_place}
+use Rattle.fb_types.specs.Numbers.{by_index}
 use Rattle.fb_types.specs.States as model
 use Rattle.fb_types.specs.Systems.{System}
 use Rattle.fb_types.specs.declared.event_kind.EventKind.{EventKind}
@@ -57,20 +57,20 @@ module _ (sys : System) (p : Path) (d : Block) (b : model.Block) (stands : Stand
 
 -- ---- What an event block reads of its data inputs
 
--- the values that stand by place are those of the names
+-- the values that stand by index are those of the names
 pub values_by_name : (names : List Name) (values : List Value) (all : Values) → length values ≡ length names
-    → ((place : ℕ) (n : Name) (v : Value) → slice_get names place ≡ Some n → slice_get values place ≡ Some v → all n ≡ v)
+    → ((index : ℕ) (n : Name) (v : Value) → slice_get names index ≡ Some n → slice_get values index ≡ Some v → all n ≡ v)
     → map all names ≡ values
 values_by_name [] [] all e at = refl
 values_by_name [] (v ∷ vs) all e at = cc
 values_by_name (n ∷ ns) [] all e at = cc
 values_by_name (n ∷ ns) (v ∷ vs) all e at =
     let here : all n ≡ v = at 0 n v refl refl in
-    let rest : map all ns ≡ vs = values_by_name ns vs all (cc) (λ place m w p q. at (suc place) m w p q) in
+    let rest : map all ns ≡ vs = values_by_name ns vs all (cc) (λ index m w p q. at (suc index) m w p q) in
     cc
 
 -- a reaction reads the data inputs alone
 pub reads_inputs : (k : EventKind) (m : Memory) (e : Name) (tick : ℕ) (all : Values)
-    → let names = variable_names (ports_of_event_block k).inputs in reaction k m e tick (by_place names (map all names)) ≡ reaction k m e tick all
+    → let names = variable_names (ports_of_event_block k).inputs in reaction k m e tick (by_index names (map all names)) ≡ reaction k m e tick all
 reads_inputs kind.Restart m e tick all = refl
 reads_inputs _ m e tick all = refl

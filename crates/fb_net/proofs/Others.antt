@@ -38,7 +38,7 @@ still_composite a b bs way e = by_components (components_of a) refl e
     by_components (c ∷ cs) is e = components_of-with a bs cs c is
 
 module _ (blocks : List Block) (p : ℕ) (b : Block) (stands : slice_get blocks p ≡ Some b) where
-  -- below a block that is put at a place stand its components
+  -- below a block that is put at an index stand its components
   below_put : (w : Block) (q s : ℕ) (t : List ℕ) → q ≡ p → own_at (slice_set blocks p w) (q ∷ (s ∷ t)) ≡ own_at (components_of w) (s ∷ t)
   below_put w q s t e = ap (λ k. own_at (slice_set blocks p w) (k ∷ (s ∷ t))) e ∙ inside (slice_set blocks p w) p w s t (get_set_same blocks p b w stands)
 
@@ -71,12 +71,12 @@ module _ (blocks : List Block) (p : ℕ) (b : Block) (stands : slice_get blocks 
           elsewhere = deep_elsewhere;
         }
 
-by_place : (blocks : List Block) (p next : ℕ) (rest : List ℕ) (b w : Block) (o : Option Block) → slice_get blocks p ≡ o →
+by_index : (blocks : List Block) (p next : ℕ) (rest : List ℕ) (b w : Block) (o : Option Block) → slice_get blocks p ≡ o →
     option_and_then (λ a. block_at (components_of a) (next ∷ rest)) o ≡ Some b →
     ((cs : List Block) → block_at cs (next ∷ rest) ≡ Some b → PutAlone cs (next ∷ rest) (own_of w) (put_at cs (next ∷ rest) w)) →
     PutAlone blocks (p ∷ (next ∷ rest)) (own_of w) (put_back blocks p (λ a. with_components a (put_at (components_of a) (next ∷ rest) w)) o)
-by_place blocks p next rest b w None is stood inner = cc
-by_place blocks p next rest b w (Some a) is stood inner =
+by_index blocks p next rest b w None is stood inner = cc
+by_index blocks p next rest b w (Some a) is stood inner =
     deep blocks p a is rest next (own_of w) (put_at (components_of a) (next ∷ rest) w) (inner (components_of a) stood)
     (still_composite a b (put_at (components_of a) (next ∷ rest) w) (next ∷ rest) stood)
 
@@ -85,4 +85,4 @@ others_stay blocks [] b w stood same = cc
 others_stay blocks (p ∷ []) b w stood same =
     record { here = ap (option_map own_of) (get_set_same blocks p b w stood); elsewhere = top_elsewhere blocks p b stood w same }
 others_stay blocks (p ∷ (next ∷ rest)) b w stood same =
-    by_place blocks p next rest b w (slice_get blocks p) refl stood (λ cs e. others_stay cs (next ∷ rest) b w e same)
+    by_index blocks p next rest b w (slice_get blocks p) refl stood (λ cs e. others_stay cs (next ∷ rest) b w e same)

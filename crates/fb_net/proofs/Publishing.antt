@@ -43,28 +43,28 @@ get_or-pair_up (n ∷ ns) (v ∷ vs) (suc j) d h h' = get_or-pair_up ns vs j d (
 
 -- the values of one turn more
 take-outputs :
-    (sys : System) (k j place : ℕ) (places : List ℕ) (values : List Value) (v : Value) → j < length places → j < length values → place ≡ get_or places j 0 → v ≡ get_or values j v
-    → take (j + 1) (outputs_at sys k places values)
-    ≡ take j (outputs_at sys k places values) ++ record { variable = variable_at (ports_at sys (path_at sys k)).outputs place; value = v } ∷ []
-take-outputs sys k j place places values v h h' is value =
+    (sys : System) (k j index : ℕ) (indexes : List ℕ) (values : List Value) (v : Value) → j < length indexes → j < length values → index ≡ get_or indexes j 0 → v ≡ get_or values j v
+    → take (j + 1) (outputs_at sys k indexes values)
+    ≡ take j (outputs_at sys k indexes values) ++ record { variable = variable_at (ports_at sys (path_at sys k)).outputs index; value = v } ∷ []
+take-outputs sys k j index indexes values v h h' is value =
     let name = variable_at (ports_at sys (path_at sys k)).outputs in
-    let ns = map name places in
-    let long : length ns ≡ length places = length-map places name in
+    let ns = map name indexes in
+    let long : length ns ≡ length indexes = length-map indexes name in
     let d : Bound = record { variable = name 0; value = v } in
     let counted = length-pair_up ns values in
-    let named : get_or ns j (name 0) ≡ name place = get_or-map name places j 0 (name 0) h ∙ ap name (sym is) in
-    let last : get_or (pair_up ns values) j d ≡ record { variable = name place; value = v } =
+    let named : get_or ns j (name 0) ≡ name index = get_or-map name indexes j 0 (name 0) h ∙ ap name (sym is) in
+    let last : get_or (pair_up ns values) j d ≡ record { variable = name index; value = v } =
     get_or-pair_up ns values j d (omega arith) h' ∙ (λ i. record { variable = named i; value = sym value i }) in
     take_more (pair_up ns values) j d (omega arith) ∙ ap (λ (b : Bound). take j (pair_up ns values) ++ b ∷ []) last
 
 pub all-outputs :
-    (sys : System) (k j : ℕ) (places : List ℕ) (values : List Value) → j ≡ min (length places) (length values)
-    → take j (outputs_at sys k places values) ≡ outputs_at sys k places values
-all-outputs sys k j places values e =
+    (sys : System) (k j : ℕ) (indexes : List ℕ) (values : List Value) → j ≡ min (length indexes) (length values)
+    → take j (outputs_at sys k indexes values) ≡ outputs_at sys k indexes values
+all-outputs sys k j indexes values e =
     let name = variable_at (ports_at sys (path_at sys k)).outputs in
-    let long : length (map name places) ≡ length places = length-map places name in
-    let counted = length-pair_up (map name places) values in
-    take_all j (outputs_at sys k places values) (omega arith)
+    let long : length (map name indexes) ≡ length indexes = length-map indexes name in
+    let counted = length-pair_up (map name indexes) values in
+    take_all j (outputs_at sys k indexes values) (omega arith)
 
 -- ---- Worlds
 
@@ -108,12 +108,12 @@ one_more i k f g h bs b first then = record {
 }
 
 pub one_more_shown :
-    (i : Inputs) (k : ℕ) (f g h : Forest) (j place : ℕ) (places : List ℕ) (values : List Value) (v : Value)
-    → Changes i f k (outputs_shown (take j (outputs_at (system_of i) k places values))) g
-    → j < length places → j < length values → place ≡ get_or places j 0 → v ≡ get_or values j v
-    → Changes i g k (output_shown (variable_at (ports_at (system_of i) (path_at (system_of i) k)).outputs place) v) h
-    → Changes i f k (outputs_shown (take (j + 1) (outputs_at (system_of i) k places values))) h
-one_more_shown i k f g h j place places values v first lt lt' is value then =
+    (i : Inputs) (k : ℕ) (f g h : Forest) (j index : ℕ) (indexes : List ℕ) (values : List Value) (v : Value)
+    → Changes i f k (outputs_shown (take j (outputs_at (system_of i) k indexes values))) g
+    → j < length indexes → j < length values → index ≡ get_or indexes j 0 → v ≡ get_or values j v
+    → Changes i g k (output_shown (variable_at (ports_at (system_of i) (path_at (system_of i) k)).outputs index) v) h
+    → Changes i f k (outputs_shown (take (j + 1) (outputs_at (system_of i) k indexes values))) h
+one_more_shown i k f g h j index indexes values v first lt lt' is value then =
     let sys = system_of i in
-    subst (λ (bs : List Bound). Changes i f k (outputs_shown bs) h) (sym (take-outputs sys k j place places values v lt lt' is value))
-    (one_more i k f g h (take j (outputs_at sys k places values)) (record { variable = variable_at (ports_at sys (path_at sys k)).outputs place; value = v }) first then)
+    subst (λ (bs : List Bound). Changes i f k (outputs_shown bs) h) (sym (take-outputs sys k j index indexes values v lt lt' is value))
+    (one_more i k f g h (take j (outputs_at sys k indexes values)) (record { variable = variable_at (ports_at sys (path_at sys k)).outputs index; value = v }) first then)

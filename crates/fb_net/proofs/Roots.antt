@@ -5,7 +5,7 @@ use Rattle.std.proofs.lemmas.Option.{slice_get-get_or, slice_get_within, same_So
 use Rattle.std.proofs.lemmas.List.{length-take-le, take_all}
 use Rattle.fb_types.specs.Headline.{Inputs, system_of}
 use Rattle.fb_types.specs.Numbers.{path_at}
-use Rattle.fb_types.proofs.ByPlace.{slice_get-append_left, slice_get-append_here}
+use Rattle.fb_types.proofs.ByIndex.{slice_get-append_left, slice_get-append_here}
 use Rattle.fb_system.specs.Layouts.{AreNumbers}
 use Rattle.fb_net.specs.Opening.{AreRooted, AreRoots}
 use Rattle.fb_net.specs.Worlds.{seat_in}
@@ -41,8 +41,8 @@ among (z ∷ zs) y (suc m) x h =
     ]
 
 pub no_roots : (i : Inputs) (r : ℕ) (top : List ℕ) → AreRoots i r (take 0 top) [] []
-no_roots i r [] = record { each = refl; there = λ place k at lies. absurd (none-some k at); among = λ place k at. absurd (none-some k at) }
-no_roots i r (k ∷ ks) = record { each = refl; there = λ place k at lies. absurd (none-some k at); among = λ place k at. absurd (none-some k at) }
+no_roots i r [] = record { each = refl; there = λ index k at lies. absurd (none-some k at); among = λ index k at. absurd (none-some k at) }
+no_roots i r (k ∷ ks) = record { each = refl; there = λ index k at lies. absurd (none-some k at); among = λ index k at. absurd (none-some k at) }
 
 module _ (i : Inputs) (r n k : ℕ) (top roots numbers : List ℕ) (at : slice_get top n ≡ Some k) (are : AreRoots i r (take n top) roots numbers) where
   within : n < length top
@@ -60,10 +60,10 @@ module _ (i : Inputs) (r n k : ℕ) (top roots numbers : List ℕ) (at : slice_g
       let e : n + 1 ≡ suc n = omega arith in
       longer roots x n long ∙ e ∙ sym (length-take-le (suc n) top (omega (arith, h)))
 
-  kept : (x place j : ℕ) → slice_get (take n top) place ≡ Some j → seat_in (roots ++ x ∷ []) place ≡ seat_in roots place
-  kept x place j h =
-      let before = slice_get_within (take n top) place j h in
-      let same = are.each in seat_kept roots x place (omega (arith, before, same))
+  kept : (x index j : ℕ) → slice_get (take n top) index ≡ Some j → seat_in (roots ++ x ∷ []) index ≡ seat_in roots index
+  kept x index j h =
+      let before = slice_get_within (take n top) index j h in
+      let same = are.each in seat_kept roots x index (omega (arith, before, same))
 
   -- an instance that lies in the resource is put behind the others
   pub root_here : (system_of i).resource (path_at (system_of i) k) ≡ r → AreRoots i r (take (n + 1) top) (roots ++ length numbers ∷ []) (numbers ++ k ∷ [])
@@ -71,16 +71,16 @@ module _ (i : Inputs) (r n k : ℕ) (top roots numbers : List ℕ) (at : slice_g
       let next : n + 1 ≡ suc n = omega arith in
       rw next (record {
         each = each (length numbers);
-        there = λ place j h lies_j. elim (nearer top n place j h) [
+        there = λ index j h lies_j. elim (nearer top n index j h) [
           | Before g ↦
-              ap (slice_get (numbers ++ k ∷ [])) (kept (length numbers) place j g)
-              ∙ slice_get-append_left numbers (k ∷ []) (seat_in roots place) j (are.there place j g lies_j)
+              ap (slice_get (numbers ++ k ∷ [])) (kept (length numbers) index j g)
+              ∙ slice_get-append_left numbers (k ∷ []) (seat_in roots index) j (are.there index j g lies_j)
           | Last e g ↦
               ap (λ p. slice_get (numbers ++ k ∷ []) (seat_in (roots ++ length numbers ∷ []) p)) e
               ∙ ap (slice_get (numbers ++ k ∷ [])) (seat_last roots (length numbers) n long) ∙ slice_get-append_here numbers k ∙ sym at ∙ g
         ];
-        among = λ place j h. elim (among numbers k place j h) [
-          | There g ↦ (let m = are.among place j g in (m.0, one_more top n m.0 j m.1))
+        among = λ index j h. elim (among numbers k index j h) [
+          | There g ↦ (let m = are.among index j g in (m.0, one_more top n m.0 j m.1))
           | Behind e ↦ (n, last_one top n k at ∙ ap Some e)
         ];
       })
@@ -91,11 +91,11 @@ module _ (i : Inputs) (r n k : ℕ) (top roots numbers : List ℕ) (at : slice_g
       let next : n + 1 ≡ suc n = omega arith in
       rw next (record {
         each = each x;
-        there = λ place j h lies_j. elim (nearer top n place j h) [
-          | Before g ↦ ap (slice_get numbers) (kept x place j g) ∙ are.there place j g lies_j
+        there = λ index j h lies_j. elim (nearer top n index j h) [
+          | Before g ↦ ap (slice_get numbers) (kept x index j g) ∙ are.there index j g lies_j
           | Last e g ↦ absurd (away (ap (λ (m : ℕ). (system_of i).resource (path_at (system_of i) m)) (same_Some k j (sym at ∙ g)) ∙ lies_j))
         ];
-        among = λ place j h. (let m = are.among place j h in (m.0, one_more top n m.0 j m.1));
+        among = λ index j h. (let m = are.among index j h in (m.0, one_more top n m.0 j m.1));
       })
 
 -- the same, by what the lists have become

@@ -7,19 +7,19 @@ use Rattle.fb_types.specs.Numbers.{path_at}
 use Rattle.fb_types.specs.Reactions.{World, is_input_of, seen, shown}
 use Rattle.fb_types.specs.declared.library.Ports.{Ports}
 use Rattle.fb_types.specs.declared.value.Value.{Value}
-use Rattle.fb_types.specs.declared.run.Place.{Place}
+use Rattle.fb_types.specs.declared.run.InstanceVariable.{InstanceVariable}
 use Rattle.fb_types.proofs.NameLaws.{any_from_contains}
 use Rattle.fb_system.specs.Ports.{IsSource, IsVariable, variable_of, variables_at}
 use Rattle.fb_net.specs.Changes.{ShowsInside}
 use Rattle.fb_net.specs.Worlds.{IsComposite, Reads, Samples, Shows}
 use Rattle.fb_net.specs.declared.resource.Forest.{Forest}
 use Rattle.fb_net.proofs.Apart.{kind_apart}
-use Rattle.fb_types.proofs.ByPlace.{element_of_place}
+use Rattle.fb_types.proofs.ByIndex.{element_of_index}
 use Rattle.fb_net.proofs.Shown.{at_is, name_there}
 
-module _ (i : Inputs) (x : Place) (variable : IsVariable (system_of i) x) where
+module _ (i : Inputs) (x : InstanceVariable) (variable : IsVariable (system_of i) x) where
   named : Contains (variable_names (variables_at (system_of i) x)) (variable_of (system_of i) x).name
-  named = element_of_place (variable_names (variables_at (system_of i) x)) x.variable (variable_of (system_of i) x).name (name_there (system_of i) x variable)
+  named = element_of_index (variable_names (variables_at (system_of i) x)) x.variable (variable_of (system_of i) x).name (name_there (system_of i) x variable)
 
   of_kind : (k : Kind) → (system_of i).kind (path_at (system_of i) x.instance) ≡ Some k →
       variables_at (system_of i) x ≡ (if x.is_output then (ports_of k).outputs else (ports_of k).inputs)
@@ -60,7 +60,7 @@ module _ (i : Inputs) (x : Place) (variable : IsVariable (system_of i) x) where
       (at_own_path ∙ input_name into _ composite.1))
 
 pub source_sampled :
-    (i : Inputs) (t : Forest) (x s : Place) (v : Value) → IsVariable (system_of i) x → IsSource (system_of i) s →
+    (i : Inputs) (t : Forest) (x s : InstanceVariable) (v : Value) → IsVariable (system_of i) x → IsSource (system_of i) s →
     Some (variable_of (system_of i) s) ≡ (system_of i).source (variable_of (system_of i) x) → Shows i t s v → Samples i t x v
 source_sampled i t x s v is_x is_s comes shows w tree within =
     shows w tree (record { to = x; variable = is_x; within = within; source = sym comes }) is_s
@@ -68,7 +68,7 @@ source_sampled i t x s v is_x is_s comes shows w tree within =
 
 -- the same for a data output of a composite, from inside
 pub source_inside :
-    (i : Inputs) (t : Forest) (x s : Place) (v : Value) → IsVariable (system_of i) x → IsSource (system_of i) s →
+    (i : Inputs) (t : Forest) (x s : InstanceVariable) (v : Value) → IsVariable (system_of i) x → IsSource (system_of i) s →
     Some (variable_of (system_of i) s) ≡ (system_of i).source (variable_of (system_of i) x) → Shows i t s v → ShowsInside i t x v
 source_inside i t x s v is_x is_s comes shows w tree within =
     shows w tree (record { to = x; variable = is_x; within = within; source = sym comes }) is_s
@@ -76,14 +76,14 @@ source_inside i t x s v is_x is_s comes shows w tree within =
 
 -- without a source a data input has what a stimulus has set
 pub slot_sampled :
-    (i : Inputs) (t : Forest) (x : Place) (v : Value) → None ≡ (system_of i).source (variable_of (system_of i) x) → Reads i t x (λ b. b.slots) v → Samples i t x v
+    (i : Inputs) (t : Forest) (x : InstanceVariable) (v : Value) → None ≡ (system_of i).source (variable_of (system_of i) x) → Reads i t x (λ b. b.slots) v → Samples i t x v
 slot_sampled i t x v comes reads w tree within =
     reads w tree within
     ∙ ap (λ o. elim o [ None ↦ (w.blocks (variable_of (system_of i) x).at).slots (variable_of (system_of i) x).name | Some q ↦ shown (system_of i) t.resource w q ]) comes
 
 -- .. and a data output of a composite what it showed before
 pub published_inside :
-    (i : Inputs) (t : Forest) (x : Place) (v : Value) → None ≡ (system_of i).source (variable_of (system_of i) x) → Reads i t x (λ b. b.published) v → ShowsInside i t x v
+    (i : Inputs) (t : Forest) (x : InstanceVariable) (v : Value) → None ≡ (system_of i).source (variable_of (system_of i) x) → Reads i t x (λ b. b.published) v → ShowsInside i t x v
 published_inside i t x v comes reads w tree within =
     reads w tree within
     ∙ ap (λ o. elim o [ None ↦ (w.blocks (variable_of (system_of i) x).at).published (variable_of (system_of i) x).name | Some q ↦ shown (system_of i) t.resource w q ]) comes

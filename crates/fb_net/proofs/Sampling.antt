@@ -20,7 +20,7 @@ use Rattle.fb_types.specs.declared.run.Target.{Target}
 use Rattle.fb_types.specs.declared.value.Value.{Value}
 use Rattle.fb_types.proofs.NameLaws.{same_from_same_name, same_name-itself}
 use Rattle.fb_system.specs.Ports.{data_input}
-use Rattle.fb_system.specs.Stands.{ArePlaces}
+use Rattle.fb_system.specs.Stands.{AreIndexes}
 use Rattle.fb_net.specs.Outs.{Stands, gathered, out_of}
 use Rattle.fb_net.specs.declared.outbox.Outbox.{Outbox}
 use Rattle.fb_net.specs.Samples.{AreSampled, all_sampled, names_in}
@@ -167,27 +167,27 @@ sampling-stands i k at old new x y values ready input here are changes written o
     })
 
 -- no variables WITH the event: nothing is sampled
-pub none-sampled : (i : Inputs) (f : Forest) (at : Target) (places : List ℕ) (values : List Value)
-    → ArePlaces (ports_at (system_of i) (path_at (system_of i) at.instance)).inputs (names_in (system_of i) at) places → length places ≡ 0 → values ≡ []
+pub none-sampled : (i : Inputs) (f : Forest) (at : Target) (indexes : List ℕ) (values : List Value)
+    → AreIndexes (ports_at (system_of i) (path_at (system_of i) at.instance)).inputs (names_in (system_of i) at) indexes → length indexes ≡ 0 → values ≡ []
     → AreSampled i f at values
 none-sampled i f at [] values stand none empty w h lies =
     empty ∙ ap (map (sample_at (system_of i) f.resource w (path_at (system_of i) at.instance))) stand.named
-none-sampled i f at (place ∷ places) values stand none empty w h lies = absurd (omega arith)
+none-sampled i f at (index ∷ indexes) values stand none empty w h lies = absurd (omega arith)
 
 -- one variable WITH the event
-pub one-sampled : (i : Inputs) (f : Forest) (at : Target) (places : List ℕ) (value : Value) (values : List Value)
-    → ArePlaces (ports_at (system_of i) (path_at (system_of i) at.instance)).inputs (names_in (system_of i) at) places → length places ≡ 1
-    → ((w : World) → IsForest i f w → InForest i f at.instance → value ≡ sampled_from (system_of i) f.resource w (data_input (system_of i) at.instance (get_or places 0 0)))
+pub one-sampled : (i : Inputs) (f : Forest) (at : Target) (indexes : List ℕ) (value : Value) (values : List Value)
+    → AreIndexes (ports_at (system_of i) (path_at (system_of i) at.instance)).inputs (names_in (system_of i) at) indexes → length indexes ≡ 1
+    → ((w : World) → IsForest i f w → InForest i f at.instance → value ≡ sampled_from (system_of i) f.resource w (data_input (system_of i) at.instance (get_or indexes 0 0)))
     → values ≡ value ∷ [] → AreSampled i f at values
 one-sampled i f at [] value values stand one sampled is w h lies = absurd (omega arith)
-one-sampled i f at (place ∷ []) value values stand one sampled is w h lies =
+one-sampled i f at (index ∷ []) value values stand one sampled is w h lies =
     is
     ∙ ap (λ (v : Value). v ∷ []) (sampled w h lies)
     ∙ ap (map (sample_at (system_of i) f.resource w (path_at (system_of i) at.instance))) stand.named
-one-sampled i f at (place ∷ other ∷ places) value values stand one sampled is w h lies = absurd (omega arith)
+one-sampled i f at (index ∷ other ∷ indexes) value values stand one sampled is w h lies = absurd (omega arith)
 
--- the place that stands alone
-pub one_place : (vs : List Variable) (names : List Name) (places : List ℕ) → length places ≡ 1 → ArePlaces vs names places → ArePlaces vs names (get_or places 0 0 ∷ [])
-one_place vs names [] one stand = absurd (omega arith)
-one_place vs names (place ∷ []) one stand = stand
-one_place vs names (place ∷ other ∷ places) one stand = absurd (omega arith)
+-- the index that stands alone
+pub one_index : (vs : List Variable) (names : List Name) (indexes : List ℕ) → length indexes ≡ 1 → AreIndexes vs names indexes → AreIndexes vs names (get_or indexes 0 0 ∷ [])
+one_index vs names [] one stand = absurd (omega arith)
+one_index vs names (index ∷ []) one stand = stand
+one_index vs names (index ∷ other ∷ indexes) one stand = absurd (omega arith)

@@ -6,7 +6,7 @@ use Rattle.std.proofs.lemmas.Option.{slice_get_within}
 use Rattle.fb_types.specs.Headline.{Inputs, system_of}
 use Rattle.fb_types.specs.Numbers.{path_at}
 use Rattle.fb_types.specs.Simulation.{opening_block}
-use Rattle.fb_types.proofs.ByPlace.{element_at, slice_get-append_here, slice_get-append_left}
+use Rattle.fb_types.proofs.ByIndex.{element_at, slice_get-append_here, slice_get-append_left}
 use Rattle.fb_net.specs.Opening.{AreSeated}
 use Rattle.fb_net.specs.Worlds.{AreApart, SeatedAt, ShellStands, seat_in}
 use Rattle.fb_net.specs.declared.resource.Forest.{Forest}

@@ -1,4 +1,4 @@
--- What is read at a place of a shell is what the model's block holds for the name there.
+-- What is read at an index of a shell is what the model's block holds for the name there.
 use Rattle.std.proofs.Common.{◌≡◌, ◌≢◌, ℕ, ◌<◌, suc, List, [], ◌∷◌, length, true, false, refl, ap, sym, ◌∙◌, subst}
 use Rattle.std.specs.Prelude.{Option, Some, None, unwrap_or, slice_get, if◌then◌else◌}
 use Rattle.std.proofs.lemmas.Option.{none-some}
@@ -14,12 +14,12 @@ use Rattle.fb_types.specs.Systems.{System}
 use Rattle.fb_types.specs.declared.library.BasicType.{BasicType}
 use Rattle.fb_types.specs.declared.library.Variable.{Variable}
 use Rattle.fb_types.specs.declared.value.Value.{Value}
-use Rattle.fb_types.specs.declared.run.Place.{Place}
+use Rattle.fb_types.specs.declared.run.InstanceVariable.{InstanceVariable}
 use Rattle.fb_system.specs.Ports.{IsVariable, data_input, data_output, variable_of, variables_at}
 use Rattle.fb_net.specs.Worlds.{Found, InForest, IsComposite, IsForest, Reads, ShellStands, ValuesStand, seat_in, value_in}
 use Rattle.fb_net.specs.declared.resource.Forest.{Forest}
 use Rattle.fb_net.specs.declared.shell.Shell.{Shell}
-use Rattle.fb_types.proofs.ByPlace.{element_at}
+use Rattle.fb_types.proofs.ByIndex.{element_at}
 
 -- ---- Values
 
@@ -32,44 +32,44 @@ value_stands : (sys : System) (p : Path) (vs : List Variable) (values : List Val
 value_stands sys p vs values all s k h =
     let n = element_at (variable_names vs) k (subst (λ l. k < l) (sym (as_many vs)) h) in
     let v = element_at values k (subst (λ l. k < l) (sym (s.each ∙ as_many vs)) h) in
-    ap (λ o. unwrap_or o zero_value) v.1 ∙ sym (s.at_place k n.0 v.0 n.1 v.1) ∙ ap (λ o. all (unwrap_or o [])) (sym n.1)
+    ap (λ o. unwrap_or o zero_value) v.1 ∙ sym (s.at_index k n.0 v.0 n.1 v.1) ∙ ap (λ o. all (unwrap_or o [])) (sym n.1)
 
 reads_at : (sys : System) (p : Path) (vs these : List Variable) → vs ≡ these → (values : List Value) (all : Values) →
     ValuesStand sys p (variable_names these) values all → (k : ℕ) → k < length vs → value_in values k ≡ all (unwrap_or (slice_get (variable_names vs) k) [])
 reads_at sys p vs these is values all s k h =
     value_stands sys p these values all s k (subst (λ l. k < length l) is h) ∙ ap (λ l. all (unwrap_or (slice_get (variable_names l) k) [])) (sym is)
 
--- ---- Variables by place
+-- ---- Variables by index
 
 -- the port of a variable, whichever variables it is among
-pub variable_is : (sys : System) (x : Place) → variable_of sys x ≡ record { at = path_at sys x.instance; name = unwrap_or (slice_get (variable_names (variables_at sys x)) x.variable) [] }
+pub variable_is : (sys : System) (x : InstanceVariable) → variable_of sys x ≡ record { at = path_at sys x.instance; name = unwrap_or (slice_get (variable_names (variables_at sys x)) x.variable) [] }
 variable_is sys x =
     let its = ports_at sys (path_at sys x.instance) in
     elim x.is_output as
     (λ o. (if o then data_output sys x.instance x.variable else data_input sys x.instance x.variable)
     ≡ record { at = path_at sys x.instance; name = unwrap_or (slice_get (variable_names (if o then its.outputs else its.inputs)) x.variable) [] }) [ true ↦ refl | false ↦ refl ]
 
-pub name_is : (sys : System) (x : Place) → (variable_of sys x).name ≡ unwrap_or (slice_get (variable_names (variables_at sys x)) x.variable) []
+pub name_is : (sys : System) (x : InstanceVariable) → (variable_of sys x).name ≡ unwrap_or (slice_get (variable_names (variables_at sys x)) x.variable) []
 name_is sys x = ap (λ q. q.name) (variable_is sys x)
 
-pub at_is : (sys : System) (x : Place) → (variable_of sys x).at ≡ path_at sys x.instance
+pub at_is : (sys : System) (x : InstanceVariable) → (variable_of sys x).at ≡ path_at sys x.instance
 at_is sys x = ap (λ q. q.at) (variable_is sys x)
 
--- its name stands at its place
-pub name_there : (sys : System) (x : Place) → IsVariable sys x → slice_get (variable_names (variables_at sys x)) x.variable ≡ Some (variable_of sys x).name
+-- its name stands at its index
+pub name_there : (sys : System) (x : InstanceVariable) → IsVariable sys x → slice_get (variable_names (variables_at sys x)) x.variable ≡ Some (variable_of sys x).name
 name_there sys x variable =
     let n = element_at (variable_names (variables_at sys x)) x.variable (subst (λ l. x.variable < l) (sym (as_many (variables_at sys x))) variable.variable) in
     n.1 ∙ ap Some (sym (name_is sys x ∙ ap (λ o. unwrap_or o []) n.1))
 
-pub among_inputs : (sys : System) (x : Place) → x.is_output ≡ false → variables_at sys x ≡ (ports_at sys (path_at sys x.instance)).inputs
+pub among_inputs : (sys : System) (x : InstanceVariable) → x.is_output ≡ false → variables_at sys x ≡ (ports_at sys (path_at sys x.instance)).inputs
 among_inputs sys x e = ap (λ o. if o then (ports_at sys (path_at sys x.instance)).outputs else (ports_at sys (path_at sys x.instance)).inputs) e
 
-pub among_outputs : (sys : System) (x : Place) → x.is_output ≡ true → variables_at sys x ≡ (ports_at sys (path_at sys x.instance)).outputs
+pub among_outputs : (sys : System) (x : InstanceVariable) → x.is_output ≡ true → variables_at sys x ≡ (ports_at sys (path_at sys x.instance)).outputs
 among_outputs sys x e = ap (λ o. if o then (ports_at sys (path_at sys x.instance)).outputs else (ports_at sys (path_at sys x.instance)).inputs) e
 
 -- ---- One shell
 
-module _ (sys : System) (x : Place) (s : Shell) (m : model.Block) (variable : IsVariable sys x) (stands : ShellStands sys (path_at sys x.instance) s m) where
+module _ (sys : System) (x : InstanceVariable) (s : Shell) (m : model.Block) (variable : IsVariable sys x) (stands : ShellStands sys (path_at sys x.instance) s m) where
   pub slot_stands : x.is_output ≡ false → value_in s.slots x.variable ≡ m.slots (variable_of sys x).name
   slot_stands e =
       reads_at sys (path_at sys x.instance) (variables_at sys x) _ (among_inputs sys x e) s.slots m.slots stands.slots x.variable variable.variable
@@ -94,7 +94,7 @@ same_found : {A : Type 0} (o : Option A) (a b : A) → o ≡ Some a → o ≡ So
 same_found o a b e f = cc
 
 pub found_reads :
-    (i : Inputs) (t : Forest) (x : Place) (part : model.Block → Values) (s : Shell) (v : Value) (o : Option Shell) → o ≡ Some s →
+    (i : Inputs) (t : Forest) (x : InstanceVariable) (part : model.Block → Values) (s : Shell) (v : Value) (o : Option Shell) → o ≡ Some s →
     ((w : World) → IsForest i t w → InForest i t x.instance → Found i x.instance (w.blocks (path_at (system_of i) x.instance)) o) →
     ((m : model.Block) → ShellStands (system_of i) (path_at (system_of i) x.instance) s m → v ≡ part m (variable_of (system_of i) x).name) →
     Reads i t x part v
@@ -112,6 +112,6 @@ found_at i t k number o at w forest lies =
     let s = forest.shells k number lies in record { shell = s.shell; is = at ∙ s.stood; stands = s.stands }
 
 -- each instance of the resource has a shell
-pub never_absent : (i : Inputs) (t : Forest) (x : Place) (part : model.Block → Values) (v : Value) →
+pub never_absent : (i : Inputs) (t : Forest) (x : InstanceVariable) (part : model.Block → Values) (v : Value) →
     ((w : World) → IsForest i t w → InForest i t x.instance → Found i x.instance (w.blocks (path_at (system_of i) x.instance)) None) → Reads i t x part v
 never_absent i t x part v found w forest lies = (let f = found w forest lies in absurd (none-some f.shell f.is))

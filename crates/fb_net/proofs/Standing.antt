@@ -14,7 +14,7 @@ use Rattle.fb_types.specs.declared.library.Library.{Library}
 use Rattle.fb_types.specs.declared.library.Network.{Network}
 use Rattle.fb_types.proofs.Positions.{named-position, position_is}
 use Rattle.fb_types.proofs.Options.{and_then_parts}
-use Rattle.fb_system.specs.Layouts.{path_of, place_at, route_to}
+use Rattle.fb_system.specs.Layouts.{path_of, index_at, route_to}
 use Rattle.fb_net.specs.Blocks.{components_of, own_of}
 use Rattle.fb_net.specs.Trees.{block_at, own_at}
 use Rattle.fb_net.specs.Worlds.{IsForest, StandsAt, StandsFor, rooted, seat_in}
@@ -29,33 +29,33 @@ use Rattle.fb_net.proofs.Writing.{AreNumbered}
 
 -- ---- Blocks on their ways
 
-further : (blocks : List Block) (n : ℕ) (route : List ℕ) (b : Block) (place : ℕ) → block_at blocks (n ∷ route) ≡ Some b
-    → block_at blocks (n ∷ (route ++ place ∷ [])) ≡ slice_get (components_of b) place
-further blocks n [] b place h = ap (option_and_then (λ (b : Block). slice_get (components_of b) place)) h
-further blocks n (m ∷ route) b place h =
+further : (blocks : List Block) (n : ℕ) (route : List ℕ) (b : Block) (index : ℕ) → block_at blocks (n ∷ route) ≡ Some b
+    → block_at blocks (n ∷ (route ++ index ∷ [])) ≡ slice_get (components_of b) index
+further blocks n [] b index h = ap (option_and_then (λ (b : Block). slice_get (components_of b) index)) h
+further blocks n (m ∷ route) b index h =
     let c = and_then_parts (λ (b : Block). block_at (components_of b) (m ∷ route)) (slice_get blocks n) b h in
-    ap (option_and_then (λ (b : Block). block_at (components_of b) (m ∷ (route ++ place ∷ [])))) c.1 ∙ further (components_of c.0) m route b place c.2
+    ap (option_and_then (λ (b : Block). block_at (components_of b) (m ∷ (route ++ index ∷ [])))) c.1 ∙ further (components_of c.0) m route b index c.2
 
-below_rooted : (blocks : List Block) (roots route : List ℕ) (b : Block) (place : ℕ) → block_at blocks (rooted roots route) ≡ Some b
-    → block_at blocks (rooted roots (route ++ place ∷ [])) ≡ slice_get (components_of b) place
-below_rooted blocks roots [] b place h = absurd (none-some b h)
-below_rooted blocks roots (n ∷ route) b place h = further blocks (seat_in roots n) route b place h
+below_rooted : (blocks : List Block) (roots route : List ℕ) (b : Block) (index : ℕ) → block_at blocks (rooted roots route) ≡ Some b
+    → block_at blocks (rooted roots (route ++ index ∷ [])) ≡ slice_get (components_of b) index
+below_rooted blocks roots [] b index h = absurd (none-some b h)
+below_rooted blocks roots (n ∷ route) b index h = further blocks (seat_in roots n) route b index h
 
--- ---- Names and places
+-- ---- Names and indexes
 
 abbrev name_of : Instance → Name
 name_of i = i.name
 
--- an instance by its name stands at the place of the name
-found_place : (lib : Library) (p : Path) (net : Network) (n : Name) (x : Instance) → network_at lib p ≡ Some net → instance_in net n ≡ Some x
-    → (slice_get net.instances (place_at lib p n) ≡ Some x) × (x.name ≡ n)
-found_place lib p net n x h found =
+-- an instance by its name stands at the index of the name
+found_index : (lib : Library) (p : Path) (net : Network) (n : Name) (x : Instance) → network_at lib p ≡ Some net → instance_in net n ≡ Some x
+    → (slice_get net.instances (index_at lib p n) ≡ Some x) × (x.name ≡ n)
+found_index lib p net n x h found =
     let at = and_then_parts (slice_get net.instances) (position (same_name n) (map name_of net.instances)) x (sym (named-position name_of n net.instances) ∙ found) in
     let there = position_is name_of n net.instances at.0 at.1 in
-    let place : place_at lib p n ≡ at.0 =
+    let index : index_at lib p n ≡ at.0 =
     ap (λ (o : Option Network). elim o [ None ↦ 0 | Some net ↦ unwrap_or (position (same_name n) (instance_names net)) 0 ]) h ∙ ap (λ (o : Option ℕ). unwrap_or o 0) at.1 in
     let same : there.0 ≡ x = some_is there.0 x (sym there.1 ∙ at.2) in
-    (ap (slice_get net.instances) place ∙ at.2, ap name_of (sym same) ∙ there.2)
+    (ap (slice_get net.instances) index ∙ at.2, ap name_of (sym same) ∙ there.2)
   where
     some_is : (a b : Instance) → Some a ≡ Some b → a ≡ b
     some_is a b e = cc
@@ -68,13 +68,13 @@ module _ (i : Inputs) (r : ℕ) (roots numbers : List ℕ) (rooted_so : AreRoote
 
   -- an instance of the application that lies in the resource has its root
   root_there : (n : Name) (x : Instance) → instance_in i.library.application.network n ≡ Some x → resource_of i.plan (n ∷ []) ≡ r
-      → (k : ℕ) × (slice_get numbers (seat_in roots (place_at i.library [] n)) ≡ Some k) × (path_at (system_of i) k ≡ n ∷ [])
+      → (k : ℕ) × (slice_get numbers (seat_in roots (index_at i.library [] n)) ≡ Some k) × (path_at (system_of i) k ≡ n ∷ [])
   root_there n x found lies =
-      let place = place_at i.library [] n in
-      let at = found_place i.library [] i.library.application.network n x refl found in
-      let k = instance_is i [] instances rooted_so.top place x rooted_so.are at.0 in
+      let index = index_at i.library [] n in
+      let at = found_index i.library [] i.library.application.network n x refl found in
+      let k = instance_is i [] instances rooted_so.top index x rooted_so.are at.0 in
       let path : path_at (system_of i) k.0 ≡ n ∷ [] = k.2 ∙ ap (λ (m : Name). m ∷ []) at.1 in
-      (k.0, rooted_so.roots_are.there place k.0 k.1 (ap (resource_of i.plan) path ∙ lies), path)
+      (k.0, rooted_so.roots_are.there index k.0 k.1 (ap (resource_of i.plan) path ∙ lies), path)
 
   pub roots_tell : RootsTell i.library i.plan r roots
   roots_tell n m x y is_x is_y lies_n lies_m same =
@@ -88,10 +88,10 @@ module _ (i : Inputs) (r : ℕ) (roots numbers : List ℕ) (rooted_so : AreRoote
 
 module _ (i : Inputs) (r : ℕ) (roots numbers : List ℕ) (blocks : List Block) (rooted_so : AreRooted i r roots numbers) (grown : AreGrown i 17 numbers blocks) where
   stands_top : (n : Name) (x : Instance) → instance_in i.library.application.network n ≡ Some x → resource_of i.plan (n ∷ []) ≡ r
-      → (b : Block) × (slice_get blocks (seat_in roots (place_at i.library [] n)) ≡ Some b) × Grown i 17 (n ∷ []) b
+      → (b : Block) × (slice_get blocks (seat_in roots (index_at i.library [] n)) ≡ Some b) × Grown i 17 (n ∷ []) b
   stands_top n x found lies =
       let k = root_there i r roots numbers rooted_so n x found lies in
-      let b = grown.grown (seat_in roots (place_at i.library [] n)) k.0 k.1 in
+      let b = grown.grown (seat_in roots (index_at i.library [] n)) k.0 k.1 in
       (b.0, b.1, subst (λ (p : Path). Grown i 17 p b.0) k.2 b.2)
 
   stands_path : (p : Path) (n : Name) (x : Instance) (d : ℕ) → instance_at i.library (n ∷ p) ≡ Some x → resource_of i.plan (n ∷ p) ≡ r → length (n ∷ p) + d ≡ 18
@@ -104,10 +104,10 @@ module _ (i : Inputs) (r : ℕ) (roots numbers : List ℕ) (blocks : List Block)
       let net = and_then_parts (λ (net : Network). instance_in net n) (network_at i.library (m ∷ p)) x h in
       let outer = and_then_parts (inside i.library) (instance_at i.library (m ∷ p)) net.0 net.1 in
       let b = stands_path p m outer.0 (suc d) outer.1 lies (omega (arith, deep)) in
-      let at = found_place i.library (m ∷ p) net.0 n x net.1 net.2 in
-      let c = b.2.1 net.0 net.1 (place_at i.library (m ∷ p) n) x at.0 in (
+      let at = found_index i.library (m ∷ p) net.0 n x net.1 net.2 in
+      let c = b.2.1 net.0 net.1 (index_at i.library (m ∷ p) n) x at.0 in (
         c.0,
-        below_rooted blocks roots (route_to i.library (m ∷ p)) b.0 (place_at i.library (m ∷ p) n) b.1 ∙ c.1,
+        below_rooted blocks roots (route_to i.library (m ∷ p)) b.0 (index_at i.library (m ∷ p) n) b.1 ∙ c.1,
         subst (λ (z : Name). Grown i d (z ∷ m ∷ p) c.0) at.1 c.2,
       )
 
@@ -153,8 +153,8 @@ forest_is i t r numbers accepted numbered is rooted_so grown seated held = recor
 -- ---- The application's instances in a resource
 
 pub top_deep : (i : Inputs) (r : ℕ) (roots numbers : List ℕ) → AreRooted i r roots numbers → AreDeep i 17 numbers
-top_deep i r roots numbers rooted_so place k h =
-    let m = rooted_so.roots_are.among place k h in
+top_deep i r roots numbers rooted_so index k h =
+    let m = rooted_so.roots_are.among index k h in
     let x = number_is i [] i.library.application.network.instances rooted_so.top m.0 k rooted_so.are m.1 in
     let one : length (path_at (system_of i) k) ≡ 1 = ap (λ (p : Path). length p) x.2 in
     record { number = x.3; deep = omega (arith, one) }

@@ -1,4 +1,4 @@
--- Different instances of a resource have different ways in its trees: the places on the way to an instance tell its names.
+-- Different instances of a resource have different ways in its trees: the indexes on the way to an instance tell its names.
 use Rattle.std.proofs.Common.{◌≡◌, ℕ, ◌<◌, ◌≤◌, ◌+◌, zero, suc, List, [], ◌∷◌, ◌++◌, length, take, Bool, true, false, Contains, refl, ap, sym, ◌∙◌, inl, inr, arith}
 use Rattle.std.proofs.lemmas.Bool.{eq-eqb}
 use Rattle.std.proofs.lemmas.List.{length-append}
@@ -18,9 +18,9 @@ use Rattle.fb_types.specs.declared.library.Network.{Network}
 use Rattle.fb_types.proofs.Positions.{named-position, position_is}
 use Rattle.fb_types.proofs.Elements.{Contains-cons_cases, Contains-here, Contains-nil, flat_map-Contains}
 use Rattle.fb_types.proofs.Options.{and_then_parts}
-use Rattle.fb_system.specs.Layouts.{place_at, route_to}
+use Rattle.fb_system.specs.Layouts.{index_at, route_to}
 use Rattle.fb_system.proofs.Distinct.{AreOnce, below, paths_from}
-use Rattle.fb_types.proofs.ByPlace.{element_at, element_of_place, place_of_element}
+use Rattle.fb_types.proofs.ByIndex.{element_at, element_of_index, index_of_element}
 use Rattle.fb_system.proofs.Inside.{network_known}
 use Rattle.fb_system.proofs.Sites.{IsSite, all_once, inside_is, instance_is}
 use Rattle.fb_net.specs.Worlds.{WaysDiffer, rooted, seat_in, way_in}
@@ -33,7 +33,7 @@ there_inside :
 there_inside zero lib p o net q once among is c = absurd (Contains-nil q c)
 there_inside (suc d) lib p o net q once among is c =
     let i = flat_map-Contains (paths_from d lib p) net.instances q c in
-    let at = place_of_element net.instances i.0 i.1 in
+    let at = index_of_element net.instances i.0 i.1 in
     let site : IsSite lib p net = record { network = is; once = once.each (o, net) among } in
     elim (Contains-cons_cases (i.0.name ∷ p) (below d lib (i.0.name ∷ p) (inside lib i.0)) q i.2) [
       | inl e ↦ (i.0, ap (instance_at lib) (sym e) ∙ instance_is lib p net at.0 i.0 site at.1)
@@ -49,18 +49,18 @@ instance_there i accepted k number =
     let lib = i.library in
     let q = element_at (paths_of lib) k number in
     let x = there_inside 17 lib [] None lib.application.network q.0 (all_once lib i.plan (λ t. accepted 20 (inl (refl, t)))) (Contains-here (None, lib.application.network) _) refl
-    (element_of_place (paths_of lib) k q.0 q.1) in
+    (element_of_index (paths_of lib) k q.0 q.1) in
     (x.0, ap (λ o. instance_at lib (unwrap_or o [])) q.1 ∙ x.1)
 
--- ---- The place of an instance in its network
+-- ---- The index of an instance in its network
 
 record Stands (lib : Library) (p : Path) (n : Name) : Type 0 where
   network : Network
   is_network : network_at lib p ≡ Some network
-  place : ℕ
-  is_place : place_at lib p n ≡ place
+  index : ℕ
+  is_index : index_at lib p n ≡ index
   instance : Instance
-  is_instance : slice_get network.instances place ≡ Some instance
+  is_instance : slice_get network.instances index ≡ Some instance
   name : instance.name ≡ n
 
 stands : (lib : Library) (p : Path) (n : Name) (x : Instance) → instance_at lib (n ∷ p) ≡ Some x → Stands lib p n
@@ -71,8 +71,8 @@ stands lib p n x h =
     record {
       network = net.0;
       is_network = net.1;
-      place = k.0;
-      is_place = ap (λ (o : Option Network). elim o [ None ↦ 0 | Some net ↦ unwrap_or (position (same_name n) (instance_names net)) 0 ]) net.1 ∙ ap (λ (o : Option ℕ). unwrap_or o 0) k.1;
+      index = k.0;
+      is_index = ap (λ (o : Option Network). elim o [ None ↦ 0 | Some net ↦ unwrap_or (position (same_name n) (instance_names net)) 0 ]) net.1 ∙ ap (λ (o : Option ℕ). unwrap_or o 0) k.1;
       instance = at.0;
       is_instance = at.1;
       name = at.2;
@@ -82,11 +82,11 @@ module _ (lib : Library) (p : Path) (n m : Name) (s : Stands lib p n) (t : Stand
   same_network : s.network ≡ t.network
   same_network = same_Some s.network t.network (sym s.is_network ∙ t.is_network)
 
-  -- the place in a network tells the name
-  same_by_place : s.place ≡ t.place → n ≡ m
-  same_by_place e =
+  -- the index in a network tells the name
+  same_by_index : s.index ≡ t.index → n ≡ m
+  same_by_index e =
       let both : Some s.instance ≡ Some t.instance =
-      sym s.is_instance ∙ ap (λ (net : Network). slice_get net.instances s.place) same_network ∙ ap (λ k. slice_get t.network.instances k) e ∙ t.is_instance in
+      sym s.is_instance ∙ ap (λ (net : Network). slice_get net.instances s.index) same_network ∙ ap (λ k. slice_get t.network.instances k) e ∙ t.is_instance in
       sym s.name ∙ ap (λ (i : Instance). i.name) (same_Some s.instance t.instance both) ∙ t.name
 
 -- ---- Routes
@@ -111,7 +111,7 @@ rooted_length roots (x ∷ xs) = refl
 
 route_length : (lib : Library) (p : Path) → length (route_to lib p) ≡ length p
 route_length lib [] = refl
-route_length lib (n ∷ p) = length-append (route_to lib p) (place_at lib p n ∷ []) ∙ (let e = route_length lib p in omega (arith, e))
+route_length lib (n ∷ p) = length-append (route_to lib p) (index_at lib p n ∷ []) ∙ (let e = route_length lib p in omega (arith, e))
 
 -- on the way to an instance stand instances
 above : (lib : Library) (n m : Name) (p : Path) (x : Instance) → instance_at lib (n ∷ m ∷ p) ≡ Some x → (y : Instance) × (instance_at lib (m ∷ p) ≡ Some y)
@@ -126,7 +126,7 @@ above lib n m p x h =
 abbrev pub RootsTell : Library → Plan → (resource : ℕ) → List ℕ → Type 0
 RootsTell lib plan r roots =
     (n m : Name) (x y : Instance) → instance_at lib (n ∷ []) ≡ Some x → instance_at lib (m ∷ []) ≡ Some y → resource_of plan (n ∷ []) ≡ r → resource_of plan (m ∷ []) ≡ r →
-    seat_in roots (place_at lib [] n) ≡ seat_in roots (place_at lib [] m) → n ≡ m
+    seat_in roots (index_at lib [] n) ≡ seat_in roots (index_at lib [] m) → n ≡ m
 
 module _ (lib : Library) (plan : Plan) (r : ℕ) (roots : List ℕ) (tell : RootsTell lib plan r roots) where
   abbrev in_trees : Path → List ℕ
@@ -141,19 +141,19 @@ module _ (lib : Library) (plan : Plan) (r : ℕ) (roots : List ℕ) (tell : Root
   same_path_by_way [] q x y h g e lies_p lies_q = cc
   same_path_by_way (n ∷ p) [] x y h g e lies_p lies_q = cc
   same_path_by_way (n ∷ []) (m ∷ []) x y h g e lies_p lies_q =
-      ap (λ z. z ∷ []) (tell n m x y h g lies_p lies_q (last_same [] [] (seat_in roots (place_at lib [] n)) (seat_in roots (place_at lib [] m)) e).1)
+      ap (λ z. z ∷ []) (tell n m x y h g lies_p lies_q (last_same [] [] (seat_in roots (index_at lib [] n)) (seat_in roots (index_at lib [] m)) e).1)
   same_path_by_way (n ∷ []) (m ∷ m' ∷ q) x y h g e lies_p lies_q = let long = as_long (n ∷ []) (m ∷ m' ∷ q) e in absurd (omega (arith, long))
   same_path_by_way (n ∷ n' ∷ p) (m ∷ []) x y h g e lies_p lies_q = let long = as_long (n ∷ n' ∷ p) (m ∷ []) e in absurd (omega (arith, long))
   same_path_by_way (n ∷ n' ∷ p) (m ∷ m' ∷ q) x y h g e lies_p lies_q =
       let above_n = above lib n n' p x h in
       let above_m = above lib m m' q y g in
-      let parts = last_same (in_trees (n' ∷ p)) (in_trees (m' ∷ q)) (place_at lib (n' ∷ p) n) (place_at lib (m' ∷ q) m)
-      (sym (rooted_last roots (route_to lib p) (place_at lib p n') (place_at lib (n' ∷ p) n)) ∙ e ∙ rooted_last roots (route_to lib q) (place_at lib q m') (place_at lib (m' ∷ q) m)) in
+      let parts = last_same (in_trees (n' ∷ p)) (in_trees (m' ∷ q)) (index_at lib (n' ∷ p) n) (index_at lib (m' ∷ q) m)
+      (sym (rooted_last roots (route_to lib p) (index_at lib p n') (index_at lib (n' ∷ p) n)) ∙ e ∙ rooted_last roots (route_to lib q) (index_at lib q m') (index_at lib (m' ∷ q) m)) in
       let rest : n' ∷ p ≡ m' ∷ q = same_path_by_way (n' ∷ p) (m' ∷ q) above_n.0 above_m.0 above_n.1 above_m.1 parts.0 lies_p lies_q in
       let s = stands lib (n' ∷ p) n x h in
       let t = stands lib (n' ∷ p) m y (ap (λ (z : Path). instance_at lib (m ∷ z)) rest ∙ g) in
-      let places : s.place ≡ t.place = sym s.is_place ∙ parts.1 ∙ sym (ap (λ (z : Path). place_at lib z m) rest) ∙ t.is_place in
-      ap (λ (z : Name). z ∷ n' ∷ p) (same_by_place lib (n' ∷ p) n m s t places) ∙ ap (λ (z : Path). m ∷ z) rest
+      let indexes : s.index ≡ t.index = sym s.is_index ∙ parts.1 ∙ sym (ap (λ (z : Path). index_at lib z m) rest) ∙ t.is_index in
+      ap (λ (z : Name). z ∷ n' ∷ p) (same_by_index lib (n' ∷ p) n m s t indexes) ∙ ap (λ (z : Path). m ∷ z) rest
 
 -- Different instances of a resource have different ways.
 pub paths_by_ways :

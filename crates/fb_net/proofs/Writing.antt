@@ -1,4 +1,4 @@
--- A value that is put at the place of a name is put at the name, where each name stands once.
+-- A value that is put at the index of a name is put at the name, where each name stands once.
 use Rattle.std.proofs.Common.{◌≡◌, ◌≢◌, ℕ, ◌<◌, zero, suc, List, [], ◌∷◌, length, Bool, true, false, Contains, refl, ap, sym, ◌∙◌, subst, inl, inr, ⊎_elim}
 use Rattle.std.proofs.lemmas.Bool.{cases_eq, true≢false}
 use Rattle.std.specs.Prelude.{Option, Some, None, slice_get, slice_set, if◌then◌else◌}
@@ -16,7 +16,7 @@ use Rattle.fb_types.specs.Systems.{System}
 use Rattle.fb_types.specs.declared.library.BasicType.{BasicType}
 use Rattle.fb_types.specs.declared.library.Ports.{Ports}
 use Rattle.fb_types.specs.declared.value.Value.{Value}
-use Rattle.fb_types.specs.declared.run.Place.{Place}
+use Rattle.fb_types.specs.declared.run.InstanceVariable.{InstanceVariable}
 use Rattle.fb_system.specs.Ports.{IsVariable, variable_of}
 use Rattle.fb_types.proofs.NameLaws.{any_from_contains, same_name-itself, same_name-apart}
 use Rattle.fb_net.specs.Blocks.{components_of, own_of, with_input, with_published, with_slot}
@@ -30,7 +30,7 @@ use Rattle.fb_net.specs.declared.block.Block.TheViews.{out-Block}
 use Rattle.fb_net.specs.declared.resource.Forest.{Forest}
 use Rattle.fb_net.specs.declared.shell.Shell.{Shell}
 use Rattle.fb_net.proofs.Apart.{kind_apart}
-use Rattle.fb_types.proofs.ByPlace.{element_of_place}
+use Rattle.fb_types.proofs.ByIndex.{element_of_index}
 use Rattle.fb_net.proofs.Others.{get_set_other, get_set_same, others_stay}
 use Rattle.fb_net.proofs.Seating.{seats_differ}
 use Rattle.fb_net.proofs.Ways.{ways_differ}
@@ -46,19 +46,19 @@ get_set_here [] k v u e = cc
 get_set_here (x ∷ vs) zero v u e = cc
 get_set_here (x ∷ vs) (suc k) v u e = get_set_here vs k v u e
 
--- a name that stands once stands at one place
-pub one_place : (names : List Name) → ¬ (Twice names) → (j k : ℕ) (n : Name) → slice_get names j ≡ Some n → slice_get names k ≡ Some n → j ≡ k
-one_place [] once j k n e f = cc
-one_place (m ∷ ms) once zero zero n e f = refl
-one_place (m ∷ ms) once zero (suc k) n e f = absurd (once (inl (subst (λ z. Contains ms z) (same n m e) (element_of_place ms k n f))))
+-- a name that stands once stands at one index
+pub one_index : (names : List Name) → ¬ (Twice names) → (j k : ℕ) (n : Name) → slice_get names j ≡ Some n → slice_get names k ≡ Some n → j ≡ k
+one_index [] once j k n e f = cc
+one_index (m ∷ ms) once zero zero n e f = refl
+one_index (m ∷ ms) once zero (suc k) n e f = absurd (once (inl (subst (λ z. Contains ms z) (same n m e) (element_of_index ms k n f))))
   where
     same : (a b : Name) → Some b ≡ Some a → a ≡ b
     same a b h = cc
-one_place (m ∷ ms) once (suc j) zero n e f = absurd (once (inl (subst (λ z. Contains ms z) (same n m f) (element_of_place ms j n e))))
+one_index (m ∷ ms) once (suc j) zero n e f = absurd (once (inl (subst (λ z. Contains ms z) (same n m f) (element_of_index ms j n e))))
   where
     same : (a b : Name) → Some b ≡ Some a → a ≡ b
     same a b h = cc
-one_place (m ∷ ms) once (suc j) (suc k) n e f = ap suc (one_place ms (λ t. once (inr t)) j k n e f)
+one_index (m ∷ ms) once (suc j) (suc k) n e f = ap suc (one_index ms (λ t. once (inr t)) j k n e f)
 
 module _ (sys : System) (p : Path) (names : List Name) (values : List Value) (all : Values) (stand : ValuesStand sys p names values all)
     (once : ¬ (Twice names)) (k : ℕ) (name : Name) (named : slice_get names k ≡ Some name) (v : Value) where
@@ -71,17 +71,17 @@ module _ (sys : System) (p : Path) (names : List Name) (values : List Value) (al
 
   there : (j : ℕ) → j ≢ k → (n : Name) (u : Value) → slice_get names j ≡ Some n → slice_get (slice_set values k v) j ≡ Some u → with_value name v all n ≡ u
   there j ne n u e f =
-      ap (λ b. if b then v else all n) (same_name-apart n name (λ s. ne (one_place names once j k name (e ∙ ap Some s) named)))
-      ∙ stand.at_place j n u e (sym (get_set_other values k j v ne) ∙ f)
+      ap (λ b. if b then v else all n) (same_name-apart n name (λ s. ne (one_index names once j k name (e ∙ ap Some s) named)))
+      ∙ stand.at_index j n u e (sym (get_set_other values k j v ne) ∙ f)
 
-  -- the values stand for what they did, but for the name of the place
+  -- the values stand for what they did, but for the name of the index
   pub values_set : ValuesStand sys p names (slice_set values k v) (with_value name v all)
   values_set =
       record {
         each = length_set values k v ∙ stand.each;
-        at_place = λ j n u e f. ⊎_elim (λ s. here n u (sym (ap (slice_get names) s) ∙ e) (sym (ap (slice_get (slice_set values k v)) s) ∙ f)) (λ ne. there j ne n u e f) (cases_eq j k);
+        at_index = λ j n u e f. ⊎_elim (λ s. here n u (sym (ap (slice_get names) s) ∙ e) (sym (ap (slice_get (slice_set values k v)) s) ∙ f)) (λ ne. there j ne n u e f) (cases_eq j k);
         others = λ n e. ap (λ b. if b then v else all n)
-            (same_name-apart n name (λ s. true≢false (sym (any_from_contains n names (subst (λ m. Contains names m) (sym s) (element_of_place names k name named))) ∙ e)))
+            (same_name-apart n name (λ s. true≢false (sym (any_from_contains n names (subst (λ m. Contains names m) (sym s) (element_of_index names k name named))) ∙ e)))
             ∙ stand.others n e;
       }
 
@@ -210,10 +210,10 @@ same_shell a b e = cc
 
 -- ---- What is changed of an instance
 
-pub input_there : (sys : System) (x : Place) → IsVariable sys x → x.is_output ≡ false → slice_get (input_names sys (path_at sys x.instance)) x.variable ≡ Some (variable_of sys x).name
+pub input_there : (sys : System) (x : InstanceVariable) → IsVariable sys x → x.is_output ≡ false → slice_get (input_names sys (path_at sys x.instance)) x.variable ≡ Some (variable_of sys x).name
 input_there sys x variable e = sym (ap (λ vs. slice_get (variable_names vs) x.variable) (among_inputs sys x e)) ∙ name_there sys x variable
 
-pub output_there : (sys : System) (x : Place) → IsVariable sys x → x.is_output ≡ true → slice_get (output_names sys (path_at sys x.instance)) x.variable ≡ Some (variable_of sys x).name
+pub output_there : (sys : System) (x : InstanceVariable) → IsVariable sys x → x.is_output ≡ true → slice_get (output_names sys (path_at sys x.instance)) x.variable ≡ Some (variable_of sys x).name
 output_there sys x variable e = sym (ap (λ vs. slice_get (variable_names vs) x.variable) (among_outputs sys x e)) ∙ name_there sys x variable
 
 pub inputs_once : (i : Inputs) → AreAccepted i → (p : Path) → ¬ (Twice (input_names (system_of i) p))
@@ -230,7 +230,7 @@ outputs_once i accepted p =
       | Some k ↦ λ e. (kind_apart i.library i.plan (λ t. accepted 20 (inl (refl, t))) p k e).outputs
     ] refl
 
-module _ (i : Inputs) (accepted : AreAccepted i) (numbered : AreNumbered i) (old : Forest) (x : Place) (variable : IsVariable (system_of i) x) (v : Value)
+module _ (i : Inputs) (accepted : AreAccepted i) (numbered : AreNumbered i) (old : Forest) (x : InstanceVariable) (variable : IsVariable (system_of i) x) (v : Value)
     (s : Shell) (found : slice_get old.shells (seat_in old.seats x.instance) ≡ Some s) where
   abbrev pub path : Path
   path = path_at (system_of i) x.instance

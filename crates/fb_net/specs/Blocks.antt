@@ -31,13 +31,13 @@ own_of b = with_components b []
 -- ---- Shells
 
 -- a connection or a stimulus has brought a value to a data input
-abbrev pub with_slot : (place : ℕ) → Value → Shell → Shell
-with_slot place v s = record s { slots = slice_set s.slots place v }
+abbrev pub with_slot : (index : ℕ) → Value → Shell → Shell
+with_slot index v s = record s { slots = slice_set s.slots index v }
 
 -- a data output shows another value
-abbrev pub with_published : (place : ℕ) → Value → Shell → Shell
-with_published place v s = record s { published = slice_set s.published place v }
+abbrev pub with_published : (index : ℕ) → Value → Shell → Shell
+with_published index v s = record s { published = slice_set s.published index v }
 
 -- an event block or a composite has sampled a data input
-abbrev pub with_input : (place : ℕ) → Value → Shell → Shell
-with_input place v s = record s { inputs = slice_set s.inputs place v }
+abbrev pub with_input : (index : ℕ) → Value → Shell → Shell
+with_input index v s = record s { inputs = slice_set s.inputs index v }

@@ -7,7 +7,7 @@ use Rattle.fb_types.specs.Numbers.{path_at}
 use Rattle.fb_types.specs.Reactions.{World, with_block, with_held, from_inside}
 use Rattle.fb_types.specs.States as model
 use Rattle.fb_types.specs.declared.value.Value.{Value}
-use Rattle.fb_types.specs.declared.run.Place.{Place}
+use Rattle.fb_types.specs.declared.run.InstanceVariable.{InstanceVariable}
 use Rattle.fb_system.specs.Ports.{variable_of}
 use Rattle.fb_net.specs.Worlds.{InForest, IsForest}
 use Rattle.fb_net.specs.declared.resource.Forest.{Forest}
@@ -42,12 +42,12 @@ abbrev pub remembered : Memory → model.Block → model.Block
 remembered m b = record b { memory = model.Remembers m }
 
 -- The held copy of a variable of another resource has changed.
-pub record Holds (i : Inputs) (old : Forest) (x : Place) (v : Value) (new : Forest) : Type 0 where
+pub record Holds (i : Inputs) (old : Forest) (x : InstanceVariable) (v : Value) (new : Forest) : Type 0 where
   pub resource : new.resource ≡ old.resource
   pub stands : (w : World) → IsForest i old w → IsForest i new (record w { held = with_held (variable_of (system_of i) x) v w.held })
 
 -- .. what a data output of a composite shows from inside
-abbrev pub ShowsInside : Inputs → Forest → Place → Value → Type 0
+abbrev pub ShowsInside : Inputs → Forest → InstanceVariable → Value → Type 0
 ShowsInside i t x v =
     (w : World) → IsForest i t w → InForest i t x.instance →
     v ≡ from_inside (system_of i) t.resource w (variable_of (system_of i) x).at (variable_of (system_of i) x).name

@@ -41,17 +41,17 @@ others (q ∷ qs) = qs
 abbrev pub bare : (event : ℕ) → run.Emission
 bare event = record { event = event; values = [] }
 
--- values, each with the data output at its place
-abbrev pub outputs_at : System → (instance : ℕ) → (places : List ℕ) → List Value → List Bound
-outputs_at sys k places values = pair_up (map (variable_at (ports_at sys (path_at sys k)).outputs) places) values
+-- values, each with the data output at its index
+abbrev pub outputs_at : System → (instance : ℕ) → (indexes : List ℕ) → List Value → List Bound
+outputs_at sys k indexes values = pair_up (map (variable_at (ports_at sys (path_at sys k)).outputs) indexes) values
 
 -- some data outputs show other values
 abbrev pub outputs_shown : List Bound → model.Block → model.Block
 outputs_shown bs b = record b { published = with_values bs b.published }
 
--- values, each with the number of the data output at its place
-abbrev pub carried_by : (instance : ℕ) → (places : List ℕ) → List Value → List Carried
-carried_by k places values = map (λ x. record { instance = k; variable = x.0; value = x.1 }) (zip places values)
+-- values, each with the number of the data output at its index
+abbrev pub carried_by : (instance : ℕ) → (indexes : List ℕ) → List Value → List Carried
+carried_by k indexes values = map (λ x. record { instance = k; variable = x.0; value = x.1 }) (zip indexes values)
 
 -- The blocks and what was put out stand for what the emissions of an instance make of what they stood for.
 abbrev pub EmitsSo : Inputs → Key → (instance : ℕ) → Forest → Outbox → List run.Emission → Forest → Outbox → Type 0

@@ -1,7 +1,7 @@
 -- How a leaf reacts among the blocks of its resource (IEC 61499-1, 5.2.2; event blocks are this project's profile).
 use Rattle.std.specs.Prelude.{◌≡◌, ℕ, List, [], map, Option, Some, None, Result, Ok, Err, OnOk, All}
 use Rattle.fb_types.specs.Blocks.{inputs_with, ports_of_event_block}
-use Rattle.fb_types.specs.Charts.{Place, ChartReacts}
+use Rattle.fb_types.specs.Charts.{Position, ChartReacts}
 use Rattle.fb_types.specs.EventBlocks.{Reaction, reaction, expiry, output_of}
 use Rattle.fb_types.specs.Headline.{Inputs, system_of}
 use Rattle.fb_types.specs.Numbers.{path_at, event_at, emission_of, pair_up}
@@ -18,7 +18,7 @@ use Rattle.fb_types.specs.declared.run.TimerAsk.{TimerAsk}
 use Rattle.fb_types.specs.declared.value.Reason.{Reason}
 use Rattle.fb_types.specs.declared.value.Value.{Value}
 use Rattle.fb_st.specs.Frames.{values_of}
-use Rattle.fb_ecc.specs.Places.{Ended, IsBlockOf, sampled, place as chart_at}
+use Rattle.fb_ecc.specs.Indexes.{Ended, IsBlockOf, sampled, index as chart_at}
 use Rattle.fb_ecc.specs.declared.state.BasicState.{BasicState}
 use Rattle.fb_event.specs.Reactions.{FitTheirTypes, IsWellFormed, emissions_of, meanings}
 use Rattle.fb_event.specs.State.{State}
@@ -36,7 +36,7 @@ IsOne i f k = (w : World) × IsForest i f w × InForest i f k
 -- ---- Basic blocks
 
 -- where a chart begins, with the sampled values of the variables WITH the event
-abbrev pub chart_start : BasicType → model.Block → (event : ℕ) → List Value → (left : ℕ) → Place
+abbrev pub chart_start : BasicType → model.Block → (event : ℕ) → List Value → (left : ℕ) → Position
 chart_start t b e values left =
     record {
       state = state_of b.memory;
@@ -45,17 +45,17 @@ chart_start t b e values left =
       emitted = [];
     }
 
--- the block where its chart has come to a place
-abbrev pub charted_block : Place → model.Block → model.Block
+-- the block where its chart has come to a position
+abbrev pub charted_block : Position → model.Block → model.Block
 charted_block c b = record b { memory = InState c.state; variables = c.vars }
 
--- A basic block has reacted: its chart came to a place, for a reason to stop or none, and emitted so.
+-- A basic block has reacted: its chart came to a position, for a reason to stop or none, and emitted so.
 pub record ChartCame (i : Inputs) (old : Forest) (at : Target) (t : BasicType) (values : List Value) (before : ℕ) (stop : Option Reason) (new : Forest) (after : ℕ) (emits : List run.Emission) (w : World) : Type 0 where
-  pub place : Place
-  pub reacts : ChartReacts t (event_at t.ports.event_inputs at.event) (chart_start t (block_in i w at.instance) at.event values before) stop place
-  pub stands : IsForest i new (with_instance i at.instance (charted_block place (block_in i w at.instance)) w)
-  pub left : after ≡ place.left
-  pub emitted : map (emission_of t.ports) emits ≡ place.emitted
+  pub index : Position
+  pub reacts : ChartReacts t (event_at t.ports.event_inputs at.event) (chart_start t (block_in i w at.instance) at.event values before) stop index
+  pub stands : IsForest i new (with_instance i at.instance (charted_block index (block_in i w at.instance)) w)
+  pub left : after ≡ index.left
+  pub emitted : map (emission_of t.ports) emits ≡ index.emitted
 
 abbrev pub EachWorld : Inputs → Forest → Target → (World → Type 0) → Type 0
 EachWorld i f at holds = (w : World) → IsForest i f w → InForest i f at.instance → holds w

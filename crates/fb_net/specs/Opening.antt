@@ -16,7 +16,7 @@ use Rattle.fb_types.specs.declared.value.Value.{Value}
 use Rattle.fb_st.specs.Frames.{Declared, is_declared}
 use Rattle.fb_ecc.specs.Numbered.{chart_of}
 use Rattle.fb_ecc.specs.declared.chart.Chart.{Chart}
-use Rattle.fb_types.specs.declared.run.Place.{Place}
+use Rattle.fb_types.specs.declared.run.InstanceVariable.{InstanceVariable}
 use Rattle.fb_system.specs.Layouts.{AreNumbers}
 use Rattle.fb_system.specs.Ports.{IsVariable, variable_of}
 use Rattle.fb_net.specs.Blocks.{components_of, own_of}
@@ -28,9 +28,9 @@ use Rattle.fb_net.specs.declared.resource.Forest.{Forest}
 
 -- the frame has a variable of each name
 abbrev pub AreDeclared : List Declared → List Name → Type 0
-AreDeclared ds ns = (place : ℕ) (n : Name) → slice_get ns place ≡ Some n → is_declared ds n ≡ true
+AreDeclared ds ns = (index : ℕ) (n : Name) → slice_get ns index ≡ Some n → is_declared ds n ≡ true
 
--- variables get values in turn, each that at its place
+-- variables get values in turn, each that at its index
 abbrev pub begun_all : List Name → List Value → Values → Values
 begun_all [] vs m = m
 begun_all (n ∷ ns) [] m = m
@@ -41,13 +41,13 @@ begun_all (n ∷ ns) (v ∷ vs) m = begun_all ns vs (with_value n v m)
 abbrev pub Charts : Type 0
 Charts = BTreeMap ℕ Chart
 
--- Each chart that was made is that of the basic type at its place of the library.
+-- Each chart that was made is that of the basic type at its index of the library.
 abbrev pub AreCharts : Inputs → Charts → Type 0
-AreCharts i charts = (place : ℕ) (t : BasicType) (c : Chart) → slice_get i.library.blocks place ≡ Some (block.Basic t) → get nat_cmp charts place ≡ Some c → c ≡ chart_of t
+AreCharts i charts = (index : ℕ) (t : BasicType) (c : Chart) → slice_get i.library.blocks index ≡ Some (block.Basic t) → get nat_cmp charts index ≡ Some c → c ≡ chart_of t
 
--- Each chart was there before, or is that of the type at the place.
-abbrev pub ChartsGrow : Charts → (place : ℕ) → BasicType → Charts → Type 0
-ChartsGrow old place t new = (q : ℕ) (c : Chart) → get nat_cmp new q ≡ Some c → (get nat_cmp old q ≡ Some c) ⊎ ((place ≡ q) × (c ≡ chart_of t))
+-- Each chart was there before, or is that of the type at the index.
+abbrev pub ChartsGrow : Charts → (index : ℕ) → BasicType → Charts → Type 0
+ChartsGrow old index t new = (q : ℕ) (c : Chart) → get nat_cmp new q ≡ Some c → (get nat_cmp old q ≡ Some c) ⊎ ((index ≡ q) × (c ≡ chart_of t))
 
 -- ---- Trees
 
@@ -57,28 +57,28 @@ pub record IsDeep (i : Inputs) (depth : ℕ) (k : ℕ) : Type 0 where
   pub deep : length (path_at (system_of i) k) + depth ≡ 18
 
 abbrev pub AreDeep : Inputs → (depth : ℕ) → List ℕ → Type 0
-AreDeep i depth numbers = (place k : ℕ) → slice_get numbers place ≡ Some k → IsDeep i depth k
+AreDeep i depth numbers = (index k : ℕ) → slice_get numbers index ≡ Some k → IsDeep i depth k
 
 -- The block stands for an instance before the first event, and its components do so, at most so many names deep.
 abbrev pub Grown : Inputs → (depth : ℕ) → Path → Block → Type 0
 Grown i zero p b = ⊥
 Grown i (suc d) p b =
     StandsFor (system_of i) p (own_of b) (opening_block (system_of i) p)
-    × ((net : Network) → network_at i.library p ≡ Some net → (place : ℕ) (x : Instance) → slice_get net.instances place ≡ Some x →
-    (c : Block) × (slice_get (components_of b) place ≡ Some c) × Grown i d (x.name ∷ p) c)
+    × ((net : Network) → network_at i.library p ≡ Some net → (index : ℕ) (x : Instance) → slice_get net.instances index ≡ Some x →
+    (c : Block) × (slice_get (components_of b) index ≡ Some c) × Grown i d (x.name ∷ p) c)
 
--- A block for each instance, at its place.
+-- A block for each instance, at its index.
 pub record AreGrown (i : Inputs) (depth : ℕ) (numbers : List ℕ) (blocks : List Block) : Type 0 where
   pub each : length blocks ≡ length numbers
-  pub grown : (place k : ℕ) → slice_get numbers place ≡ Some k → (b : Block) × (slice_get blocks place ≡ Some b) × Grown i depth (path_at (system_of i) k) b
+  pub grown : (index k : ℕ) → slice_get numbers index ≡ Some k → (b : Block) × (slice_get blocks index ≡ Some b) × Grown i depth (path_at (system_of i) k) b
 
 -- ---- Roots
 
--- Those of some instances of the application that lie in a resource, in their order, and for each the place that it has among them.
+-- Those of some instances of the application that lie in a resource, in their order, and for each the index that it has among them.
 pub record AreRoots (i : Inputs) (r : ℕ) (top roots numbers : List ℕ) : Type 0 where
   pub each : length roots ≡ length top
-  pub there : (place k : ℕ) → slice_get top place ≡ Some k → (system_of i).resource (path_at (system_of i) k) ≡ r → slice_get numbers (seat_in roots place) ≡ Some k
-  pub among : (place k : ℕ) → slice_get numbers place ≡ Some k → (m : ℕ) × (slice_get top m ≡ Some k)
+  pub there : (index k : ℕ) → slice_get top index ≡ Some k → (system_of i).resource (path_at (system_of i) k) ≡ r → slice_get numbers (seat_in roots index) ≡ Some k
+  pub among : (index k : ℕ) → slice_get numbers index ≡ Some k → (m : ℕ) × (slice_get top m ≡ Some k)
 
 -- .. of all instances of the application
 pub record AreRooted (i : Inputs) (r : ℕ) (roots numbers : List ℕ) : Type 0 where
@@ -108,23 +108,23 @@ abbrev pub Held : Type 0
 Held = BTreeMap (ℕ × ℕ × Bool) Value
 
 -- What the variable is connected to has its held copy, where it lies in another resource.
-abbrev pub Covers : Inputs → (resource : ℕ) → Held → Place → Type 0
+abbrev pub Covers : Inputs → (resource : ℕ) → Held → InstanceVariable → Type 0
 Covers i r held to =
-    (x : Place) → IsVariable (system_of i) x → (system_of i).source (variable_of (system_of i) to) ≡ Some (variable_of (system_of i) x) →
+    (x : InstanceVariable) → IsVariable (system_of i) x → (system_of i).source (variable_of (system_of i) to) ≡ Some (variable_of (system_of i) x) →
     (system_of i).resource (path_at (system_of i) x.instance) ≢ r →
     get key_cmp held (key_of x) ≡ Some ((system_of i).initial (variable_of (system_of i) x))
 
 -- .. for each of the data inputs of an instance, or of its data outputs
-abbrev pub CoversPlaces : Inputs → (resource : ℕ) → Held → (instance : ℕ) → (is_output : Bool) → Type 0
-CoversPlaces i r held k o =
+abbrev pub CoversIndexes : Inputs → (resource : ℕ) → Held → (instance : ℕ) → (is_output : Bool) → Type 0
+CoversIndexes i r held k o =
     (v : ℕ) → IsVariable (system_of i) (record { instance = k; variable = v; is_output = o }) →
     Covers i r held (record { instance = k; variable = v; is_output = o })
 
 -- .. for each variable in the resource
 abbrev pub CoversAll : Inputs → (resource : ℕ) → Held → Type 0
 CoversAll i r held =
-    (to : Place) → IsVariable (system_of i) to → (system_of i).resource (path_at (system_of i) to.instance) ≡ r → Covers i r held to
+    (to : InstanceVariable) → IsVariable (system_of i) to → (system_of i).resource (path_at (system_of i) to.instance) ≡ r → Covers i r held to
 
 -- No held copy is lost.
 abbrev pub KeepsCovers : Inputs → (resource : ℕ) → (old new : Held) → Type 0
-KeepsCovers i r old new = (to : Place) → Covers i r old to → Covers i r new to
+KeepsCovers i r old new = (to : InstanceVariable) → Covers i r old to → Covers i r new to

@@ -16,7 +16,7 @@ use Rattle.fb_net.specs.declared.resource.Forest.{Forest}
 use Rattle.fb_net.specs.declared.outbox.Out.{Out}
 use Rattle.fb_net.specs.declared.outbox.Out.TheVariants.{Local, Send}
 use Rattle.fb_net.specs.declared.outbox.Outbox.{Outbox}
-use Rattle.fb_net.specs.declared.outbox.Sending.{Sending}
+use Rattle.fb_net.specs.declared.outbox.OutgoingMessage.{OutgoingMessage}
 
 -- what goes out, in the model
 abbrev pub out_of : System → Out → reactions.Out
@@ -24,7 +24,7 @@ out_of sys (Local t) = reactions.Local (port_of sys t)
 out_of sys (Send s) = reactions.Sends (port_of sys s.target) (map (carried_of sys) s.values)
 
 -- An event that goes to another resource goes over the link to it.
-pub record IsSending (sys : System) (r : ℕ) (s : Sending) : Type 0 where
+pub record IsOutgoing (sys : System) (r : ℕ) (s : OutgoingMessage) : Type 0 where
   pub target : IsTarget sys s.target
   pub away : sys.resource (path_at sys s.target.instance) ≢ r
   pub link : s.link ≡ sys.link r (sys.resource (path_at sys s.target.instance))
@@ -37,7 +37,7 @@ pub record IsLocal (sys : System) (r : ℕ) (t : Target) : Type 0 where
 
 abbrev pub IsOut : System → (resource : ℕ) → Out → Type 0
 IsOut sys r (Local t) = IsLocal sys r t
-IsOut sys r (Send s) = IsSending sys r s
+IsOut sys r (Send s) = IsOutgoing sys r s
 
 -- All that is put out of a resource belongs to the system.
 pub record AreOuts (sys : System) (r : ℕ) (x : Outbox) : Type 0 where

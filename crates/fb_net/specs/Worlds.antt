@@ -16,12 +16,12 @@ use Rattle.fb_types.specs.declared.event_kind.EventKind.{EventKind}
 use Rattle.fb_types.specs.declared.library.BasicType.{BasicType}
 use Rattle.fb_types.specs.declared.value.Value.{Value}
 use Rattle.fb_st.specs.Frames.{values_of}
-use Rattle.fb_ecc.specs.Places.{IsBlockOf, state_at}
+use Rattle.fb_ecc.specs.Indexes.{IsBlockOf, state_at}
 use Rattle.fb_ecc.specs.Sound.{IsSound}
 use Rattle.fb_ecc.specs.declared.state.BasicState.{BasicState}
 use Rattle.fb_event.specs.State.{State}
 use Rattle.fb_system.specs.Layouts.{route_to}
-use Rattle.fb_types.specs.declared.run.Place.{Place}
+use Rattle.fb_types.specs.declared.run.InstanceVariable.{InstanceVariable}
 use Rattle.fb_system.specs.Ports.{IsCompositeAt, IsSource, IsVariable, variable_of}
 use Rattle.fb_net.specs.Trees.{own_at}
 use Rattle.fb_net.specs.declared.block.Block.{Block}
@@ -30,11 +30,11 @@ use Rattle.fb_net.specs.declared.block.Block.TheViews.{out-Block}
 use Rattle.fb_net.specs.declared.resource.Forest.{Forest}
 use Rattle.fb_net.specs.declared.shell.Shell.{Shell}
 
--- ---- Values by place
+-- ---- Values by index
 
--- the value at a place, or 0 behind the end
+-- the value at an index, or 0 behind the end
 abbrev pub value_in : List Value → ℕ → Value
-value_in values place = unwrap_or (slice_get values place) zero_value
+value_in values index = unwrap_or (slice_get values index) zero_value
 
 -- what the variables of an instance begin with
 abbrev pub begins : System → Path → Values
@@ -46,10 +46,10 @@ input_names sys p = variable_names (ports_at sys p).inputs
 abbrev pub output_names : System → Path → List Name
 output_names sys p = variable_names (ports_at sys p).outputs
 
--- The values stand at the places of the names of some variables of an instance. Another name has what it begins with.
+-- The values stand at the indexes of the names of some variables of an instance. Another name has what it begins with.
 pub record ValuesStand (sys : System) (p : Path) (names : List Name) (values : List Value) (all : Values) : Type 0 where
   pub each : length values ≡ length names
-  pub at_place : (place : ℕ) (n : Name) (v : Value) → slice_get names place ≡ Some n → slice_get values place ≡ Some v → all n ≡ v
+  pub at_index : (index : ℕ) (n : Name) (v : Value) → slice_get names index ≡ Some n → slice_get values index ≡ Some v → all n ≡ v
   pub others : (n : Name) → among names n ≡ false → all n ≡ begins sys p n
 
 -- ---- One instance
@@ -84,7 +84,7 @@ StandsFor sys p x b = NodeStands (sys.kind p) (out-Block x) b.memory b.variables
 
 -- ---- The shells of one resource
 
--- the place of an instance's shell among those of its resource
+-- the index of an instance's shell among those of its resource
 abbrev pub seat_in : List ℕ → (instance : ℕ) → ℕ
 seat_in seats k = unwrap_or (slice_get seats k) 0
 
@@ -112,12 +112,12 @@ AreApart i r n seats =
 
 -- ---- The trees of one resource
 
--- a way that begins with another place
+-- a way that begins with another index
 abbrev pub rooted : List ℕ → List ℕ → List ℕ
 rooted roots [] = []
-rooted roots (place ∷ rest) = seat_in roots place ∷ rest
+rooted roots (index ∷ rest) = seat_in roots index ∷ rest
 
--- The way to the block of an instance: the root at the place of its outermost name, and the places below.
+-- The way to the block of an instance: the root at the index of its outermost name, and the indexes below.
 abbrev pub way_in : Inputs → (roots : List ℕ) → (instance : ℕ) → List ℕ
 way_in i roots k = rooted roots (route_to i.library (path_at (system_of i) k))
 
@@ -135,15 +135,15 @@ WaysDiffer i r roots =
 
 -- ---- Held copies
 
-abbrev pub key_of : Place → ℕ × ℕ × Bool
+abbrev pub key_of : InstanceVariable → ℕ × ℕ × Bool
 key_of x = (x.instance, x.variable, x.is_output)
 
 abbrev pub key_cmp : ℕ × ℕ × Bool → ℕ × ℕ × Bool → Ordering
 key_cmp a b = ordering_then (nat_cmp a.0 b.0) (ordering_then (nat_cmp a.1 b.1) (bool_cmp a.2 b.2))
 
 -- A variable in the resource is connected to this one.
-pub record IsRead (sys : System) (resource : ℕ) (x : Place) : Type 0 where
-  pub to : Place
+pub record IsRead (sys : System) (resource : ℕ) (x : InstanceVariable) : Type 0 where
+  pub to : InstanceVariable
   pub variable : IsVariable sys to
   pub within : sys.resource (path_at sys to.instance) ≡ resource
   pub source : sys.source (variable_of sys to) ≡ Some (variable_of sys x)
@@ -158,7 +158,7 @@ pub record IsForest (i : Inputs) (t : Forest) (w : World) : Type 0 where
   pub shells : (k : ℕ) → k < length (system_of i).paths → (system_of i).resource (path_at (system_of i) k) ≡ t.resource →
       SeatedAt i t.seats t.shells k (w.blocks (path_at (system_of i) k))
   pub apart : AreApart i t.resource (length (system_of i).paths) t.seats
-  pub held : (x : Place) → IsVariable (system_of i) x → IsRead (system_of i) t.resource x → (system_of i).resource (path_at (system_of i) x.instance) ≢ t.resource →
+  pub held : (x : InstanceVariable) → IsVariable (system_of i) x → IsRead (system_of i) t.resource x → (system_of i).resource (path_at (system_of i) x.instance) ≢ t.resource →
       get key_cmp t.held (key_of x) ≡ Some (w.held (variable_of (system_of i) x))
 
 -- ---- What is read of the blocks
@@ -166,27 +166,27 @@ pub record IsForest (i : Inputs) (t : Forest) (w : World) : Type 0 where
 abbrev pub InForest : Inputs → Forest → (instance : ℕ) → Type 0
 InForest i t k = (system_of i).resource (path_at (system_of i) k) ≡ t.resource
 
-abbrev pub IsComposite : System → Place → Type 0
+abbrev pub IsComposite : System → InstanceVariable → Type 0
 IsComposite sys x = IsCompositeAt sys x.instance
 
 -- The value is what a part of the instance's block holds for a variable, in each world that the blocks stand for.
-abbrev pub Reads : Inputs → Forest → Place → (model.Block → Values) → Value → Type 0
+abbrev pub Reads : Inputs → Forest → InstanceVariable → (model.Block → Values) → Value → Type 0
 Reads i t x part v =
     let sys = system_of i in
     (w : World) → IsForest i t w → InForest i t x.instance → v ≡ part (w.blocks (variable_of sys x).at) (variable_of sys x).name
 
 -- The value is what a source in the resource shows, in each world that the blocks stand for.
-abbrev pub Sees : Inputs → Forest → Place → Value → Type 0
+abbrev pub Sees : Inputs → Forest → InstanceVariable → Value → Type 0
 Sees i t x v = (w : World) → IsForest i t w → InForest i t x.instance → IsSource (system_of i) x → v ≡ seen (system_of i) w (variable_of (system_of i) x)
 
 -- .. what a source shows in the resource, wherever it lies
-abbrev pub Shows : Inputs → Forest → Place → Value → Type 0
+abbrev pub Shows : Inputs → Forest → InstanceVariable → Value → Type 0
 Shows i t x v =
     (w : World) → IsForest i t w → IsRead (system_of i) t.resource x → IsSource (system_of i) x →
     v ≡ shown (system_of i) t.resource w (variable_of (system_of i) x)
 
 -- .. what a data input samples
-abbrev pub Samples : Inputs → Forest → Place → Value → Type 0
+abbrev pub Samples : Inputs → Forest → InstanceVariable → Value → Type 0
 Samples i t x v =
     (w : World) → IsForest i t w → InForest i t x.instance →
     v ≡ sampled_from (system_of i) t.resource w (variable_of (system_of i) x)
@@ -194,5 +194,5 @@ Samples i t x v =
 -- ---- Kinds
 
 -- The block of the variable's instance keeps what it samples itself: it is an event block or a composite.
-pub record TakesSamples (sys : System) (x : Place) : Type 0 where
+pub record TakesSamples (sys : System) (x : InstanceVariable) : Type 0 where
   pub no_basic : (t : BasicType) → sys.kind (path_at sys x.instance) ≢ Some (Basic t)

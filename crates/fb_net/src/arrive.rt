@@ -11,7 +11,7 @@ ghost use Rattle.fb_net.specs.Samples.{names_in};
 ghost use Rattle.fb_net.specs.Steps.{ArePutOut, HasArrived, HasDone, HasTold, IsKept, IsSame, MayArrive, MayBegin, ports_in, system_in};
 ghost use Rattle.fb_system.specs.Lines.{IsEmission};
 ghost use Rattle.fb_system.specs.Ports.{IsCompositeAt, IsTarget};
-ghost use Rattle.fb_system.specs.Stands.{ArePlaces};
+ghost use Rattle.fb_system.specs.Stands.{AreIndexes};
 ghost use Rattle.fb_net.specs.Worlds.{InForest};
 ghost use Rattle.fb_laws.specs.Typed.{IsTypedSystem};
 
@@ -24,7 +24,8 @@ use crate::taking::Taking;
 use fb_check_names::TypeNumber;
 use fb_st::Meter;
 use fb_types::{
-    BasicType, BlockType, Emission, Emits, EventKind, Halt, Place, Target, TimerAsk, Values,
+    BasicType, BlockType, Emission, Emits, EventKind, Halt, InstanceVariable, Target, TimerAsk,
+    Values,
 };
 use std::alloc::AllocError;
 
@@ -33,7 +34,7 @@ impl Taking<'_> {
     /// sample, and the line of the event tells their values.
     #[inline(always)]
     fn take_samples(&mut self, at: Target) -> Result<(), AllocError>
-        requires place { MayArrive self.old at }
+        requires index { MayArrive self.old at }
         requires input { at.is_output ≡ false }
         requires no_basic { (t : BasicType) → (system_in self.old).kind (path_at (system_in self.old) at.instance) ≢ Some (Basic t) }
         ensures taken { OnOk result (HasDone (sampling self.old.system.now self.old.key.now at) self.old self.new) }
@@ -44,21 +45,21 @@ impl Taking<'_> {
         ensures same { IsSame self.old self.new }
     {
         let system = self.system;
-        let places = system.inputs_with(at.instance, at.event);
+        let indexes = system.inputs_with(at.instance, at.event);
         // Most event inputs of event blocks have no variables WITH them: nothing is sampled or kept.
-        if places.is_empty() {
+        if indexes.is_empty() {
             let values = Values::new(*self.outbox.lines.allocator());
             return write_taken(self.outbox, system, self.key, at, values);
         }
-        self.take_values(at, places)
+        self.take_values(at, indexes)
     }
 
-    /// .. where the variables WITH the event stand at `places`.
-    fn take_values(&mut self, at: Target, places: &[u32]) -> Result<(), AllocError>
-        requires place { MayArrive self.old at }
+    /// .. where the variables WITH the event stand at `indexes`.
+    fn take_values(&mut self, at: Target, indexes: &[u32]) -> Result<(), AllocError>
+        requires index { MayArrive self.old at }
         requires input { at.is_output ≡ false }
         requires no_basic { (t : BasicType) → (system_in self.old).kind (path_at (system_in self.old) at.instance) ≢ Some (Basic t) }
-        requires places { ArePlaces (ports_in self.old at.instance).inputs (names_in (system_in self.old) at) places.now }
+        requires indexes { AreIndexes (ports_in self.old at.instance).inputs (names_in (system_in self.old) at) indexes.now }
         ensures taken { OnOk result (HasDone (sampling self.old.system.now self.old.key.now at) self.old self.new) }
         ensures ready { OnOk result (MayBegin self.new) }
 
@@ -67,22 +68,22 @@ impl Taking<'_> {
         ensures same { IsSame self.old self.new }
     {
         // Mostly there is one variable, and nothing is to be walked over.
-        if let [variable] = places {
+        if let [variable] = indexes {
             return self.take_value(at, *variable);
         }
         let alloc = *self.outbox.lines.allocator();
-        let values = sampled_values(alloc, self.forest, self.system, at, places)?;
-        keep_samples(self.forest, self.system, at, places, values.as_slice());
+        let values = sampled_values(alloc, self.forest, self.system, at, indexes)?;
+        keep_samples(self.forest, self.system, at, indexes, values.as_slice());
         write_taken(self.outbox, self.system, self.key, at, values)
     }
 
     /// .. where one variable is WITH the event.
     #[inline(always)]
     fn take_value(&mut self, at: Target, variable: u32) -> Result<(), AllocError>
-        requires place { MayArrive self.old at }
+        requires index { MayArrive self.old at }
         requires input { at.is_output ≡ false }
         requires no_basic { (t : BasicType) → (system_in self.old).kind (path_at (system_in self.old) at.instance) ≢ Some (Basic t) }
-        requires stands { ArePlaces (ports_in self.old at.instance).inputs (names_in (system_in self.old) at) (variable ∷ []) }
+        requires stands { AreIndexes (ports_in self.old at.instance).inputs (names_in (system_in self.old) at) (variable ∷ []) }
         ensures taken { OnOk result (HasDone (sampling self.old.system.now self.old.key.now at) self.old self.new) }
         ensures ready { OnOk result (MayBegin self.new) }
 
@@ -90,7 +91,7 @@ impl Taking<'_> {
         ensures kept { IsKept self.old self.new }
         ensures same { IsSame self.old self.new }
     {
-        let input = Place {
+        let input = InstanceVariable {
             instance: at.instance,
             variable,
             is_output: false,
@@ -107,7 +108,7 @@ impl Taking<'_> {
     /// When memory runs out, and never a stop.
     #[inline(always)]
     fn arrive_event(&mut self, kind: EventKind, at: Target, emits: &mut Emits) -> Result<(), Halt>
-        requires place { MayArrive self.old at }
+        requires index { MayArrive self.old at }
         requires input { at.is_output ≡ false }
         requires kind { (system_in self.old).kind (path_at (system_in self.old) at.instance) ≡ Some (Event kind) }
         requires sound { IsTypedSystem (system_in self.old) }
@@ -132,7 +133,7 @@ impl Taking<'_> {
 
     /// An event from outside arrives at an event input of a composite, and goes on inside.
     fn enter(&mut self, at: Target) -> Result<(), AllocError>
-        requires place { MayArrive self.old at }
+        requires index { MayArrive self.old at }
         requires input { at.is_output ≡ false }
         requires composite { IsCompositeAt (system_in self.old) at.instance }
         ensures entered { OnOk result (HasDone (entering self.old.system.now self.old.key.now at) self.old self.new) }
@@ -156,7 +157,7 @@ impl Taking<'_> {
     /// An event from inside arrives at an event output of a composite, which shows the outputs WITH the event and emits
     /// it.
     fn leave(&mut self, at: Target) -> Result<(), AllocError>
-        requires place { MayArrive self.old at }
+        requires index { MayArrive self.old at }
         requires output { at.is_output ≡ true }
         requires composite { IsCompositeAt (system_in self.old) at.instance }
         ensures left { OnOk result (HasDone (leaving self.old.system.now self.old.key.now at) self.old self.new) }
@@ -168,15 +169,15 @@ impl Taking<'_> {
     {
         let system = self.system;
         let alloc = *self.outbox.lines.allocator();
-        let places = system.outputs_with(at.instance, at.event);
-        let values = shown_values(alloc, self.forest, system, at, places)?;
+        let indexes = system.outputs_with(at.instance, at.event);
+        let values = shown_values(alloc, self.forest, system, at, indexes)?;
         let event = at.event;
-        self.emit_at(at.instance, Emission { event, values }, places)
+        self.emit_at(at.instance, Emission { event, values }, indexes)
     }
 
     /// Writes the line of an event that was taken at an event input of a basic block, and emits what its reaction emits.
     fn tell(&mut self, at: Target, values: Values, emits: &mut Emits) -> Result<(), AllocError>
-        requires place { MayArrive self.old at }
+        requires index { MayArrive self.old at }
         requires input { at.is_output ≡ false }
         requires counted { length values ≡ length (names_in (system_in self.old) at) }
         requires emissions { All (IsEmission (ports_in self.old at.instance)) emits.old }
@@ -202,7 +203,7 @@ impl Taking<'_> {
         meter: &mut Meter,
         emits: &mut Emits,
     ) -> Result<(), Halt>
-        requires place { MayArrive self.old at }
+        requires index { MayArrive self.old at }
         requires input { at.is_output ≡ false }
         requires kind { (system_in self.old).kind (path_at (system_in self.old) at.instance) ≡ Some (Basic block.now) }
         requires one { IsOne self.old.system.now self.old.forest.now at.instance }
@@ -215,8 +216,8 @@ impl Taking<'_> {
         ensures same { IsSame self.old self.new }
     {
         let alloc = *self.outbox.lines.allocator();
-        let places = self.system.inputs_with(at.instance, at.event);
-        let values = sampled_values(alloc, self.forest, self.system, at, places)?;
+        let indexes = self.system.inputs_with(at.instance, at.event);
+        let values = sampled_values(alloc, self.forest, self.system, at, indexes)?;
         emits.clear();
         let end = react_basic(
             self.forest,
@@ -253,7 +254,7 @@ impl Taking<'_> {
         system.facts();
         match system.kind(at.instance) {
             TypeNumber::Event(kind) => self.arrive_event(kind, at, emits),
-            TypeNumber::Declared(place) => match system.library().blocks.get(place) {
+            TypeNumber::Declared(index) => match system.library().blocks.get(index) {
                 Some(BlockType::Basic(block)) => self.arrive_basic(block, at, meter, emits),
                 Some(BlockType::Composite(_)) => {
                     if at.is_output {

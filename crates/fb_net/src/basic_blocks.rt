@@ -5,7 +5,7 @@ ghost use Rattle.fb_types.specs.Blocks.{Basic, inputs_with};
 ghost use Rattle.fb_types.specs.Headline.{system_of};
 ghost use Rattle.fb_types.specs.Numbers.{event_at, path_at};
 ghost use Rattle.fb_types.specs.Reactions.{World};
-ghost use Rattle.fb_ecc.specs.Places.{IsWellFormed};
+ghost use Rattle.fb_ecc.specs.Indexes.{IsWellFormed};
 ghost use Rattle.fb_ecc.specs.Sound.{IsSound};
 ghost use Rattle.fb_system.specs.Lines.{IsEmission};
 ghost use Rattle.fb_system.specs.Ports.{IsPort};
@@ -55,7 +55,7 @@ pub fn react_basic(
     react_at(blocks, first, below, block, at.event, values, meter, emits)
 }
 
-/// The reaction of the basic block on a way, where it stands: goes down by the first place, and on by those below.
+/// The reaction of the basic block on a way, where it stands: goes down by the first index, and on by those below.
 ///
 /// # Errors
 /// As of `react_basic`.
@@ -76,15 +76,15 @@ fn react_at(
     ensures fewer { meter.new.left ≤ meter.old.left }
     ensures well_formed { let IsFit = IsWellFormed block.now in All IsFit emits.old → All IsFit emits.new }
 {
-    let Some(place) = blocks.get_mut(first) else {
+    let Some(slot) = blocks.get_mut(first) else {
         unreachable!()
     };
     match below {
-        [] => match place {
+        [] => match slot {
             Block::Basic(state) => react(state, block, event, values, meter, emits),
             Block::Event(_) | Block::Composite(_) => unreachable!(),
         },
-        [next, rest @ ..] => match place.components_mut() {
+        [next, rest @ ..] => match slot.components_mut() {
             Some(components) => {
                 let next = *next as usize;
                 react_at(components, next, rest, block, event, values, meter, emits)

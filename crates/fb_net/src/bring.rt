@@ -6,34 +6,34 @@ ghost use Rattle.fb_types.specs.Headline.{system_of};
 ghost use Rattle.fb_types.specs.Numbers.{path_at, ports_at};
 ghost use Rattle.fb_types.specs.declared.library.BasicType.{BasicType};
 ghost use Rattle.fb_system.specs.Ports.{IsCarried, IsPort};
-ghost use Rattle.fb_system.specs.Stands.{ArePlaces};
+ghost use Rattle.fb_system.specs.Stands.{AreIndexes};
 ghost use Rattle.fb_net.specs.Changes.{Changes};
 ghost use Rattle.fb_net.specs.Samples.{HoldsAll, all_sampled, names_in, slots_set};
 
 use crate::resource::Forest;
 use fb_system::{SlotValue, System};
-use fb_types::{Carried, Place, Target, Value};
+use fb_types::{Carried, InstanceVariable, Target, Value};
 
-/// Gives the variables WITH an event input, which stand at `places`, the values that they sampled. The instance is an
+/// Gives the variables WITH an event input, which stand at `indexes`, the values that they sampled. The instance is an
 /// event block or a composite, and lies in the resource.
 pub fn keep_samples(
     forest: &mut Forest,
     system: &System,
     at: Target,
-    places: &[u32],
+    indexes: &[u32],
     values: &[Value],
 )
     requires port { IsPort (system_of system.now) at }
     requires input { at.is_output ≡ false }
     requires no_basic { (t : BasicType) → (system_of system.now).kind (path_at (system_of system.now) at.instance) ≢ Some (Basic t) }
-    requires places { ArePlaces (ports_at (system_of system.now) (path_at (system_of system.now) at.instance)).inputs (names_in (system_of system.now) at) places.now }
+    requires indexes { AreIndexes (ports_at (system_of system.now) (path_at (system_of system.now) at.instance)).inputs (names_in (system_of system.now) at) indexes.now }
     requires values { length values.now ≡ length (names_in (system_of system.now) at) }
     ensures { Changes system.now forest.old at.instance (all_sampled (names_in (system_of system.now) at) values.now) forest.new }
 {
-    for (place, value) in places.iter().zip(values) {
-        let input = Place {
+    for (index, value) in indexes.iter().zip(values) {
+        let input = InstanceVariable {
             instance: at.instance,
-            variable: *place,
+            variable: *index,
             is_output: false,
         };
         forest.set_input(system, input, *value);
@@ -43,13 +43,13 @@ pub fn keep_samples(
 /// Sets the slots of a stimulus, at an instance that lies in the resource.
 pub fn set_slots(forest: &mut Forest, system: &System, instance: u32, sets: &[SlotValue])
     requires instance { instance < length (system_of system.now).paths }
-    requires within { All (λ s. s.place < length (ports_at (system_of system.now) (path_at (system_of system.now) instance)).inputs) sets.now }
+    requires within { All (λ s. s.index < length (ports_at (system_of system.now) (path_at (system_of system.now) instance)).inputs) sets.now }
     ensures { Changes system.now forest.old instance (slots_set (system_of system.now) instance sets.now) forest.new }
 {
     for set in sets {
-        let input = Place {
+        let input = InstanceVariable {
             instance,
-            variable: set.place,
+            variable: set.index,
             is_output: false,
         };
         forest.set_slot(system, input, set.value);
@@ -62,7 +62,7 @@ pub fn hold_carried(forest: &mut Forest, system: &System, carried: &[Carried])
     ensures { HoldsAll system.now forest.old carried.now forest.new }
 {
     for item in carried {
-        let output = Place {
+        let output = InstanceVariable {
             instance: item.instance,
             variable: item.variable,
             is_output: true,

@@ -43,7 +43,7 @@ pub fn build(alloc: Global, system: &System, resource: u32) -> Result<Forest, Al
     let held = held_of(alloc, system, resource)?;
     let mut forest = Forest {
         resource,
-        roots: roots.places,
+        roots: roots.indexes,
         blocks,
         seats: Items::new(alloc),
         shells: Items::new(alloc),

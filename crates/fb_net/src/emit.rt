@@ -7,17 +7,19 @@ ghost use Rattle.fb_types.specs.Numbers.{carried_of, event_at, line_of, path_at,
 ghost use Rattle.fb_types.specs.Reactions.{spread};
 ghost use Rattle.fb_system.specs.Lines.{BelongsTo, IsEmission};
 ghost use Rattle.fb_system.specs.Ports.{IsCarried, IsPort, IsTarget};
-ghost use Rattle.fb_system.specs.Stands.{ArePlaces};
+ghost use Rattle.fb_system.specs.Stands.{AreIndexes};
 ghost use Rattle.fb_net.specs.Changes.{Changes};
 ghost use Rattle.fb_net.specs.Emitting.{PutsOut, bare, carried_by, others, outputs_at, outputs_shown};
 ghost use Rattle.fb_net.specs.Outs.{IsOut, out_of};
 ghost use Rattle.fb_net.specs.Steps.{ArePutOut, EmitsAll, EmitsWell, IsKept, IsSame, MayEmit, ports_in};
 
-use crate::outbox::{Out, Outbox, Sending};
+use crate::outbox::{Out, Outbox, OutgoingMessage};
 use crate::resource::Forest;
 use crate::taking::Taking;
 use fb_system::System;
-use fb_types::{Carried, Emission, Emits, Items, Key, Line, Place, Target, Value, Values};
+use fb_types::{
+    Carried, Emission, Emits, InstanceVariable, Items, Key, Line, Target, Value, Values,
+};
 use std::alloc::{AllocError, Global};
 
 /// Puts out an event that goes to a target: a local event where the target lies in the same resource, as most do, else a
@@ -29,16 +31,16 @@ fn put_out(
     system: &System,
     target: Target,
     instance: u32,
-    places: &[u32],
+    indexes: &[u32],
     values: &[Value],
 ) -> Result<(), AllocError>
     requires resource { resource < length (system_of system.now).resource_names }
     requires target { IsTarget (system_of system.now) target }
-    requires carried { All (IsCarried (system_of system.now)) (carried_by instance places.now values.now) }
-    ensures { OnOk result (PutsOut (system_of system.now) resource (map (carried_of (system_of system.now)) (carried_by instance places.now values.now)) (port_of (system_of system.now) target) outs.old.items outs.new.items) }
+    requires carried { All (IsCarried (system_of system.now)) (carried_by instance indexes.now values.now) }
+    ensures { OnOk result (PutsOut (system_of system.now) resource (map (carried_of (system_of system.now)) (carried_by instance indexes.now values.now)) (port_of (system_of system.now) target) outs.old.items outs.new.items) }
 {
     if system.resource(target.instance) != resource {
-        return put_message(outs, resource, system, target, instance, places, values);
+        return put_message(outs, resource, system, target, instance, indexes, values);
     }
     outs.reserve(1)?;
     outs.push_reserved(Out::Local(target));
@@ -54,22 +56,22 @@ fn put_message(
     system: &System,
     target: Target,
     instance: u32,
-    places: &[u32],
+    indexes: &[u32],
     values: &[Value],
 ) -> Result<(), AllocError>
     requires resource { resource < length (system_of system.now).resource_names }
     requires target { IsTarget (system_of system.now) target }
     requires away { (system_of system.now).resource (path_at (system_of system.now) target.instance) ≢ resource }
-    requires carried { All (IsCarried (system_of system.now)) (carried_by instance places.now values.now) }
-    ensures { OnOk result (PutsOut (system_of system.now) resource (map (carried_of (system_of system.now)) (carried_by instance places.now values.now)) (port_of (system_of system.now) target) outs.old.items outs.new.items) }
+    requires carried { All (IsCarried (system_of system.now)) (carried_by instance indexes.now values.now) }
+    ensures { OnOk result (PutsOut (system_of system.now) resource (map (carried_of (system_of system.now)) (carried_by instance indexes.now values.now)) (port_of (system_of system.now) target) outs.old.items outs.new.items) }
 {
     // There are at most 1,024 links, so that the number of one fits.
     system.facts();
     let there = system.resource(target.instance);
     let link = system.link(resource, there) as u32;
-    let carried = carried_values(*outs.allocator(), instance, places, values)?;
+    let carried = carried_values(*outs.allocator(), instance, indexes, values)?;
     outs.reserve(1)?;
-    outs.push_reserved(Out::Send(Sending {
+    outs.push_reserved(Out::Send(OutgoingMessage {
         link,
         target,
         values: Items::from_vec(carried),
@@ -78,7 +80,7 @@ fn put_message(
 }
 
 /// Sends an event from a port to where its connections lead, in their order, with the values of data outputs of its
-/// instance, each at its place. Each target costs one lookup, and a message memory for its values. The error is that
+/// instance, each at its index. Each target costs one lookup, and a message memory for its values. The error is that
 /// memory runs out.
 #[inline(always)]
 pub fn send_out(
@@ -86,15 +88,15 @@ pub fn send_out(
     forest: &Forest,
     system: &System,
     from: Target,
-    places: &[u32],
+    indexes: &[u32],
     values: &[Value],
 ) -> Result<(), AllocError>
     requires resource { forest.now.resource < length (system_of system.now).resource_names }
     requires port { IsPort (system_of system.now) from }
-    requires carried { All (IsCarried (system_of system.now)) (carried_by from.instance places.now values.now) }
+    requires carried { All (IsCarried (system_of system.now)) (carried_by from.instance indexes.now values.now) }
     requires outs { All (IsOut (system_of system.now) forest.now.resource) outs.old.items }
     ensures sent { OnOk result (map (out_of (system_of system.now)) outs.new.items ≡ map (out_of (system_of system.now)) outs.old.items
-        ++ spread (system_of system.now) forest.now.resource (map (carried_of (system_of system.now)) (carried_by from.instance places.now values.now)) ((system_of system.now).targets (port_of (system_of system.now) from))) }
+        ++ spread (system_of system.now) forest.now.resource (map (carried_of (system_of system.now)) (carried_by from.instance indexes.now values.now)) ((system_of system.now).targets (port_of (system_of system.now) from))) }
     ensures outs { OnOk result (All (IsOut (system_of system.now) forest.now.resource) outs.new.items) }
 {
     let resource = forest.resource;
@@ -108,14 +110,14 @@ pub fn send_out(
         system,
         reached.target,
         instance,
-        places,
+        indexes,
         values,
     )?;
     // Mostly a port has one connection, and no other is looked for.
     if !reached.more {
         return Ok(());
     }
-    send_others(outs, resource, system, from, places, values)
+    send_others(outs, resource, system, from, indexes, values)
 }
 
 /// .. to where its connections behind the first lead.
@@ -125,19 +127,19 @@ fn send_others(
     resource: usize,
     system: &System,
     from: Target,
-    places: &[u32],
+    indexes: &[u32],
     values: &[Value],
 ) -> Result<(), AllocError>
     requires resource { resource < length (system_of system.now).resource_names }
     requires port { IsPort (system_of system.now) from }
-    requires carried { All (IsCarried (system_of system.now)) (carried_by from.instance places.now values.now) }
+    requires carried { All (IsCarried (system_of system.now)) (carried_by from.instance indexes.now values.now) }
     requires outs { All (IsOut (system_of system.now) resource) outs.old.items }
     ensures sent { OnOk result (map (out_of (system_of system.now)) outs.new.items ≡ map (out_of (system_of system.now)) outs.old.items
-        ++ spread (system_of system.now) resource (map (carried_of (system_of system.now)) (carried_by from.instance places.now values.now)) (others ((system_of system.now).targets (port_of (system_of system.now) from)))) }
+        ++ spread (system_of system.now) resource (map (carried_of (system_of system.now)) (carried_by from.instance indexes.now values.now)) (others ((system_of system.now).targets (port_of (system_of system.now) from)))) }
     ensures outs { OnOk result (All (IsOut (system_of system.now) resource) outs.new.items) }
 {
-    let mut place = 0;
-    while let Some(reached) = system.reached(from, place + 1) {
+    let mut index = 0;
+    while let Some(reached) = system.reached(from, index + 1) {
         let target = reached.target;
         put_out(
             outs,
@@ -145,13 +147,13 @@ fn send_others(
             system,
             target,
             from.instance,
-            places,
+            indexes,
             values,
         )?;
         if !reached.more {
             return Ok(());
         }
-        place += 1;
+        index += 1;
     }
     Ok(())
 }
@@ -185,22 +187,22 @@ pub fn write_taken(
     Ok(())
 }
 
-/// Publishes values at data outputs of an instance, each at its place.
+/// Publishes values at data outputs of an instance, each at its index.
 fn publish_all(
     forest: &mut Forest,
     system: &System,
     instance: u32,
-    places: &[u32],
+    indexes: &[u32],
     values: &[Value],
 )
     requires instance { instance < length (system_of system.now).paths }
-    requires within { All (λ k. k < length (ports_at (system_of system.now) (path_at (system_of system.now) instance)).outputs) places.now }
-    ensures { Changes system.now forest.old instance (outputs_shown (outputs_at (system_of system.now) instance places.now values.now)) forest.new }
+    requires within { All (λ k. k < length (ports_at (system_of system.now) (path_at (system_of system.now) instance)).outputs) indexes.now }
+    ensures { Changes system.now forest.old instance (outputs_shown (outputs_at (system_of system.now) instance indexes.now values.now)) forest.new }
 {
-    for (place, value) in places.iter().zip(values) {
-        let output = Place {
+    for (index, value) in indexes.iter().zip(values) {
+        let output = InstanceVariable {
             instance,
-            variable: *place,
+            variable: *index,
             is_output: true,
         };
         forest.publish(system, output, *value);
@@ -211,17 +213,17 @@ fn publish_all(
 fn carried_values(
     alloc: Global,
     instance: u32,
-    places: &[u32],
+    indexes: &[u32],
     values: &[Value],
 ) -> Result<Vec<Carried>, AllocError>
-    ensures { IfOk result (λ carried. carried.items ≡ carried_by instance places.now values.now) }
+    ensures { IfOk result (λ carried. carried.items ≡ carried_by instance indexes.now values.now) }
 {
-    places
+    indexes
         .iter()
         .zip(values)
-        .map(|(place, value)| Carried {
+        .map(|(index, value)| Carried {
             instance,
-            variable: *place,
+            variable: *index,
             value: *value,
         })
         .collect(alloc)
@@ -232,7 +234,7 @@ impl Taking<'_> {
     /// error is that memory runs out; each instance has its block then too.
     #[inline(always)]
     pub fn emit_one(&mut self, instance: u32, emission: Emission) -> Result<(), AllocError>
-        requires place { MayEmit self.old instance }
+        requires index { MayEmit self.old instance }
         requires emission { IsEmission (ports_in self.old instance) emission }
         ensures emitted { OnOk result (EmitsWell self.old instance (emission ∷ []) self.new) }
 
@@ -245,21 +247,21 @@ impl Taking<'_> {
             return self.emit_bare(instance, emission.event);
         }
         let system = self.system;
-        let places = system.outputs_with(instance, emission.event);
-        self.emit_at(instance, emission, places)
+        let indexes = system.outputs_with(instance, emission.event);
+        self.emit_at(instance, emission, indexes)
     }
 
-    /// Emits one output event, whose variables stand at `places`. Errors are as of `emit_one`.
+    /// Emits one output event, whose variables stand at `indexes`. Errors are as of `emit_one`.
     #[inline(always)]
     pub fn emit_at(
         &mut self,
         instance: u32,
         emission: Emission,
-        places: &[u32],
+        indexes: &[u32],
     ) -> Result<(), AllocError>
-        requires place { MayEmit self.old instance }
+        requires index { MayEmit self.old instance }
         requires emission { IsEmission (ports_in self.old instance) emission }
-        requires places { let its = ports_in self.old instance in ArePlaces its.outputs (outputs_with its (event_at its.event_outputs emission.event)) places.now }
+        requires indexes { let its = ports_in self.old instance in AreIndexes its.outputs (outputs_with its (event_at its.event_outputs emission.event)) indexes.now }
         ensures emitted { OnOk result (EmitsWell self.old instance (emission ∷ []) self.new) }
 
         // Also where memory runs out.
@@ -271,7 +273,7 @@ impl Taking<'_> {
             self.forest,
             self.system,
             instance,
-            places,
+            indexes,
             values.as_slice(),
         );
         let from = Target {
@@ -284,7 +286,7 @@ impl Taking<'_> {
             self.forest,
             self.system,
             from,
-            places,
+            indexes,
             values.as_slice(),
         )?;
         self.outbox.lines.reserve(1)?;
@@ -302,7 +304,7 @@ impl Taking<'_> {
     /// `emit_one`.
     #[inline(always)]
     fn emit_bare(&mut self, instance: u32, event: u32) -> Result<(), AllocError>
-        requires place { MayEmit self.old instance }
+        requires index { MayEmit self.old instance }
         requires emission { IsEmission (ports_in self.old instance) (bare event) }
         ensures emitted { OnOk result (EmitsWell self.old instance (bare event ∷ []) self.new) }
 
@@ -340,7 +342,7 @@ impl Taking<'_> {
     /// instance has its block then too.
     #[inline(always)]
     pub fn emit_all(&mut self, instance: u32, emits: &mut Emits) -> Result<(), AllocError>
-        requires place { MayEmit self.old instance }
+        requires index { MayEmit self.old instance }
         requires emissions { All (IsEmission (ports_in self.old instance)) emits.old }
         ensures emitted { OnOk result (EmitsAll self.old instance emits.old self.new) }
         ensures outs { OnOk result (ArePutOut self.old self.new) }
@@ -363,7 +365,7 @@ impl Taking<'_> {
     /// .. those behind the first.
     #[inline(never)]
     fn emit_others(&mut self, instance: u32, emits: &mut Emits) -> Result<(), AllocError>
-        requires place { MayEmit self.old instance }
+        requires index { MayEmit self.old instance }
         requires emissions { All (IsEmission (ports_in self.old instance)) emits.old }
         ensures emitted { OnOk result (EmitsWell self.old instance emits.old self.new) }
 

@@ -59,7 +59,7 @@ pub fn react_event(
     react_at(blocks, first, below, at.event, tick, inputs, emits, ask)
 }
 
-/// The reaction of the event block on a way to an event: goes down by the first place, and on by those below.
+/// The reaction of the event block on a way to an event: goes down by the first index, and on by those below.
 ///
 /// # Errors
 /// As of `react_event`.
@@ -107,10 +107,10 @@ fn react_below(
     match below {
         [] => react_here(blocks, first, event, tick, inputs, emits, ask),
         [next, rest @ ..] => {
-            let Some(place) = blocks.get_mut(first) else {
+            let Some(slot) = blocks.get_mut(first) else {
                 unreachable!()
             };
-            match place.components_mut() {
+            match slot.components_mut() {
                 Some(components) => {
                     let next = *next as usize;
                     react_below(components, next, rest, event, tick, inputs, emits, ask)
@@ -121,7 +121,7 @@ fn react_below(
     }
 }
 
-/// .. of the one at a place.
+/// .. of the one at an index.
 #[inline(always)]
 fn react_here(
     blocks: &mut Items<Block>,
@@ -138,10 +138,10 @@ fn react_here(
     ensures reacted { Changed (HasTurned (λ s. reaction_to s event tick inputs.now) ask.new emits.new) blocks.old (first ∷ []) result blocks.new }
     ensures only_memory { IfErr result (λ halt. halt ≡ Halt.Memory) }
 {
-    let Some(place) = blocks.get_mut(first) else {
+    let Some(slot) = blocks.get_mut(first) else {
         unreachable!()
     };
-    match place {
+    match slot {
         Block::Event(state) => react(state, event, tick, inputs, emits, ask),
         Block::Basic(_) | Block::Composite(_) => unreachable!(),
     }
@@ -181,7 +181,7 @@ pub fn expire_event(
     expire_at(blocks, first, below, tick, emits, ask)
 }
 
-/// The reaction of the event block on a way to its timer, where it stands: goes down by the first place, and on by those
+/// The reaction of the event block on a way to its timer, where it stands: goes down by the first index, and on by those
 /// below.
 ///
 /// # Errors
@@ -200,15 +200,15 @@ fn expire_at(
     ensures reacted { Changed (HasTurned (λ s. expiry_of s tick) ask.new emits.new) blocks.old (first ∷ below.now) result blocks.new }
     ensures only_memory { IfErr result (λ halt. halt ≡ Halt.Memory) }
 {
-    let Some(place) = blocks.get_mut(first) else {
+    let Some(slot) = blocks.get_mut(first) else {
         unreachable!()
     };
     match below {
-        [] => match place {
+        [] => match slot {
             Block::Event(state) => expire(state, tick, emits, ask),
             Block::Basic(_) | Block::Composite(_) => unreachable!(),
         },
-        [next, rest @ ..] => match place.components_mut() {
+        [next, rest @ ..] => match slot.components_mut() {
             Some(components) => {
                 let next = *next as usize;
                 expire_at(components, next, rest, tick, emits, ask)

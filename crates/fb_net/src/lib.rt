@@ -41,7 +41,7 @@ pub mod tree;
 pub use arrival::Arrival;
 pub use block::Block;
 pub use building::build;
-pub use outbox::{Out, Outbox, Sending};
+pub use outbox::{Out, Outbox, OutgoingMessage};
 pub use resource::{Forest, HeldCopies};
 pub use shell::Shell;
 pub use tree::Tree;

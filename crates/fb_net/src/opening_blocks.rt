@@ -35,10 +35,10 @@ fn set_inputs(
     ensures values { OnOk result (values_of frame.new ≡ begun_all (variable_names inputs.now) values.now (values_of frame.old)) }
     ensures declared { OnOk result (declared_in frame.new ≡ declared_in frame.old) }
 {
-    for (place, input) in inputs.iter().enumerate() {
+    for (index, input) in inputs.iter().enumerate() {
         let variable = Reference::new(input.name.try_clone(alloc)?);
-        variable.expect_at(place);
-        frame.put(&variable, values[place]);
+        variable.expect_at(index);
+        frame.put(&variable, values[index]);
     }
     Ok(())
 }
@@ -71,18 +71,18 @@ fn basic_of(
     system: &System,
     instance: u32,
     block: &BasicType,
-    place: usize,
+    index: usize,
     charts: &mut Charts,
 ) -> Result<BasicState, AllocError>
     requires instance { instance < length (system_of system.now).paths }
     requires kind { (system_of system.now).kind (path_at (system_of system.now) instance) ≡ Some (Basic block.now) }
-    requires place { slice_get system.now.library.blocks place ≡ Some (types.Basic block.now) }
+    requires index { slice_get system.now.library.blocks index ≡ Some (types.Basic block.now) }
     requires charts { AreCharts system.now charts.old }
     ensures stands { IfOk result (λ s. let b = opening_block (system_of system.now) (path_at (system_of system.now) instance) in BasicStands block.now s b.memory b.variables) }
     ensures charts { OnOk result (AreCharts system.now charts.new) }
 {
     system.facts();
-    let chart = chart_at(alloc, block, place, charts)?;
+    let chart = chart_at(alloc, block, index, charts)?;
     opened_of(alloc, system, instance, block, chart)
 }
 
@@ -104,9 +104,9 @@ pub(crate) fn block_of(
     system.facts();
     match system.kind(instance) {
         TypeNumber::Event(kind) => Ok(Block::Event(EventState::new(kind))),
-        TypeNumber::Declared(place) => match system.library().blocks.get(place) {
+        TypeNumber::Declared(index) => match system.library().blocks.get(index) {
             Some(BlockType::Basic(block)) => {
-                let state = basic_of(alloc, system, instance, block, place, charts)?;
+                let state = basic_of(alloc, system, instance, block, index, charts)?;
                 Ok(Block::Basic(state))
             }
             Some(BlockType::Composite(_)) => Ok(Block::Composite(components)),

@@ -12,26 +12,26 @@ use fb_types::BasicType;
 use std::alloc::{AllocError, Global};
 use std::collections::BTreeMap;
 
-/// The charts that were made so far, by the places of their types in the library.
+/// The charts that were made so far, by the indexes of their types in the library.
 pub(crate) type Charts = BTreeMap<usize, SharedChart, Global>;
 
-/// The chart of the type at a place of the library. It is made with the first block of the type, and shared by all.
+/// The chart of the type at an index of the library. It is made with the first block of the type, and shared by all.
 pub(crate) fn chart_at(
     alloc: Global,
     block: &BasicType,
-    place: usize,
+    index: usize,
     charts: &mut Charts,
 ) -> Result<SharedChart, AllocError>
     requires declared { IsOfDeclaration block.now }
-    requires known { IfSome (get nat_cmp charts.old place) (λ chart. chart ≡ chart_of block.now) }
+    requires known { IfSome (get nat_cmp charts.old index) (λ chart. chart ≡ chart_of block.now) }
     ensures chart { IfOk result (λ chart. chart ≡ chart_of block.now) }
-    ensures charts { OnOk result (ChartsGrow charts.old place block.now charts.new) }
+    ensures charts { OnOk result (ChartsGrow charts.old index block.now charts.new) }
 {
-    if let Some(chart) = charts.get(&place) {
+    if let Some(chart) = charts.get(&index) {
         return chart.share();
     }
     let chart = SharedChart::of(alloc, block)?;
     let kept = chart.share()?;
-    charts.insert(place, kept)?;
+    charts.insert(index, kept)?;
     Ok(chart)
 }

@@ -3,16 +3,16 @@
 ghost use Rattle.std.specs.Prelude.{◌≡◌, ◌<◌, ◌≤◌, ℕ, length, IfOk, OnOk};
 ghost use Rattle.fb_types.specs.Headline.{system_of};
 ghost use Rattle.fb_system.specs.Ports.{IsVariable, variable_of};
-ghost use Rattle.fb_net.specs.Opening.{Covers, CoversAll, CoversPlaces, KeepsCovers};
+ghost use Rattle.fb_net.specs.Opening.{Covers, CoversAll, CoversIndexes, KeepsCovers};
 
 use crate::resource::HeldCopies;
 use fb_system::System;
-use fb_types::{Place, Value};
+use fb_types::{InstanceVariable, Value};
 use std::alloc::{AllocError, Global};
 use std::collections::BTreeMap;
 
 /// What a variable begins with.
-fn initial(alloc: Global, system: &System, variable: Place) -> Result<Value, AllocError>
+fn initial(alloc: Global, system: &System, variable: InstanceVariable) -> Result<Value, AllocError>
     requires { IsVariable (system_of system.now) variable }
     ensures { IfOk result (λ v. v ≡ (system_of system.now).initial (variable_of (system_of system.now) variable)) }
 {
@@ -29,7 +29,7 @@ fn hold(
     alloc: Global,
     system: &System,
     resource: usize,
-    to: Place,
+    to: InstanceVariable,
     held: &mut HeldCopies,
 ) -> Result<(), AllocError>
     requires { IsVariable (system_of system.now) to }
@@ -48,7 +48,7 @@ fn hold(
 }
 
 /// Holds copies of what the data inputs of an instance, or its data outputs, are connected to.
-fn hold_places(
+fn hold_indexes(
     alloc: Global,
     system: &System,
     resource: usize,
@@ -57,7 +57,7 @@ fn hold_places(
     held: &mut HeldCopies,
 ) -> Result<(), AllocError>
     requires { instance < length (system_of system.now).paths }
-    ensures covered { OnOk result (CoversPlaces system.now resource held.new instance is_output) }
+    ensures covered { OnOk result (CoversIndexes system.now resource held.new instance is_output) }
     ensures kept { OnOk result (KeepsCovers system.now resource held.old held.new) }
 {
     let ports = system.ports(instance);
@@ -69,10 +69,10 @@ fn hold_places(
     if variables.len() > u32::MAX as usize {
         return Err(AllocError);
     }
-    for (place, _) in variables.iter().enumerate() {
-        let to = Place {
+    for (index, _) in variables.iter().enumerate() {
+        let to = InstanceVariable {
             instance,
-            variable: place as u32,
+            variable: index as u32,
             is_output,
         };
         hold(alloc, system, resource, to, held)?;
@@ -93,8 +93,8 @@ pub(crate) fn held_of(
     let mut held = BTreeMap::new(alloc);
     for instance in 0..system.count() as u32 {
         if system.resource(instance) == resource {
-            hold_places(alloc, system, resource, instance, false, &mut held)?;
-            hold_places(alloc, system, resource, instance, true, &mut held)?;
+            hold_indexes(alloc, system, resource, instance, false, &mut held)?;
+            hold_indexes(alloc, system, resource, instance, true, &mut held)?;
         }
     }
     Ok(held)

@@ -20,8 +20,8 @@ fn sampled_of(alloc: Global, system: &System, instance: u32) -> Result<Items<Val
     requires { instance < length (system_of system.now).paths }
     ensures { IfOk result (λ vs. let p = path_at (system_of system.now) instance in ((t : BasicType) → (system_of system.now).kind p ≢ Some (Basic t)) → vs ≡ initial_inputs (system_of system.now) p) }
 {
-    if let TypeNumber::Declared(place) = system.kind(instance) {
-        if let Some(BlockType::Basic(_)) = system.library().blocks.get(place) {
+    if let TypeNumber::Declared(index) = system.kind(instance) {
+        if let Some(BlockType::Basic(_)) = system.library().blocks.get(index) {
             return Ok(Items::new(alloc));
         }
     }

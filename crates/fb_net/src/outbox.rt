@@ -7,7 +7,7 @@ use fb_types::{Carried, Items, Line, Target, TimerAsk};
 
 /// An event on its way to another resource, before it has a number and a tick of arrival.
 #[derive(Drop)]
-pub struct Sending {
+pub struct OutgoingMessage {
     pub link: u32,
     pub target: Target,
     /// The values of the variables WITH the event that was emitted.
@@ -18,7 +18,7 @@ pub struct Sending {
 #[derive(Drop)]
 pub enum Out {
     Local(Target),
-    Send(Sending),
+    Send(OutgoingMessage),
 }
 
 /// The lines, the events that go out in their order, and what the reactions ask of the timer of their instance.

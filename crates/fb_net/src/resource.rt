@@ -14,11 +14,11 @@ ghost use Rattle.fb_net.specs.Worlds.{TakesSamples, Found, InForest, IsComposite
 use crate::block::Block;
 use crate::shell::Shell;
 use fb_system::System;
-use fb_types::{Items, Place, Value};
+use fb_types::{InstanceVariable, Items, Value};
 use std::alloc::Global;
 use std::collections::BTreeMap;
 
-/// Values of variables of other resources, by instance, place, and whether it is an output.
+/// Values of variables of other resources, by instance, index, and whether it is an output.
 pub type HeldCopies = BTreeMap<(u32, u32, bool), Value, Global>;
 
 /// The instances of one resource, and the held copies of the variables of other resources to which they are
@@ -26,13 +26,13 @@ pub type HeldCopies = BTreeMap<(u32, u32, bool), Value, Global>;
 pub struct Forest {
     /// The number of the resource.
     pub resource: usize,
-    /// For each instance of the application, in the order of the text, the place of its block among `blocks`. That of an
+    /// For each instance of the application, in the order of the text, the index of its block among `blocks`. That of an
     /// instance of another resource means nothing.
     pub roots: Items<usize>,
     /// The blocks of the instances of the application that lie in the resource, in the order of the text. All others stand
     /// inside these.
     pub blocks: Items<Block>,
-    /// For each instance of the system, the place of its shell among `shells`. That of an instance of another resource
+    /// For each instance of the system, the index of its shell among `shells`. That of an instance of another resource
     /// means nothing.
     pub seats: Items<u32>,
     /// The shells of the instances that lie in the resource, in the order of their numbers. They stand side by side, and
@@ -63,18 +63,18 @@ impl Forest {
     ghost use Rattle.fb_net.specs.contracts.shell.Shell.{the_row as shell_row};
     ghost use Rattle.fb_net.specs.contracts.resource.Forest.{the_row};
 
-    /// The place of an application's instance among the blocks of the resource, in which the instance lies.
+    /// The index of an application's instance among the blocks of the resource, in which the instance lies.
     #[inline(always)]
-    fn root(&self, place: u32) -> usize
-        ensures { result ≡ seat_in self.now.roots place }
+    fn root(&self, index: u32) -> usize
+        ensures { result ≡ seat_in self.now.roots index }
     {
-        match self.roots.get(place as usize) {
+        match self.roots.get(index as usize) {
             Some(root) => *root,
             None => 0,
         }
     }
 
-    /// The way to the block of an instance that lies in the resource: a place among `blocks`, and the places below, each
+    /// The way to the block of an instance that lies in the resource: an index among `blocks`, and the indexes below, each
     /// among the components of the block before.
     #[inline(always)]
     pub fn way<'a>(&self, system: &'a System, instance: u32) -> (usize, &'a [u32])
@@ -84,11 +84,11 @@ impl Forest {
         system.facts();
         match system.route(instance) {
             [] => unreachable!(),
-            [place, below @ ..] => (self.root(*place), below),
+            [index, below @ ..] => (self.root(*index), below),
         }
     }
 
-    /// The place of an instance's shell among those of the resource, in which the instance lies.
+    /// The index of an instance's shell among those of the resource, in which the instance lies.
     #[inline(always)]
     pub fn seat(&self, instance: u32) -> usize
         ensures { result ≡ seat_in self.now.seats instance }
@@ -122,7 +122,7 @@ impl Forest {
 
     /// What a connection or a stimulus has set at a data input of an instance that lies in the resource.
     #[inline(always)]
-    pub fn slot(&self, system: &System, input: Place) -> Value
+    pub fn slot(&self, system: &System, input: InstanceVariable) -> Value
         requires variable { IsVariable (system_of system.now) input }
         requires input { input.is_output ≡ false }
         ensures { Reads system.now self.now input (λ b. b.slots) result }
@@ -135,7 +135,7 @@ impl Forest {
 
     /// What connections see at a data output of an instance that lies in the resource.
     #[inline(always)]
-    pub fn published(&self, system: &System, output: Place) -> Value
+    pub fn published(&self, system: &System, output: InstanceVariable) -> Value
         requires variable { IsVariable (system_of system.now) output }
         requires output { output.is_output ≡ true }
         ensures { Reads system.now self.now output (λ b. b.published) result }
@@ -148,7 +148,7 @@ impl Forest {
 
     /// The copy of a data input that a composite block in the resource shows to its components.
     #[inline(always)]
-    pub fn copied(&self, system: &System, input: Place) -> Value
+    pub fn copied(&self, system: &System, input: InstanceVariable) -> Value
         requires variable { IsVariable (system_of system.now) input }
         requires input { input.is_output ≡ false }
         ensures { IsComposite (system_of system.now) input → Reads system.now self.now input (λ b. b.variables) result }
@@ -161,7 +161,7 @@ impl Forest {
 
     /// What connections see at a source that lies in the resource.
     #[inline(always)]
-    fn seen(&self, system: &System, source: Place) -> Value
+    fn seen(&self, system: &System, source: InstanceVariable) -> Value
         requires { IsVariable (system_of system.now) source }
         ensures { Sees system.now self.now source result }
     {
@@ -175,7 +175,7 @@ impl Forest {
 
     /// The held copy of a variable of another resource, or 0 where there is none.
     #[inline(never)]
-    fn held(&self, source: Place) -> Value
+    fn held(&self, source: InstanceVariable) -> Value
         ensures { result ≡ unwrap_or (get key_cmp self.now.held (key_of source)) zero_value }
     {
         let key = (source.instance, source.variable, source.is_output);
@@ -185,7 +185,7 @@ impl Forest {
     /// What a source shows in the resource: what connections see at it, or the held copy where it lies in another
     /// resource.
     #[inline(always)]
-    pub fn shown(&self, system: &System, source: Place) -> Value
+    pub fn shown(&self, system: &System, source: InstanceVariable) -> Value
         requires { IsVariable (system_of system.now) source }
         ensures { Shows system.now self.now source result }
     {
@@ -199,7 +199,7 @@ impl Forest {
     /// What a data input of an instance that lies in the resource samples: what its source shows, or else what a
     /// stimulus has set.
     #[inline(always)]
-    pub fn sampled(&self, system: &System, input: Place) -> Value
+    pub fn sampled(&self, system: &System, input: InstanceVariable) -> Value
         requires variable { IsVariable (system_of system.now) input }
         requires input { input.is_output ≡ false }
         ensures { Samples system.now self.now input result }
@@ -213,7 +213,7 @@ impl Forest {
     /// What a data output of a composite that lies in the resource shows from inside: what its inner source shows, or
     /// else what it showed before.
     #[inline(always)]
-    pub fn shown_inside(&self, system: &System, output: Place) -> Value
+    pub fn shown_inside(&self, system: &System, output: InstanceVariable) -> Value
         requires variable { IsVariable (system_of system.now) output }
         requires output { output.is_output ≡ true }
         requires composite { IsComposite (system_of system.now) output }
@@ -226,7 +226,7 @@ impl Forest {
     }
 
     /// A stimulus brings a value to a data input of an instance that lies in the resource.
-    pub fn set_slot(&mut self, system: &System, input: Place, value: Value)
+    pub fn set_slot(&mut self, system: &System, input: InstanceVariable, value: Value)
         requires variable { IsVariable (system_of system.now) input }
         requires input { input.is_output ≡ false }
         ensures { Changes system.now self.old input.instance (slot_set (variable_of (system_of system.now) input).name value) self.new }
@@ -239,7 +239,7 @@ impl Forest {
 
     /// A data output of an instance that lies in the resource shows another value to connections.
     #[inline(always)]
-    pub fn publish(&mut self, system: &System, output: Place, value: Value)
+    pub fn publish(&mut self, system: &System, output: InstanceVariable, value: Value)
         requires variable { IsVariable (system_of system.now) output }
         requires output { output.is_output ≡ true }
         ensures { Changes system.now self.old output.instance (output_shown (variable_of (system_of system.now) output).name value) self.new }
@@ -252,7 +252,7 @@ impl Forest {
 
     /// An event block or a composite that lies in the resource samples a data input.
     #[inline(always)]
-    pub fn set_input(&mut self, system: &System, input: Place, value: Value)
+    pub fn set_input(&mut self, system: &System, input: InstanceVariable, value: Value)
         requires variable { IsVariable (system_of system.now) input }
         requires input { input.is_output ≡ false }
         requires takes { TakesSamples (system_of system.now) input }
@@ -266,7 +266,7 @@ impl Forest {
 
     /// A message brings a value of a variable of another resource. Where nothing in this resource is connected to the
     /// variable, nothing is kept.
-    pub fn hold(&mut self, system: &System, output: Place, value: Value)
+    pub fn hold(&mut self, system: &System, output: InstanceVariable, value: Value)
         requires { IsVariable (system_of system.now) output }
         ensures { Holds system.now self.old output value self.new }
     {
@@ -278,10 +278,10 @@ impl Forest {
     }
 }
 
-/// The value at a place.
+/// The value at an index.
 #[inline(always)]
-fn value_of(values: &[Value], place: u32) -> Value
-    ensures { result ≡ value_in values.now place }
+fn value_of(values: &[Value], index: u32) -> Value
+    ensures { result ≡ value_in values.now index }
 {
-    values.get(place as usize).copied().unwrap_or(NOTHING)
+    values.get(index as usize).copied().unwrap_or(NOTHING)
 }

@@ -4,44 +4,44 @@ ghost use Rattle.std.specs.Prelude.{◌≡◌, false, true, length, IfOk};
 ghost use Rattle.fb_types.specs.Headline.{system_of};
 ghost use Rattle.fb_types.specs.Numbers.{path_at, ports_at};
 ghost use Rattle.fb_system.specs.Ports.{IsCompositeAt, IsPort};
-ghost use Rattle.fb_system.specs.Stands.{ArePlaces};
+ghost use Rattle.fb_system.specs.Stands.{AreIndexes};
 ghost use Rattle.fb_net.specs.Samples.{AreSampled, AreShown, names_in, names_out};
 
 use crate::resource::Forest;
 use fb_system::System;
-use fb_types::{Place, Target, Values};
+use fb_types::{InstanceVariable, Target, Values};
 use std::alloc::{AllocError, Global};
 
-/// What the data inputs WITH an event input sample, in the order in which they are declared. They stand at `places`, and
+/// What the data inputs WITH an event input sample, in the order in which they are declared. They stand at `indexes`, and
 /// the instance lies in the resource.
 pub fn sampled_values(
     alloc: Global,
     forest: &Forest,
     system: &System,
     at: Target,
-    places: &[u32],
+    indexes: &[u32],
 ) -> Result<Values, AllocError>
     requires port { IsPort (system_of system.now) at }
     requires input { at.is_output ≡ false }
-    requires places { ArePlaces (ports_at (system_of system.now) (path_at (system_of system.now) at.instance)).inputs (names_in (system_of system.now) at) places.now }
+    requires indexes { AreIndexes (ports_at (system_of system.now) (path_at (system_of system.now) at.instance)).inputs (names_in (system_of system.now) at) indexes.now }
     ensures sampled { IfOk result (AreSampled system.now forest.now at) }
     ensures counted { IfOk result (λ vs. length vs ≡ length (names_in (system_of system.now) at)) }
 {
     // Mostly there is one value, and nothing is to be walked over.
-    if let [place] = places {
-        let input = Place {
+    if let [index] = indexes {
+        let input = InstanceVariable {
             instance: at.instance,
-            variable: *place,
+            variable: *index,
             is_output: false,
         };
         let value = forest.sampled(system, input);
         return Values::from_slice(alloc, &[value]);
     }
     let mut values = Values::new(alloc);
-    for place in places {
-        let input = Place {
+    for index in indexes {
+        let input = InstanceVariable {
             instance: at.instance,
-            variable: *place,
+            variable: *index,
             is_output: false,
         };
         values.push(forest.sampled(system, input))?;
@@ -50,35 +50,35 @@ pub fn sampled_values(
 }
 
 /// What a composite, which lies in the resource, shows from inside of the data outputs WITH an event output, in the
-/// order in which they are declared. They stand at `places`.
+/// order in which they are declared. They stand at `indexes`.
 pub fn shown_values(
     alloc: Global,
     forest: &Forest,
     system: &System,
     at: Target,
-    places: &[u32],
+    indexes: &[u32],
 ) -> Result<Values, AllocError>
     requires port { IsPort (system_of system.now) at }
     requires output { at.is_output ≡ true }
     requires composite { IsCompositeAt (system_of system.now) at.instance }
-    requires places { ArePlaces (ports_at (system_of system.now) (path_at (system_of system.now) at.instance)).outputs (names_out (system_of system.now) at) places.now }
+    requires indexes { AreIndexes (ports_at (system_of system.now) (path_at (system_of system.now) at.instance)).outputs (names_out (system_of system.now) at) indexes.now }
     ensures shown { IfOk result (AreShown system.now forest.now at) }
     ensures counted { IfOk result (λ vs. length vs ≡ length (names_out (system_of system.now) at)) }
 {
-    if let [place] = places {
-        let output = Place {
+    if let [index] = indexes {
+        let output = InstanceVariable {
             instance: at.instance,
-            variable: *place,
+            variable: *index,
             is_output: true,
         };
         let value = forest.shown_inside(system, output);
         return Values::from_slice(alloc, &[value]);
     }
     let mut values = Values::new(alloc);
-    for place in places {
-        let output = Place {
+    for index in indexes {
+        let output = InstanceVariable {
             instance: at.instance,
-            variable: *place,
+            variable: *index,
             is_output: true,
         };
         values.push(forest.shown_inside(system, output))?;

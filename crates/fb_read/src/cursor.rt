@@ -81,11 +81,11 @@ impl<'a> Cursor<'a> {
     }
 
     /// The offset in bytes of the next token, if there is one.
-    pub fn place(&self) -> Option<usize>
+    pub fn index(&self) -> Option<usize>
         ensures { IsNone result ↔ (self.now ≡ []) }
     {
         match self.rest {
-            [first, ..] => Some(first.place),
+            [first, ..] => Some(first.index),
             [] => None,
         }
     }

@@ -18,12 +18,12 @@ use fb_types::{Library, MOST_BYTES};
 use std::alloc::Global;
 
 /// The line of an offset, counted from 1 by line feeds.
-fn line_of(text: &[u8], place: usize) -> u32
+fn line_of(text: &[u8], index: usize) -> u32
     requires { length text.now ≤ most_bytes }
-    ensures { result ≡ 1 + count_by (λ b. b == 10) (take place text.now) }
+    ensures { result ≡ 1 + count_by (λ b. b == 10) (take index text.now) }
 {
-    let before = if place < text.len() {
-        &text[..place]
+    let before = if index < text.len() {
+        &text[..index]
     } else {
         text
     };
@@ -35,9 +35,9 @@ fn syntax_fault(text: &[u8], cursor: &Cursor<'_>) -> ReadError
     requires { length text.now ≤ most_bytes }
     ensures { IsSyntax result }
 {
-    let place = cursor.place().unwrap_or(text.len());
+    let index = cursor.index().unwrap_or(text.len());
     ReadError::Syntax {
-        line: line_of(text, place),
+        line: line_of(text, index),
     }
 }
 

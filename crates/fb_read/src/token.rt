@@ -106,7 +106,7 @@ pub struct Placed {
     /// The token.
     pub token: Token,
     /// The offset in bytes.
-    pub place: usize,
+    pub index: usize,
 }
 
 /// The greatest magnitude of a literal.

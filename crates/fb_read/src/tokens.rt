@@ -37,8 +37,8 @@ pub fn lex(alloc: Global, text: &[u8]) -> Result<Items<Placed>, LexFault>
             return Ok(found);
         }
         let (token, len) = front(alloc, here)?;
-        let place = text.len() - here.len();
-        found.push(Placed { token, place })?;
+        let index = text.len() - here.len();
+        found.push(Placed { token, index })?;
         rest = here.split_at(len).1;
     }
 }

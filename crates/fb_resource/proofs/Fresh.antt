@@ -19,7 +19,7 @@ use Rattle.fb_resource.specs.Takings.{IsHere}
 use Rattle.fb_resource.specs.Waiting.{meaning}
 use Rattle.fb_resource.proofs.Begins.{here_opened}
 use Rattle.fb_resource.proofs.Meters.{fresh_counts}
-use Rattle.fb_types.proofs.ByPlace.{slice_get-push}
+use Rattle.fb_types.proofs.ByIndex.{slice_get-push}
 use Rattle.fb_net.specs.Worlds.{IsForest}
 use Rattle.fb_net.specs.declared.resource.Forest.{Forest}
 use Rattle.fb_resource.specs.Resources.{AreOpened, IsFresh, StandsFor}
@@ -100,7 +100,7 @@ all_opened i xs counted each = record {
   state = λ limit r x is. (each r x is).state limit;
 }
 
--- ---- The place of one that is handed on
+-- ---- The index of one that is handed on
 
 pub at_middle : (ys : List Contents) (a : Contents) (zs : List Contents) → slice_get (ys ++ a ∷ zs) (length ys) ≡ Some a
 at_middle [] a zs = refl

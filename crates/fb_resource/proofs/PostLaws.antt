@@ -22,7 +22,7 @@ use Rattle.fb_types.proofs.TakeLaws.{found-put}
 use Rattle.fb_agenda.specs.Agendas.{Contents, waiting, IsTimed}
 use Rattle.fb_types.specs.declared.run.Event.{Event}
 use Rattle.fb_types.specs.declared.run.Event.TheVariants.{Arrival, Local}
-use Rattle.fb_net.specs.declared.outbox.Sending.{Sending}
+use Rattle.fb_net.specs.declared.outbox.OutgoingMessage.{OutgoingMessage}
 use Rattle.fb_net.specs.Outs.{IsLocal, out_of}
 use Rattle.fb_net.specs.declared.outbox.Out.{Out}
 use Rattle.fb_net.specs.declared.outbox.Out.TheVariants as outs
@@ -147,7 +147,7 @@ pub map_push : {A B : Type 0} (f : A → B) (xs : List A) (y : A) → map f (xs 
 map_push f [] y = refl
 map_push f (x ∷ xs) y = ap (λ zs. f x ∷ zs) (map_push f xs y)
 
-pub posted_message : (i : Inputs) (k : Key) (base mid : Contents) (before mail new : List Message) (x : Posts) (locals n : ℕ) (sent : List ℕ) (s : Sending) → ArePosted i x base mid before mail locals sent
+pub posted_message : (i : Inputs) (k : Key) (base mid : Contents) (before mail new : List Message) (x : Posts) (locals n : ℕ) (sent : List ℕ) (s : OutgoingMessage) → ArePosted i x base mid before mail locals sent
     → IsSendable (system_of i) k.resource s → s.link < length sent → n ≡ slice_index sent s.link
     → new ≡ mail ++ message_of (system_of i) k s n ∷ []
     → ArePosted i (post (system_of i) k (reactions.Sends (port_of (system_of i) s.target) (map (carried_of (system_of i)) s.values)) x) base mid before new locals (slice_set sent s.link (n + 1))
@@ -219,7 +219,7 @@ local_waits i k n t is named = record {
   own = refl;
 }
 
-pub message_is : (i : Inputs) (k : Key) (n : ℕ) (s : Sending) → IsSendable (system_of i) k.resource s → IsMessage i (message_of (system_of i) k s n)
+pub message_is : (i : Inputs) (k : Key) (n : ℕ) (s : OutgoingMessage) → IsSendable (system_of i) k.resource s → IsMessage i (message_of (system_of i) k s n)
 message_is i k n s is = record {
   event = record { numbered = (is.sending.target, is.sending.values); here = ap (system_of i).resource (port_path (system_of i) s.target) };
   link = is.there;
@@ -236,7 +236,7 @@ one_local i k base mid new before mail x o locals locals' sent t is more posted 
     let same : post sys k (out_of sys (outs.Local t)) x ≡ post sys k (out_of sys o) x = ap (λ z. post sys k (out_of sys z) x) (sym is) in
     subst (λ n. ArePosted i (post sys k (out_of sys o) x) base new before mail n sent) (sym more) (subst (λ z. ArePosted i z base new before mail (locals + 1) sent) same one)
 
-pub one_message : (i : Inputs) (k : Key) (base mid : Contents) (before mail new : List Message) (x : Posts) (o : Out) (locals : ℕ) (sent sent' : List ℕ) (s : Sending)
+pub one_message : (i : Inputs) (k : Key) (base mid : Contents) (before mail new : List Message) (x : Posts) (o : Out) (locals : ℕ) (sent sent' : List ℕ) (s : OutgoingMessage)
     → o ≡ outs.Send s → sent' ≡ slice_set sent s.link (slice_index sent s.link + 1) → ArePosted i x base mid before mail locals sent
     → IsSendable (system_of i) k.resource s → s.link < length sent
     → new ≡ mail ++ message_of (system_of i) k s (slice_index sent s.link) ∷ []

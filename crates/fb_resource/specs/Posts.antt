@@ -13,10 +13,10 @@ use Rattle.fb_types.specs.declared.value.Value.{Value}
 use Rattle.fb_agenda.specs.Agendas.{Contents, waiting}
 use Rattle.fb_types.specs.declared.run.Event.{Event}
 use Rattle.fb_types.specs.declared.run.Event.TheVariants.{Arrival}
-use Rattle.fb_net.specs.Outs.{IsLocal, IsSending}
+use Rattle.fb_net.specs.Outs.{IsLocal, IsOutgoing}
 use Rattle.fb_net.specs.declared.outbox.Out.{Out}
 use Rattle.fb_net.specs.declared.outbox.Out.TheVariants.{Local, Send}
-use Rattle.fb_net.specs.declared.outbox.Sending.{Sending}
+use Rattle.fb_net.specs.declared.outbox.OutgoingMessage.{OutgoingMessage}
 use Rattle.fb_net.specs.Events.{IsEventIn, event_of}
 use Rattle.fb_laws.specs.Typed.{FitsAt, IsTypedEvent}
 use Rattle.fb_resource.specs.Waiting.{meaning}
@@ -41,13 +41,13 @@ pub record IsMessage (i : Inputs) (m : Message) : Type 0 where
 -- ---- What is put out
 
 -- the message that a sending becomes, under its number on the link
-abbrev pub message_of : System → Key → Sending → (number : ℕ) → Message
+abbrev pub message_of : System → Key → OutgoingMessage → (number : ℕ) → Message
 message_of sys k s n =
     record { link = s.link; number = n; arrives = sys.arrival s.link k.tick; target = s.target; values = s.values }
 
 -- An event that goes to another resource goes over a link that there is, and carries values of their types.
-pub record IsSendable (sys : System) (r : ℕ) (s : Sending) : Type 0 where
-  pub sending : IsSending sys r s
+pub record IsSendable (sys : System) (r : ℕ) (s : OutgoingMessage) : Type 0 where
+  pub sending : IsOutgoing sys r s
   pub there : s.link < sys.links
   pub typed : All (λ (c : Port × Value). FitsAt sys c.0 c.1) (map (carried_of sys) s.values)
 

@@ -13,7 +13,7 @@ ghost use Rattle.fb_resource.specs.Waiting.{IsInOrder};
 
 use fb_agenda::Agenda;
 use fb_link::arrival;
-use fb_net::{Out, Sending};
+use fb_net::{Out, OutgoingMessage};
 use fb_system::System;
 use fb_types::{Key, Message, Target};
 use std::alloc::AllocError;
@@ -46,7 +46,7 @@ fn post_message(
     sent: &mut Vec<u128>,
     system: &System,
     key: &Key,
-    sending: Sending,
+    sending: OutgoingMessage,
 ) -> Result<(), AllocError>
     requires link { sending.link < (system_of system.now).links }
     requires counted { length sent.old.items ≡ (system_of system.now).links }

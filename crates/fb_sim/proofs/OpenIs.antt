@@ -13,7 +13,7 @@ use Rattle.fb_resource.specs.Posts.{CountsAre}
 use Rattle.fb_resource.specs.Takings.{AreReady, IsHere, queues_of}
 use Rattle.fb_resource.specs.declared.tick_counts.TickCounts.{TickCounts}
 use Rattle.fb_resource.proofs.Begins.{here_opened, metered_opened}
-use Rattle.fb_types.proofs.ByPlace.{slice_get-push}
+use Rattle.fb_types.proofs.ByIndex.{slice_get-push}
 use Rattle.fb_resource.proofs.Lists.{of_replicate}
 use Rattle.fb_sim.specs.Machines.{IsAt, IsReady}
 use Rattle.fb_sim.specs.Openings.{AreOpened}

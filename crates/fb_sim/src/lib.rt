@@ -28,7 +28,7 @@ pub use fb_types::run::Form;
 pub use options::{Inputs, Options};
 pub use outcome::{Outcome, Refusal, RunError};
 pub use progress::Round;
-pub use reading::{let_go, open};
+pub use reading::{discard, open};
 pub use rounds::round;
 pub use runs::{open_core, run};
 pub use serial::{check, run_serial};

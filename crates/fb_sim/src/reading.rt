@@ -149,6 +149,6 @@ pub fn open(alloc: Global, inputs: &Inputs<'_>) -> Result<System, RunError>
 }
 
 /// Drops a system. What it owns is proved to be dropped here, and so not once more in a crate above.
-pub fn let_go(system: System) {
+pub fn discard(system: System) {
     drop(system);
 }

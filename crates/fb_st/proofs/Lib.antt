@@ -5,7 +5,7 @@ pub mod Keys
 pub mod Knowing
 pub mod Wanted
 pub mod Once
-pub mod Places
+pub mod Indexes
 pub mod Ranges
 pub mod Runs
 pub mod Says

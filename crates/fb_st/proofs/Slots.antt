@@ -1,4 +1,4 @@
--- What the variables hold, by the place of a name, and after a write there.
+-- What the variables hold, by the index of a name, and after a write there.
 use Rattle.std.proofs.Common.{◌≡◌, ℕ, zero, suc, ◌<◌, length, get_or, ◌||◌, Bool, true, false, cond, List, [], ◌∷◌, set, Option, Some, None, refl, sym, ◌∙◌, ap, subst, arith}
 use Rattle.std.proofs.Math.Path.{fun_ext}
 use Rattle.std.specs.Prelude.{slice_get, option_map, option_and_then}
@@ -16,30 +16,30 @@ use Rattle.fb_types.specs.declared.value.Ty.TheVariants.{Bool as Boolean}
 use Rattle.fb_types.proofs.NameLaws.{same_from_same_name, same_name-flip}
 use Rattle.fb_st.specs.declared.frame.Slot.{Slot}
 use Rattle.fb_types.proofs.Positions.{position-first}
-use Rattle.fb_st.specs.Frames.{values_of, names_of, place_of, Declared, declared_in, types_in, is_declared}
-use Rattle.fb_st.proofs.Places.{position-later, named_at_place, place_of_once}
+use Rattle.fb_st.specs.Frames.{values_of, names_of, index_of, Declared, declared_in, types_in, is_declared}
+use Rattle.fb_st.proofs.Indexes.{position-later, named_at_index, index_of_once}
 
 abbrev held : Option Slot → Value
 held o = elim o [ None ↦ zero_value | Some s ↦ s.value ]
 
 -- ---- Reading
 
--- an element with a name that was read at a place stands there, and the name first stands there
+-- an element with a name that was read at an index stands there, and the name first stands there
 pub stands : (slots : List Slot) (i : ℕ) (s : Slot) (n : Name) → ¬ (Twice (names_of slots)) → i < length slots → s ≡ get_or slots i s → same_name n s.name ≡ true
-    → (slice_get slots i ≡ Some s) × (place_of n slots ≡ Some i)
+    → (slice_get slots i ≡ Some s) × (index_of n slots ≡ Some i)
 stands slots i s n once within is same =
     let there = slice_get_read slots (length slots) i s refl within is in
-    (there, place_of_once (λ (t : Slot). t.name) n slots i s once there same)
+    (there, index_of_once (λ (t : Slot). t.name) n slots i s once there same)
 
--- the variable at the place of a name is the one with the name
-pub named_here : (slots : List Slot) (n : Name) (i : ℕ) (s : Slot) → place_of n slots ≡ Some i → slice_get slots i ≡ Some s → named (λ t. t.name) n slots ≡ Some s
-named_here slots n i s at is = named_at_place (λ t. t.name) n slots ∙ ap (option_and_then (slice_get slots)) at ∙ is
+-- the variable at the index of a name is the one with the name
+pub named_here : (slots : List Slot) (n : Name) (i : ℕ) (s : Slot) → index_of n slots ≡ Some i → slice_get slots i ≡ Some s → named (λ t. t.name) n slots ≡ Some s
+named_here slots n i s at is = named_at_index (λ t. t.name) n slots ∙ ap (option_and_then (slice_get slots)) at ∙ is
 
-pub value_here : (slots : List Slot) (n : Name) (i : ℕ) (s : Slot) → place_of n slots ≡ Some i → slice_get slots i ≡ Some s → s.value ≡ values_of slots n
+pub value_here : (slots : List Slot) (n : Name) (i : ℕ) (s : Slot) → index_of n slots ≡ Some i → slice_get slots i ≡ Some s → s.value ≡ values_of slots n
 value_here slots n i s at is = sym (ap held (named_here slots n i s at is))
 
-pub value_nowhere : (slots : List Slot) (n : Name) → place_of n slots ≡ None → zero_value ≡ values_of slots n
-value_nowhere slots n at = sym (ap held (named_at_place (λ t. t.name) n slots ∙ ap (option_and_then (slice_get slots)) at))
+pub value_nowhere : (slots : List Slot) (n : Name) → index_of n slots ≡ None → zero_value ≡ values_of slots n
+value_nowhere slots n at = sym (ap held (named_at_index (λ t. t.name) n slots ∙ ap (option_and_then (slice_get slots)) at))
 
 -- ---- Types
 
@@ -54,19 +54,19 @@ named_declared (s ∷ slots) n =
       | false ↦ named_declared slots n
     ]
 
-pub type_here : (slots : List Slot) (n : Name) (i : ℕ) (s : Slot) → place_of n slots ≡ Some i → slice_get slots i ≡ Some s → types_in (declared_in slots) n ≡ s.ty
+pub type_here : (slots : List Slot) (n : Name) (i : ℕ) (s : Slot) → index_of n slots ≡ Some i → slice_get slots i ≡ Some s → types_in (declared_in slots) n ≡ s.ty
 type_here slots n i s at is =
     ap type_or (named_declared slots n ∙ ap (option_map (λ t. (t.name, t.ty))) (named_here slots n i s at is))
 
--- a variable that is declared has a place
-pub declared_somewhere : (slots : List Slot) (n : Name) → is_declared (declared_in slots) n ≡ true → place_of n slots ≡ None → ⊥
+-- a variable that is declared has an index
+pub declared_somewhere : (slots : List Slot) (n : Name) → is_declared (declared_in slots) n ≡ true → index_of n slots ≡ None → ⊥
 declared_somewhere [] n h at = true≢false (sym h)
 declared_somewhere (s ∷ slots) n h at =
     elim (same_name n s.name) as (λ b. same_name n s.name ≡ b → (b || is_declared (declared_in slots) n) ≡ true → ⊥) [
       | true ↦ λ e g. absurd (let f = sym (position-first (λ t. same_name n t.name) s slots e) ∙ at in cc)
       | false ↦ λ e g. declared_somewhere slots n g
           (let f = sym (position-later (λ t. same_name n t.name) s slots e) ∙ at in
-          elim (place_of n slots) as (λ o. option_map (λ i. suc i) o ≡ None → o ≡ None) [ None ↦ λ q. refl | Some i ↦ λ q. absurd (cc) ] f)
+          elim (index_of n slots) as (λ o. option_map (λ i. suc i) o ≡ None → o ≡ None) [ None ↦ λ q. refl | Some i ↦ λ q. absurd (cc) ] f)
     ] refl h
 
 -- ---- Writing
@@ -102,7 +102,7 @@ later_is : (o : Option ℕ) (j : ℕ) → option_map (λ k. suc k) o ≡ Some (s
 later_is None j p = absurd (cc)
 later_is (Some k) j p = let e : suc k ≡ suc j = cc in let f : k ≡ j = omega arith in ap (λ m. Some m) f
 
-set_at : (slots : List Slot) (n m : Name) (i : ℕ) (s : Slot) (v : Value) → place_of n slots ≡ Some i → slice_get slots i ≡ Some s
+set_at : (slots : List Slot) (n m : Name) (i : ℕ) (s : Slot) (v : Value) → index_of n slots ≡ Some i → slice_get slots i ≡ Some s
     → values_of (set slots i (record s { value = v })) m ≡ with_value n v (values_of slots) m
 set_at [] n m i s v at is = absurd (cc)
 set_at (t ∷ slots) n m i s v at is =
@@ -112,14 +112,14 @@ set_at (t ∷ slots) n m i s v at is =
             subst (λ (u : Slot). values_of ((record u { value = v }) ∷ slots) m ≡ with_value n v (values_of (t ∷ slots)) m) same (with_first v t slots n m e)
         | suc j ↦ λ p q. absurd (cc)
       ] (sym (position-first (λ u. same_name n u.name) t slots e) ∙ at) is
-      | false ↦ λ e. elim i as (λ j. option_map (λ k. suc k) (place_of n slots) ≡ Some j → slice_get (t ∷ slots) j ≡ Some s → values_of (set (t ∷ slots) j (record s { value = v })) m ≡ with_value n v (values_of (t ∷ slots)) m) [
-        | zero ↦ λ p q. absurd (later_not_first (place_of n slots) p)
-        | suc j ↦ λ p q. with_later v t slots (set slots j (record s { value = v })) n m e (set_at slots n m j s v (later_is (place_of n slots) j p) q)
+      | false ↦ λ e. elim i as (λ j. option_map (λ k. suc k) (index_of n slots) ≡ Some j → slice_get (t ∷ slots) j ≡ Some s → values_of (set (t ∷ slots) j (record s { value = v })) m ≡ with_value n v (values_of (t ∷ slots)) m) [
+        | zero ↦ λ p q. absurd (later_not_first (index_of n slots) p)
+        | suc j ↦ λ p q. with_later v t slots (set slots j (record s { value = v })) n m e (set_at slots n m j s v (later_is (index_of n slots) j p) q)
       ] (sym (position-later (λ u. same_name n u.name) t slots e) ∙ at) is
     ] refl
 
--- a write at the place of a name changes the value of that name alone
-pub written : (slots : List Slot) (n : Name) (i : ℕ) (s : Slot) (v : Value) → place_of n slots ≡ Some i → slice_get slots i ≡ Some s
+-- a write at the index of a name changes the value of that name alone
+pub written : (slots : List Slot) (n : Name) (i : ℕ) (s : Slot) (v : Value) → index_of n slots ≡ Some i → slice_get slots i ≡ Some s
     → values_of (set slots i (record s { value = v })) ≡ with_value n v (values_of slots)
 written slots n i s v at is = fun_ext (λ m. set_at slots n m i s v at is)
 
@@ -133,10 +133,10 @@ pub names_same : (slots : List Slot) (i : ℕ) (s : Slot) (v : Value) → i < le
     → names_of (set slots i (record s { value = v })) ≡ names_of slots
 names_same slots i s v within is = map-set_same (λ t. t.name) slots i (record s { value = v }) s (ap (λ t. t.name) is)
 
-pub place_within : (slots : List Slot) (n : Name) (i : ℕ) → place_of n slots ≡ Some i → i < length slots
-place_within [] n i at = absurd (cc)
-place_within (s ∷ slots) n i at = (position-Some (λ t. same_name n t.name) (s ∷ slots) i s at).0
+pub index_within : (slots : List Slot) (n : Name) (i : ℕ) → index_of n slots ≡ Some i → i < length slots
+index_within [] n i at = absurd (cc)
+index_within (s ∷ slots) n i at = (position-Some (λ t. same_name n t.name) (s ∷ slots) i s at).0
 
 -- what was read of the fields was read of the frame
-pub read_at : (slots : List Slot) (n : Name) (i : ℕ) (s : Slot) → place_of n slots ≡ Some i → s ≡ get_or slots i s → slice_get slots i ≡ Some s
-read_at slots n i s at is = slice_get_read slots (length slots) i s refl (place_within slots n i at) is
+pub read_at : (slots : List Slot) (n : Name) (i : ℕ) (s : Slot) → index_of n slots ≡ Some i → s ≡ get_or slots i s → slice_get slots i ≡ Some s
+read_at slots n i s at is = slice_get_read slots (length slots) i s refl (index_within slots n i at) is

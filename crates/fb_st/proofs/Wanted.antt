@@ -1,7 +1,7 @@
 -- A number handed on as a number, and a truth value as a truth value, say what the values would.
 use Rattle.std.proofs.Common.{◌≡◌, ℤ, pos, ◌+ℤ◌, ◌-ℤ◌, ◌*ℤ◌, Bool, true, false, Result, Ok, Err, ◌⊎◌, ⊎_elim, refl, sym, ap, ◌∙◌}
 use Rattle.std.specs.Prelude.{if◌then◌else◌, int_div, int_lt, int_le, not, ◌&&◌, ◌||◌}
-use Rattle.fb_types.specs.Values.{and_then, binary_value, whole, truth, told, judged, quotient, modulus, same_whole, same_value, same_truth, within_signed}
+use Rattle.fb_types.specs.Values.{and_then, binary_value, whole, truth, bool_result, judged, quotient, modulus, same_whole, same_value, same_truth, within_signed}
 use Rattle.fb_types.specs.declared.text.BinaryOperator.{BinaryOperator}
 use Rattle.fb_types.specs.declared.text.BinaryOperator.TheVariants.{Or, Xor, And, Equal, NotEqual, Less, Greater, LessOrEqual, GreaterOrEqual, Add, Subtract, Multiply, Divide, Modulo}
 use Rattle.fb_types.specs.declared.value.Value.{Value}
@@ -59,8 +59,8 @@ modulus_number : (y z x : ℤ) → wholes (modulus y z) ≡ Ok x → modulus y z
 modulus_number y z x e =
     either (same_whole z (pos 0)) (judged (pos 0)) (judged (y -ℤ (int_div y z *ℤ z))) x (judged_number (pos 0) x) (judged_number (y -ℤ (int_div y z *ℤ z)) x) e
 
-told_is : (a b : Bool) → truths (told a) ≡ Ok b → told a ≡ Ok (value.Bool b)
-told_is a b e = let same : a ≡ b = cc in ap told same
+told_is : (a b : Bool) → truths (bool_result a) ≡ Ok b → bool_result a ≡ Ok (value.Bool b)
+told_is a b e = let same : a ≡ b = cc in ap bool_result same
 
 truth_by_wholes : (o : BinaryOperator) (v w : Value) → takes_numbers o ≡ true → truths (binary_value o v w) ≡ truths (binary_value o (value.Whole (whole v)) (value.Whole (whole w)))
 truth_by_wholes Or v w g = absurd cc

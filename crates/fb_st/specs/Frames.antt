@@ -15,9 +15,9 @@ names_of = map (λ s. s.name)
 abbrev pub values_of : List Slot → Values
 values_of slots n = elim (named (λ s. s.name) n slots) [ None ↦ zero_value | Some s ↦ s.value ]
 
--- the place of the variable of a name, or none where there is no such variable
-abbrev pub place_of : Name → List Slot → Option ℕ
-place_of n = position (λ s. same_name n s.name)
+-- the index of the variable of a name, or none where there is no such variable
+abbrev pub index_of : Name → List Slot → Option ℕ
+index_of n = position (λ s. same_name n s.name)
 
 -- A variable's name, with its type.
 abbrev pub Declared : Type 0

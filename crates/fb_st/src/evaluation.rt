@@ -8,7 +8,7 @@ ghost use Rattle.fb_st.specs.Frames.{values_of};
 ghost use Rattle.fb_st.specs.Faults.{after, met};
 ghost use Rattle.fb_st.specs.Wanted.{wholes, truths, as_whole, as_bool, false_if_known, both, told_joined, told_equal};
 
-use crate::fault::{compared, noted, noted_truth, noted_value};
+use crate::fault::{compared, keep_fault, keep_truth_fault, keep_value_fault};
 use crate::frame::Frame;
 use crate::function::{call_with_one, call_with_three, call_with_two};
 use crate::operator::{
@@ -41,9 +41,9 @@ fn value(expr: &Expr, frame: &Frame) -> Result<Value, Reason>
         Expr::Variable(variable) => Ok(frame.value(variable)),
         Expr::Group(inner) => value(inner.get(), frame),
         Expr::Unary(UnaryOperator::Negate, _) => number(expr, frame),
-        Expr::Unary(UnaryOperator::Not, _) => told(expr, frame),
+        Expr::Unary(UnaryOperator::Not, _) => bool_value(expr, frame),
         Expr::Binary(operator, _, _) if is_arithmetic(*operator) => number(expr, frame),
-        Expr::Binary(_, _, _) => told(expr, frame),
+        Expr::Binary(_, _, _) => bool_value(expr, frame),
         Expr::Call(name, arguments) => call(name, arguments.as_slice(), frame),
     }
 }
@@ -56,7 +56,7 @@ fn number(expr: &Expr, frame: &Frame) -> Result<Value, Reason>
     ensures { result ≡ as_whole (wholes (value_of (expr_of expr.now) (values_of frame.now))) }
 {
     let mut fault = None;
-    let number = counted(expr, frame, &mut fault);
+    let number = number_with_fault(expr, frame, &mut fault);
     match fault {
         None => Ok(Value::Whole(number)),
         Some(reason) => Err(reason),
@@ -66,7 +66,7 @@ fn number(expr: &Expr, frame: &Frame) -> Result<Value, Reason>
 /// The truth value that an expression comes to, as a value.
 #[cycle(eval)]
 #[inline(always)]
-fn told(expr: &Expr, frame: &Frame) -> Result<Value, Reason>
+fn bool_value(expr: &Expr, frame: &Frame) -> Result<Value, Reason>
     ensures { result ≡ as_bool (truths (value_of (expr_of expr.now) (values_of frame.now))) }
 {
     Ok(Value::Bool(truth(expr, frame)?))
@@ -75,26 +75,29 @@ fn told(expr: &Expr, frame: &Frame) -> Result<Value, Reason>
 /// The whole number that an expression comes to. The first reason that is met is kept in `fault`, so that a number is
 /// handed from call to call in registers; behind a reason it is of no use.
 #[cycle(eval)]
-fn counted(expr: &Expr, frame: &Frame, fault: &mut Option<Reason>) -> i128
+fn number_with_fault(expr: &Expr, frame: &Frame, fault: &mut Option<Reason>) -> i128
     ensures { met fault.new result ≡ after fault.old (wholes (value_of (expr_of expr.now) (values_of frame.now))) }
 {
     match expr {
         Expr::Whole(number) => *number,
         Expr::Truth(_) => 0,
         Expr::Variable(variable) => frame.whole(variable),
-        Expr::Group(inner) => counted(inner.get(), frame, fault),
+        Expr::Group(inner) => number_with_fault(inner.get(), frame, fault),
         Expr::Unary(UnaryOperator::Negate, operand) => {
-            let x = counted(operand.get(), frame, fault);
-            noted(negated(x), fault)
+            let x = number_with_fault(operand.get(), frame, fault);
+            keep_fault(negated(x), fault)
         }
-        Expr::Unary(UnaryOperator::Not, operand) => noted_truth(truth(operand.get(), frame), fault),
+        Expr::Unary(UnaryOperator::Not, operand) => keep_truth_fault(
+            truth(operand.get(), frame),
+            fault,
+        ),
         Expr::Binary(operator, left, right) => {
             let x = operand(left.get(), frame, fault);
             let y = operand(right.get(), frame, fault);
-            noted(number_of_two(*operator, x, y), fault)
+            keep_fault(number_of_two(*operator, x, y), fault)
         }
         Expr::Call(name, arguments) => {
-            noted_value(call(name, arguments.as_slice(), frame), fault)
+            keep_value_fault(call(name, arguments.as_slice(), frame), fault)
         }
     }
 }
@@ -108,7 +111,7 @@ fn operand(expr: &Expr, frame: &Frame, fault: &mut Option<Reason>) -> i128
     match expr {
         Expr::Whole(number) => *number,
         Expr::Variable(variable) => frame.whole(variable),
-        _ => counted(expr, frame, fault),
+        _ => number_with_fault(expr, frame, fault),
     }
 }
 

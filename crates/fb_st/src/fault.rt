@@ -21,7 +21,7 @@ fn failed(reason: Reason, fault: &mut Option<Reason>) -> i128
 
 /// A number, or the reason why there is none.
 #[inline(always)]
-pub fn noted(number: Result<i128, Reason>, fault: &mut Option<Reason>) -> i128
+pub fn keep_fault(number: Result<i128, Reason>, fault: &mut Option<Reason>) -> i128
     ensures { met fault.new result ≡ after fault.old number }
 {
     match number {
@@ -32,7 +32,7 @@ pub fn noted(number: Result<i128, Reason>, fault: &mut Option<Reason>) -> i128
 
 /// The number that a value is, or the reason why there is none.
 #[inline(always)]
-pub fn noted_value(value: Result<Value, Reason>, fault: &mut Option<Reason>) -> i128
+pub fn keep_value_fault(value: Result<Value, Reason>, fault: &mut Option<Reason>) -> i128
     ensures { met fault.new result ≡ after fault.old (wholes value) }
 {
     match value {
@@ -43,7 +43,7 @@ pub fn noted_value(value: Result<Value, Reason>, fault: &mut Option<Reason>) -> 
 
 /// The number that a truth value is, which is 0, or the reason why there is none.
 #[inline(always)]
-pub fn noted_truth(truth: Result<bool, Reason>, fault: &mut Option<Reason>) -> i128
+pub fn keep_truth_fault(truth: Result<bool, Reason>, fault: &mut Option<Reason>) -> i128
     ensures { met fault.new result ≡ after fault.old (zero_if_told truth) }
 {
     match truth {

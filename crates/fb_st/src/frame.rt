@@ -6,7 +6,7 @@ ghost use Rattle.fb_types.specs.Names.{same_name, with_value};
 ghost use Rattle.fb_types.specs.Repeated.{Twice};
 ghost use Rattle.fb_types.specs.Values.{fits, whole};
 ghost use Rattle.fb_st.specs.Variables.{least_of, most_of};
-ghost use Rattle.fb_st.specs.Frames.{place_of, values_of, declared_in, is_declared, names_of, types_in};
+ghost use Rattle.fb_st.specs.Frames.{index_of, values_of, declared_in, is_declared, names_of, types_in};
 
 use crate::operator::whole_of;
 use fb_types::{Name, Reason, Reference, Ty, Value};
@@ -265,7 +265,7 @@ impl Frame {
     pub fn whole(&self, variable: &Reference) -> i128
         ensures { result ≡ whole (values_of self.now variable.now) }
     {
-        match self.standing(variable, variable.place()) {
+        match self.standing(variable, variable.index()) {
             Some(slot) => whole_of(slot.value()),
             None => self.whole_by_search(variable),
         }
@@ -284,20 +284,20 @@ impl Frame {
     pub fn value(&self, variable: &Reference) -> Value
         ensures { result ≡ values_of self.now variable.now }
     {
-        match self.standing(variable, variable.place()) {
+        match self.standing(variable, variable.index()) {
             Some(slot) => slot.value(),
             None => self.value_by_search(variable),
         }
     }
 
-    /// The variable at a place, if it is the one that is meant. What it holds is then read in place.
+    /// The variable at an index, if it is the one that is meant. What it holds is then read in place.
     #[inline(always)]
-    fn standing(&self, variable: &Reference, place: usize) -> Option<&Slot>
-        ensures place { OnSome result (place_of variable.now self.now ≡ Some place) }
+    fn standing(&self, variable: &Reference, index: usize) -> Option<&Slot>
+        ensures index { OnSome result (index_of variable.now self.now ≡ Some index) }
         ensures ty { IfSome result (λ s. types_in (declared_in self.now) variable.now ≡ s.now.ty) }
         ensures value { IfSome result (λ s. values_of self.now variable.now ≡ s.now.value) }
     {
-        match self.slots.get(place) {
+        match self.slots.get(index) {
             Some(slot) if slot.is_named(variable.name()) => Some(slot),
             _ => None,
         }
@@ -309,7 +309,7 @@ impl Frame {
     pub fn small_at_once(&self, variable: &Reference) -> Option<i64>
         ensures { IfSome result (λ z. values_of self.now variable.now ≡ Value.Whole z) }
     {
-        match self.slots.get(variable.place()) {
+        match self.slots.get(variable.index()) {
             Some(slot) => slot.small_named(variable.name()),
             None => None,
         }
@@ -320,7 +320,7 @@ impl Frame {
     pub(crate) fn small(&self, variable: &Reference) -> Option<i64>
         ensures { IfSome result (λ z. values_of self.now variable.now ≡ Value.Whole z) }
     {
-        self.standing(variable, variable.place())?.small()
+        self.standing(variable, variable.index())?.small()
     }
 
     /// The truth value that a variable holds which stands where it is expected. `None` says nothing of it.
@@ -328,7 +328,7 @@ impl Frame {
     pub(crate) fn small_truth(&self, variable: &Reference) -> Option<bool>
         ensures { IfSome result (λ b. values_of self.now variable.now ≡ Value.Bool b) }
     {
-        match self.standing(variable, variable.place())?.value() {
+        match self.standing(variable, variable.index())?.value() {
             Value::Whole(_) => None,
             Value::Bool(truth) => Some(truth),
         }
@@ -340,34 +340,34 @@ impl Frame {
         ensures { result ≡ values_of self.now variable.now }
     {
         match self.search(variable) {
-            Some(place) => self.slots[place].value(),
+            Some(index) => self.slots[index].value(),
             None => Value::Whole(0),
         }
     }
 
-    /// The place of a variable: the one at which it is expected, or else the one at which it is found.
+    /// The index of a variable: the one at which it is expected, or else the one at which it is found.
     #[inline(always)]
     fn find(&self, variable: &Reference) -> Option<usize>
-        ensures { result ≡ place_of variable.now self.now }
+        ensures { result ≡ index_of variable.now self.now }
     {
-        let expected = variable.place();
+        let expected = variable.index();
         match self.standing(variable, expected) {
             Some(_) => Some(expected),
             None => self.search(variable),
         }
     }
 
-    /// Looks for a variable among all, and notes its place beside the name, so that it is found at once from then on.
+    /// Looks for a variable among all, and notes its index beside the name, so that it is found at once from then on.
     #[inline(never)]
     fn search(&self, variable: &Reference) -> Option<usize>
-        ensures { result ≡ place_of variable.now self.now }
+        ensures { result ≡ index_of variable.now self.now }
     {
-        let place = self
+        let index = self
             .slots
             .iter()
             .position(|slot| slot.is_named(variable.name()));
-        note(variable, place);
-        place
+        note(variable, index);
+        index
     }
 
     /// Gives a variable a value without a look at its type, as where a value is sampled that the type holds. Mostly a
@@ -392,11 +392,11 @@ impl Frame {
         ensures value { values_of self.new ≡ with_value variable.now value (values_of self.old) }
         ensures declared { declared_in self.new ≡ declared_in self.old }
     {
-        let place = match self.find(variable) {
-            Some(place) => place,
+        let index = match self.find(variable) {
+            Some(index) => index,
             None => unreachable!(),
         };
-        let found = &mut self.slots[place];
+        let found = &mut self.slots[index];
         found.put(value);
     }
 
@@ -408,21 +408,21 @@ impl Frame {
         ensures same { result ≡ false → self.new ≡ self.old }
         ensures declared { declared_in self.new ≡ declared_in self.old }
     {
-        let place = variable.place();
-        if !self.has_small(variable, place) {
+        let index = variable.index();
+        if !self.has_small(variable, index) {
             return false;
         }
-        let slot = &mut self.slots[place];
+        let slot = &mut self.slots[index];
         slot.put_small(number);
         true
     }
 
-    /// Whether a variable stands at a place, has a short name and holds a number of 64 bits.
+    /// Whether a variable stands at an index, has a short name and holds a number of 64 bits.
     #[inline(always)]
-    fn has_small(&self, variable: &Reference, place: usize) -> bool
-        ensures { result ≡ true → place_of variable.now self.now ≡ Some place }
+    fn has_small(&self, variable: &Reference, index: usize) -> bool
+        ensures { result ≡ true → index_of variable.now self.now ≡ Some index }
     {
-        match self.slots.get(place) {
+        match self.slots.get(index) {
             Some(slot) => slot.small_named(variable.name()).is_some(),
             None => false,
         }
@@ -436,21 +436,21 @@ impl Frame {
         ensures same { result ≡ false → self.new ≡ self.old }
         ensures declared { declared_in self.new ≡ declared_in self.old }
     {
-        let place = variable.place();
-        if !self.may_take(variable, place, number) {
+        let index = variable.index();
+        if !self.may_take(variable, index, number) {
             return false;
         }
-        let slot = &mut self.slots[place];
+        let slot = &mut self.slots[index];
         slot.put_small(number);
         true
     }
 
-    /// Whether a variable stands at a place and its type holds a number.
+    /// Whether a variable stands at an index and its type holds a number.
     #[inline(always)]
-    fn may_take(&self, variable: &Reference, place: usize, number: i64) -> bool
-        ensures { result ≡ true → (place_of variable.now self.now ≡ Some place) × (fits (types_in (declared_in self.now) variable.now) (Value.Whole number) ≡ true) }
+    fn may_take(&self, variable: &Reference, index: usize, number: i64) -> bool
+        ensures { result ≡ true → (index_of variable.now self.now ≡ Some index) × (fits (types_in (declared_in self.now) variable.now) (Value.Whole number) ≡ true) }
     {
-        match self.slots.get(place) {
+        match self.slots.get(index) {
             Some(slot) => slot.may_take(variable.name(), number),
             None => false,
         }
@@ -464,14 +464,14 @@ impl Frame {
         ensures err { IfErr result (λ r. (r ≡ Reason.Range) × (fits (types_in (declared_in self.old) variable.now) value ≡ false) × (self.new ≡ self.old)) }
         ensures declared { declared_in self.new ≡ declared_in self.old }
     {
-        let place = match self.find(variable) {
-            Some(place) => place,
+        let index = match self.find(variable) {
+            Some(index) => index,
             None => unreachable!(),
         };
-        if !self.slots[place].holds(value) {
+        if !self.slots[index].holds(value) {
             return Err(Reason::Range);
         }
-        let slot = &mut self.slots[place];
+        let slot = &mut self.slots[index];
         slot.put(value);
         Ok(())
     }
@@ -484,8 +484,8 @@ fn has_name(slots: &[Slot], name: &Name) -> bool
 }
 
 /// Notes where a variable was found.
-fn note(variable: &Reference, place: Option<usize>) {
-    if let Some(place) = place {
-        variable.expect_at(place);
+fn note(variable: &Reference, index: Option<usize>) {
+    if let Some(index) = index {
+        variable.expect_at(index);
     }
 }

@@ -1,7 +1,7 @@
 //! Operators (IEC 61131-3, 7.3.2). Whole numbers are exact: a result outside 128 bits is a reason.
 
 ghost use Rattle.std.specs.Prelude.{◌≡◌, false, ◌+ℤ◌, ◌-ℤ◌, ◌*ℤ◌, neg_ℤ, int_div, int_rem, IfSome};
-ghost use Rattle.fb_types.specs.Values.{judged, told, whole, truth, binary_value, same_value, quotient, modulus};
+ghost use Rattle.fb_types.specs.Values.{judged, bool_result, whole, truth, binary_value, same_value, quotient, modulus};
 ghost use Rattle.fb_st.specs.Wanted.{wholes, gives_number, both_joined};
 
 use fb_types::{BinaryOperator, Reason, Value};
@@ -166,7 +166,7 @@ pub fn number_of_two(operator: BinaryOperator, x: i128, y: i128) -> Result<i128,
 /// The truth value that an operator gives at two numbers, where it does not give a number.
 #[inline(always)]
 pub fn is_told(operator: BinaryOperator, x: i128, y: i128) -> bool
-    ensures { gives_number operator ≡ false → binary_value operator (Value.Whole x) (Value.Whole y) ≡ told result }
+    ensures { gives_number operator ≡ false → binary_value operator (Value.Whole x) (Value.Whole y) ≡ bool_result result }
 {
     match operator {
         BinaryOperator::Or | BinaryOperator::Xor | BinaryOperator::And => false,

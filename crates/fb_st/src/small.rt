@@ -4,7 +4,7 @@
 
 ghost use Rattle.std.specs.Prelude.{◌≡◌, Ok, IfSome};
 ghost use Rattle.fb_types.specs.Syntax.{expr_of};
-ghost use Rattle.fb_types.specs.Values.{told, value_of, binary_value, and_then};
+ghost use Rattle.fb_types.specs.Values.{bool_result, value_of, binary_value, and_then};
 ghost use Rattle.fb_st.specs.Frames.{values_of};
 
 use crate::frame::Frame;
@@ -119,7 +119,7 @@ fn number_at_once(expr: &Expr, frame: &Frame) -> Option<i64>
 /// compare numbers and variables, or join two such by AND, with no call on the way.
 #[cycle(small_truth)]
 pub fn small_truth(expr: &Expr, frame: &Frame) -> Option<bool>
-    ensures { IfSome result (λ b. value_of (expr_of expr.now) (values_of frame.now) ≡ told b) }
+    ensures { IfSome result (λ b. value_of (expr_of expr.now) (values_of frame.now) ≡ bool_result b) }
 {
     if let Some(is_true) = told_at_once(expr, frame) {
         return Some(is_true);
@@ -137,7 +137,7 @@ pub fn small_truth(expr: &Expr, frame: &Frame) -> Option<bool>
 /// What a comparison of numbers and variables tells, where these are found without a call. `None` says nothing of it.
 #[inline(always)]
 fn told_at_once(expr: &Expr, frame: &Frame) -> Option<bool>
-    ensures { IfSome result (λ b. value_of (expr_of expr.now) (values_of frame.now) ≡ told b) }
+    ensures { IfSome result (λ b. value_of (expr_of expr.now) (values_of frame.now) ≡ bool_result b) }
 {
     if let Expr::Binary(operator, left, right) = expr {
         if let Some(x) = number_at_once(left.get(), frame) {
@@ -153,7 +153,7 @@ fn told_at_once(expr: &Expr, frame: &Frame) -> Option<bool>
 #[cycle(small_truth)]
 #[inline(never)]
 fn any_small_truth(expr: &Expr, frame: &Frame) -> Option<bool>
-    ensures { IfSome result (λ b. value_of (expr_of expr.now) (values_of frame.now) ≡ told b) }
+    ensures { IfSome result (λ b. value_of (expr_of expr.now) (values_of frame.now) ≡ bool_result b) }
 {
     if let Expr::Binary(operator, left, right) = expr {
         if let BinaryOperator::And = operator {
@@ -206,7 +206,7 @@ fn small_remainder(x: i64, y: i64) -> Option<i64>
 /// The truth value that an operator gives at two numbers, where it compares them.
 #[inline(always)]
 fn small_told(operator: BinaryOperator, x: i64, y: i64) -> Option<bool>
-    ensures { IfSome result (λ b. binary_value operator (Value.Whole x) (Value.Whole y) ≡ told b) }
+    ensures { IfSome result (λ b. binary_value operator (Value.Whole x) (Value.Whole y) ≡ bool_result b) }
 {
     match operator {
         BinaryOperator::Equal => Some(x == y),

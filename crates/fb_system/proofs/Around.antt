@@ -9,13 +9,13 @@ use Rattle.fb_types.specs.Unknown.{event_ins, event_outs, data_ins, data_outs}
 use Rattle.fb_types.specs.declared.library.Library.{Library}
 use Rattle.fb_types.specs.declared.library.Ports.{Ports}
 use Rattle.fb_types.specs.declared.run.Target.{Target}
-use Rattle.fb_check_names.specs.declared.numbers.WireEnd.{WireEnd}
+use Rattle.fb_check_names.specs.declared.numbers.ConnectionEnd.{ConnectionEnd}
 use Rattle.fb_check_names.specs.declared.numbers.NetworkNumbers.{NetworkNumbers}
-use Rattle.fb_types.proofs.ByPlace.{element_of_place, element_at}
+use Rattle.fb_types.proofs.ByIndex.{element_of_index, element_at}
 use Rattle.fb_system.specs.Layouts.{IsRow, path_of}
 use Rattle.fb_system.specs.declared.layout.Layout.{Layout}
 use Rattle.fb_system.specs.declared.layout.InstanceRow.{InstanceRow}
-use Rattle.fb_types.specs.declared.run.Place.{Place}
+use Rattle.fb_types.specs.declared.run.InstanceVariable.{InstanceVariable}
 use Rattle.fb_system.specs.Netlists.{IsPort, IsVariable, ports_here, port_of, variable_of, event_input, event_output, data_input, data_output}
 use Rattle.fb_system.specs.Networks.{AreTables, IsEndOf, IsThere, path_around, side, source_along, targets_along}
 use Rattle.fb_system.proofs.Leading.{MayBeWired, input_source, input_targets, output_source, output_targets}
@@ -41,7 +41,7 @@ around_end :
     → slice_get (component (ports_of is.kind)) k ≡ Some n
     → IsEndOf lib (path_around lib r.parent) component boundary (record { component = o; port = k }) (record { at = path_of lib i; name = n })
 around_end lib component boundary i r o k n is e h =
-    let some : o ≡ Some is.placed.place = e ∙ last_of_route lib i r is in
+    let some : o ≡ Some is.placed.index = e ∙ last_of_route lib i r is in
     record {
       there = subst (λ (p : Path). IsThere lib p o (path_of lib i)) (sym (parent_around lib i r.parent is.parent_is))
           (subst (λ (o : Option ℕ). IsThere lib (parent (path_of lib i)) o (path_of lib i)) (sym e) (stands_there lib i r is));
@@ -103,7 +103,7 @@ input_within lib t h is =
     subst (λ (b : Bool). t.event < length (cond b (ports_here lib t.instance).event_outputs (ports_here lib t.instance).event_inputs)) h is.event
 
 -- the end of a port that is known by its name
-abbrev IsEventEnd : Library → Path → WireEnd → Port → Type 0
+abbrev IsEventEnd : Library → Path → ConnectionEnd → Port → Type 0
 IsEventEnd lib p e q = IsEndOf lib p event_outs event_ins e q
 
 pub output_end :
@@ -134,7 +134,7 @@ leads_around lib layout app blocks t r are port out is =
     let named = output_name lib t.instance t.event r is (output_within lib t out port) in
     let all : targets_of lib q ≡ targets_along (events_inside lib (parent q.at)) q =
     output_targets lib are.plan q is.kind are.once (inside_wired lib layout app blocks t.instance are port.instance) is.is_kind
-    (element_of_place (event_outs (ports_of is.kind)) t.event q.name named) in
+    (element_of_index (event_outs (ports_of is.kind)) t.event q.name named) in
     subst (AllLead lib (path_around lib r.parent)) (sym (output_port lib t out))
     (ap (λ (p : Path). targets_along (events_inside lib p) q) (parent_around lib t.instance r.parent is.parent_is) ∙ sym all)
 
@@ -146,7 +146,7 @@ leads_inside lib layout app blocks t r are port out is =
     let named = input_name lib t.instance t.event r is (input_within lib t out port) in
     let all : targets_of lib q ≡ targets_along (events_inside lib q.at) q =
     input_targets lib are.plan q is.kind is.placed.instance.name are.once (outside_wired lib layout app blocks t.instance r are port.instance is) is.is_kind
-    (element_of_place (event_ins (ports_of is.kind)) t.event q.name named) is.placed.is_path in
+    (element_of_index (event_ins (ports_of is.kind)) t.event q.name named) is.placed.is_path in
     subst (AllLead lib (path_of lib t.instance)) (sym (input_port lib t out)) (sym all)
 
 -- ---- Data
@@ -167,25 +167,25 @@ data_input_name lib i v r is h =
     let l : length ns ≡ length (ports_here lib i).inputs = length-map (ports_here lib i).inputs (λ (x : _). x.name) in
     ap (λ (p : Ports). slice_get (data_ins p) v) (sym (ports_of_row lib i r is)) ∙ name_there ns v (omega (arith, h, l))
 
-data_output_port : (lib : Library) (x : Place) → x.is_output ≡ true → variable_of lib x ≡ data_output lib x.instance x.variable
+data_output_port : (lib : Library) (x : InstanceVariable) → x.is_output ≡ true → variable_of lib x ≡ data_output lib x.instance x.variable
 data_output_port lib x h = ap (λ b. cond b (data_output lib x.instance x.variable) (data_input lib x.instance x.variable)) h
 
-data_input_port : (lib : Library) (x : Place) → x.is_output ≡ false → variable_of lib x ≡ data_input lib x.instance x.variable
+data_input_port : (lib : Library) (x : InstanceVariable) → x.is_output ≡ false → variable_of lib x ≡ data_input lib x.instance x.variable
 data_input_port lib x h = ap (λ b. cond b (data_output lib x.instance x.variable) (data_input lib x.instance x.variable)) h
 
-data_output_within : (lib : Library) (x : Place) → x.is_output ≡ true → IsVariable lib x → x.variable < length (ports_here lib x.instance).outputs
+data_output_within : (lib : Library) (x : InstanceVariable) → x.is_output ≡ true → IsVariable lib x → x.variable < length (ports_here lib x.instance).outputs
 data_output_within lib x h is =
     subst (λ (b : Bool). x.variable < length (cond b (ports_here lib x.instance).outputs (ports_here lib x.instance).inputs)) h is.variable
 
-data_input_within : (lib : Library) (x : Place) → x.is_output ≡ false → IsVariable lib x → x.variable < length (ports_here lib x.instance).inputs
+data_input_within : (lib : Library) (x : InstanceVariable) → x.is_output ≡ false → IsVariable lib x → x.variable < length (ports_here lib x.instance).inputs
 data_input_within lib x h is =
     subst (λ (b : Bool). x.variable < length (cond b (ports_here lib x.instance).outputs (ports_here lib x.instance).inputs)) h is.variable
 
-abbrev IsDataEnd : Library → Path → WireEnd → Port → Type 0
+abbrev IsDataEnd : Library → Path → ConnectionEnd → Port → Type 0
 IsDataEnd lib p e q = IsEndOf lib p data_ins data_outs e q
 
 pub data_input_end :
-    (lib : Library) (x : Place) (r : InstanceRow) (o : Option ℕ) → IsVariable lib x → x.is_output ≡ false → IsRow lib x.instance r → o ≡ last_of r.route
+    (lib : Library) (x : InstanceVariable) (r : InstanceRow) (o : Option ℕ) → IsVariable lib x → x.is_output ≡ false → IsRow lib x.instance r → o ≡ last_of r.route
     → IsDataEnd lib (path_around lib r.parent) (record { component = o; port = x.variable }) (variable_of lib x)
 data_input_end lib x r o variable out is e =
     subst (IsDataEnd lib (path_around lib r.parent) (record { component = o; port = x.variable })) (sym (data_input_port lib x out))
@@ -193,7 +193,7 @@ data_input_end lib x r o variable out is e =
     (data_input_name lib x.instance x.variable r is (data_input_within lib x out variable)))
 
 pub data_output_end :
-    (lib : Library) (x : Place) (r : InstanceRow) → IsVariable lib x → x.is_output ≡ true → IsRow lib x.instance r
+    (lib : Library) (x : InstanceVariable) (r : InstanceRow) → IsVariable lib x → x.is_output ≡ true → IsRow lib x.instance r
     → IsDataEnd lib (path_of lib x.instance) (record { component = None; port = x.variable }) (variable_of lib x)
 data_output_end lib x r variable out is =
     subst (IsDataEnd lib (path_of lib x.instance) (record { component = None; port = x.variable })) (sym (data_output_port lib x out))
@@ -205,24 +205,24 @@ abbrev Comes : Library → Path → Port → Type 0
 Comes lib p q = source_along (data_inside lib p) q ≡ source_of lib q
 
 pub comes_around :
-    (lib : Library) (layout : Layout) (app : NetworkNumbers) (blocks : List (Option NetworkNumbers)) (x : Place) (r : InstanceRow)
+    (lib : Library) (layout : Layout) (app : NetworkNumbers) (blocks : List (Option NetworkNumbers)) (x : InstanceVariable) (r : InstanceRow)
     → AreTables lib layout app blocks → IsVariable lib x → x.is_output ≡ false → IsRow lib x.instance r → Comes lib (path_around lib r.parent) (variable_of lib x)
 comes_around lib layout app blocks x r are variable out is =
     let q : Port = data_input lib x.instance x.variable in
     let named = data_input_name lib x.instance x.variable r is (data_input_within lib x out variable) in
     let all : source_of lib q ≡ source_along (data_inside lib (parent q.at)) q =
     input_source lib are.plan q is.kind are.once (inside_wired lib layout app blocks x.instance are variable.instance) is.is_kind
-    (element_of_place (data_ins (ports_of is.kind)) x.variable q.name named) in
+    (element_of_index (data_ins (ports_of is.kind)) x.variable q.name named) in
     subst (Comes lib (path_around lib r.parent)) (sym (data_input_port lib x out))
     (ap (λ (p : Path). source_along (data_inside lib p) q) (parent_around lib x.instance r.parent is.parent_is) ∙ sym all)
 
 pub comes_inside :
-    (lib : Library) (layout : Layout) (app : NetworkNumbers) (blocks : List (Option NetworkNumbers)) (x : Place) (r : InstanceRow)
+    (lib : Library) (layout : Layout) (app : NetworkNumbers) (blocks : List (Option NetworkNumbers)) (x : InstanceVariable) (r : InstanceRow)
     → AreTables lib layout app blocks → IsVariable lib x → x.is_output ≡ true → IsRow lib x.instance r → Comes lib (path_of lib x.instance) (variable_of lib x)
 comes_inside lib layout app blocks x r are variable out is =
     let q : Port = data_output lib x.instance x.variable in
     let named = data_output_name lib x.instance x.variable r is (data_output_within lib x out variable) in
     let all : source_of lib q ≡ source_along (data_inside lib q.at) q =
     output_source lib are.plan q is.kind is.placed.instance.name are.once (outside_wired lib layout app blocks x.instance r are variable.instance is) is.is_kind
-    (element_of_place (data_outs (ports_of is.kind)) x.variable q.name named) is.placed.is_path in
+    (element_of_index (data_outs (ports_of is.kind)) x.variable q.name named) is.placed.is_path in
     subst (Comes lib (path_of lib x.instance)) (sym (data_output_port lib x out)) (sym all)

@@ -12,7 +12,7 @@ use Rattle.fb_types.specs.declared.library.Instance.{Instance}
 use Rattle.fb_types.specs.declared.library.Library.{Library}
 use Rattle.fb_types.specs.declared.library.Parameter.{Parameter}
 use Rattle.fb_types.specs.declared.library.Ports.{Ports}
-use Rattle.fb_check_names.specs.Numbers.{each_or_none, parameter_numbers, place_of}
+use Rattle.fb_check_names.specs.Numbers.{each_or_none, parameter_numbers, index_of}
 use Rattle.fb_system.specs.Layouts.{path_of}
 use Rattle.fb_system.specs.Begins.{begins_with, parameter_names}
 use Rattle.fb_system.proofs.Initial.{inputs_begin, outputs_begin}
@@ -54,7 +54,7 @@ outputs_begun i q p ok is = ap (λ (p : Ports). map initial_of p.outputs) is ∙
 
 -- What `input_values` takes and returns.
 pub record IsBegun (i : Inputs) (q : Path) (p : Ports) (xs : List Parameter) (ks : List ℕ) : Type 0 where
-  pub places : each_or_none (λ (x : Parameter). place_of (data_ins p) x.name) xs ≡ Some ks
+  pub indexes : each_or_none (λ (x : Parameter). index_of (data_ins p) x.name) xs ≡ Some ks
   pub inputs : ¬ (Twice (variable_names p.inputs))
   pub parameters : ¬ (Twice (parameter_names xs))
   pub begins : begins_with p xs ≡ initial_inputs (system_of i) q
@@ -62,7 +62,7 @@ pub record IsBegun (i : Inputs) (q : Path) (p : Ports) (xs : List Parameter) (ks
 kind_there : (lib : Library) (x : Instance) (ks : List ℕ) → parameter_numbers lib x ≡ Some ks → (k : Kind) × (kind_of_instance lib x ≡ Some k)
 kind_there lib x ks h =
     elim (kind_of_instance lib x) as
-    (λ o. elim o as (λ _. Option (List ℕ)) [ None ↦ None | Some k ↦ each_or_none (λ x. place_of (data_ins (ports_of k)) x.name) x.parameters ] ≡ Some ks
+    (λ o. elim o as (λ _. Option (List ℕ)) [ None ↦ None | Some k ↦ each_or_none (λ x. index_of (data_ins (ports_of k)) x.name) x.parameters ] ≡ Some ks
     → (k : Kind) × (o ≡ Some k)) [
       | None ↦ λ h. absurd (cc)
       | Some k ↦ λ _. (k, refl)
@@ -79,7 +79,7 @@ begun :
     → kind_of_instance i.library x ≡ Some k → IsBegun i q (ports_of k) x.parameters ks
 begun i q x ks k ok at h of =
     record {
-      places = parameters_placed i.library x k ks of h;
+      indexes = parameters_placed i.library x k ks of h;
       inputs = inputs_once i.library i.plan x.block_type k (once_of i ok) of;
       parameters = parameters_once i.library i.plan q x (once_of i ok) at;
       begins =

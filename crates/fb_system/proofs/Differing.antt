@@ -19,7 +19,7 @@ use Rattle.fb_types.specs.declared.deploy.Plan.{Plan}
 use Rattle.fb_types.proofs.NameLaws.{any_from_contains}
 use Rattle.fb_types.proofs.TwiceLaws.{Twice-append_left, Twice-append_right}
 use Rattle.fb_types.proofs.Elements.{Contains-nil, Contains-cons_cases, Contains-there, Contains-map}
-use Rattle.fb_types.proofs.ByPlace.{element_of_place}
+use Rattle.fb_types.proofs.ByIndex.{element_of_index}
 use Rattle.fb_check_names.specs.declared.numbers.TypeNumber.{TypeNumber}
 use Rattle.fb_check_names.specs.declared.numbers.TypeNumber.TheVariants as number
 use Rattle.fb_check_names.specs.Numbers.{type_number, kind_of_number}
@@ -179,7 +179,7 @@ number_apart lib plan (number.Declared t) k once h =
       | Some b ↦ λ e g.
           let same : kind_of b ≡ k = cc in
           let P : Kind → Type 0 = λ k. ArePortsApart (ports_of k) in
-          subst P same (declared_apart lib plan b once (element_of_place lib.blocks t b e))
+          subst P same (declared_apart lib plan b once (element_of_index lib.blocks t b e))
     ] refl h
 
 pub type_apart : (lib : Library) (plan : Plan) (n : Name) (k : Kind) → ¬ (NameTwice lib plan) → type_named lib n ≡ Some k → ArePortsApart (ports_of k)

@@ -12,7 +12,7 @@ use Rattle.fb_types.specs.declared.library.Instance.{Instance}
 use Rattle.fb_types.specs.declared.library.Network.{Network}
 use Rattle.fb_types.proofs.PathLaws.{same_path_is, same_path_itself}
 use Rattle.fb_types.proofs.Positions.{position-first, position-later}
-use Rattle.fb_types.proofs.ByPlace.{element_of_place}
+use Rattle.fb_types.proofs.ByIndex.{element_of_index}
 use Rattle.fb_types.proofs.Elements.{Contains-nil, Contains-cons_cases, Contains-here, Contains-there, Contains-map}
 use Rattle.fb_system.proofs.Inside.{network_known}
 
@@ -152,7 +152,7 @@ position_of_path (q ∷ qs) zero p once h =
 position_of_path (q ∷ qs) (suc k) p once h =
     let apart : same_path p q ≡ false =
     false_from_ne_true (same_path p q)
-    (λ t. once (inl (subst (λ (p : Path). Contains qs p) (same_path_is p q t) (element_of_place qs k p h)))) in
+    (λ t. once (inl (subst (λ (p : Path). Contains qs p) (same_path_is p q t) (element_of_index qs k p h)))) in
     position-later (same_path p) q qs apart
     ∙ ap (option_map (λ i. i + 1)) (position_of_path qs k p (λ t. once (inr t)) h)
     ∙ (let e : k + 1 ≡ suc k = omega arith in ap (λ n. Some n) e)

@@ -8,7 +8,7 @@ use Rattle.std.proofs.lemmas.List.Elements.{filter-append, All-push}
 use Rattle.std.proofs.lemmas.Option.{slice_get-get_or, slice_get-map, slice_get_read, slice_get_within, same_Some, get_or_from_slice_get}
 use Rattle.fb_types.specs.Names.{Name, same_name}
 use Rattle.fb_types.specs.Blocks.{among, variable_names, variables_with, ports_of_event_block}
-use Rattle.fb_types.specs.EventPorts.{kind_place}
+use Rattle.fb_types.specs.EventPorts.{kind_index}
 use Rattle.fb_types.specs.Numbers.{event_at}
 use Rattle.fb_types.specs.declared.event_kind.EventKind.{EventKind}
 use Rattle.fb_types.specs.declared.event_kind.EventKind.TheVariants.{Restart}
@@ -17,9 +17,9 @@ use Rattle.fb_types.specs.declared.library.Variable.{Variable}
 use Rattle.fb_types.specs.declared.library.Ports.{Ports}
 use Rattle.fb_types.proofs.AllKinds.{kinds, kind_stands}
 use Rattle.fb_types.proofs.LoopSteps.{map_take_more}
-use Rattle.fb_system.specs.declared.with_places.WithPlaces.{WithPlaces}
-use Rattle.fb_system.specs.Stands.{ArePlaces, ArePlacesUpTo, ArePlacesOfEach, AreWithPlaces, variable_at}
-use Rattle.fb_types.proofs.ByPlace.{slice_get-push, element_at}
+use Rattle.fb_system.specs.declared.with_indexes.WithIndexes.{WithIndexes}
+use Rattle.fb_system.specs.Stands.{AreIndexes, AreIndexesUpTo, AreIndexesOfEach, AreWithIndexes, variable_at}
+use Rattle.fb_types.proofs.ByIndex.{slice_get-push, element_at}
 use Rattle.fb_system.specs.Tables.{AreOfEventBlocks}
 
 abbrev pub goes_with : List EventPort → Name → Name → Bool
@@ -36,22 +36,22 @@ variable_at_is : (vs : List Variable) (i : ℕ) (x : Variable) → i < length vs
 variable_at_is vs i x h is =
     ap (λ (o : Option Name). unwrap_or o []) (slice_get-map (λ (v : Variable). v.name) vs i ∙ ap (option_map (λ (v : Variable). v.name)) (slice_get_read vs (length vs) i x refl h is))
 
-pub places_skip :
+pub indexes_skip :
     (events : List EventPort) (vs : List Variable) (e : Name) (i : ℕ) (x : Variable) (ks : List ℕ) → i < length vs → x ≡ get_or vs i x
-    → goes_with events e x.name ≡ false → ArePlaces vs (variables_with events (take i vs) e) ks
-    → ArePlaces vs (variables_with events (take (i + 1) vs) e) ks
-places_skip events vs e i x ks h is apart are = record {
+    → goes_with events e x.name ≡ false → AreIndexes vs (variables_with events (take i vs) e) ks
+    → AreIndexes vs (variables_with events (take (i + 1) vs) e) ks
+indexes_skip events vs e i x ks h is apart are = record {
   named = are.named
       ∙ sym (with_more events vs e i x h is ∙ ap (λ b. variables_with events (take i vs) e ++ cond b (x.name ∷ []) []) apart ∙ append-nil (variables_with events (take i vs) e));
   within = are.within;
 }
 
-pub places_take :
+pub indexes_take :
     (events : List EventPort) (vs : List Variable) (e : Name) (i : ℕ) (x : Variable) (ks ls : List ℕ) → i < length vs → x ≡ get_or vs i x
-    → goes_with events e x.name ≡ true → ls ≡ ks ++ i ∷ [] → ArePlaces vs (variables_with events (take i vs) e) ks
-    → ArePlaces vs (variables_with events (take (i + 1) vs) e) ls
-places_take events vs e i x ks ls h is with_it grown are =
-    let P : List ℕ → Type 0 = λ ls. ArePlaces vs (variables_with events (take (i + 1) vs) e) ls in
+    → goes_with events e x.name ≡ true → ls ≡ ks ++ i ∷ [] → AreIndexes vs (variables_with events (take i vs) e) ks
+    → AreIndexes vs (variables_with events (take (i + 1) vs) e) ls
+indexes_take events vs e i x ks ls h is with_it grown are =
+    let P : List ℕ → Type 0 = λ ls. AreIndexes vs (variables_with events (take (i + 1) vs) e) ls in
     subst P (sym grown) (record {
       named = map-append (variable_at vs) ks (i ∷ [])
           ∙ ap (λ ns. ns ++ variable_at vs i ∷ []) are.named
@@ -68,57 +68,57 @@ event_at_is es i x h is =
 
 pub each_more :
     (events : List EventPort) (vs : List Variable) (i : ℕ) (x : EventPort) (all more : List (List ℕ)) (ks : List ℕ) → i < length events → x ≡ get_or events i x
-    → ArePlacesUpTo i events vs all → ArePlaces vs (variables_with events vs x.name) ks → more ≡ all ++ ks ∷ [] → ArePlacesUpTo (i + 1) events vs more
+    → AreIndexesUpTo i events vs all → AreIndexes vs (variables_with events vs x.name) ks → more ≡ all ++ ks ∷ [] → AreIndexesUpTo (i + 1) events vs more
 each_more events vs i x all more ks h is so_far new grown =
-    let P : ℕ → List ℕ → Type 0 = λ e ks. ArePlaces vs (variables_with events vs (event_at events e)) ks in
-    let Q : List (List ℕ) → Type 0 = λ all. ArePlacesUpTo (i + 1) events vs all in
+    let P : ℕ → List ℕ → Type 0 = λ e ks. AreIndexes vs (variables_with events vs (event_at events e)) ks in
+    let Q : List (List ℕ) → Type 0 = λ all. AreIndexesUpTo (i + 1) events vs all in
     let here : P (length all) ks =
-    subst (λ (n : ℕ). P n ks) (sym so_far.counted) (subst (λ (n : Name). ArePlaces vs (variables_with events vs n) ks) (event_at_is events i x h is) new) in
+    subst (λ (n : ℕ). P n ks) (sym so_far.counted) (subst (λ (n : Name). AreIndexes vs (variables_with events vs n) ks) (event_at_is events i x h is) new) in
     subst Q (sym grown) (record {
       counted = length-append all (ks ∷ []) ∙ ap (λ n. n + 1) so_far.counted;
       each = slice_get-push P all ks so_far.each here;
     })
 
-pub with_places_are :
-    (its : Ports) (x : WithPlaces) → ArePlacesOfEach its.event_inputs its.inputs x.inputs → ArePlacesOfEach its.event_outputs its.outputs x.outputs
-    → AreWithPlaces its x
-with_places_are its x ins outs = record { inputs_counted = ins.counted; inputs = ins.each; outputs_counted = outs.counted; outputs = outs.each }
+pub with_indexes_are :
+    (its : Ports) (x : WithIndexes) → AreIndexesOfEach its.event_inputs its.inputs x.inputs → AreIndexesOfEach its.event_outputs its.outputs x.outputs
+    → AreWithIndexes its x
+with_indexes_are its x ins outs = record { inputs_counted = ins.counted; inputs = ins.each; outputs_counted = outs.counted; outputs = outs.each }
 
 -- the entries of the first kinds
-pub record AreFirst (n : ℕ) (all : List WithPlaces) : Type 0 where
+pub record AreFirst (n : ℕ) (all : List WithIndexes) : Type 0 where
   pub counted : length all ≡ n
-  pub each : (i : ℕ) (x : WithPlaces) → slice_get all i ≡ Some x → (k : EventKind) → slice_get kinds i ≡ Some k → AreWithPlaces (ports_of_event_block k) x
+  pub each : (i : ℕ) (x : WithIndexes) → slice_get all i ≡ Some x → (k : EventKind) → slice_get kinds i ≡ Some k → AreWithIndexes (ports_of_event_block k) x
 
 first_more :
-    (n : ℕ) (all more : List WithPlaces) (x : WithPlaces) (k : EventKind) → slice_get kinds n ≡ Some k → AreWithPlaces (ports_of_event_block k) x
+    (n : ℕ) (all more : List WithIndexes) (x : WithIndexes) (k : EventKind) → slice_get kinds n ≡ Some k → AreWithIndexes (ports_of_event_block k) x
     → AreFirst n all → more ≡ all ++ x ∷ [] → AreFirst (n + 1) more
 first_more n all more x k stands is so_far grown =
-    let P : ℕ → WithPlaces → Type 0 = λ i x. (k : EventKind) → slice_get kinds i ≡ Some k → AreWithPlaces (ports_of_event_block k) x in
-    let Q : List WithPlaces → Type 0 = λ all. AreFirst (n + 1) all in
-    let here : P n x = λ j h. let same : k ≡ j = same_Some k j (sym stands ∙ h) in subst (λ (k : EventKind). AreWithPlaces (ports_of_event_block k) x) same is in
+    let P : ℕ → WithIndexes → Type 0 = λ i x. (k : EventKind) → slice_get kinds i ≡ Some k → AreWithIndexes (ports_of_event_block k) x in
+    let Q : List WithIndexes → Type 0 = λ all. AreFirst (n + 1) all in
+    let here : P n x = λ j h. let same : k ≡ j = same_Some k j (sym stands ∙ h) in subst (λ (k : EventKind). AreWithIndexes (ports_of_event_block k) x) same is in
     subst Q (sym grown) (record {
       counted = length-append all (x ∷ []) ∙ ap (λ n. n + 1) so_far.counted;
       each = slice_get-push P all x so_far.each (subst (λ (n : ℕ). P n x) (sym so_far.counted) here);
     })
 
 pub first_next :
-    (n : ℕ) (all more : List WithPlaces) (x : WithPlaces) → n < 14 → AreWithPlaces (ports_of_event_block (get_or kinds n Restart)) x
+    (n : ℕ) (all more : List WithIndexes) (x : WithIndexes) → n < 14 → AreWithIndexes (ports_of_event_block (get_or kinds n Restart)) x
     → AreFirst n all → more ≡ all ++ x ∷ [] → AreFirst (n + 1) more
 first_next n all more x h is so_far grown =
     first_more n all more x (get_or kinds n Restart) (slice_get-get_or kinds n Restart h) is so_far grown
 
-pub first_all : (all : List WithPlaces) → AreFirst 14 all → AreOfEventBlocks all
+pub first_all : (all : List WithIndexes) → AreFirst 14 all → AreOfEventBlocks all
 first_all all are k =
-    let within : kind_place k < length all = rw are.counted (slice_get_within kinds (kind_place k) k (kind_stands k)) in
-    let x = element_at all (kind_place k) within in
-    (x.0, x.1, are.each (kind_place k) x.0 x.1 k (kind_stands k))
+    let within : kind_index k < length all = rw are.counted (slice_get_within kinds (kind_index k) k (kind_stands k)) in
+    let x = element_at all (kind_index k) within in
+    (x.0, x.1, are.each (kind_index k) x.0 x.1 k (kind_stands k))
 
-pub entry_within : (all : List WithPlaces) (k : EventKind) (i : ℕ) → AreOfEventBlocks all → i ≡ kind_place k → i < length all
+pub entry_within : (all : List WithIndexes) (k : EventKind) (i : ℕ) → AreOfEventBlocks all → i ≡ kind_index k → i < length all
 entry_within all k i are e =
-    let x = are k in subst (λ (n : ℕ). n < length all) (sym e) (slice_get_within all (kind_place k) x.0 x.1)
+    let x = are k in subst (λ (n : ℕ). n < length all) (sym e) (slice_get_within all (kind_index k) x.0 x.1)
 
-pub entry_stands : (all : List WithPlaces) (k : EventKind) (i : ℕ) (d : WithPlaces) → AreOfEventBlocks all → i ≡ kind_place k → AreWithPlaces (ports_of_event_block k) (get_or all i d)
+pub entry_stands : (all : List WithIndexes) (k : EventKind) (i : ℕ) (d : WithIndexes) → AreOfEventBlocks all → i ≡ kind_index k → AreWithIndexes (ports_of_event_block k) (get_or all i d)
 entry_stands all k i d are e =
     let x = are k in
-    subst (λ (n : ℕ). AreWithPlaces (ports_of_event_block k) (get_or all n d)) (sym e)
-    (subst (λ (y : WithPlaces). AreWithPlaces (ports_of_event_block k) y) (sym (get_or_from_slice_get all (kind_place k) x.0 d x.1)) x.2)
+    subst (λ (n : ℕ). AreWithIndexes (ports_of_event_block k) (get_or all n d)) (sym e)
+    (subst (λ (y : WithIndexes). AreWithIndexes (ports_of_event_block k) y) (sym (get_or_from_slice_get all (kind_index k) x.0 d x.1)) x.2)

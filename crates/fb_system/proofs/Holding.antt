@@ -9,12 +9,12 @@ use Rattle.fb_types.specs.Names.{Name, Path, same_name}
 use Rattle.fb_types.specs.declared.deploy.Plan.{Plan}
 use Rattle.fb_types.specs.declared.library.Instance.{Instance}
 use Rattle.fb_types.specs.declared.library.Library.{Library}
-use Rattle.fb_types.proofs.ByPlace.{element_of_place, slice_get-append_here, slice_get-append_left}
+use Rattle.fb_types.proofs.ByIndex.{element_of_index, slice_get-append_here, slice_get-append_left}
 use Rattle.fb_types.proofs.Positions.{is_some-position, position_is}
 use Rattle.fb_types.proofs.Elements.{Contains-cons_cases, Contains-here, Contains-nil, Contains-there, Contains-map}
 use Rattle.fb_types.proofs.NameLaws.{any_from_contains}
 use Rattle.fb_system.proofs.Distinct.{below, below_through, IsThrough, paths_from}
-use Rattle.fb_system.specs.Layouts.{path_of, place_at, route_to}
+use Rattle.fb_system.specs.Layouts.{path_of, index_at, route_to}
 use Rattle.fb_types.proofs.Options.{some_from_is_some}
 use Rattle.fb_system.specs.Linking.{holder_at, IsLinked, Linked}
 use Rattle.fb_system.specs.Systems.{inputs_of, StandFor}
@@ -48,7 +48,7 @@ through lib k h =
     let there : slice_get (paths_of lib) k ≡ Some (get_or (paths_of lib) k []) = slice_get-get_or (paths_of lib) k [] h in
     let is : path_of lib k ≡ get_or (paths_of lib) k [] = ap (λ (o : Option Path). unwrap_or o []) there in
     subst (λ (q : Path). IsThrough [] lib.application.network.instances q) (sym is)
-    (through_each 16 lib [] lib.application.network.instances (get_or (paths_of lib) k []) (element_of_place (paths_of lib) k (get_or (paths_of lib) k []) there))
+    (through_each 16 lib [] lib.application.network.instances (get_or (paths_of lib) k []) (element_of_index (paths_of lib) k (get_or (paths_of lib) k []) there))
 
 -- ---- The path begins at that instance
 
@@ -56,10 +56,10 @@ first_stays : (xs ys : List ℕ) (x : ℕ) → slice_get xs 0 ≡ Some x → sli
 first_stays [] ys x h = absurd (cc)
 first_stays (z ∷ xs) ys x h = h
 
-first_of_route : (lib : Library) (r : List Name) (n : Name) → slice_get (route_to lib (r ++ n ∷ [])) 0 ≡ Some (place_at lib [] n)
+first_of_route : (lib : Library) (r : List Name) (n : Name) → slice_get (route_to lib (r ++ n ∷ [])) 0 ≡ Some (index_at lib [] n)
 first_of_route lib [] n = refl
 first_of_route lib (m ∷ r) n =
-    first_stays (route_to lib (r ++ n ∷ [])) (place_at lib (r ++ n ∷ []) m ∷ []) (place_at lib [] n) (first_of_route lib r n)
+    first_stays (route_to lib (r ++ n ∷ [])) (index_at lib (r ++ n ∷ []) m ∷ []) (index_at lib [] n) (first_of_route lib r n)
 
 resource_outside : (plan : Plan) (r : List Name) (n : Name) → resource_of plan (r ++ n ∷ []) ≡ holder plan n
 resource_outside plan [] n = refl
@@ -69,7 +69,7 @@ resource_outside plan (m ∷ k ∷ r) n = resource_outside plan (k ∷ r) n
 -- the resource of an instance of the application, by its index
 holder_there :
     (lib : Library) (plan : Plan) (x : Linked) (i : Instance) → IsLinked lib plan x → Contains lib.application.network.instances i
-    → holder_at x (place_at lib [] i.name) ≡ holder plan i.name
+    → holder_at x (index_at lib [] i.name) ≡ holder plan i.name
 holder_there lib plan x i linked among =
     let own : Instance → Name = λ y. y.name in
     let is = lib.application.network.instances in
@@ -78,21 +78,21 @@ holder_there lib plan x i linked among =
     let there = position_is own i.name is at.0 at.1 in
     ap (λ (o : Option ℕ). holder_at x (unwrap_or o 0)) at.1 ∙ linked.holders at.0 there.0 there.1 ∙ ap (holder plan) there.2
 
-abbrev pub places_through : (lib : Library) (k : ℕ) → k < length (paths_of lib) → ℕ
-places_through lib k h = place_at lib [] (through lib k h).instance.name
+abbrev pub indexes_through : (lib : Library) (k : ℕ) → k < length (paths_of lib) → ℕ
+indexes_through lib k h = index_at lib [] (through lib k h).instance.name
 
-pub first_place : (lib : Library) (k : ℕ) (h : k < length (paths_of lib)) → slice_get (route_to lib (path_of lib k)) 0 ≡ Some (places_through lib k h)
-first_place lib k h =
+pub first_index : (lib : Library) (k : ℕ) (h : k < length (paths_of lib)) → slice_get (route_to lib (path_of lib k)) 0 ≡ Some (indexes_through lib k h)
+first_index lib k h =
     let t = through lib k h in
     ap (λ (q : Path). slice_get (route_to lib q) 0) t.path ∙ first_of_route lib t.deeper t.instance.name
 
 -- the resource of an instance, by the first index on the path to it
-pub resource_by_place :
-    (lib : Library) (plan : Plan) (x : Linked) (k place : ℕ) → IsLinked lib plan x → k < length (paths_of lib)
-    → slice_get (route_to lib (path_of lib k)) 0 ≡ Some place → holder_at x place ≡ resource_of plan (path_of lib k)
-resource_by_place lib plan x k place linked h found =
+pub resource_by_index :
+    (lib : Library) (plan : Plan) (x : Linked) (k index : ℕ) → IsLinked lib plan x → k < length (paths_of lib)
+    → slice_get (route_to lib (path_of lib k)) 0 ≡ Some index → holder_at x index ≡ resource_of plan (path_of lib k)
+resource_by_index lib plan x k index linked h found =
     let t = through lib k h in
-    let same : place ≡ places_through lib k h = same_Some place (places_through lib k h) (sym found ∙ first_place lib k h) in
+    let same : index ≡ indexes_through lib k h = same_Some index (indexes_through lib k h) (sym found ∙ first_index lib k h) in
     ap (holder_at x) same
     ∙ holder_there lib plan x t.instance linked t.among
     ∙ sym (ap (resource_of plan) t.path ∙ resource_outside plan t.deeper t.instance.name)
@@ -132,4 +132,4 @@ homes_next lib x n home homes far is = (
 -- a path has a first index
 pub first_there : (lib : Library) (k : ℕ) (route : List ℕ) → k < length (paths_of lib) → route ≡ route_to lib (path_of lib k) → slice_get route 0 ≡ None → ⊥
 first_there lib k route h r none =
-    let g : None ≡ Some (places_through lib k h) = sym none ∙ ap (λ (ks : List ℕ). slice_get ks 0) r ∙ first_place lib k h in cc
+    let g : None ≡ Some (indexes_through lib k h) = sym none ∙ ap (λ (ks : List ℕ). slice_get ks 0) r ∙ first_index lib k h in cc

@@ -18,7 +18,7 @@ use Rattle.fb_types.specs.declared.value.Value.{Value}
 use Rattle.fb_types.proofs.Positions.{named_of_once, slice_get-Contains}
 use Rattle.fb_types.proofs.Elements.{Contains-nil, Contains-cons_cases}
 use Rattle.fb_system.specs.Begins.{begin_value, begins_with, parameter_names}
-use Rattle.fb_types.proofs.ByPlace.{slice_get-append_left, slice_get-after}
+use Rattle.fb_types.proofs.ByIndex.{slice_get-append_left, slice_get-after}
 use Rattle.fb_system.proofs.Named.{named-append_old, named_none}
 use Rattle.fb_system.proofs.Naming.{AreOnce, variables_once, parameter_unknown}
 

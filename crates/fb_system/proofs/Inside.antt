@@ -14,7 +14,7 @@ use Rattle.fb_types.specs.declared.library.Network.{Network}
 use Rattle.fb_types.specs.declared.deploy.Plan.{Plan}
 use Rattle.fb_types.proofs.Positions.{named-position, position_is}
 use Rattle.fb_types.proofs.Elements.{Contains-here, Contains-there, Contains-flat_map}
-use Rattle.fb_check_names.specs.Numbers.{IsNetwork, IsResolved, place_of, type_number, kind_of_number}
+use Rattle.fb_check_names.specs.Numbers.{IsNetwork, IsResolved, index_of, type_number, kind_of_number}
 use Rattle.fb_check_names.specs.declared.numbers.TypeNumber.{TypeNumber}
 use Rattle.fb_check_names.specs.declared.numbers.TypeNumber.TheVariants as number
 use Rattle.fb_check_names.specs.declared.numbers.NetworkNumbers.{NetworkNumbers}
@@ -74,7 +74,7 @@ type_numbered : (lib : Library) (n : Name) → type_named lib n ≡ option_and_t
 type_numbered lib n =
     elim (named (λ e. e.0) n event_blocks) as
     (λ o. elim o [ Some e ↦ Some (Event e.1) | None ↦ option_map kind_of (named type_name n lib.blocks) ]
-    ≡ option_and_then (kind_of_number lib) (elim (option_map (λ e. e.1) o) [ Some k ↦ Some (number.Event k) | None ↦ option_map (λ t. number.Declared t) (place_of (map type_name lib.blocks) n) ])) [
+    ≡ option_and_then (kind_of_number lib) (elim (option_map (λ e. e.1) o) [ Some k ↦ Some (number.Event k) | None ↦ option_map (λ t. number.Declared t) (index_of (map type_name lib.blocks) n) ])) [
       | Some e ↦ refl
       | None ↦
           ap (option_map kind_of) (named-position type_name n lib.blocks)
@@ -91,13 +91,13 @@ type_by_number lib n t h = type_numbered lib n ∙ ap (option_and_then (kind_of_
 pub kind_known : (lib : Library) (n : Name) (t : TypeNumber) → type_number lib n ≡ Some t → (k : Kind) × (kind_of_number lib t ≡ Some k)
 kind_known lib n t =
     elim (named (λ e. e.0) n event_blocks) as
-    (λ o. elim (option_map (λ e. e.1) o) [ Some k ↦ Some (number.Event k) | None ↦ option_map (λ t. number.Declared t) (place_of (map type_name lib.blocks) n) ] ≡ Some t → (k : Kind) × (kind_of_number lib t ≡ Some k)) [
+    (λ o. elim (option_map (λ e. e.1) o) [ Some k ↦ Some (number.Event k) | None ↦ option_map (λ t. number.Declared t) (index_of (map type_name lib.blocks) n) ] ≡ Some t → (k : Kind) × (kind_of_number lib t ≡ Some k)) [
       | Some e ↦ λ h.
           let same : number.Event e.1 ≡ t = cc in (Event e.1, ap (kind_of_number lib) (sym same))
       | None ↦ λ h.
-          let place = map_parts (λ t. number.Declared t) (place_of (map type_name lib.blocks) n) t h in
-          let b = position_is type_name n lib.blocks place.0 place.1 in
-          (kind_of b.0, ap (kind_of_number lib) (sym place.2) ∙ ap (option_map kind_of) b.1)
+          let index = map_parts (λ t. number.Declared t) (index_of (map type_name lib.blocks) n) t h in
+          let b = position_is type_name n lib.blocks index.0 index.1 in
+          (kind_of b.0, ap (kind_of_number lib) (sym index.2) ∙ ap (option_map kind_of) b.1)
     ]
 
 -- ---- The network inside an instance by number

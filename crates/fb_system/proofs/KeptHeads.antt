@@ -11,7 +11,7 @@ use Rattle.fb_types.specs.Systems.{System}
 use Rattle.fb_types.specs.declared.library.EventPort.{EventPort}
 use Rattle.fb_types.specs.declared.library.Variable.{Variable}
 use Rattle.fb_system.specs.Heads.{AreHeads, IsHead, IsRowOfHead, first_text}
-use Rattle.fb_system.specs.Stands.{ArePlaces, variable_at}
+use Rattle.fb_system.specs.Stands.{AreIndexes, variable_at}
 use Rattle.fb_system.specs.declared.heads.Head.{Head}
 use Rattle.fb_system.specs.declared.heads.HeadOf.{HeadOf}
 
@@ -62,7 +62,7 @@ event_read es fs i e same within read =
     rw (slice_get-map (λ (x : EventPort). x.name) es i, slice_get_read es (length es) i e refl within (rw same at read)) refl
 
 -- the index of the first variable, and its name
-pub first_within : (vs : List Variable) (names : List Name) (places : List ℕ) (k : ℕ) → ArePlaces vs names places → slice_get places 0 ≡ Some k → k < length vs
+pub first_within : (vs : List Variable) (names : List Name) (indexes : List ℕ) (k : ℕ) → AreIndexes vs names indexes → slice_get indexes 0 ≡ Some k → k < length vs
 first_within vs names [] k are there = absurd (cc)
 first_within vs names (p ∷ ps) k are there =
     subst (λ (n : ℕ). n < length vs) (same_Some p k there) (are.within 0 k (slice_get_within (p ∷ ps) 0 k there))
@@ -71,7 +71,7 @@ variable_read : (vs : List Variable) (k : ℕ) (d : Variable) → k < length vs 
 variable_read vs k d within = rw (slice_get-map (λ (x : Variable). x.name) vs k, slice_get-get_or vs k d within) refl
 
 pub first_named :
-    (vs : List Variable) (names : List Name) (places : List ℕ) (k : ℕ) (d : Variable) → ArePlaces vs names places → slice_get places 0 ≡ Some k
+    (vs : List Variable) (names : List Name) (indexes : List ℕ) (k : ℕ) (d : Variable) → AreIndexes vs names indexes → slice_get indexes 0 ≡ Some k
     → first_text names ≡ codes " " ++ (get_or vs k d).name ++ codes "="
 first_named vs names [] k d are there = absurd (cc)
 first_named vs names (p ∷ ps) k d are there =
@@ -80,6 +80,6 @@ first_named vs names (p ∷ ps) k d are there =
     ∙ ap (λ (n : Name). codes " " ++ n ++ codes "=")
     (ap (variable_at vs) same ∙ variable_read vs k d (first_within vs names (p ∷ ps) k are there))
 
-pub none_named : (vs : List Variable) (names : List Name) (places : List ℕ) → ArePlaces vs names places → slice_get places 0 ≡ None → first_text names ≡ []
+pub none_named : (vs : List Variable) (names : List Name) (indexes : List ℕ) → AreIndexes vs names indexes → slice_get indexes 0 ≡ None → first_text names ≡ []
 none_named vs names [] are none = ap first_text (sym are.named)
 none_named vs names (p ∷ ps) are none = absurd (cc)

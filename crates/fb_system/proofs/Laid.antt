@@ -23,12 +23,12 @@ use Rattle.fb_check_names.specs.declared.numbers.TypeNumber.{TypeNumber}
 use Rattle.fb_system.specs.declared.layout.InstanceRow.{InstanceRow}
 use Rattle.fb_system.specs.declared.layout.Layout.{Layout}
 use Rattle.fb_system.specs.Layers.{Around, Layer, layer_of, layer_inside, layer_among, layer, network_inside, row_under, with_components}
-use Rattle.fb_system.specs.Layouts.{path_of, place_at, route_to, AreNumbers, AreComponents, IsRow, IsLayout}
-use Rattle.fb_types.proofs.ByPlace.{element_of_place}
+use Rattle.fb_system.specs.Layouts.{path_of, index_at, route_to, AreNumbers, AreComponents, IsRow, IsLayout}
+use Rattle.fb_types.proofs.ByIndex.{element_of_index}
 use Rattle.fb_system.proofs.Inside.{IsFound, found_inside, type_by_number, kind_known, network_known}
 use Rattle.fb_system.proofs.Distinct.{AreOnce, below, paths_from, paths_once, position_of_path}
 use Rattle.fb_system.proofs.Parts.{AreEach, each-nil, each-head, each-tail, each-left, each-right, each-append, each-cons, IsPart, part_whole}
-use Rattle.fb_system.proofs.Sites.{all_once, IsDeep, deep_inside, never_deeper, IsAround, IsRound, around_later, text_is, route_is, parent_is, IsSite, instance_is, inside_is, place_is}
+use Rattle.fb_system.proofs.Sites.{all_once, IsDeep, deep_inside, never_deeper, IsAround, IsRound, around_later, text_is, route_is, parent_is, IsSite, instance_is, inside_is, index_is}
 
 -- ---- What is known of a declaration
 
@@ -58,37 +58,37 @@ pub record IsInside (lib : Library) (first : ℕ) (q : Path) (paths : List Path)
 -- ---- One row
 
 -- An instance with its type, at an index of a network and at its number.
-pub record IsHere (lib : Library) (p : Path) (o : Around) (number : ℕ) (net : Network) (place : ℕ) (i : Instance) (t : TypeNumber) : Type 0 where
+pub record IsHere (lib : Library) (p : Path) (o : Around) (number : ℕ) (net : Network) (index : ℕ) (i : Instance) (t : TypeNumber) : Type 0 where
   pub site : IsSite lib p net
   pub around : IsAround lib p number o
-  pub instance : slice_get net.instances place ≡ Some i
+  pub instance : slice_get net.instances index ≡ Some i
   pub typed : type_number lib i.block_type ≡ Some t
   pub path : slice_get (paths_of lib) number ≡ Some (i.name ∷ p)
 
 row_is :
-    (lib : Library) (p : Path) (o : Around) (number : ℕ) (net : Network) (place : ℕ) (i : Instance) (t : TypeNumber) (components : List ℕ)
-    → IsHere lib p o number net place i t → AreComponents lib (i.name ∷ p) components → IsRow lib number (with_components (row_under o i t place []) components)
-row_is lib p o number net place i t components h inner =
+    (lib : Library) (p : Path) (o : Around) (number : ℕ) (net : Network) (index : ℕ) (i : Instance) (t : TypeNumber) (components : List ℕ)
+    → IsHere lib p o number net index i t → AreComponents lib (i.name ∷ p) components → IsRow lib number (with_components (row_under o i t index []) components)
+row_is lib p o number net index i t components h inner =
     let at : path_of lib number ≡ i.name ∷ p = ap (λ (o : Option Path). unwrap_or o []) h.path in
     let k = kind_known lib i.block_type t h.typed in
-    let placed : place_at lib p i.name ≡ place = place_is lib p net place i h.site h.instance in
+    let placed : index_at lib p i.name ≡ index = index_is lib p net index i h.site h.instance in
     record {
       text = text_is lib p number o i.name h.around ∙ ap path_text (sym at);
       kind = k.0;
-      is_kind = ap (kind_at lib) at ∙ ap (option_and_then (kind_of_instance lib)) (instance_is lib p net place i h.site h.instance)
+      is_kind = ap (kind_at lib) at ∙ ap (option_and_then (kind_of_instance lib)) (instance_is lib p net index i h.site h.instance)
           ∙ type_by_number lib i.block_type t h.typed ∙ k.1;
       numbered = k.1;
       parent_is = parent_is lib p number o i.name at h.around;
       placed = record {
         network = net;
         is_network = ap (λ (q : Path). network_at lib (parent q)) at ∙ h.site.network;
-        place = place;
+        index = index;
         instance = i;
         is_instance = h.instance;
         is_path = at ∙ ap (λ (q : Path). i.name ∷ parent q) (sym at);
-        is_place = ap (λ (q : Path). place_at lib (parent q) i.name) at ∙ placed;
+        is_index = ap (λ (q : Path). index_at lib (parent q) i.name) at ∙ placed;
       };
-      route = ap (λ (z : List ℕ). z ++ place ∷ []) (route_is lib p number o h.around)
+      route = ap (λ (z : List ℕ). z ++ index ∷ []) (route_is lib p number o h.around)
           ∙ ap (λ k. route_to lib p ++ k ∷ []) (sym placed) ∙ ap (route_to lib) (sym at);
       components = subst (λ (q : Path). AreComponents lib q components) (sym at) inner;
     }
@@ -139,26 +139,26 @@ inside_found lib r d number q row i net (Some inner) n is at found round deep am
     subst P (sym found.2) (record { counted = l.counted; rows = l.rows; components = subst C (sym at) l.numbers })
 
 inside_laid :
-    (lib : Library) (r : Resolved) (d : ℕ) (p : Path) (o : Around) (number : ℕ) (net : Network) (place : ℕ) (i : Instance) (t : TypeNumber)
-    → IsFit lib r → IsHere lib p o number net place i t → IsDeep lib (suc d) net → AreLaidOut lib r d
+    (lib : Library) (r : Resolved) (d : ℕ) (p : Path) (o : Around) (number : ℕ) (net : Network) (index : ℕ) (i : Instance) (t : TypeNumber)
+    → IsFit lib r → IsHere lib p o number net index i t → IsDeep lib (suc d) net → AreLaidOut lib r d
     → IsPart (paths_of lib) (number + 1) (below d lib (i.name ∷ p) (inside lib i))
-    → IsInside lib (number + 1) (i.name ∷ p) (below d lib (i.name ∷ p) (inside lib i)) (layer_inside (layer d lib r) number (row_under o i t place []) (network_inside lib r t))
-inside_laid lib r d p o number net place i t fit h deep laid part =
-    let placed : place_at lib p i.name ≡ place = place_is lib p net place i h.site h.instance in
+    → IsInside lib (number + 1) (i.name ∷ p) (below d lib (i.name ∷ p) (inside lib i)) (layer_inside (layer d lib r) number (row_under o i t index []) (network_inside lib r t))
+inside_laid lib r d p o number net index i t fit h deep laid part =
+    let placed : index_at lib p i.name ≡ index = index_is lib p net index i h.site h.instance in
     let later : number < number + 1 = omega arith in
-    let round : IsRound lib (i.name ∷ p) (number + 1) (number, row_under o i t place []) =
+    let round : IsRound lib (i.name ∷ p) (number + 1) (number, row_under o i t index []) =
     record {
       earlier = later;
       there = ap (λ (o : Option Path). unwrap_or o []) h.path;
       text = text_is lib p number o i.name h.around;
-      route = ap (λ (z : List ℕ). z ++ place ∷ []) (route_is lib p number o h.around) ∙ ap (λ k. route_to lib p ++ k ∷ []) (sym placed);
+      route = ap (λ (z : List ℕ). z ++ index ∷ []) (route_is lib p number o h.around) ∙ ap (λ k. route_to lib p ++ k ∷ []) (sym placed);
       last = i.name;
       outer = p;
       split = refl;
     } in
-    inside_found lib r d number (i.name ∷ p) (row_under o i t place []) i net (inside lib i) (network_inside lib r t) refl
-    (inside_is lib p net place i h.site h.instance) (found_inside lib fit.plan r i t fit.resolved h.typed) round deep
-    (element_of_place net.instances place i h.instance) laid part
+    inside_found lib r d number (i.name ∷ p) (row_under o i t index []) i net (inside lib i) (network_inside lib r t) refl
+    (inside_is lib p net index i h.site h.instance) (found_inside lib fit.plan r i t fit.resolved h.typed) round deep
+    (element_of_index net.instances index i h.instance) laid part
 
 -- ---- The instances of a network
 
@@ -187,47 +187,47 @@ put_together lib p number i is row inner rest below next at here under others = 
 }
 
 among_laid :
-    (lib : Library) (r : Resolved) (d : ℕ) (p : Path) (o : Around) (number : ℕ) (net : Network) (place : ℕ) (is : List Instance) (ts : List TypeNumber)
+    (lib : Library) (r : Resolved) (d : ℕ) (p : Path) (o : Around) (number : ℕ) (net : Network) (index : ℕ) (is : List Instance) (ts : List TypeNumber)
     → IsFit lib r → IsSite lib p net → IsAround lib p number o → IsDeep lib (suc d) net → AreLaidOut lib r d
-    → IsPart net.instances place is → AreTyped lib is ts → IsPart (paths_of lib) number (flat_map (paths_from d lib p) is)
-    → IsLaid lib number p (flat_map (paths_from d lib p) is) is (layer_among (layer d lib r) lib r o number place is ts)
-among_laid lib r d p o number net place [] ts fit site around deep laid instances typed part = record {
+    → IsPart net.instances index is → AreTyped lib is ts → IsPart (paths_of lib) number (flat_map (paths_from d lib p) is)
+    → IsLaid lib number p (flat_map (paths_from d lib p) is) is (layer_among (layer d lib r) lib r o number index is ts)
+among_laid lib r d p o number net index [] ts fit site around deep laid instances typed part = record {
   counted = refl;
   rows = each-nil (IsRow lib) number;
   numbers = record { paths = refl; within = All-nil (λ k. k < length (paths_of lib)) };
 }
-among_laid lib r d p o number net place (i ∷ is) ts fit site around deep laid instances typed part =
+among_laid lib r d p o number net index (i ∷ is) ts fit site around deep laid instances typed part =
     let q : Path = i.name ∷ p in
     let first = each_parts (λ (i : Instance). type_number lib i.block_type) i is ts typed in
     let t : TypeNumber = first.0 in
-    let row : InstanceRow = row_under o i t place [] in
+    let row : InstanceRow = row_under o i t index [] in
     let inner : List Path = below d lib q (inside lib i) in
     let rest : List Path = flat_map (paths_from d lib p) is in
     let under : Layer = layer_inside (layer d lib r) number row (network_inside lib r t) in
     let At : ℕ → Path → Type 0 = λ k q. slice_get (paths_of lib) k ≡ Some q in
     let at : slice_get (paths_of lib) number ≡ Some q = each-head At number q (inner ++ rest) part in
     let after = each-tail At number q (inner ++ rest) part in
-    let here : IsHere lib p o number net place i t =
+    let here : IsHere lib p o number net index i t =
     record {
       site = site;
       around = around;
-      instance = each-head (λ k i. slice_get net.instances k ≡ Some i) place i is instances;
+      instance = each-head (λ k i. slice_get net.instances k ≡ Some i) index i is instances;
       typed = first.2;
       path = at;
     } in
     let inside_it : IsInside lib (number + 1) q inner under =
-    inside_laid lib r d p o number net place i t fit here deep laid (each-left At (number + 1) inner rest after) in
+    inside_laid lib r d p o number net index i t fit here deep laid (each-left At (number + 1) inner rest after) in
     let next : ℕ = number + 1 + length under.rows in
     let later : number < suc next = omega arith in
     let rest_part : IsPart (paths_of lib) next rest =
     subst (λ n. IsPart (paths_of lib) (number + 1 + n) rest) (sym inside_it.counted) (each-right At (number + 1) inner rest after) in
-    let others = among_laid lib r d p o next net (place + 1) is first.1 fit site (around_later lib p number next o later around) deep laid
-    (each-tail (λ k i. slice_get net.instances k ≡ Some i) place i is instances) first.3 rest_part in
+    let others = among_laid lib r d p o next net (index + 1) is first.1 fit site (around_later lib p number next o later around) deep laid
+    (each-tail (λ k i. slice_get net.instances k ≡ Some i) index i is instances) first.3 rest_part in
     let P : List TypeNumber → Type 0 =
-    λ ts. IsLaid lib number p (q ∷ inner ++ rest) (i ∷ is) (layer_among (layer d lib r) lib r o number place (i ∷ is) ts) in
+    λ ts. IsLaid lib number p (q ∷ inner ++ rest) (i ∷ is) (layer_among (layer d lib r) lib r o number index (i ∷ is) ts) in
     subst P (sym first.4)
-    (put_together lib p number i is row inner rest under (layer_among (layer d lib r) lib r o next (place + 1) is first.1) at
-    (row_is lib p o number net place i t under.numbers here inside_it.components) inside_it others)
+    (put_together lib p number i is row inner rest under (layer_among (layer d lib r) lib r o next (index + 1) is first.1) at
+    (row_is lib p o number net index i t under.numbers here inside_it.components) inside_it others)
 
 -- ---- All networks
 

@@ -15,16 +15,16 @@ use Rattle.fb_types.specs.declared.library.Network.{Network}
 use Rattle.fb_types.specs.declared.library.Ports.{Ports}
 use Rattle.fb_types.specs.declared.deploy.Plan.{Plan}
 use Rattle.fb_types.proofs.PathLaws.{same_port_is}
-use Rattle.fb_check_names.specs.declared.numbers.WireEnd.{WireEnd}
-use Rattle.fb_check_names.specs.declared.numbers.Wire.{Wire}
+use Rattle.fb_check_names.specs.declared.numbers.ConnectionEnd.{ConnectionEnd}
+use Rattle.fb_check_names.specs.declared.numbers.NumberedConnection.{NumberedConnection}
 use Rattle.fb_check_names.specs.declared.numbers.NetworkNumbers.{NetworkNumbers}
 use Rattle.fb_check_names.specs.Numbers.{both_ends, data_wire, end_number, event_wire}
-use Rattle.fb_types.proofs.ByPlace.{element_of_place}
+use Rattle.fb_types.proofs.ByIndex.{element_of_index}
 use Rattle.fb_system.specs.Wirings.{same_end, targets_in}
 use Rattle.fb_system.specs.Networks.{IsEndOf, IsWired, composite_of, side, source_along, targets_along}
 use Rattle.fb_types.proofs.Options.{and_then_parts, map_parts}
 use Rattle.fb_system.proofs.Differing.{flip, kind_apart}
-use Rattle.fb_system.proofs.EndPlaces.{AreApart, at_boundary, at_component, end_there, ends_there}
+use Rattle.fb_system.proofs.EndIndexes.{AreApart, at_boundary, at_component, end_there, ends_there}
 use Rattle.fb_system.proofs.Lists.{Pairwise, alike, first_part_chosen, none_chosen, second_part_chosen}
 
 -- ---- Sorts of ports whose names differ
@@ -38,11 +38,11 @@ data_ins_apart lib plan once p k h = (kind_apart lib plan p k once h).variables
 -- ---- Ends that are no end of connections inside, or around
 
 name_among : (ns : List Name) (k : ℕ) (n : Name) → slice_get ns k ≡ Some n → Contains ns n
-name_among ns k n h = element_of_place ns k n h
+name_among ns k n h = element_of_index ns k n h
 
 -- no boundary port of a network has the name of a port of the other direction
 boundary_clash :
-    (lib : Library) (p : Path) (component boundary : Ports → List Name) (w : WireEnd) (q : Port) (k : Kind) → AreApart lib component boundary
+    (lib : Library) (p : Path) (component boundary : Ports → List Name) (w : ConnectionEnd) (q : Port) (k : Kind) → AreApart lib component boundary
     → kind_at lib q.at ≡ Some k → Contains (component (ports_of k)) q.name → q.at ≡ p → IsEndOf lib p component boundary w q → ⊥
 boundary_clash lib p component boundary w q k apart kind named at is =
     let none : w.component ≡ None = at_boundary lib p q.at w.component is.there at in
@@ -53,7 +53,7 @@ boundary_clash lib p component boundary w q k apart kind named at is =
     (apart q.at k kind).apart q.name named (name_among (boundary (ports_of k)) w.port q.name other)
 
 component_clash :
-    (lib : Library) (p : Path) (component boundary : Ports → List Name) (w : WireEnd) (q : Port) (k : Kind) (n : Name) → AreApart lib component boundary
+    (lib : Library) (p : Path) (component boundary : Ports → List Name) (w : ConnectionEnd) (q : Port) (k : Kind) (n : Name) → AreApart lib component boundary
     → kind_at lib q.at ≡ Some k → Contains (boundary (ports_of k)) q.name → q.at ≡ n ∷ p → IsEndOf lib p component boundary w q → ⊥
 component_clash lib p component boundary w q k n apart kind named at is =
     let some = at_component lib p q.at n w.component is.there at in
@@ -65,17 +65,17 @@ component_clash lib p component boundary w q k n apart kind named at is =
 
 -- ---- Connections and their wires
 
-both_parts : (a b : Option WireEnd) (w : Wire) → both_ends a b ≡ Some w → (a ≡ Some w.from) × (b ≡ Some w.to)
+both_parts : (a b : Option ConnectionEnd) (w : NumberedConnection) → both_ends a b ≡ Some w → (a ≡ Some w.from) × (b ≡ Some w.to)
 both_parts a b w h =
-    let x = and_then_parts (λ (x : WireEnd). option_map (λ (y : WireEnd). record { from = x; to = y }) b) a w h in
-    let y = map_parts (λ (y : WireEnd). record { from = x.0; to = y }) b w x.2 in
-    (x.1 ∙ ap (λ (w : Wire). Some w.from) y.2, y.1 ∙ ap (λ (w : Wire). Some w.to) y.2)
+    let x = and_then_parts (λ (x : ConnectionEnd). option_map (λ (y : ConnectionEnd). record { from = x; to = y }) b) a w h in
+    let y = map_parts (λ (y : ConnectionEnd). record { from = x.0; to = y }) b w x.2 in
+    (x.1 ∙ ap (λ (w : NumberedConnection). Some w.from) y.2, y.1 ∙ ap (λ (w : NumberedConnection). Some w.to) y.2)
 
 abbrev pair_in : Path → Connection → Port × Port
 pair_in p c = (port_in p c.from, port_in p c.to)
 
 event_ends :
-    (lib : Library) (p : Path) (net : Network) (c : Connection) (w : Wire) → network_at lib p ≡ Some net → event_wire lib (composite_of (kind_at lib p), net) c ≡ Some w
+    (lib : Library) (p : Path) (net : Network) (c : Connection) (w : NumberedConnection) → network_at lib p ≡ Some net → event_wire lib (composite_of (kind_at lib p), net) c ≡ Some w
     → IsEndOf lib p event_outs event_ins w.from (port_in p c.from) × IsEndOf lib p event_ins event_outs w.to (port_in p c.to)
 event_ends lib p net c w is h =
     let n : Placed = (composite_of (kind_at lib p), net) in
@@ -83,7 +83,7 @@ event_ends lib p net c w is h =
     (end_there lib p net event_outs event_ins c.from w.from is ends.0, end_there lib p net event_ins event_outs c.to w.to is ends.1)
 
 data_ends :
-    (lib : Library) (p : Path) (net : Network) (c : Connection) (w : Wire) → network_at lib p ≡ Some net → data_wire lib (composite_of (kind_at lib p), net) c ≡ Some w
+    (lib : Library) (p : Path) (net : Network) (c : Connection) (w : NumberedConnection) → network_at lib p ≡ Some net → data_wire lib (composite_of (kind_at lib p), net) c ≡ Some w
     → IsEndOf lib p data_outs data_ins w.from (port_in p c.from) × IsEndOf lib p data_ins data_outs w.to (port_in p c.to)
 data_ends lib p net c w is h =
     let n : Placed = (composite_of (kind_at lib p), net) in
@@ -104,7 +104,7 @@ no_data lib p is = ap (λ (o : Option Network). elim o as (λ _. List (Port × P
 
 -- The targets by numbers stand for those by names, one by one.
 pub targets_there :
-    (lib : Library) (plan : Plan) (p : Path) (x : NetworkNumbers) (e : WireEnd) (q : Port) → ¬ (NameTwice lib plan) → IsWired lib p x
+    (lib : Library) (plan : Plan) (p : Path) (x : NetworkNumbers) (e : ConnectionEnd) (q : Port) → ¬ (NameTwice lib plan) → IsWired lib p x
     → IsEndOf lib p event_outs event_ins e q
     → Pairwise (IsEndOf lib p event_ins event_outs) (targets_in x e) (targets_along (events_inside lib p) q)
 targets_there lib plan p x e q once is key =
@@ -119,7 +119,7 @@ targets_there lib plan p x e q once is key =
 
 -- the sources of data, likewise
 pub sources_there :
-    (lib : Library) (plan : Plan) (p : Path) (x : NetworkNumbers) (e : WireEnd) (q : Port) → ¬ (NameTwice lib plan) → IsWired lib p x
+    (lib : Library) (plan : Plan) (p : Path) (x : NetworkNumbers) (e : ConnectionEnd) (q : Port) → ¬ (NameTwice lib plan) → IsWired lib p x
     → IsEndOf lib p data_ins data_outs e q
     → Pairwise (IsEndOf lib p data_outs data_ins) (map (λ w. w.from) (filter (λ w. same_end w.to e) x.data_wires)) (map (λ c. c.0) (filter (λ c. same_port c.1 q) (data_inside lib p)))
 sources_there lib plan p x e q once is key =
@@ -134,7 +134,7 @@ sources_there lib plan p x e q once is key =
 
 -- ---- No connections
 
-no_end : (lib : Library) (p : Path) (component boundary : Ports → List Name) (w : WireEnd) (r q : Port) → ((w : WireEnd) → IsEndOf lib p component boundary w q → ⊥)
+no_end : (lib : Library) (p : Path) (component boundary : Ports → List Name) (w : ConnectionEnd) (r q : Port) → ((w : ConnectionEnd) → IsEndOf lib p component boundary w q → ⊥)
     → IsEndOf lib p component boundary w r → same_port r q ≡ false
 no_end lib p component boundary w r q none is =
     false_from_ne_true (same_port r q) (λ t. none w (subst (λ (r : Port). IsEndOf lib p component boundary w r) (same_port_is r q t) is))
@@ -144,7 +144,7 @@ abbrev pub MayBeWired : Library → Path → Type 0
 MayBeWired lib p = (net : Network) → network_at lib p ≡ Some net → (x : NetworkNumbers) × IsWired lib p x
 
 pub no_targets :
-    (lib : Library) (p : Path) (q : Port) → MayBeWired lib p → ((w : WireEnd) → IsEndOf lib p event_outs event_ins w q → ⊥) → targets_along (events_inside lib p) q ≡ []
+    (lib : Library) (p : Path) (q : Port) → MayBeWired lib p → ((w : ConnectionEnd) → IsEndOf lib p event_outs event_ins w q → ⊥) → targets_along (events_inside lib p) q ≡ []
 no_targets lib p q wired none =
     elim (network_at lib p) as (λ o. network_at lib p ≡ o → targets_along (events_inside lib p) q ≡ []) [
       | None ↦ λ is. ap (λ (cs : List (Port × Port)). targets_along cs q) (no_events lib p is)
@@ -158,7 +158,7 @@ no_targets lib p q wired none =
     ] refl
 
 pub no_sources :
-    (lib : Library) (p : Path) (q : Port) → MayBeWired lib p → ((w : WireEnd) → IsEndOf lib p data_ins data_outs w q → ⊥)
+    (lib : Library) (p : Path) (q : Port) → MayBeWired lib p → ((w : ConnectionEnd) → IsEndOf lib p data_ins data_outs w q → ⊥)
     → map (λ c. c.0) (filter (λ c. same_port c.1 q) (data_inside lib p)) ≡ []
 no_sources lib p q wired none =
     elim (network_at lib p) as (λ o. network_at lib p ≡ o → map (λ c. c.0) (filter (λ c. same_port c.1 q) (data_inside lib p)) ≡ []) [

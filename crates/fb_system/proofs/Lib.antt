@@ -1,6 +1,6 @@
 mod Lists
 mod Differing
-mod EndPlaces
+mod EndIndexes
 mod Wired
 mod Leading
 mod Looking
@@ -17,7 +17,7 @@ pub mod Laid
 pub mod Reading
 mod Seen
 mod Holding
-mod WithPlacesLaws
+mod WithIndexesLaws
 mod Stimuli
 mod Beginning
 pub mod Ways

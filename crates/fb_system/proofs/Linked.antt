@@ -15,7 +15,7 @@ use Rattle.fb_types.specs.declared.deploy.ResourceEntry.{ResourceEntry}
 use Rattle.fb_types.proofs.NameLaws.{same_name-Decides, same_from_same_name}
 use Rattle.fb_types.proofs.Positions.{position-cons, position_is, position_of_once}
 use Rattle.fb_check_names.proofs.NameTwice.{plan_twice}
-use Rattle.fb_check_names.specs.Numbers.{IsResolved, each_or_none, link_ends, place_of}
+use Rattle.fb_check_names.specs.Numbers.{IsResolved, each_or_none, link_ends, index_of}
 use Rattle.fb_check_names.specs.declared.numbers.LinkEnds.{LinkEnds}
 use Rattle.fb_check_names.specs.declared.numbers.Resolved.{Resolved}
 use Rattle.fb_types.proofs.Options.{and_then_parts, map_parts}
@@ -56,11 +56,11 @@ the_ends x y = record { from = x; to = y }
 
 link_parts :
     (plan : Plan) (l : Link) (e : LinkEnds) → link_ends plan l ≡ Some e
-    → (place_of (resource_names_of plan) l.from ≡ Some e.from) × (place_of (resource_names_of plan) l.to ≡ Some e.to)
+    → (index_of (resource_names_of plan) l.from ≡ Some e.from) × (index_of (resource_names_of plan) l.to ≡ Some e.to)
 link_parts plan l e h =
     let names = resource_names_of plan in
-    let a = and_then_parts (λ (x : ℕ). option_map (λ (y : ℕ). the_ends x y) (place_of names l.to)) (place_of names l.from) e h in
-    let b = map_parts (λ (y : ℕ). the_ends a.0 y) (place_of names l.to) e a.2 in
+    let a = and_then_parts (λ (x : ℕ). option_map (λ (y : ℕ). the_ends x y) (index_of names l.to)) (index_of names l.from) e h in
+    let b = map_parts (λ (y : ℕ). the_ends a.0 y) (index_of names l.to) e a.2 in
     (a.1 ∙ ap (λ (z : LinkEnds). Some z.from) b.2, b.1 ∙ ap (λ (z : LinkEnds). Some z.to) b.2)
 
 -- ---- Resources
@@ -72,10 +72,10 @@ nat_eq_from : (m n : ℕ) → m ≡ n → nat_eq m n ≡ true
 nat_eq_from m n h = grind (arith, nat_tests)
 
 -- a name is that of a resource exactly if the indices are equal
-named_place :
-    (plan : Plan) (n : Name) (k r : ℕ) → ¬ (Twice (resource_names_of plan)) → r < length plan.resources → place_of (resource_names_of plan) n ≡ Some k
+named_index :
+    (plan : Plan) (n : Name) (k r : ℕ) → ¬ (Twice (resource_names_of plan)) → r < length plan.resources → index_of (resource_names_of plan) n ≡ Some k
     → nat_eq k r ≡ same_name n (name_of_resource plan r)
-named_place plan n k r once h found =
+named_index plan n k r once h found =
     let rs = plan.resources in
     let own : ResourceEntry → Name = λ x. x.name in
     let at = position_is own n rs k found in
@@ -90,12 +90,12 @@ named_place plan n k r once h found =
       | false ↦ λ e.
           sym (false_from_ne_true (same_name n (name_of_resource plan r)) (λ t.
           let s : n ≡ own it = same_from_same_name n (name_of_resource plan r) t ∙ named in
-          let p : place_of (resource_names_of plan) n ≡ Some r =
+          let p : index_of (resource_names_of plan) n ≡ Some r =
           ap (λ (m : Name). position (same_name m) (map own rs)) s ∙ position_of_once own rs r it once there in
           true≢false (sym (nat_eq_from k r (same_Some k r (sym found ∙ p))) ∙ e)))
     ] refl
 
-resource_at : (plan : Plan) (n : Name) (k : ℕ) → place_of (resource_names_of plan) n ≡ Some k → k ≡ resource_named plan n
+resource_at : (plan : Plan) (n : Name) (k : ℕ) → index_of (resource_names_of plan) n ≡ Some k → k ≡ resource_named plan n
 resource_at plan n k h = sym (ap (λ (o : Option ℕ). unwrap_or o 0) h)
 
 -- ---- All numbers
@@ -116,7 +116,7 @@ linked_from lib plan numbers holders ends resolved once held same =
           each_position (link_ends plan) (λ l. same_name l.from (name_of_resource plan r) && same_name l.to (name_of_resource plan s)) (joins r s) plan.links ends all
           (λ l e g.
           let p = link_parts plan l e g in
-          λ j. named_place plan l.from e.from r differ a p.0 j && named_place plan l.to e.to s differ b p.1 j);
+          λ j. named_index plan l.from e.from r differ a p.0 j && named_index plan l.to e.to s differ b p.1 j);
       senders = λ l.
           each_read (link_ends plan) (λ y. resource_named plan y.from) (λ e. e.from) plan.links ends l all
           (λ y e g. resource_at plan y.from e.from (link_parts plan y e g).0);

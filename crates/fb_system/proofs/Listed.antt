@@ -16,12 +16,12 @@ use Rattle.fb_types.specs.Blocks.{among, event_names, variable_names, variables_
 use Rattle.fb_types.specs.Repeated.{Twice}
 use Rattle.fb_types.specs.declared.library.EventPort.{EventPort}
 use Rattle.fb_types.specs.declared.library.Variable.{Variable}
-use Rattle.fb_check_names.specs.Places.{place_in}
+use Rattle.fb_check_names.specs.Indexes.{index_in}
 use Rattle.fb_types.proofs.Positions.{is_some-position, position_is, position_of_once, slice_get-Contains}
 use Rattle.fb_types.proofs.Elements.{Contains-here, Contains-there, Contains-map, map-Contains}
 use Rattle.fb_types.proofs.NameLaws.{same_name-itself, same_from_same_name, any_from_contains, contains_from_any}
 use Rattle.fb_types.proofs.Options.{some_from_is_some}
-use Rattle.fb_system.specs.Stands.{ArePlaces, variable_at}
+use Rattle.fb_system.specs.Stands.{AreIndexes, variable_at}
 use Rattle.fb_system.specs.Lookups.{StandFrom, IsList, AreEvents}
 use Rattle.fb_system.proofs.Rising.{AreOnce, once_nil, once_cons, once_permuted, sorted_filter}
 
@@ -31,13 +31,13 @@ name_of v = v.name
 -- ---- One name
 
 -- the index of a name among variables, or 0 if it is none of them
-abbrev pub own_place : List Variable → Name → ℕ
-own_place vs n = unwrap_or (position (same_name n) (variable_names vs)) 0
+abbrev pub own_index : List Variable → Name → ℕ
+own_index vs n = unwrap_or (position (same_name n) (variable_names vs)) 0
 
 -- a known name has an index among the variables
 record IsAt (vs : List Variable) (n : Name) : Type 0 where
   pub variable : Variable
-  pub there : slice_get vs (own_place vs n) ≡ Some variable
+  pub there : slice_get vs (own_index vs n) ≡ Some variable
   pub name : variable.name ≡ n
 
 known_at : (vs : List Variable) (n : Name) → Contains (variable_names vs) n → IsAt vs n
@@ -50,76 +50,76 @@ known_at vs n c =
       name = at.2;
     }
 
-known_place :
-    (vs : List Variable) (places : BTreeMap (Bor Name) ℕ) (first : ℕ) (n : Name) → StandFrom first vs places → Contains (variable_names vs) n
-    → place_in places n ≡ Some (first + own_place vs n)
-known_place vs places first n stand c =
+known_index :
+    (vs : List Variable) (indexes : BTreeMap (Bor Name) ℕ) (first : ℕ) (n : Name) → StandFrom first vs indexes → Contains (variable_names vs) n
+    → index_in indexes n ≡ Some (first + own_index vs n)
+known_index vs indexes first n stand c =
     let at = known_at vs n c in
-    ap (place_in places) (sym at.name) ∙ stand.place (own_place vs n) at.variable at.there
+    ap (index_in indexes) (sym at.name) ∙ stand.index (own_index vs n) at.variable at.there
 
 known_some : (vs : List Variable) (n : Name) → Contains (variable_names vs) n → 0 < length vs
 known_some vs n c =
     let at = known_at vs n c in
-    let h = slice_get_within vs (own_place vs n) at.variable at.there in omega (arith, h)
+    let h = slice_get_within vs (own_index vs n) at.variable at.there in omega (arith, h)
 
 -- the lookup of the name at an index of a list, and that there are variables
-pub found_place :
-    (vs : List Variable) (places : BTreeMap (Bor Name) ℕ) (first : ℕ) (list : List Name) (i : ℕ) (n b : Name) (o : Option ℕ) → StandFrom first vs places
-    → IsList vs list → i < length list → n ≡ get_or list i n → b ≡ n → o ≡ place_in places b → (o ≡ Some (first + own_place vs n)) × (0 < length vs)
-found_place vs places first list i n b o stand is h e same looked =
+pub found_index :
+    (vs : List Variable) (indexes : BTreeMap (Bor Name) ℕ) (first : ℕ) (list : List Name) (i : ℕ) (n b : Name) (o : Option ℕ) → StandFrom first vs indexes
+    → IsList vs list → i < length list → n ≡ get_or list i n → b ≡ n → o ≡ index_in indexes b → (o ≡ Some (first + own_index vs n)) × (0 < length vs)
+found_index vs indexes first list i n b o stand is h e same looked =
     let listed : Contains list n = subst (λ (m : Name). Contains list m) (sym e) (Contains-get_or list i n h) in
     let known = is.known n listed in
-    (looked ∙ ap (place_in places) same ∙ known_place vs places first n stand known, known_some vs n known)
+    (looked ∙ ap (index_in indexes) same ∙ known_index vs indexes first n stand known, known_some vs n known)
 
 -- the index of a variable is its own
-own_place_of : (vs : List Variable) (i : ℕ) (n : Name) → ¬ (Twice (variable_names vs)) → slice_get (variable_names vs) i ≡ Some n → own_place vs n ≡ i
-own_place_of vs i n once h =
+own_index_of : (vs : List Variable) (i : ℕ) (n : Name) → ¬ (Twice (variable_names vs)) → slice_get (variable_names vs) i ≡ Some n → own_index vs n ≡ i
+own_index_of vs i n once h =
     elim (slice_get_cases vs i).1 [
       | inl w ↦
           let named : Some w.0.name ≡ Some n = sym (slice_get-map name_of vs i ∙ ap (option_map name_of) w.2) ∙ h in
           let same : w.0.name ≡ n = same_Some w.0.name n named in
           let at : position (same_name w.0.name) (variable_names vs) ≡ Some i = position_of_once name_of vs i w.0 once w.2 in
-          ap (own_place vs) (sym same) ∙ ap (λ (o : Option ℕ). unwrap_or o 0) at
+          ap (own_index vs) (sym same) ∙ ap (λ (o : Option ℕ). unwrap_or o 0) at
       | inr w ↦
           let g : None ≡ Some n = sym (slice_get-map name_of vs i ∙ ap (option_map name_of) w.1) ∙ h in absurd (cc)
     ]
 
 -- the name at the index of a known name is the name
-name_there : (vs : List Variable) (n : Name) → Contains (variable_names vs) n → variable_at vs (own_place vs n) ≡ n
+name_there : (vs : List Variable) (n : Name) → Contains (variable_names vs) n → variable_at vs (own_index vs n) ≡ n
 name_there vs n c =
     let at = known_at vs n c in
-    ap (λ (o : Option Name). unwrap_or o []) (slice_get-map name_of vs (own_place vs n) ∙ ap (option_map name_of) at.there) ∙ at.name
+    ap (λ (o : Option Name). unwrap_or o []) (slice_get-map name_of vs (own_index vs n) ∙ ap (option_map name_of) at.there) ∙ at.name
 
 -- ---- A list of names
 
 -- indices of names that differ differ
-own_once : (vs : List Variable) (ns : List Name) → ¬ (Twice ns) → ((n : Name) → Contains ns n → Contains (variable_names vs) n) → AreOnce (map (own_place vs) ns)
+own_once : (vs : List Variable) (ns : List Name) → ¬ (Twice ns) → ((n : Name) → Contains ns n → Contains (variable_names vs) n) → AreOnce (map (own_index vs) ns)
 own_once vs [] once known = once_nil
 own_once vs (n ∷ ns) once known =
-    once_cons (own_place vs n) (map (own_place vs) ns)
+    once_cons (own_index vs n) (map (own_index vs) ns)
     (λ c.
-    let m = map-Contains (own_place vs) ns (own_place vs n) c in
+    let m = map-Contains (own_index vs) ns (own_index vs n) c in
     let same : m.0 ≡ n =
     sym (name_there vs m.0 (known m.0 (Contains-there n ns m.0 m.1))) ∙ ap (variable_at vs) m.2 ∙ name_there vs n (known n (Contains-here n ns)) in
     once (inl (subst (λ (k : Name). Contains ns k) same m.1)))
     (own_once vs ns (λ t. once (inr t)) (λ m c. known m (Contains-there n ns m c)))
 
 -- sorted, the indices of the names of a list are those of the variables that it names
-pub list_places :
-    (vs : List Variable) (places : BTreeMap (Bor Name) ℕ) (first : ℕ) (list : List Name) (found ks : List ℕ) → StandFrom first vs places → IsList vs list
-    → found ≡ map (own_place vs) list → IsPermutation found ks → IsSorted nat_cmp ks → ArePlaces vs (filter (among list) (variable_names vs)) ks
-list_places vs places first list found ks stand is made moved sorted =
+pub list_indexes :
+    (vs : List Variable) (indexes : BTreeMap (Bor Name) ℕ) (first : ℕ) (list : List Name) (found ks : List ℕ) → StandFrom first vs indexes → IsList vs list
+    → found ≡ map (own_index vs) list → IsPermutation found ks → IsSorted nat_cmp ks → AreIndexes vs (filter (among list) (variable_names vs)) ks
+list_indexes vs indexes first list found ks stand is made moved sorted =
     let up : IsNonDecreasing ks = IsNonDecreasingBy-from_sort (λ (k : ℕ). k) ks sorted in
     let once : AreOnce ks = once_permuted found ks moved (subst AreOnce (sym made) (own_once vs list is.once is.known)) in
-    let of_name : (k : ℕ) → Contains ks k → (n : Name) × Contains list n × (own_place vs n ≡ k) =
-    λ k c. map-Contains (own_place vs) list k (subst (λ (l : List ℕ). Contains l k) made (Contains-permutation ks found k (IsPermutation-sym found ks moved) c)) in
-    let of_place : (n : Name) → Contains list n → Contains ks (own_place vs n) =
-    λ n c. Contains-permutation found ks (own_place vs n) moved (subst (λ (l : List ℕ). Contains l (own_place vs n)) (sym made) (Contains-map (own_place vs) list n c)) in
+    let of_name : (k : ℕ) → Contains ks k → (n : Name) × Contains list n × (own_index vs n ≡ k) =
+    λ k c. map-Contains (own_index vs) list k (subst (λ (l : List ℕ). Contains l k) made (Contains-permutation ks found k (IsPermutation-sym found ks moved) c)) in
+    let of_index : (n : Name) → Contains list n → Contains ks (own_index vs n) =
+    λ n c. Contains-permutation found ks (own_index vs n) moved (subst (λ (l : List ℕ). Contains l (own_index vs n)) (sym made) (Contains-map (own_index vs) list n c)) in
     let below : (k : ℕ) → Contains ks k → k < length vs =
     λ k c.
     let o = of_name k c in
     let at = known_at vs o.0 (is.known o.0 o.1) in
-    subst (λ (j : ℕ). j < length vs) o.2 (slice_get_within vs (own_place vs o.0) at.variable at.there) in
+    subst (λ (j : ℕ). j < length vs) o.2 (slice_get_within vs (own_index vs o.0) at.variable at.there) in
     let counted : length (variable_names vs) ≡ length vs = length-map vs name_of in
     record {
       named =
@@ -129,7 +129,7 @@ list_places vs places first list found ks stand is made moved sorted =
             kept = λ i n h.
                 let e : 0 + i ≡ i = omega arith in
                 subst (λ (j : ℕ). Decides (among list n) (Contains ks j)) (sym e) (
-                  λ t. subst (λ (j : ℕ). Contains ks j) (own_place_of vs i n stand.once h) (of_place n (contains_from_any n list t)),
+                  λ t. subst (λ (j : ℕ). Contains ks j) (own_index_of vs i n stand.once h) (of_index n (contains_from_any n list t)),
                   λ c.
                       let o = of_name i c in
                       let same : o.0 ≡ n =
@@ -178,7 +178,7 @@ with_of_once (p ∷ ps) (suc i) x once h v =
 -- what an event lists is WITH it
 pub with_event :
     (events : List EventPort) (vs : List Variable) (i : ℕ) (x : EventPort) (ks : List ℕ) → AreEvents vs events → slice_get events i ≡ Some x
-    → ArePlaces vs (filter (among x.with) (variable_names vs)) ks → ArePlaces vs (variables_with events vs x.name) ks
-with_event events vs i x ks are h places =
-    subst (λ (ns : List Name). ArePlaces vs ns ks)
-    (filter_agree (among x.with) (λ v. list_any (λ p. same_name p.name x.name && among p.with v) events) (λ v. sym (with_of_once events i x are.once h v)) (variable_names vs)) places
+    → AreIndexes vs (filter (among x.with) (variable_names vs)) ks → AreIndexes vs (variables_with events vs x.name) ks
+with_event events vs i x ks are h indexes =
+    subst (λ (ns : List Name). AreIndexes vs ns ks)
+    (filter_agree (among x.with) (λ v. list_any (λ p. same_name p.name x.name && among p.with v) events) (λ v. sym (with_of_once events i x are.once h v)) (variable_names vs)) indexes

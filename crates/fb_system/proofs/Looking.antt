@@ -19,7 +19,7 @@ use Rattle.fb_types.specs.declared.library.Ports.{Ports}
 use Rattle.fb_types.specs.declared.event_kind.EventKind.{EventKind}
 use Rattle.fb_types.specs.declared.event_kind.EventKind.TheVariants.{Restart, Split, Merge, Rendezvous, Permit, Select, Switch, Delay, Cycle, SetReset, DataLatch, RisingEdge, FallingEdge, CountUp}
 use Rattle.fb_types.specs.declared.deploy.Plan.{Plan}
-use Rattle.fb_check_names.specs.declared.numbers.WireEnd.{WireEnd}
+use Rattle.fb_check_names.specs.declared.numbers.ConnectionEnd.{ConnectionEnd}
 use Rattle.fb_check_names.specs.declared.numbers.NetworkNumbers.{NetworkNumbers}
 use Rattle.fb_check_names.specs.declared.numbers.TypeNumber.{TypeNumber}
 use Rattle.fb_check_names.specs.declared.numbers.TypeNumber.TheVariants as number
@@ -31,7 +31,7 @@ use Rattle.fb_system.specs.Netlists.{IsCompositeHere, IsPort, IsVariable, ports_
 use Rattle.fb_system.specs.Networks.{AreNarrow, IsEndOf, IsNarrow, IsThere, IsWired, side, source_along, targets_along}
 use Rattle.fb_system.proofs.Leading.{sources_there, targets_there}
 use Rattle.fb_system.proofs.Lists.{first_pair, no_first, none_at, pair_at, same_length}
-use Rattle.fb_types.proofs.ByPlace.{all_at}
+use Rattle.fb_types.proofs.ByIndex.{all_at}
 use Rattle.fb_system.proofs.Wired.{component_path, component_within, number_within}
 
 -- ---- Ports of 32 bits
@@ -87,7 +87,7 @@ here lib m a k at kind =
 within_names : (ns : List Name) (k n : ℕ) (q : Name) → slice_get ns k ≡ Some q → length ns ≡ n → k < n
 within_names ns k n q h e = let w : k < length ns = slice_get_within ns k q h in omega (arith, w, e)
 
-pub target_small : (lib : Library) (p : Path) (e : WireEnd) (q : Port) → AreNarrow lib.blocks → IsEndOf lib p event_ins event_outs e q → e.port < 2 ^ 32
+pub target_small : (lib : Library) (p : Path) (e : ConnectionEnd) (q : Port) → AreNarrow lib.blocks → IsEndOf lib p event_ins event_outs e q → e.port < 2 ^ 32
 target_small lib p e q narrow is =
     let n = kind_narrow lib q.at is.kind narrow is.is_kind in
     let ps = ports_of is.kind in
@@ -96,8 +96,8 @@ target_small lib p e q narrow is =
       | Some j ↦ λ h. let w = within_names (event_ins ps) e.port (length ps.event_inputs) q.name h (length-map ps.event_inputs (λ (x : _). x.name)) in let l = n.event_inputs in omega (arith, w, l)
     ] is.name
 
-pub place_small : (lib : Library) (p : Path) (e : WireEnd) (q : Port) → AreNarrow lib.blocks → IsEndOf lib p data_outs data_ins e q → e.port < 2 ^ 32
-place_small lib p e q narrow is =
+pub index_small : (lib : Library) (p : Path) (e : ConnectionEnd) (q : Port) → AreNarrow lib.blocks → IsEndOf lib p data_outs data_ins e q → e.port < 2 ^ 32
+index_small lib p e q narrow is =
     let n = kind_narrow lib q.at is.kind narrow is.is_kind in
     let ps = ports_of is.kind in
     elim e.component as (λ c. slice_get (side c data_outs data_ins ps) e.port ≡ Some q.name → e.port < 2 ^ 32) [
@@ -115,7 +115,7 @@ port_named lib m k q ns at name =
     λ i. record { at = at i; name = n i }
 
 pub target_is :
-    (lib : Library) (p : Path) (e : WireEnd) (q : Port) (m : ℕ) (b : Bool) → path_of lib m ≡ q.at → b ≡ is_none e.component → IsEndOf lib p event_ins event_outs e q
+    (lib : Library) (p : Path) (e : ConnectionEnd) (q : Port) (m : ℕ) (b : Bool) → path_of lib m ≡ q.at → b ≡ is_none e.component → IsEndOf lib p event_ins event_outs e q
     → port_of lib (record { instance = m; event = e.port; is_output = b }) ≡ q
 target_is lib p e q m b at is_b is =
     let ps = here lib m q.at is.kind at is.is_kind in
@@ -130,7 +130,7 @@ target_is lib p e q m b at is_b is =
     ] is_b is.name
 
 pub target_within :
-    (lib : Library) (p : Path) (e : WireEnd) (q : Port) (m : ℕ) (b : Bool) → path_of lib m ≡ q.at → m < length (paths_of lib) → b ≡ is_none e.component
+    (lib : Library) (p : Path) (e : ConnectionEnd) (q : Port) (m : ℕ) (b : Bool) → path_of lib m ≡ q.at → m < length (paths_of lib) → b ≡ is_none e.component
     → IsEndOf lib p event_ins event_outs e q → IsPort lib (record { instance = m; event = e.port; is_output = b })
 target_within lib p e q m b at within is_b is =
     let ps = here lib m q.at is.kind at is.is_kind in
@@ -152,10 +152,10 @@ target_within lib p e q m b at within is_b is =
           })
     ] is_b is.name
 
-pub place_is :
-    (lib : Library) (p : Path) (e : WireEnd) (q : Port) (m : ℕ) (b : Bool) → path_of lib m ≡ q.at → b ≡ is_some e.component → IsEndOf lib p data_outs data_ins e q
+pub index_is :
+    (lib : Library) (p : Path) (e : ConnectionEnd) (q : Port) (m : ℕ) (b : Bool) → path_of lib m ≡ q.at → b ≡ is_some e.component → IsEndOf lib p data_outs data_ins e q
     → variable_of lib (record { instance = m; variable = e.port; is_output = b }) ≡ q
-place_is lib p e q m b at is_b is =
+index_is lib p e q m b at is_b is =
     let ps = here lib m q.at is.kind at is.is_kind in
     let Q : Bool → Type 0 = λ b. variable_of lib (record { instance = m; variable = e.port; is_output = b }) ≡ q in
     elim e.component as (λ c. b ≡ is_some c → slice_get (side c data_outs data_ins (ports_of is.kind)) e.port ≡ Some q.name → Q b) [
@@ -167,10 +167,10 @@ place_is lib p e q m b at is_b is =
           (ap (λ (p : Ports). named_at (path_of lib m) (data_outs p) e.port) ps ∙ port_named lib m e.port q (data_outs (ports_of is.kind)) at h)
     ] is_b is.name
 
-pub place_within :
-    (lib : Library) (p : Path) (e : WireEnd) (q : Port) (m : ℕ) (b : Bool) → path_of lib m ≡ q.at → m < length (paths_of lib) → b ≡ is_some e.component
+pub index_within :
+    (lib : Library) (p : Path) (e : ConnectionEnd) (q : Port) (m : ℕ) (b : Bool) → path_of lib m ≡ q.at → m < length (paths_of lib) → b ≡ is_some e.component
     → IsEndOf lib p data_outs data_ins e q → IsVariable lib (record { instance = m; variable = e.port; is_output = b })
-place_within lib p e q m b at within is_b is =
+index_within lib p e q m b at within is_b is =
     let ps = here lib m q.at is.kind at is.is_kind in
     let Q : Bool → Type 0 = λ b. IsVariable lib (record { instance = m; variable = e.port; is_output = b }) in
     elim e.component as (λ c. b ≡ is_some c → slice_get (side c data_outs data_ins (ports_of is.kind)) e.port ≡ Some q.name → Q b) [
@@ -213,7 +213,7 @@ composite_at lib (n ∷ p) net k h kind = composite_inside lib (instance_at lib 
 
 -- an end at the boundary of a network is a port of a composite
 pub composite_around :
-    (lib : Library) (p : Path) (net : Network) (component boundary : Ports → List Name) (e : WireEnd) (q : Port) (m : ℕ) → network_at lib p ≡ Some net
+    (lib : Library) (p : Path) (net : Network) (component boundary : Ports → List Name) (e : ConnectionEnd) (q : Port) (m : ℕ) → network_at lib p ≡ Some net
     → path_of lib m ≡ q.at → is_none e.component ≡ true → IsEndOf lib p component boundary e q → IsCompositeHere lib m
 composite_around lib p net component boundary e q m is_network at boundary_end is =
     let here : q.at ≡ p =
@@ -248,31 +248,31 @@ component_in_range lib p j c ks a are is there =
 
 -- the port that a wire at an index leads to
 pub target_end :
-    (lib : Library) (plan : Plan) (p : Path) (x : NetworkNumbers) (e w : WireEnd) (q : Port) (place : ℕ) → ¬ (NameTwice lib plan) → IsWired lib p x
-    → IsEndOf lib p event_outs event_ins e q → slice_get (targets_in x e) place ≡ Some w
-    → (r : Port) × (slice_get (targets_along (events_inside lib p) q) place ≡ Some r) × IsEndOf lib p event_ins event_outs w r
-target_end lib plan p x e w q place once is key h =
-    pair_at (IsEndOf lib p event_ins event_outs) (targets_in x e) (targets_along (events_inside lib p) q) place w (targets_there lib plan p x e q once is key) h
+    (lib : Library) (plan : Plan) (p : Path) (x : NetworkNumbers) (e w : ConnectionEnd) (q : Port) (index : ℕ) → ¬ (NameTwice lib plan) → IsWired lib p x
+    → IsEndOf lib p event_outs event_ins e q → slice_get (targets_in x e) index ≡ Some w
+    → (r : Port) × (slice_get (targets_along (events_inside lib p) q) index ≡ Some r) × IsEndOf lib p event_ins event_outs w r
+target_end lib plan p x e w q index once is key h =
+    pair_at (IsEndOf lib p event_ins event_outs) (targets_in x e) (targets_along (events_inside lib p) q) index w (targets_there lib plan p x e q once is key) h
 
 pub target_past :
-    (lib : Library) (plan : Plan) (p : Path) (x : NetworkNumbers) (e : WireEnd) (q : Port) (place : ℕ) → ¬ (NameTwice lib plan) → IsWired lib p x
-    → IsEndOf lib p event_outs event_ins e q → slice_get (targets_in x e) place ≡ None → slice_get (targets_along (events_inside lib p) q) place ≡ None
-target_past lib plan p x e q place once is key h =
-    none_at (IsEndOf lib p event_ins event_outs) (targets_in x e) (targets_along (events_inside lib p) q) place (targets_there lib plan p x e q once is key) h
+    (lib : Library) (plan : Plan) (p : Path) (x : NetworkNumbers) (e : ConnectionEnd) (q : Port) (index : ℕ) → ¬ (NameTwice lib plan) → IsWired lib p x
+    → IsEndOf lib p event_outs event_ins e q → slice_get (targets_in x e) index ≡ None → slice_get (targets_along (events_inside lib p) q) index ≡ None
+target_past lib plan p x e q index once is key h =
+    none_at (IsEndOf lib p event_ins event_outs) (targets_in x e) (targets_along (events_inside lib p) q) index (targets_there lib plan p x e q once is key) h
 
 pub targets_counted :
-    (lib : Library) (plan : Plan) (p : Path) (x : NetworkNumbers) (e : WireEnd) (q : Port) → ¬ (NameTwice lib plan) → IsWired lib p x
+    (lib : Library) (plan : Plan) (p : Path) (x : NetworkNumbers) (e : ConnectionEnd) (q : Port) → ¬ (NameTwice lib plan) → IsWired lib p x
     → IsEndOf lib p event_outs event_ins e q → length (targets_in x e) ≡ length (targets_along (events_inside lib p) q)
 targets_counted lib plan p x e q once is key =
     same_length (IsEndOf lib p event_ins event_outs) (targets_in x e) (targets_along (events_inside lib p) q) (targets_there lib plan p x e q once is key)
 
 -- whether more than one of the ends is left from an index on
-pub more_follow : (n m place : ℕ) → n ≡ m → IsTrue (nat_lt 1 (n - place)) ↔ (place + 1 < m)
-more_follow n m place e = (λ more. let lt = ltb-true 1 (n - place) more in omega (arith, lt, e), λ more. lt-ltb 1 (n - place) (omega (arith, more, e)))
+pub more_follow : (n m index : ℕ) → n ≡ m → IsTrue (nat_lt 1 (n - index)) ↔ (index + 1 < m)
+more_follow n m index e = (λ more. let lt = ltb-true 1 (n - index) more in omega (arith, lt, e), λ more. lt-ltb 1 (n - index) (omega (arith, more, e)))
 
 -- the port that the wire to an end comes from
 pub source_end :
-    (lib : Library) (plan : Plan) (p : Path) (x : NetworkNumbers) (e w : WireEnd) (q : Port) → ¬ (NameTwice lib plan) → IsWired lib p x
+    (lib : Library) (plan : Plan) (p : Path) (x : NetworkNumbers) (e w : ConnectionEnd) (q : Port) → ¬ (NameTwice lib plan) → IsWired lib p x
     → IsEndOf lib p data_ins data_outs e q → source_in x e ≡ Some w
     → (r : Port) × (source_along (data_inside lib p) q ≡ Some r) × IsEndOf lib p data_outs data_ins w r
 source_end lib plan p x e w q once is key h =
@@ -280,7 +280,7 @@ source_end lib plan p x e w q once is key h =
     w (sources_there lib plan p x e q once is key) h
 
 pub source_none :
-    (lib : Library) (plan : Plan) (p : Path) (x : NetworkNumbers) (e : WireEnd) (q : Port) → ¬ (NameTwice lib plan) → IsWired lib p x
+    (lib : Library) (plan : Plan) (p : Path) (x : NetworkNumbers) (e : ConnectionEnd) (q : Port) → ¬ (NameTwice lib plan) → IsWired lib p x
     → IsEndOf lib p data_ins data_outs e q → source_in x e ≡ None → source_along (data_inside lib p) q ≡ None
 source_none lib plan p x e q once is key h =
     no_first (IsEndOf lib p data_outs data_ins) (map (λ w. w.from) (filter (λ w. same_end w.to e) x.data_wires)) (map (λ c. c.0) (filter (λ c. same_port c.1 q) (data_inside lib p)))
@@ -294,8 +294,8 @@ none_tested None false h = h
 none_tested (Some j) true h = h
 none_tested (Some j) false h = refl
 
-pub read_at : (xs ys : List WireEnd) (k : ℕ) (w : WireEnd) → xs ≡ ys → k < length xs → w ≡ get_or xs k w → slice_get ys k ≡ Some w
-read_at xs ys k w e h read = ap (λ (zs : List WireEnd). slice_get zs k) (sym e) ∙ slice_get_read xs (length xs) k w refl h read
+pub read_at : (xs ys : List ConnectionEnd) (k : ℕ) (w : ConnectionEnd) → xs ≡ ys → k < length xs → w ≡ get_or xs k w → slice_get ys k ≡ Some w
+read_at xs ys k w e h read = ap (λ (zs : List ConnectionEnd). slice_get zs k) (sym e) ∙ slice_get_read xs (length xs) k w refl h read
 
-pub past_all : (xs ys : List WireEnd) (k : ℕ) → xs ≡ ys → length xs ≤ k → slice_get ys k ≡ None
-past_all xs ys k e h = ap (λ (zs : List WireEnd). slice_get zs k) (sym e) ∙ slice_get_past xs k h
+pub past_all : (xs ys : List ConnectionEnd) (k : ℕ) → xs ≡ ys → length xs ≤ k → slice_get ys k ≡ None
+past_all xs ys k e h = ap (λ (zs : List ConnectionEnd). slice_get zs k) (sym e) ∙ slice_get_past xs k h

@@ -24,7 +24,7 @@ use Rattle.fb_types.proofs.TwiceLaws.{Twice-append_left, Twice-append_right}
 use Rattle.fb_types.proofs.NameLaws.{any_from_contains, named-Contains}
 use Rattle.fb_types.proofs.Elements.{Contains-here, Contains-there, Contains-map, Contains-flat_map}
 use Rattle.fb_check_names.proofs.NameTwice.{block_twice, network_twice}
-use Rattle.fb_check_names.specs.Numbers.{each_or_none, place_of, parameter_numbers}
+use Rattle.fb_check_names.specs.Numbers.{each_or_none, index_of, parameter_numbers}
 use Rattle.fb_check_names.proofs.Resolving.{of_network}
 use Rattle.fb_system.specs.Begins.{parameter_names}
 
@@ -195,9 +195,9 @@ instance_placed lib (n ∷ p) i h =
 -- the numbers of an instance's parameters are the indices that `input_values` takes
 pub parameters_placed :
     (lib : Library) (i : Instance) (k : Kind) (ks : List ℕ) → kind_of_instance lib i ≡ Some k → parameter_numbers lib i ≡ Some ks
-    → each_or_none (λ x. place_of (data_ins (ports_of k)) x.name) i.parameters ≡ Some ks
+    → each_or_none (λ x. index_of (data_ins (ports_of k)) x.name) i.parameters ≡ Some ks
 parameters_placed lib i k ks of h =
-    sym (ap (λ (o : Option Kind). elim o as (λ _. Option (List ℕ)) [ None ↦ None | Some k ↦ each_or_none (λ x. place_of (data_ins (ports_of k)) x.name) i.parameters ]) of) ∙ h
+    sym (ap (λ (o : Option Kind). elim o as (λ _. Option (List ℕ)) [ None ↦ None | Some k ↦ each_or_none (λ x. index_of (data_ins (ports_of k)) x.name) i.parameters ]) of) ∙ h
 
 -- no parameter is given twice
 pub parameters_once : (lib : Library) (plan : Plan) (p : Path) (i : Instance) → ¬ (NameTwice lib plan) → instance_at lib p ≡ Some i → ¬ (Twice (parameter_names i.parameters))

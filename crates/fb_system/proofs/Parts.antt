@@ -1,7 +1,7 @@
 -- Parts of a list, and what holds of each element at its index.
 use Rattle.std.proofs.Common.{◌≡◌, ◌⊎◌, ℕ, zero, suc, ◌+◌, List, [], ◌∷◌, ◌++◌, length, Some, refl, ◌∙◌, ap, subst, inl, inr, arith}
 use Rattle.std.specs.Prelude.{slice_get}
-use Rattle.fb_types.proofs.ByPlace.{slice_get-append_left}
+use Rattle.fb_types.proofs.ByIndex.{slice_get-append_left}
 
 -- ---- Elements of lists put together
 

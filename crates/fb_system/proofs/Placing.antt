@@ -16,7 +16,7 @@ use Rattle.fb_types.proofs.LoopSteps.{twice_of_part}
 use Rattle.fb_types.proofs.Positions.{position_is, slice_get-Contains}
 use Rattle.fb_types.proofs.Elements.{Contains-here, Contains-there}
 use Rattle.fb_types.proofs.TwiceLaws.{Twice-push}
-use Rattle.fb_check_names.specs.Numbers.{each_or_none, place_of}
+use Rattle.fb_check_names.specs.Numbers.{each_or_none, index_of}
 use Rattle.fb_check_names.proofs.Each.{each-length, each_at}
 use Rattle.fb_system.specs.Begins.{begin_value, parameter_names}
 use Rattle.fb_system.proofs.Named.{named_other, named_new}
@@ -65,26 +65,26 @@ put_at (w ∷ ws) ps x (suc k) v once new at same =
 
 -- Where the parameters have their indices.
 abbrev pub ArePlaced : Ports → List Parameter → List ℕ → Type 0
-ArePlaced its ps ks = each_or_none (λ (x : Parameter). place_of (data_ins its) x.name) ps ≡ Some ks
+ArePlaced its ps ks = each_or_none (λ (x : Parameter). index_of (data_ins its) x.name) ps ≡ Some ks
 
-pub place_within : (its : Ports) (ps : List Parameter) (ks : List ℕ) (i : ℕ) → ArePlaced its ps ks → i < length ps → i < length ks
-place_within its ps ks i are h = let e = each-length (λ (x : Parameter). place_of (data_ins its) x.name) ps ks are in omega (arith, e, h)
+pub index_within : (its : Ports) (ps : List Parameter) (ks : List ℕ) (i : ℕ) → ArePlaced its ps ks → i < length ps → i < length ks
+index_within its ps ks i are h = let e = each-length (λ (x : Parameter). index_of (data_ins its) x.name) ps ks are in omega (arith, e, h)
 
 -- the index of a parameter is that of an input
-place_is :
+index_is :
     (its : Ports) (ps : List Parameter) (ks : List ℕ) (i k : ℕ) (x : Parameter) → ArePlaced its ps ks → i < length ps → x ≡ get_or ps i x → k ≡ get_or ks i 0
-    → place_of (data_ins its) x.name ≡ Some k
-place_is its ps ks i k x are h e g =
-    let f = λ (x : Parameter). place_of (data_ins its) x.name in
+    → index_of (data_ins its) x.name ≡ Some k
+index_is its ps ks i k x are h e g =
+    let f = λ (x : Parameter). index_of (data_ins its) x.name in
     let at = each_at f ps ks i x are (slice_get_read ps (length ps) i x refl h e) in
-    let there : slice_get ks i ≡ Some k = slice_get-get_or ks i 0 (place_within its ps ks i are h) ∙ ap (λ (n : ℕ). Some n) (sym g) in
+    let there : slice_get ks i ≡ Some k = slice_get-get_or ks i 0 (index_within its ps ks i are h) ∙ ap (λ (n : ℕ). Some n) (sym g) in
     at.2 ∙ sym at.1 ∙ there
 
 pub input_within :
     (its : Ports) (ps qs : List Parameter) (ks : List ℕ) (vs : List Value) (i k : ℕ) (x : Parameter) → ArePlaced its ps ks → i < length ps → x ≡ get_or ps i x
     → k ≡ get_or ks i 0 → vs ≡ map (begin_value qs) its.inputs → k < length vs
 input_within its ps qs ks vs i k x are h e g so_far =
-    let at = position_is name_of x.name its.inputs k (place_is its ps ks i k x are h e g) in
+    let at = position_is name_of x.name its.inputs k (index_is its ps ks i k x are h e g) in
     let within : k < length its.inputs = slice_get_within its.inputs k at.0 at.1 in
     let counted : length vs ≡ length its.inputs = ap length so_far ∙ length-map its.inputs (begin_value qs) in
     omega (arith, within, counted)
@@ -95,7 +95,7 @@ pub values_more :
     → ¬ (Twice (parameter_names ps)) → i < length ps → x ≡ get_or ps i x → k ≡ get_or ks i 0 → vs ≡ map (begin_value (take i ps)) its.inputs
     → ws ≡ set vs k x.value → ws ≡ map (begin_value (take (i + 1) ps)) its.inputs
 values_more its ps ks vs ws i k x are inputs once h e g so_far made =
-    let at = position_is name_of x.name its.inputs k (place_is its ps ks i k x are h e g) in
+    let at = position_is name_of x.name its.inputs k (index_is its ps ks i k x are h e g) in
     let new : ¬ (Contains (parameter_names (take i ps)) x.name) = λ c.
     once (twice_of_part called ps i x x.name h e refl (Twice-push (parameter_names (take i ps)) x.name c)) in
     made ∙ ap (λ (l : List Value). set l k x.value) so_far ∙ put_at its.inputs (take i ps) x k at.0 inputs new at.1 at.2

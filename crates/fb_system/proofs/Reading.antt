@@ -3,11 +3,11 @@ use Rattle.std.proofs.Common.{◌≡◌, ℕ, ◌<◌, ◌+◌, Bool, true, fals
 use Rattle.std.specs.List.{filter}
 use Rattle.std.proofs.lemmas.List.{map-append, append-nil}
 use Rattle.std.proofs.lemmas.List.Elements.{filter_more}
-use Rattle.fb_check_names.specs.declared.numbers.WireEnd.{WireEnd}
-use Rattle.fb_check_names.specs.declared.numbers.Wire.{Wire}
+use Rattle.fb_check_names.specs.declared.numbers.ConnectionEnd.{ConnectionEnd}
+use Rattle.fb_check_names.specs.declared.numbers.NumberedConnection.{NumberedConnection}
 use Rattle.fb_system.specs.NetworkTables.{ends_at}
 use Rattle.fb_system.specs.Wirings.{same_end}
-use Rattle.fb_system.specs.declared.wiring_table.WiringTable.{WiringTable}
+use Rattle.fb_system.specs.declared.connection_table.ConnectionTable.{ConnectionTable}
 
 -- the results of a function for the elements that pass a test, with one element more
 picked_more :
@@ -25,10 +25,10 @@ picked_more {A} {B} f p xs i d h =
 
 -- the table after one wire more, found by one end of the wires and listing the other
 pub table_more :
-    (key other : Wire → WireEnd) (ws : List Wire) (i : ℕ) (d : Wire) (old new : WiringTable) → i < length ws
-    → ((e : WireEnd) → ends_at old e ≡ map other (filter (λ w. same_end (key w) e) (take i ws)))
-    → ((e : WireEnd) → ends_at new e ≡ cond (same_end (key (get_or ws i d)) e) (ends_at old e ++ other (get_or ws i d) ∷ []) (ends_at old e))
-    → (e : WireEnd) → ends_at new e ≡ map other (filter (λ w. same_end (key w) e) (take (i + 1) ws))
+    (key other : NumberedConnection → ConnectionEnd) (ws : List NumberedConnection) (i : ℕ) (d : NumberedConnection) (old new : ConnectionTable) → i < length ws
+    → ((e : ConnectionEnd) → ends_at old e ≡ map other (filter (λ w. same_end (key w) e) (take i ws)))
+    → ((e : ConnectionEnd) → ends_at new e ≡ cond (same_end (key (get_or ws i d)) e) (ends_at old e ++ other (get_or ws i d) ∷ []) (ends_at old e))
+    → (e : ConnectionEnd) → ends_at new e ≡ map other (filter (λ w. same_end (key w) e) (take (i + 1) ws))
 table_more key other ws i d old new h before pushed e =
     pushed e
     ∙ ap (λ ends. cond (same_end (key (get_or ws i d)) e) (ends ++ other (get_or ws i d) ∷ []) ends) (before e)

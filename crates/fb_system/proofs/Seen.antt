@@ -22,8 +22,8 @@ use Rattle.fb_check_names.specs.Numbers.{kind_of_number}
 use Rattle.fb_check_names.specs.declared.numbers.TypeNumber.{TypeNumber}
 use Rattle.fb_system.specs.Layouts.{AreComponents, AreNumbers, IsParent, path_of, route_to}
 use Rattle.fb_system.specs.Netlists as netlist
-use Rattle.fb_system.specs.declared.reached.Reached.{Reached}
-use Rattle.fb_types.specs.declared.run.Place.{Place}
+use Rattle.fb_system.specs.declared.next_target.NextTarget.{NextTarget}
+use Rattle.fb_types.specs.declared.run.InstanceVariable.{InstanceVariable}
 use Rattle.fb_system.specs.Tables.{AreInterfaces}
 use Rattle.fb_system.specs.declared.interfaces.Interfaces.{Interfaces}
 use Rattle.fb_types.specs.EventPorts.{ArePortsOfKinds}
@@ -97,10 +97,10 @@ pub parent_seen :
 parent_seen v w i k o e s h = subst (λ (lib : Library). IsParent lib k o) (library_seen v w i e s) h
 
 pub route_seen :
-    (v w : Whole) (i : Inputs) (k : ℕ) (places : List ℕ) → v ≡ w → inputs_of w ≡ i → places ≡ route_to v.netlist (path_of v.netlist k)
-    → places ≡ route_to i.library (path_of i.library k)
-route_seen v w i k places e s h =
-    subst (λ (lib : Library). places ≡ route_to lib (path_of lib k)) (library_seen v w i e s) h
+    (v w : Whole) (i : Inputs) (k : ℕ) (indexes : List ℕ) → v ≡ w → inputs_of w ≡ i → indexes ≡ route_to v.netlist (path_of v.netlist k)
+    → indexes ≡ route_to i.library (path_of i.library k)
+route_seen v w i k indexes e s h =
+    subst (λ (lib : Library). indexes ≡ route_to lib (path_of lib k)) (library_seen v w i e s) h
 
 pub components_seen :
     (v w : Whole) (i : Inputs) (k : ℕ) (numbers : List ℕ) → v ≡ w → inputs_of w ≡ i → AreComponents v.netlist (path_of v.netlist k) numbers
@@ -120,50 +120,50 @@ pub port_there : (v w : Whole) (i : Inputs) (t : Target) → v ≡ w → inputs_
 port_there v w i t e s h =
     subst (λ (lib : Library). netlist.IsPort lib t) (sym (library_seen v w i e s)) (record { instance = h.instance; event = h.event })
 
-reached_up : (i : Inputs) (o : Option Reached) → IfSome o (λ (r : Reached). netlist.IsTarget i.library r.target) → IfSome o (λ (r : Reached). IsTarget (system_of i) r.target)
+reached_up : (i : Inputs) (o : Option NextTarget) → IfSome o (λ (r : NextTarget). netlist.IsTarget i.library r.target) → IfSome o (λ (r : NextTarget). IsTarget (system_of i) r.target)
 reached_up i None h = h
 reached_up i (Some r) h = record { port = record { instance = h.port.instance; event = h.port.event }; composite = h.composite }
 
 pub reached_within :
-    (v w : Whole) (i : Inputs) (o : Option Reached) → v ≡ w → inputs_of w ≡ i → IfSome o (λ (r : Reached). netlist.IsTarget v.netlist r.target)
-    → IfSome o (λ (r : Reached). IsTarget (system_of i) r.target)
+    (v w : Whole) (i : Inputs) (o : Option NextTarget) → v ≡ w → inputs_of w ≡ i → IfSome o (λ (r : NextTarget). netlist.IsTarget v.netlist r.target)
+    → IfSome o (λ (r : NextTarget). IsTarget (system_of i) r.target)
 reached_within v w i o e s h =
-    reached_up i o (subst (λ (lib : Library). IfSome o (λ (r : Reached). netlist.IsTarget lib r.target)) (library_seen v w i e s) h)
+    reached_up i o (subst (λ (lib : Library). IfSome o (λ (r : NextTarget). netlist.IsTarget lib r.target)) (library_seen v w i e s) h)
 
 pub reached_leads :
-    (v w : Whole) (i : Inputs) (from : Target) (place : ℕ) (o : Option Reached) → v ≡ w → inputs_of w ≡ i
-    → option_map (λ (r : Reached). netlist.port_of v.netlist r.target) o ≡ slice_get (targets_of v.netlist (netlist.port_of v.netlist from)) place
-    → option_map (λ (r : Reached). port_of (system_of i) r.target) o ≡ slice_get ((system_of i).targets (port_of (system_of i) from)) place
-reached_leads v w i from place o e s h =
-    subst (λ (lib : Library). option_map (λ (r : Reached). netlist.port_of lib r.target) o ≡ slice_get (targets_of lib (netlist.port_of lib from)) place)
+    (v w : Whole) (i : Inputs) (from : Target) (index : ℕ) (o : Option NextTarget) → v ≡ w → inputs_of w ≡ i
+    → option_map (λ (r : NextTarget). netlist.port_of v.netlist r.target) o ≡ slice_get (targets_of v.netlist (netlist.port_of v.netlist from)) index
+    → option_map (λ (r : NextTarget). port_of (system_of i) r.target) o ≡ slice_get ((system_of i).targets (port_of (system_of i) from)) index
+reached_leads v w i from index o e s h =
+    subst (λ (lib : Library). option_map (λ (r : NextTarget). netlist.port_of lib r.target) o ≡ slice_get (targets_of lib (netlist.port_of lib from)) index)
     (library_seen v w i e s) h
 
 pub reached_more :
-    (v w : Whole) (i : Inputs) (from : Target) (place : ℕ) (o : Option Reached) → v ≡ w → inputs_of w ≡ i
-    → IfSome o (λ (r : Reached). IsTrue r.more ↔ (place + 1 < length (targets_of v.netlist (netlist.port_of v.netlist from))))
-    → IfSome o (λ (r : Reached). IsTrue r.more ↔ (place + 1 < length ((system_of i).targets (port_of (system_of i) from))))
-reached_more v w i from place o e s h =
-    subst (λ (lib : Library). IfSome o (λ (r : Reached). IsTrue r.more ↔ (place + 1 < length (targets_of lib (netlist.port_of lib from)))))
+    (v w : Whole) (i : Inputs) (from : Target) (index : ℕ) (o : Option NextTarget) → v ≡ w → inputs_of w ≡ i
+    → IfSome o (λ (r : NextTarget). IsTrue r.more ↔ (index + 1 < length (targets_of v.netlist (netlist.port_of v.netlist from))))
+    → IfSome o (λ (r : NextTarget). IsTrue r.more ↔ (index + 1 < length ((system_of i).targets (port_of (system_of i) from))))
+reached_more v w i from index o e s h =
+    subst (λ (lib : Library). IfSome o (λ (r : NextTarget). IsTrue r.more ↔ (index + 1 < length (targets_of lib (netlist.port_of lib from)))))
     (library_seen v w i e s) h
 
 -- ---- Variables
 
-pub variable_there : (v w : Whole) (i : Inputs) (x : Place) → v ≡ w → inputs_of w ≡ i → IsVariable (system_of i) x → netlist.IsVariable v.netlist x
+pub variable_there : (v w : Whole) (i : Inputs) (x : InstanceVariable) → v ≡ w → inputs_of w ≡ i → IsVariable (system_of i) x → netlist.IsVariable v.netlist x
 variable_there v w i x e s h =
     subst (λ (lib : Library). netlist.IsVariable lib x) (sym (library_seen v w i e s)) (record { instance = h.instance; variable = h.variable })
 
-sources_up : (i : Inputs) (o : Option Place) → IfSome o (netlist.IsSource i.library) → IfSome o (IsSource (system_of i))
+sources_up : (i : Inputs) (o : Option InstanceVariable) → IfSome o (netlist.IsSource i.library) → IfSome o (IsSource (system_of i))
 sources_up i None h = h
 sources_up i (Some x) h = record { variable = record { instance = h.variable.instance; variable = h.variable.variable }; composite = h.composite }
 
 pub sources_seen :
-    (v w : Whole) (i : Inputs) (o : Option Place) → v ≡ w → inputs_of w ≡ i → IfSome o (netlist.IsSource v.netlist)
+    (v w : Whole) (i : Inputs) (o : Option InstanceVariable) → v ≡ w → inputs_of w ≡ i → IfSome o (netlist.IsSource v.netlist)
     → IfSome o (IsSource (system_of i))
 sources_seen v w i o e s h =
     sources_up i o (subst (λ (lib : Library). IfSome o (netlist.IsSource lib)) (library_seen v w i e s) h)
 
 pub comes_seen :
-    (v w : Whole) (i : Inputs) (to : Place) (o : Option Place) → v ≡ w → inputs_of w ≡ i
+    (v w : Whole) (i : Inputs) (to : InstanceVariable) (o : Option InstanceVariable) → v ≡ w → inputs_of w ≡ i
     → option_map (netlist.variable_of v.netlist) o ≡ source_of v.netlist (netlist.variable_of v.netlist to)
     → option_map (variable_of (system_of i)) o ≡ (system_of i).source (variable_of (system_of i) to)
 comes_seen v w i to o e s h =

@@ -18,7 +18,7 @@ use Rattle.fb_types.proofs.Elements.{Contains-map}
 use Rattle.fb_types.proofs.Positions.{position_of_once, named_of_once}
 use Rattle.fb_system.specs.declared.layout.InstanceRow.{InstanceRow}
 use Rattle.fb_system.specs.Layers.{Around, path_under, route_under}
-use Rattle.fb_system.specs.Layouts.{path_of, place_at, route_to, IsParent}
+use Rattle.fb_system.specs.Layouts.{path_of, index_at, route_to, IsParent}
 use Rattle.fb_system.proofs.Inside.{composite_known, composite_of_inside}
 use Rattle.fb_system.proofs.Distinct.{AreOnce}
 
@@ -135,21 +135,21 @@ pub record IsSite (lib : Library) (p : Path) (net : Network) : Type 0 where
   pub once : ¬ (Twice (instance_names net))
 
 pub instance_is :
-    (lib : Library) (p : Path) (net : Network) (place : ℕ) (i : Instance) → IsSite lib p net → slice_get net.instances place ≡ Some i
+    (lib : Library) (p : Path) (net : Network) (index : ℕ) (i : Instance) → IsSite lib p net → slice_get net.instances index ≡ Some i
     → instance_at lib (i.name ∷ p) ≡ Some i
-instance_is lib p net place i site at =
+instance_is lib p net index i site at =
     ap (option_and_then (λ (net : Network). instance_in net i.name)) site.network
-    ∙ named_of_once (λ (i : Instance). i.name) net.instances place i site.once at
+    ∙ named_of_once (λ (i : Instance). i.name) net.instances index i site.once at
 
 pub inside_is :
-    (lib : Library) (p : Path) (net : Network) (place : ℕ) (i : Instance) → IsSite lib p net → slice_get net.instances place ≡ Some i
+    (lib : Library) (p : Path) (net : Network) (index : ℕ) (i : Instance) → IsSite lib p net → slice_get net.instances index ≡ Some i
     → network_at lib (i.name ∷ p) ≡ inside lib i
-inside_is lib p net place i site at = ap (option_and_then (inside lib)) (instance_is lib p net place i site at)
+inside_is lib p net index i site at = ap (option_and_then (inside lib)) (instance_is lib p net index i site at)
 
-pub place_is :
-    (lib : Library) (p : Path) (net : Network) (place : ℕ) (i : Instance) → IsSite lib p net → slice_get net.instances place ≡ Some i
-    → place_at lib p i.name ≡ place
-place_is lib p net place i site at =
+pub index_is :
+    (lib : Library) (p : Path) (net : Network) (index : ℕ) (i : Instance) → IsSite lib p net → slice_get net.instances index ≡ Some i
+    → index_at lib p i.name ≡ index
+index_is lib p net index i site at =
     let P : Option Network → ℕ = λ o. elim o [ None ↦ 0 | Some net ↦ unwrap_or (position (same_name i.name) (instance_names net)) 0 ] in
     ap P site.network
-    ∙ ap (λ (o : Option ℕ). unwrap_or o 0) (position_of_once (λ (i : Instance). i.name) net.instances place i site.once at)
+    ∙ ap (λ (o : Option ℕ). unwrap_or o 0) (position_of_once (λ (i : Instance). i.name) net.instances index i site.once at)

@@ -40,11 +40,11 @@ none_around lib i r o is h e =
 
 pub none_last : (lib : Library) (i : ℕ) (r : InstanceRow) (o : Option ℕ) (route : List ℕ) → IsRow lib i r → o ≡ last_of route → route ≡ r.route → o ≡ None → ⊥
 none_last lib i r o route is h same e =
-    let g : None ≡ Some is.placed.place = sym e ∙ h ∙ ap last_of same ∙ last_of_route lib i r is in cc
+    let g : None ≡ Some is.placed.index = sym e ∙ h ∙ ap last_of same ∙ last_of_route lib i r is in cc
 
-place_is : (lib : Library) (i : ℕ) (r : InstanceRow) (o : Option ℕ) (route : List ℕ) (place : ℕ) → (is : IsRow lib i r) → o ≡ last_of route → route ≡ r.route → o ≡ Some place → place ≡ is.placed.place
-place_is lib i r o route place is h same e =
-    same_Some place is.placed.place (sym e ∙ h ∙ ap last_of same ∙ last_of_route lib i r is)
+index_is : (lib : Library) (i : ℕ) (r : InstanceRow) (o : Option ℕ) (route : List ℕ) (index : ℕ) → (is : IsRow lib i r) → o ≡ last_of route → route ≡ r.route → o ≡ Some index → index ≡ is.placed.index
+index_is lib i r o route index is h same e =
+    same_Some index is.placed.index (sym e ∙ h ∙ ap last_of same ∙ last_of_route lib i r is)
 
 network_is :
     (lib : Library) (i : ℕ) (r : InstanceRow) (o : Option (Bor Network)) (net : Bor Network) → (is : IsRow lib i r) → option_copied o ≡ network_at lib (path_around lib r.parent)
@@ -54,12 +54,12 @@ network_is lib i r o net is h e =
 
 -- the instance at its index in the network that is read
 pub declared_there :
-    (lib : Library) (i : ℕ) (r : InstanceRow) (o : Option (Bor Network)) (net : Bor Network) (q : Option ℕ) (route : List ℕ) (place : ℕ) (all : List Instance) → (is : IsRow lib i r)
-    → option_copied o ≡ network_at lib (path_around lib r.parent) → o ≡ Some net → q ≡ last_of route → route ≡ r.route → q ≡ Some place → all ≡ net.now.instances
-    → slice_get all place ≡ Some is.placed.instance
-declared_there lib i r o net q route place all is h e last same f read =
-    ap (λ (xs : List Instance). slice_get xs place) (read ∙ ap (λ (n : Network). n.instances) (network_is lib i r o net is h e))
-    ∙ ap (slice_get is.placed.network.instances) (place_is lib i r q route place is last same f)
+    (lib : Library) (i : ℕ) (r : InstanceRow) (o : Option (Bor Network)) (net : Bor Network) (q : Option ℕ) (route : List ℕ) (index : ℕ) (all : List Instance) → (is : IsRow lib i r)
+    → option_copied o ≡ network_at lib (path_around lib r.parent) → o ≡ Some net → q ≡ last_of route → route ≡ r.route → q ≡ Some index → all ≡ net.now.instances
+    → slice_get all index ≡ Some is.placed.instance
+declared_there lib i r o net q route index all is h e last same f read =
+    ap (λ (xs : List Instance). slice_get xs index) (read ∙ ap (λ (n : Network). n.instances) (network_is lib i r o net is h e))
+    ∙ ap (slice_get is.placed.network.instances) (index_is lib i r q route index is last same f)
     ∙ is.placed.is_instance
 
 pub none_got : {A : Type 0} (o : Option (Bor A)) (p : Option A) (x : A) → option_copied o ≡ p → p ≡ Some x → o ≡ None → ⊥
@@ -76,12 +76,12 @@ declared_is lib layout app blocks i r are within is =
     let s = is.placed in
     let wired = around_wired lib layout app blocks r.parent s.network are (parent_within lib i r.parent within is.parent_is) (around_there lib i r is) in
     let same : wired.1.network ≡ s.network = same_Some wired.1.network s.network (sym wired.1.is_network ∙ around_there lib i r is) in
-    let there : slice_get wired.1.network.instances s.place ≡ Some s.instance =
-    ap (λ (n : Network). slice_get n.instances s.place) same ∙ s.is_instance in
+    let there : slice_get wired.1.network.instances s.index ≡ Some s.instance =
+    ap (λ (n : Network). slice_get n.instances s.index) same ∙ s.is_instance in
     ap (instance_at lib) s.is_path
     ∙ ap (option_and_then (λ (n : Network). instance_in n s.instance.name)) s.is_network
     ∙ ap (λ (n : Network). instance_in n s.instance.name) (sym same)
-    ∙ named_of_once (λ (x : Instance). x.name) wired.1.network.instances s.place s.instance wired.1.once there
+    ∙ named_of_once (λ (x : Instance). x.name) wired.1.network.instances s.index s.instance wired.1.once there
 
 -- ---- Parameters
 
@@ -93,17 +93,17 @@ none_wired lib i r o is h e =
 
 -- the parameters by number of the instance at its index
 pub parameters_there :
-    (lib : Library) (i : ℕ) (r : InstanceRow) (w : NetworkNumbers) (q : Option ℕ) (route : List ℕ) (place : ℕ) (all : List (List ℕ)) → (is : IsRow lib i r)
-    → IsWired lib (path_around lib r.parent) w → q ≡ last_of route → route ≡ r.route → q ≡ Some place → all ≡ w.parameters
-    → (ks : List ℕ) × (slice_get all place ≡ Some ks) × (parameter_numbers lib is.placed.instance ≡ Some ks)
-parameters_there lib i r w q route place all is wired last same f read =
+    (lib : Library) (i : ℕ) (r : InstanceRow) (w : NetworkNumbers) (q : Option ℕ) (route : List ℕ) (index : ℕ) (all : List (List ℕ)) → (is : IsRow lib i r)
+    → IsWired lib (path_around lib r.parent) w → q ≡ last_of route → route ≡ r.route → q ≡ Some index → all ≡ w.parameters
+    → (ks : List ℕ) × (slice_get all index ≡ Some ks) × (parameter_numbers lib is.placed.instance ≡ Some ks)
+parameters_there lib i r w q route index all is wired last same f read =
     let s = is.placed in
     let net : wired.network ≡ s.network = same_Some wired.network s.network (sym wired.is_network ∙ around_there lib i r is) in
-    let there : slice_get wired.network.instances place ≡ Some s.instance =
-    ap (λ (n : Network). slice_get n.instances place) net
-    ∙ ap (slice_get s.network.instances) (place_is lib i r q route place is last same f) ∙ s.is_instance in
-    let at = each_at (parameter_numbers lib) wired.network.instances w.parameters place s.instance wired.numbers.parameters there in
-    (at.0, ap (λ (ks : List (List ℕ)). slice_get ks place) read ∙ at.1, at.2)
+    let there : slice_get wired.network.instances index ≡ Some s.instance =
+    ap (λ (n : Network). slice_get n.instances index) net
+    ∙ ap (slice_get s.network.instances) (index_is lib i r q route index is last same f) ∙ s.is_instance in
+    let at = each_at (parameter_numbers lib) wired.network.instances w.parameters index s.instance wired.numbers.parameters there in
+    (at.0, ap (λ (ks : List (List ℕ)). slice_get ks index) read ∙ at.1, at.2)
 
 pub parameters_of_instance :
     (lib : Library) (layout : Layout) (app : NetworkNumbers) (blocks : List (Option NetworkNumbers)) (i : ℕ) (r : InstanceRow) (ks ls ms : List ℕ) (x : Instance)

@@ -22,7 +22,7 @@ use Rattle.fb_system.specs.declared.rows.StimulusRow.{StimulusRow}
 use Rattle.fb_system.specs.Stimuli.{IsStimulusAt, set_of}
 use Rattle.fb_system.specs.Systems.{inputs_of, StandFor}
 use Rattle.fb_system.specs.declared.whole.Whole.{Whole}
-use Rattle.fb_types.proofs.ByPlace.{all_at, element_at}
+use Rattle.fb_types.proofs.ByIndex.{all_at, element_at}
 
 -- ---- The rows
 
@@ -37,19 +37,19 @@ row_within v w i k is e s h = let counted = (rows_seen v w i is e s).counted in 
 
 -- the path of an instance of the application, by its index
 path_there :
-    (lib : Library) (is : List Instance) (numbers : List ℕ) (place : ℕ) (n : ℕ) (x : Instance) → AreNumbers lib [] is numbers → slice_get numbers place ≡ Some n
-    → slice_get is place ≡ Some x → path_of lib n ≡ x.name ∷ []
-path_there lib is numbers place n x are number instance =
+    (lib : Library) (is : List Instance) (numbers : List ℕ) (index : ℕ) (n : ℕ) (x : Instance) → AreNumbers lib [] is numbers → slice_get numbers index ≡ Some n
+    → slice_get is index ≡ Some x → path_of lib n ≡ x.name ∷ []
+path_there lib is numbers index n x are number instance =
     same_Some (path_of lib n) (x.name ∷ [])
-    (ap (option_map (path_of lib)) (sym number) ∙ sym (slice_get-map (path_of lib) numbers place)
-    ∙ ap (λ (ps : List Path). slice_get ps place) are.paths
-    ∙ slice_get-map (λ (i : Instance). i.name ∷ []) is place ∙ ap (option_map (λ (i : Instance). i.name ∷ [])) instance)
+    (ap (option_map (path_of lib)) (sym number) ∙ sym (slice_get-map (path_of lib) numbers index)
+    ∙ ap (λ (ps : List Path). slice_get ps index) are.paths
+    ∙ slice_get-map (λ (i : Instance). i.name ∷ []) is index ∙ ap (option_map (λ (i : Instance). i.name ∷ [])) instance)
 
 pub number_there :
-    (lib : Library) (is : List Instance) (numbers : List ℕ) (place : ℕ) (x : Instance) → AreNumbers lib [] is numbers → slice_get is place ≡ Some x
-    → place < length numbers
-number_there lib is numbers place x are instance =
-    let within : place < length is = slice_get_within is place x instance in
+    (lib : Library) (is : List Instance) (numbers : List ℕ) (index : ℕ) (x : Instance) → AreNumbers lib [] is numbers → slice_get is index ≡ Some x
+    → index < length numbers
+number_there lib is numbers index x are instance =
+    let within : index < length is = slice_get_within is index x instance in
     let counted : length numbers ≡ length is =
     sym (length-map numbers (path_of lib)) ∙ ap (λ (ps : List Path). length ps) are.paths ∙ length-map is (λ (i : Instance). i.name ∷ []) in
     omega (arith, within, counted)
@@ -91,6 +91,6 @@ stimulus_stands i rows k row top n sets are there numbers number same =
       };
       input = refl;
       sets = ap (map (set_of sys n)) same ∙ ap (λ (p : Ports). map (set_at p.inputs) row.sets) its ∙ is.sets.named;
-      within = subst (λ (xs : List SlotValue). All (λ (x : SlotValue). x.place < length (ports_at sys (path_at sys n)).inputs) xs) (sym same)
-          (subst (λ (p : Ports). All (λ (x : SlotValue). x.place < length p.inputs) row.sets) (sym its) is.sets.within);
+      within = subst (λ (xs : List SlotValue). All (λ (x : SlotValue). x.index < length (ports_at sys (path_at sys n)).inputs) xs) (sym same)
+          (subst (λ (p : Ports). All (λ (x : SlotValue). x.index < length p.inputs) row.sets) (sym its) is.sets.within);
     }

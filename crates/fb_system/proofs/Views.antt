@@ -7,11 +7,11 @@ use Rattle.fb_check_names.specs.Numbers.{kind_of_number, parameter_numbers}
 use Rattle.fb_system.specs.Layouts.{AreComponents, IsRow, path_of}
 use Rattle.fb_system.specs.declared.layout.InstanceRow.{InstanceRow}
 use Rattle.fb_types.specs.declared.run.Target.{Target}
-use Rattle.fb_types.specs.declared.run.Place.{Place}
+use Rattle.fb_types.specs.declared.run.InstanceVariable.{InstanceVariable}
 use Rattle.fb_system.specs.Netlists.{IsPort, IsVariable, port_of, variable_of}
-use Rattle.fb_system.specs.declared.reached.Reached.{Reached}
+use Rattle.fb_system.specs.declared.next_target.NextTarget.{NextTarget}
 use Rattle.fb_types.specs.Names.{Port}
-use Rattle.fb_check_names.specs.declared.numbers.WireEnd.{WireEnd}
+use Rattle.fb_check_names.specs.declared.numbers.ConnectionEnd.{ConnectionEnd}
 use Rattle.std.specs.Prelude.{IfSome, IsTrue, ◌↔◌, option_map, slice_get}
 use Rattle.fb_system.specs.Networks.{IsNetlist}
 use Rattle.fb_system.specs.declared.tables.Tables.{Tables}
@@ -53,31 +53,31 @@ parameters_seen t lib i ks e h = subst (λ (lib : Library). AreParameters lib i 
 pub port_of_tables : (t : Tables) (lib : Library) (x : Target) → t.library ≡ lib → IsPort lib x → IsPort t.library x
 port_of_tables t lib x e h = subst (λ (lib : Library). IsPort lib x) (sym e) h
 
-pub variable_of_tables : (t : Tables) (lib : Library) (x : Place) → t.library ≡ lib → IsVariable lib x → IsVariable t.library x
+pub variable_of_tables : (t : Tables) (lib : Library) (x : InstanceVariable) → t.library ≡ lib → IsVariable lib x → IsVariable t.library x
 variable_of_tables t lib x e h = subst (λ (lib : Library). IsVariable lib x) (sym e) h
 
-abbrev Leads : Library → Target → ℕ → Option Reached → Type 0
-Leads lib from place result = option_map (λ r. port_of lib r.target) result ≡ slice_get (targets_of lib (port_of lib from)) place
+abbrev Leads : Library → Target → ℕ → Option NextTarget → Type 0
+Leads lib from index result = option_map (λ r. port_of lib r.target) result ≡ slice_get (targets_of lib (port_of lib from)) index
 
 pub leads_seen :
-    (t : Tables) (lib : Library) (from : Target) (place : ℕ) (qs : List Port) (result : Option Reached) → t.library ≡ lib
-    → option_map (λ (r : Reached). port_of t.library r.target) result ≡ slice_get qs place → qs ≡ targets_of t.library (port_of t.library from) → Leads lib from place result
-leads_seen t lib from place qs result e h all =
-    subst (λ (lib : Library). Leads lib from place result) e (h ∙ ap (λ (qs : List Port). slice_get qs place) all)
+    (t : Tables) (lib : Library) (from : Target) (index : ℕ) (qs : List Port) (result : Option NextTarget) → t.library ≡ lib
+    → option_map (λ (r : NextTarget). port_of t.library r.target) result ≡ slice_get qs index → qs ≡ targets_of t.library (port_of t.library from) → Leads lib from index result
+leads_seen t lib from index qs result e h all =
+    subst (λ (lib : Library). Leads lib from index result) e (h ∙ ap (λ (qs : List Port). slice_get qs index) all)
 
-abbrev FollowsIn : List Port → ℕ → Reached → Type 0
-FollowsIn qs place r = IsTrue r.more ↔ (place + 1 < length qs)
+abbrev FollowsIn : List Port → ℕ → NextTarget → Type 0
+FollowsIn qs index r = IsTrue r.more ↔ (index + 1 < length qs)
 
 pub more_seen :
-    (t : Tables) (lib : Library) (from : Target) (place : ℕ) (e : WireEnd) (qs : Port → List Port) (IsEnd : WireEnd → Port → Type 0) (result : Option Reached) → t.library ≡ lib
-    → IfSome result (λ r. (q : Port) → IsEnd e q → FollowsIn (qs q) place r) → IsEnd e (port_of t.library from)
-    → qs (port_of t.library from) ≡ targets_of t.library (port_of t.library from) → IfSome result (FollowsIn (targets_of lib (port_of lib from)) place)
-more_seen t lib from place e qs IsEnd None same h end all = tt
-more_seen t lib from place e qs IsEnd (Some r) same h end all =
-    subst (λ (lib : Library). FollowsIn (targets_of lib (port_of lib from)) place r) same
-    (subst (λ (qs : List Port). FollowsIn qs place r) all (h (port_of t.library from) end))
+    (t : Tables) (lib : Library) (from : Target) (index : ℕ) (e : ConnectionEnd) (qs : Port → List Port) (IsEnd : ConnectionEnd → Port → Type 0) (result : Option NextTarget) → t.library ≡ lib
+    → IfSome result (λ r. (q : Port) → IsEnd e q → FollowsIn (qs q) index r) → IsEnd e (port_of t.library from)
+    → qs (port_of t.library from) ≡ targets_of t.library (port_of t.library from) → IfSome result (FollowsIn (targets_of lib (port_of lib from)) index)
+more_seen t lib from index e qs IsEnd None same h end all = tt
+more_seen t lib from index e qs IsEnd (Some r) same h end all =
+    subst (λ (lib : Library). FollowsIn (targets_of lib (port_of lib from)) index r) same
+    (subst (λ (qs : List Port). FollowsIn qs index r) all (h (port_of t.library from) end))
 
 pub comes_seen :
-    (t : Tables) (lib : Library) (x : Place) (o : Option Port) (result : Option Place) → t.library ≡ lib
+    (t : Tables) (lib : Library) (x : InstanceVariable) (o : Option Port) (result : Option InstanceVariable) → t.library ≡ lib
     → option_map (variable_of t.library) result ≡ o → o ≡ source_of t.library (variable_of t.library x) → option_map (variable_of lib) result ≡ source_of lib (variable_of lib x)
 comes_seen t lib x o result e h all = subst (λ (lib : Library). option_map (variable_of lib) result ≡ source_of lib (variable_of lib x)) e (h ∙ all)

@@ -20,11 +20,11 @@ use Rattle.fb_check_names.specs.declared.numbers.NetworkNumbers.{NetworkNumbers}
 use Rattle.fb_check_names.specs.declared.numbers.TypeNumber.{TypeNumber}
 use Rattle.fb_check_names.specs.declared.numbers.TypeNumber.TheVariants as number
 use Rattle.fb_check_names.specs.Numbers.{IsNetwork, kind_of_number}
-use Rattle.fb_system.specs.Layouts.{AreComponents, AreNumbers, IsParent, IsPlaced, IsRow, path_of, place_at, route_to}
+use Rattle.fb_system.specs.Layouts.{AreComponents, AreNumbers, IsParent, IsPlaced, IsRow, path_of, index_at, route_to}
 use Rattle.fb_system.specs.declared.layout.Layout.{Layout}
 use Rattle.fb_system.specs.declared.layout.InstanceRow.{InstanceRow}
 use Rattle.fb_system.specs.Networks.{AreTables, IsAround, IsThere, IsWired, composite_of, path_around}
-use Rattle.fb_types.proofs.ByPlace.{element_at, all_at}
+use Rattle.fb_types.proofs.ByIndex.{element_at, all_at}
 use Rattle.fb_system.proofs.Differing.{instances_once}
 
 -- ---- Elements at indices
@@ -131,10 +131,10 @@ inside_declared lib layout app blocks i k r o are is e there =
     (network_by_kind lib i is.placed ∙ ap (option_and_then network_of) kind)
 
 -- the index of the type is one of the tables'
-pub place_declared :
+pub index_declared :
     (lib : Library) (layout : Layout) (app : NetworkNumbers) (blocks : List (Option NetworkNumbers)) (i k : ℕ) (r : InstanceRow)
     → AreTables lib layout app blocks → IsRow lib i r → r.kind ≡ number.Declared k → k < length blocks
-place_declared lib layout app blocks i k r are is e =
+index_declared lib layout app blocks i k r are is e =
     let numbered : kind_of_number lib (number.Declared k) ≡ Some is.kind = row_kind lib i r (number.Declared k) is e ∙ is.is_kind in
     let b = block_of_number lib k is.kind numbered in
     let h : k < length lib.blocks = slice_get_within lib.blocks k b.0 b.1 in
@@ -152,7 +152,7 @@ row_wired :
 row_wired lib layout app blocks i r (number.Event k) net are is e h =
     let none : None ≡ Some net = sym (inside_event lib i r k is e) ∙ h in absurd (cc)
 row_wired lib layout app blocks i r (number.Declared k) net are is e h =
-    let o = element_at blocks k (place_declared lib layout app blocks i k r are is e) in
+    let o = element_at blocks k (index_declared lib layout app blocks i k r are is e) in
     elim o.0 as (λ o. HasInside lib (path_of lib i) o → (x : NetworkNumbers) × IsWired lib (path_of lib i) x) [
       | None ↦ λ none. absurd (let clash : None ≡ Some net = sym none ∙ h in cc)
       | Some x ↦ λ wired. (x, wired)
@@ -186,12 +186,12 @@ pub parent_within : (lib : Library) (i : ℕ) (o : Option ℕ) → i < length (p
 parent_within lib i None within h = tt
 parent_within lib i (Some j) within h = omega (arith, within, h.0)
 
-pub last_of_route : (lib : Library) (i : ℕ) (r : InstanceRow) → (is : IsRow lib i r) → last_of r.route ≡ Some is.placed.place
+pub last_of_route : (lib : Library) (i : ℕ) (r : InstanceRow) → (is : IsRow lib i r) → last_of r.route ≡ Some is.placed.index
 last_of_route lib i r is =
     let n = is.placed.instance.name in
     let p = parent (path_of lib i) in
-    ap last_of is.route ∙ ap (λ (q : Path). last_of (route_to lib q)) is.placed.is_path ∙ last_pushed (route_to lib p) (place_at lib p n)
-    ∙ ap (λ k. Some k) is.placed.is_place
+    ap last_of is.route ∙ ap (λ (q : Path). last_of (route_to lib q)) is.placed.is_path ∙ last_pushed (route_to lib p) (index_at lib p n)
+    ∙ ap (λ k. Some k) is.placed.is_index
 
 pub stands_there : (lib : Library) (i : ℕ) (r : InstanceRow) → (is : IsRow lib i r) → IsThere lib (parent (path_of lib i)) (last_of r.route) (path_of lib i)
 stands_there lib i r is =
@@ -270,7 +270,7 @@ pub inside_found :
     → option_copied s ≡ o → MatchOption s (network_at lib (path_around lib around) ≡ None) (λ w. IsWired lib (path_around lib around) w.now)
 inside_found lib layout app blocks items around i k r o s are is kind e same read copied =
     let P : Option ℕ → Type 0 = λ around. MatchOption s (network_at lib (path_around lib around) ≡ None) (λ w. IsWired lib (path_around lib around) w.now) in
-    let within = place_declared lib layout app blocks i k r are is kind in
+    let within = index_declared lib layout app blocks i k r are is kind in
     let there : slice_get blocks k ≡ Some o =
     slice_get_read blocks (length blocks) k o refl within (subst (λ (xs : List (Option NetworkNumbers)). o ≡ get_or xs k o) same read) in
     subst P (sym e) (seen_inside lib (path_of lib i) s o copied (inside_declared lib layout app blocks i k r o are is kind there))

@@ -20,18 +20,18 @@ use Rattle.fb_types.specs.declared.library.Variable.{Variable}
 use Rattle.fb_types.specs.declared.deploy.Plan.{Plan}
 use Rattle.fb_check_names.specs.Catalog.{IsCatalog, IsBlock}
 use Rattle.fb_check_names.specs.GivenTwice.{TwiceIn, BlockTwice}
-use Rattle.fb_check_names.specs.Places.{IsIndex}
-use Rattle.fb_check_names.specs.declared.catalog.BlockPlaces.{BlockPlaces}
+use Rattle.fb_check_names.specs.Indexes.{IsIndex}
+use Rattle.fb_check_names.specs.declared.catalog.BlockIndexes.{BlockIndexes}
 use Rattle.fb_check_names.specs.declared.catalog.Catalog.{Catalog}
 use Rattle.fb_types.proofs.NameLaws.{contains_from_any, any_from_contains}
 use Rattle.fb_types.proofs.Elements.{Contains-map, Contains-flat_map}
 use Rattle.fb_types.proofs.Positions.{position_of_once}
 use Rattle.fb_types.proofs.TwiceLaws.{Twice-append_left, Twice-append_right}
 use Rattle.fb_check_names.proofs.NameTwice.{block_twice}
-use Rattle.fb_types.proofs.ByPlace.{slice_get-append_left, slice_get-push, slice_get-after, element_of_place}
+use Rattle.fb_types.proofs.ByIndex.{slice_get-append_left, slice_get-push, slice_get-after, element_of_index}
 use Rattle.fb_system.specs.Lookups.{StandFrom, AreEvents, IsPlaced}
-use Rattle.fb_system.specs.declared.with_places.WithPlaces.{WithPlaces}
-use Rattle.fb_system.specs.Stands.{AreWithPlaces}
+use Rattle.fb_system.specs.declared.with_indexes.WithIndexes.{WithIndexes}
+use Rattle.fb_system.specs.Stands.{AreWithIndexes}
 use Rattle.fb_system.specs.Tables.{AreBlocks, AreOfBlocksUpTo}
 
 -- ---- Lists
@@ -48,13 +48,13 @@ position_once ns i n once h =
 -- ---- Variables among all names
 
 stand_from :
-    (before : List Name) (vs : List Variable) (after : List Name) (places : BTreeMap (Bor Name) ℕ) → IsIndex ((before ++ variable_names vs) ++ after) places
-    → StandFrom (length before) vs places
-stand_from before vs after places index = record {
+    (before : List Name) (vs : List Variable) (after : List Name) (indexes : BTreeMap (Bor Name) ℕ) → IsIndex ((before ++ variable_names vs) ++ after) indexes
+    → StandFrom (length before) vs indexes
+stand_from before vs after indexes index = record {
   once = λ t. index.once (Twice-append_left (before ++ variable_names vs) after (Twice-append_right before (variable_names vs) t));
-  place = λ k v h.
+  index = λ k v h.
       let named : slice_get (variable_names vs) k ≡ Some v.name = slice_get-map (λ (v : Variable). v.name) vs k ∙ ap (option_map (λ (v : Variable). v.name)) h in
-      index.place v.name
+      index.index v.name
       ∙ position_once ((before ++ variable_names vs) ++ after) (length before + k) v.name index.once
       (slice_get-append_left (before ++ variable_names vs) after (length before + k) v.name (slice_get-after before (variable_names vs) k ∙ named));
 }
@@ -102,7 +102,7 @@ events_are :
 events_are lib plan t vs events once known there differ among lists = record {
   once = differ;
   lists = λ i e h.
-      let c = element_of_place events i e h in
+      let c = element_of_index events i e h in
       record {
         once = list_once lib plan t e once there (among e c);
         known = λ n m.
@@ -116,7 +116,7 @@ events_are lib plan t vs events once known there differ among lists = record {
 -- ---- A block type
 
 interface_is :
-    (lib : Library) (plan : Plan) (t : BlockType) (x : BlockPlaces) → ¬ (NameTwice lib plan) → ¬ (NameUnknown lib plan) → Contains lib.blocks t → IsBlock t x
+    (lib : Library) (plan : Plan) (t : BlockType) (x : BlockIndexes) → ¬ (NameTwice lib plan) → ¬ (NameUnknown lib plan) → Contains lib.blocks t → IsBlock t x
     → IsPlaced (ports_of (kind_of t)) x.ports
 interface_is lib plan t x once known there is =
     let p = ports_of (kind_of t) in
@@ -146,17 +146,17 @@ interface_is lib plan t x once known there is =
 pub blocks_are : (lib : Library) (plan : Plan) (c : Catalog) → IsCatalog lib plan c → ¬ (NameUnknown lib plan) → AreBlocks lib.blocks c.blocks.items
 blocks_are lib plan c is known = record {
   counted = is.counted;
-  each = λ k t x h g. interface_is lib plan t x is.once known (element_of_place lib.blocks k t h) (is.blocks k t x h g);
+  each = λ k t x h g. interface_is lib plan t x is.once known (element_of_index lib.blocks k t h) (is.blocks k t x h g);
 }
 
 -- one more block type
 pub blocks_more :
-    (n : ℕ) (ts : List BlockType) (all more : List WithPlaces) (t : BlockType) (x : WithPlaces) → slice_get ts n ≡ Some t → AreWithPlaces (ports_of (kind_of t)) x
+    (n : ℕ) (ts : List BlockType) (all more : List WithIndexes) (t : BlockType) (x : WithIndexes) → slice_get ts n ≡ Some t → AreWithIndexes (ports_of (kind_of t)) x
     → AreOfBlocksUpTo n ts all → more ≡ all ++ x ∷ [] → AreOfBlocksUpTo (n + 1) ts more
 blocks_more n ts all more t x there is so_far grown =
-    let P : ℕ → WithPlaces → Type 0 = λ i y. (u : BlockType) → slice_get ts i ≡ Some u → AreWithPlaces (ports_of (kind_of u)) y in
-    let Q : List WithPlaces → Type 0 = λ l. AreOfBlocksUpTo (n + 1) ts l in
-    let here : P n x = λ u h. let same : t ≡ u = same_Some t u (sym there ∙ h) in subst (λ (v : BlockType). AreWithPlaces (ports_of (kind_of v)) x) same is in
+    let P : ℕ → WithIndexes → Type 0 = λ i y. (u : BlockType) → slice_get ts i ≡ Some u → AreWithIndexes (ports_of (kind_of u)) y in
+    let Q : List WithIndexes → Type 0 = λ l. AreOfBlocksUpTo (n + 1) ts l in
+    let here : P n x = λ u h. let same : t ≡ u = same_Some t u (sym there ∙ h) in subst (λ (v : BlockType). AreWithIndexes (ports_of (kind_of v)) x) same is in
     subst Q (sym grown) (record {
       counted = length-append all (x ∷ []) ∙ ap (λ m. m + 1) so_far.counted;
       each = λ k u y h g. slice_get-push P all x (λ k y g u h. so_far.each k u y h g) (subst (λ (m : ℕ). P m x) (sym so_far.counted) here) k y g u h;

@@ -2,21 +2,21 @@
 use Rattle.std.specs.Prelude.{◌≡◌, ℕ, ◌<◌, ◌+◌, ◌↔◌, List, Option, length, All, IfSome, IsTrue, option_map, slice_get}
 use Rattle.fb_types.specs.Numbers.{port_of}
 use Rattle.fb_types.specs.Systems.{System}
-use Rattle.fb_types.specs.declared.run.Place.{Place}
+use Rattle.fb_types.specs.declared.run.InstanceVariable.{InstanceVariable}
 use Rattle.fb_types.specs.declared.run.Target.{Target}
-use Rattle.fb_system.specs.declared.reached.Reached.{Reached}
+use Rattle.fb_system.specs.declared.next_target.NextTarget.{NextTarget}
 use Rattle.fb_system.specs.Ports.{IsSource, IsTarget, variable_of}
 use Rattle.fb_system.specs.declared.ends.SourceRow.{SourceRow}
 use Rattle.fb_system.specs.declared.ends.TargetRow.{TargetRow}
 
 -- Where the event connection with an index among those from a port leads, if there is one.
-pub record LeadsTo (sys : System) (from : Target) (place : ℕ) (o : Option Reached) : Type 0 where
-  pub leads : option_map (λ (r : Reached). port_of sys r.target) o ≡ slice_get (sys.targets (port_of sys from)) place
-  pub within : IfSome o (λ (r : Reached). IsTarget sys r.target)
-  pub more : IfSome o (λ (r : Reached). IsTrue r.more ↔ (place + 1 < length (sys.targets (port_of sys from))))
+pub record LeadsTo (sys : System) (from : Target) (index : ℕ) (o : Option NextTarget) : Type 0 where
+  pub leads : option_map (λ (r : NextTarget). port_of sys r.target) o ≡ slice_get (sys.targets (port_of sys from)) index
+  pub within : IfSome o (λ (r : NextTarget). IsTarget sys r.target)
+  pub more : IfSome o (λ (r : NextTarget). IsTrue r.more ↔ (index + 1 < length (sys.targets (port_of sys from))))
 
 -- What a variable is connected to, if anything.
-pub record ComesFrom (sys : System) (to : Place) (o : Option Place) : Type 0 where
+pub record ComesFrom (sys : System) (to : InstanceVariable) (o : Option InstanceVariable) : Type 0 where
   pub comes : option_map (variable_of sys) o ≡ sys.source (variable_of sys to)
   pub within : IfSome o (IsSource sys)
 

@@ -40,9 +40,9 @@ abbrev pub route_under : Around → List ℕ
 route_under None = []
 route_under (Some c) = c.1.route
 
-abbrev pub row_under : Around → Instance → TypeNumber → (place : ℕ) → (components : List ℕ) → InstanceRow
-row_under o i t place components =
-    record { path = path_under o i.name; kind = t; parent = option_map (λ c. c.0) o; route = route_under o ++ place ∷ []; components = components }
+abbrev pub row_under : Around → Instance → TypeNumber → (index : ℕ) → (components : List ℕ) → InstanceRow
+row_under o i t index components =
+    record { path = path_under o i.name; kind = t; parent = option_map (λ c. c.0) o; route = route_under o ++ index ∷ []; components = components }
 
 -- The instances of a network with all inside them: the rows, and the numbers of those in the network itself.
 pub record Layer : Type 0 where
@@ -66,13 +66,13 @@ layer_inside inside k row None = no_layer
 layer_inside inside k row (Some n) = inside (Some (k, row)) (k + 1) n.0 n.1.types
 
 -- instances from a number and an index on, where `inside` lays out what is inside them
-abbrev pub layer_among : (Around → ℕ → Network → List TypeNumber → Layer) → Library → Resolved → Around → (first place : ℕ) → List Instance → List TypeNumber → Layer
-layer_among inside lib r o first place [] ts = no_layer
-layer_among inside lib r o first place (i ∷ is) [] = no_layer
-layer_among inside lib r o first place (i ∷ is) (t ∷ ts) =
-    let row = row_under o i t place [] in
+abbrev pub layer_among : (Around → ℕ → Network → List TypeNumber → Layer) → Library → Resolved → Around → (first index : ℕ) → List Instance → List TypeNumber → Layer
+layer_among inside lib r o first index [] ts = no_layer
+layer_among inside lib r o first index (i ∷ is) [] = no_layer
+layer_among inside lib r o first index (i ∷ is) (t ∷ ts) =
+    let row = row_under o i t index [] in
     let below = layer_inside inside first row (network_inside lib r t) in
-    layer_of first row below (layer_among inside lib r o (first + 1 + length below.rows) (place + 1) is ts)
+    layer_of first row below (layer_among inside lib r o (first + 1 + length below.rows) (index + 1) is ts)
 
 -- a network, at most `depth` names deep, whose first instance has a number
 unfoldable pub layer : (depth : ℕ) → Library → Resolved → Around → (first : ℕ) → Network → List TypeNumber → Layer

@@ -17,13 +17,13 @@ abbrev pub path_of : Library → ℕ → Path
 path_of lib k = unwrap_or (slice_get (paths_of lib) k) []
 
 -- the index of a component in the network at a path
-abbrev pub place_at : Library → Path → Name → ℕ
-place_at lib p n = elim (network_at lib p) [ None ↦ 0 | Some net ↦ unwrap_or (position (same_name n) (instance_names net)) 0 ]
+abbrev pub index_at : Library → Path → Name → ℕ
+index_at lib p n = elim (network_at lib p) [ None ↦ 0 | Some net ↦ unwrap_or (position (same_name n) (instance_names net)) 0 ]
 
 -- the indices of the components on the path to an instance, from the outermost
 abbrev pub route_to : Library → Path → List ℕ
 route_to lib [] = []
-route_to lib (n ∷ p) = route_to lib p ++ place_at lib p n ∷ []
+route_to lib (n ∷ p) = route_to lib p ++ index_at lib p n ∷ []
 
 -- the numbers of the instances in the network at a path, in the order of the text
 pub record AreNumbers (lib : Library) (p : Path) (instances : List Instance) (numbers : List ℕ) : Type 0 where
@@ -43,11 +43,11 @@ IsParent lib k (Some j) = (j < k) × (path_of lib j ≡ parent (path_of lib k))
 pub record IsPlaced (lib : Library) (k : ℕ) : Type 0 where
   pub network : Network
   pub is_network : network_at lib (parent (path_of lib k)) ≡ Some network
-  pub place : ℕ
+  pub index : ℕ
   pub instance : Instance
-  pub is_instance : slice_get network.instances place ≡ Some instance
+  pub is_instance : slice_get network.instances index ≡ Some instance
   pub is_path : path_of lib k ≡ instance.name ∷ parent (path_of lib k)
-  pub is_place : place_at lib (parent (path_of lib k)) instance.name ≡ place
+  pub is_index : index_at lib (parent (path_of lib k)) instance.name ≡ index
 
 pub record IsRow (lib : Library) (k : ℕ) (r : InstanceRow) : Type 0 where
   pub text : r.path ≡ path_text (path_of lib k)

@@ -12,7 +12,7 @@ use Rattle.fb_types.specs.declared.library.Variable.{Variable}
 use Rattle.fb_types.specs.declared.run.Target.{Target}
 use Rattle.std.specs.Prelude.{List}
 use Rattle.fb_system.specs.Layouts.{path_of}
-use Rattle.fb_types.specs.declared.run.Place.{Place}
+use Rattle.fb_types.specs.declared.run.InstanceVariable.{InstanceVariable}
 
 -- the ports of an instance's type
 abbrev pub ports_here : Library → (instance : ℕ) → Ports
@@ -51,14 +51,14 @@ abbrev pub data_output : Library → (instance variable : ℕ) → Port
 data_output lib i v = record { at = path_of lib i; name = variable_at (ports_here lib i).outputs v }
 
 -- the port that a variable's numbers stand for
-abbrev pub variable_of : Library → Place → Port
+abbrev pub variable_of : Library → InstanceVariable → Port
 variable_of lib x = if x.is_output then data_output lib x.instance x.variable else data_input lib x.instance x.variable
 
 -- the variables among which it has its index
-abbrev pub variables_here : Library → Place → List Variable
+abbrev pub variables_here : Library → InstanceVariable → List Variable
 variables_here lib x = if x.is_output then (ports_here lib x.instance).outputs else (ports_here lib x.instance).inputs
 
-pub record IsVariable (lib : Library) (x : Place) : Type 0 where
+pub record IsVariable (lib : Library) (x : InstanceVariable) : Type 0 where
   pub instance : x.instance < length (paths_of lib)
   pub variable : x.variable < length (variables_here lib x)
 
@@ -74,6 +74,6 @@ pub record IsTarget (lib : Library) (t : Target) : Type 0 where
   pub composite : t.is_output ≡ true → IsCompositeHere lib t.instance
 
 -- A variable that others are connected to: a data output, or a data input of a composite, which is seen from inside.
-pub record IsSource (lib : Library) (x : Place) : Type 0 where
+pub record IsSource (lib : Library) (x : InstanceVariable) : Type 0 where
   pub variable : IsVariable lib x
   pub composite : x.is_output ≡ false → IsCompositeHere lib x.instance

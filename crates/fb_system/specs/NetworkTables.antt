@@ -4,36 +4,36 @@ use Rattle.std.specs.BTreeMap.{is_at}
 use Rattle.std.specs.List.{filter}
 use Rattle.std.specs.Map.{lookup}
 use Rattle.std.specs.Ordering.{nat_cmp}
-use Rattle.fb_check_names.specs.declared.numbers.WireEnd.{WireEnd}
+use Rattle.fb_check_names.specs.declared.numbers.ConnectionEnd.{ConnectionEnd}
 use Rattle.fb_check_names.specs.declared.numbers.NetworkNumbers.{NetworkNumbers}
-use Rattle.fb_system.specs.declared.wiring_table.WiringTable.{WiringTable}
+use Rattle.fb_system.specs.declared.connection_table.ConnectionTable.{ConnectionTable}
 use Rattle.fb_system.specs.Wirings.{same_end, targets_in}
 
 -- the ends at a port, of those at each of the first ports
-abbrev pub ends_in : List (List WireEnd) → ℕ → List WireEnd
+abbrev pub ends_in : List (List ConnectionEnd) → ℕ → List ConnectionEnd
 ends_in first port = slice_index_or first port []
 
 -- the ends at a port, of those of the later ports that have any
-abbrev pub ends_behind : List (ℕ × List WireEnd) → ℕ → List WireEnd
+abbrev pub ends_behind : List (ℕ × List ConnectionEnd) → ℕ → List ConnectionEnd
 ends_behind behind port = unwrap_or (lookup (is_at (nat_cmp port)) behind) []
 
 -- the ends at a port
-abbrev pub ends_of : List (List WireEnd) × List (ℕ × List WireEnd) → ℕ → List WireEnd
+abbrev pub ends_of : List (List ConnectionEnd) × List (ℕ × List ConnectionEnd) → ℕ → List ConnectionEnd
 ends_of row port = if nat_lt port 16 then ends_in row.0 port else ends_behind row.1 port
 
 -- the ports of a component
-abbrev pub row_of : List (List (List WireEnd) × List (ℕ × List WireEnd)) → ℕ → List (List WireEnd) × List (ℕ × List WireEnd)
+abbrev pub row_of : List (List (List ConnectionEnd) × List (ℕ × List ConnectionEnd)) → ℕ → List (List ConnectionEnd) × List (ℕ × List ConnectionEnd)
 row_of rows component = slice_index_or rows component ([], [])
 
-abbrev pub row_at : WiringTable → Option ℕ → List (List WireEnd) × List (ℕ × List WireEnd)
+abbrev pub row_at : ConnectionTable → Option ℕ → List (List ConnectionEnd) × List (ℕ × List ConnectionEnd)
 row_at t None = t.boundary
 row_at t (Some component) = row_of t.components.items component
 
 -- the ends that are connected to an end
-abbrev pub ends_at : WiringTable → WireEnd → List WireEnd
+abbrev pub ends_at : ConnectionTable → ConnectionEnd → List ConnectionEnd
 ends_at t e = ends_of (row_at t e.component) e.port
 
 -- The tables have the targets of the event connections, and the sources of the data connections, of each end.
-pub record AreTablesOf (x : NetworkNumbers) (targets sources : WiringTable) : Type 0 where
-  pub targets_are : (e : WireEnd) → ends_at targets e ≡ targets_in x e
-  pub sources_are : (e : WireEnd) → ends_at sources e ≡ map (λ w. w.from) (filter (λ w. same_end w.to e) x.data_wires)
+pub record AreTablesOf (x : NetworkNumbers) (targets sources : ConnectionTable) : Type 0 where
+  pub targets_are : (e : ConnectionEnd) → ends_at targets e ≡ targets_in x e
+  pub sources_are : (e : ConnectionEnd) → ends_at sources e ≡ map (λ w. w.from) (filter (λ w. same_end w.to e) x.data_wires)

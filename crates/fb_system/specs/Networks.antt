@@ -15,7 +15,7 @@ use Rattle.fb_types.specs.declared.library.Ports.{Ports}
 use Rattle.fb_types.specs.declared.deploy.Plan.{Plan}
 use Rattle.fb_check_names.specs.Numbers.{IsNetwork}
 use Rattle.fb_check_names.specs.Unknown.{AreBlocks}
-use Rattle.fb_check_names.specs.declared.numbers.WireEnd.{WireEnd}
+use Rattle.fb_check_names.specs.declared.numbers.ConnectionEnd.{ConnectionEnd}
 use Rattle.fb_check_names.specs.declared.numbers.NetworkNumbers.{NetworkNumbers}
 use Rattle.fb_system.specs.Layouts.{IsLayout, path_of}
 use Rattle.fb_system.specs.declared.layout.Layout.{Layout}
@@ -82,23 +82,23 @@ side None component boundary = boundary
 side (Some j) component boundary = component
 
 -- In the network at a path, an end stands for a port.
-pub record IsEndOf (lib : Library) (p : Path) (component boundary : Ports → List Name) (e : WireEnd) (q : Port) : Type 0 where
+pub record IsEndOf (lib : Library) (p : Path) (component boundary : Ports → List Name) (e : ConnectionEnd) (q : Port) : Type 0 where
   pub there : IsThere lib p e.component q.at
   pub kind : Kind
   pub is_kind : kind_at lib q.at ≡ Some kind
   pub name : slice_get (side e.component component boundary (ports_of kind)) e.port ≡ Some q.name
 
 -- the event, or the variable, from which connections leave in the network around, and those to which they lead
-abbrev pub EventLeaves : Library → Option ℕ → WireEnd → Port → Type 0
+abbrev pub EventLeaves : Library → Option ℕ → ConnectionEnd → Port → Type 0
 EventLeaves lib around e q = IsEndOf lib (path_around lib around) event_outs event_ins e q
 
-abbrev pub EventEnters : Library → Option ℕ → WireEnd → Port → Type 0
+abbrev pub EventEnters : Library → Option ℕ → ConnectionEnd → Port → Type 0
 EventEnters lib around e q = IsEndOf lib (path_around lib around) event_ins event_outs e q
 
-abbrev pub DataLeaves : Library → Option ℕ → WireEnd → Port → Type 0
+abbrev pub DataLeaves : Library → Option ℕ → ConnectionEnd → Port → Type 0
 DataLeaves lib around e q = IsEndOf lib (path_around lib around) data_outs data_ins e q
 
-abbrev pub DataEnters : Library → Option ℕ → WireEnd → Port → Type 0
+abbrev pub DataEnters : Library → Option ℕ → ConnectionEnd → Port → Type 0
 DataEnters lib around e q = IsEndOf lib (path_around lib around) data_ins data_outs e q
 
 -- ---- Along connections

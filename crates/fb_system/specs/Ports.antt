@@ -9,7 +9,7 @@ use Rattle.fb_types.specs.declared.library.EventPort.{EventPort}
 use Rattle.fb_types.specs.declared.library.Variable.{Variable}
 use Rattle.fb_types.specs.declared.run.Carried.{Carried}
 use Rattle.fb_types.specs.declared.run.Target.{Target}
-use Rattle.fb_types.specs.declared.run.Place.{Place}
+use Rattle.fb_types.specs.declared.run.InstanceVariable.{InstanceVariable}
 
 -- ---- Ports
 
@@ -26,7 +26,7 @@ pub record IsPort (sys : System) (t : Target) : Type 0 where
 -- ---- Variables
 
 -- the variables among which one has its index
-abbrev pub variables_at : System → Place → List Variable
+abbrev pub variables_at : System → InstanceVariable → List Variable
 variables_at sys x = let its = ports_at sys (path_at sys x.instance) in if x.is_output then its.outputs else its.inputs
 
 abbrev pub data_input : System → (instance variable : ℕ) → Port
@@ -38,11 +38,11 @@ data_output sys i v =
     let p = path_at sys i in record { at = p; name = unwrap_or (slice_get (variable_names (ports_at sys p).outputs) v) [] }
 
 -- the port that a variable's numbers stand for
-abbrev pub variable_of : System → Place → Port
+abbrev pub variable_of : System → InstanceVariable → Port
 variable_of sys x = if x.is_output then data_output sys x.instance x.variable else data_input sys x.instance x.variable
 
 -- a data input or a data output of an instance
-pub record IsVariable (sys : System) (x : Place) : Type 0 where
+pub record IsVariable (sys : System) (x : InstanceVariable) : Type 0 where
   pub instance : x.instance < length sys.paths
   pub variable : x.variable < length (variables_at sys x)
 
@@ -58,7 +58,7 @@ pub record IsTarget (sys : System) (t : Target) : Type 0 where
   pub composite : t.is_output ≡ true → IsCompositeAt sys t.instance
 
 -- A variable that others are connected to: a data output, or a data input of a composite, which is seen from inside.
-pub record IsSource (sys : System) (x : Place) : Type 0 where
+pub record IsSource (sys : System) (x : InstanceVariable) : Type 0 where
   pub variable : IsVariable sys x
   pub composite : x.is_output ≡ false → IsCompositeAt sys x.instance
 

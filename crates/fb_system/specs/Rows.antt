@@ -19,16 +19,16 @@ bound_of s = record { variable = s.variable; value = s.value }
 
 -- what the slot of the input at an index is set to
 abbrev pub set_at : List Variable → SlotValue → Bound
-set_at vs x = record { variable = unwrap_or (slice_get (variable_names vs) x.place) []; value = x.value }
+set_at vs x = record { variable = unwrap_or (slice_get (variable_names vs) x.index) []; value = x.value }
 
 pub record IsSet (vs : List Variable) (s : Setting) (x : SlotValue) : Type 0 where
   pub named : set_at vs x ≡ bound_of s
-  pub within : x.place < length vs
+  pub within : x.index < length vs
 
 -- the settings by number, in their order
 pub record AreSets (vs : List Variable) (ss : List Setting) (xs : List SlotValue) : Type 0 where
   pub named : map (set_at vs) xs ≡ map bound_of ss
-  pub within : All (λ x. x.place < length vs) xs
+  pub within : All (λ x. x.index < length vs) xs
 
 -- ---- Stimuli
 

@@ -7,28 +7,28 @@ use Rattle.fb_types.specs.Numbers.{event_at}
 use Rattle.fb_types.specs.declared.library.EventPort.{EventPort}
 use Rattle.fb_types.specs.declared.library.Ports.{Ports}
 use Rattle.fb_types.specs.declared.library.Variable.{Variable}
-use Rattle.fb_system.specs.declared.with_places.WithPlaces.{WithPlaces}
+use Rattle.fb_system.specs.declared.with_indexes.WithIndexes.{WithIndexes}
 
 -- the variable at an index
 abbrev pub variable_at : List Variable → ℕ → Name
 variable_at vs k = unwrap_or (slice_get (variable_names vs) k) []
 
 -- indices that stand for these names
-pub record ArePlaces (vs : List Variable) (names : List Name) (places : List ℕ) : Type 0 where
-  pub named : map (variable_at vs) places ≡ names
-  pub within : All (λ k. k < length vs) places
+pub record AreIndexes (vs : List Variable) (names : List Name) (indexes : List ℕ) : Type 0 where
+  pub named : map (variable_at vs) indexes ≡ names
+  pub within : All (λ k. k < length vs) indexes
 
 -- the indices of the variables WITH each of the first n events
-pub record ArePlacesUpTo (n : ℕ) (events : List EventPort) (variables : List Variable) (all : List (List ℕ)) : Type 0 where
+pub record AreIndexesUpTo (n : ℕ) (events : List EventPort) (variables : List Variable) (all : List (List ℕ)) : Type 0 where
   pub counted : length all ≡ n
-  pub each : (e : ℕ) (ks : List ℕ) → slice_get all e ≡ Some ks → ArePlaces variables (variables_with events variables (event_at events e)) ks
+  pub each : (e : ℕ) (ks : List ℕ) → slice_get all e ≡ Some ks → AreIndexes variables (variables_with events variables (event_at events e)) ks
 
-abbrev pub ArePlacesOfEach : List EventPort → List Variable → List (List ℕ) → Type 0
-ArePlacesOfEach events variables all = ArePlacesUpTo (length events) events variables all
+abbrev pub AreIndexesOfEach : List EventPort → List Variable → List (List ℕ) → Type 0
+AreIndexesOfEach events variables all = AreIndexesUpTo (length events) events variables all
 
 -- for each event of an interface, the indices of the variables WITH it, in the order in which they are declared
-pub record AreWithPlaces (its : Ports) (x : WithPlaces) : Type 0 where
+pub record AreWithIndexes (its : Ports) (x : WithIndexes) : Type 0 where
   pub inputs_counted : length x.inputs ≡ length its.event_inputs
-  pub inputs : (e : ℕ) (ks : List ℕ) → slice_get x.inputs e ≡ Some ks → ArePlaces its.inputs (inputs_with its (event_at its.event_inputs e)) ks
+  pub inputs : (e : ℕ) (ks : List ℕ) → slice_get x.inputs e ≡ Some ks → AreIndexes its.inputs (inputs_with its (event_at its.event_inputs e)) ks
   pub outputs_counted : length x.outputs ≡ length its.event_outputs
-  pub outputs : (e : ℕ) (ks : List ℕ) → slice_get x.outputs e ≡ Some ks → ArePlaces its.outputs (outputs_with its (event_at its.event_outputs e)) ks
+  pub outputs : (e : ℕ) (ks : List ℕ) → slice_get x.outputs e ≡ Some ks → AreIndexes its.outputs (outputs_with its (event_at its.event_outputs e)) ks

@@ -13,7 +13,7 @@ use Rattle.fb_system.specs.declared.stimulus.StimulusAt.{StimulusAt}
 
 -- a slot of an instance, with the value that it gets
 abbrev pub set_of : System → (instance : ℕ) → SlotValue → Bound
-set_of sys k x = record { variable = (data_input sys k x.place).name; value = x.value }
+set_of sys k x = record { variable = (data_input sys k x.index).name; value = x.value }
 
 -- The numbers stand for the stimulus at a row.
 pub record IsStimulusAt (i : Inputs) (row : ℕ) (x : StimulusAt) : Type 0 where
@@ -24,7 +24,7 @@ pub record IsStimulusAt (i : Inputs) (row : ℕ) (x : StimulusAt) : Type 0 where
   pub is_port : IsPort (system_of i) x.target
   pub input : x.target.is_output ≡ false
   pub sets : map (set_of (system_of i) x.target.instance) x.sets.now ≡ stimulus.sets
-  pub within : All (λ s. s.place < length (ports_at (system_of i) (path_at (system_of i) x.target.instance)).inputs) x.sets.now
+  pub within : All (λ s. s.index < length (ports_at (system_of i) (path_at (system_of i) x.target.instance)).inputs) x.sets.now
 
 -- the initial value of each data input of an instance, and of each data output
 abbrev pub initial_inputs : System → Path → List Value

@@ -8,7 +8,7 @@ ghost use Rattle.fb_check_names.specs.Numbers.{kind_of_number, parameter_numbers
 ghost use Rattle.fb_system.specs.Layouts.{path_of};
 ghost use Rattle.fb_system.specs.Networks.{IsAround, IsNetlist, path_around};
 
-use crate::tables::{Tables, last_place, row_at, wiring_in};
+use crate::tables::{Tables, last_index, row_at, wiring_in};
 use fb_check_names::TypeNumber;
 use fb_types::{BlockType, Instance, Library, Network};
 
@@ -18,7 +18,7 @@ fn network_of_type(library: &Library, kind: TypeNumber) -> Option<&Network>
 {
     match kind {
         TypeNumber::Event(_) => None,
-        TypeNumber::Declared(place) => match library.blocks.get(place)? {
+        TypeNumber::Declared(index) => match library.blocks.get(index)? {
             BlockType::Basic(_) => None,
             BlockType::Composite(composite) => Some(&composite.network),
         },
@@ -47,10 +47,10 @@ pub(crate) fn declared_at(tables: &Tables, instance: u32) -> &Instance
     let Some(network) = network_in(tables, row.parent) else {
         unreachable!()
     };
-    let Some(place) = last_place(row.route.as_slice()) else {
+    let Some(index) = last_index(row.route.as_slice()) else {
         unreachable!()
     };
-    let Some(declared) = network.instances.get(place) else {
+    let Some(declared) = network.instances.get(index) else {
         unreachable!()
     };
     declared
@@ -66,11 +66,11 @@ pub(crate) fn parameters_at(tables: &Tables, instance: u32) -> &[usize]
     let Some(wiring) = wiring_in(tables, row.parent) else {
         unreachable!()
     };
-    let Some(place) = last_place(row.route.as_slice()) else {
+    let Some(index) = last_index(row.route.as_slice()) else {
         unreachable!()
     };
-    let Some(places) = wiring.numbers().parameters.get(place) else {
+    let Some(indexes) = wiring.numbers().parameters.get(index) else {
         unreachable!()
     };
-    places.as_slice()
+    indexes.as_slice()
 }

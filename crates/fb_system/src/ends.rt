@@ -4,8 +4,8 @@ ghost use Rattle.std.specs.Prelude.{◌≡◌, [], IfSome};
 ghost use Rattle.fb_types.specs.Systems.{System};
 ghost use Rattle.fb_system.specs.Ends.{AreSources, AreTargets, ComesFrom, LeadsTo};
 
-use crate::reached::Reached;
-use fb_types::{Items, Place, Target};
+use crate::next_target::NextTarget;
+use fb_types::{InstanceVariable, Items, Target};
 use std::alloc::Global;
 
 /// The most rows that are kept of each kind. They take 1 MB.
@@ -17,16 +17,16 @@ pub(crate) struct TargetRow {
     /// The port from which the connections lead.
     pub from: Target,
     /// `None` if the port has no connection.
-    pub first: Option<Reached>,
+    pub first: Option<NextTarget>,
 }
 
 /// What a variable is connected to.
 #[derive(Clone, Copy)]
 pub(crate) struct SourceRow {
     /// The variable at the end of the connection.
-    pub to: Place,
+    pub to: InstanceVariable,
     /// `None` if the variable has no connection.
-    pub source: Option<Place>,
+    pub source: Option<InstanceVariable>,
 }
 
 /// Where the rows of an instance begin.
@@ -83,7 +83,7 @@ impl Ends {
 
     /// What a variable is connected to, if its row is kept.
     #[inline(always)]
-    pub(crate) fn source(&self, to: Place) -> Option<&SourceRow>
+    pub(crate) fn source(&self, to: InstanceVariable) -> Option<&SourceRow>
         ensures { (sys : System) → AreSources sys self.now.sources → IfSome result (λ r. ComesFrom sys to r.now.source) }
     {
         let firsts = self.firsts.get(to.instance as usize)?;

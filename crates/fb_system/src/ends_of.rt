@@ -8,7 +8,7 @@ ghost use Rattle.fb_system.specs.Ends.{AreSources, AreTargets};
 use crate::ends::{Ends, FirstRows, MOST_ENDS, SourceRow, TargetRow};
 use crate::rows::number_of;
 use crate::system::System;
-use fb_types::{Items, Place, Target};
+use fb_types::{InstanceVariable, Items, Target};
 use std::alloc::{AllocError, Global};
 
 /// The number of event outputs, or of event inputs, of an instance that have rows. Event inputs connect to what is
@@ -86,7 +86,7 @@ fn add_sources(
         if rows.len() >= MOST_ENDS {
             return Ok(());
         }
-        let to = Place {
+        let to = InstanceVariable {
             instance,
             variable: number_of(variable)?,
             is_output,

@@ -3,7 +3,7 @@
 ghost use Rattle.std.specs.Prelude.{◌≡◌, ◌<◌, List, [], ◌++◌, codes, length, if◌then◌else◌, IfNone, IfOk, IfSome, OnOk};
 ghost use Rattle.fb_types.specs.Headline.{system_of};
 ghost use Rattle.fb_types.specs.Names.{Name};
-ghost use Rattle.fb_system.specs.Stands.{ArePlaces};
+ghost use Rattle.fb_system.specs.Stands.{AreIndexes};
 ghost use Rattle.fb_system.specs.Heads.{AreHeads, IsOfHead, IsRowOfHead, first_text, head_event, head_variables};
 
 use crate::heads::{Firsts, Head, HeadOf, Heads, MOST_ROWS, ROW};
@@ -27,13 +27,13 @@ fn event_name(system: &System, of: HeadOf) -> &[u8]
 }
 
 /// The name of the variable at the first of these indices, if there is one.
-fn name_at_first<'a>(variables: &'a [Variable], places: &[u32]) -> Option<&'a [u8]>
-    requires { (names : List Name) × ArePlaces variables.now names places.now }
-    ensures none { (names : List Name) → ArePlaces variables.now names places.now → IfNone result (first_text names ≡ []) }
-    ensures some { (names : List Name) → ArePlaces variables.now names places.now → IfSome result (λ n. first_text names ≡ codes " " ++ n.now ++ codes "=") }
+fn name_at_first<'a>(variables: &'a [Variable], indexes: &[u32]) -> Option<&'a [u8]>
+    requires { (names : List Name) × AreIndexes variables.now names indexes.now }
+    ensures none { (names : List Name) → AreIndexes variables.now names indexes.now → IfNone result (first_text names ≡ []) }
+    ensures some { (names : List Name) → AreIndexes variables.now names indexes.now → IfSome result (λ n. first_text names ≡ codes " " ++ n.now ++ codes "=") }
 {
-    match places.first() {
-        Some(place) => Some(variables[*place as usize].name.as_bytes()),
+    match indexes.first() {
+        Some(index) => Some(variables[*index as usize].name.as_bytes()),
         None => None,
     }
 }
@@ -46,11 +46,11 @@ fn first_name(system: &System, of: HeadOf) -> Option<&[u8]>
 {
     let ports = system.ports(of.instance);
     if of.taken {
-        let places = system.inputs_with(of.instance, of.event);
-        name_at_first(ports.inputs.as_slice(), places)
+        let indexes = system.inputs_with(of.instance, of.event);
+        name_at_first(ports.inputs.as_slice(), indexes)
     } else {
-        let places = system.outputs_with(of.instance, of.event);
-        name_at_first(ports.outputs.as_slice(), places)
+        let indexes = system.outputs_with(of.instance, of.event);
+        name_at_first(ports.outputs.as_slice(), indexes)
     }
 }
 

@@ -18,7 +18,7 @@ fn home_of(netlist: &Netlist, links: &Links, instance: u32) -> usize
     ensures { (plan : Plan) → IsLinked netlist.now plan links.now → result ≡ resource_of plan (path_of netlist.now instance) }
 {
     match netlist.route(instance).first() {
-        Some(place) => links.holder(*place as usize),
+        Some(index) => links.holder(*index as usize),
         None => 0,
     }
 }

@@ -4,7 +4,7 @@ ghost use Rattle.std.specs.Prelude.{◌≡◌, IfOk, Some, map};
 ghost use Rattle.fb_types.specs.Blocks.{initial_of, variable_names};
 ghost use Rattle.fb_types.specs.Repeated.{Twice};
 ghost use Rattle.fb_types.specs.Unknown.{data_ins};
-ghost use Rattle.fb_check_names.specs.Numbers.{each_or_none, place_of};
+ghost use Rattle.fb_check_names.specs.Numbers.{each_or_none, index_of};
 ghost use Rattle.fb_system.specs.Begins.{begins_with, parameter_names};
 
 use fb_types::{Items, Parameter, Ports, Value, Variable};
@@ -22,7 +22,7 @@ fn first_values(alloc: Global, variables: &[Variable]) -> Result<Vec<Value>, All
 }
 
 /// The initial values of the data inputs of an instance: the instance's parameter, else the declared initial value, else
-/// 0 or FALSE. `places` has the indices of the inputs that the parameters set.
+/// 0 or FALSE. `indexes` has the indices of the inputs that the parameters set.
 ///
 /// # Errors
 ///
@@ -31,16 +31,16 @@ pub(crate) fn input_values(
     alloc: Global,
     ports: &Ports,
     parameters: &[Parameter],
-    places: &[usize],
+    indexes: &[usize],
 ) -> Result<Items<Value>, AllocError>
-    requires places { each_or_none (λ x. place_of (data_ins ports.now) x.name) parameters.now ≡ Some places.now }
+    requires indexes { each_or_none (λ x. index_of (data_ins ports.now) x.name) parameters.now ≡ Some indexes.now }
     requires inputs { ¬ (Twice (variable_names ports.now.inputs)) }
     requires parameters { ¬ (Twice (parameter_names parameters.now)) }
     ensures { IfOk result (λ vs. vs ≡ begins_with ports.now parameters.now) }
 {
     let mut values = first_values(alloc, ports.inputs.as_slice())?;
     for (number, parameter) in parameters.iter().enumerate() {
-        values[places[number]] = parameter.value;
+        values[indexes[number]] = parameter.value;
     }
     Ok(Items::from_vec(values))
 }

@@ -8,19 +8,19 @@ ghost use Rattle.fb_types.specs.declared.deploy.Plan.{Plan};
 ghost use Rattle.fb_types.specs.declared.library.BlockType.{BlockType as Declared};
 ghost use Rattle.fb_types.specs.declared.library.Library.{Library as Declaration};
 ghost use Rattle.fb_check_names.specs.Catalog.{IsCatalog};
-ghost use Rattle.fb_system.specs.Stands.{AreWithPlaces};
+ghost use Rattle.fb_system.specs.Stands.{AreWithIndexes};
 ghost use Rattle.fb_system.specs.Tables.{AreBlocks, AreInterfaces, AreOfBlocks};
 
-use crate::event_block_with_places::of_event_blocks;
-use crate::with_places::{WithPlaces, with_places};
-use fb_check_names::{BlockPlaces, Catalog};
+use crate::event_block_with_indexes::of_event_blocks;
+use crate::with_indexes::{WithIndexes, with_indexes};
+use fb_check_names::{BlockIndexes, Catalog};
 use fb_types::{BlockType, EventKind, Items, Library};
 use std::alloc::{AllocError, Global};
 
 /// The types of a declaration and the event blocks: for each event the indices of the variables WITH it.
 pub struct Interfaces {
-    blocks: Items<WithPlaces>,
-    event_blocks: Items<WithPlaces>,
+    blocks: Items<WithIndexes>,
+    event_blocks: Items<WithIndexes>,
 }
 
 // Drop is written by hand, so that callers need not prove it again (docs/DECISIONS.md, "Drop").
@@ -35,33 +35,33 @@ impl Drop for Interfaces {
 
 impl Interfaces {
     /// The variables WITH each event of the block type at an index of the declaration.
-    pub(crate) fn of_block(&self, block: usize) -> &WithPlaces
+    pub(crate) fn of_block(&self, block: usize) -> &WithIndexes
         requires { (library : Declaration) × AreInterfaces library self.now × (block < length library.blocks) }
-        ensures { (library : Declaration) (t : Declared) → AreInterfaces library self.now → slice_get library.blocks block ≡ Some t → AreWithPlaces (ports_of (kind_of t)) result.now }
+        ensures { (library : Declaration) (t : Declared) → AreInterfaces library self.now → slice_get library.blocks block ≡ Some t → AreWithIndexes (ports_of (kind_of t)) result.now }
     {
         &self.blocks.as_slice()[block]
     }
 
     /// The variables WITH each event of an event block.
-    pub(crate) fn of_event_block(&self, kind: EventKind) -> &WithPlaces
+    pub(crate) fn of_event_block(&self, kind: EventKind) -> &WithIndexes
         requires { (library : Declaration) × AreInterfaces library self.now }
-        ensures { AreWithPlaces (ports_of_event_block kind) result.now }
+        ensures { AreWithIndexes (ports_of_event_block kind) result.now }
     {
-        &self.event_blocks.as_slice()[kind.place()]
+        &self.event_blocks.as_slice()[kind.index()]
     }
 }
 
 fn of_blocks(
     alloc: Global,
     blocks: &[BlockType],
-    names: &[BlockPlaces],
-) -> Result<Items<WithPlaces>, AllocError>
+    names: &[BlockIndexes],
+) -> Result<Items<WithIndexes>, AllocError>
     requires { AreBlocks blocks.now names.now }
     ensures { IfOk result (AreOfBlocks blocks.now) }
 {
     let mut all = Items::new(alloc);
-    for (place, block) in blocks.iter().enumerate() {
-        all.push(with_places(alloc, block.ports(), &names[place].ports)?)?;
+    for (index, block) in blocks.iter().enumerate() {
+        all.push(with_indexes(alloc, block.ports(), &names[index].ports)?)?;
     }
     Ok(all)
 }

@@ -97,9 +97,9 @@ fn network_inside<'a>(
 {
     match kind {
         TypeNumber::Event(_) => None,
-        TypeNumber::Declared(place) => match library.blocks.get(place)? {
+        TypeNumber::Declared(index) => match library.blocks.get(index)? {
             BlockType::Basic(_) => None,
-            BlockType::Composite(composite) => match numbers.blocks.get(place)? {
+            BlockType::Composite(composite) => match numbers.blocks.get(index)? {
                 Some(inner) => Some((&composite.network, inner)),
                 None => None,
             },
@@ -131,15 +131,15 @@ fn path_under(
 fn route_under(
     alloc: Global,
     outside: Option<Outside>,
-    place: u32,
+    index: u32,
 ) -> Result<Items<u32>, AllocError>
-    ensures { IfOk result (λ r. r ≡ spec.route_under (spec.around outside.entry) ++ place ∷ []) }
+    ensures { IfOk result (λ r. r ≡ spec.route_under (spec.around outside.entry) ++ index ∷ []) }
 {
     let mut route = match outside {
         None => Items::new(alloc),
         Some(composite) => Items::from_slice(alloc, composite.row.route.as_slice())?,
     };
-    route.push(place)?;
+    route.push(index)?;
     Ok(route)
 }
 
@@ -149,15 +149,15 @@ fn row_under(
     outside: Option<Outside>,
     instance: &Instance,
     kind: TypeNumber,
-    place: u32,
+    index: u32,
 ) -> Result<InstanceRow, AllocError>
-    ensures { IfOk result (λ r. r ≡ spec.row_under (spec.around outside.entry) instance.now kind place []) }
+    ensures { IfOk result (λ r. r ≡ spec.row_under (spec.around outside.entry) instance.now kind index []) }
 {
     Ok(InstanceRow {
         path: path_under(alloc, outside, instance)?,
         kind,
         parent: outside.map(|composite| composite.number),
-        route: route_under(alloc, outside, place)?,
+        route: route_under(alloc, outside, index)?,
         components: Items::new(alloc),
     })
 }
@@ -180,12 +180,12 @@ fn lay_out(
         return Ok(layer);
     }
     let instances = site.network.instances.as_slice();
-    for (place, instance) in instances.iter().enumerate() {
-        let Some(kind) = site.types.get(place) else {
+    for (index, instance) in instances.iter().enumerate() {
+        let Some(kind) = site.types.get(index) else {
             return Ok(layer);
         };
         let number = first + layer.rows.len() as u32;
-        let row = row_under(alloc, site.outside, instance, *kind, place as u32)?;
+        let row = row_under(alloc, site.outside, instance, *kind, index as u32)?;
         let inside = match network_inside(library, numbers, *kind) {
             None => Layer::new(alloc),
             Some((network, inner)) => {

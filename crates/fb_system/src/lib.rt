@@ -6,18 +6,19 @@
 //!
 //! Read in this order: `system`, the accessors; `stimulus`; `whole`, the tables; `types`. Then the tables. Instances and
 //! connections: `layout`, the tree of composites as a list; `wiring`, where the connections of a network lead, with
-//! `wiring_table`; `netlist`, the lookups in both, and `reached`, where a connection leads; `tables` and `declared`, how
+//! `connection_table`; `netlist`, the lookups in both, and `reached`, where a connection leads; `tables` and `declared`, how
 //! a lookup works; `making`. Then `links`, resources and links; `homes`, the resources of all instances; `interfaces`
-//! with `with_places` and `event_block_with_places`, the variables WITH each event; `kept`, rows for lookups in one step:
+//! with `with_indexes` and `event_block_with_indexes`, the variables WITH each event; `kept`, rows for lookups in one step:
 //! `heads` with `heads_of`, the heads of lines, and `ends` with `ends_of`, where connections lead to and come from;
 //! `initial_values`; `rows`, the stimuli by number. The check fills them: `given`. `with_all` passes owned values around
 //! calls that may fail, so that each is dropped at one point.
 #![tactic(auto)]
 
+mod connection_table;
 mod declared;
 mod ends;
 mod ends_of;
-mod event_block_with_places;
+mod event_block_with_indexes;
 pub mod given;
 pub mod heads;
 mod heads_of;
@@ -29,7 +30,7 @@ pub mod layout;
 pub mod links;
 mod making;
 pub mod netlist;
-pub mod reached;
+pub mod next_target;
 pub mod rows;
 pub mod stimulus;
 pub mod system;
@@ -37,9 +38,8 @@ mod tables;
 mod types;
 mod whole;
 pub mod wiring;
-mod wiring_table;
 mod with_all;
-pub mod with_places;
+pub mod with_indexes;
 
 pub use given::Given;
 pub use heads::{Head, HeadOf, ROW};
@@ -47,9 +47,9 @@ pub use interfaces::{Interfaces, interfaces_of};
 pub use layout::{InstanceRow, Layout};
 pub use links::Links;
 pub use netlist::Netlist;
-pub use reached::Reached;
+pub use next_target::NextTarget;
 pub use rows::{SlotValue, StimulusRow, number_of};
 pub use stimulus::StimulusAt;
 pub use system::System;
 pub use wiring::Wiring;
-pub use with_places::WithPlaces;
+pub use with_indexes::WithIndexes;

@@ -14,12 +14,12 @@ ghost use Rattle.fb_system.specs.Netlists.{IsPort, IsSource, IsTarget, IsVariabl
 
 use crate::declared::{declared_at, parameters_at};
 use crate::making::{narrow_layout, wirings_of};
-use crate::reached::Reached;
+use crate::next_target::NextTarget;
 use crate::tables::{EndIn, Tables, entering, leaving, row_at, source_in, target_in};
 use crate::wiring::Wiring;
 use crate::with_all::with_all;
 use fb_check_names::{Resolved, TypeNumber};
-use fb_types::{Instance, Library, Place, Target};
+use fb_types::{Instance, InstanceVariable, Library, Target};
 use std::alloc::{AllocError, Global};
 use std::marker::Model;
 
@@ -175,19 +175,19 @@ impl Netlist {
     /// Where the event connection leads that has this index among those from an event, in the order of the text. An event
     /// output connects to what is around the instance, an event input of a composite to what is inside. The answer also
     /// says whether another connection follows, so that no caller searches for one after the last.
-    pub fn reached(&self, from: Target, place: usize) -> Option<Reached>
+    pub fn reached(&self, from: Target, index: usize) -> Option<NextTarget>
         requires { IsPort self.now from }
-        ensures leads { option_map (λ r. port_of self.now r.target) result ≡ slice_get (targets_of self.now (port_of self.now from)) place }
+        ensures leads { option_map (λ r. port_of self.now r.target) result ≡ slice_get (targets_of self.now (port_of self.now from)) index }
         ensures within { IfSome result (λ r. IsTarget self.now r.target) }
-        ensures more { IfSome result (λ r. IsTrue r.more ↔ (place + 1 < length (targets_of self.now (port_of self.now from)))) }
+        ensures more { IfSome result (λ r. IsTrue r.more ↔ (index + 1 < length (targets_of self.now (port_of self.now from)))) }
     {
         let EndIn { around, end } = leaving(&self.tables, from);
-        target_in(&self.tables, around, end, place)
+        target_in(&self.tables, around, end, index)
     }
 
     /// What a variable is connected to: a data input to what is around the instance, a data output of a composite to
     /// what is inside.
-    pub fn source(&self, to: Place) -> Option<Place>
+    pub fn source(&self, to: InstanceVariable) -> Option<InstanceVariable>
         requires { IsVariable self.now to }
         ensures comes { option_map (variable_of self.now) result ≡ source_of self.now (variable_of self.now to) }
         ensures within { IfSome result (IsSource self.now) }

@@ -9,7 +9,7 @@ use std::alloc::AllocError;
 #[derive(Clone, Copy)]
 pub struct SlotValue {
     /// The index among the data inputs of the type.
-    pub place: u32,
+    pub index: u32,
     /// The value, which is one of the input's type.
     pub value: Value,
 }
@@ -32,10 +32,10 @@ pub struct StimulusRow {
 /// # Errors
 ///
 /// When memory runs out. A greater index counts as out of memory: it would belong to a list that fits in no memory.
-pub fn number_of(place: usize) -> Result<u32, AllocError>
-    ensures { IfOk result (λ n. n ≡ place) }
+pub fn number_of(index: usize) -> Result<u32, AllocError>
+    ensures { IfOk result (λ n. n ≡ index) }
 {
-    match u32::try_from(place) {
+    match u32::try_from(index) {
         Ok(number) => Ok(number),
         Err(_) => Err(AllocError),
     }

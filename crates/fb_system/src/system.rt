@@ -7,7 +7,7 @@ ghost use Rattle.fb_types.specs.Headline.{AreAccepted, system_of, inputs};
 ghost use Rattle.fb_types.specs.Limits.{IsWithinLimits};
 ghost use Rattle.fb_types.specs.Numbers.{event_at, path_at, port_of, ports_at};
 ghost use Rattle.fb_types.specs.Blocks.{inputs_with, outputs_with};
-ghost use Rattle.fb_system.specs.Stands.{ArePlaces, AreWithPlaces};
+ghost use Rattle.fb_system.specs.Stands.{AreIndexes, AreWithIndexes};
 ghost use Rattle.fb_system.specs.Stimuli.{IsStimulusAt, initial_inputs, initial_outputs};
 ghost use Rattle.fb_types.specs.Text.{path_text};
 ghost use Rattle.fb_system.specs.Layouts.{AreComponents, AreNumbers, IsParent, route_to};
@@ -25,15 +25,16 @@ use crate::initial_values::{input_values, output_values};
 use crate::kept::{Kept, kept_of};
 use crate::links::Links;
 use crate::netlist::Netlist;
-use crate::reached::Reached;
+use crate::next_target::NextTarget;
 use crate::stimulus::StimulusAt;
-use crate::types::{ports_of_type, with_places_of_type};
+use crate::types::{ports_of_type, with_indexes_of_type};
 use crate::whole::{Whole, row_at};
 use crate::with_all::with_all;
-use crate::with_places::WithPlaces;
+use crate::with_indexes::WithIndexes;
 use fb_check_names::TypeNumber;
 use fb_types::{
-    Deploy, Items, Latency, Library, Place, Plan, Ports, Stimulus, Target, Value, all_ports,
+    Deploy, InstanceVariable, Items, Latency, Library, Plan, Ports, Stimulus, Target, Value,
+    all_ports,
 };
 use std::alloc::{AllocError, Global};
 use std::marker::Model;
@@ -252,34 +253,34 @@ impl System {
     /// output connects to what is around the instance, an event input of a composite to what is inside. The answer also
     /// says whether another connection follows, so that no caller searches for one after the last.
     #[inline(always)]
-    pub fn reached(&self, from: Target, place: usize) -> Option<Reached>
+    pub fn reached(&self, from: Target, index: usize) -> Option<NextTarget>
         requires { IsPort (system_of self.now) from }
-        ensures leads { option_map (λ r. port_of (system_of self.now) r.target) result ≡ slice_get ((system_of self.now).targets (port_of (system_of self.now) from)) place }
+        ensures leads { option_map (λ r. port_of (system_of self.now) r.target) result ≡ slice_get ((system_of self.now).targets (port_of (system_of self.now) from)) index }
         ensures within { IfSome result (λ r. IsTarget (system_of self.now) r.target) }
-        ensures more { IfSome result (λ r. IsTrue r.more ↔ (place + 1 < length ((system_of self.now).targets (port_of (system_of self.now) from)))) }
+        ensures more { IfSome result (λ r. IsTrue r.more ↔ (index + 1 < length ((system_of self.now).targets (port_of (system_of self.now) from)))) }
     {
         // Usually a port has one connection, and its row is kept.
-        if place == 0 {
+        if index == 0 {
             if let Some(row) = self.whole.kept.ends.target(from) {
                 return row.first;
             }
         }
-        self.reached_by_tables(from, place)
+        self.reached_by_tables(from, index)
     }
 
     /// Where a connection leads, by its network.
     #[inline(never)]
-    fn reached_by_tables(&self, from: Target, place: usize) -> Option<Reached>
+    fn reached_by_tables(&self, from: Target, index: usize) -> Option<NextTarget>
         requires { IsPort (system_of self.now) from }
-        ensures { LeadsTo (system_of self.now) from place result }
+        ensures { LeadsTo (system_of self.now) from index result }
     {
-        self.whole.netlist.reached(from, place)
+        self.whole.netlist.reached(from, index)
     }
 
     /// What a variable is connected to: a data input to what is around the instance, a data output of a composite to
     /// what is inside.
     #[inline(always)]
-    pub fn source(&self, to: Place) -> Option<Place>
+    pub fn source(&self, to: InstanceVariable) -> Option<InstanceVariable>
         requires { IsVariable (system_of self.now) to }
         ensures comes { option_map (variable_of (system_of self.now)) result ≡ (system_of self.now).source (variable_of (system_of self.now) to) }
         ensures within { IfSome result (IsSource (system_of self.now)) }
@@ -292,7 +293,7 @@ impl System {
 
     /// What a variable is connected to, by the network of its connection.
     #[inline(never)]
-    fn source_by_tables(&self, to: Place) -> Option<Place>
+    fn source_by_tables(&self, to: InstanceVariable) -> Option<InstanceVariable>
         requires { IsVariable (system_of self.now) to }
         ensures { ComesFrom (system_of self.now) to result }
     {
@@ -375,12 +376,12 @@ impl System {
 
     /// For each event of an instance's type, the indices of the variables WITH it.
     #[inline(always)]
-    fn with_places(&self, instance: u32) -> &WithPlaces
+    fn with_indexes(&self, instance: u32) -> &WithIndexes
         requires { instance < length (system_of self.now).paths }
-        ensures { AreWithPlaces (ports_at (system_of self.now) (path_at (system_of self.now) instance)) result.now }
+        ensures { AreWithIndexes (ports_at (system_of self.now) (path_at (system_of self.now) instance)) result.now }
     {
         let whole = &*self.whole;
-        with_places_of_type(whole, whole.netlist.kind(instance))
+        with_indexes_of_type(whole, whole.netlist.kind(instance))
     }
 
     /// The row with the text of a head, if it is kept. The heads of the first 65,536 events are, if they fit.
@@ -395,9 +396,9 @@ impl System {
     pub fn inputs_with(&self, instance: u32, event: u32) -> &[u32]
         requires instance { instance < length (system_of self.now).paths }
         requires event { event < length (ports_at (system_of self.now) (path_at (system_of self.now) instance)).event_inputs }
-        ensures { let its = ports_at (system_of self.now) (path_at (system_of self.now) instance) in ArePlaces its.inputs (inputs_with its (event_at its.event_inputs event)) result.now }
+        ensures { let its = ports_at (system_of self.now) (path_at (system_of self.now) instance) in AreIndexes its.inputs (inputs_with its (event_at its.event_inputs event)) result.now }
     {
-        self.with_places(instance).inputs.as_slice()[event as usize].as_slice()
+        self.with_indexes(instance).inputs.as_slice()[event as usize].as_slice()
     }
 
     /// The indices of the data outputs WITH an event output of an instance, in the order in which the outputs are
@@ -405,9 +406,9 @@ impl System {
     pub fn outputs_with(&self, instance: u32, event: u32) -> &[u32]
         requires instance { instance < length (system_of self.now).paths }
         requires event { event < length (ports_at (system_of self.now) (path_at (system_of self.now) instance)).event_outputs }
-        ensures { let its = ports_at (system_of self.now) (path_at (system_of self.now) instance) in ArePlaces its.outputs (outputs_with its (event_at its.event_outputs event)) result.now }
+        ensures { let its = ports_at (system_of self.now) (path_at (system_of self.now) instance) in AreIndexes its.outputs (outputs_with its (event_at its.event_outputs event)) result.now }
     {
-        self.with_places(instance).outputs.as_slice()[event as usize].as_slice()
+        self.with_indexes(instance).outputs.as_slice()[event as usize].as_slice()
     }
 
     /// The initial value of each data input of an instance: the parameter, else the declared initial value, else 0 or

@@ -10,10 +10,10 @@ ghost use Rattle.fb_system.specs.Netlists.{IsPort, IsSource, IsTarget, IsVariabl
 ghost use Rattle.fb_system.specs.Networks.{DataEnters, DataLeaves, EventEnters, EventLeaves, IsAround, IsNetlist, IsThere, IsWired, path_around, source_along, targets_along};
 
 use crate::layout::{InstanceRow, Layout};
-use crate::reached::Reached;
+use crate::next_target::NextTarget;
 use crate::wiring::Wiring;
-use fb_check_names::{TypeNumber, WireEnd};
-use fb_types::{Items, Library, Place, Target};
+use fb_check_names::{ConnectionEnd, TypeNumber};
+use fb_types::{InstanceVariable, Items, Library, Target};
 
 /// The instances of a declaration and its networks.
 #[derive(Drop)]
@@ -34,7 +34,7 @@ pub(crate) struct EndIn {
     /// The number of the composite, or none for the application's network.
     pub around: Option<u32>,
     /// The end itself.
-    pub end: WireEnd,
+    pub end: ConnectionEnd,
 }
 
 /// The row of an instance.
@@ -57,7 +57,7 @@ pub(crate) fn wiring_in(tables: &Tables, around: Option<u32>) -> Option<&Wiring>
         None => Some(&tables.application),
         Some(instance) => match row_at(tables, instance).kind {
             TypeNumber::Event(_) => None,
-            TypeNumber::Declared(place) => tables.blocks.as_slice()[place].as_ref(),
+            TypeNumber::Declared(index) => tables.blocks.as_slice()[index].as_ref(),
         },
     }
 }
@@ -85,14 +85,14 @@ fn instance_at(tables: &Tables, around: Option<u32>, component: Option<usize>) -
     ensures within { result < length (paths_of tables.now.library) }
 {
     match (component, around) {
-        (Some(place), _) => components_in(tables, around)[place],
+        (Some(index), _) => components_in(tables, around)[index],
         (None, Some(instance)) => instance,
         (None, None) => unreachable!(),
     }
 }
 
 /// The event to which a connection leads: an input of a component, or an output of the composite itself.
-fn target_at(tables: &Tables, around: Option<u32>, end: WireEnd) -> Target
+fn target_at(tables: &Tables, around: Option<u32>, end: ConnectionEnd) -> Target
     requires netlist { IsNetlist tables.now }
     requires within { IsAround tables.now.library around }
     requires network { (inside : Network) × (network_at tables.now.library (path_around tables.now.library around) ≡ Some inside) }
@@ -108,7 +108,7 @@ fn target_at(tables: &Tables, around: Option<u32>, end: WireEnd) -> Target
 }
 
 /// The variable from which a connection comes: an output of a component, or an input of the composite itself.
-fn place_at(tables: &Tables, around: Option<u32>, end: WireEnd) -> Place
+fn index_at(tables: &Tables, around: Option<u32>, end: ConnectionEnd) -> InstanceVariable
     requires netlist { IsNetlist tables.now }
     requires within { IsAround tables.now.library around }
     requires network { (inside : Network) × (network_at tables.now.library (path_around tables.now.library around) ≡ Some inside) }
@@ -116,7 +116,7 @@ fn place_at(tables: &Tables, around: Option<u32>, end: WireEnd) -> Place
     ensures port { (q : Port) → DataLeaves tables.now.library around end q → variable_of tables.now.library result ≡ q }
     ensures within { IsSource tables.now.library result }
 {
-    Place {
+    InstanceVariable {
         instance: instance_at(tables, around, end.component),
         variable: end.port as u32,
         is_output: end.component.is_some(),
@@ -127,27 +127,31 @@ fn place_at(tables: &Tables, around: Option<u32>, end: WireEnd) -> Place
 pub(crate) fn target_in(
     tables: &Tables,
     around: Option<u32>,
-    end: WireEnd,
-    place: usize,
-) -> Option<Reached>
+    end: ConnectionEnd,
+    index: usize,
+) -> Option<NextTarget>
     requires netlist { IsNetlist tables.now }
     requires within { IsAround tables.now.library around }
     requires end { (q : Port) × EventLeaves tables.now.library around end q }
-    ensures leads { (q : Port) → EventLeaves tables.now.library around end q → option_map (λ r. port_of tables.now.library r.target) result ≡ slice_get (targets_along (events_inside tables.now.library (path_around tables.now.library around)) q) place }
+    ensures leads { (q : Port) → EventLeaves tables.now.library around end q → option_map (λ r. port_of tables.now.library r.target) result ≡ slice_get (targets_along (events_inside tables.now.library (path_around tables.now.library around)) q) index }
     ensures within { IfSome result (λ r. IsTarget tables.now.library r.target) }
-    ensures more { IfSome result (λ r. (q : Port) → EventLeaves tables.now.library around end q → IsTrue r.more ↔ (place + 1 < length (targets_along (events_inside tables.now.library (path_around tables.now.library around)) q))) }
+    ensures more { IfSome result (λ r. (q : Port) → EventLeaves tables.now.library around end q → IsTrue r.more ↔ (index + 1 < length (targets_along (events_inside tables.now.library (path_around tables.now.library around)) q))) }
 {
     let wiring = wiring_in(tables, around)?;
     let ends = wiring.targets(end);
-    let to = ends.get(place)?;
-    Some(Reached {
+    let to = ends.get(index)?;
+    Some(NextTarget {
         target: target_at(tables, around, *to),
-        more: ends.len() - place > 1,
+        more: ends.len() - index > 1,
     })
 }
 
 /// Where the data connection to an end of a network comes from.
-pub(crate) fn source_in(tables: &Tables, around: Option<u32>, end: WireEnd) -> Option<Place>
+pub(crate) fn source_in(
+    tables: &Tables,
+    around: Option<u32>,
+    end: ConnectionEnd,
+) -> Option<InstanceVariable>
     requires netlist { IsNetlist tables.now }
     requires within { IsAround tables.now.library around }
     requires end { (q : Port) × DataEnters tables.now.library around end q }
@@ -156,15 +160,15 @@ pub(crate) fn source_in(tables: &Tables, around: Option<u32>, end: WireEnd) -> O
 {
     let wiring = wiring_in(tables, around)?;
     let from = wiring.source(end)?;
-    Some(place_at(tables, around, from))
+    Some(index_at(tables, around, from))
 }
 
 /// The last index of a route: that of the instance in its own network.
-pub(crate) fn last_place(route: &[u32]) -> Option<usize>
+pub(crate) fn last_index(route: &[u32]) -> Option<usize>
     ensures { result ≡ last_of route.now }
 {
-    let place = route.last()?;
-    Some(*place as usize)
+    let index = route.last()?;
+    Some(*index as usize)
 }
 
 /// The end from which the connections of an event lead: for an event output in the network around the instance, for an
@@ -179,23 +183,23 @@ pub(crate) fn leaving(tables: &Tables, from: Target) -> EndIn
     let port = from.event as usize;
     if from.is_output {
         let row = row_at(tables, from.instance);
-        let component = last_place(row.route.as_slice());
+        let component = last_index(row.route.as_slice());
         EndIn {
             around: row.parent,
-            end: WireEnd { component, port },
+            end: ConnectionEnd { component, port },
         }
     } else {
         let component = None;
         EndIn {
             around: Some(from.instance),
-            end: WireEnd { component, port },
+            end: ConnectionEnd { component, port },
         }
     }
 }
 
 /// The end to which the connection of a variable leads: for a data input in the network around the instance, for a data
 /// output of a composite in the network inside it.
-pub(crate) fn entering(tables: &Tables, to: Place) -> EndIn
+pub(crate) fn entering(tables: &Tables, to: InstanceVariable) -> EndIn
     requires netlist { IsNetlist tables.now }
     requires variable { IsVariable tables.now.library to }
     ensures within { IsAround tables.now.library result.around }
@@ -207,14 +211,14 @@ pub(crate) fn entering(tables: &Tables, to: Place) -> EndIn
         let component = None;
         EndIn {
             around: Some(to.instance),
-            end: WireEnd { component, port },
+            end: ConnectionEnd { component, port },
         }
     } else {
         let row = row_at(tables, to.instance);
-        let component = last_place(row.route.as_slice());
+        let component = last_index(row.route.as_slice());
         EndIn {
             around: row.parent,
-            end: WireEnd { component, port },
+            end: ConnectionEnd { component, port },
         }
     }
 }

@@ -2,12 +2,12 @@
 
 ghost use Rattle.std.specs.Prelude.{◌≡◌, Some, option_map};
 ghost use Rattle.fb_types.specs.Blocks.{Kind, ports_of};
-ghost use Rattle.fb_system.specs.Stands.{AreWithPlaces};
+ghost use Rattle.fb_system.specs.Stands.{AreWithIndexes};
 ghost use Rattle.fb_check_names.specs.Numbers.{kind_of_number};
 ghost use Rattle.fb_system.specs.Systems.{StandFor};
 
 use crate::whole::Whole;
-use crate::with_places::WithPlaces;
+use crate::with_indexes::WithIndexes;
 use fb_check_names::TypeNumber;
 use fb_types::Ports;
 
@@ -18,19 +18,19 @@ pub(crate) fn ports_of_type(tables: &Whole, kind: TypeNumber) -> &Ports
     ensures { option_map ports_of (kind_of_number tables.now.netlist kind) ≡ Some result.now }
 {
     match kind {
-        TypeNumber::Event(kind) => &tables.event_blocks.as_slice()[kind.place()],
-        TypeNumber::Declared(place) => tables.netlist.library().blocks.as_slice()[place].ports(),
+        TypeNumber::Event(kind) => &tables.event_blocks.as_slice()[kind.index()],
+        TypeNumber::Declared(index) => tables.netlist.library().blocks.as_slice()[index].ports(),
     }
 }
 
 /// For each event of a type, the indices of the variables WITH it.
-pub(crate) fn with_places_of_type(tables: &Whole, kind: TypeNumber) -> &WithPlaces
+pub(crate) fn with_indexes_of_type(tables: &Whole, kind: TypeNumber) -> &WithIndexes
     requires tables { StandFor tables.now }
     requires known { (k : Kind) × (kind_of_number tables.now.netlist kind ≡ Some k) }
-    ensures { (k : Kind) → kind_of_number tables.now.netlist kind ≡ Some k → AreWithPlaces (ports_of k) result.now }
+    ensures { (k : Kind) → kind_of_number tables.now.netlist kind ≡ Some k → AreWithIndexes (ports_of k) result.now }
 {
     match kind {
         TypeNumber::Event(kind) => tables.interfaces.of_event_block(kind),
-        TypeNumber::Declared(place) => tables.interfaces.of_block(place),
+        TypeNumber::Declared(index) => tables.interfaces.of_block(index),
     }
 }

@@ -2,12 +2,12 @@
 
 ghost use Rattle.std.specs.Prelude.{◌≡◌, IfOk, map};
 ghost use Rattle.std.specs.List.{filter};
-ghost use Rattle.fb_check_names.specs.declared.numbers.WireEnd.{WireEnd};
+ghost use Rattle.fb_check_names.specs.declared.numbers.ConnectionEnd.{ConnectionEnd};
 ghost use Rattle.fb_system.specs.NetworkTables.{ends_at};
 ghost use Rattle.fb_system.specs.Wirings.{same_end, source_in, targets_in};
 
-use crate::wiring_table::WiringTable;
-use fb_check_names::{NetworkNumbers, Wire, WireEnd};
+use crate::connection_table::ConnectionTable;
+use fb_check_names::{ConnectionEnd, NetworkNumbers, NumberedConnection};
 use std::alloc::{AllocError, Global};
 use std::marker::Model;
 
@@ -18,9 +18,9 @@ use std::marker::Model;
 pub struct Wiring {
     numbers: NetworkNumbers,
     /// For each end, where its event connections lead.
-    targets: WiringTable,
+    targets: ConnectionTable,
     /// For each end, where its data connections come from.
-    sources: WiringTable,
+    sources: ConnectionTable,
 }
 
 impl Model for Wiring {
@@ -36,10 +36,10 @@ impl Model for Wiring {
 }
 
 /// For each end, where the wires from it lead.
-fn targets_of(alloc: Global, wires: &[Wire]) -> Result<WiringTable, AllocError>
-    ensures { IfOk result (λ t. (e : WireEnd) → ends_at t e ≡ map (λ w. w.to) (filter (λ w. same_end w.from e) wires.now)) }
+fn targets_of(alloc: Global, wires: &[NumberedConnection]) -> Result<ConnectionTable, AllocError>
+    ensures { IfOk result (λ t. (e : ConnectionEnd) → ends_at t e ≡ map (λ w. w.to) (filter (λ w. same_end w.from e) wires.now)) }
 {
-    let mut table = WiringTable::new(alloc);
+    let mut table = ConnectionTable::new(alloc);
     for wire in wires {
         table.push(alloc, wire.from, wire.to)?;
     }
@@ -47,10 +47,10 @@ fn targets_of(alloc: Global, wires: &[Wire]) -> Result<WiringTable, AllocError>
 }
 
 /// For each end, where the wires to it come from.
-fn sources_of(alloc: Global, wires: &[Wire]) -> Result<WiringTable, AllocError>
-    ensures { IfOk result (λ t. (e : WireEnd) → ends_at t e ≡ map (λ w. w.from) (filter (λ w. same_end w.to e) wires.now)) }
+fn sources_of(alloc: Global, wires: &[NumberedConnection]) -> Result<ConnectionTable, AllocError>
+    ensures { IfOk result (λ t. (e : ConnectionEnd) → ends_at t e ≡ map (λ w. w.from) (filter (λ w. same_end w.to e) wires.now)) }
 {
-    let mut table = WiringTable::new(alloc);
+    let mut table = ConnectionTable::new(alloc);
     for wire in wires {
         table.push(alloc, wire.to, wire.from)?;
     }
@@ -79,14 +79,14 @@ impl Wiring {
     }
 
     /// Where the event connections from an end lead, in the order of the text.
-    pub fn targets(&self, end: WireEnd) -> &[WireEnd]
+    pub fn targets(&self, end: ConnectionEnd) -> &[ConnectionEnd]
         ensures { result.now ≡ targets_in self.now end }
     {
         self.targets.get(end)
     }
 
     /// The end from which the data connection to an end comes, or `None` if the end is not connected.
-    pub fn source(&self, end: WireEnd) -> Option<WireEnd>
+    pub fn source(&self, end: ConnectionEnd) -> Option<ConnectionEnd>
         ensures { result ≡ source_in self.now end }
     {
         self.sources.get(end).first().copied()

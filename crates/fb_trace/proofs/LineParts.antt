@@ -3,7 +3,7 @@ use Rattle.std.proofs.Common.{◌≡◌, refl, append_assoc}
 use Rattle.std.specs.Prelude.{ℕ, List, [], ◌∷◌, ◌++◌, codes, if◌then◌else◌}
 use Rattle.fb_types.specs.Systems.{System}
 use Rattle.fb_types.specs.States.{Line}
-use Rattle.fb_types.specs.Text.{key_text, place_text, path_text, values_text}
+use Rattle.fb_types.specs.Text.{key_text, tick_and_resource_text, path_text, values_text}
 use Rattle.fb_types.specs.declared.run.Form.{Form}
 
 -- the sign of an event
@@ -13,7 +13,7 @@ sign_text l = if l.taken then codes " > " else codes " < "
 -- a line up to the name of its event
 abbrev pub until_event : Form → System → Line → List ℕ
 until_event form sys l =
-    key_text form l.key ++ place_text sys l.key.tick l.key.resource ++ sign_text l ++ path_text l.at ++ codes "." ++ l.event
+    key_text form l.key ++ tick_and_resource_text sys l.key.tick l.key.resource ++ sign_text l ++ path_text l.at ++ codes "." ++ l.event
 
 abbrev pub after_values : List (List ℕ)
 after_values = (10 ∷ []) ∷ []
@@ -22,9 +22,9 @@ abbrev pub after_event : Line → List (List ℕ)
 after_event l = values_text l.values ∷ after_values
 
 abbrev pub after_key : System → Line → List (List ℕ)
-after_key sys l = place_text sys l.key.tick l.key.resource ∷ sign_text l ∷ path_text l.at ∷ codes "." ∷ l.event ∷ after_event l
+after_key sys l = tick_and_resource_text sys l.key.tick l.key.resource ∷ sign_text l ∷ path_text l.at ∷ codes "." ∷ l.event ∷ after_event l
 
 -- a head after what is before it
-pub behind : (k place sign path dot event : List ℕ) → k ++ (place ++ sign ++ path ++ dot ++ event) ≡ k ++ place ++ sign ++ path ++ dot ++ event
-behind k place sign path dot event =
-    rw (append_assoc k place sign, append_assoc k (place ++ sign) path, append_assoc k (place ++ sign ++ path) dot, append_assoc k (place ++ sign ++ path ++ dot) event) refl
+pub behind : (k index sign path dot event : List ℕ) → k ++ (index ++ sign ++ path ++ dot ++ event) ≡ k ++ index ++ sign ++ path ++ dot ++ event
+behind k index sign path dot event =
+    rw (append_assoc k index sign, append_assoc k (index ++ sign) path, append_assoc k (index ++ sign ++ path) dot, append_assoc k (index ++ sign ++ path ++ dot) event) refl

@@ -6,7 +6,7 @@ use Rattle.fb_types.specs.Names.{Name}
 use Rattle.fb_types.specs.Numbers.{line_of, pair_up, path_at}
 use Rattle.fb_types.specs.States.{Line}
 use Rattle.fb_types.specs.Systems.{System}
-use Rattle.fb_types.specs.Text.{key_text, line_text, path_text, place_text, values_text}
+use Rattle.fb_types.specs.Text.{key_text, line_text, path_text, tick_and_resource_text, values_text}
 use Rattle.fb_types.specs.declared.library.Variable.{Variable}
 use Rattle.fb_types.specs.declared.run.Form.{Form}
 use Rattle.fb_types.specs.declared.run.Form.TheVariants.{One}
@@ -14,7 +14,7 @@ use Rattle.fb_types.specs.declared.run.Line as run
 use Rattle.fb_types.specs.declared.value.Value.{Value}
 use Rattle.fb_system.specs.Heads.{first_text, head_event, head_text, head_variables}
 use Rattle.fb_system.specs.Lines.{BelongsTo, line_variables}
-use Rattle.fb_system.specs.Stands.{ArePlaces, variable_at}
+use Rattle.fb_system.specs.Stands.{AreIndexes, variable_at}
 use Rattle.fb_trace.specs.Starts.{first_value, head_of_line}
 use Rattle.fb_trace.proofs.LineParts.{behind, sign_text}
 use Rattle.fb_trace.proofs.Values.{pair_up-none}
@@ -23,11 +23,11 @@ use Rattle.fb_trace.proofs.Values.{pair_up-none}
 pub with_key : (form : Form) (sys : System) (l : Line) → key_text form l.key ++ line_text One sys l ≡ line_text form sys l
 with_key form sys l =
     let k = key_text form l.key in
-    let place = place_text sys l.key.tick l.key.resource in
-    let head = place ++ sign_text l ++ path_text l.at ++ codes "." ++ l.event in
+    let index = tick_and_resource_text sys l.key.tick l.key.resource in
+    let head = index ++ sign_text l ++ path_text l.at ++ codes "." ++ l.event in
     let values = values_text l.values in
     sym (append_assoc k (head ++ values) (10 ∷ []))
-    ∙ ap (λ (t : List ℕ). t ++ 10 ∷ []) (sym (append_assoc k head values) ∙ ap (λ (t : List ℕ). t ++ values) (behind k place (sign_text l) (path_text l.at) (codes ".") l.event))
+    ∙ ap (λ (t : List ℕ). t ++ 10 ∷ []) (sym (append_assoc k head values) ∙ ap (λ (t : List ℕ). t ++ values) (behind k index (sign_text l) (path_text l.at) (codes ".") l.event))
 
 -- the values after the first
 others : (f : ℕ → Name) (ks : List ℕ) (vs : List Value) → pair_up (map f (drop 1 ks)) (drop 1 vs) ≡ drop 1 (pair_up (map f ks) vs)
@@ -36,7 +36,7 @@ others f (k ∷ ks) [] = pair_up-none (map f ks)
 others f (k ∷ ks) (v ∷ vs) = refl
 
 others_of :
-    (sys : System) (l : run.Line) (vs : List Variable) (ks : List ℕ) → ArePlaces vs (line_variables sys l) ks
+    (sys : System) (l : run.Line) (vs : List Variable) (ks : List ℕ) → AreIndexes vs (line_variables sys l) ks
     → values_text (pair_up (map (variable_at vs) (drop 1 ks)) (drop 1 l.values)) ≡ values_text (drop 1 (line_of sys l).values)
 others_of sys l vs ks are = ap values_text (others (variable_at vs) ks l.values ∙ ap (λ (ns : List Name). drop 1 (pair_up ns l.values)) are.named)
 
@@ -50,7 +50,7 @@ others_counted xs ys same =
 
 -- .. as they are sliced
 pub others_sliced :
-    (sys : System) (l : run.Line) (vs : List Variable) (ks : List ℕ) → ArePlaces vs (line_variables sys l) ks
+    (sys : System) (l : run.Line) (vs : List Variable) (ks : List ℕ) → AreIndexes vs (line_variables sys l) ks
     → values_text (pair_up (map (variable_at vs) (take (length ks - 1) (drop 1 ks))) (take (length l.values - 1) (drop 1 l.values)))
     ≡ values_text (drop 1 (line_of sys l).values)
 others_sliced sys l vs ks are = (λ j. values_text (pair_up (map (variable_at vs) (all_behind ks j)) (all_behind l.values j))) ∙ others_of sys l vs ks are

@@ -34,19 +34,19 @@ fn copy_three(to: &mut [u8], from: &[u8])
 /// Copies four bytes from an index on. All are read before one is written, so no overlap check is needed, which
 /// `copy_from_slice` would make: one instruction reads them and one writes them.
 #[inline(always)]
-fn copy_four(to: &mut [u8], from: &[u8], place: usize)
+fn copy_four(to: &mut [u8], from: &[u8], index: usize)
     requires same { length to.old ≡ length from.now }
-    requires within { place + 4 ≤ length from.now }
-    ensures { to.new ≡ take place to.old ++ take 4 (drop place from.now) ++ drop (place + 4) to.old }
+    requires within { index + 4 ≤ length from.now }
+    ensures { to.new ≡ take index to.old ++ take 4 (drop index from.now) ++ drop (index + 4) to.old }
 {
-    let first = from[place];
-    let second = from[place + 1];
-    let third = from[place + 2];
-    let fourth = from[place + 3];
-    to[place] = first;
-    to[place + 1] = second;
-    to[place + 2] = third;
-    to[place + 3] = fourth;
+    let first = from[index];
+    let second = from[index + 1];
+    let third = from[index + 2];
+    let fourth = from[index + 3];
+    to[index] = first;
+    to[index + 1] = second;
+    to[index + 2] = third;
+    to[index + 3] = fourth;
 }
 
 /// Copies a text of four to eight bytes.
@@ -84,8 +84,8 @@ pub(crate) fn copy_row<const N: usize>(to: &mut [u8], from: &[u8; N])
     requires { length to.old ≡ N }
     ensures { to.new ≡ from.now }
 {
-    let Some(place) = to.as_mut_array::<N>() else {
+    let Some(index) = to.as_mut_array::<N>() else {
         unreachable!()
     };
-    *place = *from;
+    *index = *from;
 }

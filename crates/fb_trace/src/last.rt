@@ -10,7 +10,7 @@ ghost use Rattle.fb_trace.specs.Progress.{Gathers, IsPartWritten};
 
 use crate::fault::WriteFault;
 use crate::page::Page;
-use crate::pieces::put_place;
+use crate::pieces::put_tick_and_resource;
 use fb_system::System;
 use fb_types::{Reason, StopMark};
 use std::io::Write;
@@ -54,7 +54,7 @@ fn put_stop<W: Write>(
         (last_line (system_of system.now) (AtStop mark.now.tick mark.now.resource mark.now.reason)) result }
 {
     page.put(out, b"stop ")?;
-    put_place(page, out, system, mark.tick, mark.resource)?;
+    put_tick_and_resource(page, out, system, mark.tick, mark.resource)?;
     page.put(out, b" ")?;
     page.put(out, reason_name(mark.reason))?;
     page.put(out, b"\n")

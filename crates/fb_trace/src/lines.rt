@@ -38,7 +38,13 @@ fn put_more<W: Write>(
     let ports = system.ports(line.instance);
     let shown = shown_by(system, ports, line);
     let values = line.values.as_slice();
-    put_values(page, out, shown.variables, &shown.places[1..], &values[1..])?;
+    put_values(
+        page,
+        out,
+        shown.variables,
+        &shown.indexes[1..],
+        &values[1..],
+    )?;
     page.make_room(out, 1)
 }
 
@@ -83,7 +89,7 @@ fn put_bindings<W: Write>(
         page,
         out,
         shown.variables,
-        shown.places,
+        shown.indexes,
         line.values.as_slice(),
     )
 }

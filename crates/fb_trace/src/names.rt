@@ -3,7 +3,7 @@
 ghost use Rattle.std.specs.Prelude.{◌≡◌, ◌<◌, length, if◌then◌else◌};
 ghost use Rattle.fb_types.specs.Headline.{system_of};
 ghost use Rattle.fb_types.specs.Numbers.{event_at, path_at, ports_at};
-ghost use Rattle.fb_system.specs.Stands.{ArePlaces};
+ghost use Rattle.fb_system.specs.Stands.{AreIndexes};
 ghost use Rattle.fb_system.specs.Lines.{BelongsTo, line_variables};
 ghost use Rattle.fb_trace.specs.Starts.{head_of_line};
 
@@ -41,7 +41,7 @@ pub(crate) fn event_name<'a>(ports: &'a Ports, line: &Line) -> &'a [u8]
 #[derive(Clone, Copy)]
 pub(crate) struct Shown<'a> {
     pub(crate) variables: &'a [Variable],
-    pub(crate) places: &'a [u32],
+    pub(crate) indexes: &'a [u32],
 }
 
 /// The variables WITH a line's event, by the interface of its instance.
@@ -49,17 +49,17 @@ pub(crate) struct Shown<'a> {
 pub(crate) fn shown_by<'a>(system: &'a System, ports: &'a Ports, line: &Line) -> Shown<'a>
     requires belongs { BelongsTo (system_of system.now) line.now }
     requires ports { let sys = system_of system.now in ports.now ≡ ports_at sys (path_at sys line.now.instance) }
-    ensures { ArePlaces result.variables.now (line_variables (system_of system.now) line.now) result.places.now }
+    ensures { AreIndexes result.variables.now (line_variables (system_of system.now) line.now) result.indexes.now }
 {
     if line.taken {
         Shown {
             variables: ports.inputs.as_slice(),
-            places: system.inputs_with(line.instance, line.event),
+            indexes: system.inputs_with(line.instance, line.event),
         }
     } else {
         Shown {
             variables: ports.outputs.as_slice(),
-            places: system.outputs_with(line.instance, line.event),
+            indexes: system.outputs_with(line.instance, line.event),
         }
     }
 }

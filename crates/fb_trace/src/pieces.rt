@@ -3,7 +3,7 @@
 ghost use Rattle.std.specs.Prelude.{◌≡◌, ◌<◌, ◌≤◌, ◌+◌, ◌++◌, ℕ, List, Option, length, map, All, codes, decimal, if◌then◌else◌};
 ghost use Rattle.fb_types.specs.Headline.{system_of};
 ghost use Rattle.fb_types.specs.Numbers.{pair_up};
-ghost use Rattle.fb_types.specs.Text.{key_text, place_text, value_text, values_text};
+ghost use Rattle.fb_types.specs.Text.{key_text, tick_and_resource_text, value_text, values_text};
 ghost use Rattle.fb_system.specs.Stands.{variable_at};
 ghost use Rattle.fb_trace.specs.Progress.{Gathers, Puts};
 
@@ -42,7 +42,7 @@ pub(crate) fn put_key<W: Write>(
 }
 
 /// Puts a tick and the name of a resource.
-pub(crate) fn put_place<W: Write>(
+pub(crate) fn put_tick_and_resource<W: Write>(
     page: &mut Page,
     out: &mut W,
     system: &System,
@@ -50,7 +50,7 @@ pub(crate) fn put_place<W: Write>(
     resource: u32,
 ) -> Result<(), WriteFault>
     requires { resource < length (system_of system.now).resource_names }
-    ensures { Gathers (W.contents out.old) (W.contents out.new) page.old page.new (place_text (system_of system.now) tick resource) result }
+    ensures { Gathers (W.contents out.old) (W.contents out.new) page.old page.new (tick_and_resource_text (system_of system.now) tick resource) result }
 {
     page.put_number(out, tick as u128)?;
     page.put(out, b" ")?;
@@ -238,16 +238,16 @@ pub(crate) fn put_values<W: Write>(
     page: &mut Page,
     out: &mut W,
     variables: &[Variable],
-    places: &[u32],
+    indexes: &[u32],
     values: &[Value],
 ) -> Result<(), WriteFault>
-    requires counted { length values.now ≡ length places.now }
-    requires within { All (λ k. k < length variables.now) places.now }
+    requires counted { length values.now ≡ length indexes.now }
+    requires within { All (λ k. k < length variables.now) indexes.now }
     ensures { Gathers (W.contents out.old) (W.contents out.new) page.old page.new
-        (values_text (pair_up (map (variable_at variables.now) places.now) values.now)) result }
+        (values_text (pair_up (map (variable_at variables.now) indexes.now) values.now)) result }
 {
-    for (place, value) in places.iter().zip(values) {
-        let name = variables[*place as usize].name.as_bytes();
+    for (index, value) in indexes.iter().zip(values) {
+        let name = variables[*index as usize].name.as_bytes();
         put_binding(page, out, name, *value)?;
     }
     Ok(())

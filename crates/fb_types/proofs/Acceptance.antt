@@ -10,7 +10,7 @@ use Rattle.fb_types.specs.Flat.{pairs_in, kind_of, variables_in, kind_at, resour
 use Rattle.fb_types.specs.Syntax.{body_of}
 use Rattle.fb_types.specs.Repeated.{Twice, NameTwice, name_spaces, Placed, networks, basics, event_pairs, link_pairs}
 use Rattle.fb_types.specs.Unknown.{Wanted, wanted, mentioned, is_known, ends_known, NameUnknown, guards_of}
-use Rattle.fb_types.specs.Kinds.{KindWrong, is_condition, body_right, place_in, declared_right, parameters_right}
+use Rattle.fb_types.specs.Kinds.{KindWrong, is_condition, body_right, context_in, declared_right, parameters_right}
 use Rattle.fb_types.specs.Joined.{OutOfRange, type_at_end, TwoSources, TooHigh}
 use Rattle.fb_types.specs.Mapped.{mapped, NotMapped, event_pairs_of, data_pairs_of, NoLink, IsServed, NoEvent}
 use Rattle.fb_types.specs.Accepted.{IsAccepted, IsGood, BadStimulus, OverLimit, set_names, kind_of_stimulus, is_held}
@@ -97,24 +97,24 @@ names-known lib plan h (inr (inr r)) = no (ends_known lib r.0) (passes_at (ends_
 
 -- E22
 pub record KindsRight (lib : Library) : Type 0 where
-  pub guards : list_all (λ t. list_all (is_condition (place_in t)) (guards_of t)) (basics lib) ≡ true
-  pub bodies : list_all (λ t. list_all (body_right (place_in t)) (map (λ a. body_of a.body) t.algorithms)) (basics lib) ≡ true
+  pub guards : list_all (λ t. list_all (is_condition (context_in t)) (guards_of t)) (basics lib) ≡ true
+  pub bodies : list_all (λ t. list_all (body_right (context_in t)) (map (λ a. body_of a.body) t.algorithms)) (basics lib) ≡ true
   pub declared : list_all (λ t. list_all declared_right (variables_in (kind_of t))) lib.blocks ≡ true
   pub parameters : list_all (λ n. list_all (parameters_right lib) n.1.instances) (networks lib) ≡ true
 
 kinds-right : (lib : Library) → KindsRight lib → ¬ (KindWrong lib)
 kinds-right lib h (inl (t, c, inl r)) =
-    no (is_condition (place_in t) r.0)
+    no (is_condition (context_in t) r.0)
     (
-    passes_at (is_condition (place_in t)) (guards_of t) r.0
-    (passes_at (λ (t : BasicType). list_all (is_condition (place_in t)) (guards_of t)) (basics lib) t h.guards c) r.1
+    passes_at (is_condition (context_in t)) (guards_of t) r.0
+    (passes_at (λ (t : BasicType). list_all (is_condition (context_in t)) (guards_of t)) (basics lib) t h.guards c) r.1
     )
     r.2
 kinds-right lib h (inl (t, c, inr r)) =
-    no (body_right (place_in t) r.0)
+    no (body_right (context_in t) r.0)
     (
-    passes_at (body_right (place_in t)) (map (λ a. body_of a.body) t.algorithms) r.0
-    (passes_at (λ (t : BasicType). list_all (body_right (place_in t)) (map (λ a. body_of a.body) t.algorithms)) (basics lib) t h.bodies c) r.1
+    passes_at (body_right (context_in t)) (map (λ a. body_of a.body) t.algorithms) r.0
+    (passes_at (λ (t : BasicType). list_all (body_right (context_in t)) (map (λ a. body_of a.body) t.algorithms)) (basics lib) t h.bodies c) r.1
     )
     r.2
 kinds-right lib h (inr (inl r)) =

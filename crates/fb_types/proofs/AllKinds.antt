@@ -4,7 +4,7 @@ use Rattle.std.specs.Prelude.{slice_get, Some, option_map}
 use Rattle.std.proofs.lemmas.List.{take_more, map-append}
 use Rattle.std.proofs.lemmas.Option.{slice_get-map}
 use Rattle.fb_types.specs.Blocks.{ports_of_event_block}
-use Rattle.fb_types.specs.EventPorts.{ArePortsOfKinds, kind_place}
+use Rattle.fb_types.specs.EventPorts.{ArePortsOfKinds, kind_index}
 use Rattle.fb_types.specs.declared.event_kind.EventKind.{EventKind}
 use Rattle.fb_types.specs.declared.event_kind.EventKind.TheVariants.{Restart, Split, Merge, Rendezvous, Permit, Select, Switch, Delay, Cycle, SetReset, DataLatch, RisingEdge, FallingEdge, CountUp}
 use Rattle.fb_types.specs.declared.library.Ports.{Ports}
@@ -14,7 +14,7 @@ kinds =
     Restart ∷ Split ∷ Merge ∷ Rendezvous ∷ Permit ∷ Select ∷ Switch ∷ Delay ∷ Cycle ∷ SetReset ∷ DataLatch ∷ RisingEdge ∷ FallingEdge ∷ CountUp ∷ []
 
 -- each kind is at its index
-pub kind_stands : (k : EventKind) → slice_get kinds (kind_place k) ≡ Some k
+pub kind_stands : (k : EventKind) → slice_get kinds (kind_index k) ≡ Some k
 kind_stands Restart = refl
 kind_stands Split = refl
 kind_stands Merge = refl
@@ -40,5 +40,5 @@ ports_next n all more x h is so_far grown =
 
 pub ports_all : (n : ℕ) (all : List Ports) → n ≡ 14 → all ≡ map ports_of_event_block (take n kinds) → ArePortsOfKinds all
 ports_all n all e so_far k =
-    ap (λ (ps : List Ports). slice_get ps (kind_place k)) (so_far ∙ ap (λ n. map ports_of_event_block (take n kinds)) e)
-    ∙ slice_get-map ports_of_event_block kinds (kind_place k) ∙ ap (option_map ports_of_event_block) (kind_stands k)
+    ap (λ (ps : List Ports). slice_get ps (kind_index k)) (so_far ∙ ap (λ n. map ports_of_event_block (take n kinds)) e)
+    ∙ slice_get-map ports_of_event_block kinds (kind_index k) ∙ ap (option_map ports_of_event_block) (kind_stands k)

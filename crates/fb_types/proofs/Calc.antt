@@ -4,7 +4,7 @@ use Rattle.std.specs.Prelude.{codes}
 use Rattle.std.specs.Fmt.{digits}
 use Rattle.fb_types.specs.Blocks.{types_of, Emission}
 use Rattle.fb_types.specs.Bodies.{Went, Stopped}
-use Rattle.fb_types.specs.Charts.{Place}
+use Rattle.fb_types.specs.Charts.{Position}
 use Rattle.fb_types.specs.ExampleBodies.{calc, calc_type, counting, CountingTrace, CountingStops, adding, RangeTrace, dividing, DivideTrace}
 use Rattle.fb_types.specs.ExampleRuns.{counted}
 use Rattle.fb_types.specs.Headline.{system_of, stimuli_of}
@@ -23,11 +23,11 @@ use Rattle.fb_types.proofs.ReadBodies.{as_read, says_counting, says_sum}
 use Rattle.fb_types.proofs.Runs.{five}
 
 -- GO is taken, with the result of the chart.
-abbrev goes : (Place → Option Reason × Place) → List Step
+abbrev goes : (Position → Option Reason × Position) → List Step
 goes chart =
     record { key = stimulus_key 0 0 0; event = Stimulated (record { at = codes "B" ∷ []; name = codes "GO" }) []; chart = chart } ∷ []
 
-abbrev taken : read_stmt.Stmt → (limit : ℕ) → (Place → Option Reason × Place) → List Taken
+abbrev taken : read_stmt.Stmt → (limit : ℕ) → (Position → Option Reason × Position) → List Taken
 taken s limit chart = takings (system_of (calc s)) limit (opening (system_of (calc s)) (stimuli_of (calc s))) (goes chart)
 
 -- ---- The counting loop
@@ -36,11 +36,11 @@ abbrev finished : Emission
 finished = record { event = codes "DONE"; values = record { variable = codes "X"; value = value.Whole (pos 32767) } ∷ [] }
 
 -- back in IDLE, with no step left
-abbrev counts : Place → Option Reason × Place
+abbrev counts : Position → Option Reason × Position
 counts p = (None, record { state = codes "IDLE"; vars = counted p.vars; left = 0; emitted = finished ∷ [] })
 
 -- back in IDLE, without the step for the trial
-abbrev counts_short : Place → Option Reason × Place
+abbrev counts_short : Position → Option Reason × Position
 counts_short p = (Some reason.Steps, record { state = codes "IDLE"; vars = counted p.vars; left = 0; emitted = finished ∷ [] })
 
 ten : IsSimulation (system_of (calc counting)) (stimuli_of (calc counting)) 1 10 (taken counting 10 counts)
@@ -72,7 +72,7 @@ counting-stops = record { takings = taken counting 9 counts_short; simulation = 
 -- ---- Faults
 
 -- in RUN, and the algorithm is not done
-abbrev faults : Reason → Place → Option Reason × Place
+abbrev faults : Reason → Position → Option Reason × Position
 faults r p = (Some r, record { state = codes "RUN"; vars = p.vars; left = p.left - 3; emitted = [] })
 
 too_great : IsSimulation (system_of (calc adding)) (stimuli_of (calc adding)) 1 10000 (taken adding 10000 (faults reason.Range))

@@ -3,7 +3,7 @@ use Rattle.std.proofs.Common.{◌≡◌, ℕ, zero, suc, sym, subst, ◌∙◌, 
 use Rattle.fb_types.specs.Names.{Name}
 use Rattle.fb_types.specs.Bodies.{End, Went, Left, Returned, Stopped}
 use Rattle.fb_types.specs.Blocks.{types_of}
-use Rattle.fb_types.specs.Charts.{Place, Moving, Halts, Performs, AfterBody, Acts, OrHalts, Trial, Clears, NoneClears, Fails, Rests, Enters, Links, ChartReacts, trial_at, actions_of, algorithm_of, at_point, emitting}
+use Rattle.fb_types.specs.Charts.{Position, Moving, Halts, Performs, AfterBody, Acts, OrHalts, Trial, Clears, NoneClears, Fails, Rests, Enters, Links, ChartReacts, trial_at, actions_of, algorithm_of, at_point, emitting}
 use Rattle.fb_types.proofs.BodyLaws.{body-one}
 use Rattle.fb_types.specs.declared.library.Action.{Action}
 use Rattle.fb_types.specs.declared.library.BasicType.{BasicType}
@@ -12,9 +12,9 @@ use Rattle.fb_types.specs.declared.value.Reason.TheVariants.{Steps}
 
 -- Two movements from a position end the same way, one of each kind.
 abbrev OneOf : Moving → Moving → Type 0
-OneOf R S = (p : Place) (s t : Option Reason) (q u : Place) → R p s q → S p t u → (s ≡ t) × (q ≡ u)
+OneOf R S = (p : Position) (s t : Option Reason) (q u : Position) → R p s q → S p t u → (s ≡ t) × (q ≡ u)
 
-halts-one : (how : Option Reason) (p : Place) (s t : Option Reason) (q u : Place) → Halts how p s q → Halts how p t u → (s ≡ t) × (q ≡ u)
+halts-one : (how : Option Reason) (p : Position) (s t : Option Reason) (q u : Position) → Halts how p s q → Halts how p t u → (s ≡ t) × (q ≡ u)
 halts-one how p s t q u h i = (h.0 ∙ sym i.0, h.1 ∙ sym i.1)
 
 after_body-one : (e : End) (R : Moving) → OneOf R R → OneOf (AfterBody e R) (AfterBody e R)

@@ -6,7 +6,7 @@ use Rattle.std.proofs.lemmas.Bool.{or_parts, or_from, and_parts, leb-true, ltb-t
 use Rattle.std.proofs.lemmas.List.Elements.{All-nil, All-cons}
 use Rattle.fb_types.specs.Names.{Port}
 use Rattle.fb_types.specs.Blocks.{Kind, Basic, Event, Composite, ports_of, is_event_input}
-use Rattle.fb_types.specs.Charts.{Place, ChartReacts}
+use Rattle.fb_types.specs.Charts.{Position, ChartReacts}
 use Rattle.fb_types.specs.EventBlocks as blocks
 use Rattle.fb_types.specs.Keys.{key_cmp, same_key, Precedes, found, without, changed_to, NoneBelow, timer_key}
 use Rattle.fb_types.specs.Systems.{System}
@@ -135,9 +135,9 @@ after-within sys k e m s o a ks within j h =
 pub record Step : Type 0 where
   pub key : Key
   pub event : AnEvent
-  pub chart : Place → Option Reason × Place
+  pub chart : Position → Option Reason × Position
 
-abbrev pub outcome_at : System → Key → World → Port → ℕ → (Place → Option Reason × Place) → Option Kind → Outcome
+abbrev pub outcome_at : System → Key → World → Port → ℕ → (Position → Option Reason × Position) → Option Kind → Outcome
 outcome_at sys k w q left chart None = silent w left
 outcome_at sys k w q left chart (Some (Basic t)) =
     let first = taking sys k w q t.ports left in
@@ -152,12 +152,12 @@ outcome_at sys k w q left chart (Some (Composite t)) =
     else crossing_out sys k w q t.ports left
 
 -- what is left to show: that the chart of a basic block has this result
-abbrev pub Shown_at : System → Key → World → Port → ℕ → (Place → Option Reason × Place) → Option Kind → Type 0
+abbrev pub Shown_at : System → Key → World → Port → ℕ → (Position → Option Reason × Position) → Option Kind → Type 0
 Shown_at sys k w q left chart (Some (Basic t)) =
     let p = start_of (taking sys k w q t.ports left) q.at in let x = chart p in ChartReacts t q.name p x.0 x.1
 Shown_at sys k w q left chart _ = Unit {0}
 
-reacts_at : (sys : System) (k : Key) (w : World) (q : Port) (left : ℕ) (chart : Place → Option Reason × Place) (kind : Option Kind)
+reacts_at : (sys : System) (k : Key) (w : World) (q : Port) (left : ℕ) (chart : Position → Option Reason × Position) (kind : Option Kind)
     → Shown_at sys k w q left chart kind → ReactsAt sys k w q left kind (outcome_at sys k w q left chart kind)
 reacts_at sys k w q left chart None h = refl
 reacts_at sys k w q left chart (Some (Basic t)) h =
@@ -165,19 +165,19 @@ reacts_at sys k w q left chart (Some (Basic t)) h =
 reacts_at sys k w q left chart (Some (Event kind)) h = refl
 reacts_at sys k w q left chart (Some (Composite t)) h = refl
 
-abbrev pub outcome : System → Key → World → AnEvent → ℕ → (Place → Option Reason × Place) → Outcome
+abbrev pub outcome : System → Key → World → AnEvent → ℕ → (Position → Option Reason × Position) → Outcome
 outcome sys k w (Stimulated q bs) left chart = outcome_at sys k (with_slots q.at bs w) q left chart (sys.kind q.at)
 outcome sys k w (Expired p) left chart = expires sys k w p left (sys.kind p)
 outcome sys k w (Arrived q cs) left chart = outcome_at sys k (record w { held = hold_all cs w.held }) q left chart (sys.kind q.at)
 outcome sys k w (Raised q) left chart = outcome_at sys k w q left chart (sys.kind q.at)
 
-abbrev pub Shown : System → Key → World → AnEvent → ℕ → (Place → Option Reason × Place) → Type 0
+abbrev pub Shown : System → Key → World → AnEvent → ℕ → (Position → Option Reason × Position) → Type 0
 Shown sys k w (Stimulated q bs) left chart = Shown_at sys k (with_slots q.at bs w) q left chart (sys.kind q.at)
 Shown sys k w (Expired p) left chart = Unit {0}
 Shown sys k w (Arrived q cs) left chart = Shown_at sys k (record w { held = hold_all cs w.held }) q left chart (sys.kind q.at)
 Shown sys k w (Raised q) left chart = Shown_at sys k w q left chart (sys.kind q.at)
 
-reacts : (sys : System) (k : Key) (w : World) (e : AnEvent) (left : ℕ) (chart : Place → Option Reason × Place)
+reacts : (sys : System) (k : Key) (w : World) (e : AnEvent) (left : ℕ) (chart : Position → Option Reason × Position)
     → Shown sys k w e left chart → Reacts sys k w e left (outcome sys k w e left chart)
 reacts sys k w (Stimulated q bs) left chart h = reacts_at sys k (with_slots q.at bs w) q left chart (sys.kind q.at) h
 reacts sys k w (Expired p) left chart h = refl
@@ -337,7 +337,7 @@ simulates sys stimuli horizon limit xs h =
     record { chain = d.0; below = d.1; rests = d.2 }
 
 -- of a block that has no chart
-abbrev pub no_chart : Place → Option Reason × Place
+abbrev pub no_chart : Position → Option Reason × Position
 no_chart p = (None, p)
 
 abbrev pub step : Key → AnEvent → Step

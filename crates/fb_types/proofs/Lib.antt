@@ -3,7 +3,7 @@ pub mod TwiceLaws
 pub mod NameLaws
 pub mod Words
 pub mod Positions
-pub mod ByPlace
+pub mod ByIndex
 pub mod ListTests
 pub mod Options
 pub mod LoopSteps

@@ -13,7 +13,7 @@ use Rattle.fb_types.specs.Text.{trace_text}
 use Rattle.fb_types.specs.declared.run.Form.TheVariants.{One}
 use Rattle.fb_types.proofs.Derivations.{Step, step, takings, simulates}
 use Rattle.fb_types.specs.Blocks.{Emission}
-use Rattle.fb_types.specs.Charts.{Place}
+use Rattle.fb_types.specs.Charts.{Position}
 use Rattle.fb_types.specs.declared.value.Reason.{Reason}
 use Rattle.fb_types.specs.declared.value.Reason.TheVariants.{Steps}
 
@@ -26,7 +26,7 @@ event i e = record { at = i ∷ []; name = e }
 abbrev ticked : Emission
 ticked = record { event = codes "TICKED"; values = [] }
 
-abbrev loops : Place → Option Reason × Place
+abbrev loops : Position → Option Reason × Position
 loops p = (Some Steps, record { state = codes "BUSY"; vars = p.vars; left = 0; emitted = ticked ∷ ticked ∷ ticked ∷ ticked ∷ [] })
 
 abbrev steps : List Step

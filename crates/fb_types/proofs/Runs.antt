@@ -6,7 +6,7 @@ use Rattle.fb_types.specs.Values.{Values}
 use Rattle.fb_types.specs.Bodies.{Went, Left, Stopped, RunsBody}
 use Rattle.fb_types.specs.Charts.{ChartReacts}
 use Rattle.fb_types.specs.Examples.{looper_type}
-use Rattle.fb_types.specs.ExampleRuns.{counting_loop, calc_types, point, counted, CountsInFive, StopsInFour, place, ticked, EmitsFourTimes}
+use Rattle.fb_types.specs.ExampleRuns.{counting_loop, calc_types, point, counted, CountsInFive, StopsInFour, index, ticked, EmitsFourTimes}
 use Rattle.fb_types.specs.declared.value.Reason.TheVariants.{Steps}
 use Rattle.fb_types.specs.declared.value.Value.TheVariants as value
 use Rattle.fb_types.proofs.BodyLaws.{body-one}
@@ -105,11 +105,11 @@ pub stops-in-four : StopsInFour
 stops-in-four vars =
     (four vars, λ f s run. body-one counting_loop calc_types (point vars 4) f (Stopped Steps) s (point (counted vars) 0) run (four vars))
 
-loops : (vars : Values) → ChartReacts looper_type (codes "GO") (place (codes "IDLE") vars 9 []) (Some Steps)
-    (place (codes "BUSY") vars 0 (ticked ∷ ticked ∷ ticked ∷ ticked ∷ []))
+loops : (vars : Values) → ChartReacts looper_type (codes "GO") (index (codes "IDLE") vars 9 []) (Some Steps)
+    (index (codes "BUSY") vars 0 (ticked ∷ ticked ∷ ticked ∷ ticked ∷ []))
 loops vars =
     (5, (None, _, (refl, refl), (None, _, (refl, refl), (None, _, (refl, refl), (None, _, (refl, refl), (Some Steps, _, (refl, refl), (refl, refl)))))))
 
 pub emits-four-times : EmitsFourTimes
 emits-four-times vars =
-    (loops vars, λ s r h. chart-one looper_type (codes "GO") (place (codes "IDLE") vars 9 []) s (Some Steps) r _ h (loops vars))
+    (loops vars, λ s r h. chart-one looper_type (codes "GO") (index (codes "IDLE") vars 9 []) s (Some Steps) r _ h (loops vars))

@@ -12,7 +12,7 @@ use Rattle.fb_types.specs.Names.{Name, Port}
 use Rattle.fb_types.specs.Text.{trace_text}
 use Rattle.fb_types.specs.declared.run.Form.TheVariants.{One}
 use Rattle.fb_types.proofs.Derivations.{Step, takings, simulates}
-use Rattle.fb_types.specs.Charts.{Place}
+use Rattle.fb_types.specs.Charts.{Position}
 use Rattle.fb_types.specs.declared.value.Reason.{Reason}
 
 abbrev sys : System
@@ -22,7 +22,7 @@ abbrev event : Name → Name → Port
 event i e = record { at = i ∷ []; name = e }
 
 -- a transition and an action, and, if the target has a transition, one that is tried in vain
-abbrev to_state : (cost : ℕ) → Name → Name → Place → Option Reason × Place
+abbrev to_state : (cost : ℕ) → Name → Name → Position → Option Reason × Position
 to_state cost s e p = (None, record { state = s; vars = p.vars; left = p.left - cost; emitted = record { event = e; values = [] } ∷ [] })
 
 abbrev steps : List Step

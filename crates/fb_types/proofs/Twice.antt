@@ -5,7 +5,7 @@ use Rattle.std.specs.Fmt.{digits}
 use Rattle.fb_types.specs.Blocks.{types_of}
 use Rattle.fb_types.specs.Names.{with_value}
 use Rattle.fb_types.specs.Bodies.{Went}
-use Rattle.fb_types.specs.Charts.{Place}
+use Rattle.fb_types.specs.Charts.{Position}
 use Rattle.fb_types.specs.ExampleBodies.{doubling, doubler_type, twice, TwiceTrace}
 use Rattle.fb_types.specs.Headline.{system_of, stimuli_of}
 use Rattle.fb_types.specs.Keys.{local_key, stimulus_key}
@@ -23,7 +23,7 @@ abbrev sys : System
 sys = system_of twice
 
 -- The algorithm has run, DONE is emitted, and the chart is back in IDLE: five steps.
-abbrev doubled : Place → Option Reason × Place
+abbrev doubled : Position → Option Reason × Position
 doubled p = (
   None,
   record {

@@ -15,7 +15,7 @@ use Rattle.fb_types.specs.declared.library.Transition.{Transition}
 use Rattle.fb_types.specs.declared.library.BasicType.{BasicType}
 
 -- The position of a chart: its state, its variables, the steps that are left, and what it has emitted, in order.
-pub record Place : Type 0 where
+pub record Position : Type 0 where
   pub state : Name
   pub vars : Values
   pub left : ℕ
@@ -71,18 +71,18 @@ trial_of (t ∷ ts) present vars (suc left) =
 
 -- A chart moves from one position to another, where it continues or has been stopped by a reason.
 abbrev pub Moving : Type 1
-Moving = Place → Option Reason → Place → Type 0
+Moving = Position → Option Reason → Position → Type 0
 
 abbrev pub Halts : Option Reason → Moving
 Halts how p stop q = (stop ≡ how) × (q ≡ p)
 
 -- with the output event of an action, if it has one
-abbrev pub emitting : BasicType → Option Name → Place → Place
+abbrev pub emitting : BasicType → Option Name → Position → Position
 emitting t None p = p
 emitting t (Some e) p =
     record p { emitted = p.emitted ++ record { event = e; values = bound (outputs_with t.ports e) p.vars } ∷ [] }
 
-abbrev pub at_point : Place → Point → Place
+abbrev pub at_point : Position → Point → Position
 at_point p m = record p { vars = m.vars; left = m.left }
 
 abbrev pub AfterBody : End → Moving → Moving
@@ -118,12 +118,12 @@ Rests (Fails r left) p stop q = Halts (Some r) (record p { left = left }) stop q
 -- A link enters the target of the first true transition and performs its actions.
 abbrev pub Enters : BasicType → Trial → Moving → Moving
 Enters t (Clears target left) rest p stop q =
-    (s : Option Reason) × (m : Place) × Acts t (actions_of t target) left (record p { state = target; left = left }) s m
+    (s : Option Reason) × (m : Position) × Acts t (actions_of t target) left (record p { state = target; left = left }) s m
     × OrHalts s rest m stop q
 Enters t (NoneClears left) rest p stop q = ⊥
 Enters t (Fails r left) rest p stop q = ⊥
 
-abbrev pub trial_at : BasicType → Option Name → Place → Trial
+abbrev pub trial_at : BasicType → Option Name → Position → Trial
 trial_at t present p = trial_of (leaving t p.state) present p.vars p.left
 
 -- A chain of a number of links. The event is present in the first trial only.

@@ -6,7 +6,7 @@ use Rattle.fb_types.specs.Syntax.{Whole, For, Empty, Stmts, no_stmt, then_stmts}
 use Rattle.fb_types.specs.Values.{Values, Types}
 use Rattle.fb_types.specs.Bodies.{Point, End, Went, Stopped, RunsBody}
 use Rattle.fb_types.specs.Blocks.{types_of, Emission}
-use Rattle.fb_types.specs.Charts.{Place, ChartReacts}
+use Rattle.fb_types.specs.Charts.{Position, ChartReacts}
 use Rattle.fb_types.specs.Examples.{looper_type}
 use Rattle.fb_types.specs.ExampleBodies.{calc_type, counting}
 use Rattle.fb_types.specs.declared.library.BasicType.{BasicType}
@@ -45,20 +45,20 @@ StopsInFour = (vars : Values) → IsOnlyRun calc_types counting_loop (point vars
 
 -- ---- The chart without a resting state
 
-abbrev pub place : Name → Values → ℕ → List Emission → Place
-place s vars left es = record { state = s; vars = vars; left = left; emitted = es }
+abbrev pub index : Name → Values → ℕ → List Emission → Position
+index s vars left es = record { state = s; vars = vars; left = left; emitted = es }
 
 abbrev pub ticked : Emission
 ticked = record { event = codes "TICKED"; values = [] }
 
 -- A chart moves from one position to another by an event, and every reaction from there does.
-abbrev pub IsOnlyReaction : BasicType → Name → Place → Option Reason → Place → Type 0
+abbrev pub IsOnlyReaction : BasicType → Name → Position → Option Reason → Position → Type 0
 IsOnlyReaction t e p stop q =
-    ChartReacts t e p stop q × ((s : Option Reason) (r : Place) → ChartReacts t e p s r → (s ≡ stop) × (r ≡ q))
+    ChartReacts t e p stop q × ((s : Option Reason) (r : Position) → ChartReacts t e p s r → (s ≡ stop) × (r ≡ q))
 
 -- With nine steps left after that of the event it clears five transitions and emits four times. The fifth action would be
 -- the tenth step.
 abbrev pub EmitsFourTimes : Type 0
 EmitsFourTimes =
-    (vars : Values) → IsOnlyReaction looper_type (codes "GO") (place (codes "IDLE") vars 9 []) (Some Steps)
-    (place (codes "BUSY") vars 0 (ticked ∷ ticked ∷ ticked ∷ ticked ∷ []))
+    (vars : Values) → IsOnlyReaction looper_type (codes "GO") (index (codes "IDLE") vars 9 []) (Some Steps)
+    (index (codes "BUSY") vars 0 (ticked ∷ ticked ∷ ticked ∷ ticked ∷ []))

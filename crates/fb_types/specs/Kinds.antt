@@ -94,22 +94,22 @@ is_sort s (Some t) = same_sort s t
 -- ---- Statements
 
 -- What surrounds a statement: the types of the variables, those that it may not assign, and whether it is in a loop.
-pub record Place : Type 0 where
+pub record Context : Type 0 where
   pub types : Types
   pub fixed : Name → Bool
   pub in_loop : Bool
 
-abbrev pub looped : Place → Place
+abbrev pub looped : Context → Context
 looped p = record p { in_loop = true }
 
-abbrev pub is_whole : Place → Expr → Bool
+abbrev pub is_whole : Context → Expr → Bool
 is_whole p e = is_sort WholeNumber (sort_of p.types e)
 
-abbrev pub is_condition : Place → Expr → Bool
+abbrev pub is_condition : Context → Expr → Bool
 is_condition p e = is_sort TruthValue (sort_of p.types e)
 
 abbrev mutual
-  pub is_right : Place → Stmt → Bool
+  pub is_right : Context → Stmt → Bool
   is_right p Empty = true
   is_right p Exit = p.in_loop
   is_right p Return = true
@@ -122,21 +122,21 @@ abbrev mutual
   is_right p (While c body) = is_condition p c && body_right (looped p) body
   is_right p (Repeat body c) = body_right (looped p) body && is_condition p c
 
-  pub body_right : Place → Stmts → Bool
+  pub body_right : Context → Stmts → Bool
   body_right p no_stmt = true
   body_right p (then_stmts s rest) = is_right p s && body_right p rest
 
-  pub choices_right : Place → Choices → Bool
+  pub choices_right : Context → Choices → Bool
   choices_right p no_choice = true
   choices_right p (then_choices c body rest) = is_condition p c && body_right p body && choices_right p rest
 
-  pub branches_right : Place → Branches → Bool
+  pub branches_right : Context → Branches → Bool
   branches_right p no_branch = true
   branches_right p (then_branches ls body rest) = body_right p body && branches_right p rest
 
 -- an algorithm or a guard of a type: its input variables may not be assigned
-abbrev pub place_in : BasicType → Place
-place_in t = record { types = types_of t; fixed = is_input t.ports; in_loop = false }
+abbrev pub context_in : BasicType → Context
+context_in t = record { types = types_of t; fixed = is_input t.ports; in_loop = false }
 
 -- ---- Declared values and parameters
 
@@ -155,8 +155,8 @@ parameters_right lib i =
 
 abbrev pub ChartWrong : BasicType → Type 0
 ChartWrong t =
-    ((e : Expr) × Contains (guards_of t) e × (is_condition (place_in t) e ≡ false))
-    ⊎ ((s : Stmts) × Contains (map (λ a. body_of a.body) t.algorithms) s × (body_right (place_in t) s ≡ false))
+    ((e : Expr) × Contains (guards_of t) e × (is_condition (context_in t) e ≡ false))
+    ⊎ ((s : Stmts) × Contains (map (λ a. body_of a.body) t.algorithms) s × (body_right (context_in t) s ≡ false))
 
 abbrev pub KindWrong : Library → Type 0
 KindWrong lib =

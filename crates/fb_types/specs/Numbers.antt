@@ -25,10 +25,10 @@ pair_up (n ∷ ns) [] = []
 pair_up (n ∷ ns) (v ∷ vs) = record { variable = n; value = v } ∷ pair_up ns vs
 
 -- what the variables hold whose values are at the indices of their names
-abbrev pub by_place : List Name → List Value → Values
-by_place [] vs m = zero_value
-by_place (n ∷ ns) [] m = zero_value
-by_place (n ∷ ns) (v ∷ vs) m = if same_name m n then v else by_place ns vs m
+abbrev pub by_index : List Name → List Value → Values
+by_index [] vs m = zero_value
+by_index (n ∷ ns) [] m = zero_value
+by_index (n ∷ ns) (v ∷ vs) m = if same_name m n then v else by_index ns vs m
 
 -- an emission of a block with these ports
 abbrev pub emission_of : Ports → run.Emission → Emission

@@ -3,7 +3,7 @@ use Rattle.std.specs.Prelude.{◌≡◌, ℕ, List, [], ◌∷◌, ◌++◌, map
 use Rattle.fb_types.specs.Names.{Name, with_value, Path, same_path, Port, same_port}
 use Rattle.fb_types.specs.Values.{Values}
 use Rattle.fb_types.specs.Blocks.{Kind, Basic, Event, Composite, ports_of, inputs_with, outputs_with, is_event_input, is_input, Bound, bound, Emission, among}
-use Rattle.fb_types.specs.Charts.{Place, ChartReacts}
+use Rattle.fb_types.specs.Charts.{Position, ChartReacts}
 use Rattle.fb_types.specs.EventBlocks as blocks
 use Rattle.fb_types.specs.Systems.{System}
 use Rattle.fb_types.specs.States.{Memory, InState, Remembers, Block, Event as AnEvent, Stimulated, Expired, Arrived, Raised, Line}
@@ -113,18 +113,18 @@ state_of (InState s) = s
 state_of _ = []
 
 -- where a chart begins its reaction
-abbrev pub start_of : Outcome → Path → Place
+abbrev pub start_of : Outcome → Path → Position
 start_of o p =
     let b = o.world.blocks p in record { state = state_of b.memory; vars = b.variables; left = o.left; emitted = [] }
 
 -- a basic block whose chart has reached a position
-abbrev pub settled : Path → Place → Option Reason → Outcome → Outcome
+abbrev pub settled : Path → Position → Option Reason → Outcome → Outcome
 settled p c stop o =
     let b = o.world.blocks p in
     record o { world = with_block p (record b { memory = InState c.state; variables = c.vars }) o.world; left = c.left; stop = stop }
 
 -- .. and what it emitted on the way
-abbrev pub charted : System → Key → Path → Outcome → Place → Option Reason → Outcome
+abbrev pub charted : System → Key → Path → Outcome → Position → Option Reason → Outcome
 charted sys k p o c stop = emitted_all sys k p c.emitted (settled p c stop o)
 
 -- ---- Event blocks
@@ -170,7 +170,7 @@ abbrev pub ReactsAt : System → Key → World → Port → ℕ → Option Kind 
 ReactsAt sys k w q left None o = o ≡ silent w left
 ReactsAt sys k w q left (Some (Basic t)) o =
     let begun = taking sys k w q t.ports left in
-    (stop : Option Reason) × (c : Place) × ChartReacts t q.name (start_of begun q.at) stop c × (o ≡ charted sys k q.at begun c stop)
+    (stop : Option Reason) × (c : Position) × ChartReacts t q.name (start_of begun q.at) stop c × (o ≡ charted sys k q.at begun c stop)
 ReactsAt sys k w q left (Some (Event kind)) o =
     let begun = taking sys k w q (ports_of (Event kind)) left in
     let b = begun.world.blocks q.at in

@@ -30,8 +30,8 @@ values_text [] = []
 values_text (b ∷ bs) = codes " " ++ b.variable ++ codes "=" ++ value_text b.value ++ values_text bs
 
 -- the tick and the name of the resource
-abbrev pub place_text : System → (tick resource : ℕ) → List ℕ
-place_text sys tick r = decimal tick ++ codes " " ++ unwrap_or (slice_get sys.resource_names r) []
+abbrev pub tick_and_resource_text : System → (tick resource : ℕ) → List ℕ
+tick_and_resource_text sys tick r = decimal tick ++ codes " " ++ unwrap_or (slice_get sys.resource_names r) []
 
 -- With form two, each line except the last begins with class, a and b of its key.
 abbrev pub key_text : Form → Key → List ℕ
@@ -40,7 +40,7 @@ key_text Two k = decimal k.class ++ codes " " ++ decimal k.a ++ codes " " ++ dec
 
 abbrev pub line_text : Form → System → Line → List ℕ
 line_text form sys l =
-    key_text form l.key ++ place_text sys l.key.tick l.key.resource ++ (if l.taken then codes " > " else codes " < ")
+    key_text form l.key ++ tick_and_resource_text sys l.key.tick l.key.resource ++ (if l.taken then codes " > " else codes " < ")
     ++ path_text l.at ++ codes "." ++ l.event ++ values_text l.values ++ 10 ∷ []
 
 abbrev pub lines_text : Form → System → List Line → List ℕ
@@ -54,7 +54,7 @@ reason_text Range = codes "range"
 
 abbrev pub last_line : System → Ending → List ℕ
 last_line sys (AtHorizon h) = codes "end " ++ decimal h ++ 10 ∷ []
-last_line sys (AtStop tick r reason) = codes "stop " ++ place_text sys tick r ++ codes " " ++ reason_text reason ++ 10 ∷ []
+last_line sys (AtStop tick r reason) = codes "stop " ++ tick_and_resource_text sys tick r ++ codes " " ++ reason_text reason ++ 10 ∷ []
 
 abbrev pub trace_text : Form → System → List Line → Ending → List ℕ
 trace_text form sys lines end = lines_text form sys lines ++ last_line sys end

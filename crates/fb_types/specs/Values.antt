@@ -72,8 +72,8 @@ truth (value.Whole z) = false
 abbrev pub judged : ℤ → Result Value Reason
 judged z = if within_signed 127 z then Ok (value.Whole z) else Err reason.Range
 
-abbrev pub told : Bool → Result Value Reason
-told b = Ok (value.Bool b)
+abbrev pub bool_result : Bool → Result Value Reason
+bool_result b = Ok (value.Bool b)
 
 abbrev pub same_truth : Bool → Bool → Bool
 same_truth true b = b
@@ -99,18 +99,18 @@ modulus x y = if same_whole y (pos 0) then judged (pos 0) else judged (x -ℤ (i
 
 abbrev pub unary_value : UnaryOperator → Value → Result Value Reason
 unary_value Negate v = judged (neg_ℤ (whole v))
-unary_value Not v = told (not (truth v))
+unary_value Not v = bool_result (not (truth v))
 
 abbrev pub binary_value : BinaryOperator → Value → Value → Result Value Reason
-binary_value Or v w = told (truth v || truth w)
-binary_value Xor v w = told (not (same_truth (truth v) (truth w)))
-binary_value And v w = told (truth v && truth w)
-binary_value Equal v w = told (same_value v w)
-binary_value NotEqual v w = told (not (same_value v w))
-binary_value Less v w = told (int_lt (whole v) (whole w))
-binary_value Greater v w = told (int_lt (whole w) (whole v))
-binary_value LessOrEqual v w = told (int_le (whole v) (whole w))
-binary_value GreaterOrEqual v w = told (int_le (whole w) (whole v))
+binary_value Or v w = bool_result (truth v || truth w)
+binary_value Xor v w = bool_result (not (same_truth (truth v) (truth w)))
+binary_value And v w = bool_result (truth v && truth w)
+binary_value Equal v w = bool_result (same_value v w)
+binary_value NotEqual v w = bool_result (not (same_value v w))
+binary_value Less v w = bool_result (int_lt (whole v) (whole w))
+binary_value Greater v w = bool_result (int_lt (whole w) (whole v))
+binary_value LessOrEqual v w = bool_result (int_le (whole v) (whole w))
+binary_value GreaterOrEqual v w = bool_result (int_le (whole w) (whole v))
 binary_value Add v w = judged (whole v +ℤ whole w)
 binary_value Subtract v w = judged (whole v -ℤ whole w)
 binary_value Multiply v w = judged (whole v *ℤ whole w)

@@ -1,7 +1,7 @@
 //! The kinds of event blocks.
 
 ghost use Rattle.std.specs.Prelude.{◌≡◌};
-ghost use Rattle.fb_types.specs.EventPorts.{kind_place};
+ghost use Rattle.fb_types.specs.EventPorts.{kind_index};
 
 /// The type of an event block (in the manner of IEC 61499-1, Annex A).
 #[derive(Clone, Copy)]
@@ -56,8 +56,8 @@ impl EventKind {
     ];
 
     /// The index of a kind among all of them.
-    pub fn place(self) -> usize
-        ensures { result ≡ kind_place self }
+    pub fn index(self) -> usize
+        ensures { result ≡ kind_index self }
     {
         self as usize
     }

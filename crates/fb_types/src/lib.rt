@@ -51,8 +51,8 @@ pub use limits::{
 pub use name::Name;
 pub use reference::Reference;
 pub use run::{
-    Carried, Emission, Emits, Event, Form, Halt, Line, Message, Place, StopMark, Target, TimerAsk,
-    Values,
+    Carried, Emission, Emits, Event, Form, Halt, InstanceVariable, Line, Message, StopMark, Target,
+    TimerAsk, Values,
 };
 pub use sort::Sort;
 pub use text::{BinaryOperator, Body, Branch, Choice, Expr, Label, Stmt, UnaryOperator};

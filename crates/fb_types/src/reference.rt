@@ -11,13 +11,13 @@ use std::sync::atomic::{AtomicUsize, Ordering};
 /// Whoever first finds the variable notes the index, even if several threads share the text.
 pub struct Reference {
     name: Name,
-    place: AtomicUsize,
+    index: AtomicUsize,
 }
 
 // Drop is written by hand, so that callers need not prove it again (docs/DECISIONS.md, "Drop").
 impl Drop for Reference {
     fn drop(self) {
-        let Reference { name: _, place: _ } = self;
+        let Reference { name: _, index: _ } = self;
     }
 }
 
@@ -36,7 +36,7 @@ impl Reference {
     {
         Reference {
             name,
-            place: AtomicUsize::new(0),
+            index: AtomicUsize::new(0),
         }
     }
 
@@ -48,12 +48,12 @@ impl Reference {
     }
 
     /// The index at which the variable is expected.
-    pub fn place(&self) -> usize {
-        self.place.load(Ordering::SeqCst)
+    pub fn index(&self) -> usize {
+        self.index.load(Ordering::SeqCst)
     }
 
     /// Sets the index at which the variable is expected from now on.
-    pub fn expect_at(&self, place: usize) {
-        self.place.store(place, Ordering::SeqCst);
+    pub fn expect_at(&self, index: usize) {
+        self.index.store(index, Ordering::SeqCst);
     }
 }

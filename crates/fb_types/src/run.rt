@@ -53,7 +53,7 @@ pub struct Target {
 
 /// A variable of an instance, by its index among the data inputs or the data outputs of the instance's type.
 #[derive(Clone, Copy, PartialEq, Eq)]
-pub struct Place {
+pub struct InstanceVariable {
     /// The number of the instance in the whole application.
     pub instance: u32,
     /// The index among the data inputs, or outputs, of the instance's type.

@@ -15,13 +15,13 @@ use Rattle.fb_types.specs.Repeated.{Twice}
 use Rattle.fb_types.specs.Systems.{System}
 use Rattle.fb_types.specs.Text.{path_text}
 use Rattle.fb_types.specs.declared.library.EventPort.{EventPort}
-use Rattle.fb_types.proofs.ByPlace.{all_at, place_of_element}
+use Rattle.fb_types.proofs.ByIndex.{all_at, index_of_element}
 use Rattle.fb_types.proofs.Elements.{Contains-cons_cases, Contains-here, map-Contains}
 use Rattle.fb_wave.specs.Named.{AreNames, HasNames, is_digit, is_letter, is_name}
 use Rattle.fb_wave.specs.Nested.{AreNumbered}
 use Rattle.fb_wave.specs.Ports.{IsPortOf, port_text, side}
 use Rattle.fb_wave.specs.declared.ports.Port.{Port}
-use Rattle.fb_wave.proofs.Finding.{begins_three, one_place, path_event, sign, three_words}
+use Rattle.fb_wave.proofs.Finding.{begins_three, one_index, path_event, sign, three_words}
 use Rattle.fb_wave.proofs.Known.{events_once, path_some}
 use Rattle.fb_wave.proofs.Lining.{event_named, path_named}
 use Rattle.fb_wave.proofs.Plain.{letter_low, names_rest}
@@ -110,7 +110,7 @@ some_at (n ∷ ns) (suc k) h = some_at ns k (omega (arith, h))
 event_once : (es : List EventPort) (j k : ℕ) → ¬ (Twice (event_names es)) → j < length es → k < length es → event_at es j ≡ event_at es k → j ≡ k
 event_once es j k once one two e =
     let long = length-map es (λ (e : EventPort). e.name) in
-    one_place (event_names es) once j k (event_at es k) (some_at (event_names es) j (omega (arith, one, long)) ∙ ap (λ (n : Name). Some n) e)
+    one_index (event_names es) once j k (event_at es k) (some_at (event_names es) j (omega (arith, one, long)) ∙ ap (λ (n : Name). Some n) e)
     (some_at (event_names es) k (omega (arith, two, long)))
 
 cons_names : (n : Name) (ns : List Name) → is_name n ≡ true → AreNames ns → AreNames (n ∷ ns)
@@ -152,7 +152,7 @@ texts_differ i accepted numbered names (p ∷ ports) all once (inr twice) =
     texts_differ i accepted numbered names ports (All-tail (IsPortOf (system_of i)) p ports all) (λ t. once (inr t)) twice
 texts_differ i accepted numbered names (p ∷ ports) all once (inl there) =
     let from = map-Contains (port_text (system_of i)) ports (port_text (system_of i) p) there in
-    let at = place_of_element ports from.0 from.1 in
+    let at = index_of_element ports from.0 from.1 in
     let is = all_at (IsPortOf (system_of i)) ports at.0 from.0 (All-tail (IsPortOf (system_of i)) p ports all) at.1 in
     let same = ports_differ i accepted numbered names from.0 p is (All-head (IsPortOf (system_of i)) p ports all) from.2 in
     once (inl (subst (λ (q : Port). Contains ports q) same from.1))

@@ -6,7 +6,7 @@ use Rattle.std.proofs.lemmas.Option.{unwrap_or-slice_get}
 use Rattle.fb_types.specs.Names.{Name}
 use Rattle.fb_types.specs.Simulation.{Ending, AtHorizon, AtStop}
 use Rattle.fb_types.specs.Systems.{System}
-use Rattle.fb_types.specs.Text.{last_line, place_text, reason_text}
+use Rattle.fb_types.specs.Text.{last_line, tick_and_resource_text, reason_text}
 use Rattle.fb_types.specs.declared.value.Reason.{Reason}
 use Rattle.fb_trace.specs.End.{ending_of}
 use Rattle.fb_trace.specs.declared.last.RunEnd.{RunEnd}
@@ -76,7 +76,7 @@ horizon_is : (sys : System) (h : ℕ) → last_line sys (AtHorizon h) ≡ codes 
 horizon_is sys h = append_assoc (codes "end ") (decimal h) (10 ∷ [])
 
 last_is : (sys : System) (k r : ℕ) (reason : Reason) → last_line sys (AtStop k r reason) ≡ codes "stop " ++ stop_text sys k r reason
-last_is sys k r reason = last_parts (codes "stop ") (place_text sys k r) (codes " ") (reason_text reason) (10 ∷ [])
+last_is sys k r reason = last_parts (codes "stop ") (tick_and_resource_text sys k r) (codes " ") (reason_text reason) (10 ∷ [])
 
 -- with a digit begins no end
 pub digit_first : (sys : System) (text : List ℕ) → get_or text 0 0 < 58 → IsNoLast sys text

@@ -11,12 +11,12 @@ use Rattle.fb_types.specs.Numbers.{event_at, path_at}
 use Rattle.fb_types.specs.Repeated.{Twice}
 use Rattle.fb_types.specs.Systems.{System}
 use Rattle.fb_types.specs.Text.{path_text}
-use Rattle.fb_types.proofs.ByPlace.{all_at, element_of_place, place_of_element}
+use Rattle.fb_types.proofs.ByIndex.{all_at, element_of_index, index_of_element}
 use Rattle.fb_types.proofs.Elements.{Contains-here, Contains-map}
 use Rattle.fb_types.proofs.NameLaws.{any_from_contains}
 use Rattle.fb_types.proofs.Options.{map_parts}
 use Rattle.fb_types.proofs.Positions.{is_some-position, position_is}
-use Rattle.fb_check_names.specs.Places.{place_in}
+use Rattle.fb_check_names.specs.Indexes.{index_in}
 use Rattle.fb_wave.specs.Named.{AreNames, HasNames, is_name}
 use Rattle.fb_wave.specs.Ports.{BeginsWith, IsPortOf, holder_name, port_text, side}
 use Rattle.fb_wave.specs.Tables.{IsTable}
@@ -122,12 +122,12 @@ begins_once sys text p q rest more names begins other =
 
 -- ---- The table
 
-pub one_place : (ns : List Name) → ¬ (Twice ns) → (j k : ℕ) (n : Name) → slice_get ns j ≡ Some n → slice_get ns k ≡ Some n → j ≡ k
-one_place [] once j k n e f = absurd (cc)
-one_place (m ∷ ms) once zero zero n e f = refl
-one_place (m ∷ ms) once zero (suc k) n e f = absurd (once (inl (subst (λ (z : Name). Contains ms z) (sym (same_Some m n e)) (element_of_place ms k n f))))
-one_place (m ∷ ms) once (suc j) zero n e f = absurd (once (inl (subst (λ (z : Name). Contains ms z) (sym (same_Some m n f)) (element_of_place ms j n e))))
-one_place (m ∷ ms) once (suc j) (suc k) n e f = ap suc (one_place ms (λ t. once (inr t)) j k n e f)
+pub one_index : (ns : List Name) → ¬ (Twice ns) → (j k : ℕ) (n : Name) → slice_get ns j ≡ Some n → slice_get ns k ≡ Some n → j ≡ k
+one_index [] once j k n e f = absurd (cc)
+one_index (m ∷ ms) once zero zero n e f = refl
+one_index (m ∷ ms) once zero (suc k) n e f = absurd (once (inl (subst (λ (z : Name). Contains ms z) (sym (same_Some m n e)) (element_of_index ms k n f))))
+one_index (m ∷ ms) once (suc j) zero n e f = absurd (once (inl (subst (λ (z : Name). Contains ms z) (sym (same_Some m n f)) (element_of_index ms j n e))))
+one_index (m ∷ ms) once (suc j) (suc k) n e f = ap suc (one_index ms (λ t. once (inr t)) j k n e f)
 
 text_there : (sys : System) (ports : List Port) (k : ℕ) (p : Port) → slice_get ports k ≡ Some p → slice_get (map (port_text sys) ports) k ≡ Some (port_text sys p)
 text_there sys ports k p at = slice_get-map (port_text sys) ports k ∙ ap (option_map (port_text sys)) at
@@ -137,24 +137,24 @@ pub same_port : (t : PortTable) → IsTable t → (p q : Port) → IsPortOf (sys
 same_port t table p q is other e =
     let sys = system_of t.system.now in
     let ports = t.ports.now in
-    let a = place_of_element ports p (table.all p is) in
-    let b = place_of_element ports q (table.all q other) in
-    let same = one_place (map (port_text sys) ports) table.index.once a.0 b.0 (port_text sys q)
+    let a = index_of_element ports p (table.all p is) in
+    let b = index_of_element ports q (table.all q other) in
+    let same = one_index (map (port_text sys) ports) table.index.once a.0 b.0 (port_text sys q)
     (text_there sys ports a.0 p a.1 ∙ ap (λ (n : Name). Some n) e) (text_there sys ports b.0 q b.1)
     in
     same_Some p q (sym a.1 ∙ ap (slice_get ports) same ∙ b.1)
 
--- the port at the place of a port's text is that port
-pub port_there : (t : PortTable) → IsTable t → (p : Port) (k : ℕ) → IsPortOf (system_of t.system.now) p → place_in t.places (port_text (system_of t.system.now) p) ≡ Some k → slice_get t.ports.now k ≡ Some p
+-- the port at the index of a port's text is that port
+pub port_there : (t : PortTable) → IsTable t → (p : Port) (k : ℕ) → IsPortOf (system_of t.system.now) p → index_in t.indexes (port_text (system_of t.system.now) p) ≡ Some k → slice_get t.ports.now k ≡ Some p
 port_there t table p k is found =
     let sys = system_of t.system.now in
     let ports = t.ports.now in
-    let at = position_is (port_text sys) (port_text sys p) ports k (sym (table.index.place (port_text sys p)) ∙ found) in
+    let at = position_is (port_text sys) (port_text sys p) ports k (sym (table.index.index (port_text sys p)) ∙ found) in
     let same = same_port t table p at.0 is (all_at (IsPortOf sys) ports k at.0 table.ports_are at.1) (sym at.2) in
     at.1 ∙ ap (λ (q : Port). Some q) (sym same)
 
--- the text of each port has a place
-pub port_placed : (t : PortTable) → IsTable t → (p : Port) → IsPortOf (system_of t.system.now) p → place_in t.places (port_text (system_of t.system.now) p) ≡ None → ⊥
+-- the text of each port has an index
+pub port_placed : (t : PortTable) → IsTable t → (p : Port) → IsPortOf (system_of t.system.now) p → index_in t.indexes (port_text (system_of t.system.now) p) ≡ None → ⊥
 port_placed t table p is none =
     let sys = system_of t.system.now in
     let names = map (port_text sys) t.ports.now in
@@ -162,7 +162,7 @@ port_placed t table p is none =
     let some : is_some (position (same_name n) names) ≡ true =
     is_some-position (same_name n) names ∙ any_from_contains n names (Contains-map (port_text sys) t.ports.now p (table.all p is))
     in
-    let gone : is_some (position (same_name n) names) ≡ false = ap is_some (sym (table.index.place n) ∙ none) in
+    let gone : is_some (position (same_name n) names) ≡ false = ap is_some (sym (table.index.index n) ∙ none) in
     true≢false (sym some ∙ gone)
 
 -- the front of a text as long as its three words is the text of the port that it begins with

@@ -7,7 +7,7 @@ use Rattle.fb_types.specs.Blocks.{inputs_with, outputs_with}
 use Rattle.fb_types.specs.Names.{Name}
 use Rattle.fb_types.specs.Numbers.{event_at, pair_up, path_at, ports_at}
 use Rattle.fb_types.specs.Systems.{System}
-use Rattle.fb_types.specs.Text.{key_text, path_text, place_text, reason_text, values_text}
+use Rattle.fb_types.specs.Text.{key_text, path_text, tick_and_resource_text, reason_text, values_text}
 use Rattle.fb_types.specs.declared.key.Key.{Key}
 use Rattle.fb_types.specs.declared.library.Variable.{Variable}
 use Rattle.fb_types.specs.declared.run.Form.{Form}
@@ -15,7 +15,7 @@ use Rattle.fb_types.specs.declared.run.Form.TheVariants.{One, Two}
 use Rattle.fb_types.specs.declared.run.Line.{Line}
 use Rattle.fb_types.specs.declared.value.Reason.{Reason}
 use Rattle.fb_types.specs.declared.value.Value.{Value}
-use Rattle.fb_system.specs.Stands.{ArePlaces}
+use Rattle.fb_system.specs.Stands.{AreIndexes}
 use Rattle.fb_wave.specs.Reading.{AreRead, name_at, number_text}
 use Rattle.fb_wave.specs.Lines.{AreValuesOf, IsHead, IsInRange, IsTextOf}
 use Rattle.fb_wave.specs.Ports.{IsPortOf, holder_name, port_text}
@@ -41,24 +41,24 @@ abbrev of_names : (names : List Name) → (text : List ℕ) → List Value → T
 of_names names text values = text ≡ values_text (pair_up names values) ++ 10 ∷ []
 
 read_names :
-    (vs : List Variable) (names : List Name) (ks text : List ℕ) (values : List Value) → ArePlaces vs names ks → AreRead vs ks text values → of_names names text values
+    (vs : List Variable) (names : List Name) (ks text : List ℕ) (values : List Value) → AreIndexes vs names ks → AreRead vs ks text values → of_names names text values
 read_names vs names ks text values stand are = are.parts ∙ ap (λ (ns : List Name). values_text (pair_up ns values) ++ 10 ∷ []) stand.named
 
 read_counted :
-    (vs : List Variable) (names : List Name) (ks text : List ℕ) (values : List Value) → ArePlaces vs names ks → AreRead vs ks text values → length values ≡ length names
+    (vs : List Variable) (names : List Name) (ks text : List ℕ) (values : List Value) → AreIndexes vs names ks → AreRead vs ks text values → length values ≡ length names
 read_counted vs names ks text values stand are =
     are.counted ∙ sym (length-map ks (name_at vs)) ∙ ap length stand.named
 
 pub input_values :
     (sys : System) (i e : ℕ) (taken : Bool) (ks text : List ℕ) (values : List Value) → taken ≡ true
-    → ArePlaces (ports_at sys (path_at sys i)).inputs (inputs_with (ports_at sys (path_at sys i)) (event_at (ports_at sys (path_at sys i)).event_inputs e)) ks
+    → AreIndexes (ports_at sys (path_at sys i)).inputs (inputs_with (ports_at sys (path_at sys i)) (event_at (ports_at sys (path_at sys i)).event_inputs e)) ks
     → AreRead (ports_at sys (path_at sys i)).inputs ks text values → AreValuesOf sys (port_at i e taken) text values
 input_values sys i e false ks text values is stand are = absurd (cc)
 input_values sys i e true ks text values is stand are =
     let its = ports_at sys (path_at sys i) in
     let names = inputs_with its (event_at its.event_inputs e) in
     record {
-      places = ks;
+      indexes = ks;
       stand = stand;
       typed = are.typed;
       counted = read_counted its.inputs names ks text values stand are;
@@ -67,14 +67,14 @@ input_values sys i e true ks text values is stand are =
 
 pub output_values :
     (sys : System) (i e : ℕ) (taken : Bool) (ks text : List ℕ) (values : List Value) → taken ≡ false
-    → ArePlaces (ports_at sys (path_at sys i)).outputs (outputs_with (ports_at sys (path_at sys i)) (event_at (ports_at sys (path_at sys i)).event_outputs e)) ks
+    → AreIndexes (ports_at sys (path_at sys i)).outputs (outputs_with (ports_at sys (path_at sys i)) (event_at (ports_at sys (path_at sys i)).event_outputs e)) ks
     → AreRead (ports_at sys (path_at sys i)).outputs ks text values → AreValuesOf sys (port_at i e taken) text values
 output_values sys i e true ks text values is stand are = absurd (cc)
 output_values sys i e false ks text values is stand are =
     let its = ports_at sys (path_at sys i) in
     let names = outputs_with its (event_at its.event_outputs e) in
     record {
-      places = ks;
+      indexes = ks;
       stand = stand;
       typed = are.typed;
       counted = read_counted its.outputs names ks text values stand are;
@@ -96,7 +96,7 @@ none_read P Q N (Err e) f h = tt
 
 -- ---- Ports
 
--- the text at the place of a port is that of the port
+-- the text at the index of a port is that of the port
 pub port_named :
     (sys : System) (ports : List Port) (texts : List Name) (k : ℕ) (p : Port) (n : Name) → texts ≡ map (port_text sys) ports → slice_get ports k ≡ Some p
     → slice_get texts k ≡ Some n → n ≡ port_text sys p
@@ -132,7 +132,7 @@ line_read sys form i e true t r p vs text rest more last head tick is port are h
         small = is.small;
         belongs = record { instance = is.instance; resource = within; event = is.event; values = are.counted };
         held = held;
-        places = are.places;
+        indexes = are.indexes;
         stand = are.stand;
         typed = are.typed;
       };
@@ -156,7 +156,7 @@ line_read sys form i e false t r p vs text rest more last head tick is port are 
         small = is.small;
         belongs = record { instance = is.instance; resource = within; event = is.event; values = are.counted };
         held = held;
-        places = are.places;
+        indexes = are.indexes;
         stand = are.stand;
         typed = are.typed;
       };
@@ -177,7 +177,7 @@ stop_parts n h b r l = simp append_assoc
 pub stop_glued :
     (sys : System) (t r : ℕ) (reason : Reason) (text rest name more : List ℕ) → text ≡ number_text t ++ rest → rest ≡ name ++ more
     → more ≡ codes " " ++ reason_text reason ++ 10 ∷ [] → name ≡ get_or sys.resource_names r []
-    → text ≡ place_text sys t r ++ codes " " ++ reason_text reason ++ 10 ∷ []
+    → text ≡ tick_and_resource_text sys t r ++ codes " " ++ reason_text reason ++ 10 ∷ []
 stop_glued sys t r reason text rest name more tick word end named =
     tick
     ∙ ap (λ (u : List ℕ). number_text t ++ u) (word ∙ ap (λ (u : List ℕ). name ++ u) end)

@@ -8,7 +8,7 @@ use Rattle.fb_types.specs.Systems.{System}
 use Rattle.fb_types.specs.Numbers.{path_at, ports_at}
 use Rattle.fb_types.specs.Text.{path_text}
 use Rattle.fb_types.specs.declared.library.Library.{Library}
-use Rattle.fb_system.specs.Layouts.{route_to, place_at}
+use Rattle.fb_system.specs.Layouts.{route_to, index_at}
 use Rattle.fb_wave.specs.Scopes.{closed, opened, own_name, ports_declared, ports_begun, instances_declared, instances_begun, resources_declared}
 use Rattle.fb_wave.specs.Signals.{size_of, first_signal}
 use Rattle.fb_wave.proofs.Numbering.{first_signal-next, paths_from}
@@ -17,7 +17,7 @@ use Rattle.fb_wave.proofs.Numbering.{first_signal-next, paths_from}
 
 pub route_length : (lib : Library) (p : Path) → length (route_to lib p) ≡ length p
 route_length lib [] = refl
-route_length lib (n ∷ p) = let e = route_length lib p in omega (arith, e, length-append (route_to lib p) (place_at lib p n ∷ []))
+route_length lib (n ∷ p) = let e = route_length lib p in omega (arith, e, length-append (route_to lib p) (index_at lib p n ∷ []))
 
 pub own_top : (p : Path) → parent p ≡ [] → path_text p ≡ own_name p
 own_top [] e = refl

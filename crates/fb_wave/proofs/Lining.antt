@@ -9,7 +9,7 @@ use Rattle.fb_types.specs.Names.{Name, Path}
 use Rattle.fb_types.specs.Numbers.{event_at, line_of, pair_up, path_at, ports_at}
 use Rattle.fb_types.specs.Simulation.{Ending, AtHorizon, AtStop}
 use Rattle.fb_types.specs.Systems.{System}
-use Rattle.fb_types.specs.Text.{key_text, last_line, line_text, path_text, place_text, reason_text, values_text}
+use Rattle.fb_types.specs.Text.{key_text, last_line, line_text, path_text, tick_and_resource_text, reason_text, values_text}
 use Rattle.fb_types.specs.declared.key.Key.{Key}
 use Rattle.fb_types.specs.declared.library.EventPort.{EventPort}
 use Rattle.fb_types.specs.declared.library.Variable.{Variable}
@@ -21,7 +21,7 @@ use Rattle.fb_types.specs.declared.value.Reason.TheVariants.{Steps, Divide, Rang
 use Rattle.fb_types.specs.declared.value.Value.{Value}
 use Rattle.fb_types.proofs.Elements.{map-Contains}
 use Rattle.fb_system.specs.Lines.{BelongsTo, line_events, line_variables}
-use Rattle.fb_system.specs.Stands.{ArePlaces, variable_at}
+use Rattle.fb_system.specs.Stands.{AreIndexes, variable_at}
 use Rattle.fb_wave.specs.Lines.{IsEndOf, IsInRange, IsLineOf, line_side}
 use Rattle.fb_wave.specs.Named.{AreNames, HasNames, is_name, port_names}
 use Rattle.fb_wave.specs.Ports.{BeginsWith, IsPortOf, holder_name, port_text, side}
@@ -138,7 +138,7 @@ side_named sys l names = by l.taken
         names.ports (path_at sys l.instance) n
         (Contains-append_right ((event_names its.event_inputs ++ event_names its.event_outputs) ++ variable_names its.inputs) (variable_names its.outputs) n c)
 
-variables_named : (vs : List Variable) (ns : List Name) (ks : List ℕ) → AreNames (variable_names vs) → ArePlaces vs ns ks → AreNames ns
+variables_named : (vs : List Variable) (ns : List Name) (ks : List ℕ) → AreNames (variable_names vs) → AreIndexes vs ns ks → AreNames ns
 variables_named vs ns ks are stand n c =
     let from = map-Contains (variable_at vs) ks n (subst (λ (ms : List Name). Contains ms n) (sym stand.named) c) in
     let within : from.0 < length vs = subst (λ (k : ℕ). k < length vs) from.1.2 (stand.within from.1.0 from.0 from.1.1) in
@@ -194,15 +194,15 @@ line_one sys form l names is =
     let P = port_text sys (port_of_line l) in
     let V = values_text (pair_up (line_variables sys l) l.values) in
     let tick = is.range.tick in
-    let are : AreNames (line_variables sys l) = variables_named (line_side sys l) (line_variables sys l) is.places (side_named sys l names) is.stand in
-    let long : length (line_variables sys l) ≡ length (map (type_at (line_side sys l)) is.places) =
-    sym (ap length is.stand.named) ∙ length-map is.places (variable_at (line_side sys l)) ∙ sym (length-map is.places (type_at (line_side sys l)))
+    let are : AreNames (line_variables sys l) = variables_named (line_side sys l) (line_variables sys l) is.indexes (side_named sys l names) is.stand in
+    let long : length (line_variables sys l) ≡ length (map (type_at (line_side sys l)) is.indexes) =
+    sym (ap length is.stand.named) ∙ length-map is.indexes (variable_at (line_side sys l)) ∙ sym (length-map is.indexes (type_at (line_side sys l)))
     in
     record {
       body = K ++ (N ++ (P ++ V));
       flat = flat_both K (N ++ (P ++ V)) (key_flat form l.key is.range)
           (flat_both N (P ++ V) (flat_both (decimal l.key.tick) (codes " ") (number_flat l.key.tick (omega (arith, tick))) refl)
-          (flat_both P V (port_flat sys l names is) (values_flat (line_variables sys l) (map (type_at (line_side sys l)) is.places) l.values are long is.typed)));
+          (flat_both P V (port_flat sys l names is) (values_flat (line_variables sys l) (map (type_at (line_side sys l)) is.indexes) l.values are long is.typed)));
       is = line_parts sys form l is.held ∙ regroup K N P V (10 ∷ []);
     }
 

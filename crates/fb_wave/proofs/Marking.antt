@@ -10,11 +10,11 @@ use Rattle.fb_types.specs.declared.run.Line.{Line}
 use Rattle.fb_types.specs.declared.value.Value.{Value}
 use Rattle.fb_wave.specs.Levels.{AreLevels}
 use Rattle.fb_wave.specs.declared.levels.Levels.{Levels}
-use Rattle.fb_system.specs.Stands.{ArePlaces}
+use Rattle.fb_system.specs.Stands.{AreIndexes}
 use Rattle.fb_wave.specs.Signals.{first_signal}
 use Rattle.fb_system.specs.Lines.{BelongsTo, line_variables}
 use Rattle.fb_wave.specs.Lines.{line_side}
-use Rattle.fb_wave.specs.Told.{fired, pairs, place_of, told, told_signals, touched}
+use Rattle.fb_wave.specs.Told.{fired, pairs, index_of, told, told_signals, touched}
 use Rattle.fb_wave.specs.Writing.{AreFirsts, AreMarks}
 use Rattle.fb_wave.specs.declared.dump.Marks.{Marks}
 use Rattle.fb_wave.proofs.Numbering.{signals_within}
@@ -31,15 +31,15 @@ line_once i l accepted = by l.taken
     by true = inputs_once i accepted (path_at (system_of i) l.instance)
     by false = outputs_once i accepted (path_at (system_of i) l.instance)
 
-signals_are : (sys : System) (l : Line) (m : Marks) → ¬ (Twice (variable_names (line_side sys l))) → AreMarks sys l m → map (λ k. m.first + k) m.places.now ≡ told_signals sys l
+signals_are : (sys : System) (l : Line) (m : Marks) → ¬ (Twice (variable_names (line_side sys l))) → AreMarks sys l m → map (λ k. m.first + k) m.indexes.now ≡ told_signals sys l
 signals_are sys l m once are =
-    names_told (line_side sys l) m.first (line_variables sys l) m.places.now once are.places_are
-    ∙ ap (λ (f : ℕ). map (λ n. f + place_of (line_side sys l) n) (line_variables sys l)) are.first_is
+    names_told (line_side sys l) m.first (line_variables sys l) m.indexes.now once are.indexes_are
+    ∙ ap (λ (f : ℕ). map (λ n. f + index_of (line_side sys l) n) (line_variables sys l)) are.first_is
 
 pub marks_told :
     (sys : System) (l : Line) (m : Marks) (n : ℕ) (f u : List ℕ) (t : List (ℕ × Value)) (y : Levels) → ¬ (Twice (variable_names (line_side sys l))) → AreMarks sys l m
-    → AreLevels n (f ++ m.event ∷ []) (t ++ pairs (map (λ k. m.first + k) m.places.now) l.values)
-    ((u ++ m.event ∷ []) ++ map (λ p. p.0) (pairs (map (λ k. m.first + k) m.places.now) l.values)) y
+    → AreLevels n (f ++ m.event ∷ []) (t ++ pairs (map (λ k. m.first + k) m.indexes.now) l.values)
+    ((u ++ m.event ∷ []) ++ map (λ p. p.0) (pairs (map (λ k. m.first + k) m.indexes.now) l.values)) y
     → AreLevels n (f ++ fired sys l ∷ []) (t ++ told sys l) (u ++ touched sys l) y
 marks_told sys l m n f u t y once are is =
     let at : (e : ℕ) → (ss : List ℕ) → Type 0 =
@@ -68,7 +68,7 @@ with_sign l b = record l { taken = b }
 pub marks_taken :
     (sys : System) (l : Line) (m : Marks) (firsts : List ℕ) (its : Ports) → AreFirsts sys firsts → BelongsTo sys l → l.taken ≡ true → its ≡ ports_at sys (path_at sys l.instance)
     → m.event ≡ get_or firsts l.instance 0 + l.event → m.first ≡ get_or firsts l.instance 0 + length its.event_inputs + length its.event_outputs
-    → ArePlaces (ports_at sys (path_at sys l.instance)).inputs (inputs_with (ports_at sys (path_at sys l.instance)) (event_at (ports_at sys (path_at sys l.instance)).event_inputs l.event)) m.places.now
+    → AreIndexes (ports_at sys (path_at sys l.instance)).inputs (inputs_with (ports_at sys (path_at sys l.instance)) (event_at (ports_at sys (path_at sys l.instance)).event_inputs l.event)) m.indexes.now
     → AreMarks sys l m
 marks_taken sys l m firsts its are is taken same event first stand =
     let own = ports_at sys (path_at sys l.instance) in
@@ -83,7 +83,7 @@ marks_taken sys l m firsts its are is taken same event first stand =
       event_is = event ∙ ap (λ (k : ℕ). k + l.event) at;
       event_within = omega (arith, event, at, all, few);
       first_is = omega (arith, variables);
-      places_are = stand;
+      indexes_are = stand;
       within = λ k d h. let w = stand.within k d h in omega (arith, w, variables, all);
     } in
     subst (λ (x : Line). AreMarks sys x m) (sym (ap (with_sign l) taken)) made
@@ -92,7 +92,7 @@ pub marks_emitted :
     (sys : System) (l : Line) (m : Marks) (firsts : List ℕ) (its : Ports) → AreFirsts sys firsts → BelongsTo sys l → l.taken ≡ false → its ≡ ports_at sys (path_at sys l.instance)
     → m.event ≡ get_or firsts l.instance 0 + length its.event_inputs + l.event
     → m.first ≡ get_or firsts l.instance 0 + length its.event_inputs + length its.event_outputs + length its.inputs
-    → ArePlaces (ports_at sys (path_at sys l.instance)).outputs (outputs_with (ports_at sys (path_at sys l.instance)) (event_at (ports_at sys (path_at sys l.instance)).event_outputs l.event)) m.places.now
+    → AreIndexes (ports_at sys (path_at sys l.instance)).outputs (outputs_with (ports_at sys (path_at sys l.instance)) (event_at (ports_at sys (path_at sys l.instance)).event_outputs l.event)) m.indexes.now
     → AreMarks sys l m
 marks_emitted sys l m firsts its are is taken same event first stand =
     let own = ports_at sys (path_at sys l.instance) in
@@ -111,7 +111,7 @@ marks_emitted sys l m firsts its are is taken same event first stand =
       event_is = omega (arith, here);
       event_within = omega (arith, here, all, few);
       first_is = omega (arith, variables);
-      places_are = stand;
+      indexes_are = stand;
       within = λ k d h. let w = stand.within k d h in omega (arith, w, variables, all);
     } in
     subst (λ (x : Line). AreMarks sys x m) (sym (ap (with_sign l) taken)) made

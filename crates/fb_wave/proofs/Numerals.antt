@@ -76,11 +76,11 @@ decimal_once m n low high e = sym (digits_of m low).says ∙ ap (read_on 0) e �
 
 -- ---- Reading
 
--- The digits before a place are those of the value, and there are none before the first place.
-pub record Reads (value place : ℕ) (text : List ℕ) : Type 0 where
+-- The digits before an index are those of the value, and there are none before the first index.
+pub record Reads (value index : ℕ) (text : List ℕ) : Type 0 where
   pub fits : value < 2 ^ 128
-  pub none : place ≡ 0 → value ≡ 0
-  pub some : 0 < place → decimal value ≡ take place text
+  pub none : index ≡ 0 → value ≡ 0
+  pub some : 0 < index → decimal value ≡ take index text
 
 pub Reads-none : (text : List ℕ) → Reads 0 0 text
 Reads-none text = record { fits = omega arith; none = λ e. e; some = λ h. absurd (omega arith) }

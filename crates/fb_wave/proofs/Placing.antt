@@ -1,4 +1,4 @@
--- The places of the variables of a line, by their names.
+-- The indexes of the variables of a line, by their names.
 use Rattle.std.proofs.Common.{◌≡◌, ℕ, zero, suc, ◌+◌, ◌<◌, List, [], ◌∷◌, length, map, refl, sym, ap, ◌∙◌, arith}
 use Rattle.std.specs.Prelude.{All, Option, Some, option_map, slice_get, unwrap_or}
 use Rattle.std.proofs.lemmas.List.Elements.{All-head, All-tail}
@@ -8,8 +8,8 @@ use Rattle.fb_types.specs.Names.{Name}
 use Rattle.fb_types.specs.Repeated.{Twice}
 use Rattle.fb_types.specs.declared.library.Variable.{Variable}
 use Rattle.fb_types.proofs.Positions.{position_of_once}
-use Rattle.fb_system.specs.Stands.{ArePlaces, variable_at}
-use Rattle.fb_wave.specs.Told.{place_of}
+use Rattle.fb_system.specs.Stands.{AreIndexes, variable_at}
+use Rattle.fb_wave.specs.Told.{index_of}
 
 name_of : Variable → Name
 name_of v = v.name
@@ -19,24 +19,24 @@ some_there [] k h = absurd (omega arith)
 some_there (v ∷ vs) zero h = (v, refl)
 some_there (v ∷ vs) (suc k) h = some_there vs k (omega arith)
 
--- the place of a variable is that at which its name stands
-place_is : (vs : List Variable) (k : ℕ) → ¬ (Twice (variable_names vs)) → k < length vs → place_of vs (variable_at vs k) ≡ k
+-- the index of a variable is that at which its name stands
+index_is : (vs : List Variable) (k : ℕ) → ¬ (Twice (variable_names vs)) → k < length vs → index_of vs (variable_at vs k) ≡ k
 unfolding name_of some_there
-place_is vs k once within =
+index_is vs k once within =
     let at = some_there vs k within in
     let named : variable_at vs k ≡ at.0.name = ap (λ (o : Option Name). unwrap_or o []) (slice_get-map name_of vs k ∙ ap (option_map name_of) at.1) in
-    ap (place_of vs) named ∙ ap (λ (o : Option ℕ). unwrap_or o 0) (position_of_once name_of vs k at.0 once at.1)
+    ap (index_of vs) named ∙ ap (λ (o : Option ℕ). unwrap_or o 0) (position_of_once name_of vs k at.0 once at.1)
 
-pub places_told :
+pub indexes_told :
     (vs : List Variable) (first : ℕ) (ks : List ℕ) → ¬ (Twice (variable_names vs)) → All (λ k. k < length vs) ks
-    → map (λ n. first + place_of vs n) (map (variable_at vs) ks) ≡ map (λ k. first + k) ks
-places_told vs first [] once all = refl
-places_told vs first (k ∷ ks) once all =
-    ap (λ (j : ℕ). (first + j) ∷ map (λ n. first + place_of vs n) (map (variable_at vs) ks)) (place_is vs k once (All-head (λ k. k < length vs) k ks all))
-    ∙ ap (λ (js : List ℕ). (first + k) ∷ js) (places_told vs first ks once (All-tail (λ k. k < length vs) k ks all))
+    → map (λ n. first + index_of vs n) (map (variable_at vs) ks) ≡ map (λ k. first + k) ks
+indexes_told vs first [] once all = refl
+indexes_told vs first (k ∷ ks) once all =
+    ap (λ (j : ℕ). (first + j) ∷ map (λ n. first + index_of vs n) (map (variable_at vs) ks)) (index_is vs k once (All-head (λ k. k < length vs) k ks all))
+    ∙ ap (λ (js : List ℕ). (first + k) ∷ js) (indexes_told vs first ks once (All-tail (λ k. k < length vs) k ks all))
 
 pub names_told :
-    (vs : List Variable) (first : ℕ) (names : List Name) (ks : List ℕ) → ¬ (Twice (variable_names vs)) → ArePlaces vs names ks
-    → map (λ k. first + k) ks ≡ map (λ n. first + place_of vs n) names
+    (vs : List Variable) (first : ℕ) (names : List Name) (ks : List ℕ) → ¬ (Twice (variable_names vs)) → AreIndexes vs names ks
+    → map (λ k. first + k) ks ≡ map (λ n. first + index_of vs n) names
 names_told vs first names ks once are =
-    sym (ap (map (λ (n : Name). first + place_of vs n)) (sym are.named) ∙ places_told vs first ks once are.within)
+    sym (ap (map (λ (n : Name). first + index_of vs n)) (sym are.named) ∙ indexes_told vs first ks once are.within)

@@ -88,7 +88,7 @@ word_flat (b ∷ w) h =
 pub number_flat : (n : ℕ) → n < 2 ^ 128 → is_flat (decimal n) ≡ true
 number_flat n small = word_flat (decimal n) (digits_of n small).word
 
--- values of the types at their places, with names before them
+-- values of the types at their indexes, with names before them
 pub values_flat :
     (ns : List Name) (ts : List Ty) (vs : List Value) → AreNames ns → length ns ≡ length ts → fit_each ts vs ≡ true → is_flat (values_text (pair_up ns vs)) ≡ true
 values_flat [] ts vs are long fit = refl

@@ -6,11 +6,11 @@ use borrow.Author.Tests.{eq-eqb, ne_eqb, lt-ltb}
 use lib.Dec.{eqb}
 use native.Mathlib.Nat.{mod-lt}
 
--- The digits from a place on, behind those of the rest, are the digits of the number.
-pub record Spells (base number rest start : ℕ) (places : List ℕ) : Type 0 where
+-- The digits from an index on, behind those of the rest, are the digits of the number.
+pub record Spells (base number rest start : ℕ) (indexes : List ℕ) : Type 0 where
   pub within : start ≤ 64
-  pub sized : length places ≡ 64
-  pub text : digits_onto start base false rest (drop start places) ≡ digits base false number
+  pub sized : length indexes ≡ 64
+  pub text : digits_onto start base false rest (drop start indexes) ≡ digits base false number
 
 digits_onto-nil : (base n : ℕ) → digits_onto 64 base false n [] ≡ digits base false n
 unfolding digits

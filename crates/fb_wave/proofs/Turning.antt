@@ -21,12 +21,12 @@ pub record IsLater (gone : List ℕ) (k : ℕ) (old new : Cell) : Type 0 where
 abbrev pub told_by : List Cell → Cell → List ℕ → List ℕ
 told_by cells d ss = flat_map (λ s. changed s (get_or cells s d).shown) ss
 
--- The changes of the noted signals before a place are put.
-pub record IsTurned (old text : List ℕ) (from to : code.Levels) (place : ℕ) : Type 0 where
+-- The changes of the noted signals before an index are put.
+pub record IsTurned (old text : List ℕ) (from to : code.Levels) (index : ℕ) : Type 0 where
   pub counted : length to.cells.items ≡ length from.cells.items
   pub noted : to.noted.items ≡ from.noted.items
-  pub cells : (k : ℕ) (d e : Cell) → k < length from.cells.items → IsLater (take place from.noted.items) k (get_or from.cells.items k d) (get_or to.cells.items k e)
-  pub told : (d : Cell) → text ++ told_by from.cells.items d (drop place from.noted.items) ≡ old ++ told_by from.cells.items d from.noted.items
+  pub cells : (k : ℕ) (d e : Cell) → k < length from.cells.items → IsLater (take index from.noted.items) k (get_or from.cells.items k d) (get_or to.cells.items k e)
+  pub told : (d : Cell) → text ++ told_by from.cells.items d (drop index from.noted.items) ≡ old ++ told_by from.cells.items d from.noted.items
 
 and_true : (b : Bool) → b ≡ (b && true)
 and_true true = refl

@@ -15,13 +15,13 @@ use Rattle.fb_types.specs.declared.run.Form.{Form}
 use Rattle.fb_types.specs.declared.run.Form.TheVariants.{One, Two}
 use Rattle.fb_types.specs.declared.run.Line.{Line}
 use Rattle.fb_types.specs.declared.value.Value.{Value}
-use Rattle.fb_system.specs.Stands.{ArePlaces, variable_at}
+use Rattle.fb_system.specs.Stands.{AreIndexes, variable_at}
 use Rattle.fb_wave.specs.Lines.{AreInRange, AreNoValuesOf, AreValuesOf, HasNoHead, IsHead, IsInRange, IsLineOf, IsNoTextOf, IsTextOf}
 use Rattle.fb_wave.specs.Named.{HasNames}
 use Rattle.fb_wave.specs.Ports.{BeginsWith, HasNoPort}
 use Rattle.fb_wave.specs.Reading.{AreRead, AreUnread, HasNoNumber, fit_each, number_text, type_at}
 use Rattle.fb_wave.specs.Tables.{IsTable}
-use Rattle.fb_wave.specs.Told.{place_of}
+use Rattle.fb_wave.specs.Told.{index_of}
 use Rattle.fb_wave.specs.declared.line.Parts.{Parts}
 use Rattle.fb_wave.specs.declared.ports.Port.{Port}
 use Rattle.fb_wave.specs.declared.table.PortTable.{PortTable}
@@ -104,8 +104,8 @@ values_of_line : (sys : System) (l : Line) → IsLineOf sys l → AreValuesOf sy
 values_of_line sys l is = by l.taken is
   where
     by : (b : Bool) → IsLineOf sys (with_sign l b) → AreValuesOf sys (port_of_line (with_sign l b)) (line_end sys (with_sign l b)) l.values
-    by true is = record { places = is.places; stand = is.stand; typed = is.typed; counted = is.belongs.values; parts = refl }
-    by false is = record { places = is.places; stand = is.stand; typed = is.typed; counted = is.belongs.values; parts = refl }
+    by true is = record { indexes = is.indexes; stand = is.stand; typed = is.typed; counted = is.belongs.values; parts = refl }
+    by false is = record { indexes = is.indexes; stand = is.stand; typed = is.typed; counted = is.belongs.values; parts = refl }
 
 pub valueless :
     (t : PortTable) → IsTable t → HasNames (system_of t.system.now) → (form : Form) (text rest more last : List ℕ) (p : Parts) (tick : ℕ) (q : Port)
@@ -123,35 +123,35 @@ plain_sums [] = refl
 plain_sums (k ∷ ks) =
     let same : 0 + k ≡ k = omega arith in ap (λ (j : ℕ). j ∷ map (λ k. 0 + k) ks) same ∙ ap (λ (js : List ℕ). k ∷ js) (plain_sums ks)
 
--- names stand at the same places, where each stands at one
-places_once : (vs : List Variable) (names : List Name) (ks js : List ℕ) → ¬ (Twice (variable_names vs)) → ArePlaces vs names ks → ArePlaces vs names js → js ≡ ks
-places_once vs names ks js once stand other =
+-- names stand at the same indexes, where each stands at one
+indexes_once : (vs : List Variable) (names : List Name) (ks js : List ℕ) → ¬ (Twice (variable_names vs)) → AreIndexes vs names ks → AreIndexes vs names js → js ≡ ks
+indexes_once vs names ks js once stand other =
     sym (plain_sums js) ∙ names_told vs 0 names js once other ∙ sym (names_told vs 0 names ks once stand) ∙ plain_sums ks
 
 read_so :
-    (vs : List Variable) (names : List Name) (ks js text : List ℕ) (values : List Value) → ¬ (Twice (variable_names vs)) → ArePlaces vs names ks → ArePlaces vs names js
+    (vs : List Variable) (names : List Name) (ks js text : List ℕ) (values : List Value) → ¬ (Twice (variable_names vs)) → AreIndexes vs names ks → AreIndexes vs names js
     → fit_each (map (type_at vs) js) values ≡ true → length values ≡ length names → text ≡ values_text (pair_up names values) ++ 10 ∷ [] → AreRead vs ks text values
 read_so vs names ks js text values once stand other typed counted parts =
     record {
       counted = counted ∙ ap length (sym stand.named) ∙ length-map ks (variable_at vs);
-      typed = ap (λ (is : List ℕ). fit_each (map (type_at vs) is) values) (sym (places_once vs names ks js once stand other)) ∙ typed;
+      typed = ap (λ (is : List ℕ). fit_each (map (type_at vs) is) values) (sym (indexes_once vs names ks js once stand other)) ∙ typed;
       parts = parts ∙ ap (λ (ns : List Name). values_text (pair_up ns values) ++ 10 ∷ []) (sym stand.named);
     }
 
 pub no_input_values :
     (sys : System) (i e : ℕ) (taken : Bool) (ks text : List ℕ) → taken ≡ true → ¬ (Twice (variable_names (ports_at sys (path_at sys i)).inputs))
-    → ArePlaces (ports_at sys (path_at sys i)).inputs (inputs_with (ports_at sys (path_at sys i)) (event_at (ports_at sys (path_at sys i)).event_inputs e)) ks
+    → AreIndexes (ports_at sys (path_at sys i)).inputs (inputs_with (ports_at sys (path_at sys i)) (event_at (ports_at sys (path_at sys i)).event_inputs e)) ks
     → AreUnread (ports_at sys (path_at sys i)).inputs ks text → AreNoValuesOf sys (port_at i e taken) text
 no_input_values sys i e false ks text is once stand unread values are = absurd (cc)
 no_input_values sys i e true ks text is once stand unread values are =
     let its = ports_at sys (path_at sys i) in
-    unread values (read_so its.inputs (inputs_with its (event_at its.event_inputs e)) ks are.places text values once stand are.stand are.typed are.counted are.parts)
+    unread values (read_so its.inputs (inputs_with its (event_at its.event_inputs e)) ks are.indexes text values once stand are.stand are.typed are.counted are.parts)
 
 pub no_output_values :
     (sys : System) (i e : ℕ) (taken : Bool) (ks text : List ℕ) → taken ≡ false → ¬ (Twice (variable_names (ports_at sys (path_at sys i)).outputs))
-    → ArePlaces (ports_at sys (path_at sys i)).outputs (outputs_with (ports_at sys (path_at sys i)) (event_at (ports_at sys (path_at sys i)).event_outputs e)) ks
+    → AreIndexes (ports_at sys (path_at sys i)).outputs (outputs_with (ports_at sys (path_at sys i)) (event_at (ports_at sys (path_at sys i)).event_outputs e)) ks
     → AreUnread (ports_at sys (path_at sys i)).outputs ks text → AreNoValuesOf sys (port_at i e taken) text
 no_output_values sys i e true ks text is once stand unread values are = absurd (cc)
 no_output_values sys i e false ks text is once stand unread values are =
     let its = ports_at sys (path_at sys i) in
-    unread values (read_so its.outputs (outputs_with its (event_at its.event_outputs e)) ks are.places text values once stand are.stand are.typed are.counted are.parts)
+    unread values (read_so its.outputs (outputs_with its (event_at its.event_outputs e)) ks are.indexes text values once stand are.stand are.typed are.counted are.parts)

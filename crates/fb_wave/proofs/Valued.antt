@@ -217,7 +217,7 @@ fit_each-push (u ∷ ts) (w ∷ vs) t v e all is =
 next : (i : ℕ) → suc (i + 1) ≡ suc i + 1
 next i = omega arith
 
--- what is left of a list of values behind a place, by one
+-- what is left of a list of values behind an index, by one
 left_over : (ns : List Name) (ts : List Ty) (vs : List Value) (i : ℕ) (n : Name) (t : Ty) → i < length ns → length ts ≡ length ns → length vs ≡ length ns → n ≡ get_or ns i n → t ≡ get_or ts i t
     → fit_each ts vs ≡ true → (v : Value) × (drop i (pair_up ns vs) ≡ record { variable = n; value = v } ∷ drop (i + 1) (pair_up ns vs)) × (fits t v ≡ true)
 left_over [] ts vs i n t within sized counted named typed all = absurd (omega arith)
@@ -230,8 +230,8 @@ left_over (m ∷ ns) (u ∷ ts) (v ∷ vs) (suc i) n t within sized counted name
     let bs : List Bound = pair_up ns vs in
     (more.0, more.1 ∙ ap (λ (k : ℕ). record { variable = n; value = more.0 } ∷ drop k (record { variable = m; value = v } ∷ bs)) (next i), more.2)
 
--- Values of the variables before a place were read, and a rest is left. Where the text is that of values of all, the rest is
--- that of those behind the place.
+-- Values of the variables before an index were read, and a rest is left. Where the text is that of values of all, the rest is
+-- that of those behind the index.
 pub record AreSoFar (us : List Variable) (ks : List ℕ) (text : List ℕ) (i : ℕ) (vs : List Value) (rest : List ℕ) : Type 0 where
   pub counted : length vs ≡ i
   pub typed : fit_each (map (type_at us) (take i ks)) vs ≡ true

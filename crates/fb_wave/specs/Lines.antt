@@ -5,7 +5,7 @@ use Rattle.fb_types.specs.Names.{Name}
 use Rattle.fb_types.specs.Numbers.{event_at, line_of, pair_up, path_at, ports_at}
 use Rattle.fb_types.specs.Simulation.{Ending, AtHorizon, AtStop}
 use Rattle.fb_types.specs.Systems.{System}
-use Rattle.fb_types.specs.Text.{last_line, line_text, place_text, reason_text, values_text}
+use Rattle.fb_types.specs.Text.{last_line, line_text, tick_and_resource_text, reason_text, values_text}
 use Rattle.fb_types.specs.declared.key.Key.{Key}
 use Rattle.fb_types.specs.declared.library.Variable.{Variable}
 use Rattle.fb_types.specs.declared.run.Form.{Form}
@@ -17,7 +17,7 @@ use Rattle.fb_types.specs.declared.value.Value.{Value}
 use Rattle.fb_wave.specs.Ports.{side}
 use Rattle.fb_wave.specs.declared.line.Parts.{Parts}
 use Rattle.fb_wave.specs.declared.ports.Port.{Port}
-use Rattle.fb_system.specs.Stands.{ArePlaces}
+use Rattle.fb_system.specs.Stands.{AreIndexes}
 use Rattle.fb_system.specs.Lines.{BelongsTo, line_variables}
 use Rattle.fb_trace.specs.End.{EndsIn, ending_of}
 use Rattle.fb_trace.specs.declared.last.RunEnd.{RunEnd}
@@ -41,9 +41,9 @@ pub record IsLineOf (sys : System) (l : Line) : Type 0 where
   pub small : l.event < 2 ^ 32
   pub belongs : BelongsTo sys l
   pub held : l.key.resource ≡ sys.resource (path_at sys l.instance)
-  pub places : List ℕ
-  pub stand : ArePlaces (line_side sys l) (line_variables sys l) places
-  pub typed : fit_each (map (type_at (line_side sys l)) places) l.values ≡ true
+  pub indexes : List ℕ
+  pub stand : AreIndexes (line_side sys l) (line_variables sys l) indexes
+  pub typed : fit_each (map (type_at (line_side sys l)) indexes) l.values ≡ true
 
 -- ---- Parts of a line
 
@@ -74,9 +74,9 @@ port_variables sys p =
 
 -- A text is that of the values of a line of a port, and a line feed.
 pub record AreValuesOf (sys : System) (p : Port) (text : List ℕ) (values : List Value) : Type 0 where
-  pub places : List ℕ
-  pub stand : ArePlaces (port_side sys p) (port_variables sys p) places
-  pub typed : fit_each (map (type_at (port_side sys p)) places) values ≡ true
+  pub indexes : List ℕ
+  pub stand : AreIndexes (port_side sys p) (port_variables sys p) indexes
+  pub typed : fit_each (map (type_at (port_side sys p)) indexes) values ≡ true
   pub counted : length values ≡ length (port_variables sys p)
   pub parts : text ≡ values_text (pair_up (port_variables sys p) values) ++ 10 ∷ []
 
@@ -110,7 +110,7 @@ pub record IsLast (sys : System) (text : List ℕ) (end : RunEnd) : Type 0 where
 
 -- what the last line of a trace has behind its first word where a resource stopped
 abbrev pub stop_text : System → (tick resource : ℕ) → Reason → List ℕ
-stop_text sys k r reason = place_text sys k r ++ codes " " ++ reason_text reason ++ 10 ∷ []
+stop_text sys k r reason = tick_and_resource_text sys k r ++ codes " " ++ reason_text reason ++ 10 ∷ []
 
 -- A text tells that a resource of the system stopped.
 pub record IsStop (sys : System) (text : List ℕ) (mark : StopMark) : Type 0 where

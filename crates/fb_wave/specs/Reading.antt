@@ -89,24 +89,24 @@ pub record IsBound (name : Name) (ty : Ty) (text : List ℕ) (value : Value) (re
 abbrev pub IsUnbound : Name → Ty → List ℕ → Type 0
 IsUnbound n t text = (v : Value) (rest : List ℕ) → IsBound n t text v rest → ⊥
 
--- the name and the type of the variable at a place
+-- the name and the type of the variable at an index
 abbrev pub name_at : List Variable → ℕ → Name
 name_at vs k = unwrap_or (slice_get (variable_names vs) k) []
 
 abbrev pub type_at : List Variable → ℕ → Ty
 type_at vs k = unwrap_or (slice_get (map (λ v. v.ty) vs) k) Boolean
 
--- each value is one of the type at its place
+-- each value is one of the type at its index
 abbrev pub fit_each : List Ty → List Value → Bool
 fit_each [] vs = true
 fit_each (t ∷ ts) [] = true
 fit_each (t ∷ ts) (v ∷ vs) = fits t v && fit_each ts vs
 
--- A text is that of a value for each of the variables at some places, and a line feed.
-pub record AreRead (variables : List Variable) (places : List ℕ) (text : List ℕ) (values : List Value) : Type 0 where
-  pub counted : length values ≡ length places
-  pub typed : fit_each (map (type_at variables) places) values ≡ true
-  pub parts : text ≡ values_text (pair_up (map (name_at variables) places) values) ++ 10 ∷ []
+-- A text is that of a value for each of the variables at some indexes, and a line feed.
+pub record AreRead (variables : List Variable) (indexes : List ℕ) (text : List ℕ) (values : List Value) : Type 0 where
+  pub counted : length values ≡ length indexes
+  pub typed : fit_each (map (type_at variables) indexes) values ≡ true
+  pub parts : text ≡ values_text (pair_up (map (name_at variables) indexes) values) ++ 10 ∷ []
 
 abbrev pub AreUnread : List Variable → List ℕ → List ℕ → Type 0
 AreUnread vs ks text = (values : List Value) → AreRead vs ks text values → ⊥

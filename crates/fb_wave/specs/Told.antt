@@ -11,15 +11,15 @@ use Rattle.fb_system.specs.Lines.{line_variables}
 use Rattle.fb_wave.specs.Lines.{line_side}
 use Rattle.fb_wave.specs.Signals.{event_signal, first_variable}
 
--- the place of a variable among those
-abbrev pub place_of : List Variable → Name → ℕ
-place_of vs n = unwrap_or (position (same_name n) (variable_names vs)) 0
+-- the index of a variable among those
+abbrev pub index_of : List Variable → Name → ℕ
+index_of vs n = unwrap_or (position (same_name n) (variable_names vs)) 0
 
 -- the signal whose event a line tells of
 abbrev pub fired : System → Line → ℕ
 fired sys l = event_signal sys l.instance l.taken l.event
 
--- numbers, each with the value at its place
+-- numbers, each with the value at its index
 abbrev pub pairs : List ℕ → List Value → List (ℕ × Value)
 pairs [] vs = []
 pairs (s ∷ ss) [] = []
@@ -28,7 +28,7 @@ pairs (s ∷ ss) (v ∷ vs) = (s, v) ∷ pairs ss vs
 -- the signals whose values a line tells
 abbrev pub told_signals : System → Line → List ℕ
 told_signals sys l =
-    map (λ n. first_variable sys l.instance l.taken + place_of (line_side sys l) n) (line_variables sys l)
+    map (λ n. first_variable sys l.instance l.taken + index_of (line_side sys l) n) (line_variables sys l)
 
 abbrev pub told : System → Line → List (ℕ × Value)
 told sys l = pairs (told_signals sys l) l.values

@@ -2,7 +2,7 @@
 use Rattle.std.specs.Prelude.{◌≡◌, ◌<◌, ◌≤◌, ℕ, ◌+◌, ◌^◌, List, [], ◌∷◌, ◌++◌, length, All, slice_index}
 use Rattle.fb_types.specs.Systems.{System}
 use Rattle.fb_types.specs.declared.run.Line.{Line}
-use Rattle.fb_system.specs.Stands.{ArePlaces}
+use Rattle.fb_system.specs.Stands.{AreIndexes}
 use Rattle.fb_system.specs.Lines.{line_variables}
 use Rattle.fb_wave.specs.Levels.{AreLevels}
 use Rattle.fb_wave.specs.Signals.{first_signal, first_variable, sizes_of}
@@ -30,8 +30,8 @@ pub record AreMarks (sys : System) (l : Line) (x : Marks) : Type 0 where
   pub event_is : x.event ≡ fired sys l
   pub event_within : x.event < sizes_of sys sys.paths
   pub first_is : x.first ≡ first_variable sys l.instance l.taken
-  pub places_are : ArePlaces (line_side sys l) (line_variables sys l) x.places.now
-  pub within : All (λ k. x.first + k < sizes_of sys sys.paths) x.places.now
+  pub indexes_are : AreIndexes (line_side sys l) (line_variables sys l) x.indexes.now
+  pub within : All (λ k. x.first + k < sizes_of sys sys.paths) x.indexes.now
 
 -- The dump's numbers are those of the system.
 pub record IsDump (sys : System) (x : Dump) : Type 0 where

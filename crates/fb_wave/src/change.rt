@@ -79,8 +79,8 @@ pub(crate) fn put_changes(text: &mut Vec<u8>, levels: &mut Levels) -> Result<(),
     ensures levels { (n : ℕ) (fires : List ℕ) (tells : List (ℕ × Value)) (touches : List ℕ) → AreLevels n fires tells touches levels.old
         → OnOk result (AreLevels n fires tells [] levels.new) }
 {
-    for place in 0..levels.noted.len() {
-        let signal = levels.noted[place];
+    for index in 0..levels.noted.len() {
+        let signal = levels.noted[index];
         put_change(text, signal, levels.cells[signal].shown)?;
         levels.cells[signal].is_noted = false;
     }

@@ -10,18 +10,18 @@ use std::alloc::AllocError;
 const MOST_DIGITS: usize = 64;
 
 /// Writes the digits of a number to a base at the end of the buffer, and tells where they begin.
-fn write_digits(base: u64, number: u64, places: &mut [u8; MOST_DIGITS]) -> usize
+fn write_digits(base: u64, number: u64, indexes: &mut [u8; MOST_DIGITS]) -> usize
     requires low { 2 ≤ base }
     requires high { base ≤ 10 }
     ensures within { result ≤ MOST_DIGITS }
-    ensures length { length places.new ≡ MOST_DIGITS }
-    ensures written { drop result places.new ≡ digits base false number }
+    ensures length { length indexes.new ≡ MOST_DIGITS }
+    ensures written { drop result indexes.new ≡ digits base false number }
 {
     let mut start = MOST_DIGITS;
     let mut rest = number;
     while start > 0 {
         start -= 1;
-        places[start] = b'0' + (rest % base) as u8;
+        indexes[start] = b'0' + (rest % base) as u8;
         rest /= base;
         if rest == 0 {
             break;
@@ -34,18 +34,18 @@ fn write_digits(base: u64, number: u64, places: &mut [u8; MOST_DIGITS]) -> usize
 pub(crate) fn put_decimal(text: &mut Vec<u8>, number: u64) -> Result<(), AllocError>
     ensures { OnOk result (text.new.items ≡ text.old.items ++ decimal number) }
 {
-    let mut places = [0; MOST_DIGITS];
-    let start = write_digits(10, number, &mut places);
-    text.extend_from_slice(&places[start..])
+    let mut indexes = [0; MOST_DIGITS];
+    let start = write_digits(10, number, &mut indexes);
+    text.extend_from_slice(&indexes[start..])
 }
 
 /// Puts the binary digits of a number behind a text.
 pub(crate) fn put_binary(text: &mut Vec<u8>, number: u64) -> Result<(), AllocError>
     ensures { OnOk result (text.new.items ≡ text.old.items ++ binary number) }
 {
-    let mut places = [0; MOST_DIGITS];
-    let start = write_digits(2, number, &mut places);
-    text.extend_from_slice(&places[start..])
+    let mut indexes = [0; MOST_DIGITS];
+    let start = write_digits(2, number, &mut indexes);
+    text.extend_from_slice(&indexes[start..])
 }
 
 /// Puts a line behind a text: a front, and the decimal digits of a number.

@@ -73,8 +73,8 @@ struct Marks<'a> {
     event: usize,
     /// That of the first variable among which those of the line are.
     first: usize,
-    /// The places of the line's variables among those.
-    places: &'a [u32],
+    /// The indexes of the line's variables among those.
+    indexes: &'a [u32],
 }
 
 /// The signals of a line, by the numbers of the first signals of instances.
@@ -91,13 +91,13 @@ fn marks_of<'a>(firsts: &[usize], system: &'a System, line: &Line) -> Marks<'a>
         Marks {
             event: first + line.event as usize,
             first: variables,
-            places: system.inputs_with(line.instance, line.event),
+            indexes: system.inputs_with(line.instance, line.event),
         }
     } else {
         Marks {
             event: outputs + line.event as usize,
             first: variables + ports.inputs.len(),
-            places: system.outputs_with(line.instance, line.event),
+            indexes: system.outputs_with(line.instance, line.event),
         }
     }
 }
@@ -117,46 +117,46 @@ fn turn(levels: &mut Levels, told: u64, tick: u64, text: &mut Vec<u8>) -> Result
     put_time(text, told, tick)
 }
 
-/// The variables at some places have these values, each as a signal whose number is that of the first and its place.
+/// The variables at some indexes have these values, each as a signal whose number is that of the first and its index.
 fn tell_all(
     levels: &mut Levels,
     first: usize,
-    places: &[u32],
+    indexes: &[u32],
     values: &[Value],
 ) -> Result<(), AllocError>
-    requires places { All (λ k. first + k < length levels.old.cells.items) places.now }
+    requires indexes { All (λ k. first + k < length levels.old.cells.items) indexes.now }
     requires within { All (λ s. s < length levels.old.cells.items) levels.old.noted.items }
     ensures counted { length levels.new.cells.items ≡ length levels.old.cells.items }
     ensures within { All (λ s. s < length levels.new.cells.items) levels.new.noted.items }
     ensures levels { (n : ℕ) (fires : List ℕ) (tells : List (ℕ × Value)) (touches : List ℕ) → AreLevels n fires tells touches levels.old
-        → OnOk result (let more = pairs (map (λ k. first + k) places.now) values.now in
+        → OnOk result (let more = pairs (map (λ k. first + k) indexes.now) values.now in
         AreLevels n fires (tells ++ more) (touches ++ map (λ t. t.0) more) levels.new) }
 {
-    for index in 0..places.len().min(values.len()) {
-        levels.tell(first + places[index] as usize, values[index])?;
+    for index in 0..indexes.len().min(values.len()) {
+        levels.tell(first + indexes[index] as usize, values[index])?;
     }
     Ok(())
 }
 
-/// Notes an event, and values at some places behind the first variable.
+/// Notes an event, and values at some indexes behind the first variable.
 fn tell(
     levels: &mut Levels,
     event: usize,
     first: usize,
-    places: &[u32],
+    indexes: &[u32],
     values: &[Value],
 ) -> Result<(), AllocError>
     requires event { event < length levels.old.cells.items }
-    requires places { All (λ k. first + k < length levels.old.cells.items) places.now }
+    requires indexes { All (λ k. first + k < length levels.old.cells.items) indexes.now }
     requires within { All (λ s. s < length levels.old.cells.items) levels.old.noted.items }
     ensures counted { length levels.new.cells.items ≡ length levels.old.cells.items }
     ensures within { All (λ s. s < length levels.new.cells.items) levels.new.noted.items }
     ensures levels { (n : ℕ) (fires : List ℕ) (tells : List (ℕ × Value)) (touches : List ℕ) → AreLevels n fires tells touches levels.old
-        → OnOk result (let more = pairs (map (λ k. first + k) places.now) values.now in
+        → OnOk result (let more = pairs (map (λ k. first + k) indexes.now) values.now in
         AreLevels n (fires ++ event ∷ []) (tells ++ more) (touches ++ event ∷ [] ++ map (λ t. t.0) more) levels.new) }
 {
     levels.fire(event)?;
-    tell_all(levels, first, places, values)
+    tell_all(levels, first, indexes, values)
 }
 
 impl Dump {
@@ -201,7 +201,7 @@ impl Dump {
             &mut self.levels,
             marks.event,
             marks.first,
-            marks.places,
+            marks.indexes,
             values,
         )
     }

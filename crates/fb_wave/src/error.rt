@@ -21,7 +21,7 @@ pub enum WaveError {
     /// The reader of the trace gave an error.
     #[error("file fault")]
     Read,
-    /// The writer failed when it had taken so many bytes of the dump, up to the greatest `u128`.
+    /// The writer failed after it took this many bytes of the dump, up to the greatest `u128`.
     #[error("write fault after {0} bytes")]
     Write(u128),
 }

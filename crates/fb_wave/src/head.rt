@@ -12,7 +12,7 @@ use crate::signals::{HeadPart, put_ports};
 use fb_system::System;
 use std::alloc::AllocError;
 
-/// What stands behind so many bytes.
+/// What follows after the given number of bytes.
 fn rest_from(text: &[u8], count: usize) -> &[u8]
     requires { count ≤ length text.now }
     ensures { result.now ≡ drop count text.now }
@@ -33,7 +33,7 @@ fn own_name(system: &System, instance: u32) -> &[u8]
     }
 }
 
-/// Puts the scope of an instance, where so many scopes of instances are open, and tells how many are open then.
+/// Puts the scope of an instance, where the given number of scopes of instances are open, and returns how many are open then.
 fn put_instance(
     text: &mut Vec<u8>,
     system: &System,
@@ -70,9 +70,9 @@ fn put_instances(
 {
     system.facts();
     let mut depth = 0;
-    for place in 0..system.count() {
-        if system.resource(place as u32) == resource {
-            let height = put_instance(text, system, firsts[place], depth, place as u32)?;
+    for index in 0..system.count() {
+        if system.resource(index as u32) == resource {
+            let height = put_instance(text, system, firsts[index], depth, index as u32)?;
             depth = height;
         }
     }
@@ -86,12 +86,12 @@ fn put_begun(text: &mut Vec<u8>, system: &System, firsts: &[usize]) -> Result<()
         ++ spec.instances_begun (system_of system.now) 0 (system_of system.now).paths) }
 {
     system.facts();
-    for place in 0..system.count() {
+    for index in 0..system.count() {
         put_ports(
             text,
             HeadPart::Beginnings,
-            firsts[place],
-            system.ports(place as u32),
+            firsts[index],
+            system.ports(index as u32),
         )?;
     }
     Ok(())

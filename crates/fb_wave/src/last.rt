@@ -3,7 +3,7 @@
 ghost use Rattle.std.specs.Prelude.{◌≡◌, ◌<◌, ◌^◌, ℕ, ◌++◌, [], ◌∷◌, IfNone, IfSome, MatchOption, length, slice_index_or, codes, decimal};
 ghost use Rattle.fb_types.specs.Headline.{system_of};
 ghost use Rattle.fb_types.specs.Simulation.{AtStop};
-ghost use Rattle.fb_types.specs.Text.{last_line, place_text, reason_text};
+ghost use Rattle.fb_types.specs.Text.{last_line, tick_and_resource_text, reason_text};
 ghost use Rattle.fb_wave.specs.Lines.{IsLast, IsNoLast, IsNoStop, IsStop};
 ghost use Rattle.fb_wave.specs.Named.{HasNames};
 

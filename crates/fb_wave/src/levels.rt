@@ -28,7 +28,7 @@ pub(crate) struct Cell {
 /// All signals, and those of which a line of this tick told, in the order in which each came first.
 #[derive(Drop)]
 pub(crate) struct Levels {
-    /// Each signal at the place of its number.
+    /// Each signal at the index of its number.
     pub(crate) cells: Vec<Cell>,
     /// The numbers of those of which a line of this tick told.
     pub(crate) noted: Vec<usize>,

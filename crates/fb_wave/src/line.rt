@@ -77,11 +77,11 @@ fn port_values(
 {
     let ports = system.ports(port.instance);
     if port.taken {
-        let places = system.inputs_with(port.instance, port.event);
-        values_of(alloc, ports.inputs.as_slice(), places, text)
+        let indexes = system.inputs_with(port.instance, port.event);
+        values_of(alloc, ports.inputs.as_slice(), indexes, text)
     } else {
-        let places = system.outputs_with(port.instance, port.event);
-        values_of(alloc, ports.outputs.as_slice(), places, text)
+        let indexes = system.outputs_with(port.instance, port.event);
+        values_of(alloc, ports.outputs.as_slice(), indexes, text)
     }
 }
 

@@ -20,8 +20,8 @@ pub(crate) fn natural(text: &[u8]) -> Option<u128>
     ensures { MatchOption result (IsNoNumber (2 ^ 128) text.now) (λ n. text.now ≡ decimal n) }
 {
     let mut value = 0;
-    for (place, byte) in text.iter().enumerate() {
-        if place > 0 && value == 0 {
+    for (index, byte) in text.iter().enumerate() {
+        if index > 0 && value == 0 {
             return None;
         }
         value = grown(value, *byte)?;

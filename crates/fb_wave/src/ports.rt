@@ -16,16 +16,16 @@ use std::alloc::{AllocError, Global};
 #[derive(Clone, Copy)]
 pub(crate) struct Port {
     pub(crate) instance: u32,
-    /// The place of the event among the event inputs, or outputs.
+    /// The index of the event among the event inputs, or outputs.
     pub(crate) event: u32,
     /// Set where it is an event input.
     pub(crate) taken: bool,
 }
 
-/// Lines have room for the numbers of so many events of one interface.
+/// Lines have room for the numbers of this many events of one interface.
 const MOST_EVENTS: usize = 1 << 32;
 
-/// Adds the event inputs of an instance, or its event outputs, of which there are so many.
+/// Adds the event inputs of an instance, or its event outputs, of the given count.
 fn push_events(
     all: &mut Vec<Port>,
     instance: u32,
@@ -57,8 +57,8 @@ pub(crate) fn ports_of(alloc: Global, system: &System) -> Result<Vec<Port>, Allo
 {
     system.facts();
     let mut all = Vec::new(alloc);
-    for place in 0..system.count() {
-        let instance = place as u32;
+    for index in 0..system.count() {
+        let instance = index as u32;
         let ports = system.ports(instance);
         push_events(&mut all, instance, true, ports.event_inputs.len())?;
         push_events(&mut all, instance, false, ports.event_outputs.len())?;

@@ -14,7 +14,7 @@ pub(crate) fn put_opened(text: &mut Vec<u8>, name: &[u8]) -> Result<(), AllocErr
     text.extend_from_slice(b" $end\n")
 }
 
-/// Closes so many scopes.
+/// Closes the given number of scopes.
 pub(crate) fn put_closed(text: &mut Vec<u8>, count: usize) -> Result<(), AllocError>
     ensures { OnOk result (text.new.items ≡ text.old.items ++ spec.closed count) }
 {

@@ -3,7 +3,7 @@
 ghost use Rattle.std.specs.Prelude.{◌≡◌, ◌≤◌, ℕ, List, ◌++◌, All, Contains, IfNone, IfOk, IfSome, MatchOption, Some, slice_get, length, map};
 ghost use Rattle.fb_types.specs.Headline.{system_of};
 ghost use Rattle.fb_types.specs.Repeated.{Twice};
-ghost use Rattle.fb_check_names.specs.Places.{names_in};
+ghost use Rattle.fb_check_names.specs.Indexes.{names_in};
 ghost use Rattle.fb_wave.specs.Ports as spec;
 ghost use Rattle.fb_wave.specs.Named.{HasNames};
 ghost use Rattle.fb_wave.specs.Ports.{BeginsWith, HasNoPort, IsPortOf};
@@ -12,28 +12,28 @@ ghost use Rattle.fb_wave.specs.Words.{HasNoThree, HasThree, is_ended};
 
 use crate::ports::{Port, port_text};
 use crate::words::{behind, cut, is_end};
-use fb_check_names::{Places, place_of, places_of};
+use fb_check_names::{Indexes, index_of, indexes_of};
 use fb_system::System;
 use fb_types::Name;
 use std::alloc::{AllocError, Global};
 
-/// The ports of a system, and the places of their texts among those of all.
+/// The ports of a system, and the indexes of their texts among those of all.
 #[derive(Drop)]
 pub(crate) struct PortTable<'a> {
     /// The system.
     pub(crate) system: &'a System,
     ports: &'a [Port],
     texts: &'a [Name],
-    places: Places<'a>,
+    indexes: Indexes<'a>,
 }
 
 /// Where the port of a line is looked for first: at the port that came last behind that of the line before. A guess
 /// that is wrong costs time alone, so nothing is promised of it.
 #[derive(Drop)]
 pub(crate) struct Guess {
-    /// For each port the place of the one that came last behind it.
+    /// For each port the index of the one that came last behind it.
     next: Vec<usize>,
-    /// The place of the port of the line before.
+    /// The index of the port of the line before.
     last: usize,
 }
 
@@ -41,26 +41,26 @@ impl Guess {
     /// The guess before the first line.
     pub(crate) fn new(alloc: Global, table: &PortTable<'_>) -> Result<Guess, AllocError> {
         let mut next = Vec::new(alloc);
-        for place in 0..table.ports.len() {
-            next.push(place)?;
+        for index in 0..table.ports.len() {
+            next.push(index)?;
         }
         Ok(Guess { next, last: 0 })
     }
 
-    /// The place to look at.
-    fn place(&self) -> usize {
+    /// The index to look at.
+    fn index(&self) -> usize {
         match self.next.get(self.last) {
-            Some(place) => *place,
+            Some(index) => *index,
             None => 0,
         }
     }
 
-    /// Keeps that a line of the port at this place was read.
-    fn note(&mut self, place: usize) {
+    /// Keeps that a line of the port at this index was read.
+    fn note(&mut self, index: usize) {
         if let Some(next) = self.next.get_mut(self.last) {
-            *next = place;
+            *next = index;
         }
-        self.last = place;
+        self.last = index;
     }
 }
 
@@ -74,7 +74,7 @@ fn ends_word(rest: &[u8]) -> bool
     }
 }
 
-/// The texts of ports, each at the place of its port.
+/// The texts of ports, each at the index of its port.
 pub(crate) fn texts_of(
     alloc: Global,
     system: &System,
@@ -127,26 +127,26 @@ impl<'a> PortTable<'a> {
     {
         system.facts();
         let names = names_of(alloc, texts)?;
-        match places_of(alloc, names.as_slice())? {
-            Some(places) => Ok(Some(PortTable {
+        match indexes_of(alloc, names.as_slice())? {
+            Some(indexes) => Ok(Some(PortTable {
                 system,
                 ports,
                 texts,
-                places,
+                indexes,
             })),
             None => Ok(None),
         }
     }
 
-    /// The port at a place, if a text begins with its text, and what stands behind it.
-    fn at<'b>(&self, place: usize, text: &'b [u8]) -> Option<(Port, &'b [u8])>
+    /// The port at an index, if a text begins with its text, and what stands behind it.
+    fn at<'b>(&self, index: usize, text: &'b [u8]) -> Option<(Port, &'b [u8])>
         requires { IsTable self.now }
         ensures found { IfSome result (λ p. BeginsWith (system_of self.now.system.now) text.now p.0 p.1.now) }
-        ensures none { IfNone result ((p : Port) (rest : List ℕ) → slice_get self.now.ports.now place ≡ Some p
+        ensures none { IfNone result ((p : Port) (rest : List ℕ) → slice_get self.now.ports.now index ≡ Some p
             → BeginsWith (system_of self.now.system.now) text.now p rest → ⊥) }
     {
-        let port = self.ports.get(place)?;
-        let name = self.texts.get(place)?;
+        let port = self.ports.get(index)?;
+        let name = self.texts.get(index)?;
         let rest = behind(text, name.as_bytes())?;
         if !ends_word(rest) {
             return None;
@@ -154,21 +154,21 @@ impl<'a> PortTable<'a> {
         Some((*port, rest))
     }
 
-    /// The port with whose text a text begins, and what stands behind it. Its place is guessed, and looked up where the
+    /// The port with whose text a text begins, and what stands behind it. Its index is guessed, and looked up where the
     /// guess is wrong.
     pub(crate) fn find<'b>(&self, guess: &mut Guess, text: &'b [u8]) -> Option<(Port, &'b [u8])>
         requires { IsTable self.now }
         ensures found { IfSome result (λ p. BeginsWith (system_of self.now.system.now) text.now p.0 p.1.now) }
         ensures none { HasNames (system_of self.now.system.now) → IfNone result (HasNoPort (system_of self.now.system.now) text.now) }
     {
-        let guessed = guess.place();
+        let guessed = guess.index();
         if let Some(found) = self.at(guessed, text) {
             guess.last = guessed;
             return Some(found);
         }
         let length = port_len(text)?;
-        let place = place_of(&self.places, &text[..length])?;
-        guess.note(place);
-        self.at(place, text)
+        let index = index_of(&self.indexes, &text[..length])?;
+        guess.note(index);
+        self.at(index, text)
     }
 }

@@ -73,20 +73,20 @@ fn binding<'a>(variable: &Variable, text: &'a [u8]) -> Option<(Value, &'a [u8])>
     Some((value_of(variable.ty, parts.0)?, parts.1))
 }
 
-/// The values of the variables at some places, up to the end of a line.
+/// The values of the variables at some indexes, up to the end of a line.
 pub(crate) fn values_of(
     alloc: Global,
     variables: &[Variable],
-    places: &[u32],
+    indexes: &[u32],
     text: &[u8],
 ) -> Result<Option<Values>, AllocError>
-    requires { All (λ k. k < length variables.now) places.now }
-    ensures { IfOk result (λ o. MatchOption o (AreUnread variables.now places.now text.now) (AreRead variables.now places.now text.now)) }
+    requires { All (λ k. k < length variables.now) indexes.now }
+    ensures { IfOk result (λ o. MatchOption o (AreUnread variables.now indexes.now text.now) (AreRead variables.now indexes.now text.now)) }
 {
     let mut values = Values::new(alloc);
     let mut rest = text;
-    for place in places {
-        let Some(bound) = binding(&variables[*place as usize], rest) else {
+    for index in indexes {
+        let Some(bound) = binding(&variables[*index as usize], rest) else {
             return Ok(None);
         };
         values.push(bound.0)?;

@@ -23,9 +23,9 @@ pub(crate) fn is_digit(byte: u8) -> bool
 pub(crate) fn cut(text: &[u8]) -> Option<(&[u8], &[u8])>
     ensures { MatchOption result (spec.is_word text.now ≡ true) (λ p. IsCut text.now p.0.now p.1.now) }
 {
-    for (place, byte) in text.iter().enumerate() {
+    for (index, byte) in text.iter().enumerate() {
         if is_end(*byte) {
-            return Some((&text[..place], &text[place..]));
+            return Some((&text[..index], &text[index..]));
         }
     }
     None

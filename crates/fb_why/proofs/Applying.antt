@@ -21,7 +21,7 @@ use Rattle.fb_types.specs.declared.library.Variable.{Variable}
 use Rattle.fb_check_names.specs.GivenTwice.{BlockTwice, NetworkTwice, PortTwice, TypeTwice, names_of_ports}
 use Rattle.fb_types.proofs.NameLaws.{contains_from_any}
 use Rattle.fb_types.proofs.Elements.{Contains-here, Contains-there, Contains-flat_map, Contains-map}
-use Rattle.fb_types.proofs.ByPlace.{element_of_place}
+use Rattle.fb_types.proofs.ByIndex.{element_of_index}
 use Rattle.fb_check_names.proofs.NameTwice.{block_twice, network_twice, plan_twice, types_twice}
 use Rattle.fb_why.specs.Heights.{IsHeld}
 use Rattle.fb_why.specs.Applies.{HeightApplies, JoinedApplies, TwiceApplies, UnlinkedApplies, UnmappedApplies, UnservedApplies}
@@ -46,7 +46,7 @@ use Rattle.fb_why.proofs.Parted.{targets_are}
 at_both : {A : Type 0} (xs : List A) (i j : ℕ) (x : A) → i < j → slice_get xs i ≡ Some x → slice_get xs j ≡ Some x → Twice xs
 at_both [] i j x less h g = absurd (cc)
 at_both (y ∷ ys) zero zero x less h g = absurd (omega arith)
-at_both {A} (y ∷ ys) zero (suc j) x less h g = let e : y ≡ x = cc in inl (subst (λ (z : A). Contains ys z) (sym e) (element_of_place ys j x g))
+at_both {A} (y ∷ ys) zero (suc j) x less h g = let e : y ≡ x = cc in inl (subst (λ (z : A). Contains ys z) (sym e) (element_of_index ys j x g))
 at_both (y ∷ ys) (suc i) zero x less h g = absurd (omega arith)
 at_both (y ∷ ys) (suc i) (suc j) x less h g = inr (at_both ys i j x (omega arith) h g)
 
@@ -58,18 +58,18 @@ pair_twice xs r p = at_both xs r.0 r.1 p.what p.in_order p.first p.again
 network_pair : (net : Network) (n : InNetwork) → IsTwiceInNetwork net n → NetworkTwice net
 network_pair net (network.Instance r) h = inl (pair_twice (instance_names net) r h)
 network_pair net (network.Parameter k r) h =
-    inr (inl (parameter_names h.0, Contains-map parameter_names net.instances h.0 (element_of_place net.instances k h.0 h.1), pair_twice (parameter_names h.0) r h.2))
+    inr (inl (parameter_names h.0, Contains-map parameter_names net.instances h.0 (element_of_index net.instances k h.0 h.1), pair_twice (parameter_names h.0) r h.2))
 network_pair net (network.Connection r) h = inr (inr (pair_twice (event_pairs net) r h))
 
 ports_pair : (p : Ports) (vs : List Variable) (b : InBlock) → IsTwiceInPorts p vs b → PortTwice p vs
 ports_pair p vs (part.Port r) h = inl (pair_twice (names_of_ports p vs) r h)
 ports_pair p vs (part.WithInput k r) h =
     let events = p.event_inputs ++ p.event_outputs in
-    let there : Contains events h.0 = Contains-append_left p.event_inputs p.event_outputs h.0 (element_of_place p.event_inputs k h.0 h.1) in
+    let there : Contains events h.0 = Contains-append_left p.event_inputs p.event_outputs h.0 (element_of_index p.event_inputs k h.0 h.1) in
     inr (h.0.with, Contains-map (λ (e : EventPort). e.with) events h.0 there, pair_twice h.0.with r h.2)
 ports_pair p vs (part.WithOutput k r) h =
     let events = p.event_inputs ++ p.event_outputs in
-    let there : Contains events h.0 = Contains-append_right p.event_inputs p.event_outputs h.0 (element_of_place p.event_outputs k h.0 h.1) in
+    let there : Contains events h.0 = Contains-append_right p.event_inputs p.event_outputs h.0 (element_of_index p.event_outputs k h.0 h.1) in
     inr (h.0.with, Contains-map (λ (e : EventPort). e.with) events h.0 there, pair_twice h.0.with r h.2)
 ports_pair p vs (part.State r) h = absurd h
 ports_pair p vs (part.Algorithm r) h = absurd h
@@ -99,12 +99,12 @@ event_block_pair ts k h =
     let is : is_some (event_block_named n) ≡ true = true_from_not (is_some (event_block_named n)) h.2 in
     Twice-both event_type_names (map type_name ts) n
     (contains_from_any n event_type_names (sym (is_some-named (λ e. e.0) (λ e. e.1) n event_blocks) ∙ is))
-    (Contains-map type_name ts h.0 (element_of_place ts k h.0 h.1))
+    (Contains-map type_name ts h.0 (element_of_index ts k h.0 h.1))
 
 pub twice_applies : TwiceApplies
 twice_applies lib plan (given.EventBlock k) h = types_twice lib plan (event_block_pair lib.blocks k h)
 twice_applies lib plan (given.Type r) h = types_twice lib plan (Twice-append_right event_type_names (map type_name lib.blocks) (pair_twice (map type_name lib.blocks) r h))
-twice_applies lib plan (given.Block k b) h = block_twice lib plan h.0 (element_of_place lib.blocks k h.0 h.1) (block_pair h.0 b h.2)
+twice_applies lib plan (given.Block k b) h = block_twice lib plan h.0 (element_of_index lib.blocks k h.0 h.1) (block_pair h.0 b h.2)
 twice_applies lib plan (given.Application n) h = network_twice lib plan (network_pair lib.application.network n h)
 twice_applies lib plan (given.Resource r) h = plan_twice lib plan (inl (pair_twice (resource_names_of plan) r h))
 twice_applies lib plan (given.Link r) h = plan_twice lib plan (inr (pair_twice (link_pairs plan) r h))
@@ -120,7 +120,7 @@ inside_applies lib (block.Composite t) k r at h =
     let top : Placed = (None, lib.application.network) in
     let n : Placed = (Some t, t.network) in
     let inside : Contains (flat_map networks_in lib.blocks) n =
-    Contains-flat_map networks_in lib.blocks (block.Composite t) n (element_of_place lib.blocks k (block.Composite t) at) (Contains-here n []) in
+    Contains-flat_map networks_in lib.blocks (block.Composite t) n (element_of_index lib.blocks k (block.Composite t) at) (Contains-here n []) in
     (n, Contains-there top (flat_map networks_in lib.blocks) n inside, targets_twice t.network.data_connections r h)
 
 pub joined_applies : JoinedApplies
@@ -132,25 +132,25 @@ joined_applies lib (joined.Inside k r) h = inside_applies lib h.0 k r h.1 h.2
 -- ---- E25
 
 held : (lib : Library) (k i : ℕ) (t u : CompositeType) → IsHeld lib k i t u → Holds lib t u
-held lib k i t u h = (h.instance, element_of_place t.network.instances i h.instance h.stands, h.of_type)
+held lib k i t u h = (h.instance, element_of_index t.network.instances i h.instance h.stands, h.of_type)
 
 pub height_applies : HeightApplies
 height_applies lib (Circle k i) h =
-    (h.0, h.0, element_of_place lib.blocks k (block.Composite h.0) h.2.holder, inl (h.3.0, (h.1, held lib k i h.0 h.1 h.2, h.3.1)))
+    (h.0, h.0, element_of_index lib.blocks k (block.Composite h.0) h.2.holder, inl (h.3.0, (h.1, held lib k i h.0 h.1 h.2, h.3.1)))
 height_applies lib (Height k i) h =
-    (h.0, h.3.0, element_of_place lib.blocks k (block.Composite h.0) h.2.holder, inr (h.1, held lib k i h.0 h.1 h.2, h.3.1))
+    (h.0, h.3.0, element_of_index lib.blocks k (block.Composite h.0) h.2.holder, inr (h.1, held lib k i h.0 h.1 h.2, h.3.1))
 
 -- ---- E26 to E28
 
 pub unmapped_applies : UnmappedApplies
-unmapped_applies lib plan (Unlisted k) h = inl (h.instance, element_of_place lib.application.network.instances k h.instance h.stands, h.unlisted)
+unmapped_applies lib plan (Unlisted k) h = inl (h.instance, element_of_index lib.application.network.instances k h.instance h.stands, h.unlisted)
 unmapped_applies lib plan (Again r) h = inr (pair_twice (mapped lib plan) r h)
 
 pub unlinked_applies : UnlinkedApplies
 unlinked_applies lib plan (unlinked.Event k) h =
-    (h.stands, Contains-append_left (event_pairs_of lib) (data_pairs_of lib) h.stands (element_of_place (event_pairs_of lib) k h.stands h.found), h.cut, h.none)
+    (h.stands, Contains-append_left (event_pairs_of lib) (data_pairs_of lib) h.stands (element_of_index (event_pairs_of lib) k h.stands h.found), h.cut, h.none)
 unlinked_applies lib plan (unlinked.Data k) h =
-    (h.stands, Contains-append_right (event_pairs_of lib) (data_pairs_of lib) h.stands (element_of_place (data_pairs_of lib) k h.stands h.found), h.cut, h.none)
+    (h.stands, Contains-append_right (event_pairs_of lib) (data_pairs_of lib) h.stands (element_of_index (data_pairs_of lib) k h.stands h.found), h.cut, h.none)
 
 pub unserved_applies : UnservedApplies
-unserved_applies lib plan k h = (h.stands, element_of_place (data_pairs_of lib) k h.stands h.found, h.cut, h.alone)
+unserved_applies lib plan k h = (h.stands, element_of_index (data_pairs_of lib) k h.stands h.found, h.cut, h.alone)

@@ -14,7 +14,7 @@ use Rattle.fb_types.specs.declared.library.PortName.{PortName}
 use Rattle.fb_types.specs.declared.library.Ports.{Ports}
 use Rattle.fb_types.specs.declared.library.Variable.{Variable}
 use Rattle.fb_types.proofs.NameLaws.{same_from_same_name, find-named}
-use Rattle.fb_why_kinds.proofs.NetworkPlaces.{any_map}
+use Rattle.fb_why_kinds.proofs.NetworkLocations.{any_map}
 use Rattle.fb_why_kinds.proofs.Typed.{declared_type, event_type}
 use Rattle.fb_why.specs.Unserved.{carries}
 

@@ -10,19 +10,19 @@ use Rattle.fb_types.specs.declared.library.BlockType.{BlockType}
 use Rattle.fb_types.specs.declared.library.BlockType.TheVariants as block
 use Rattle.fb_types.specs.declared.library.CompositeType.{CompositeType}
 use Rattle.fb_types.specs.declared.library.Instance.{Instance}
-use Rattle.fb_types.proofs.ByPlace.{element_of_place}
-use Rattle.fb_why.specs.Heights.{IsRound, IsTooHighAt, LeadsBack, LeadsTo, below, marked_in, marks_after, place_of_type, type_inside}
+use Rattle.fb_types.proofs.ByIndex.{element_of_index}
+use Rattle.fb_why.specs.Heights.{IsRound, IsTooHighAt, LeadsBack, LeadsTo, below, marked_in, marks_after, location_of_type, type_inside}
 use Rattle.fb_why.specs.declared.heights.Descent.TheVariants.{Circle}
-use Rattle.fb_why.proofs.Marks.{by_place, held_at, kind_at, place_among}
+use Rattle.fb_why.proofs.Marks.{by_location, held_at, kind_at, location_among}
 
 -- ---- Types at indices
 
-kind_there : (lib : Library) (n : Name) (j : ℕ) → place_of_type lib n ≡ Some j → type_named lib n ≡ option_map kind_of (slice_get lib.blocks j)
+kind_there : (lib : Library) (n : Name) (j : ℕ) → location_of_type lib n ≡ Some j → type_named lib n ≡ option_map kind_of (slice_get lib.blocks j)
 kind_there lib n j h =
     elim (event_block_named n) as
-    (λ o. event_block_named n ≡ o → cond (is_some o) None (place_among lib n) ≡ Some j → type_named lib n ≡ option_map kind_of (slice_get lib.blocks j)) [
+    (λ o. event_block_named n ≡ o → cond (is_some o) None (location_among lib n) ≡ Some j → type_named lib n ≡ option_map kind_of (slice_get lib.blocks j)) [
       | Some k ↦ λ e g. absurd (cc)
-      | None ↦ λ e g. by_place lib n e ∙ ap (kind_at lib) g
+      | None ↦ λ e g. by_location lib n e ∙ ap (kind_at lib) g
     ] refl h
 
 composite_from_kind : (o : Option BlockType) (u : CompositeType) → option_map kind_of o ≡ Some (Composite u) → o ≡ Some (block.Composite u)
@@ -37,7 +37,7 @@ inside_at :
 inside_at lib t i j h =
     let is = t.network.instances in
     elim (slice_get is i) as
-    (λ o. slice_get is i ≡ o → option_and_then (λ (x : Instance). place_of_type lib x.block_type) o ≡ Some j
+    (λ o. slice_get is i ≡ o → option_and_then (λ (x : Instance). location_of_type lib x.block_type) o ≡ Some j
     → (x : Instance) × (slice_get is i ≡ Some x) × (type_named lib x.block_type ≡ option_map kind_of (slice_get lib.blocks j))) [
       | None ↦ λ e g. absurd (cc)
       | Some x ↦ λ e g. (x, e, kind_there lib x.block_type j g)
@@ -63,7 +63,7 @@ step_down lib marks (block.Composite t) j w h to =
       | None ↦ λ g. absurd (cc)
       | Some i ↦ λ g.
           let x = inside_at lib t i j g in
-          (t, refl, (x.0, element_of_place t.network.instances i x.0 x.1, x.2 ∙ ap (option_map kind_of) to))
+          (t, refl, (x.0, element_of_index t.network.instances i x.0 x.1, x.2 ∙ ap (option_map kind_of) to))
     ] h
 
 pub leads_on : (lib : Library) (marks : List Bool) (from k j : ℕ) → LeadsTo lib from k → below lib marks k ≡ Some j → LeadsTo lib from j

@@ -11,19 +11,19 @@ use Rattle.fb_why.specs.declared.spot.Spot.{Spot}
 
 -- what is found at a location
 pub told_at :
-    {E : Type 0} (made : Result (Option Finding) E) (place : Spot) (N : Type 0) (P : Spot → Type 0) → IfOk made (IsFoundAt place) → P place
-    → IfOk made (λ o. MatchOption o N (λ r. P r.place))
-told_at (Err e) place N P said holds = tt
-told_at (Ok None) place N P said holds = absurd said
-told_at (Ok (Some r)) place N P said holds = subst P (sym said) holds
+    {E : Type 0} (made : Result (Option Finding) E) (location : Spot) (N : Type 0) (P : Spot → Type 0) → IfOk made (IsFoundAt location) → P location
+    → IfOk made (λ o. MatchOption o N (λ r. P r.location))
+told_at (Err e) location N P said holds = tt
+told_at (Ok None) location N P said holds = absurd said
+told_at (Ok (Some r)) location N P said holds = subst P (sym said) holds
 
 -- a location, none, or one of the two, if it is known what is refused
 pub some_by :
-    {T : Type 0} (f g : Flaw) (library : Library) (plan : Plan) (spot : T → Spot) (found : Option T) (place : T) → f ≡ g → found ≡ Some place
-    → MatchOption found (AppliesNowhere g library plan) (λ p. AppliesAt g library plan (spot p)) → AppliesAt f library plan (spot place)
-some_by {T} f g library plan spot found place known is holds =
-    subst (λ (x : Flaw). AppliesAt x library plan (spot place)) (sym known)
-    (MatchOption-at_some (AppliesNowhere g library plan) (λ (p : T). AppliesAt g library plan (spot p)) place is holds)
+    {T : Type 0} (f g : Flaw) (library : Library) (plan : Plan) (spot : T → Spot) (found : Option T) (location : T) → f ≡ g → found ≡ Some location
+    → MatchOption found (AppliesNowhere g library plan) (λ p. AppliesAt g library plan (spot p)) → AppliesAt f library plan (spot location)
+some_by {T} f g library plan spot found location known is holds =
+    subst (λ (x : Flaw). AppliesAt x library plan (spot location)) (sym known)
+    (MatchOption-at_some (AppliesNowhere g library plan) (λ (p : T). AppliesAt g library plan (spot p)) location is holds)
 
 pub none_by :
     {T : Type 0} (f g : Flaw) (library : Library) (plan : Plan) (spot : T → Spot) (found : Option T) → f ≡ g → found ≡ None

@@ -9,7 +9,7 @@ use Rattle.std.proofs.lemmas.Option.{slice_get-get_or, slice_get-map}
 use Rattle.fb_types.specs.Names.{Name, same_name}
 use Rattle.fb_types.specs.Repeated.{Twice}
 use Rattle.fb_types.specs.declared.deploy.Link.{Link}
-use Rattle.fb_types.proofs.ByPlace.{slice_get-append_left}
+use Rattle.fb_types.proofs.ByIndex.{slice_get-append_left}
 use Rattle.fb_types.proofs.Elements.{Contains-cons_cases, Contains-nil, map-Contains}
 use Rattle.fb_types.proofs.LoopSteps.{more_of_part}
 use Rattle.fb_types.proofs.NameLaws.{same_from_same_name, same_name-Decides}

@@ -13,7 +13,7 @@ use Rattle.fb_types.specs.Repeated.{Twice}
 use Rattle.fb_types.specs.declared.library.Instance.{Instance}
 use Rattle.fb_types.specs.declared.library.Library.{Library}
 use Rattle.fb_types.specs.declared.deploy.Plan.{Plan}
-use Rattle.fb_check_names.specs.Places.{names_in}
+use Rattle.fb_check_names.specs.Indexes.{names_in}
 use Rattle.fb_types.proofs.NameLaws.{any_from_contains, contains_from_any}
 use Rattle.fb_why.specs.Unmapped.{AllListed, IsUnlisted, IsUnmappedAmong, IsUnmappedAt, is_listed}
 use Rattle.fb_why.specs.declared.unmapped.Unmapped.{Unmapped}

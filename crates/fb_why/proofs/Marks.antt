@@ -15,7 +15,7 @@ use Rattle.fb_types.specs.declared.library.BlockType.TheVariants as block
 use Rattle.fb_types.specs.declared.library.CompositeType.{CompositeType}
 use Rattle.fb_types.specs.declared.library.Instance.{Instance}
 use Rattle.fb_types.proofs.Positions.{is_some-position, position-first, position-later}
-use Rattle.fb_why.specs.Heights.{IsHeld, IsTooHighAt, holds_marked, is_composite, is_marked, marked_in, marks_after, place_of_type}
+use Rattle.fb_why.specs.Heights.{IsHeld, IsTooHighAt, holds_marked, is_composite, is_marked, marked_in, marks_after, location_of_type}
 use Rattle.fb_why.specs.declared.heights.Descent.TheVariants.{Height}
 use Rattle.fb_types.proofs.ListTests.{passes_somewhere}
 use Rattle.fb_why_kinds.proofs.Typed.{declared_type, event_type}
@@ -55,20 +55,20 @@ named-at {A} f n (x ∷ xs) =
           ]))
     ] refl
 
-abbrev pub place_among : Library → Name → Option ℕ
-place_among lib n = position (λ t. same_name (type_name t) n) lib.blocks
+abbrev pub location_among : Library → Name → Option ℕ
+location_among lib n = position (λ t. same_name (type_name t) n) lib.blocks
 
 abbrev pub kind_at : Library → Option ℕ → Option Kind
 kind_at lib p = option_map kind_of (option_and_then (slice_get lib.blocks) p)
 
-pub by_place : (lib : Library) (n : Name) → event_block_named n ≡ None → type_named lib n ≡ kind_at lib (place_among lib n)
-by_place lib n h = declared_type lib n h ∙ ap (option_map kind_of) (named-at type_name n lib.blocks)
+pub by_location : (lib : Library) (n : Name) → event_block_named n ≡ None → type_named lib n ≡ kind_at lib (location_among lib n)
+by_location lib n h = declared_type lib n h ∙ ap (option_map kind_of) (named-at type_name n lib.blocks)
 
-pub place_answer :
+pub location_answer :
     (lib : Library) (bs : List BlockType) (n : Name) (r : Option ℕ) → bs ≡ lib.blocks → is_some (event_block_named n) ≡ false
-    → r ≡ position (λ t. same_name (type_name t) n) bs → r ≡ place_of_type lib n
-place_answer lib bs n r all none found =
-    found ∙ ap (position (λ (t : BlockType). same_name (type_name t) n)) all ∙ sym (ap (λ b. cond b None (place_among lib n)) none)
+    → r ≡ position (λ t. same_name (type_name t) n) bs → r ≡ location_of_type lib n
+location_answer lib bs n r all none found =
+    found ∙ ap (position (λ (t : BlockType). same_name (type_name t) n)) all ∙ sym (ap (λ b. cond b None (location_among lib n)) none)
 
 -- ---- Marks
 
@@ -107,15 +107,15 @@ mark_from_leads lib steps (Some (block.Composite t)) b is w =
 abbrev marked_there : List Bool → Option ℕ → Bool
 marked_there marks p = elim p [ None ↦ false | Some k ↦ unwrap_or (slice_get marks k) false ]
 
-leads_from_place :
+leads_from_location :
     (lib : Library) (steps : ℕ) (marks : List Bool) (p : Option ℕ) → AreMarks lib steps marks → marked_there marks p ≡ true → LeadsFrom lib steps (kind_at lib p)
-leads_from_place lib steps marks None are h = absurd (true≢false (sym h))
-leads_from_place lib steps marks (Some k) are h = leads_from_mark lib steps (slice_get lib.blocks k) (mark_at marks k) (are.each k) h
+leads_from_location lib steps marks None are h = absurd (true≢false (sym h))
+leads_from_location lib steps marks (Some k) are h = leads_from_mark lib steps (slice_get lib.blocks k) (mark_at marks k) (are.each k) h
 
-place_from_leads :
+location_from_leads :
     (lib : Library) (steps : ℕ) (marks : List Bool) (p : Option ℕ) → AreMarks lib steps marks → LeadsFrom lib steps (kind_at lib p) → marked_there marks p ≡ true
-place_from_leads lib steps marks None are w = absurd (let e = w.1 in cc)
-place_from_leads lib steps marks (Some k) are w = mark_from_leads lib steps (slice_get lib.blocks k) (mark_at marks k) (are.each k) w
+location_from_leads lib steps marks None are w = absurd (let e = w.1 in cc)
+location_from_leads lib steps marks (Some k) are w = mark_from_leads lib steps (slice_get lib.blocks k) (mark_at marks k) (are.each k) w
 
 leads_from_marked :
     (lib : Library) (steps : ℕ) (marks : List Bool) (i : Instance) → AreMarks lib steps marks → is_marked lib marks i ≡ true
@@ -123,11 +123,11 @@ leads_from_marked :
 leads_from_marked lib steps marks i are h =
     let n = i.block_type in
     elim (event_block_named n) as
-    (λ o. event_block_named n ≡ o → marked_there marks (cond (is_some o) None (place_among lib n)) ≡ true → LeadsFrom lib steps (type_named lib n)) [
+    (λ o. event_block_named n ≡ o → marked_there marks (cond (is_some o) None (location_among lib n)) ≡ true → LeadsFrom lib steps (type_named lib n)) [
       | Some k ↦ λ e g. absurd (true≢false (sym g))
       | None ↦ λ e g.
           let P : Option Kind → Type 0 = λ o. LeadsFrom lib steps o in
-          subst P (sym (by_place lib n e)) (leads_from_place lib steps marks (place_among lib n) are g)
+          subst P (sym (by_location lib n e)) (leads_from_location lib steps marks (location_among lib n) are g)
     ] refl h
 
 marked_from_leads :
@@ -136,11 +136,11 @@ marked_from_leads :
 marked_from_leads lib steps marks i are w =
     let n = i.block_type in
     elim (event_block_named n) as
-    (λ o. event_block_named n ≡ o → marked_there marks (cond (is_some o) None (place_among lib n)) ≡ true) [
+    (λ o. event_block_named n ≡ o → marked_there marks (cond (is_some o) None (location_among lib n)) ≡ true) [
       | Some k ↦ λ e. absurd (let other = sym (event_type lib n k e) ∙ w.1 in cc)
       | None ↦ λ e.
           let P : Option Kind → Type 0 = λ o. LeadsFrom lib steps o in
-          place_from_leads lib steps marks (place_among lib n) are (subst P (by_place lib n e) w)
+          location_from_leads lib steps marks (location_among lib n) are (subst P (by_location lib n e) w)
     ] refl
 
 -- ---- A round

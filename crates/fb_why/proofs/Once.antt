@@ -168,14 +168,14 @@ pub all_once :
     (lib : Library) (plan : Plan) (ts : List BlockType) (rs : List ResourceEntry) (ls : List Link) → ts ≡ lib.blocks → rs ≡ plan.resources → ls ≡ plan.links
     → list_all is_own_name ts ≡ true → ¬ (Twice (map type_name ts)) → All IsBlockOnce ts → ¬ (NetworkTwice lib.application.network)
     → ¬ (Twice (map (λ r. r.name) rs)) → ¬ (Twice (map link_ends ls)) → ¬ (NameTwice lib plan)
-all_once lib plan ts rs ls blocks resources links own names each network places joined =
+all_once lib plan ts rs ls blocks resources links own names each network locations joined =
     name_once lib plan (record {
       types = subst (λ (ts : List BlockType). ¬ (TypeTwice ts)) blocks (types_once ts own names);
       blocks = λ t c. All-contains IsBlockOnce ts t each (subst (λ (ts : List BlockType). Contains ts t) (sym blocks) c);
       network = network;
       deployment = λ t.
           elim t [
-            | inl r ↦ places (subst (λ (rs : List ResourceEntry). Twice (map (λ r. r.name) rs)) (sym resources) r)
+            | inl r ↦ locations (subst (λ (rs : List ResourceEntry). Twice (map (λ r. r.name) rs)) (sym resources) r)
             | inr l ↦ joined (subst (λ (ls : List Link). Twice (map link_ends ls)) (sym links) l)
           ];
     })

@@ -15,8 +15,8 @@ use Rattle.fb_why.specs.declared.spot.Finding.{Finding}
 -- a declaration and a deployment
 pub flaw_told :
     {E : Type 0} (flaw : Flaw) (text : List ℕ) (bytes : Option (List ℕ)) (library : Library) (plan : Plan) (made : Result (Option Finding) E) → IsLibraryText text library → IsPlan bytes plan
-    → IfOk made (λ o. MatchOption o (AppliesNowhere flaw library plan) (λ r. AppliesAt flaw library plan r.place))
-    → IfOk made (λ o. MatchOption o (HasNoFlaw flaw text bytes) (λ r. TellsFlaw flaw text bytes r.place))
+    → IfOk made (λ o. MatchOption o (AppliesNowhere flaw library plan) (λ r. AppliesAt flaw library plan r.location))
+    → IfOk made (λ o. MatchOption o (HasNoFlaw flaw text bytes) (λ r. TellsFlaw flaw text bytes r.location))
 flaw_told flaw text bytes library plan (Err e) read planned holds = tt
 flaw_told flaw text bytes library plan (Ok None) read planned holds = inl (record { library = library; plan = plan; read = read; planned = planned; nowhere = holds })
 flaw_told flaw text bytes library plan (Ok (Some r)) read planned holds = record { library = library; plan = plan; read = read; planned = planned; applies = holds }
@@ -25,8 +25,8 @@ flaw_told flaw text bytes library plan (Ok (Some r)) read planned holds = record
 pub excess_told :
     {E : Type 0} (excess : Excess) (text : List ℕ) (bytes given : Option (List ℕ)) (library : Library) (plan : Plan) (rows : List Stimulus) (made : Result (Option Finding) E)
     → IsLibraryText text library → IsPlan bytes plan → AreStimuli given rows
-    → IfOk made (λ o. MatchOption o (ExceedsNowhere excess library plan rows) (λ r. ExceedsAt excess library rows r.place))
-    → IfOk made (λ o. MatchOption o (HasNoExcess excess text bytes given) (λ r. TellsExcess excess text bytes given r.place))
+    → IfOk made (λ o. MatchOption o (ExceedsNowhere excess library plan rows) (λ r. ExceedsAt excess library rows r.location))
+    → IfOk made (λ o. MatchOption o (HasNoExcess excess text bytes given) (λ r. TellsExcess excess text bytes given r.location))
 excess_told excess text bytes given library plan rows (Err e) read planned fed holds = tt
 excess_told excess text bytes given library plan rows (Ok None) read planned fed holds =
     inl (record { library = library; plan = plan; list = rows; read = read; planned = planned; listed = fed; nowhere = holds })
@@ -42,8 +42,8 @@ unread_told (Ok (Some r)) F N T said so = absurd (let other : Some r ≡ None = 
 -- and by the number
 pub numbered :
     {E : Type 0} (cause : Cause) (n : ℕ) (text : List ℕ) (bytes given : Option (List ℕ)) (made : Result (Option Finding) E) → IsCause n cause
-    → IfOk made (λ o. MatchOption o (IsSilentOf cause n text bytes given) (λ r. TellsOf cause n text bytes given r.place))
-    → IfOk made (λ o. MatchOption o (IsSilent text bytes given n) (λ r. Tells text bytes given n r.place))
+    → IfOk made (λ o. MatchOption o (IsSilentOf cause n text bytes given) (λ r. TellsOf cause n text bytes given r.location))
+    → IfOk made (λ o. MatchOption o (IsSilent text bytes given n) (λ r. Tells text bytes given n r.location))
 numbered cause n text bytes given (Err e) is holds = tt
 numbered cause n text bytes given (Ok None) is holds = (cause, is, holds)
 numbered cause n text bytes given (Ok (Some r)) is holds = (cause, is, holds)

@@ -11,7 +11,7 @@ use Rattle.std.proofs.lemmas.Option.{slice_get_within}
 use Rattle.fb_types.specs.Repeated.{Twice}
 use Rattle.fb_types.proofs.LoopSteps.{more_of_part}
 use Rattle.fb_types.proofs.TwiceLaws.{once_push}
-use Rattle.fb_types.proofs.ByPlace.{slice_get-append_left, slice_get-append_here}
+use Rattle.fb_types.proofs.ByIndex.{slice_get-append_left, slice_get-append_here}
 use Rattle.fb_types.proofs.Elements.{Contains-nil}
 use Rattle.fb_check_names.proofs.Seen.{IsExact}
 use Rattle.fb_why.specs.Pairs.{IsPair}

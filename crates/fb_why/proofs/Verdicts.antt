@@ -13,7 +13,7 @@ use Rattle.fb_check.specs.Faults.{number_of}
 use Rattle.fb_check.specs.declared.fault.Fault.{Fault}
 use Rattle.fb_why.specs.Stimuli.{IsBadAt}
 use Rattle.fb_why.specs.Trials.{IsVerdict, has_number}
-use Rattle.fb_why.specs.declared.place.StimulusPlace.{StimulusPlace}
+use Rattle.fb_why.specs.declared.location.StimulusLocation.{StimulusLocation}
 
 pub answers : {T E : Type 0} (P Q : T → Type 0) (r : Result T E) → ((x : T) → P x → Q x) → IfOk r P → IfOk r Q
 answers P Q (Ok x) gives h = gives x h
@@ -64,7 +64,7 @@ too_many_instances lib plan stimuli least few =
       | inr rows ↦ absurd (omega arith)
     ]
 
-pub placed : (lib : Library) (plan : Plan) (stimuli : List Stimulus) (o : Option StimulusPlace) → MatchOption o (¬ (BadStimulus lib stimuli)) (IsBadAt lib stimuli)
+pub placed : (lib : Library) (plan : Plan) (stimuli : List Stimulus) (o : Option StimulusLocation) → MatchOption o (¬ (BadStimulus lib stimuli)) (IsBadAt lib stimuli)
     → MatchOption o (¬ (IsLeastFault 29 lib plan stimuli)) (IsBadAt lib stimuli)
 placed lib plan stimuli None h = not_bad lib plan stimuli h
 placed lib plan stimuli (Some p) h = h

@@ -41,8 +41,8 @@ use Rattle.fb_why_bytes.specs.Tables as tables
 use Rattle.fb_why_bytes.specs.Tables.{IsShaped}
 use Rattle.fb_why.specs.Stimuli.{IsBadAt, IsOver}
 use Rattle.fb_why_bytes.specs.Faults.{TellsFault}
-use Rattle.fb_why_bytes.specs.declared.place.DeployPlace.{DeployPlace}
-use Rattle.fb_why_bytes.specs.declared.place.StimuliPlace.{StimuliPlace}
+use Rattle.fb_why_bytes.specs.declared.location.DeployLocation.{DeployLocation}
+use Rattle.fb_why_bytes.specs.declared.location.StimuliLocation.{StimuliLocation}
 use Rattle.fb_why_kinds.specs.Misfits.{IsMisfitAt}
 use Rattle.fb_why_kinds.specs.Misjoins.{IsMisjoinedAt}
 
@@ -50,7 +50,7 @@ use Rattle.fb_why_kinds.specs.Misjoins.{IsMisjoinedAt}
 
 -- it is found at this location
 abbrev pub IsFoundAt : Spot → Option Finding → Type 0
-IsFoundAt place o = MatchOption o ⊥ (λ f. f.place ≡ place)
+IsFoundAt location o = MatchOption o ⊥ (λ f. f.location ≡ location)
 
 -- ---- What is read
 
@@ -96,12 +96,12 @@ AppliesNowhere flaw.Unlinked lib plan = ¬ (NoLink lib plan)
 AppliesNowhere flaw.Unserved lib plan = ¬ (NoEvent lib plan)
 
 -- They were read, and the refusal applies to them at this location.
-pub record TellsFlaw (flaw : Flaw) (declaration : List ℕ) (deploy : Option (List ℕ)) (place : Spot) : Type 0 where
+pub record TellsFlaw (flaw : Flaw) (declaration : List ℕ) (deploy : Option (List ℕ)) (location : Spot) : Type 0 where
   pub library : Library
   pub plan : Plan
   pub read : IsLibraryText declaration library
   pub planned : IsPlan deploy plan
-  pub applies : AppliesAt flaw library plan place
+  pub applies : AppliesAt flaw library plan location
 
 -- They were read, and the refusal does not apply to them.
 pub record IsFlawless (flaw : Flaw) (declaration : List ℕ) (deploy : Option (List ℕ)) : Type 0 where
@@ -136,26 +136,26 @@ IsStimuliSpot number bytes _ = ⊥
 
 -- The deployment is given, and what has this number is wrong at the location.
 abbrev pub TellsDeployment : (number : ℕ) → Option (List ℕ) → Spot → Type 0
-TellsDeployment number deploy place = (bytes : List ℕ) × (deploy ≡ Some bytes) × IsDeploymentSpot number bytes place
+TellsDeployment number deploy location = (bytes : List ℕ) × (deploy ≡ Some bytes) × IsDeploymentSpot number bytes location
 
 -- The stimuli are given, and refused with this number for what is reported of the location.
 abbrev pub TellsStimuli : (number : ℕ) → Option (List ℕ) → Spot → Type 0
-TellsStimuli number stimuli place = (bytes : List ℕ) × (stimuli ≡ Some bytes) × IsStimuliSpot number bytes place
+TellsStimuli number stimuli location = (bytes : List ℕ) × (stimuli ≡ Some bytes) × IsStimuliSpot number bytes location
 
 abbrev pub TellsBytes : (number : ℕ) → (deploy stimuli : Option (List ℕ)) → Spot → Type 0
-TellsBytes number deploy stimuli place = TellsDeployment number deploy place ⊎ TellsStimuli number stimuli place
+TellsBytes number deploy stimuli location = TellsDeployment number deploy location ⊎ TellsStimuli number stimuli location
 
 -- Something is wrong with the deployment at a location, and has another number.
 pub record HasOtherFault (number : ℕ) (bytes : List ℕ) : Type 0 where
-  pub place : DeployPlace
-  pub differs : tables.number_of place ≢ number
-  pub fault : tables.IsFaultAt bytes place
+  pub location : DeployLocation
+  pub differs : tables.number_of location ≢ number
+  pub fault : tables.IsFaultAt bytes location
 
 -- The stimuli are refused with another number, for what is wrong at a location.
 pub record AreRefusedOtherwise (number : ℕ) (bytes : List ℕ) : Type 0 where
-  pub place : StimuliPlace
-  pub differs : rows.number_of place ≢ number
-  pub refused : rows.IsRefusedAt bytes place
+  pub location : StimuliLocation
+  pub differs : rows.number_of location ≢ number
+  pub refused : rows.IsRefusedAt bytes location
 
 -- The deployment has the right shape, or a fault of another number.
 abbrev pub IsSilentOfDeployment : (number : ℕ) → (bytes : List ℕ) → Type 0
@@ -192,12 +192,12 @@ abbrev pub ExceedsNowhere : Excess → Library → Plan → List Stimulus → Ty
 ExceedsNowhere excess lib plan stimuli = ¬ (IsLeastFault (excess_number excess) lib plan stimuli)
 
 -- All were read, and the refusal applies to them at this location.
-pub record TellsExcess (excess : Excess) (declaration : List ℕ) (deploy stimuli : Option (List ℕ)) (place : Spot) : Type 0 where
+pub record TellsExcess (excess : Excess) (declaration : List ℕ) (deploy stimuli : Option (List ℕ)) (location : Spot) : Type 0 where
   pub library : Library
   pub list : List Stimulus
   pub read : IsLibraryText declaration library
   pub listed : AreStimuli stimuli list
-  pub applies : ExceedsAt excess library list place
+  pub applies : ExceedsAt excess library list location
 
 -- All were read, and the refusal is not the first that applies to them.
 pub record IsModest (excess : Excess) (declaration : List ℕ) (deploy stimuli : Option (List ℕ)) : Type 0 where
@@ -218,11 +218,11 @@ HasNoExcess excess declaration deploy stimuli =
 
 -- What is refused with this number applies at this location.
 abbrev pub TellsOf : Cause → (number : ℕ) → (declaration : List ℕ) → (deploy stimuli : Option (List ℕ)) → Spot → Type 0
-TellsOf cause.Text number declaration deploy stimuli place = TellsText number declaration place
-TellsOf cause.Bytes number declaration deploy stimuli place = TellsBytes number deploy stimuli place
-TellsOf (cause.Flaw flaw) number declaration deploy stimuli place = TellsFlaw flaw declaration deploy place
-TellsOf (cause.Excess excess) number declaration deploy stimuli place = TellsExcess excess declaration deploy stimuli place
-TellsOf cause.Other number declaration deploy stimuli place = ⊥
+TellsOf cause.Text number declaration deploy stimuli location = TellsText number declaration location
+TellsOf cause.Bytes number declaration deploy stimuli location = TellsBytes number deploy stimuli location
+TellsOf (cause.Flaw flaw) number declaration deploy stimuli location = TellsFlaw flaw declaration deploy location
+TellsOf (cause.Excess excess) number declaration deploy stimuli location = TellsExcess excess declaration deploy stimuli location
+TellsOf cause.Other number declaration deploy stimuli location = ⊥
 
 -- Nothing is reported if the refusal does not apply, or if something can't be read or is refused with another number. For
 -- a text, nothing may be reported in any case in which the location is hard to find.
@@ -235,7 +235,7 @@ IsSilentOf cause.Other number declaration deploy stimuli = Unit {0}
 
 -- The refusal with this number applies at this location.
 abbrev pub Tells : (declaration : List ℕ) → (deploy stimuli : Option (List ℕ)) → (number : ℕ) → Spot → Type 0
-Tells declaration deploy stimuli number place = (cause : Cause) × IsCause number cause × TellsOf cause number declaration deploy stimuli place
+Tells declaration deploy stimuli number location = (cause : Cause) × IsCause number cause × TellsOf cause number declaration deploy stimuli location
 
 -- No location is reported.
 abbrev pub IsSilent : (declaration : List ℕ) → (deploy stimuli : Option (List ℕ)) → (number : ℕ) → Type 0

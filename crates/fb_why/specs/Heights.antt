@@ -16,11 +16,11 @@ use Rattle.fb_why.specs.declared.heights.Descent.TheVariants.{Circle, Height}
 -- ---- Marks, one for each block type
 
 -- the index of the block type with a name
-abbrev pub place_of_type : Library → Name → Option ℕ
-place_of_type lib n = if is_some (event_block_named n) then None else position (λ t. same_name (type_name t) n) lib.blocks
+abbrev pub location_of_type : Library → Name → Option ℕ
+location_of_type lib n = if is_some (event_block_named n) then None else position (λ t. same_name (type_name t) n) lib.blocks
 
 abbrev pub is_marked : Library → List Bool → Instance → Bool
-is_marked lib marks i = elim (place_of_type lib i.block_type) [ None ↦ false | Some k ↦ unwrap_or (slice_get marks k) false ]
+is_marked lib marks i = elim (location_of_type lib i.block_type) [ None ↦ false | Some k ↦ unwrap_or (slice_get marks k) false ]
 
 -- the first instance inside that is of a marked type
 abbrev pub marked_in : Library → List Bool → BlockType → Option ℕ
@@ -44,10 +44,10 @@ marks_after (suc n) lib = map (holds_marked lib (marks_after n lib)) lib.blocks
 -- the index of the type of an instance inside
 abbrev pub type_inside : Library → BlockType → (instance : ℕ) → Option ℕ
 type_inside lib (block.Basic t) i = None
-type_inside lib (block.Composite t) i = option_and_then (λ x. place_of_type lib x.block_type) (slice_get t.network.instances i)
+type_inside lib (block.Composite t) i = option_and_then (λ x. location_of_type lib x.block_type) (slice_get t.network.instances i)
 
 -- the index of the type of the first instance that is of a marked type
-abbrev pub below : Library → List Bool → (place : ℕ) → Option ℕ
+abbrev pub below : Library → List Bool → (location : ℕ) → Option ℕ
 below lib marks k = option_and_then (λ t. option_and_then (type_inside lib t) (marked_in lib marks t)) (slice_get lib.blocks k)
 
 -- Steps lead down from the composite type at the one index to the one at the other.

@@ -8,11 +8,11 @@ use Rattle.fb_types.specs.declared.library.Connection.{Connection}
 use Rattle.fb_check_names.specs.Ends.{end_port}
 
 -- The same item is at both indices, the earlier one first.
-pub record IsPair {A : Type 0} (xs : List A) (places : ℕ × ℕ) : Type 0 where
-  pub in_order : places.0 < places.1
+pub record IsPair {A : Type 0} (xs : List A) (locations : ℕ × ℕ) : Type 0 where
+  pub in_order : locations.0 < locations.1
   pub what : A
-  pub first : slice_get xs places.0 ≡ Some what
-  pub again : slice_get xs places.1 ≡ Some what
+  pub first : slice_get xs locations.0 ≡ Some what
+  pub again : slice_get xs locations.1 ≡ Some what
 
 -- a pair, or none if nothing is there twice
 abbrev pub Paired : {A : Type 0} → List A → Option (ℕ × ℕ) → Type 0

@@ -28,7 +28,7 @@ IsJoinedInside (block.Basic t) r = ⊥
 IsJoinedInside (block.Composite t) r = IsPair (targets t.network.data_connections) r
 
 -- the block type at the index has two such connections
-abbrev pub IsJoinedIn : List BlockType → (place : ℕ) → ℕ × ℕ → Type 0
+abbrev pub IsJoinedIn : List BlockType → (location : ℕ) → ℕ × ℕ → Type 0
 IsJoinedIn ts k r = (t : BlockType) × (slice_get ts k ≡ Some t) × IsJoinedInside t r
 
 -- The two data connections lead to one port.

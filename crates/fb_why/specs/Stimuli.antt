@@ -8,11 +8,11 @@ use Rattle.fb_types.specs.Accepted.{is_held, kind_of_stimulus, set_names}
 use Rattle.fb_types.specs.declared.deploy.Setting.{Setting}
 use Rattle.fb_types.specs.declared.deploy.Stimulus.{Stimulus}
 use Rattle.fb_types.specs.declared.library.Library.{Library}
-use Rattle.fb_why.specs.declared.place.Limit.{Limit}
-use Rattle.fb_why.specs.declared.place.Limit.TheVariants as limit
-use Rattle.fb_why.specs.declared.place.StimulusFault.{StimulusFault}
-use Rattle.fb_why.specs.declared.place.StimulusFault.TheVariants as fault
-use Rattle.fb_why.specs.declared.place.StimulusPlace.{StimulusPlace}
+use Rattle.fb_why.specs.declared.location.Limit.{Limit}
+use Rattle.fb_why.specs.declared.location.Limit.TheVariants as limit
+use Rattle.fb_why.specs.declared.location.StimulusFault.{StimulusFault}
+use Rattle.fb_why.specs.declared.location.StimulusFault.TheVariants as fault
+use Rattle.fb_why.specs.declared.location.StimulusLocation.{StimulusLocation}
 
 -- ---- A stimulus
 
@@ -41,7 +41,7 @@ IsBad lib s (fault.Setting k) = HasUnfit lib s k
 IsBad lib s fault.Twice = ¬ (¬ (Twice (set_names s)))
 
 -- The stimulus is there, and this is wrong with it.
-abbrev pub IsBadAt : Library → List Stimulus → StimulusPlace → Type 0
+abbrev pub IsBadAt : Library → List Stimulus → StimulusLocation → Type 0
 IsBadAt lib stimuli p = (s : Stimulus) × (slice_get stimuli p.row ≡ Some s) × IsBad lib s p.fault
 
 -- ---- Limits

@@ -28,7 +28,7 @@ abbrev pub parameter_names : Instance → List Name
 parameter_names i = map (λ x. x.name) i.parameters
 
 -- the instance at the index gives a parameter twice
-abbrev pub IsParameterTwice : List Instance → (place : ℕ) → ℕ × ℕ → Type 0
+abbrev pub IsParameterTwice : List Instance → (location : ℕ) → ℕ × ℕ → Type 0
 IsParameterTwice is k r = (i : Instance) × (slice_get is k ≡ Some i) × IsPair (parameter_names i) r
 
 abbrev pub IsTwiceInNetwork : Network → InNetwork → Type 0
@@ -39,7 +39,7 @@ IsTwiceInNetwork net (network.Connection r) = IsPair (event_pairs net) r
 -- ---- Block types
 
 -- the event at the index has a variable twice in its WITH list
-abbrev pub IsWithTwice : List EventPort → (place : ℕ) → ℕ × ℕ → Type 0
+abbrev pub IsWithTwice : List EventPort → (location : ℕ) → ℕ × ℕ → Type 0
 IsWithTwice es k r = (e : EventPort) × (slice_get es k ≡ Some e) × IsPair e.with r
 
 abbrev pub IsTwiceInPorts : Ports → List Variable → InBlock → Type 0
@@ -56,7 +56,7 @@ IsTwiceInBlock (block.Composite t) (Inside n) = IsTwiceInNetwork t.network n
 IsTwiceInBlock (block.Composite t) b = IsTwiceInPorts t.ports [] b
 
 -- the block type at the index gives something twice
-abbrev pub IsTwiceInSome : List BlockType → (place : ℕ) → InBlock → Type 0
+abbrev pub IsTwiceInSome : List BlockType → (location : ℕ) → InBlock → Type 0
 IsTwiceInSome ts k b = (t : BlockType) × (slice_get ts k ≡ Some t) × IsTwiceInBlock t b
 
 -- ---- A declaration and a deployment
@@ -66,7 +66,7 @@ abbrev pub is_own_name : BlockType → Bool
 is_own_name t = not (is_some (event_block_named (type_name t)))
 
 -- the block type at the index has the name of an event block
-abbrev pub IsEventBlock : List BlockType → (place : ℕ) → Type 0
+abbrev pub IsEventBlock : List BlockType → (location : ℕ) → Type 0
 IsEventBlock ts k = (t : BlockType) × (slice_get ts k ≡ Some t) × (is_own_name t ≡ false)
 
 -- Something is given twice there.

@@ -9,7 +9,7 @@ use Rattle.fb_types.specs.declared.library.Library.{Library}
 use Rattle.fb_types.specs.declared.deploy.Link.{Link}
 use Rattle.fb_types.specs.declared.deploy.Plan.{Plan}
 use Rattle.fb_why.specs.declared.unlinked.Unlinked.{Unlinked}
-use Rattle.fb_why.specs.declared.unlinked.Unlinked.TheVariants as place
+use Rattle.fb_why.specs.declared.unlinked.Unlinked.TheVariants as location
 
 -- the link leads from the one resource to the other
 abbrev pub is_joining : (from to : Name) → Link → Bool
@@ -30,5 +30,5 @@ pub record IsUnlinked (plan : Plan) (pairs : List (Port × Port)) (k : ℕ) : Ty
   pub none : link_between plan (resource_of plan stands.0.at) (resource_of plan stands.1.at) ≡ None
 
 abbrev pub IsUnlinkedAt : Library → Plan → Unlinked → Type 0
-IsUnlinkedAt lib plan (place.Event k) = IsUnlinked plan (event_pairs_of lib) k
-IsUnlinkedAt lib plan (place.Data k) = IsUnlinked plan (data_pairs_of lib) k
+IsUnlinkedAt lib plan (location.Event k) = IsUnlinked plan (event_pairs_of lib) k
+IsUnlinkedAt lib plan (location.Data k) = IsUnlinked plan (data_pairs_of lib) k

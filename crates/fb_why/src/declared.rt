@@ -6,24 +6,24 @@ ghost use Rattle.fb_why.specs.Findings.{AppliesAt, AppliesNowhere};
 ghost use Rattle.fb_why.specs.declared.cause.Flaw.TheVariants as flaw;
 
 use crate::cause::Flaw;
-use crate::heights::too_high_place;
-use crate::sources::joined_place;
+use crate::heights::too_high_location;
+use crate::sources::joined_location;
 use crate::spot::{Finding, Spot, found};
 use crate::tell_flaw::tell_flaw;
-use crate::twice::twice_place;
-use crate::unlinked::unlinked_place;
-use crate::unmapped::unmapped_place;
-use crate::unserved::unserved_place;
+use crate::twice::twice_location;
+use crate::unlinked::unlinked_location;
+use crate::unmapped::unmapped_location;
+use crate::unserved::unserved_location;
 use fb_types::{Library, Plan};
-use fb_why_kinds::{misfit_place, misjoin_place, unknown_place};
+use fb_why_kinds::{misfit_location, misjoin_location, unknown_location};
 use std::alloc::{AllocError, Global};
 
 /// A data connection that leads to a type that does not contain all values.
 fn misjoin_spot(library: &Library) -> Option<Spot>
     ensures { (plan : Plan) → MatchOption result (AppliesNowhere flaw.Misjoin library.now plan) (AppliesAt flaw.Misjoin library.now plan) }
 {
-    match misjoin_place(library) {
-        Some(place) => Some(Spot::Misjoin(place)),
+    match misjoin_location(library) {
+        Some(location) => Some(Spot::Misjoin(location)),
         None => None,
     }
 }
@@ -32,8 +32,8 @@ fn misjoin_spot(library: &Library) -> Option<Spot>
 fn unlinked_spot(library: &Library, plan: &Plan) -> Option<Spot>
     ensures { MatchOption result (AppliesNowhere flaw.Unlinked library.now plan.now) (AppliesAt flaw.Unlinked library.now plan.now) }
 {
-    match unlinked_place(library, plan) {
-        Some(place) => Some(Spot::Unlinked(place)),
+    match unlinked_location(library, plan) {
+        Some(location) => Some(Spot::Unlinked(location)),
         None => None,
     }
 }
@@ -42,8 +42,8 @@ fn unlinked_spot(library: &Library, plan: &Plan) -> Option<Spot>
 fn unserved_spot(library: &Library, plan: &Plan) -> Option<Spot>
     ensures { MatchOption result (AppliesNowhere flaw.Unserved library.now plan.now) (AppliesAt flaw.Unserved library.now plan.now) }
 {
-    match unserved_place(library, plan) {
-        Some(place) => Some(Spot::Unserved(place)),
+    match unserved_location(library, plan) {
+        Some(location) => Some(Spot::Unserved(location)),
         None => None,
     }
 }
@@ -58,28 +58,28 @@ fn spot_in(
     ensures { IfOk result (λ o. MatchOption o (AppliesNowhere flaw library.now plan.now) (AppliesAt flaw library.now plan.now)) }
 {
     match flaw {
-        Flaw::Twice => match twice_place(alloc, library, plan)? {
-            Some(place) => Ok(Some(Spot::Twice(place))),
+        Flaw::Twice => match twice_location(alloc, library, plan)? {
+            Some(location) => Ok(Some(Spot::Twice(location))),
             None => Ok(None),
         },
-        Flaw::Unknown => match unknown_place(alloc, library, plan)? {
-            Some(place) => Ok(Some(Spot::Unknown(place))),
+        Flaw::Unknown => match unknown_location(alloc, library, plan)? {
+            Some(location) => Ok(Some(Spot::Unknown(location))),
             None => Ok(None),
         },
-        Flaw::Misfit => match misfit_place(alloc, library)? {
-            Some(place) => Ok(Some(Spot::Misfit(place))),
+        Flaw::Misfit => match misfit_location(alloc, library)? {
+            Some(location) => Ok(Some(Spot::Misfit(location))),
             None => Ok(None),
         },
-        Flaw::Joined => match joined_place(alloc, library)? {
-            Some(place) => Ok(Some(Spot::Joined(place))),
+        Flaw::Joined => match joined_location(alloc, library)? {
+            Some(location) => Ok(Some(Spot::Joined(location))),
             None => Ok(None),
         },
-        Flaw::TooHigh => match too_high_place(alloc, library)? {
-            Some(place) => Ok(Some(Spot::TooHigh(place))),
+        Flaw::TooHigh => match too_high_location(alloc, library)? {
+            Some(location) => Ok(Some(Spot::TooHigh(location))),
             None => Ok(None),
         },
-        Flaw::Unmapped => match unmapped_place(alloc, library, plan)? {
-            Some(place) => Ok(Some(Spot::Unmapped(place))),
+        Flaw::Unmapped => match unmapped_location(alloc, library, plan)? {
+            Some(location) => Ok(Some(Spot::Unmapped(location))),
             None => Ok(None),
         },
         Flaw::Misjoin => Ok(misjoin_spot(library)),
@@ -95,7 +95,7 @@ pub fn finding_in(
     library: &Library,
     plan: &Plan,
 ) -> Result<Option<Finding>, AllocError>
-    ensures { IfOk result (λ o. MatchOption o (AppliesNowhere flaw library.now plan.now) (λ r. AppliesAt flaw library.now plan.now r.place)) }
+    ensures { IfOk result (λ o. MatchOption o (AppliesNowhere flaw library.now plan.now) (λ r. AppliesAt flaw library.now plan.now r.location)) }
 {
     match spot_in(alloc, flaw, library, plan)? {
         Some(spot) => found(spot, tell_flaw(alloc, library, plan, spot)),

@@ -4,9 +4,9 @@ ghost use Rattle.std.specs.Prelude.{IfOk, MatchOption};
 ghost use Rattle.fb_why.specs.Findings.{ExceedsAt, ExceedsNowhere};
 
 use crate::cause::Excess;
-use crate::limit::limit_place;
+use crate::limit::limit_location;
 use crate::spot::{Finding, Spot, found};
-use crate::stimulus::stimulus_place;
+use crate::stimulus::stimulus_location;
 use crate::tell::{tell_limit, tell_stimulus};
 use fb_types::{Library, Plan, Stimulus};
 use std::alloc::{AllocError, Global};
@@ -19,17 +19,17 @@ pub fn finding_with(
     plan: &Plan,
     stimuli: &[Stimulus],
 ) -> Result<Option<Finding>, AllocError>
-    ensures { IfOk result (λ o. MatchOption o (ExceedsNowhere excess library.now plan.now stimuli.now) (λ r. ExceedsAt excess library.now stimuli.now r.place)) }
+    ensures { IfOk result (λ o. MatchOption o (ExceedsNowhere excess library.now plan.now stimuli.now) (λ r. ExceedsAt excess library.now stimuli.now r.location)) }
 {
     match excess {
-        Excess::Stimulus => match stimulus_place(alloc, library, plan, stimuli)? {
-            Some(place) => found(
-                Spot::Stimulus(place),
-                tell_stimulus(alloc, library, stimuli, place),
+        Excess::Stimulus => match stimulus_location(alloc, library, plan, stimuli)? {
+            Some(location) => found(
+                Spot::Stimulus(location),
+                tell_stimulus(alloc, library, stimuli, location),
             ),
             None => Ok(None),
         },
-        Excess::Limit => match limit_place(alloc, library, plan, stimuli)? {
+        Excess::Limit => match limit_location(alloc, library, plan, stimuli)? {
             Some(limit) => found(Spot::Limit(limit), tell_limit(alloc, limit)),
             None => Ok(None),
         },

@@ -60,7 +60,7 @@ fn flaw_finding_in(
     deploy: Option<&[u8]>,
 ) -> Result<Option<Finding>, AllocError>
     ensures { let plan = option_map (λ b. b.now) deploy.entry in (declaration : List ℕ) → IsLibraryText declaration library.now →
-        IfOk result (λ o. MatchOption o (HasNoFlaw flaw declaration plan) (λ r. TellsFlaw flaw declaration plan r.place)) }
+        IfOk result (λ o. MatchOption o (HasNoFlaw flaw declaration plan) (λ r. TellsFlaw flaw declaration plan r.location)) }
 {
     let Some(deploy) = deploy_of(alloc, deploy)? else {
         return Ok(None);
@@ -75,7 +75,7 @@ fn flaw_finding(
     declaration: &[u8],
     deploy: Option<&[u8]>,
 ) -> Result<Option<Finding>, AllocError>
-    ensures { let plan = option_map (λ b. b.now) deploy.entry in IfOk result (λ o. MatchOption o (HasNoFlaw flaw declaration.now plan) (λ r. TellsFlaw flaw declaration.now plan r.place)) }
+    ensures { let plan = option_map (λ b. b.now) deploy.entry in IfOk result (λ o. MatchOption o (HasNoFlaw flaw declaration.now plan) (λ r. TellsFlaw flaw declaration.now plan r.location)) }
 {
     match read_library(alloc, declaration) {
         Ok(library) => {
@@ -96,7 +96,7 @@ fn excess_finding_with(
     stimuli: Option<&[u8]>,
 ) -> Result<Option<Finding>, AllocError>
     ensures { let rows = option_map (λ b. b.now) stimuli.entry in (declaration : List ℕ) (deploy : Option (List ℕ)) → IsLibraryText declaration library.now → IsPlan deploy plan.now →
-        IfOk result (λ o. MatchOption o (HasNoExcess excess declaration deploy rows) (λ r. TellsExcess excess declaration deploy rows r.place)) }
+        IfOk result (λ o. MatchOption o (HasNoExcess excess declaration deploy rows) (λ r. TellsExcess excess declaration deploy rows r.location)) }
 {
     let Some(stimuli) = stimuli_of(alloc, stimuli)? else {
         return Ok(None);
@@ -113,7 +113,7 @@ fn excess_finding_in(
     stimuli: Option<&[u8]>,
 ) -> Result<Option<Finding>, AllocError>
     ensures { let plan = option_map (λ b. b.now) deploy.entry in let rows = option_map (λ b. b.now) stimuli.entry in (declaration : List ℕ) → IsLibraryText declaration library.now →
-        IfOk result (λ o. MatchOption o (HasNoExcess excess declaration plan rows) (λ r. TellsExcess excess declaration plan rows r.place)) }
+        IfOk result (λ o. MatchOption o (HasNoExcess excess declaration plan rows) (λ r. TellsExcess excess declaration plan rows r.location)) }
 {
     let Some(deploy) = deploy_of(alloc, deploy)? else {
         return Ok(None);
@@ -130,7 +130,7 @@ fn excess_finding(
     stimuli: Option<&[u8]>,
 ) -> Result<Option<Finding>, AllocError>
     ensures { let plan = option_map (λ b. b.now) deploy.entry in let rows = option_map (λ b. b.now) stimuli.entry in
-        IfOk result (λ o. MatchOption o (HasNoExcess excess declaration.now plan rows) (λ r. TellsExcess excess declaration.now plan rows r.place)) }
+        IfOk result (λ o. MatchOption o (HasNoExcess excess declaration.now plan rows) (λ r. TellsExcess excess declaration.now plan rows r.location)) }
 {
     match read_library(alloc, declaration) {
         Ok(library) => {
@@ -152,7 +152,7 @@ fn finding_by(
     stimuli: Option<&[u8]>,
 ) -> Result<Option<Finding>, AllocError>
     ensures { let plan = option_map (λ b. b.now) deploy.entry in let rows = option_map (λ b. b.now) stimuli.entry in
-        IfOk result (λ o. MatchOption o (IsSilentOf cause number declaration.now plan rows) (λ r. TellsOf cause number declaration.now plan rows r.place)) }
+        IfOk result (λ o. MatchOption o (IsSilentOf cause number declaration.now plan rows) (λ r. TellsOf cause number declaration.now plan rows r.location)) }
 {
     match cause {
         Cause::Text => text_finding(alloc, number, declaration),
@@ -177,7 +177,7 @@ pub fn finding_of(
     stimuli: Option<&[u8]>,
 ) -> Result<Option<Finding>, AllocError>
     ensures { let plan = option_map (λ b. b.now) deploy.entry in let rows = option_map (λ b. b.now) stimuli.entry in
-        IfOk result (λ o. MatchOption o (IsSilent declaration.now plan rows number) (λ r. Tells declaration.now plan rows number r.place)) }
+        IfOk result (λ o. MatchOption o (IsSilent declaration.now plan rows number) (λ r. Tells declaration.now plan rows number r.location)) }
 {
     finding_by(
         alloc,

@@ -25,32 +25,32 @@ pub enum Descent {
     Height(usize, usize),
 }
 
-fn place_among(blocks: &[BlockType], name: &Name) -> Option<usize>
+fn location_among(blocks: &[BlockType], name: &Name) -> Option<usize>
     ensures { result ≡ position (λ t. same_name (type_name t) name.now) blocks.now }
 {
-    for (place, block) in blocks.iter().enumerate() {
+    for (location, block) in blocks.iter().enumerate() {
         if block.name().is(name) {
-            return Some(place);
+            return Some(location);
         }
     }
     None
 }
 
 /// The index of the block type with a name.
-fn place_of_type(library: &Library, name: &Name) -> Option<usize>
-    ensures { result ≡ spec.place_of_type library.now name.now }
+fn location_of_type(library: &Library, name: &Name) -> Option<usize>
+    ensures { result ≡ spec.location_of_type library.now name.now }
 {
     if kind_named(name.as_bytes()).is_some() {
         return None;
     }
-    place_among(library.blocks.as_slice(), name)
+    location_among(library.blocks.as_slice(), name)
 }
 
 fn is_marked(library: &Library, marks: &[bool], instance: &Instance) -> bool
     ensures { result ≡ spec.is_marked library.now marks.now instance.now }
 {
-    match place_of_type(library, &instance.block_type) {
-        Some(place) => marks.get(place).copied().unwrap_or(false),
+    match location_of_type(library, &instance.block_type) {
+        Some(location) => marks.get(location).copied().unwrap_or(false),
         None => false,
     }
 }
@@ -58,9 +58,9 @@ fn is_marked(library: &Library, marks: &[bool], instance: &Instance) -> bool
 fn marked_among(library: &Library, marks: &[bool], instances: &[Instance]) -> Option<usize>
     ensures { result ≡ position (spec.is_marked library.now marks.now) instances.now }
 {
-    for (place, instance) in instances.iter().enumerate() {
+    for (location, instance) in instances.iter().enumerate() {
         if is_marked(library, marks, instance) {
-            return Some(place);
+            return Some(location);
         }
     }
     None
@@ -126,9 +126,9 @@ fn marks_after(alloc: Global, library: &Library, rounds: usize) -> Result<Vec<bo
 fn first_holder(library: &Library, blocks: &[BlockType], marks: &[bool]) -> Option<(usize, usize)>
     ensures { MatchOption result (All (λ t. spec.marked_in library.now marks.now t ≡ None) blocks.now) (λ r. (t : BlockType) × (slice_get blocks.now r.0 ≡ Some t) × (spec.marked_in library.now marks.now t ≡ Some r.1)) }
 {
-    for (place, block) in blocks.iter().enumerate() {
+    for (location, block) in blocks.iter().enumerate() {
         if let Some(instance) = marked_in(library, marks, block) {
-            return Some((place, instance));
+            return Some((location, instance));
         }
     }
     None
@@ -142,16 +142,16 @@ fn type_inside(library: &Library, block: &BlockType, instance: usize) -> Option<
         BlockType::Basic(_) => None,
         BlockType::Composite(composite) => {
             let instance = composite.network.instances.get(instance)?;
-            place_of_type(library, &instance.block_type)
+            location_of_type(library, &instance.block_type)
         }
     }
 }
 
 /// The index of the type of the first instance inside a block type that is of a marked type.
-fn below(library: &Library, marks: &[bool], place: usize) -> Option<usize>
-    ensures { result ≡ spec.below library.now marks.now place }
+fn below(library: &Library, marks: &[bool], location: usize) -> Option<usize>
+    ensures { result ≡ spec.below library.now marks.now location }
 {
-    let block = library.blocks.get(place)?;
+    let block = library.blocks.get(location)?;
     let instance = marked_in(library, marks, block)?;
     type_inside(library, block, instance)
 }
@@ -162,13 +162,13 @@ fn below(library: &Library, marks: &[bool], place: usize) -> Option<usize>
 fn leads_to(library: &Library, marks: &[bool], from: usize, to: usize) -> bool
     ensures { IsTrue result → spec.LeadsTo library.now from to }
 {
-    let mut place = from;
+    let mut location = from;
     for _step in 0..MOST_STEPS {
-        if place == to {
+        if location == to {
             return true;
         }
-        match below(library, marks, place) {
-            Some(next) => place = next,
+        match below(library, marks, location) {
+            Some(next) => location = next,
             None => return false,
         }
     }
@@ -179,14 +179,14 @@ fn leads_to(library: &Library, marks: &[bool], from: usize, to: usize) -> bool
 fn leads_back(
     library: &Library,
     marks: &[bool],
-    place: usize,
+    location: usize,
     block: &BlockType,
     instance: usize,
 ) -> bool
-    ensures { IsTrue result → spec.LeadsBack library.now place block.now instance }
+    ensures { IsTrue result → spec.LeadsBack library.now location block.now instance }
 {
     match type_inside(library, block, instance) {
-        Some(inside) => leads_to(library, marks, inside, place),
+        Some(inside) => leads_to(library, marks, inside, location),
         None => false,
     }
 }
@@ -195,10 +195,10 @@ fn leads_back(
 fn first_circle(library: &Library, blocks: &[BlockType], marks: &[bool]) -> Option<(usize, usize)>
     ensures { MatchOption result ⊤ (λ r. spec.IsRound library.now blocks.now marks.now r) }
 {
-    for (place, block) in blocks.iter().enumerate() {
+    for (location, block) in blocks.iter().enumerate() {
         if let Some(instance) = marked_in(library, marks, block) {
-            if leads_back(library, marks, place, block, instance) {
-                return Some((place, instance));
+            if leads_back(library, marks, location, block, instance) {
+                return Some((location, instance));
             }
         }
     }
@@ -221,7 +221,7 @@ fn descent_by(library: &Library, marks: &[bool]) -> Option<Descent>
 
 /// A composite type that contains itself at any depth or has a height over 16, with the instance through which it does,
 /// if there is one.
-pub(crate) fn too_high_place(
+pub(crate) fn too_high_location(
     alloc: Global,
     library: &Library,
 ) -> Result<Option<Descent>, AllocError>

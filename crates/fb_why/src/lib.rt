@@ -5,18 +5,18 @@
 //! E28 it reports none only if the refusal does not apply or the bytes can't be read; for E29 and E30 only if the inputs
 //! are refused for something else. The wording of the texts is not part of any contract.
 //!
-//! This crate finds the locations for which names, connections and the mapping are searched: `twice::twice_place`
-//! something that is given twice (E20), `sources::joined_place` two data connections that lead to one port (E24),
-//! `heights::too_high_place` a composite type that contains itself or is too high, with the instance through which it
-//! does (E25), `unmapped::unmapped_place` an instance that is not mapped to one resource (E26),
-//! `unlinked::unlinked_place` a connection between two resources without a link (E27), and `unserved::unserved_place` a
+//! This crate finds the locations for which names, connections and the mapping are searched: `twice::twice_location`
+//! something that is given twice (E20), `sources::joined_location` two data connections that lead to one port (E24),
+//! `heights::too_high_location` a composite type that contains itself or is too high, with the instance through which it
+//! does (E25), `unmapped::unmapped_location` an instance that is not mapped to one resource (E26),
+//! `unlinked::unlinked_location` a connection between two resources without a link (E27), and `unserved::unserved_location` a
 //! data connection between two resources that no event serves (E28). Each returns `None` exactly if there is no such
 //! location.
 //!
 //! Read in this order: `explanation` and `table`; `cause` and `spot`, what each number is about, and where. Then names,
 //! connections and the mapping: `among`, whether a name is in a list, and `pair`, what is in a list twice; `twice`,
 //! `sources`, `heights`, `unmapped`, `unlinked` and `unserved`; `laws`; the modules `tell_..`, a location as text. Then
-//! stimuli and limits: `place`, their locations; `verdict`, the least fault; `trial`, which applies the check to a part
+//! stimuli and limits: `location`, their locations; `verdict`, the least fault; `trial`, which applies the check to a part
 //! of a stimulus; `stimulus`, `limit` and `tell`. Then `refused`, `declared` and `fed`, locations in bytes, in what they
 //! declare, and in stimuli; `finding`, which reads the bytes again. All of this runs only after a refusal.
 #![tactic(auto)]
@@ -30,8 +30,8 @@ pub mod finding;
 pub mod heights;
 pub mod laws;
 mod limit;
+pub mod location;
 pub mod pair;
-pub mod place;
 mod refused;
 pub mod sources;
 pub mod spot;
@@ -56,8 +56,8 @@ pub use cause::{Cause, Excess, Flaw};
 pub use explanation::explain;
 pub use finding::finding_of;
 pub use heights::Descent;
+pub use location::{Limit, StimulusFault, StimulusLocation};
 pub use pair::Repeat;
-pub use place::{Limit, StimulusFault, StimulusPlace};
 pub use sources::Joined;
 pub use spot::{Finding, Spot};
 pub use table::{Explanation, OF_CHECKS, OF_DECLARATIONS, OF_INPUTS};

@@ -4,13 +4,13 @@ ghost use Rattle.std.specs.Prelude.{IfOk, MatchOption};
 ghost use Rattle.fb_types.specs.Accepted.{IsLeastFault};
 ghost use Rattle.fb_why.specs.Stimuli.{IsOver};
 
-use crate::place::Limit;
+use crate::location::Limit;
 use crate::verdict::{has_number, least_fault};
 use fb_types::{Library, MOST_STIMULI, Plan, Stimulus};
 use std::alloc::{AllocError, Global};
 
 /// A limit that the inputs exceed, or `None` if they are refused for something else.
-pub fn limit_place(
+pub fn limit_location(
     alloc: Global,
     library: &Library,
     plan: &Plan,

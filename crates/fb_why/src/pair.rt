@@ -2,11 +2,11 @@
 
 ghost use Rattle.std.specs.Prelude.{◌≡◌, map, IfOk};
 ghost use Rattle.fb_check_names.specs.Ends.{link_ends};
-ghost use Rattle.fb_check_names.specs.Places.{names_in};
+ghost use Rattle.fb_check_names.specs.Indexes.{names_in};
 ghost use Rattle.fb_why.specs.Pairs.{Paired, compared, key_ports};
 ghost use Rattle.fb_why.specs.Sources.{targets};
 
-use crate::unlinked::place_of_link;
+use crate::unlinked::location_of_link;
 use fb_check_names::{Named, end_names, push_names};
 use fb_types::{Connection, Link, Name};
 use std::alloc::{AllocError, Global};
@@ -90,7 +90,7 @@ pub(crate) fn link_pair(links: &[Link]) -> Option<Repeat>
 {
     for (second, link) in links.iter().enumerate() {
         let before = &links[..second];
-        if let Some(first) = place_of_link(before, link.from.as_bytes(), link.to.as_bytes()) {
+        if let Some(first) = location_of_link(before, link.from.as_bytes(), link.to.as_bytes()) {
             return Some((first, second));
         }
     }

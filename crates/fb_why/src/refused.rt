@@ -7,7 +7,7 @@ use crate::cause::text_number;
 use crate::spot::{Finding, Spot, found};
 use fb_read::{discard, read_library};
 use fb_why_bytes::{
-    deployment_place, stimuli_place, tell_deployment, tell_stimuli, tell_text, text_place,
+    deployment_location, stimuli_location, tell_deployment, tell_stimuli, tell_text, text_location,
 };
 use std::alloc::{AllocError, Global};
 
@@ -17,7 +17,7 @@ pub fn text_finding(
     number: u8,
     declaration: &[u8],
 ) -> Result<Option<Finding>, AllocError>
-    ensures { IfOk result (λ o. IfSome o (λ r. TellsText number declaration.now r.place)) }
+    ensures { IfOk result (λ o. IfSome o (λ r. TellsText number declaration.now r.location)) }
 {
     let fault = match read_library(alloc, declaration) {
         Ok(library) => {
@@ -29,10 +29,10 @@ pub fn text_finding(
     if text_number(&fault) != Some(number) {
         return Ok(None);
     }
-    match text_place(alloc, declaration, &fault)? {
-        Some(place) => found(
-            Spot::Text(place),
-            tell_text(alloc, declaration, &fault, place),
+    match text_location(alloc, declaration, &fault)? {
+        Some(location) => found(
+            Spot::Text(location),
+            tell_text(alloc, declaration, &fault, location),
         ),
         None => Ok(None),
     }
@@ -44,31 +44,34 @@ fn deployment_finding(
     number: u8,
     bytes: &[u8],
 ) -> Result<Option<Finding>, AllocError>
-    ensures { IfOk result (λ o. MatchOption o (IsSilentOfDeployment number bytes.now) (λ r. IsDeploymentSpot number bytes.now r.place)) }
+    ensures { IfOk result (λ o. MatchOption o (IsSilentOfDeployment number bytes.now) (λ r. IsDeploymentSpot number bytes.now r.location)) }
 {
-    let Some(place) = deployment_place(alloc, bytes)? else {
+    let Some(location) = deployment_location(alloc, bytes)? else {
         return Ok(None);
     };
-    if place.number() != number {
+    if location.number() != number {
         return Ok(None);
     }
     found(
-        Spot::Deployment(place),
-        tell_deployment(alloc, bytes, place),
+        Spot::Deployment(location),
+        tell_deployment(alloc, bytes, location),
     )
 }
 
 /// Where the bytes of stimuli are refused, if their refusal has this number.
 fn stimuli_finding(alloc: Global, number: u8, bytes: &[u8]) -> Result<Option<Finding>, AllocError>
-    ensures { IfOk result (λ o. MatchOption o (IsSilentOfStimuli number bytes.now) (λ r. IsStimuliSpot number bytes.now r.place)) }
+    ensures { IfOk result (λ o. MatchOption o (IsSilentOfStimuli number bytes.now) (λ r. IsStimuliSpot number bytes.now r.location)) }
 {
-    let Some(place) = stimuli_place(alloc, bytes)? else {
+    let Some(location) = stimuli_location(alloc, bytes)? else {
         return Ok(None);
     };
-    if place.number() != number {
+    if location.number() != number {
         return Ok(None);
     }
-    found(Spot::Stimuli(place), tell_stimuli(alloc, bytes, place))
+    found(
+        Spot::Stimuli(location),
+        tell_stimuli(alloc, bytes, location),
+    )
 }
 
 /// Where the bytes of a deployment, if given, are refused, if their refusal has this number.
@@ -78,7 +81,7 @@ fn deployment_finding_if(
     deploy: Option<&[u8]>,
 ) -> Result<Option<Finding>, AllocError>
     ensures { let plan = option_map (λ b. b.now) deploy.entry in
-        IfOk result (λ o. MatchOption o (IfSome plan (IsSilentOfDeployment number)) (λ r. TellsDeployment number plan r.place)) }
+        IfOk result (λ o. MatchOption o (IfSome plan (IsSilentOfDeployment number)) (λ r. TellsDeployment number plan r.location)) }
 {
     match deploy {
         Some(bytes) => deployment_finding(alloc, number, bytes),
@@ -93,7 +96,7 @@ fn stimuli_finding_if(
     stimuli: Option<&[u8]>,
 ) -> Result<Option<Finding>, AllocError>
     ensures { let rows = option_map (λ b. b.now) stimuli.entry in
-        IfOk result (λ o. MatchOption o (IfSome rows (IsSilentOfStimuli number)) (λ r. TellsStimuli number rows r.place)) }
+        IfOk result (λ o. MatchOption o (IfSome rows (IsSilentOfStimuli number)) (λ r. TellsStimuli number rows r.location)) }
 {
     match stimuli {
         Some(bytes) => stimuli_finding(alloc, number, bytes),
@@ -109,7 +112,7 @@ pub fn bytes_finding(
     stimuli: Option<&[u8]>,
 ) -> Result<Option<Finding>, AllocError>
     ensures { let plan = option_map (λ b. b.now) deploy.entry in let rows = option_map (λ b. b.now) stimuli.entry in
-        IfOk result (λ o. MatchOption o (IsSilentOfBytes number plan rows) (λ r. TellsBytes number plan rows r.place)) }
+        IfOk result (λ o. MatchOption o (IsSilentOfBytes number plan rows) (λ r. TellsBytes number plan rows r.location)) }
 {
     match deployment_finding_if(alloc, number, deploy)? {
         Some(finding) => Ok(Some(finding)),

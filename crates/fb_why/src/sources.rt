@@ -36,16 +36,19 @@ fn joined_in_blocks(
 ) -> Result<Option<(usize, Repeat)>, AllocError>
     ensures { IfOk result (λ o. MatchOption o (All IsParted blocks.now) (λ r. IsJoinedIn blocks.now r.0 r.1)) }
 {
-    for (place, block) in blocks.iter().enumerate() {
+    for (location, block) in blocks.iter().enumerate() {
         if let Some(pair) = joined_inside(alloc, block)? {
-            return Ok(Some((place, pair)));
+            return Ok(Some((location, pair)));
         }
     }
     Ok(None)
 }
 
 /// Two data connections of one network that lead to one port, if there are any.
-pub(crate) fn joined_place(alloc: Global, library: &Library) -> Result<Option<Joined>, AllocError>
+pub(crate) fn joined_location(
+    alloc: Global,
+    library: &Library,
+) -> Result<Option<Joined>, AllocError>
     ensures { IfOk result (λ o. MatchOption o (¬ (TwoSources library.now)) (IsJoinedAt library.now)) }
 {
     let network = &library.application.network;

@@ -4,12 +4,12 @@ ghost use Rattle.std.specs.Prelude.{IfOk};
 ghost use Rattle.fb_why.specs.Findings.{IsFoundAt};
 
 use crate::heights::Descent;
-use crate::place::{Limit, StimulusPlace};
+use crate::location::{Limit, StimulusLocation};
 use crate::sources::Joined;
 use crate::twice::GivenTwice;
 use crate::unlinked::Unlinked;
 use crate::unmapped::Unmapped;
-use fb_why_bytes::{DeployPlace, StimuliPlace, TextPlace};
+use fb_why_bytes::{DeployLocation, StimuliLocation, TextLocation};
 use fb_why_kinds::{Misfit, Misjoin, UnknownName};
 use std::alloc::AllocError;
 
@@ -17,11 +17,11 @@ use std::alloc::AllocError;
 #[derive(Clone, Copy)]
 pub enum Spot {
     /// A location in the text of the declaration (E01 to E05).
-    Text(TextPlace),
+    Text(TextLocation),
     /// A location in the deployment (E10 to E12, E15 and E16).
-    Deployment(DeployPlace),
+    Deployment(DeployLocation),
     /// A location in the stimuli (E13 to E15).
-    Stimuli(StimuliPlace),
+    Stimuli(StimuliLocation),
     /// What is given twice (E20).
     Twice(GivenTwice),
     /// A name that stands for nothing (E21).
@@ -41,7 +41,7 @@ pub enum Spot {
     /// A data connection between two resources that no event serves, by its index in the application (E28).
     Unserved(usize),
     /// A stimulus that does not fit its event input (E29).
-    Stimulus(StimulusPlace),
+    Stimulus(StimulusLocation),
     /// A limit that is exceeded (E30).
     Limit(Limit),
 }
@@ -50,20 +50,20 @@ pub enum Spot {
 #[derive(Drop)]
 pub struct Finding {
     /// The location.
-    pub place: Spot,
+    pub location: Spot,
     /// The location, and what was expected there, in words.
     pub text: String,
 }
 
 /// A finding at a location, or an error if memory ran out for its text.
 pub(crate) fn found(
-    place: Spot,
+    location: Spot,
     text: Result<String, AllocError>,
 ) -> Result<Option<Finding>, AllocError>
-    ensures { IfOk result (IsFoundAt place) }
+    ensures { IfOk result (IsFoundAt location) }
 {
     match text {
-        Ok(text) => Ok(Some(Finding { place, text })),
+        Ok(text) => Ok(Some(Finding { location, text })),
         Err(error) => Err(error),
     }
 }

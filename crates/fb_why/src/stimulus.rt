@@ -5,7 +5,7 @@ ghost use Rattle.fb_types.specs.Accepted.{BadStimulus, IsLeastFault};
 ghost use Rattle.fb_why.specs.Stimuli.{HasUnfit, IsBad, IsBadAt};
 ghost use Rattle.fb_why.specs.Trials as spec;
 
-use crate::place::{StimulusFault, StimulusPlace};
+use crate::location::{StimulusFault, StimulusLocation};
 use crate::trial::{is_bare_refused, is_one_refused, is_refused};
 use crate::verdict::{has_number, least_fault};
 use fb_check::has_bad_stimulus;
@@ -28,10 +28,10 @@ fn unfit_setting(
     ensures { IfOk result (λ o. MatchOption o (¬ (¬ (spec.DoAllFit library.now stimulus.now stimulus.now.settings))) (HasUnfit library.now stimulus.now)) }
 {
     let settings = stimulus.settings.as_slice();
-    for (place, setting) in settings.iter().enumerate() {
+    for (location, setting) in settings.iter().enumerate() {
         let unfit = is_one_refused(alloc, library, catalog, stimulus, setting)?;
         if unfit {
-            return Ok(Some(place));
+            return Ok(Some(location));
         }
     }
     Ok(None)
@@ -54,7 +54,7 @@ fn fault_of(
     }
     let unfit = unfit_setting(alloc, library, catalog, stimulus)?;
     match unfit {
-        Some(place) => Ok(StimulusFault::Setting(place)),
+        Some(location) => Ok(StimulusFault::Setting(location)),
         None => Ok(StimulusFault::Twice),
     }
 }
@@ -84,12 +84,12 @@ fn taken_front(
 }
 
 /// The first stimulus that can't be taken, and what is wrong with it.
-fn bad_place(
+fn bad_location(
     alloc: Global,
     library: &Library,
     catalog: &Catalog,
     stimuli: &[Stimulus],
-) -> Result<Option<StimulusPlace>, AllocError>
+) -> Result<Option<StimulusLocation>, AllocError>
     requires { spec.IsKnown library.now catalog.now }
     ensures { IfOk result (λ o. MatchOption o (¬ (BadStimulus library.now stimuli.now)) (IsBadAt library.now stimuli.now)) }
 {
@@ -99,19 +99,19 @@ fn bad_place(
         let refused = is_refused(alloc, library, catalog, stimulus)?;
         if refused {
             let fault = fault_of(alloc, library, catalog, stimulus)?;
-            return Ok(Some(StimulusPlace { row, fault }));
+            return Ok(Some(StimulusLocation { row, fault }));
         }
     }
     Ok(None)
 }
 
 /// A stimulus that the application can't take, or `None` if the inputs are refused for something else.
-pub fn stimulus_place(
+pub fn stimulus_location(
     alloc: Global,
     library: &Library,
     plan: &Plan,
     stimuli: &[Stimulus],
-) -> Result<Option<StimulusPlace>, AllocError>
+) -> Result<Option<StimulusLocation>, AllocError>
     ensures { IfOk result (λ o. MatchOption o (¬ (IsLeastFault 29 library.now plan.now stimuli.now)) (IsBadAt library.now stimuli.now)) }
 {
     let fault = least_fault(alloc, library, plan, stimuli)?;
@@ -120,7 +120,7 @@ pub fn stimulus_place(
     }
     let found = catalog_of(alloc, library, plan)?;
     match found {
-        Some(catalog) => bad_place(alloc, library, &catalog, stimuli),
+        Some(catalog) => bad_location(alloc, library, &catalog, stimuli),
         None => Ok(None),
     }
 }

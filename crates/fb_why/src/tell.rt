@@ -1,13 +1,13 @@
 //! Texts for stimuli that do not fit, and for limits that are exceeded.
 
-use crate::place::{Limit, StimulusFault, StimulusPlace};
+use crate::location::{Limit, StimulusFault, StimulusLocation};
 use fb_types::{Connection, Library, Name, Setting, Stimulus};
 use fb_why_kinds::Text;
 use std::alloc::{AllocError, Global};
 
 /// The ending of an ordinal number, as in 1st.
-fn ending(place: usize) -> &'static str {
-    match (place % 10, place % 100) {
+fn ending(location: usize) -> &'static str {
+    match (location % 10, location % 100) {
         (_, 11..=13) => "th",
         (1, _) => "st",
         (2, _) => "nd",
@@ -21,10 +21,10 @@ pub fn tell_stimulus(
     alloc: Global,
     library: &Library,
     stimuli: &[Stimulus],
-    place: StimulusPlace,
+    location: StimulusLocation,
 ) -> Result<String, AllocError> {
     let mut text = Text::new(alloc);
-    push_stimulus(&mut text, library, stimuli, place);
+    push_stimulus(&mut text, library, stimuli, location);
     text.into_string()
 }
 
@@ -38,22 +38,27 @@ pub fn tell_limit(alloc: Global, limit: Limit) -> Result<String, AllocError> {
     text.into_string()
 }
 
-fn push_stimulus(text: &mut Text, library: &Library, stimuli: &[Stimulus], place: StimulusPlace) {
+fn push_stimulus(
+    text: &mut Text,
+    library: &Library,
+    stimuli: &[Stimulus],
+    location: StimulusLocation,
+) {
     // Rows are counted from 0 in the code, and from 1 in the text.
-    let counted = place.row.saturating_add(1);
+    let counted = location.row.saturating_add(1);
     text.numbered("stimuli: ", counted as i128);
     text.words(ending(counted));
     text.words(" row after the heading: ");
-    if let Some(stimulus) = stimuli.get(place.row) {
-        push_fault(text, library, stimulus, place.fault);
+    if let Some(stimulus) = stimuli.get(location.row) {
+        push_fault(text, library, stimulus, location.fault);
     }
 }
 
 fn push_fault(text: &mut Text, library: &Library, stimulus: &Stimulus, fault: StimulusFault) {
     match fault {
         StimulusFault::Event => push_event(text, library, stimulus),
-        StimulusFault::Setting(place) => {
-            if let Some(setting) = stimulus.settings.get(place) {
+        StimulusFault::Setting(location) => {
+            if let Some(setting) = stimulus.settings.get(location) {
                 push_setting(text, library, stimulus, setting);
             }
         }
@@ -107,8 +112,8 @@ fn push_setting(text: &mut Text, library: &Library, stimulus: &Stimulus, setting
 /// Adds the first variable that is set twice.
 fn push_twice(text: &mut Text, stimulus: &Stimulus) {
     let settings = stimulus.settings.as_slice();
-    for (place, setting) in settings.iter().enumerate() {
-        let before = settings.iter().take(place);
+    for (location, setting) in settings.iter().enumerate() {
+        let before = settings.iter().take(location);
         for other in before {
             if other.variable.is(&setting.variable) {
                 text.name(&setting.variable);

@@ -16,28 +16,28 @@ pub fn tell_flaw(
     alloc: Global,
     library: &Library,
     plan: &Plan,
-    place: Spot,
+    location: Spot,
 ) -> Result<String, AllocError> {
-    match place {
-        Spot::Unknown(place) => tell_unknown(alloc, library, plan, place),
-        Spot::Misfit(place) => tell_misfit(alloc, library, place),
-        Spot::Misjoin(place) => tell_misjoin(alloc, library, place),
+    match location {
+        Spot::Unknown(location) => tell_unknown(alloc, library, plan, location),
+        Spot::Misfit(location) => tell_misfit(alloc, library, location),
+        Spot::Misjoin(location) => tell_misjoin(alloc, library, location),
         _ => {
             let mut text = Text::new(alloc);
-            push_place(&mut text, library, plan, place);
+            push_location(&mut text, library, plan, location);
             text.into_string()
         }
     }
 }
 
-fn push_place(text: &mut Text, library: &Library, plan: &Plan, place: Spot) {
-    match place {
+fn push_location(text: &mut Text, library: &Library, plan: &Plan, location: Spot) {
+    match location {
         Spot::Twice(given) => push_given(text, library, plan, given),
         Spot::Joined(joined) => push_joined(text, library, joined),
         Spot::TooHigh(descent) => push_descent(text, library, descent),
         Spot::Unmapped(unmapped) => push_unmapped(text, &library.application, plan, unmapped),
         Spot::Unlinked(unlinked) => push_unlinked(text, &library.application, plan, unlinked),
-        Spot::Unserved(place) => push_unserved(text, &library.application, plan, place),
+        Spot::Unserved(location) => push_unserved(text, &library.application, plan, location),
         _ => {}
     }
 }

@@ -5,8 +5,8 @@ use fb_types::{BlockType, CompositeType, Library};
 use fb_why_kinds::{Text, push_instance};
 
 /// Adds which composite type is too high, and through which of its instances.
-pub fn push_descent(text: &mut Text, library: &Library, place: Descent) {
-    let (block, instance) = match place {
+pub fn push_descent(text: &mut Text, library: &Library, location: Descent) {
+    let (block, instance) = match location {
         Descent::Circle(block, instance) => (block, instance),
         Descent::Height(block, instance) => (block, instance),
     };
@@ -14,7 +14,7 @@ pub fn push_descent(text: &mut Text, library: &Library, place: Descent) {
         return;
     };
     push_inside(text, composite, instance);
-    match place {
+    match location {
         Descent::Circle(_, _) => {
             text.named(": ", &composite.name);
             text.words(" holds itself through it");

@@ -6,13 +6,13 @@ use fb_types::{BlockType, Library, Network};
 use fb_why_kinds::Text;
 
 /// Adds which two data connections lead to one port.
-pub fn push_joined(text: &mut Text, library: &Library, place: Joined) {
-    match place {
+pub fn push_joined(text: &mut Text, library: &Library, location: Joined) {
+    match location {
         Joined::Application(pair) => {
             text.named("application ", &library.application.name);
             push_pair(text, &library.application.network, pair);
         }
-        Joined::Inside(place, pair) => match library.blocks.get(place) {
+        Joined::Inside(location, pair) => match library.blocks.get(location) {
             Some(BlockType::Composite(composite)) => {
                 text.named("block type ", &composite.name);
                 push_pair(text, &composite.network, pair);

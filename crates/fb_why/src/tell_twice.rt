@@ -12,9 +12,9 @@ const AGAIN: &str = " is given twice";
 pub fn push_given(text: &mut Text, library: &Library, plan: &Plan, given: GivenTwice) {
     let blocks = library.blocks.as_slice();
     match given {
-        GivenTwice::EventBlock(place) => push_block(text, blocks, place, None),
+        GivenTwice::EventBlock(location) => push_block(text, blocks, location, None),
         GivenTwice::Type(pair) => push_again(text, "block type ", blocks, pair),
-        GivenTwice::Block(place, found) => push_block(text, blocks, place, Some(found)),
+        GivenTwice::Block(location, found) => push_block(text, blocks, location, Some(found)),
         GivenTwice::Application(found) => {
             text.named("application ", &library.application.name);
             push_in_network(text, &library.application.network, found);
@@ -30,8 +30,8 @@ pub fn push_given(text: &mut Text, library: &Library, plan: &Plan, given: GivenT
 }
 
 /// Adds what a block type gives twice, or that it has the name of an event block.
-fn push_block(text: &mut Text, blocks: &[BlockType], place: usize, found: Option<InBlock>) {
-    if let Some(block) = blocks.get(place) {
+fn push_block(text: &mut Text, blocks: &[BlockType], location: usize, found: Option<InBlock>) {
+    if let Some(block) = blocks.get(location) {
         text.named("block type ", block.name());
         match found {
             Some(found) => push_in_block(text, block, found),
@@ -40,8 +40,8 @@ fn push_block(text: &mut Text, blocks: &[BlockType], place: usize, found: Option
     }
 }
 
-fn push_link(text: &mut Text, plan: &Plan, (_, place): Repeat) {
-    if let Some(link) = plan.links.get(place) {
+fn push_link(text: &mut Text, plan: &Plan, (_, location): Repeat) {
+    if let Some(link) = plan.links.get(location) {
         text.named("link from ", &link.from);
         text.named(" to ", &link.to);
         text.words(AGAIN);
@@ -49,8 +49,8 @@ fn push_link(text: &mut Text, plan: &Plan, (_, place): Repeat) {
 }
 
 /// Adds that the item at the second of two indices has the name of the first.
-fn push_again<T: Named>(text: &mut Text, words: &str, items: &[T], (_, place): Repeat) {
-    if let Some(item) = items.get(place) {
+fn push_again<T: Named>(text: &mut Text, words: &str, items: &[T], (_, location): Repeat) {
+    if let Some(item) = items.get(location) {
         text.named(words, item.name());
         text.words(AGAIN);
     }
@@ -61,14 +61,14 @@ fn push_in_network(text: &mut Text, network: &Network, found: InNetwork) {
         InNetwork::Instance(pair) => {
             push_again(text, ": instance ", network.instances.as_slice(), pair);
         }
-        InNetwork::Parameter(place, pair) => {
-            if let Some(instance) = network.instances.get(place) {
+        InNetwork::Parameter(location, pair) => {
+            if let Some(instance) = network.instances.get(location) {
                 push_instance(text, instance);
                 push_again(text, ", parameter ", instance.parameters.as_slice(), pair);
             }
         }
-        InNetwork::Connection((_, place)) => {
-            if let Some(connection) = network.event_connections.get(place) {
+        InNetwork::Connection((_, location)) => {
+            if let Some(connection) = network.event_connections.get(location) {
                 text.connection(": event connection ", connection);
                 text.words(AGAIN);
             }
@@ -80,21 +80,21 @@ fn push_in_block(text: &mut Text, block: &BlockType, found: InBlock) {
     let ports = block.ports();
     match (block, found) {
         (_, InBlock::Port(pair)) => push_ports(text, block, pair),
-        (_, InBlock::WithInput(place, pair)) => {
+        (_, InBlock::WithInput(location, pair)) => {
             push_with(
                 text,
                 ": event input ",
                 ports.event_inputs.as_slice(),
-                place,
+                location,
                 pair,
             );
         }
-        (_, InBlock::WithOutput(place, pair)) => {
+        (_, InBlock::WithOutput(location, pair)) => {
             push_with(
                 text,
                 ": event output ",
                 ports.event_outputs.as_slice(),
-                place,
+                location,
                 pair,
             );
         }
@@ -111,8 +111,8 @@ fn push_in_block(text: &mut Text, block: &BlockType, found: InBlock) {
     }
 }
 
-fn push_with(text: &mut Text, words: &str, events: &[EventPort], place: usize, pair: Repeat) {
-    if let Some(event) = events.get(place) {
+fn push_with(text: &mut Text, words: &str, events: &[EventPort], location: usize, pair: Repeat) {
+    if let Some(event) = events.get(location) {
         text.named(words, &event.name);
         push_again(text, " WITH ", event.with.as_slice(), pair);
     }
@@ -123,20 +123,24 @@ type Found<'a> = Result<(&'static str, &'a Name), usize>;
 
 /// Looks in one more list, if nothing is found yet.
 fn or_in<'a, T: Named>(found: Found<'a>, sort: &'static str, items: &'a [T]) -> Found<'a> {
-    let place = match found {
+    let location = match found {
         Ok(_) => return found,
-        Err(place) => place,
+        Err(location) => location,
     };
-    match items.get(place) {
+    match items.get(location) {
         Some(item) => Ok((sort, item.name())),
-        None => Err(place.saturating_sub(items.len())),
+        None => Err(location.saturating_sub(items.len())),
     }
 }
 
 /// The item at an index among the ports and internal variables of a block type.
-fn variable_at(block: &BlockType, place: usize) -> Found<'_> {
+fn variable_at(block: &BlockType, location: usize) -> Found<'_> {
     let ports = block.ports();
-    let found = or_in(Err(place), "an event input", ports.event_inputs.as_slice());
+    let found = or_in(
+        Err(location),
+        "an event input",
+        ports.event_inputs.as_slice(),
+    );
     let found = or_in(found, "an event output", ports.event_outputs.as_slice());
     let found = or_in(found, "a data input", ports.inputs.as_slice());
     let found = or_in(found, "a data output", ports.outputs.as_slice());

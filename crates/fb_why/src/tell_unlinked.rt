@@ -5,16 +5,16 @@ use fb_types::{Application, Connection, Plan, PortName};
 use fb_why_kinds::Text;
 
 /// Adds which connection has no link, and which link it would need.
-pub fn push_unlinked(text: &mut Text, application: &Application, plan: &Plan, place: Unlinked) {
+pub fn push_unlinked(text: &mut Text, application: &Application, plan: &Plan, location: Unlinked) {
     text.named("application ", &application.name);
-    let (words, connection) = match place {
-        Unlinked::Event(place) => (
+    let (words, connection) = match location {
+        Unlinked::Event(location) => (
             ": event connection ",
-            application.network.event_connections.get(place),
+            application.network.event_connections.get(location),
         ),
-        Unlinked::Data(place) => (
+        Unlinked::Data(location) => (
             ": data connection ",
-            application.network.data_connections.get(place),
+            application.network.data_connections.get(location),
         ),
     };
     if let Some(connection) = connection {

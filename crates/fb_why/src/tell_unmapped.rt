@@ -6,11 +6,11 @@ use fb_types::{Application, Name, Plan, ResourceEntry};
 use fb_why_kinds::Text;
 
 /// Adds where an instance is not mapped to one resource.
-pub fn push_unmapped(text: &mut Text, application: &Application, plan: &Plan, place: Unmapped) {
+pub fn push_unmapped(text: &mut Text, application: &Application, plan: &Plan, location: Unmapped) {
     text.named("application ", &application.name);
-    match place {
-        Unmapped::Unlisted(place) => {
-            if let Some(instance) = application.network.instances.get(place) {
+    match location {
+        Unmapped::Unlisted(location) => {
+            if let Some(instance) = application.network.instances.get(location) {
                 text.named(": instance ", &instance.name);
                 text.words(": no resource lists it");
             }
@@ -20,8 +20,8 @@ pub fn push_unmapped(text: &mut Text, application: &Application, plan: &Plan, pl
 }
 
 /// The resource and the name at an index in the lists of all resources, one after another.
-fn listed_at(plan: &Plan, place: usize) -> Option<(&ResourceEntry, &Name)> {
-    let mut rest = place;
+fn listed_at(plan: &Plan, location: usize) -> Option<(&ResourceEntry, &Name)> {
+    let mut rest = location;
     for resource in plan.resources.as_slice() {
         let names = resource.instances.as_slice();
         if rest < names.len() {

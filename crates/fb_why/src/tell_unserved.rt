@@ -5,9 +5,9 @@ use fb_types::{Application, Plan};
 use fb_why_kinds::Text;
 
 /// Adds which data connection no event serves, and which event could.
-pub fn push_unserved(text: &mut Text, application: &Application, plan: &Plan, place: usize) {
+pub fn push_unserved(text: &mut Text, application: &Application, plan: &Plan, location: usize) {
     text.named("application ", &application.name);
-    let Some(connection) = application.network.data_connections.get(place) else {
+    let Some(connection) = application.network.data_connections.get(location) else {
         return;
     };
     text.connection(": data connection ", connection);

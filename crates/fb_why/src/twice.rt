@@ -7,7 +7,7 @@ ghost use Rattle.fb_types.specs.declared.library.BlockType.{BlockType};
 ghost use Rattle.fb_types.specs.declared.library.BlockType.TheVariants as block;
 ghost use Rattle.fb_types.specs.declared.library.EventPort.{EventPort};
 ghost use Rattle.fb_types.specs.declared.library.Instance.{Instance};
-ghost use Rattle.fb_check_names.specs.Places.{names_in};
+ghost use Rattle.fb_check_names.specs.Indexes.{names_in};
 ghost use Rattle.fb_check_names.specs.GivenTwice.{BlockTwice, NetworkTwice, PortTwice, names_of_ports};
 ghost use Rattle.fb_why.specs.Pairs.{IsPair, Paired};
 ghost use Rattle.fb_why.specs.Twice.{IsEventBlock, IsParameterTwice, IsTwiceAt, IsTwiceInBlock, IsTwiceInNetwork, IsTwiceInPorts, IsTwiceInSome, IsWithTwice, is_own_name, parameter_names};
@@ -70,9 +70,9 @@ pub enum GivenTwice {
 fn with_pair(alloc: Global, events: &[EventPort]) -> Result<Option<(usize, Repeat)>, AllocError>
     ensures { IfOk result (λ o. MatchOption o (All (λ e. ¬ (Twice e.with)) events.now) (λ r. IsWithTwice events.now r.0 r.1)) }
 {
-    for (place, event) in events.iter().enumerate() {
+    for (location, event) in events.iter().enumerate() {
         if let Some(pair) = called_pair(alloc, event.with.as_slice())? {
-            return Ok(Some((place, pair)));
+            return Ok(Some((location, pair)));
         }
     }
     Ok(None)
@@ -85,9 +85,9 @@ fn parameter_pair(
 ) -> Result<Option<(usize, Repeat)>, AllocError>
     ensures { IfOk result (λ o. MatchOption o (All (λ i. ¬ (Twice (parameter_names i))) instances.now) (λ r. IsParameterTwice instances.now r.0 r.1)) }
 {
-    for (place, instance) in instances.iter().enumerate() {
+    for (location, instance) in instances.iter().enumerate() {
         if let Some(pair) = called_pair(alloc, instance.parameters.as_slice())? {
-            return Ok(Some((place, pair)));
+            return Ok(Some((location, pair)));
         }
     }
     Ok(None)
@@ -204,9 +204,9 @@ fn twice_in_blocks(
 ) -> Result<Option<(usize, InBlock)>, AllocError>
     ensures { IfOk result (λ o. MatchOption o (All (λ t. ¬ (BlockTwice t)) blocks.now) (λ r. IsTwiceInSome blocks.now r.0 r.1)) }
 {
-    for (place, block) in blocks.iter().enumerate() {
+    for (location, block) in blocks.iter().enumerate() {
         if let Some(found) = twice_in_block(alloc, block)? {
-            return Ok(Some((place, found)));
+            return Ok(Some((location, found)));
         }
     }
     Ok(None)
@@ -216,16 +216,16 @@ fn twice_in_blocks(
 fn event_block(blocks: &[BlockType]) -> Option<usize>
     ensures { MatchOption result (list_all is_own_name blocks.now ≡ true) (IsEventBlock blocks.now) }
 {
-    for (place, block) in blocks.iter().enumerate() {
+    for (location, block) in blocks.iter().enumerate() {
         if kind_named(block.name().as_bytes()).is_some() {
-            return Some(place);
+            return Some(location);
         }
     }
     None
 }
 
 /// What is given twice, if anything is.
-pub(crate) fn twice_place(
+pub(crate) fn twice_location(
     alloc: Global,
     library: &Library,
     plan: &Plan,

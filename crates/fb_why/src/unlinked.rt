@@ -20,12 +20,12 @@ pub enum Unlinked {
     Data(usize),
 }
 
-fn place_of_holder(resources: &[ResourceEntry], name: &Name) -> Option<usize>
+fn location_of_holder(resources: &[ResourceEntry], name: &Name) -> Option<usize>
     ensures { result ≡ position (λ r. among r.instances name.now) resources.now }
 {
-    for (place, resource) in resources.iter().enumerate() {
+    for (location, resource) in resources.iter().enumerate() {
         if is_among(resource.instances.as_slice(), name) {
-            return Some(place);
+            return Some(location);
         }
     }
     None
@@ -38,7 +38,7 @@ fn holder(plan: &Plan, name: &Name) -> usize
     if plan.holds_all {
         return 0;
     }
-    place_of_holder(plan.resources.as_slice(), name).unwrap_or(0)
+    location_of_holder(plan.resources.as_slice(), name).unwrap_or(0)
 }
 
 /// The index of the resource that holds the component at an end of a connection of the application.
@@ -68,12 +68,12 @@ fn is_joining(link: &Link, from: &[u8], to: &[u8]) -> bool
 }
 
 /// The index of the first link from the one resource to the other.
-pub(crate) fn place_of_link(links: &[Link], from: &[u8], to: &[u8]) -> Option<usize>
+pub(crate) fn location_of_link(links: &[Link], from: &[u8], to: &[u8]) -> Option<usize>
     ensures { result ≡ position (is_joining from.now to.now) links.now }
 {
-    for (place, link) in links.iter().enumerate() {
+    for (location, link) in links.iter().enumerate() {
         if is_joining(link, from, to) {
-            return Some(place);
+            return Some(location);
         }
     }
     None
@@ -82,8 +82,8 @@ pub(crate) fn place_of_link(links: &[Link], from: &[u8], to: &[u8]) -> Option<us
 fn has_link(links: &[Link], from: &[u8], to: &[u8]) -> bool
     ensures { result ≡ list_any (is_joining from.now to.now) links.now }
 {
-    let place = place_of_link(links, from, to);
-    place.is_some()
+    let location = location_of_link(links, from, to);
+    location.is_some()
 }
 
 /// Whether one resource holds both ends of a connection, or there is a link for it.
@@ -104,24 +104,24 @@ fn is_linked(plan: &Plan, connection: &Connection) -> bool
 fn first_unlinked(plan: &Plan, connections: &[Connection]) -> Option<usize>
     ensures { MatchOption result (list_all (is_linked plan.now) connections.now ≡ true) (λ k. (c : Connection) × (slice_get connections.now k ≡ Some c) × (is_linked plan.now c ≡ false)) }
 {
-    for (place, connection) in connections.iter().enumerate() {
+    for (location, connection) in connections.iter().enumerate() {
         if !is_linked(plan, connection) {
-            return Some(place);
+            return Some(location);
         }
     }
     None
 }
 
 /// A connection of the application between two resources without a link, if there is one.
-pub(crate) fn unlinked_place(library: &Library, plan: &Plan) -> Option<Unlinked>
+pub(crate) fn unlinked_location(library: &Library, plan: &Plan) -> Option<Unlinked>
     ensures { MatchOption result (¬ (NoLink library.now plan.now)) (IsUnlinkedAt library.now plan.now) }
 {
     let network = &library.application.network;
-    if let Some(place) = first_unlinked(plan, network.event_connections.as_slice()) {
-        return Some(Unlinked::Event(place));
+    if let Some(location) = first_unlinked(plan, network.event_connections.as_slice()) {
+        return Some(Unlinked::Event(location));
     }
     match first_unlinked(plan, network.data_connections.as_slice()) {
-        Some(place) => Some(Unlinked::Data(place)),
+        Some(location) => Some(Unlinked::Data(location)),
         None => None,
     }
 }

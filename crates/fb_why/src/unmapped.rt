@@ -5,7 +5,7 @@ ghost use Rattle.std.specs.List.{list_all, list_any};
 ghost use Rattle.fb_types.specs.Names.{same_name};
 ghost use Rattle.fb_types.specs.Mapped.{NotMapped, mapped};
 ghost use Rattle.fb_types.specs.declared.library.Instance.{Instance};
-ghost use Rattle.fb_check_names.specs.Places.{names_in};
+ghost use Rattle.fb_check_names.specs.Indexes.{names_in};
 ghost use Rattle.fb_why.specs.Unmapped.{AllListed, IsUnmappedAmong, IsUnmappedAt, is_listed};
 
 use crate::pair::{Repeat, name_pair};
@@ -67,9 +67,9 @@ fn is_listed(names: &[&Name], name: &Name) -> bool
 fn first_unlisted(names: &[&Name], instances: &[Instance]) -> Option<usize>
     ensures { MatchOption result (list_all (is_listed names.now) instances.now ≡ true) (λ k. (i : Instance) × (slice_get instances.now k ≡ Some i) × (is_listed names.now i ≡ false)) }
 {
-    for (place, instance) in instances.iter().enumerate() {
+    for (location, instance) in instances.iter().enumerate() {
         if !is_listed(names, &instance.name) {
-            return Some(place);
+            return Some(location);
         }
     }
     None
@@ -93,7 +93,7 @@ fn unmapped_among(
 }
 
 /// Which instance of the application is not mapped to one resource, if there is one.
-pub(crate) fn unmapped_place(
+pub(crate) fn unmapped_location(
     alloc: Global,
     library: &Library,
     plan: &Plan,

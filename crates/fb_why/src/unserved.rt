@@ -133,16 +133,16 @@ fn is_served(library: &Library, plan: &Plan, connection: &Connection) -> bool
 fn first_unserved(library: &Library, plan: &Plan, connections: &[Connection]) -> Option<usize>
     ensures { MatchOption result (list_all (is_served library.now plan.now) connections.now ≡ true) (λ k. (c : Connection) × (slice_get connections.now k ≡ Some c) × (is_served library.now plan.now c ≡ false)) }
 {
-    for (place, connection) in connections.iter().enumerate() {
+    for (location, connection) in connections.iter().enumerate() {
         if !is_served(library, plan, connection) {
-            return Some(place);
+            return Some(location);
         }
     }
     None
 }
 
 /// The index of a data connection of the application between two resources that no event serves, if there is one.
-pub fn unserved_place(library: &Library, plan: &Plan) -> Option<usize>
+pub fn unserved_location(library: &Library, plan: &Plan) -> Option<usize>
     ensures { MatchOption result (¬ (NoEvent library.now plan.now)) (IsUnservedAt library.now plan.now) }
 {
     let network = &library.application.network;

@@ -15,8 +15,8 @@ use Rattle.fb_inputs.specs.Lists.{each}
 use Rattle.fb_inputs.specs.Stimuli.{most_bytes, most_rows, stimuli_of, stimulus, three}
 use Rattle.fb_why_bytes.specs.RowParts.{FailsAt, has_value, is_event, is_tick, is_valued, is_word}
 use Rattle.fb_why_bytes.specs.RowVerdicts.{IsFine, IsNumberFault, IsRefusedFor, IsShapeFault}
-use Rattle.fb_why_bytes.specs.declared.place.RowFault.{RowFault}
-use Rattle.fb_why_bytes.specs.declared.place.RowFault.TheVariants as fault
+use Rattle.fb_why_bytes.specs.declared.location.RowFault.{RowFault}
+use Rattle.fb_why_bytes.specs.declared.location.RowFault.TheVariants as fault
 use Rattle.fb_why_bytes.proofs.RowJudgements.{crowded, first_word, late, no_draft, no_number, refused_anywhere, taken_below, whole_settings}
 use Rattle.fb_why_bytes.proofs.WordLists.{shown}
 use Rattle.fb_types.proofs.Options.{none_from_is_some}
@@ -41,14 +41,14 @@ all_shown test (w ∷ ws) = ap (λ (b : Bool). test w.now && b) (all_shown test 
 pub all_words : (test : Text → Bool) (ws : List (Bor Text)) (z : Text) → shown ws ≡ words z → list_all (λ w. test w.now) ws ≡ true → list_all test (words z) ≡ true
 all_words test ws z all h = ap (list_all test) (sym all) ∙ sym (all_shown test ws) ∙ h
 
-word_place : (test : Text → Bool) (ws : List (Bor Text)) (z : Text) (k : ℕ) → shown ws ≡ words z → FailsAt test ws k → (w : Text) × (slice_get (words z) k ≡ Some w) × (test w ≡ false)
-word_place test ws z k all h = (h.0.now, ap (λ (xs : List Text). slice_get xs k) (sym all) ∙ shown_at ws k h.0 h.1, h.2)
+word_location : (test : Text → Bool) (ws : List (Bor Text)) (z : Text) (k : ℕ) → shown ws ≡ words z → FailsAt test ws k → (w : Text) × (slice_get (words z) k ≡ Some w) × (test w ≡ false)
+word_location test ws z k all h = (h.0.now, ap (λ (xs : List Text). slice_get xs k) (sym all) ∙ shown_at ws k h.0 h.1, h.2)
 
-pub wrong_word_place : (e z : Text) (ws : List (Bor Text)) (k : ℕ) → shown ws ≡ words z → FailsAt is_word ws k → IsShapeFault e z (fault.Word k)
-wrong_word_place e z ws k all h = let (w, at, fails) = word_place is_word ws z k all h in (w, at, none_from_is_some (word w) fails)
+pub wrong_word_location : (e z : Text) (ws : List (Bor Text)) (k : ℕ) → shown ws ≡ words z → FailsAt is_word ws k → IsShapeFault e z (fault.Word k)
+wrong_word_location e z ws k all h = let (w, at, fails) = word_location is_word ws z k all h in (w, at, none_from_is_some (word w) fails)
 
-pub wrong_value_place : (t z : Text) (ws : List (Bor Text)) (k : ℕ) → shown ws ≡ words z → FailsAt is_valued ws k → IsNumberFault t z (fault.Value k)
-wrong_value_place t z ws k all h = word_place is_valued ws z k all h
+pub wrong_value_location : (t z : Text) (ws : List (Bor Text)) (k : ℕ) → shown ws ≡ words z → FailsAt is_valued ws k → IsNumberFault t z (fault.Value k)
+wrong_value_location t z ws k all h = word_location is_valued ws z k all h
 
 pub no_event : (e : Text) → is_event e ≡ false → event e ≡ None
 no_event e h = none_from_is_some (event e) h

@@ -14,7 +14,7 @@ use Rattle.fb_inputs.specs.Readers.{IsAt, rows_from}
 use Rattle.fb_inputs.proofs.Rows.{all_behind, next_found, none_left}
 use Rattle.fb_why_bytes.specs.Rows.{AreTaken, IsRowAt, Stands}
 use Rattle.fb_why_bytes.specs.RowVerdicts.{IsFine, IsJudged, IsRefusedFor}
-use Rattle.fb_why_bytes.specs.declared.place.RowFault.{RowFault}
+use Rattle.fb_why_bytes.specs.declared.location.RowFault.{RowFault}
 use Rattle.fb_why_bytes.proofs.RowJudgements.{few_before}
 
 -- ---- The indices of records

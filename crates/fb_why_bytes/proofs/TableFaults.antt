@@ -16,9 +16,9 @@ use Rattle.fb_why_bytes.specs.Keys.{elements_at, value_at}
 use Rattle.fb_why_bytes.specs.Names.{alike_names}
 use Rattle.fb_why_bytes.specs.Numbers.{IsNumbersFault}
 use Rattle.fb_why_bytes.specs.Tables.{IsDocumentFault, IsFaultAt, IsShaped, is_empty_list}
-use Rattle.fb_why_bytes.specs.declared.place.DeployPlace.{DeployPlace}
-use Rattle.fb_why_bytes.specs.declared.place.DeployPlace.TheVariants as place
-use Rattle.fb_why_bytes.specs.declared.place.DeployKey.{DeployKey}
+use Rattle.fb_why_bytes.specs.declared.location.DeployLocation.{DeployLocation}
+use Rattle.fb_why_bytes.specs.declared.location.DeployLocation.TheVariants as location
+use Rattle.fb_why_bytes.specs.declared.location.DeployKey.{DeployKey}
 
 -- ---- Keys that are right make a table that is right
 
@@ -116,30 +116,30 @@ some_found {A} f keys k h = by (value_at keys k) h
 
 -- ---- Documents and their numbers
 
-pub numbers_told : (keys : Members) (p : DeployPlace) → IsNumbersFault keys p → IsDocumentFault keys p
-numbers_told keys place.Resources h = h
-numbers_told keys place.Links h = h
-numbers_told keys (place.Latency k e) h = h
-numbers_told keys (place.NoEntry k) h = h
-numbers_told keys (place.Entry k e) h = h
-numbers_told keys (place.Entries k) h = h
-numbers_told keys (place.Shape t why) h = absurd h.5.4
-numbers_told keys place.Bytes h = h
-numbers_told keys (place.Document at) h = h
+pub numbers_told : (keys : Members) (p : DeployLocation) → IsNumbersFault keys p → IsDocumentFault keys p
+numbers_told keys location.Resources h = h
+numbers_told keys location.Links h = h
+numbers_told keys (location.Latency k e) h = h
+numbers_told keys (location.NoEntry k) h = h
+numbers_told keys (location.Entry k e) h = h
+numbers_told keys (location.Entries k) h = h
+numbers_told keys (location.Shape t why) h = absurd h.5.4
+numbers_told keys location.Bytes h = h
+numbers_told keys (location.Document at) h = h
 
-pub numbers_answer : (keys : Members) (o : Option DeployPlace) → is_some (draft keys) ≡ true → IfSome o (IsNumbersFault keys) → MatchOption o (is_some (draft keys) ≡ true) (IsDocumentFault keys)
+pub numbers_answer : (keys : Members) (o : Option DeployLocation) → is_some (draft keys) ≡ true → IfSome o (IsNumbersFault keys) → MatchOption o (is_some (draft keys) ≡ true) (IsDocumentFault keys)
 numbers_answer keys None shaped h = shaped
 numbers_answer keys (Some p) shaped h = numbers_told keys p h
 
-pub document_told : (bytes : Text) (keys : Members) (o : Option DeployPlace) → document bytes ≡ Some keys → MatchOption o (is_some (draft keys) ≡ true) (IsDocumentFault keys)
+pub document_told : (bytes : Text) (keys : Members) (o : Option DeployLocation) → document bytes ≡ Some keys → MatchOption o (is_some (draft keys) ≡ true) (IsDocumentFault keys)
     → MatchOption o (IsShaped bytes) (IsFaultAt bytes)
 document_told bytes keys None read h = (keys, read, h)
-document_told bytes keys (Some place.Resources) read h = (keys, read, h)
-document_told bytes keys (Some place.Links) read h = (keys, read, h)
-document_told bytes keys (Some (place.Latency k e)) read h = (keys, read, h)
-document_told bytes keys (Some (place.NoEntry k)) read h = (keys, read, h)
-document_told bytes keys (Some (place.Entry k e)) read h = (keys, read, h)
-document_told bytes keys (Some (place.Entries k)) read h = (keys, read, h)
-document_told bytes keys (Some (place.Shape t why)) read h = (keys, read, h)
-document_told bytes keys (Some place.Bytes) read h = absurd h.5.4
-document_told bytes keys (Some (place.Document at)) read h = absurd h.5.4
+document_told bytes keys (Some location.Resources) read h = (keys, read, h)
+document_told bytes keys (Some location.Links) read h = (keys, read, h)
+document_told bytes keys (Some (location.Latency k e)) read h = (keys, read, h)
+document_told bytes keys (Some (location.NoEntry k)) read h = (keys, read, h)
+document_told bytes keys (Some (location.Entry k e)) read h = (keys, read, h)
+document_told bytes keys (Some (location.Entries k)) read h = (keys, read, h)
+document_told bytes keys (Some (location.Shape t why)) read h = (keys, read, h)
+document_told bytes keys (Some location.Bytes) read h = absurd h.5.4
+document_told bytes keys (Some (location.Document at)) read h = absurd h.5.4

@@ -16,10 +16,10 @@ use Rattle.fb_why_bytes.specs.Numbers as numbers
 use Rattle.fb_why_bytes.specs.Numbers.{count_at, count_in, whole_pair}
 use Rattle.fb_why_bytes.specs.Tables.{FailsAt, IsEntriesFault, IsFaultAmong, IsInArray, IsLinkFault, IsWrongElement, is_empty_list}
 use Rattle.fb_why_bytes.specs.declared.numbers.WrittenEntry.{WrittenEntry}
-use Rattle.fb_why_bytes.specs.declared.place.DeployKey.{DeployKey}
-use Rattle.fb_why_bytes.specs.declared.place.DeployKey.TheVariants as key
-use Rattle.fb_why_bytes.specs.declared.place.TableFault.{TableFault}
-use Rattle.fb_why_bytes.specs.declared.place.TableFault.TheVariants as fault
+use Rattle.fb_why_bytes.specs.declared.location.DeployKey.{DeployKey}
+use Rattle.fb_why_bytes.specs.declared.location.DeployKey.TheVariants as key
+use Rattle.fb_why_bytes.specs.declared.location.TableFault.{TableFault}
+use Rattle.fb_why_bytes.specs.declared.location.TableFault.TheVariants as fault
 
 -- ---- Arrays
 

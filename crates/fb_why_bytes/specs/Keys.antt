@@ -3,8 +3,8 @@ use Rattle.std.specs.Prelude.{Bool, true, false, List, Option, Some, is_some, co
 use Rattle.toml.specs.Data.{Data, Members, get_member, as_array, as_integer}
 use Rattle.fb_inputs.specs.Words.{Text}
 use Rattle.fb_inputs.specs.Documents.{list_of, name_of, pair}
-use Rattle.fb_why_bytes.specs.declared.place.DeployKey.{DeployKey}
-use Rattle.fb_why_bytes.specs.declared.place.DeployKey.TheVariants as key
+use Rattle.fb_why_bytes.specs.declared.location.DeployKey.{DeployKey}
+use Rattle.fb_why_bytes.specs.declared.location.DeployKey.TheVariants as key
 
 abbrev pub text_of : DeployKey → Text
 text_of key.Resource = codes "resource"

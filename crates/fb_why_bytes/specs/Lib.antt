@@ -1,4 +1,4 @@
-pub mod Places
+pub mod Locations
 pub mod TextVerdicts
 pub mod Faults
 pub mod Rows

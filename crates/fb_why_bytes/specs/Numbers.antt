@@ -8,10 +8,10 @@ use Rattle.fb_inputs.specs.Documents.{array_of, constant, pair}
 use Rattle.fb_inputs.specs.Deployments.{is_after, is_latency, is_zero}
 use Rattle.fb_why_bytes.specs.Keys.{elements_at, value_at}
 use Rattle.fb_why_bytes.specs.declared.numbers.WrittenEntry.{WrittenEntry}
-use Rattle.fb_why_bytes.specs.declared.place.DeployPlace.{DeployPlace}
-use Rattle.fb_why_bytes.specs.declared.place.DeployPlace.TheVariants as place
-use Rattle.fb_why_bytes.specs.declared.place.DeployKey.{DeployKey}
-use Rattle.fb_why_bytes.specs.declared.place.DeployKey.TheVariants as key
+use Rattle.fb_why_bytes.specs.declared.location.DeployLocation.{DeployLocation}
+use Rattle.fb_why_bytes.specs.declared.location.DeployLocation.TheVariants as location
+use Rattle.fb_why_bytes.specs.declared.location.DeployKey.{DeployKey}
+use Rattle.fb_why_bytes.specs.declared.location.DeployKey.TheVariants as key
 
 abbrev pub pair_of : WrittenEntry → LatencyDraft
 pair_of e = record { start = e.start; ticks = e.ticks }
@@ -57,20 +57,20 @@ abbrev pub follows : List WrittenEntry → ℕ → Bool
 follows t k = is_in_order t k (slice_get t k)
 
 -- This is wrong with the table of a link.
-abbrev pub IsTablePlace : ℕ → List WrittenEntry → DeployPlace → Type 0
-IsTablePlace link t (place.Latency k e) = (k ≡ link) × IsLatencyWrong t e
-IsTablePlace link t (place.NoEntry k) = (k ≡ link) × (length t ≡ 0)
-IsTablePlace link t (place.Entry k e) = (k ≡ link) × (follows t e ≡ false)
-IsTablePlace link t (place.Entries k) = (k ≡ link) × (64 < length t)
-IsTablePlace link t _ = ⊥
+abbrev pub IsTableLocation : ℕ → List WrittenEntry → DeployLocation → Type 0
+IsTableLocation link t (location.Latency k e) = (k ≡ link) × IsLatencyWrong t e
+IsTableLocation link t (location.NoEntry k) = (k ≡ link) × (length t ≡ 0)
+IsTableLocation link t (location.Entry k e) = (k ≡ link) × (follows t e ≡ false)
+IsTableLocation link t (location.Entries k) = (k ≡ link) × (64 < length t)
+IsTableLocation link t _ = ⊥
 
 -- The value is a link, with whose table this is wrong.
-abbrev pub IsLinkPlace : ℕ → Data → DeployPlace → Type 0
-IsLinkPlace link d p = (keys : Members) × (t : List WrittenEntry) × (as_table d ≡ Some keys) × HasEntries keys t × IsTablePlace link t p
+abbrev pub IsLinkLocation : ℕ → Data → DeployLocation → Type 0
+IsLinkLocation link d p = (keys : Members) × (t : List WrittenEntry) × (as_table d ≡ Some keys) × HasEntries keys t × IsTableLocation link t p
 
 -- One of the values is such a link.
-abbrev pub IsAmongLinks : List Value → DeployPlace → Type 0
-IsAmongLinks vs p = (link : ℕ) × (v : Value) × (slice_get vs link ≡ Some v) × IsLinkPlace link (view v) p
+abbrev pub IsAmongLinks : List Value → DeployLocation → Type 0
+IsAmongLinks vs p = (link : ℕ) × (v : Value) × (slice_get vs link ≡ Some v) × IsLinkLocation link (view v) p
 
 abbrev pub count_in : Option (List Data) → ℕ
 count_in None = 0
@@ -81,7 +81,7 @@ abbrev pub count_at : Members → DeployKey → ℕ
 count_at keys k = count_in (elements_at keys k)
 
 -- This is wrong with the numbers of a document.
-abbrev pub IsNumbersFault : Members → DeployPlace → Type 0
-IsNumbersFault keys place.Resources = 256 < count_at keys key.Resource
-IsNumbersFault keys place.Links = 1024 < count_at keys key.Link
-IsNumbersFault keys p = (ds : List Data) × (link : ℕ) × (d : Data) × (elements_at keys key.Link ≡ Some ds) × (slice_get ds link ≡ Some d) × IsLinkPlace link d p
+abbrev pub IsNumbersFault : Members → DeployLocation → Type 0
+IsNumbersFault keys location.Resources = 256 < count_at keys key.Resource
+IsNumbersFault keys location.Links = 1024 < count_at keys key.Link
+IsNumbersFault keys p = (ds : List Data) × (link : ℕ) × (d : Data) × (elements_at keys key.Link ≡ Some ds) × (slice_get ds link ≡ Some d) × IsLinkLocation link d p

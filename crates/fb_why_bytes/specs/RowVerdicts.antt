@@ -10,8 +10,8 @@ use Rattle.fb_inputs.specs.Rows.{Row, event, word, words}
 use Rattle.fb_inputs.specs.Stimuli.{stimulus}
 use Rattle.fb_why_bytes.specs.Rows.{IsRowFault, number_of_row}
 use Rattle.fb_why_bytes.specs.RowParts.{is_valued}
-use Rattle.fb_why_bytes.specs.declared.place.RowFault.{RowFault}
-use Rattle.fb_why_bytes.specs.declared.place.RowFault.TheVariants as fault
+use Rattle.fb_why_bytes.specs.declared.location.RowFault.{RowFault}
+use Rattle.fb_why_bytes.specs.declared.location.RowFault.TheVariants as fault
 use Rattle.fb_why_bytes.specs.declared.row_verdict.RowVerdict.{RowVerdict}
 use Rattle.fb_why_bytes.specs.declared.row_verdict.RowVerdict.TheVariants as verdict
 

@@ -11,10 +11,10 @@ use Rattle.fb_inputs.specs.Numbers.{natural}
 use Rattle.fb_inputs.specs.Rows.{Row, event, words, word}
 use Rattle.fb_inputs.specs.Readers.{IsAt, rows_from}
 use Rattle.fb_inputs.specs.Stimuli.{all_behind, three, is_head, stimuli_from, stimuli_of, most_bytes, most_rows}
-use Rattle.fb_why_bytes.specs.declared.place.RowFault.{RowFault}
-use Rattle.fb_why_bytes.specs.declared.place.RowFault.TheVariants as fault
-use Rattle.fb_why_bytes.specs.declared.place.StimuliPlace.{StimuliPlace}
-use Rattle.fb_why_bytes.specs.declared.place.StimuliPlace.TheVariants as place
+use Rattle.fb_why_bytes.specs.declared.location.RowFault.{RowFault}
+use Rattle.fb_why_bytes.specs.declared.location.RowFault.TheVariants as fault
+use Rattle.fb_why_bytes.specs.declared.location.StimuliLocation.{StimuliLocation}
+use Rattle.fb_why_bytes.specs.declared.location.StimuliLocation.TheVariants as location
 
 -- ---- A row
 
@@ -63,19 +63,19 @@ pub record HasNoHeading (bytes : Text) : Type 0 where
   pub other : is_head first ≡ false
 
 -- This is wrong at the location.
-abbrev pub IsFaultAt : Text → StimuliPlace → Type 0
-IsFaultAt bytes place.Bytes = most_bytes < length bytes
-IsFaultAt bytes place.Heading = HasNoHeading bytes
-IsFaultAt bytes (place.Row k why) = (row : Row) × IsRowAt bytes k row × IsRowFault k row why
+abbrev pub IsFaultAt : Text → StimuliLocation → Type 0
+IsFaultAt bytes location.Bytes = most_bytes < length bytes
+IsFaultAt bytes location.Heading = HasNoHeading bytes
+IsFaultAt bytes (location.Row k why) = (row : Row) × IsRowAt bytes k row × IsRowFault k row why
 
 -- the number of the refusal
-abbrev pub number_of : StimuliPlace → ℕ
-number_of place.Bytes = over_limit
-number_of place.Heading = bad_row
-number_of (place.Row k why) = number_of_row why
+abbrev pub number_of : StimuliLocation → ℕ
+number_of location.Bytes = over_limit
+number_of location.Heading = bad_row
+number_of (location.Row k why) = number_of_row why
 
 -- The bytes are refused, by the number of what is wrong at the location.
-abbrev pub IsRefusedAt : Text → StimuliPlace → Type 0
+abbrev pub IsRefusedAt : Text → StimuliLocation → Type 0
 IsRefusedAt bytes p = (stimuli_of bytes ≡ Err (number_of p)) × IsFaultAt bytes p
 
 -- The bytes are stimuli.

@@ -11,14 +11,14 @@ use Rattle.fb_inputs.specs.Deployments.{document, most_bytes}
 use Rattle.fb_why_bytes.specs.Keys.{elements_at, has_key, is_either, is_element, is_of_kind, value_at}
 use Rattle.fb_why_bytes.specs.Names.{alike_names}
 use Rattle.fb_why_bytes.specs.Numbers.{IsNumbersFault}
-use Rattle.fb_why_bytes.specs.declared.place.DeployPlace.{DeployPlace}
-use Rattle.fb_why_bytes.specs.declared.place.DeployPlace.TheVariants as place
-use Rattle.fb_why_bytes.specs.declared.place.DeployKey.{DeployKey}
-use Rattle.fb_why_bytes.specs.declared.place.DeployKey.TheVariants as key
-use Rattle.fb_why_bytes.specs.declared.place.TablePlace.{TablePlace}
-use Rattle.fb_why_bytes.specs.declared.place.TablePlace.TheVariants as table
-use Rattle.fb_why_bytes.specs.declared.place.TableFault.{TableFault}
-use Rattle.fb_why_bytes.specs.declared.place.TableFault.TheVariants as fault
+use Rattle.fb_why_bytes.specs.declared.location.DeployLocation.{DeployLocation}
+use Rattle.fb_why_bytes.specs.declared.location.DeployLocation.TheVariants as location
+use Rattle.fb_why_bytes.specs.declared.location.DeployKey.{DeployKey}
+use Rattle.fb_why_bytes.specs.declared.location.DeployKey.TheVariants as key
+use Rattle.fb_why_bytes.specs.declared.location.TableLocation.{TableLocation}
+use Rattle.fb_why_bytes.specs.declared.location.TableLocation.TheVariants as table
+use Rattle.fb_why_bytes.specs.declared.location.TableFault.{TableFault}
+use Rattle.fb_why_bytes.specs.declared.location.TableFault.TheVariants as fault
 
 -- A value at the key is not of its kind.
 abbrev pub IsWrong : Members → DeployKey → Type 0
@@ -123,7 +123,7 @@ abbrev pub IsInArray : (Members → TableFault → Type 0) → Members → Deplo
 IsInArray P keys k i why = (ds : List Data) × (d : Data) × (elements_at keys k ≡ Some ds) × (slice_get ds i ≡ Some d) × IsTableFault P d why
 
 -- This is wrong with a table of a document.
-abbrev pub IsShapeFault : Members → TablePlace → TableFault → Type 0
+abbrev pub IsShapeFault : Members → TableLocation → TableFault → Type 0
 IsShapeFault keys table.Top why = IsTopFault keys why
 IsShapeFault keys (table.Resource i) why = IsInArray IsResourceFault keys key.Resource i why
 IsShapeFault keys (table.Link i) why = IsInArray IsLinkFault keys key.Link i why
@@ -147,27 +147,27 @@ IsEntriesFault d _ = ⊥
 -- ---- All bytes
 
 -- This is wrong with a document.
-abbrev pub IsDocumentFault : Members → DeployPlace → Type 0
-IsDocumentFault keys (place.Shape t why) = IsShapeFault keys t why
+abbrev pub IsDocumentFault : Members → DeployLocation → Type 0
+IsDocumentFault keys (location.Shape t why) = IsShapeFault keys t why
 IsDocumentFault keys p = IsNumbersFault keys p
 
 -- This is wrong at the location.
-abbrev pub IsFaultAt : Text → DeployPlace → Type 0
-IsFaultAt bytes place.Bytes = most_bytes < length bytes
-IsFaultAt bytes (place.Document at) = (document bytes ≡ None) × (at ≤ length bytes)
+abbrev pub IsFaultAt : Text → DeployLocation → Type 0
+IsFaultAt bytes location.Bytes = most_bytes < length bytes
+IsFaultAt bytes (location.Document at) = (document bytes ≡ None) × (at ≤ length bytes)
 IsFaultAt bytes p = (keys : Members) × (document bytes ≡ Some keys) × IsDocumentFault keys p
 
 -- the number of the refusal
-abbrev pub number_of : DeployPlace → ℕ
-number_of place.Bytes = over_limit
-number_of (place.Document at) = no_document
-number_of (place.Shape t why) = bad_shape
-number_of (place.Latency k e) = bad_latency
-number_of (place.NoEntry k) = bad_table
-number_of (place.Entry k e) = bad_table
-number_of place.Resources = over_limit
-number_of place.Links = over_limit
-number_of (place.Entries k) = over_limit
+abbrev pub number_of : DeployLocation → ℕ
+number_of location.Bytes = over_limit
+number_of (location.Document at) = no_document
+number_of (location.Shape t why) = bad_shape
+number_of (location.Latency k e) = bad_latency
+number_of (location.NoEntry k) = bad_table
+number_of (location.Entry k e) = bad_table
+number_of location.Resources = over_limit
+number_of location.Links = over_limit
+number_of (location.Entries k) = over_limit
 
 -- The bytes are a document of the right shape.
 abbrev pub IsShaped : Text → Type 0

@@ -6,10 +6,10 @@ ghost use Rattle.fb_read.specs.Front as spec;
 ghost use Rattle.fb_read.specs.Front.{bad_byte, bad_token};
 ghost use Rattle.fb_read.specs.Whole.{HasTokenFault, HasTokens, IsDerived, IsLibraryText};
 ghost use Rattle.fb_why_bytes.specs.Faults.{AppliesAt, IsByteAt, IsFaultyTokenAt, IsNestingAt, IsSyntaxAt};
-ghost use Rattle.fb_why_bytes.specs.Places.{IsPlace};
+ghost use Rattle.fb_why_bytes.specs.Locations.{IsLocation};
 ghost use Rattle.fb_why_bytes.specs.TextVerdicts.{IsNoLibrary};
 
-use crate::text_places::TextPlace;
+use crate::text_locations::TextLocation;
 use crate::text_verdict::{TextVerdict, verdict_on};
 use fb_read::ReadError;
 use fb_types::MOST_BYTES;
@@ -36,17 +36,17 @@ fn has_tokens(alloc: Global, text: &[u8], end: usize) -> Result<bool, AllocError
 }
 
 /// Whether the location has a byte that may occur only in comments.
-fn is_byte(alloc: Global, text: &[u8], place: TextPlace) -> Result<bool, AllocError>
-    requires { IsPlace text.now place }
-    ensures { IfOk result (λ b. IsTrue b → IsByteAt text.now place) }
+fn is_byte(alloc: Global, text: &[u8], location: TextLocation) -> Result<bool, AllocError>
+    requires { IsLocation text.now location }
+    ensures { IfOk result (λ b. IsTrue b → IsByteAt text.now location) }
 {
-    if place.end - place.start != 1 || is_plain(text[place.start]) {
+    if location.end - location.start != 1 || is_plain(text[location.start]) {
         return Ok(false);
     }
-    if !has_tokens(alloc, text, place.start)? {
+    if !has_tokens(alloc, text, location.start)? {
         return Ok(false);
     }
-    match verdict_on(alloc, &text[..place.end])? {
+    match verdict_on(alloc, &text[..location.end])? {
         TextVerdict::Byte => Ok(true),
         _ => Ok(false),
     }
@@ -63,17 +63,17 @@ fn is_faulty(alloc: Global, text: &[u8]) -> Result<bool, AllocError>
 }
 
 /// Whether the location has a faulty token.
-fn is_faulty_token(alloc: Global, text: &[u8], place: TextPlace) -> Result<bool, AllocError>
-    requires { IsPlace text.now place }
-    ensures { IfOk result (λ b. IsTrue b → IsFaultyTokenAt text.now place) }
+fn is_faulty_token(alloc: Global, text: &[u8], location: TextLocation) -> Result<bool, AllocError>
+    requires { IsLocation text.now location }
+    ensures { IfOk result (λ b. IsTrue b → IsFaultyTokenAt text.now location) }
 {
-    if !has_tokens(alloc, text, place.start)? {
+    if !has_tokens(alloc, text, location.start)? {
         return Ok(false);
     }
-    if !is_faulty(alloc, &text[place.start..place.end])? {
+    if !is_faulty(alloc, &text[location.start..location.end])? {
         return Ok(false);
     }
-    is_faulty(alloc, &text[..place.end])
+    is_faulty(alloc, &text[..location.end])
 }
 
 /// Whether the text declares no library, regardless of its nesting.
@@ -97,17 +97,22 @@ fn is_syntax_fault(alloc: Global, text: &[u8], line: u32) -> Result<bool, AllocE
 }
 
 /// Whether the text is refused for its syntax in this line, and at the location.
-fn is_syntax(alloc: Global, text: &[u8], line: u32, place: TextPlace) -> Result<bool, AllocError>
-    requires { IsPlace text.now place }
-    ensures { IfOk result (λ b. IsTrue b → IsSyntaxAt text.now line place) }
+fn is_syntax(
+    alloc: Global,
+    text: &[u8],
+    line: u32,
+    location: TextLocation,
+) -> Result<bool, AllocError>
+    requires { IsLocation text.now location }
+    ensures { IfOk result (λ b. IsTrue b → IsSyntaxAt text.now line location) }
 {
-    if place.line != line as usize || !has_tokens(alloc, text, place.start)? {
+    if location.line != line as usize || !has_tokens(alloc, text, location.start)? {
         return Ok(false);
     }
     if !is_syntax_fault(alloc, text, line)? {
         return Ok(false);
     }
-    is_underivable(alloc, &text[..place.end])
+    is_underivable(alloc, &text[..location.end])
 }
 
 /// Whether a text is refused for its nesting.
@@ -121,17 +126,17 @@ fn is_too_deep(alloc: Global, text: &[u8]) -> Result<bool, AllocError>
 }
 
 /// Whether the text is refused for its nesting, and at the location.
-fn is_nesting(alloc: Global, text: &[u8], place: TextPlace) -> Result<bool, AllocError>
-    requires { IsPlace text.now place }
-    ensures { IfOk result (λ b. IsTrue b → IsNestingAt text.now place) }
+fn is_nesting(alloc: Global, text: &[u8], location: TextLocation) -> Result<bool, AllocError>
+    requires { IsLocation text.now location }
+    ensures { IfOk result (λ b. IsTrue b → IsNestingAt text.now location) }
 {
-    if !has_tokens(alloc, text, place.start)? {
+    if !has_tokens(alloc, text, location.start)? {
         return Ok(false);
     }
     if !is_too_deep(alloc, text)? {
         return Ok(false);
     }
-    is_too_deep(alloc, &text[..place.end])
+    is_too_deep(alloc, &text[..location.end])
 }
 
 /// Whether the refusal applies at the location.
@@ -139,17 +144,17 @@ pub fn applies(
     alloc: Global,
     text: &[u8],
     fault: &ReadError,
-    place: TextPlace,
+    location: TextLocation,
 ) -> Result<bool, AllocError>
-    requires { IsPlace text.now place }
-    ensures { IfOk result (λ b. IsTrue b → AppliesAt text.now fault.now place) }
+    requires { IsLocation text.now location }
+    ensures { IfOk result (λ b. IsTrue b → AppliesAt text.now fault.now location) }
 {
     match fault {
         ReadError::Memory => Ok(false),
-        ReadError::TooLong => Ok(text.len() > MOST_BYTES && place.start == MOST_BYTES),
-        ReadError::Byte => is_byte(alloc, text, place),
-        ReadError::Token => is_faulty_token(alloc, text, place),
-        ReadError::Syntax { line } => is_syntax(alloc, text, *line, place),
-        ReadError::Nesting => is_nesting(alloc, text, place),
+        ReadError::TooLong => Ok(text.len() > MOST_BYTES && location.start == MOST_BYTES),
+        ReadError::Byte => is_byte(alloc, text, location),
+        ReadError::Token => is_faulty_token(alloc, text, location),
+        ReadError::Syntax { line } => is_syntax(alloc, text, *line, location),
+        ReadError::Nesting => is_nesting(alloc, text, location),
     }
 }

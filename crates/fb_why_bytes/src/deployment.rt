@@ -5,21 +5,21 @@ ghost use Rattle.toml.specs.View.{table_view};
 ghost use Rattle.fb_inputs.specs.Documents.{draft};
 ghost use Rattle.fb_why_bytes.specs.Tables.{IsDocumentFault, IsFaultAt, IsShaped};
 
-use crate::numbers::numbers_place;
-use crate::place::DeployPlace;
+use crate::location::DeployLocation;
+use crate::numbers::numbers_location;
 use crate::table::shape_fault;
 use fb_types::MOST_BYTES;
 use std::alloc::{AllocError, Global};
 use toml::Table;
 
 /// What is wrong with a document, if anything is.
-fn document_place(alloc: Global, keys: &Table) -> Result<Option<DeployPlace>, AllocError>
+fn document_location(alloc: Global, keys: &Table) -> Result<Option<DeployLocation>, AllocError>
     ensures { IfOk result (λ o. MatchOption o (is_some (draft (table_view keys.now)) ≡ true) (IsDocumentFault (table_view keys.now))) }
 {
     let shape = shape_fault(alloc, keys)?;
     match shape {
-        Some((table, fault)) => Ok(Some(DeployPlace::Shape { table, fault })),
-        None => numbers_place(alloc, keys),
+        Some((table, fault)) => Ok(Some(DeployLocation::Shape { table, fault })),
+        None => numbers_location(alloc, keys),
     }
 }
 
@@ -29,16 +29,19 @@ fn document_place(alloc: Global, keys: &Table) -> Result<Option<DeployPlace>, Al
 /// # Errors
 ///
 /// When memory runs out.
-pub fn deployment_place(alloc: Global, bytes: &[u8]) -> Result<Option<DeployPlace>, AllocError>
+pub fn deployment_location(
+    alloc: Global,
+    bytes: &[u8],
+) -> Result<Option<DeployLocation>, AllocError>
     ensures { IfOk result (λ o. MatchOption o (IsShaped bytes.now) (IsFaultAt bytes.now)) }
 {
     if bytes.len() > MOST_BYTES {
-        return Ok(Some(DeployPlace::Bytes));
+        return Ok(Some(DeployLocation::Bytes));
     }
     match toml::table_from_slice(alloc, bytes) {
-        Ok(keys) => document_place(alloc, &keys),
+        Ok(keys) => document_location(alloc, &keys),
         Err(error) => match error.span() {
-            Some(span) => Ok(Some(DeployPlace::Document(span.start))),
+            Some(span) => Ok(Some(DeployLocation::Document(span.start))),
             None => Err(AllocError),
         },
     }

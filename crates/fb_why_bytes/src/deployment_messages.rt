@@ -1,6 +1,6 @@
 //! The texts that say where a deployment is refused.
 
-use crate::place::{DeployKey, DeployPlace, TableFault, TablePlace};
+use crate::location::{DeployKey, DeployLocation, TableFault, TableLocation};
 use crate::table::{key_text, value_at};
 use crate::text::{ByteText, front};
 use std::alloc::{AllocError, Global};
@@ -10,24 +10,24 @@ use toml::Table;
 pub fn tell_deployment(
     alloc: Global,
     bytes: &[u8],
-    place: DeployPlace,
+    location: DeployLocation,
 ) -> Result<String, AllocError> {
     let mut text = ByteText::new(alloc);
-    push_deployment(alloc, &mut text, bytes, place);
+    push_deployment(alloc, &mut text, bytes, location);
     text.into_string()
 }
 
-fn push_deployment(alloc: Global, text: &mut ByteText, bytes: &[u8], place: DeployPlace) {
+fn push_deployment(alloc: Global, text: &mut ByteText, bytes: &[u8], location: DeployLocation) {
     text.words("deployment: ");
-    match place {
-        DeployPlace::Bytes => text.words("there are more than 1,048,576 bytes"),
-        DeployPlace::Document(at) => push_position(text, bytes, at),
-        DeployPlace::Shape { table, fault } => {
+    match location {
+        DeployLocation::Bytes => text.words("there are more than 1,048,576 bytes"),
+        DeployLocation::Document(at) => push_position(text, bytes, at),
+        DeployLocation::Shape { table, fault } => {
             push_table(text, table);
             push_fault(alloc, text, bytes, table, fault);
         }
-        DeployPlace::Latency { link, entry } => push_latency(alloc, text, bytes, link, entry),
-        _ => push_numbers(text, place),
+        DeployLocation::Latency { link, entry } => push_latency(alloc, text, bytes, link, entry),
+        _ => push_numbers(text, location),
     }
 }
 
@@ -47,11 +47,11 @@ fn push_position(text: &mut ByteText, bytes: &[u8], at: usize) {
     text.words("this is no TOML");
 }
 
-fn push_table(text: &mut ByteText, table: TablePlace) {
+fn push_table(text: &mut ByteText, table: TableLocation) {
     match table {
-        TablePlace::Top => {}
-        TablePlace::Resource(place) => text.placed("", place, " resource: "),
-        TablePlace::Link(place) => push_link(text, place),
+        TableLocation::Top => {}
+        TableLocation::Resource(location) => text.placed("", location, " resource: "),
+        TableLocation::Link(location) => push_link(text, location),
     }
 }
 
@@ -64,7 +64,7 @@ fn push_fault(
     alloc: Global,
     text: &mut ByteText,
     bytes: &[u8],
-    table: TablePlace,
+    table: TableLocation,
     fault: TableFault,
 ) {
     match fault {
@@ -80,9 +80,9 @@ fn push_fault(
             text.words(key_text(key));
             text.words(kind_of(key));
         }
-        TableFault::Element(key, place) => {
+        TableFault::Element(key, location) => {
             text.words(key_text(key));
-            text.placed(": the ", place, kind_of_element(key));
+            text.placed(": the ", location, kind_of_element(key));
         }
         TableFault::Empty => text.words("there is no resource"),
         TableFault::Both => text.words("there are both latency and latencies"),
@@ -110,11 +110,11 @@ fn kind_of_element(key: DeployKey) -> &'static str {
 }
 
 /// The keys that a table may have.
-fn known_keys(table: TablePlace) -> &'static [DeployKey] {
+fn known_keys(table: TableLocation) -> &'static [DeployKey] {
     match table {
-        TablePlace::Top => &[DeployKey::Resource, DeployKey::Link],
-        TablePlace::Resource(_) => &[DeployKey::Device, DeployKey::Name, DeployKey::Instances],
-        TablePlace::Link(_) => &[
+        TableLocation::Top => &[DeployKey::Resource, DeployKey::Link],
+        TableLocation::Resource(_) => &[DeployKey::Device, DeployKey::Name, DeployKey::Instances],
+        TableLocation::Link(_) => &[
             DeployKey::From,
             DeployKey::To,
             DeployKey::Latency,
@@ -124,7 +124,7 @@ fn known_keys(table: TablePlace) -> &'static [DeployKey] {
 }
 
 /// Adds the first unknown key of a table in a document.
-fn push_further(alloc: Global, text: &mut ByteText, bytes: &[u8], table: TablePlace) {
+fn push_further(alloc: Global, text: &mut ByteText, bytes: &[u8], table: TableLocation) {
     text.words("there is a further key");
     match toml::table_from_slice(alloc, bytes) {
         Ok(keys) => push_unknown(text, &keys, table),
@@ -133,7 +133,7 @@ fn push_further(alloc: Global, text: &mut ByteText, bytes: &[u8], table: TablePl
 }
 
 /// Adds the first unknown key of a table.
-fn push_unknown(text: &mut ByteText, keys: &Table, table: TablePlace) {
+fn push_unknown(text: &mut ByteText, keys: &Table, table: TableLocation) {
     let Some(keys) = table_at(keys, table) else {
         return;
     };
@@ -147,7 +147,7 @@ fn push_unknown(text: &mut ByteText, keys: &Table, table: TablePlace) {
 }
 
 /// Whether a table may have a key.
-fn is_known(table: TablePlace, key: &str) -> bool {
+fn is_known(table: TableLocation, key: &str) -> bool {
     for known in known_keys(table) {
         if key_text(*known) == key {
             return true;
@@ -157,13 +157,13 @@ fn is_known(table: TablePlace, key: &str) -> bool {
 }
 
 /// The table at a location.
-fn table_at(keys: &Table, table: TablePlace) -> Option<&Table> {
-    let (key, place) = match table {
-        TablePlace::Top => return Some(keys),
-        TablePlace::Resource(place) => (DeployKey::Resource, place),
-        TablePlace::Link(place) => (DeployKey::Link, place),
+fn table_at(keys: &Table, table: TableLocation) -> Option<&Table> {
+    let (key, location) = match table {
+        TableLocation::Top => return Some(keys),
+        TableLocation::Resource(location) => (DeployKey::Resource, location),
+        TableLocation::Link(location) => (DeployKey::Link, location),
     };
-    value_at(keys, key)?.as_array()?.get(place)?.as_table()
+    value_at(keys, key)?.as_array()?.get(location)?.as_table()
 }
 
 /// Adds the latency of an entry of a link.
@@ -187,24 +187,24 @@ fn push_latency_of(text: &mut ByteText, keys: &Table, link: usize, entry: usize)
 
 /// Whether a link has one latency, and no table.
 fn has_one_latency(keys: &Table, link: usize) -> bool {
-    match table_at(keys, TablePlace::Link(link)) {
+    match table_at(keys, TableLocation::Link(link)) {
         Some(keys) => value_at(keys, DeployKey::Latency).is_some(),
         None => false,
     }
 }
 
 /// What is wrong with the other numbers of a deployment.
-fn push_numbers(text: &mut ByteText, place: DeployPlace) {
-    match place {
-        DeployPlace::NoEntry { link } => {
+fn push_numbers(text: &mut ByteText, location: DeployLocation) {
+    match location {
+        DeployLocation::NoEntry { link } => {
             push_link(text, link);
             text.words("latencies has no entry");
         }
-        DeployPlace::Entry { link, entry: 0 } => {
+        DeployLocation::Entry { link, entry: 0 } => {
             push_link(text, link);
             text.words("the 1st entry is not at tick 0");
         }
-        DeployPlace::Entry { link, entry } => {
+        DeployLocation::Entry { link, entry } => {
             push_link(text, link);
             text.placed(
                 "the tick of the ",
@@ -212,9 +212,9 @@ fn push_numbers(text: &mut ByteText, place: DeployPlace) {
                 " entry is not later than that of the entry before it, or is over 1,000,000,000,000",
             );
         }
-        DeployPlace::Resources => text.words("there are more than 256 resources"),
-        DeployPlace::Links => text.words("there are more than 1,024 links"),
-        DeployPlace::Entries { link } => {
+        DeployLocation::Resources => text.words("there are more than 256 resources"),
+        DeployLocation::Links => text.words("there are more than 1,024 links"),
+        DeployLocation::Entries { link } => {
             push_link(text, link);
             text.words("there are more than 64 entries");
         }

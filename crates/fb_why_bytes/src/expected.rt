@@ -1,6 +1,6 @@
 //! Which tokens could be at the location of a syntax fault.
 
-use crate::text_places::line_feeds;
+use crate::text_locations::line_feeds;
 use crate::text_verdict::{TextVerdict, verdict_on};
 use std::alloc::{AllocError, Global};
 

@@ -5,7 +5,7 @@ ghost use Rattle.fb_why_bytes.specs.Faults.{TellsFault};
 
 use crate::applies::applies;
 use crate::scan::{Stretch, stretches};
-use crate::text_places::{TextPlace, line_feeds, place_at};
+use crate::text_locations::{TextLocation, line_feeds, location_at};
 use crate::text_verdict::{TextVerdict, verdict_on};
 use fb_read::ReadError;
 use fb_types::MOST_BYTES;
@@ -84,19 +84,19 @@ fn faulty_stretch(alloc: Global, text: &[u8], fault: &ReadError) -> Result<Stret
 /// # Errors
 ///
 /// When memory runs out.
-pub fn text_place(
+pub fn text_location(
     alloc: Global,
     text: &[u8],
     fault: &ReadError,
-) -> Result<Option<TextPlace>, AllocError>
-    ensures { IfOk result (λ o. IfSome o (λ place. TellsFault text.now fault.now place)) }
+) -> Result<Option<TextLocation>, AllocError>
+    ensures { IfOk result (λ o. IfSome o (λ location. TellsFault text.now fault.now location)) }
 {
     let Stretch { start, end } = faulty_stretch(alloc, text, fault)?;
-    let Some(place) = place_at(text, start, end) else {
+    let Some(location) = location_at(text, start, end) else {
         return Ok(None);
     };
-    if applies(alloc, text, fault, place)? {
-        Ok(Some(place))
+    if applies(alloc, text, fault, location)? {
+        Ok(Some(location))
     } else {
         Ok(None)
     }

@@ -1,13 +1,13 @@
 //! Finds where bytes are refused: the text of a declaration (E01 to E05), a deployment and stimuli (E10 to E16).
 //!
-//! Guarantees to callers: `text_place` returns a location in the text, with its line and column, at which the
-//! refusal applies. `stimuli_place` returns a location, with the number of the refusal, or `None` exactly if the
-//! stimuli are accepted. `deployment_place` returns a location at which something is wrong, and `None` only
+//! Guarantees to callers: `text_location` returns a location in the text, with its line and column, at which the
+//! refusal applies. `stimuli_location` returns a location, with the number of the refusal, or `None` exactly if the
+//! stimuli are accepted. `deployment_location` returns a location at which something is wrong, and `None` only
 //! if the shape of the deployment is right. The wording of the texts is not part of any contract.
 //!
-//! Read in this order: `text_places`; `text_verdict`, what the reader of declarations says of a text;
+//! Read in this order: `text_locations`; `text_verdict`, what the reader of declarations says of a text;
 //! `applies`, whether a refusal applies at a location; `scan` and `find`, which search it; `expected`
-//! and `text_messages`. Then `place`; `row_verdict`, which applies the reader of stimuli to a row or a word; `words`, `row`,
+//! and `text_messages`. Then `location`; `row_verdict`, which applies the reader of stimuli to a row or a word; `words`, `row`,
 //! `stimuli`; `names`, `table`, `numbers`, `deployment`; `text`, `stimuli_messages`, `deployment_messages`. All of this runs only
 //! after a refusal, and reads the text of a declaration some hundred times at most.
 #![tactic(auto)]
@@ -17,9 +17,9 @@ pub mod deployment;
 pub mod deployment_messages;
 mod expected;
 pub mod find;
+pub mod location;
 mod names;
 mod numbers;
-pub mod place;
 mod row;
 mod row_verdict;
 mod scan;
@@ -27,16 +27,18 @@ pub mod stimuli;
 pub mod stimuli_messages;
 mod table;
 mod text;
+pub mod text_locations;
 pub mod text_messages;
-pub mod text_places;
 mod text_verdict;
 mod words;
 
-pub use deployment::deployment_place;
+pub use deployment::deployment_location;
 pub use deployment_messages::tell_deployment;
-pub use find::text_place;
-pub use place::{DeployKey, DeployPlace, RowFault, StimuliPlace, TableFault, TablePlace};
-pub use stimuli::stimuli_place;
+pub use find::text_location;
+pub use location::{
+    DeployKey, DeployLocation, RowFault, StimuliLocation, TableFault, TableLocation,
+};
+pub use stimuli::stimuli_location;
 pub use stimuli_messages::tell_stimuli;
+pub use text_locations::{TextLocation, behind_mark, location_at};
 pub use text_messages::tell_text;
-pub use text_places::{TextPlace, behind_mark, place_at};

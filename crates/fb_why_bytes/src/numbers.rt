@@ -7,7 +7,7 @@ ghost use Rattle.fb_inputs.specs.Documents.{pair};
 ghost use Rattle.fb_inputs.specs.Lists.{each};
 ghost use Rattle.fb_why_bytes.specs.Numbers as spec;
 
-use crate::place::{DeployKey, DeployPlace};
+use crate::location::{DeployKey, DeployLocation};
 use crate::table::value_at;
 use fb_inputs::{is_after, is_latency};
 use fb_types::{MOST_ENTRIES, MOST_LINKS, MOST_RESOURCES};
@@ -115,9 +115,9 @@ fn latencies_of(alloc: Global, keys: &Table) -> Result<Option<Vec<WrittenEntry>>
 fn wrong_latency(table: &[WrittenEntry]) -> Option<usize>
     ensures { IfSome result (spec.IsLatencyWrong table.now) }
 {
-    for (place, entry) in table.iter().enumerate() {
+    for (location, entry) in table.iter().enumerate() {
         if !is_latency(entry.ticks) {
-            return Some(place);
+            return Some(location);
         }
     }
     None
@@ -134,49 +134,53 @@ fn is_behind(before: Option<&WrittenEntry>, entry: &WrittenEntry) -> bool
 }
 
 /// Whether the entry at an index, if there is one, is the first one and at tick 0, or later than the one before it.
-fn follows(table: &[WrittenEntry], place: usize) -> bool
-    ensures { result ≡ spec.follows table.now place }
+fn follows(table: &[WrittenEntry], location: usize) -> bool
+    ensures { result ≡ spec.follows table.now location }
 {
-    let Some(entry) = table.get(place) else {
+    let Some(entry) = table.get(location) else {
         return true;
     };
-    if place == 0 {
+    if location == 0 {
         return entry.start == 0;
     }
-    is_behind(table.get(place - 1), entry)
+    is_behind(table.get(location - 1), entry)
 }
 
 /// The first entry that does not follow the one before it.
 fn wrong_start(table: &[WrittenEntry]) -> Option<usize>
     ensures { IfSome result (λ k. spec.follows table.now k ≡ false) }
 {
-    for place in 0..table.len() {
-        if !follows(table, place) {
-            return Some(place);
+    for location in 0..table.len() {
+        if !follows(table, location) {
+            return Some(location);
         }
     }
     None
 }
 
 /// What is wrong with the table of a link, by the current check.
-fn table_place(judged: LinkJudgement, link: usize, table: &[WrittenEntry]) -> Option<DeployPlace>
-    ensures { IfSome result (spec.IsTablePlace link table.now) }
+fn table_location(
+    judged: LinkJudgement,
+    link: usize,
+    table: &[WrittenEntry],
+) -> Option<DeployLocation>
+    ensures { IfSome result (spec.IsTableLocation link table.now) }
 {
     match judged {
         LinkJudgement::Latencies => {
             let entry = wrong_latency(table)?;
-            Some(DeployPlace::Latency { link, entry })
+            Some(DeployLocation::Latency { link, entry })
         }
         LinkJudgement::Starts => {
             if table.is_empty() {
-                return Some(DeployPlace::NoEntry { link });
+                return Some(DeployLocation::NoEntry { link });
             }
             let entry = wrong_start(table)?;
-            Some(DeployPlace::Entry { link, entry })
+            Some(DeployLocation::Entry { link, entry })
         }
         LinkJudgement::Counts => {
             if table.len() > MOST_ENTRIES {
-                Some(DeployPlace::Entries { link })
+                Some(DeployLocation::Entries { link })
             } else {
                 None
             }
@@ -185,36 +189,36 @@ fn table_place(judged: LinkJudgement, link: usize, table: &[WrittenEntry]) -> Op
 }
 
 /// What is wrong with a link, by the current check.
-fn link_place(
+fn link_location(
     alloc: Global,
     judged: LinkJudgement,
     link: usize,
     value: &Value,
-) -> Result<Option<DeployPlace>, AllocError>
-    ensures { IfOk result (λ o. IfSome o (spec.IsLinkPlace link (view value.now))) }
+) -> Result<Option<DeployLocation>, AllocError>
+    ensures { IfOk result (λ o. IfSome o (spec.IsLinkLocation link (view value.now))) }
 {
     let Some(keys) = value.as_table() else {
         return Ok(None);
     };
     let entries = latencies_of(alloc, keys)?;
     match entries {
-        Some(table) => Ok(table_place(judged, link, table.as_slice())),
+        Some(table) => Ok(table_location(judged, link, table.as_slice())),
         None => Ok(None),
     }
 }
 
 /// What is wrong with the first link that is wrong, by the current check.
-fn links_place(
+fn links_location(
     alloc: Global,
     judged: LinkJudgement,
     values: &[Value],
-) -> Result<Option<DeployPlace>, AllocError>
+) -> Result<Option<DeployLocation>, AllocError>
     ensures { IfOk result (λ o. IfSome o (spec.IsAmongLinks values.now)) }
 {
     for (link, value) in values.iter().enumerate() {
-        let found = link_place(alloc, judged, link, value)?;
-        if let Some(place) = found {
-            return Ok(Some(place));
+        let found = link_location(alloc, judged, link, value)?;
+        if let Some(location) = found {
+            return Ok(Some(location));
         }
     }
     Ok(None)
@@ -234,39 +238,39 @@ fn count_at(keys: &Table, key: DeployKey) -> usize
 }
 
 /// What is wrong with the links of a document, by the current check.
-fn place_among_links(
+fn location_among_links(
     alloc: Global,
     judged: LinkJudgement,
     keys: &Table,
-) -> Result<Option<DeployPlace>, AllocError>
+) -> Result<Option<DeployLocation>, AllocError>
     ensures { IfOk result (λ o. IfSome o (spec.IsNumbersFault (table_view keys.now))) }
 {
     let Some(value) = value_at(keys, DeployKey::Link) else {
         return Ok(None);
     };
     match value.as_array() {
-        Some(values) => links_place(alloc, judged, values.as_slice()),
+        Some(values) => links_location(alloc, judged, values.as_slice()),
         None => Ok(None),
     }
 }
 
 /// What is wrong with the numbers of a document: latencies first, then tables, then counts.
-pub fn numbers_place(alloc: Global, keys: &Table) -> Result<Option<DeployPlace>, AllocError>
+pub fn numbers_location(alloc: Global, keys: &Table) -> Result<Option<DeployLocation>, AllocError>
     ensures { IfOk result (λ o. IfSome o (spec.IsNumbersFault (table_view keys.now))) }
 {
-    let latency = place_among_links(alloc, LinkJudgement::Latencies, keys)?;
+    let latency = location_among_links(alloc, LinkJudgement::Latencies, keys)?;
     if latency.is_some() {
         return Ok(latency);
     }
-    let start = place_among_links(alloc, LinkJudgement::Starts, keys)?;
+    let start = location_among_links(alloc, LinkJudgement::Starts, keys)?;
     if start.is_some() {
         return Ok(start);
     }
     if count_at(keys, DeployKey::Resource) > MOST_RESOURCES {
-        return Ok(Some(DeployPlace::Resources));
+        return Ok(Some(DeployLocation::Resources));
     }
     if count_at(keys, DeployKey::Link) > MOST_LINKS {
-        return Ok(Some(DeployPlace::Links));
+        return Ok(Some(DeployLocation::Links));
     }
-    place_among_links(alloc, LinkJudgement::Counts, keys)
+    location_among_links(alloc, LinkJudgement::Counts, keys)
 }

@@ -7,7 +7,7 @@ ghost use Rattle.fb_inputs.specs.Stimuli.{most_rows};
 ghost use Rattle.fb_why_bytes.specs.RowParts as spec;
 ghost use Rattle.fb_why_bytes.specs.RowVerdicts.{IsFine, IsRefusedFor, IsShapeFault, IsNumberFault};
 
-use crate::place::RowFault;
+use crate::location::RowFault;
 use crate::row_verdict::{RowVerdict, has_numbers, has_shape, is_taken, judge_row};
 use crate::words::words_of;
 use fb_types::MOST_STIMULI;
@@ -52,9 +52,9 @@ fn wrong_word(alloc: Global, words: &[&[u8]], valued: bool) -> Result<Option<usi
     requires { All (λ w. spec.IsSingle w.now) words.now }
     ensures { IfOk result (λ o. MatchOption o (list_all (λ w. spec.is_right valued w.now) words.now ≡ true) (spec.FailsAt (spec.is_right valued) words.now)) }
 {
-    for (place, word) in words.iter().enumerate() {
+    for (location, word) in words.iter().enumerate() {
         if !is_right(alloc, word, valued)? {
-            return Ok(Some(place));
+            return Ok(Some(location));
         }
     }
     Ok(None)
@@ -71,7 +71,7 @@ fn shape_fault(alloc: Global, event: &[u8], values: &[u8]) -> Result<Option<RowF
     let words = words_of(alloc, values)?;
     let found = wrong_word(alloc, words.as_slice(), false)?;
     match found {
-        Some(place) => Ok(Some(RowFault::Word(place))),
+        Some(location) => Ok(Some(RowFault::Word(location))),
         None => Ok(None),
     }
 }
@@ -87,7 +87,7 @@ fn number_fault(alloc: Global, tick: &[u8], values: &[u8]) -> Result<Option<RowF
     let words = words_of(alloc, values)?;
     let found = wrong_word(alloc, words.as_slice(), true)?;
     match found {
-        Some(place) => Ok(Some(RowFault::Value(place))),
+        Some(location) => Ok(Some(RowFault::Value(location))),
         None => Ok(None),
     }
 }

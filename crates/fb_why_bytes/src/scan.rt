@@ -2,7 +2,7 @@
 
 ghost use Rattle.std.specs.Prelude.{◌+◌, ◌≤◌, ◌<◌, length};
 
-use crate::text_places::behind_mark;
+use crate::text_locations::behind_mark;
 use std::alloc::{AllocError, Global};
 
 /// The bytes from one offset up to another.

@@ -7,7 +7,7 @@ ghost use Rattle.fb_inputs.specs.Words.{Text};
 ghost use Rattle.fb_why_bytes.specs.Rows.{AreTaken, IsRefusedAt, Stands};
 ghost use Rattle.fb_why_bytes.specs.RowVerdicts.{IsFine, IsJudged, IsRefusedFor};
 
-use crate::place::{RowFault, StimuliPlace};
+use crate::location::{RowFault, StimuliLocation};
 use crate::row::row_fault;
 use csv::{ByteRecord, ByteRecordsIntoIter, Error};
 use fb_inputs::{InputError, columns, rows_after_heading};
@@ -44,17 +44,17 @@ fn fault_of(
 }
 
 /// The first wrong record after the heading, and what is wrong with it.
-fn row_place(
+fn row_location(
     alloc: Global,
     rows: &mut ByteRecordsIntoIter<&[u8]>,
-) -> Result<Option<StimuliPlace>, AllocError>
+) -> Result<Option<StimuliLocation>, AllocError>
     requires { (bytes : Text) × Stands bytes 0 rows.old }
     ensures { (bytes : Text) → Stands bytes 0 rows.old → IfOk result (λ o. MatchOption o (AreTaken bytes) (IsRefusedAt bytes)) }
 {
     let mut row = 0;
     for next in rows {
         if let Some(fault) = fault_of(alloc, row, next)? {
-            return Ok(Some(StimuliPlace::Row { row, fault }));
+            return Ok(Some(StimuliLocation::Row { row, fault }));
         }
         row += 1;
     }
@@ -62,22 +62,22 @@ fn row_place(
 }
 
 /// Where stimuli in CSV are refused, or `None` if they are accepted.
-pub fn stimuli_place(alloc: Global, bytes: &[u8]) -> Result<Option<StimuliPlace>, AllocError>
+pub fn stimuli_location(alloc: Global, bytes: &[u8]) -> Result<Option<StimuliLocation>, AllocError>
     ensures { IfOk result (λ o. MatchOption o (AreTaken bytes.now) (IsRefusedAt bytes.now)) }
 {
     if bytes.len() > MOST_STIMULI_BYTES {
-        return Ok(Some(StimuliPlace::Bytes));
+        return Ok(Some(StimuliLocation::Bytes));
     }
     let opened = match rows_after_heading(alloc, bytes) {
         Ok(opened) => opened,
-        Err(InputError::Row) => return Ok(Some(StimuliPlace::Heading)),
+        Err(InputError::Row) => return Ok(Some(StimuliLocation::Heading)),
         Err(_) => return Err(AllocError),
     };
     let Some(mut rows) = opened else {
         return Ok(None);
     };
-    let place = row_place(alloc, &mut rows);
+    let location = row_location(alloc, &mut rows);
     // Drops with one call. The exit would drop each part of the reader.
     drop(rows);
-    place
+    location
 }

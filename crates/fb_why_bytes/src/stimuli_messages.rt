@@ -1,6 +1,6 @@
 //! The texts that say where stimuli are refused.
 
-use crate::place::{RowFault, StimuliPlace};
+use crate::location::{RowFault, StimuliLocation};
 use crate::text::ByteText;
 use crate::words::words_of;
 use csv::{ByteRecord, Error};
@@ -11,19 +11,19 @@ use std::alloc::{AllocError, Global};
 pub fn tell_stimuli(
     alloc: Global,
     bytes: &[u8],
-    place: StimuliPlace,
+    location: StimuliLocation,
 ) -> Result<String, AllocError> {
     let mut text = ByteText::new(alloc);
-    push_stimuli(alloc, &mut text, bytes, place);
+    push_stimuli(alloc, &mut text, bytes, location);
     text.into_string()
 }
 
-fn push_stimuli(alloc: Global, text: &mut ByteText, bytes: &[u8], place: StimuliPlace) {
+fn push_stimuli(alloc: Global, text: &mut ByteText, bytes: &[u8], location: StimuliLocation) {
     text.words("stimuli: ");
-    match place {
-        StimuliPlace::Bytes => text.words("there are more than 16,777,216 bytes"),
-        StimuliPlace::Heading => text.words("the first record is not tick,event,values"),
-        StimuliPlace::Row { row, fault } => {
+    match location {
+        StimuliLocation::Bytes => text.words("there are more than 16,777,216 bytes"),
+        StimuliLocation::Heading => text.words("the first record is not tick,event,values"),
+        StimuliLocation::Row { row, fault } => {
             text.placed("", row, " row after the heading: ");
             push_row(alloc, text, bytes, row, fault);
         }
@@ -31,14 +31,14 @@ fn push_stimuli(alloc: Global, text: &mut ByteText, bytes: &[u8], place: Stimuli
 }
 
 /// The record of the row at a location, if it is there.
-fn row_at(alloc: Global, bytes: &[u8], place: usize) -> Option<Result<ByteRecord, Error>> {
+fn row_at(alloc: Global, bytes: &[u8], location: usize) -> Option<Result<ByteRecord, Error>> {
     let mut rows = records_of(alloc, bytes);
-    rows.nth(place.saturating_add(1))
+    rows.nth(location.saturating_add(1))
 }
 
 /// Adds what is wrong with the row at a location. There is no text if the row was not read because memory ran out.
-fn push_row(alloc: Global, text: &mut ByteText, bytes: &[u8], place: usize, fault: RowFault) {
-    match row_at(alloc, bytes, place) {
+fn push_row(alloc: Global, text: &mut ByteText, bytes: &[u8], location: usize, fault: RowFault) {
+    match row_at(alloc, bytes, location) {
         Some(Ok(row)) => push_fault(alloc, text, &row, fault),
         Some(Err(_)) => text.give_up(),
         None => {}
@@ -49,13 +49,13 @@ fn push_fault(alloc: Global, text: &mut ByteText, row: &ByteRecord, fault: RowFa
     match fault {
         RowFault::Fields => text.numbered("", row.len(), " instead of 3 fields"),
         RowFault::Event => push_field(text, "the event ", row.get(1), " is not INSTANCE.EVENT"),
-        RowFault::Word(place) => push_word(alloc, text, row, place, " is not NAME=VALUE"),
+        RowFault::Word(location) => push_word(alloc, text, row, location, " is not NAME=VALUE"),
         RowFault::Tick => push_field(text, "the tick ", row.get(0), " is not a number"),
-        RowFault::Value(place) => push_word(
+        RowFault::Value(location) => push_word(
             alloc,
             text,
             row,
-            place,
+            location,
             ": its value is neither a number nor TRUE or FALSE",
         ),
         RowFault::Late => push_field(text, "the tick ", row.get(0), " is over 1,000,000,000,000"),
@@ -64,10 +64,10 @@ fn push_fault(alloc: Global, text: &mut ByteText, row: &ByteRecord, fault: RowFa
 }
 
 /// Adds a word of the last field, with what is wrong with it.
-fn push_word(alloc: Global, text: &mut ByteText, row: &ByteRecord, place: usize, after: &str) {
+fn push_word(alloc: Global, text: &mut ByteText, row: &ByteRecord, location: usize, after: &str) {
     let values = row.get(2).unwrap_or(&[]);
     match words_of(alloc, values) {
-        Ok(words) => push_field(text, "the word ", words.get(place).copied(), after),
+        Ok(words) => push_field(text, "the word ", words.get(location).copied(), after),
         Err(_) => text.give_up(),
     }
 }

@@ -8,9 +8,9 @@ ghost use Rattle.fb_inputs.specs.Documents as inputs;
 ghost use Rattle.fb_why_bytes.specs.Keys as wanted;
 ghost use Rattle.fb_why_bytes.specs.Tables as spec;
 
+use crate::location::{DeployKey, TableFault, TableLocation};
 use crate::names::{are_one_name, is_name};
 use crate::numbers::entry_of;
-use crate::place::{DeployKey, TableFault, TablePlace};
 use std::alloc::{AllocError, Global};
 use toml::{Table, Value};
 
@@ -74,9 +74,9 @@ fn name_fault(alloc: Global, keys: &Table, key: DeployKey) -> Result<Option<Tabl
 fn no_name(alloc: Global, values: &[Value]) -> Result<Option<usize>, AllocError>
     ensures { IfOk result (λ o. MatchOption o (list_all (λ v. is_some (inputs.name_of (view v))) values.now ≡ true) (spec.FailsAt (λ d. is_some (inputs.name_of d)) values.now)) }
 {
-    for (place, value) in values.iter().enumerate() {
+    for (location, value) in values.iter().enumerate() {
         if !is_name_value(alloc, value)? {
-            return Ok(Some(place));
+            return Ok(Some(location));
         }
     }
     Ok(None)
@@ -94,9 +94,9 @@ fn is_pair(value: &Value) -> bool
 fn no_pair(values: &[Value]) -> Option<usize>
     ensures { MatchOption result (list_all (λ v. is_some (inputs.pair (view v))) values.now ≡ true) (spec.FailsAt (λ d. is_some (inputs.pair d)) values.now) }
 {
-    for (place, value) in values.iter().enumerate() {
+    for (location, value) in values.iter().enumerate() {
         if !is_pair(value) {
-            return Some(place);
+            return Some(location);
         }
     }
     None
@@ -114,7 +114,7 @@ fn instances_fault(alloc: Global, keys: &Table) -> Result<Option<TableFault>, Al
     };
     let found = no_name(alloc, values.as_slice())?;
     match found {
-        Some(place) => Ok(Some(TableFault::Element(DeployKey::Instances, place))),
+        Some(location) => Ok(Some(TableFault::Element(DeployKey::Instances, location))),
         None => Ok(None),
     }
 }
@@ -146,7 +146,7 @@ fn entries_fault(value: &Value) -> Option<TableFault>
         return Some(TableFault::Wrong(DeployKey::Latencies));
     };
     match no_pair(values.as_slice()) {
-        Some(place) => Some(TableFault::Element(DeployKey::Latencies, place)),
+        Some(location) => Some(TableFault::Element(DeployKey::Latencies, location)),
         None => None,
     }
 }
@@ -236,44 +236,47 @@ fn tables_fault(
 ) -> Result<Option<(usize, TableFault)>, AllocError>
     ensures { IfOk result (λ o. MatchOption o (list_all (λ v. spec.is_entry are_links (view v)) values.now ≡ true) (spec.IsFaultAmong (spec.IsEntryFault are_links) values.now)) }
 {
-    for (place, value) in values.iter().enumerate() {
+    for (location, value) in values.iter().enumerate() {
         if let Some(fault) = table_fault(alloc, value, are_links)? {
-            return Ok(Some((place, fault)));
+            return Ok(Some((location, fault)));
         }
     }
     Ok(None)
 }
 
 /// What is wrong with the resources of a document.
-fn resources_at(alloc: Global, keys: &Table) -> Result<Option<(TablePlace, TableFault)>, AllocError>
+fn resources_at(
+    alloc: Global,
+    keys: &Table,
+) -> Result<Option<(TableLocation, TableFault)>, AllocError>
     ensures { IfOk result (λ o. MatchOption o (is_some (inputs.read_at (inputs.array_of inputs.resource) (codes "resource") (table_view keys.now)) ≡ true) (λ r. spec.IsShapeFault (table_view keys.now) r.0 r.1)) }
 {
     let Some(value) = value_at(keys, DeployKey::Resource) else {
-        return Ok(Some((TablePlace::Top, TableFault::Missing(DeployKey::Resource))));
+        return Ok(Some((TableLocation::Top, TableFault::Missing(DeployKey::Resource))));
     };
     let Some(values) = value.as_array() else {
-        return Ok(Some((TablePlace::Top, TableFault::Wrong(DeployKey::Resource))));
+        return Ok(Some((TableLocation::Top, TableFault::Wrong(DeployKey::Resource))));
     };
     let found = tables_fault(alloc, values.as_slice(), false)?;
     match found {
-        Some((place, fault)) => Ok(Some((TablePlace::Resource(place), fault))),
+        Some((location, fault)) => Ok(Some((TableLocation::Resource(location), fault))),
         None => Ok(None),
     }
 }
 
 /// What is wrong with the links of a document, if any.
-fn links_at(alloc: Global, keys: &Table) -> Result<Option<(TablePlace, TableFault)>, AllocError>
+fn links_at(alloc: Global, keys: &Table) -> Result<Option<(TableLocation, TableFault)>, AllocError>
     ensures { IfOk result (λ o. MatchOption o (is_some (inputs.optional_array inputs.link (get_member (codes "link") (table_view keys.now))) ≡ true) (λ r. spec.IsShapeFault (table_view keys.now) r.0 r.1)) }
 {
     let Some(value) = value_at(keys, DeployKey::Link) else {
         return Ok(None);
     };
     let Some(values) = value.as_array() else {
-        return Ok(Some((TablePlace::Top, TableFault::Wrong(DeployKey::Link))));
+        return Ok(Some((TableLocation::Top, TableFault::Wrong(DeployKey::Link))));
     };
     let found = tables_fault(alloc, values.as_slice(), true)?;
     match found {
-        Some((place, fault)) => Ok(Some((TablePlace::Link(place), fault))),
+        Some((location, fault)) => Ok(Some((TableLocation::Link(location), fault))),
         None => Ok(None),
     }
 }
@@ -313,7 +316,7 @@ fn has_no_resource(keys: &Table) -> bool
 pub fn shape_fault(
     alloc: Global,
     keys: &Table,
-) -> Result<Option<(TablePlace, TableFault)>, AllocError>
+) -> Result<Option<(TableLocation, TableFault)>, AllocError>
     ensures { IfOk result (λ o. MatchOption o (is_some (inputs.draft (table_view keys.now)) ≡ true) (λ r. spec.IsShapeFault (table_view keys.now) r.0 r.1)) }
 {
     if let Some(fault) = resources_at(alloc, keys)? {
@@ -323,10 +326,10 @@ pub fn shape_fault(
         return Ok(Some(fault));
     }
     if !has_known_keys(keys) {
-        return Ok(Some((TablePlace::Top, TableFault::Further)));
+        return Ok(Some((TableLocation::Top, TableFault::Further)));
     }
     if has_no_resource(keys) {
-        return Ok(Some((TablePlace::Top, TableFault::Empty)));
+        return Ok(Some((TableLocation::Top, TableFault::Empty)));
     }
     Ok(None)
 }

@@ -6,8 +6,8 @@ use std::alloc::{AllocError, Global};
 const MOST_SHOWN: usize = 60;
 
 /// The ending of an ordinal number, as in 1st.
-fn ending(place: usize) -> &'static str {
-    match (place % 10, place % 100) {
+fn ending(location: usize) -> &'static str {
+    match (location % 10, location % 100) {
         (_, 11..=13) => "th",
         (1, _) => "st",
         (2, _) => "nd",
@@ -87,8 +87,8 @@ impl ByteText {
     }
 
     /// Appends an index between words. It is counted from 0, and shown as 1st for 0.
-    pub fn placed(&mut self, before: &str, place: usize, after: &str) {
-        let counted = place.saturating_add(1);
+    pub fn placed(&mut self, before: &str, location: usize, after: &str) {
+        let counted = location.saturating_add(1);
         self.numbered(before, counted, ending(counted));
         self.words(after);
     }

@@ -2,7 +2,7 @@
 
 use crate::expected::expected;
 use crate::text::{ByteText, front};
-use crate::text_places::TextPlace;
+use crate::text_locations::TextLocation;
 use fb_read::ReadError;
 use fb_types::MOST_BYTES;
 use std::alloc::{AllocError, Global};
@@ -15,10 +15,10 @@ pub fn tell_text(
     alloc: Global,
     text: &[u8],
     fault: &ReadError,
-    place: TextPlace,
+    location: TextLocation,
 ) -> Result<String, AllocError> {
     let mut message = ByteText::new(alloc);
-    push_fault(alloc, &mut message, text, fault, place);
+    push_fault(alloc, &mut message, text, fault, location);
     message.into_string()
 }
 
@@ -27,14 +27,14 @@ fn push_fault(
     message: &mut ByteText,
     text: &[u8],
     fault: &ReadError,
-    place: TextPlace,
+    location: TextLocation,
 ) {
-    let TextPlace {
+    let TextLocation {
         start,
         end,
         line,
         column,
-    } = place;
+    } = location;
     message.position(line, column);
     let before = text.get(..start).unwrap_or(text);
     let here = token(text.get(start..end).unwrap_or(&[]));

@@ -17,18 +17,18 @@ use Rattle.fb_types.specs.declared.library.BlockType.TheVariants as block
 use Rattle.fb_types.specs.declared.library.Library.{Library}
 use Rattle.fb_types.specs.declared.library.Variable.{Variable}
 use Rattle.fb_types.proofs.ListTests.{fails_from}
-use Rattle.fb_types.proofs.ByPlace.{element_of_place}
+use Rattle.fb_types.proofs.ByIndex.{element_of_index}
 use Rattle.fb_types.proofs.Elements.{Contains-flat_map, Contains-nil, Contains-here, Contains-there}
 use Rattle.fb_check_types.specs.Checks.{algorithm_right, chart_right, in_place, is_guard_right, is_right_block}
 use Rattle.fb_check_types.proofs.Checks.{chart_right_met, wrong_answer}
-use Rattle.fb_why_kinds.specs.declared.place.Misfit.{Misfit}
-use Rattle.fb_why_kinds.specs.declared.place.Misfit.TheVariants as misfit
-use Rattle.fb_why_kinds.specs.declared.place.Misjoin.{Misjoin}
-use Rattle.fb_why_kinds.specs.declared.place.StatementPart.{StatementPart}
-use Rattle.fb_why_kinds.specs.declared.place.Site.{Site}
-use Rattle.fb_why_kinds.specs.declared.place.Site.TheVariants.{Application, Inside}
-use Rattle.fb_why_kinds.specs.declared.place.Variables.{Variables}
-use Rattle.fb_why_kinds.specs.declared.place.Variables.TheVariants.{Inputs, Outputs, Internals}
+use Rattle.fb_why_kinds.specs.declared.location.Misfit.{Misfit}
+use Rattle.fb_why_kinds.specs.declared.location.Misfit.TheVariants as misfit
+use Rattle.fb_why_kinds.specs.declared.location.Misjoin.{Misjoin}
+use Rattle.fb_why_kinds.specs.declared.location.StatementPart.{StatementPart}
+use Rattle.fb_why_kinds.specs.declared.location.Site.{Site}
+use Rattle.fb_why_kinds.specs.declared.location.Site.TheVariants.{Application, Inside}
+use Rattle.fb_why_kinds.specs.declared.location.Variables.{Variables}
+use Rattle.fb_why_kinds.specs.declared.location.Variables.TheVariants.{Inputs, Outputs, Internals}
 use Rattle.fb_why_kinds.specs.Misfits.{IsGuardMisfit, IsInitialMisfit, IsMisfitAt, IsParameterMisfit, IsStatementMisfit}
 use Rattle.fb_why_kinds.specs.Misjoins.{IsMisjoinedAt}
 use Rattle.fb_why_kinds.specs.Sites.{basic_at, basic_inside, network_at, network_inside, variables_at}
@@ -54,7 +54,7 @@ site_network lib (Inside k) n h =
       | None ↦ λ e h. absurd (cc)
       | Some t ↦ λ e h.
           Contains-there here (flat_map networks_in lib.blocks) n
-          (Contains-flat_map networks_in lib.blocks t n (element_of_place lib.blocks k t e) (inside_networks t n h))
+          (Contains-flat_map networks_in lib.blocks t n (element_of_index lib.blocks k t e) (inside_networks t n h))
     ] refl h
 
 basic_block : (t : BlockType) (b : BasicType) → basic_inside t ≡ Some b → t ≡ block.Basic b
@@ -65,7 +65,7 @@ basic_among : (lib : Library) (k : ℕ) (b : BasicType) → basic_at lib k ≡ S
 basic_among lib k b h =
     elim (slice_get lib.blocks k) as (λ o. slice_get lib.blocks k ≡ o → option_and_then basic_inside o ≡ Some b → Contains lib.blocks (block.Basic b)) [
       | None ↦ λ e h. absurd (cc)
-      | Some t ↦ λ e h. element_of_place lib.blocks k (block.Basic b) (e ∙ ap (λ (t : BlockType). Some t) (basic_block t b h))
+      | Some t ↦ λ e h. element_of_index lib.blocks k (block.Basic b) (e ∙ ap (λ (t : BlockType). Some t) (basic_block t b h))
     ] refl h
 
 -- ---- Data connections
@@ -77,7 +77,7 @@ misjoin_applies lib p m = (
   m.source,
   m.target,
   site_network lib p.site m.network m.network_is,
-  element_of_place m.network.1.data_connections p.connection m.stands m.found,
+  element_of_index m.network.1.data_connections p.connection m.stands m.found,
   m.from,
   m.to,
   m.out,
@@ -112,15 +112,15 @@ initial_applies lib b l k m =
     inr (inl (
       m.in_type,
       m.stands,
-      element_of_place lib.blocks b m.in_type m.at,
-      variable_among l m.in_type m.stands (element_of_place (variables_at l m.in_type) k m.stands m.found),
+      element_of_index lib.blocks b m.in_type m.at,
+      variable_among l m.in_type m.stands (element_of_index (variables_at l m.in_type) k m.stands m.found),
       m.wrong,
     ))
 
 guard_applies : (lib : Library) (b k : ℕ) → IsGuardMisfit lib b k → KindWrong lib
 guard_applies lib b k m =
     let t = m.in_type in
-    let guards = fails_from (is_guard_right t) t.transitions m.stands (element_of_place t.transitions k m.stands m.found) m.wrong in
+    let guards = fails_from (is_guard_right t) t.transitions m.stands (element_of_index t.transitions k m.stands m.found) m.wrong in
     chart_wrong lib b t m.at
     (chart_right_met t ∙ and_left (list_all (is_guard_right t) t.transitions) (list_all (algorithm_right t) t.algorithms) guards)
 
@@ -130,8 +130,8 @@ statement_applies lib b a k o m =
     let ss = each_in_body false (body_of m.algorithm.body) in
     let body : algorithm_right t m.algorithm ≡ false =
     sym (body_each t false (body_of m.algorithm.body))
-    ∙ fails_from (stands_right t) ss m.stands (element_of_place ss k m.stands m.found) (part_fails (in_place t m.stands.0) m.stands.1 o m.wrong) in
-    let bodies = fails_from (algorithm_right t) t.algorithms m.algorithm (element_of_place t.algorithms a m.algorithm m.algorithm_is) body in
+    ∙ fails_from (stands_right t) ss m.stands (element_of_index ss k m.stands m.found) (part_fails (in_place t m.stands.0) m.stands.1 o m.wrong) in
+    let bodies = fails_from (algorithm_right t) t.algorithms m.algorithm (element_of_index t.algorithms a m.algorithm m.algorithm_is) body in
     chart_wrong lib b t m.at
     (chart_right_met t ∙ and_right (list_all (is_guard_right t) t.transitions) (list_all (algorithm_right t) t.algorithms) bodies)
 
@@ -140,12 +140,12 @@ statement_applies lib b a k o m =
 parameter_applies : (lib : Library) (s : Site) (i p : ℕ) → IsParameterMisfit lib s i p → KindWrong lib
 parameter_applies lib s i p m =
     let x = m.of_instance in
-    let wrong = fails_from (parameter_right (ports_of m.kind)) x.parameters m.stands (element_of_place x.parameters p m.stands m.found) m.wrong in
+    let wrong = fails_from (parameter_right (ports_of m.kind)) x.parameters m.stands (element_of_index x.parameters p m.stands m.found) m.wrong in
     inr (inr (
       m.network,
       x,
       site_network lib s m.network m.at,
-      element_of_place m.network.1.instances i x m.instance_is,
+      element_of_index m.network.1.instances i x m.instance_is,
       ap (λ (o : Option Kind). elim o as (λ _. Bool) [ None ↦ true | Some k ↦ list_all (parameter_right (ports_of k)) x.parameters ]) m.kind_is ∙ wrong,
     ))
 

@@ -4,14 +4,14 @@ use Rattle.std.specs.Prelude.{MatchOption, slice_get}
 use Rattle.std.specs.List.{list_all}
 use Rattle.std.proofs.lemmas.List.{at_drop_more}
 use Rattle.std.proofs.lemmas.List.Folds.{list_all-append}
-use Rattle.fb_types.specs.Kinds.{is_right, body_right, choices_right, branches_right, is_whole, is_condition, Place}
+use Rattle.fb_types.specs.Kinds.{is_right, body_right, choices_right, branches_right, is_whole, is_condition, Context}
 use Rattle.fb_types.specs.Syntax.{Stmt, Empty, Exit, Return, Assign, If, Case, For, While, Repeat, Stmts, no_stmt, then_stmts, Choices, no_choice, then_choices, Branches, no_branch, then_branches, body_of, expr_of}
 use Rattle.fb_types.specs.declared.library.Algorithm.{Algorithm}
 use Rattle.fb_types.specs.declared.library.BasicType.{BasicType}
 use Rattle.fb_types.specs.declared.text.Choice.{Choice, out-Choice}
 use Rattle.fb_check_types.specs.Checks.{algorithm_right, in_place}
 use Rattle.fb_check_types.specs.Trees.{choice_of, choices_of}
-use Rattle.fb_why_kinds.specs.declared.place.StatementPart.{StatementPart}
+use Rattle.fb_why_kinds.specs.declared.location.StatementPart.{StatementPart}
 use Rattle.fb_why_kinds.specs.declared.statements.Standing as code
 use Rattle.fb_check_types.proofs.Says.{choice_says}
 use Rattle.fb_why_kinds.specs.Statements.{Standing, WrongAmong, all_standing, standing_of, choice_right, conditions_right, each_in_body, each_in_branches, each_in_choices, each_inside, own_right, stands_right}
@@ -95,14 +95,14 @@ mutual
 -- ---- Conditions
 
 pub choice_at :
-    (p : Place) (cs : List Choice) (k : ℕ) (c : Choice) → k < length cs → c ≡ get_or cs k c
+    (p : Context) (cs : List Choice) (k : ℕ) (c : Choice) → k < length cs → c ≡ get_or cs k c
     → choice_right p (choices_of cs) k ≡ is_condition p (expr_of (out-Choice c).condition)
 choice_at p [] k c h e = absurd (omega (arith, h))
 choice_at p (d ∷ ds) zero c h e = ap (λ (x : Choice). is_condition p (choice_of x).0) (sym e) ∙ ap (λ r. is_condition p r.0) (choice_says c)
 choice_at p (d ∷ ds) (suc k) c h e = choice_at p ds k c (omega (arith, h)) e
 
 pub choices_on :
-    (p : Place) (cs : List Choice) (k : ℕ) (c : Choice) → k < length cs → c ≡ get_or cs k c → is_condition p (expr_of (out-Choice c).condition) ≡ true
+    (p : Context) (cs : List Choice) (k : ℕ) (c : Choice) → k < length cs → c ≡ get_or cs k c → is_condition p (expr_of (out-Choice c).condition) ≡ true
     → conditions_right p (choices_of (drop k cs)) ≡ conditions_right p (choices_of (drop (k + 1) cs))
 choices_on p cs k c h e right =
     at_drop_more (λ (cs : List Choice). conditions_right p (choices_of cs)) cs k c h

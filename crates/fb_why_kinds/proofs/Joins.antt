@@ -16,7 +16,7 @@ use Rattle.fb_types.proofs.NameLaws.{find-named}
 use Rattle.fb_check_networks.specs.Joins.{is_out}
 use Rattle.fb_check_networks.specs.Ranges.{is_within}
 use Rattle.fb_check_networks.proofs.Ranged.{within-Decides}
-use Rattle.fb_why_kinds.specs.declared.place.Misjoin.{Misjoin}
+use Rattle.fb_why_kinds.specs.declared.location.Misjoin.{Misjoin}
 use Rattle.fb_why_kinds.specs.Misjoins.{IsMisjoinedAt, MisjoinedIn, are_joined, is_joined}
 use Rattle.fb_types.proofs.ListTests.{passes_at}
 use Rattle.fb_why_kinds.specs.Sites.{each_inside, network_at}

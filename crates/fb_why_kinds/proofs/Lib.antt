@@ -1,8 +1,8 @@
-pub mod NetworkPlaces
-mod BlockPlaces
+pub mod NetworkLocations
+mod BlockLocations
 mod TypePorts
-mod DeploymentPlaces
-mod AllPlaces
+mod DeploymentLocations
+mod AllLocations
 mod NetworkTests
 mod Joins
 pub mod Typed

@@ -1,12 +1,12 @@
 -- A statement that is right by itself is right in each of its parts.
 use Rattle.std.proofs.Common.{◌≡◌, ℕ, zero, suc, Bool, true, false, not, ◌&&◌, refl, sym, ◌∙◌}
 use Rattle.std.proofs.lemmas.Bool.{and_parts, true≢false}
-use Rattle.fb_types.specs.Kinds.{Place, is_condition, is_sort, is_whole, same_sort, sort_of, sort_of_type}
+use Rattle.fb_types.specs.Kinds.{Context, is_condition, is_sort, is_whole, same_sort, sort_of, sort_of_type}
 use Rattle.fb_types.specs.Names.{Name}
 use Rattle.fb_types.specs.Syntax.{Expr, Stmt, Empty, Exit, Return, Assign, If, Case, For, While, Repeat, no_stmt, Choices, no_choice, then_choices}
 use Rattle.fb_types.specs.declared.sort.Sort.TheVariants.{WholeNumber}
-use Rattle.fb_why_kinds.specs.declared.place.StatementPart.{StatementPart}
-use Rattle.fb_why_kinds.specs.declared.place.StatementPart.TheVariants as part
+use Rattle.fb_why_kinds.specs.declared.location.StatementPart.{StatementPart}
+use Rattle.fb_why_kinds.specs.declared.location.StatementPart.TheVariants as part
 use Rattle.fb_why_kinds.specs.Statements.{choice_right, conditions_right, own_right, part_right}
 
 first : (a b : Bool) → (a && b) ≡ true → a ≡ true
@@ -15,19 +15,19 @@ first a b h = (and_parts a b h).0
 last : (a b : Bool) → (a && b) ≡ true → b ≡ true
 last a b h = (and_parts a b h).1
 
-choice_passes : (p : Place) (cs : Choices) (k : ℕ) → conditions_right p cs ≡ true → choice_right p cs k ≡ true
+choice_passes : (p : Context) (cs : Choices) (k : ℕ) → conditions_right p cs ≡ true → choice_right p cs k ≡ true
 choice_passes p no_choice k h = refl
 choice_passes p (then_choices c body rest) zero h = first (is_condition p c) (conditions_right p rest) h
 choice_passes p (then_choices c body rest) (suc k) h = choice_passes p rest k (last (is_condition p c) (conditions_right p rest) h)
 
-record ForParts (p : Place) (n : Name) (a b c : Expr) : Type 0 where
+record ForParts (p : Context) (n : Name) (a b c : Expr) : Type 0 where
   assigned : not (p.fixed n) ≡ true
   control : same_sort WholeNumber (sort_of_type (p.types n)) ≡ true
   start : is_whole p a ≡ true
   end : is_whole p b ≡ true
   step : is_whole p c ≡ true
 
-parts_of_for : (p : Place) (n : Name) (a b c : Expr) → own_right p (For n a b c no_stmt) ≡ true → ForParts p n a b c
+parts_of_for : (p : Context) (n : Name) (a b c : Expr) → own_right p (For n a b c no_stmt) ≡ true → ForParts p n a b c
 parts_of_for p n a b c h =
     let free : Bool = not (p.fixed n) in
     let number : Bool = same_sort WholeNumber (sort_of_type (p.types n)) in
@@ -37,7 +37,7 @@ parts_of_for p n a b c h =
     let one = and_parts free number two.0 in
     record { assigned = one.0; control = one.1; start = two.1; end = three.1; step = four.1 }
 
-part_passes : (p : Place) (s : Stmt) (o : StatementPart) → own_right p s ≡ true → part_right p s o ≡ true
+part_passes : (p : Context) (s : Stmt) (o : StatementPart) → own_right p s ≡ true → part_right p s o ≡ true
 part_passes p Empty part.Exit h = refl
 part_passes p Empty part.Assigned h = refl
 part_passes p Empty part.Value h = refl
@@ -129,7 +129,7 @@ part_passes p (Repeat body c) part.End h = refl
 part_passes p (Repeat body c) part.Step h = refl
 part_passes p (Repeat body c) part.Condition h = h
 
-pub part_fails : (p : Place) (s : Stmt) (o : StatementPart) → part_right p s o ≡ false → own_right p s ≡ false
+pub part_fails : (p : Context) (s : Stmt) (o : StatementPart) → part_right p s o ≡ false → own_right p s ≡ false
 part_fails p s o h =
     elim (own_right p s) as (λ b. own_right p s ≡ b → b ≡ false) [
       | true ↦ λ e. absurd (true≢false (sym (part_passes p s o e) ∙ h))

@@ -7,7 +7,7 @@ use Rattle.std.proofs.lemmas.List.Folds.{list_any-append}
 use Rattle.std.proofs.lemmas.Option.{same_Some}
 use Rattle.fb_types.specs.Names.{Name, same_name}
 use Rattle.fb_types.specs.Blocks.{among, named, event_blocks, event_block_named, ports_of, ports_of_event_block}
-use Rattle.fb_types.specs.EventPorts.{ArePortsOfKinds, kind_place}
+use Rattle.fb_types.specs.EventPorts.{ArePortsOfKinds, kind_index}
 use Rattle.fb_types.specs.Flat.{kind_of, type_name, type_named}
 use Rattle.fb_types.specs.Repeated.{block_type_names}
 use Rattle.fb_types.specs.declared.event_kind.EventKind.{EventKind}
@@ -20,9 +20,9 @@ use Rattle.fb_why_kinds.proofs.Typed.{declared_type, type_from}
 
 pub event_ports_are :
     (lib : Library) (all : List Ports) (n : Name) (k : EventKind) → ArePortsOfKinds all → event_block_named n ≡ Some k
-    → slice_get all (kind_place k) ≡ option_map ports_of (type_named lib n)
+    → slice_get all (kind_index k) ≡ option_map ports_of (type_named lib n)
 event_ports_are lib all n k are h =
-    elim (named (λ e. e.0) n event_blocks) as (λ o. option_map (λ e. e.1) o ≡ Some k → slice_get all (kind_place k) ≡ option_map ports_of (type_from lib n o)) [
+    elim (named (λ e. e.0) n event_blocks) as (λ o. option_map (λ e. e.1) o ≡ Some k → slice_get all (kind_index k) ≡ option_map ports_of (type_from lib n o)) [
       | None ↦ λ h. absurd (cc)
       | Some e ↦ λ h. are k ∙ ap (λ (k : EventKind). Some (ports_of_event_block k)) (sym (same_Some e.1 k h))
     ] h

@@ -4,8 +4,8 @@ use Rattle.fb_types.specs.Kinds.{KindWrong}
 use Rattle.fb_types.specs.declared.library.Library.{Library}
 use Rattle.fb_why_kinds.specs.Misfits.{IsMisfitAt}
 use Rattle.fb_why_kinds.specs.Misjoins.{IsMisjoinedAt}
-use Rattle.fb_why_kinds.specs.declared.place.Misfit.{Misfit}
-use Rattle.fb_why_kinds.specs.declared.place.Misjoin.{Misjoin}
+use Rattle.fb_why_kinds.specs.declared.location.Misfit.{Misfit}
+use Rattle.fb_why_kinds.specs.declared.location.Misjoin.{Misjoin}
 
 abbrev pub MisfitApplies : Type 0
 MisfitApplies = (lib : Library) (p : Misfit) → IsMisfitAt lib p → KindWrong lib

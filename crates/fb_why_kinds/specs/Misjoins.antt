@@ -9,7 +9,7 @@ use Rattle.fb_types.specs.declared.library.Connection.{Connection}
 use Rattle.fb_types.specs.declared.library.Library.{Library}
 use Rattle.fb_types.specs.declared.value.Ty.{Ty}
 use Rattle.fb_check_networks.specs.Joins.{is_out}
-use Rattle.fb_why_kinds.specs.declared.place.Misjoin.{Misjoin}
+use Rattle.fb_why_kinds.specs.declared.location.Misjoin.{Misjoin}
 use Rattle.fb_why_kinds.specs.Sites.{each_inside, network_at, network_inside}
 
 -- the type at the end of the connection contains all values of the one at its beginning, if both are types

@@ -13,12 +13,12 @@ use Rattle.fb_types.specs.declared.library.Library.{Library}
 use Rattle.fb_types.specs.declared.library.Network.{Network}
 use Rattle.fb_types.specs.declared.library.Variable.{Variable}
 use Rattle.fb_why_kinds.specs.declared.networks.PlacedNetwork.{PlacedNetwork}
-use Rattle.fb_why_kinds.specs.declared.place.FlowKind.TheVariants.{Events, Data}
-use Rattle.fb_why_kinds.specs.declared.place.FlowKind.{FlowKind}
-use Rattle.fb_why_kinds.specs.declared.place.Site.TheVariants.{Application, Inside}
-use Rattle.fb_why_kinds.specs.declared.place.Site.{Site}
-use Rattle.fb_why_kinds.specs.declared.place.Variables.TheVariants.{Inputs, Outputs, Internals}
-use Rattle.fb_why_kinds.specs.declared.place.Variables.{Variables}
+use Rattle.fb_why_kinds.specs.declared.location.FlowKind.TheVariants.{Events, Data}
+use Rattle.fb_why_kinds.specs.declared.location.FlowKind.{FlowKind}
+use Rattle.fb_why_kinds.specs.declared.location.Site.TheVariants.{Application, Inside}
+use Rattle.fb_why_kinds.specs.declared.location.Site.{Site}
+use Rattle.fb_why_kinds.specs.declared.location.Variables.TheVariants.{Inputs, Outputs, Internals}
+use Rattle.fb_why_kinds.specs.declared.location.Variables.{Variables}
 
 abbrev pub network_inside : BlockType → Option Placed
 network_inside (block.Basic t) = None

@@ -1,12 +1,12 @@
 -- The statements of an algorithm, and what is required of each by itself (IEC 61131-3, 7.3.3).
 use Rattle.std.specs.Prelude.{◌≡◌, ℕ, zero, suc, List, [], ◌∷◌, ◌++◌, map, Bool, true, false, not, ◌&&◌, Some, slice_get}
 use Rattle.fb_types.specs.Syntax.{Stmt, Empty, Exit, Return, Assign, If, Case, For, While, Repeat, Stmts, no_stmt, then_stmts, Choices, no_choice, then_choices, Branches, no_branch, then_branches, stmt_of}
-use Rattle.fb_types.specs.Kinds.{Place, is_sort, sort_of, sort_of_type, same_sort, is_whole, is_condition}
+use Rattle.fb_types.specs.Kinds.{Context, is_sort, sort_of, sort_of_type, same_sort, is_whole, is_condition}
 use Rattle.fb_types.specs.declared.library.BasicType.{BasicType}
 use Rattle.fb_types.specs.declared.sort.Sort.TheVariants.{WholeNumber}
 use Rattle.fb_check_types.specs.Checks.{in_place}
-use Rattle.fb_why_kinds.specs.declared.place.StatementPart.{StatementPart}
-use Rattle.fb_why_kinds.specs.declared.place.StatementPart.TheVariants as part
+use Rattle.fb_why_kinds.specs.declared.location.StatementPart.{StatementPart}
+use Rattle.fb_why_kinds.specs.declared.location.StatementPart.TheVariants as part
 use Rattle.fb_why_kinds.specs.declared.statements.Standing as code
 
 -- A statement, and whether it is in a loop.
@@ -41,16 +41,16 @@ abbrev mutual
 
 -- ---- What is required of a statement by itself
 
-abbrev pub conditions_right : Place → Choices → Bool
+abbrev pub conditions_right : Context → Choices → Bool
 conditions_right p no_choice = true
 conditions_right p (then_choices c body rest) = is_condition p c && conditions_right p rest
 
-abbrev pub choice_right : Place → Choices → ℕ → Bool
+abbrev pub choice_right : Context → Choices → ℕ → Bool
 choice_right p no_choice k = true
 choice_right p (then_choices c body rest) zero = is_condition p c
 choice_right p (then_choices c body rest) (suc k) = choice_right p rest k
 
-abbrev pub own_right : Place → Stmt → Bool
+abbrev pub own_right : Context → Stmt → Bool
 own_right p Empty = true
 own_right p Exit = p.in_loop
 own_right p Return = true
@@ -63,7 +63,7 @@ own_right p (While c body) = is_condition p c
 own_right p (Repeat body c) = is_condition p c
 
 -- one part of it: a part that a statement does not have is right
-abbrev pub part_right : Place → Stmt → StatementPart → Bool
+abbrev pub part_right : Context → Stmt → StatementPart → Bool
 part_right p Exit part.Exit = p.in_loop
 part_right p (Assign n e) part.Assigned = not (p.fixed n)
 part_right p (Assign n e) part.Value = is_sort (sort_of_type (p.types n)) (sort_of p.types e)

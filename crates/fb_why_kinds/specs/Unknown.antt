@@ -22,21 +22,21 @@ use Rattle.fb_types.specs.declared.deploy.ResourceEntry.{ResourceEntry}
 use Rattle.fb_check_types.specs.Checks.{is_met, all_met, guard_mentions, is_known_block}
 use Rattle.fb_check_names.specs.Unknown.{NetworkUnknown}
 use Rattle.fb_check_names.specs.Types.{ports_of_block}
-use Rattle.fb_why_kinds.specs.declared.place.FlowKind.{FlowKind}
-use Rattle.fb_why_kinds.specs.declared.place.FlowKind.TheVariants.{Events, Data}
-use Rattle.fb_why_kinds.specs.declared.place.UnknownName.{UnknownName}
-use Rattle.fb_why_kinds.specs.declared.place.UnknownName.TheVariants.{InstanceType, Parameter, End, With, Guard, Mapped, LinkEnd}
-use Rattle.fb_why_kinds.specs.declared.place.UnknownName.TheVariants as place
-use Rattle.fb_why_kinds.specs.declared.place.ActionPart.{ActionPart}
-use Rattle.fb_why_kinds.specs.declared.place.ActionPart.TheVariants.{Algorithm}
-use Rattle.fb_why_kinds.specs.declared.place.ActionPart.TheVariants as actions
-use Rattle.fb_why_kinds.specs.declared.place.Direction.{Direction}
-use Rattle.fb_why_kinds.specs.declared.place.Direction.TheVariants.{Input, Output}
-use Rattle.fb_why_kinds.specs.declared.place.TransitionPart.{TransitionPart}
-use Rattle.fb_why_kinds.specs.declared.place.TransitionPart.TheVariants as part
-use Rattle.fb_why_kinds.specs.declared.place.Side.{Side}
-use Rattle.fb_why_kinds.specs.declared.place.Side.TheVariants.{From, To}
-use Rattle.fb_why_kinds.specs.declared.place.Site.{Site}
+use Rattle.fb_why_kinds.specs.declared.location.FlowKind.{FlowKind}
+use Rattle.fb_why_kinds.specs.declared.location.FlowKind.TheVariants.{Events, Data}
+use Rattle.fb_why_kinds.specs.declared.location.UnknownName.{UnknownName}
+use Rattle.fb_why_kinds.specs.declared.location.UnknownName.TheVariants.{InstanceType, Parameter, End, With, Guard, Mapped, LinkEnd}
+use Rattle.fb_why_kinds.specs.declared.location.UnknownName.TheVariants as location
+use Rattle.fb_why_kinds.specs.declared.location.ActionPart.{ActionPart}
+use Rattle.fb_why_kinds.specs.declared.location.ActionPart.TheVariants.{Algorithm}
+use Rattle.fb_why_kinds.specs.declared.location.ActionPart.TheVariants as actions
+use Rattle.fb_why_kinds.specs.declared.location.Direction.{Direction}
+use Rattle.fb_why_kinds.specs.declared.location.Direction.TheVariants.{Input, Output}
+use Rattle.fb_why_kinds.specs.declared.location.TransitionPart.{TransitionPart}
+use Rattle.fb_why_kinds.specs.declared.location.TransitionPart.TheVariants as part
+use Rattle.fb_why_kinds.specs.declared.location.Side.{Side}
+use Rattle.fb_why_kinds.specs.declared.location.Side.TheVariants.{From, To}
+use Rattle.fb_why_kinds.specs.declared.location.Site.{Site}
 use Rattle.fb_why_kinds.specs.Sites.{basic_at, network_at, network_inside, instance_at, connections_of}
 
 -- ---- Names that are required
@@ -140,12 +140,12 @@ IsUnknownIn lib (InstanceType s i) = Unmet (option_map (type_wanted lib) (instan
 IsUnknownIn lib (Parameter s i p) = Unmet (option_and_then (λ x. parameter_wanted lib x p) (instance_at lib s i))
 IsUnknownIn lib (End s f k side) = IsUnknownEnd lib s f k side
 IsUnknownIn lib (With b d e v) = Unmet (option_and_then (λ t. with_wanted (ports_of_block t) d e v) (slice_get lib.blocks b))
-IsUnknownIn lib (place.Transition b x part) =
+IsUnknownIn lib (location.Transition b x part) =
     Unmet (option_and_then (λ t. option_and_then (λ y. transition_wanted t y part) (slice_get t.transitions x)) (basic_at lib b))
-IsUnknownIn lib (place.Action b s a part) =
+IsUnknownIn lib (location.Action b s a part) =
     Unmet (option_and_then (λ t. option_and_then (λ y. option_and_then (λ z. action_wanted t z part) (slice_get y.actions a)) (slice_get t.states s)) (basic_at lib b))
 IsUnknownIn lib (Guard b x m) = IsUnknownMention lib b (guard_at x) m
-IsUnknownIn lib (place.Body b a m) = IsUnknownMention lib b (body_at a) m
+IsUnknownIn lib (location.Body b a m) = IsUnknownMention lib b (body_at a) m
 IsUnknownIn lib _ = ⊥
 
 -- Nothing is unknown in a block type.

@@ -13,10 +13,10 @@ ghost use Rattle.fb_why_kinds.specs.Sites.{basic_at};
 ghost use Rattle.fb_why_kinds.specs.Unknown.{IsBlockKnown, IsUnknownIn, UnknownAmong};
 
 use crate::charts::{unknown_in_states, unknown_in_transitions, unknown_with};
+use crate::location::{Direction, Site, UnknownName};
 use crate::lookup::BlockTypes;
 use crate::mentions::{Mention, is_mention_known, push_body, push_expression};
 use crate::networks::{PlacedNetwork, unknown_in_network};
-use crate::place::{Direction, Site, UnknownName};
 use fb_check_names::PortSort;
 use fb_types::{Algorithm, BasicType, BlockType, Library, Transition};
 use std::alloc::{AllocError, Global};
@@ -70,9 +70,9 @@ fn unknown_in_chart(library: &Library, block: usize, basic: &BasicType) -> Optio
 fn first_unknown(basic: &BasicType, mentions: &[Mention]) -> Option<usize>
     ensures { MatchOption result (all_known basic.now (meant_all mentions.now) ≡ true) (UnknownAmong basic.now (meant_all mentions.now)) }
 {
-    for (place, mention) in mentions.iter().enumerate() {
+    for (location, mention) in mentions.iter().enumerate() {
         if !is_mention_known(basic, mention) {
-            return Some(place);
+            return Some(location);
         }
     }
     None
@@ -99,9 +99,9 @@ fn unknown_in_bodies(
 ) -> Result<Option<(usize, usize)>, AllocError>
     ensures { IfOk result (λ o. MatchOption o (list_all (body_known basic.now) algorithms.now ≡ true) (λ r. (a : Algorithm) × (slice_get algorithms.now r.0 ≡ Some a) × UnknownAmong basic.now (mentions_body (body_of a.body)) r.1)) }
 {
-    for (place, algorithm) in algorithms.iter().enumerate() {
+    for (location, algorithm) in algorithms.iter().enumerate() {
         if let Some(mention) = unknown_in_body(alloc, basic, algorithm)? {
-            return Ok(Some((place, mention)));
+            return Ok(Some((location, mention)));
         }
     }
     Ok(None)
@@ -131,9 +131,9 @@ fn unknown_in_guards(
 ) -> Result<Option<(usize, usize)>, AllocError>
     ensures { IfOk result (λ o. MatchOption o (list_all (guard_known basic.now) transitions.now ≡ true) (λ r. (x : Transition) × (slice_get transitions.now r.0 ≡ Some x) × UnknownAmong basic.now (guard_mentions x) r.1)) }
 {
-    for (place, transition) in transitions.iter().enumerate() {
+    for (location, transition) in transitions.iter().enumerate() {
         if let Some(mention) = unknown_in_guard(alloc, basic, transition)? {
-            return Ok(Some((place, mention)));
+            return Ok(Some((location, mention)));
         }
     }
     Ok(None)
@@ -180,12 +180,12 @@ fn unknown_in_block(
     requires { slice_get types.now.library.now.blocks block ≡ Some declared.now }
     ensures { IfOk result (λ o. MatchOption o (IsBlockKnown types.now.library.now declared.now) (IsUnknownIn types.now.library.now)) }
 {
-    if let Some(place) = unknown_in_withs(types.library, block, declared) {
-        return Ok(Some(place));
+    if let Some(location) = unknown_in_withs(types.library, block, declared) {
+        return Ok(Some(location));
     }
     match declared {
         BlockType::Basic(basic) => match unknown_in_chart(types.library, block, basic) {
-            Some(place) => Ok(Some(place)),
+            Some(location) => Ok(Some(location)),
             None => unknown_in_texts(alloc, types.library, block, basic),
         },
         BlockType::Composite(composite) => {
@@ -207,8 +207,8 @@ fn unknown_in_some(
     requires { blocks.now ≡ types.now.library.now.blocks }
     ensures { IfOk result (λ o. MatchOption o (All (IsBlockKnown types.now.library.now) blocks.now) (IsUnknownIn types.now.library.now)) }
 {
-    for (place, block) in blocks.iter().enumerate() {
-        if let Some(found) = unknown_in_block(alloc, types, place, block)? {
+    for (location, block) in blocks.iter().enumerate() {
+        if let Some(found) = unknown_in_block(alloc, types, location, block)? {
             return Ok(Some(found));
         }
     }

@@ -13,8 +13,8 @@ ghost use Rattle.fb_check_types.specs.Checks.{action_met, actions_met, transitio
 ghost use Rattle.fb_check_names.specs.Sorts.{names_of_sort};
 ghost use Rattle.fb_why_kinds.specs.Unknown.{Unmet, action_wanted, transition_wanted};
 
+use crate::location::{ActionPart, TransitionPart};
 use crate::lookup::{has_port, is_called};
-use crate::place::{ActionPart, TransitionPart};
 use fb_check_names::PortSort;
 use fb_types::{Action, BasicType, EventPort, Name, Ports, State, Transition};
 
@@ -22,9 +22,9 @@ use fb_types::{Action, BasicType, EventPort, Name, Ports, State, Transition};
 fn unknown_variable(ports: &Ports, sort: PortSort, names: &[Name]) -> Option<usize>
     ensures { MatchOption result (list_all (among (names_of_sort sort ports.now)) names.now ≡ true) (λ k. (n : Name) × (slice_get names.now k ≡ Some n) × (among (names_of_sort sort ports.now) n ≡ false)) }
 {
-    for (place, name) in names.iter().enumerate() {
+    for (location, name) in names.iter().enumerate() {
         if !has_port(ports, sort, name) {
-            return Some(place);
+            return Some(location);
         }
     }
     None
@@ -34,9 +34,9 @@ fn unknown_variable(ports: &Ports, sort: PortSort, names: &[Name]) -> Option<usi
 pub fn unknown_with(ports: &Ports, sort: PortSort, events: &[EventPort]) -> Option<(usize, usize)>
     ensures { MatchOption result (list_all (λ e. list_all (among (names_of_sort sort ports.now)) e.with) events.now ≡ true) (λ r. (e : EventPort) × (slice_get events.now r.0 ≡ Some e) × ((n : Name) × (slice_get e.with r.1 ≡ Some n) × (among (names_of_sort sort ports.now) n ≡ false))) }
 {
-    for (place, event) in events.iter().enumerate() {
+    for (location, event) in events.iter().enumerate() {
         if let Some(variable) = unknown_variable(ports, sort, event.with.as_slice()) {
-            return Some((place, variable));
+            return Some((location, variable));
         }
     }
     None
@@ -79,9 +79,9 @@ pub fn unknown_in_transitions(
 ) -> Option<(usize, TransitionPart)>
     ensures { MatchOption result (list_all (transition_met basic.now) transitions.now ≡ true) (λ r. (x : Transition) × (slice_get transitions.now r.0 ≡ Some x) × Unmet (transition_wanted basic.now x r.1)) }
 {
-    for (place, transition) in transitions.iter().enumerate() {
+    for (location, transition) in transitions.iter().enumerate() {
         if let Some(part) = unknown_part(basic, transition) {
-            return Some((place, part));
+            return Some((location, part));
         }
     }
     None
@@ -108,9 +108,9 @@ fn unknown_action(basic: &BasicType, action: &Action) -> Option<ActionPart>
 fn unknown_in_actions(basic: &BasicType, actions: &[Action]) -> Option<(usize, ActionPart)>
     ensures { MatchOption result (list_all (action_met basic.now) actions.now ≡ true) (λ r. (a : Action) × (slice_get actions.now r.0 ≡ Some a) × Unmet (action_wanted basic.now a r.1)) }
 {
-    for (place, action) in actions.iter().enumerate() {
+    for (location, action) in actions.iter().enumerate() {
         if let Some(part) = unknown_action(basic, action) {
-            return Some((place, part));
+            return Some((location, part));
         }
     }
     None
@@ -123,9 +123,9 @@ pub fn unknown_in_states(
 ) -> Option<(usize, (usize, ActionPart))>
     ensures { MatchOption result (list_all (actions_met basic.now) states.now ≡ true) (λ r. (s : State) × (slice_get states.now r.0 ≡ Some s) × ((a : Action) × (slice_get s.actions r.1.0 ≡ Some a) × Unmet (action_wanted basic.now a r.1.1))) }
 {
-    for (place, state) in states.iter().enumerate() {
+    for (location, state) in states.iter().enumerate() {
         if let Some(found) = unknown_in_actions(basic, state.actions.as_slice()) {
-            return Some((place, found));
+            return Some((location, found));
         }
     }
     None

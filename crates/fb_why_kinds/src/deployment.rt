@@ -8,17 +8,17 @@ ghost use Rattle.fb_types.specs.declared.deploy.ResourceEntry.{ResourceEntry};
 ghost use Rattle.fb_check_names.specs.Unknown.{DeploymentUnknown};
 ghost use Rattle.fb_why_kinds.specs.Unknown.{IsUnknownAt, are_sides_met, are_mapped, is_instance, is_resource, side_of};
 
+use crate::location::{Side, UnknownName};
 use crate::lookup::is_called;
-use crate::place::{Side, UnknownName};
 use fb_types::{Instance, Library, Link, Name, Plan, ResourceEntry};
 
 /// The first name that is not an instance.
 fn unknown_name(instances: &[Instance], names: &[Name]) -> Option<usize>
     ensures { MatchOption result (list_all (is_instance instances.now) names.now ≡ true) (λ k. (n : Name) × (slice_get names.now k ≡ Some n) × (is_instance instances.now n ≡ false)) }
 {
-    for (place, name) in names.iter().enumerate() {
+    for (location, name) in names.iter().enumerate() {
         if !is_called(instances, name) {
-            return Some(place);
+            return Some(location);
         }
     }
     None
@@ -28,9 +28,9 @@ fn unknown_name(instances: &[Instance], names: &[Name]) -> Option<usize>
 fn unknown_mapped(instances: &[Instance], resources: &[ResourceEntry]) -> Option<(usize, usize)>
     ensures { MatchOption result (list_all (are_mapped instances.now) resources.now ≡ true) (λ r. (x : ResourceEntry) × (slice_get resources.now r.0 ≡ Some x) × ((n : Name) × (slice_get x.instances r.1 ≡ Some n) × (is_instance instances.now n ≡ false))) }
 {
-    for (place, resource) in resources.iter().enumerate() {
+    for (location, resource) in resources.iter().enumerate() {
         if let Some(instance) = unknown_name(instances, resource.instances.as_slice()) {
-            return Some((place, instance));
+            return Some((location, instance));
         }
     }
     None
@@ -53,9 +53,9 @@ fn unknown_side(resources: &[ResourceEntry], link: &Link) -> Option<Side>
 fn unknown_link(resources: &[ResourceEntry], links: &[Link]) -> Option<(usize, Side)>
     ensures { MatchOption result (list_all (are_sides_met resources.now) links.now ≡ true) (λ r. (l : Link) × (slice_get links.now r.0 ≡ Some l) × (is_resource resources.now (side_of r.1 l) ≡ false)) }
 {
-    for (place, link) in links.iter().enumerate() {
+    for (location, link) in links.iter().enumerate() {
         if let Some(side) = unknown_side(resources, link) {
-            return Some((place, side));
+            return Some((location, side));
         }
     }
     None

@@ -1,13 +1,13 @@
 //! Finds where names stand for nothing, and where kinds and ranges are wrong, in a declaration and a deployment that are
 //! refused (E21 to E23).
 //!
-//! Guarantees to callers: `unknown::unknown_place` returns a location of a name that stands for nothing (E21),
-//! `misfits::misfit_place` one at which a declared value, a parameter, a guard or a statement has the wrong kind (E22),
-//! and `misjoins::misjoin_place` a data connection to a type that does not contain all values of the source type (E23).
-//! Each returns `None` exactly if there is no such location. By `laws::places_apply` the number applies if one of the
+//! Guarantees to callers: `unknown::unknown_location` returns a location of a name that stands for nothing (E21),
+//! `misfits::misfit_location` one at which a declared value, a parameter, a guard or a statement has the wrong kind (E22),
+//! and `misjoins::misjoin_location` a data connection to a type that does not contain all values of the source type (E23).
+//! Each returns `None` exactly if there is no such location. By `laws::locations_apply` the number applies if one of the
 //! last two is reported. The wording of the texts is not part of any contract.
 //!
-//! Read in this order: `place`; `lookup`, `networks`, `blocks`, `charts`, `mentions` and `deployment`, which search
+//! Read in this order: `location`; `lookup`, `networks`, `blocks`, `charts`, `mentions` and `deployment`, which search
 //! names; `unknown`. Then `types`, what names stand for; `misjoins`; `statements`, `parameters` and `misfits`; `laws`.
 //! Last `words`, `tell_sites`, `unknown_messages` and `tell_kinds`, a location as text. `fb_why` uses the growing text of
 //! `words` too.
@@ -17,13 +17,13 @@ mod blocks;
 mod charts;
 mod deployment;
 pub mod laws;
+pub mod location;
 mod lookup;
 mod mentions;
 pub mod misfits;
 pub mod misjoins;
 mod networks;
 mod parameters;
-pub mod place;
 mod statements;
 pub mod tell_kinds;
 pub mod tell_sites;
@@ -32,14 +32,14 @@ pub mod unknown;
 pub mod unknown_messages;
 pub mod words;
 
-pub use misfits::misfit_place;
-pub use misjoins::misjoin_place;
-pub use place::{
+pub use location::{
     ActionPart, Direction, FlowKind, Misfit, Misjoin, Side, Site, StatementPart, TransitionPart,
     UnknownName, Variables,
 };
+pub use misfits::misfit_location;
+pub use misjoins::misjoin_location;
 pub use tell_kinds::{tell_misfit, tell_misjoin};
 pub use tell_sites::push_instance;
-pub use unknown::unknown_place;
+pub use unknown::unknown_location;
 pub use unknown_messages::tell_unknown;
 pub use words::{Text, type_words};

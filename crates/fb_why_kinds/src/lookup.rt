@@ -67,7 +67,7 @@ impl<'a> BlockTypes<'a> {
         ensures { option_copied result ≡ option_map ports_of (spec.type_named self.now.library.now name.now) }
     {
         match kind_named(name.as_bytes()) {
-            Some(kind) => self.event_ports.get(kind.place()),
+            Some(kind) => self.event_ports.get(kind.index()),
             None => {
                 let block = block_named(self.library.blocks.as_slice(), name)?;
                 Some(block.ports())

@@ -14,8 +14,8 @@ ghost use Rattle.fb_why_kinds.specs.Misfits.{InitialIn, IsMisfitAt, MisfitAmong,
 ghost use Rattle.fb_why_kinds.specs.Sites.{basic_at};
 ghost use Rattle.fb_why_kinds.specs.Statements.{WrongAmong, each_in_body};
 
+use crate::location::{Misfit, Site, StatementPart, Variables};
 use crate::parameters::misfit_in_network;
-use crate::place::{Misfit, Site, StatementPart, Variables};
 use crate::statements::wrong_statement;
 use fb_check_types::is_condition;
 use fb_types::{Algorithm, BasicType, BlockType, Library, Transition, Variable};
@@ -25,9 +25,9 @@ use std::alloc::{AllocError, Global};
 fn wrong_among(variables: &[Variable]) -> Option<usize>
     ensures { MatchOption result (list_all declared_right variables.now ≡ true) (MisfitAmong variables.now) }
 {
-    for (place, variable) in variables.iter().enumerate() {
+    for (location, variable) in variables.iter().enumerate() {
         if !variable.is_declared_right() {
-            return Some(place);
+            return Some(location);
         }
     }
     None
@@ -48,14 +48,14 @@ fn wrong_initial(block: &BlockType) -> Option<(Variables, usize)>
     ensures { MatchOption result (are_initials_right block.now ≡ true) (InitialIn block.now) }
 {
     let ports = block.ports();
-    if let Some(place) = wrong_among(ports.inputs.as_slice()) {
-        return Some((Variables::Inputs, place));
+    if let Some(location) = wrong_among(ports.inputs.as_slice()) {
+        return Some((Variables::Inputs, location));
     }
-    if let Some(place) = wrong_among(ports.outputs.as_slice()) {
-        return Some((Variables::Outputs, place));
+    if let Some(location) = wrong_among(ports.outputs.as_slice()) {
+        return Some((Variables::Outputs, location));
     }
-    let place = wrong_among(internals_of(block))?;
-    Some((Variables::Internals, place))
+    let location = wrong_among(internals_of(block))?;
+    Some((Variables::Internals, location))
 }
 
 /// Whether the guard of a transition, if it has one, is a truth value.
@@ -72,9 +72,9 @@ fn is_guard_right(basic: &BasicType, transition: &Transition) -> bool
 fn wrong_guard(basic: &BasicType, transitions: &[Transition]) -> Option<usize>
     ensures { MatchOption result (list_all (is_guard_right basic.now) transitions.now ≡ true) (λ k. (x : Transition) × (slice_get transitions.now k ≡ Some x) × (is_guard_right basic.now x ≡ false)) }
 {
-    for (place, transition) in transitions.iter().enumerate() {
+    for (location, transition) in transitions.iter().enumerate() {
         if !is_guard_right(basic, transition) {
-            return Some(place);
+            return Some(location);
         }
     }
     None
@@ -88,9 +88,9 @@ fn wrong_body(
 ) -> Result<Option<(usize, (usize, StatementPart))>, AllocError>
     ensures { IfOk result (λ o. MatchOption o (list_all (algorithm_right basic.now) algorithms.now ≡ true) (λ r. (a : Algorithm) × (slice_get algorithms.now r.0 ≡ Some a) × WrongAmong basic.now (each_in_body false (body_of a.body)) r.1)) }
 {
-    for (place, algorithm) in algorithms.iter().enumerate() {
+    for (location, algorithm) in algorithms.iter().enumerate() {
         if let Some(found) = wrong_statement(alloc, basic, algorithm)? {
-            return Ok(Some((place, found)));
+            return Ok(Some((location, found)));
         }
     }
     Ok(None)
@@ -154,8 +154,8 @@ fn misfit_in_some(
     requires { blocks.now ≡ library.now.blocks }
     ensures { IfOk result (λ o. MatchOption o (list_all (is_all_right library.now) blocks.now ≡ true) (IsMisfitAt library.now)) }
 {
-    for (place, block) in blocks.iter().enumerate() {
-        if let Some(found) = misfit_in_block(alloc, library, place, block)? {
+    for (location, block) in blocks.iter().enumerate() {
+        if let Some(found) = misfit_in_block(alloc, library, location, block)? {
             return Ok(Some(found));
         }
     }
@@ -163,11 +163,11 @@ fn misfit_in_some(
 }
 
 /// A location at which a value, an expression or a statement has the wrong kind, or `None` if there is none.
-pub fn misfit_place(alloc: Global, library: &Library) -> Result<Option<Misfit>, AllocError>
+pub fn misfit_location(alloc: Global, library: &Library) -> Result<Option<Misfit>, AllocError>
     ensures { IfOk result (λ o. MatchOption o (¬ (KindWrong library.now)) (IsMisfitAt library.now)) }
 {
-    if let Some(place) = misfit_in_some(alloc, library, library.blocks.as_slice())? {
-        return Ok(Some(place));
+    if let Some(location) = misfit_in_some(alloc, library, library.blocks.as_slice())? {
+        return Ok(Some(location));
     }
     Ok(misfit_in_network(library, Site::Application, &library.application.network))
 }

@@ -9,8 +9,8 @@ ghost use Rattle.fb_types.specs.declared.library.Connection.{Connection};
 ghost use Rattle.fb_why_kinds.specs.Sites.{placed};
 ghost use Rattle.fb_why_kinds.specs.Misjoins.{IsMisjoinedAt, IsMisjoinedInside, MisjoinedIn, are_joined, are_joined_inside, is_joined};
 
+use crate::location::{Misjoin, Site};
 use crate::networks::PlacedNetwork;
-use crate::place::{Misjoin, Site};
 use crate::types::type_named;
 use fb_check_networks::is_within;
 use fb_check_types::port_type;
@@ -53,9 +53,9 @@ fn first_misjoined(
 ) -> Option<usize>
     ensures { MatchOption result (list_all (is_joined library.now (placed scope.now)) connections.now ≡ true) (λ k. (c : Connection) × (slice_get connections.now k ≡ Some c) × (is_joined library.now (placed scope.now) c ≡ false)) }
 {
-    for (place, connection) in connections.iter().enumerate() {
+    for (location, connection) in connections.iter().enumerate() {
         if !is_joined(library, scope, connection) {
-            return Some(place);
+            return Some(location);
         }
     }
     None
@@ -88,16 +88,16 @@ fn misjoined_inside(library: &Library, block: &BlockType) -> Option<usize>
 fn misjoined_in_some(library: &Library, blocks: &[BlockType]) -> Option<(usize, usize)>
     ensures { MatchOption result (list_all (are_joined_inside library.now) blocks.now ≡ true) (λ r. (b : BlockType) × (slice_get blocks.now r.0 ≡ Some b) × IsMisjoinedInside library.now b r.1) }
 {
-    for (place, block) in blocks.iter().enumerate() {
+    for (location, block) in blocks.iter().enumerate() {
         if let Some(connection) = misjoined_inside(library, block) {
-            return Some((place, connection));
+            return Some((location, connection));
         }
     }
     None
 }
 
 /// A data connection to a type that does not contain all values of the source type, or `None` if there is none.
-pub fn misjoin_place(library: &Library) -> Option<Misjoin>
+pub fn misjoin_location(library: &Library) -> Option<Misjoin>
     ensures { MatchOption result (¬ (OutOfRange library.now)) (IsMisjoinedAt library.now) }
 {
     let scope = PlacedNetwork {

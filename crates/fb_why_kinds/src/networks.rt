@@ -12,11 +12,11 @@ ghost use Rattle.fb_types.specs.declared.library.Parameter.{Parameter};
 ghost use Rattle.fb_check_names.specs.Unknown.{NetworkUnknown};
 ghost use Rattle.fb_why_kinds.specs.Sites.{connections_of, network_at, placed};
 ghost use Rattle.fb_check_names.specs.Sorts.{names_of_sort};
-ghost use Rattle.fb_why_kinds.specs.declared.place.UnknownName.TheVariants.{End};
+ghost use Rattle.fb_why_kinds.specs.declared.location.UnknownName.TheVariants.{End};
 ghost use Rattle.fb_why_kinds.specs.Unknown.{IsUnknownIn, UnmetParameter, are_ends_known, are_parameters_met, inputs_of, is_side_known, is_type_met, outputs_of};
 
+use crate::location::{FlowKind, Side, Site, UnknownName};
 use crate::lookup::{BlockTypes, has_port};
-use crate::place::{FlowKind, Side, Site, UnknownName};
 use fb_check_names::PortSort;
 use fb_types::{
     CompositeType, Connection, Instance, Network, Parameter, PortName, Ports, instance_named,
@@ -35,9 +35,9 @@ pub struct PlacedNetwork<'a> {
 fn unknown_type(types: &BlockTypes, instances: &[Instance]) -> Option<usize>
     ensures { MatchOption result (list_all (is_type_met types.now.library.now) instances.now ≡ true) (λ k. (i : Instance) × (slice_get instances.now k ≡ Some i) × (is_type_met types.now.library.now i ≡ false)) }
 {
-    for (place, instance) in instances.iter().enumerate() {
+    for (location, instance) in instances.iter().enumerate() {
         if !types.is_type(&instance.block_type) {
-            return Some(place);
+            return Some(location);
         }
     }
     None
@@ -47,9 +47,9 @@ fn unknown_type(types: &BlockTypes, instances: &[Instance]) -> Option<usize>
 fn unknown_input(ports: &Ports, parameters: &[Parameter]) -> Option<usize>
     ensures { MatchOption result (list_all (λ x. among (data_ins ports.now) x.name) parameters.now ≡ true) (λ k. (x : Parameter) × (slice_get parameters.now k ≡ Some x) × (among (data_ins ports.now) x.name ≡ false)) }
 {
-    for (place, parameter) in parameters.iter().enumerate() {
+    for (location, parameter) in parameters.iter().enumerate() {
         if !has_port(ports, PortSort::Input, &parameter.name) {
-            return Some(place);
+            return Some(location);
         }
     }
     None
@@ -67,9 +67,9 @@ fn unknown_parameter(types: &BlockTypes, instance: &Instance) -> Option<usize>
 fn unknown_parameters(types: &BlockTypes, instances: &[Instance]) -> Option<(usize, usize)>
     ensures { MatchOption result (list_all (are_parameters_met types.now.library.now) instances.now ≡ true) (λ r. (i : Instance) × (slice_get instances.now r.0 ≡ Some i) × UnmetParameter types.now.library.now i r.1) }
 {
-    for (place, instance) in instances.iter().enumerate() {
+    for (location, instance) in instances.iter().enumerate() {
         if let Some(parameter) = unknown_parameter(types, instance) {
-            return Some((place, parameter));
+            return Some((location, parameter));
         }
     }
     None
@@ -164,9 +164,9 @@ fn unknown_end(
 ) -> Option<(usize, Side)>
     ensures { MatchOption result (list_all (are_ends_known types.now.library.now (placed scope.now) flow) connections.now ≡ true) (λ r. (c : Connection) × (slice_get connections.now r.0 ≡ Some c) × (is_side_known types.now.library.now (placed scope.now) flow r.1 c ≡ false)) }
 {
-    for (place, connection) in connections.iter().enumerate() {
+    for (location, connection) in connections.iter().enumerate() {
         if let Some(side) = unknown_side(types, scope, flow, connection) {
-            return Some((place, side));
+            return Some((location, side));
         }
     }
     None

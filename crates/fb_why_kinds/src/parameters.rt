@@ -10,7 +10,7 @@ ghost use Rattle.fb_why_kinds.specs.Misfits.{IsMisfitAt, IsParameterWrong, Param
 ghost use Rattle.fb_why_kinds.specs.Sites.{IsNetworkAt};
 ghost use Rattle.fb_why_kinds.specs.Types.{meant};
 
-use crate::place::{Misfit, Site};
+use crate::location::{Misfit, Site};
 use crate::types::{Kind, type_named};
 use fb_types::{Instance, Library, Network, Parameter};
 
@@ -28,9 +28,9 @@ fn is_right(kind: Kind, parameter: &Parameter) -> bool
 fn first_wrong(kind: Kind, parameters: &[Parameter]) -> Option<usize>
     ensures { MatchOption result (list_all (parameter_right (ports_of (meant kind.entry))) parameters.now ≡ true) (λ k. (x : Parameter) × (slice_get parameters.now k ≡ Some x) × (parameter_right (ports_of (meant kind.entry)) x ≡ false)) }
 {
-    for (place, parameter) in parameters.iter().enumerate() {
+    for (location, parameter) in parameters.iter().enumerate() {
         if !is_right(kind, parameter) {
-            return Some(place);
+            return Some(location);
         }
     }
     None
@@ -48,9 +48,9 @@ fn wrong_parameter(library: &Library, instance: &Instance) -> Option<usize>
 fn wrong_in_instances(library: &Library, instances: &[Instance]) -> Option<(usize, usize)>
     ensures { MatchOption result (list_all (parameters_right library.now) instances.now ≡ true) (ParameterAmong library.now instances.now) }
 {
-    for (place, instance) in instances.iter().enumerate() {
+    for (location, instance) in instances.iter().enumerate() {
         if let Some(parameter) = wrong_parameter(library, instance) {
-            return Some((place, parameter));
+            return Some((location, parameter));
         }
     }
     None

@@ -2,13 +2,13 @@
 
 ghost use Rattle.std.specs.Prelude.{◌≡◌, ◌∷◌, ◌++◌, [], IfOk, MatchOption, true, false};
 ghost use Rattle.std.specs.List.{list_all};
-ghost use Rattle.fb_types.specs.Kinds.{place_in};
+ghost use Rattle.fb_types.specs.Kinds.{context_in};
 ghost use Rattle.fb_types.specs.Syntax.{Assign, For, body_of, expr_of, no_stmt, stmt_of, step_of};
 ghost use Rattle.fb_check_types.specs.Checks.{algorithm_right, in_place};
 ghost use Rattle.fb_check_types.specs.Trees.{all_of, branches_of, choices_of};
 ghost use Rattle.fb_why_kinds.specs.Statements.{WrongAmong, all_standing, choice_right, conditions_right, each_in_body, each_in_branches, each_in_choices, each_inside, own_right, part_right, stands_right, standing_of};
 
-use crate::place::StatementPart;
+use crate::location::StatementPart;
 use crate::types::is_input;
 use fb_check_types::{
     Typing, are_same, is_condition, is_sort, is_step_whole, is_whole, sort_of_type,
@@ -117,11 +117,11 @@ pub fn all_statements(alloc: Global, body: &Body) -> Result<Vec<Standing>, Alloc
 
 /// The first condition of IF and its ELSIFs that is not a truth value.
 fn wrong_choice(basic: &BasicType, choices: &[Choice]) -> Option<usize>
-    ensures { MatchOption result (conditions_right (place_in basic.now) (choices_of choices.now) ≡ true) (λ k. choice_right (place_in basic.now) (choices_of choices.now) k ≡ false) }
+    ensures { MatchOption result (conditions_right (context_in basic.now) (choices_of choices.now) ≡ true) (λ k. choice_right (context_in basic.now) (choices_of choices.now) k ≡ false) }
 {
-    for (place, choice) in choices.iter().enumerate() {
+    for (location, choice) in choices.iter().enumerate() {
         if !is_condition(&choice.condition, basic) {
-            return Some(place);
+            return Some(location);
         }
     }
     None
@@ -133,7 +133,7 @@ fn wrong_in_assignment(
     variable: &Reference,
     expr: &Expr,
 ) -> Option<StatementPart>
-    ensures { MatchOption result (own_right (place_in basic.now) (Assign variable.now (expr_of expr.now)) ≡ true) (λ part. part_right (place_in basic.now) (Assign variable.now (expr_of expr.now)) part ≡ false) }
+    ensures { MatchOption result (own_right (context_in basic.now) (Assign variable.now (expr_of expr.now)) ≡ true) (λ part. part_right (context_in basic.now) (Assign variable.now (expr_of expr.now)) part ≡ false) }
 {
     if is_input(basic, variable.name()) {
         return Some(StatementPart::Assigned);
@@ -153,7 +153,7 @@ fn wrong_in_for(
     end: &Expr,
     step: &Option<Expr>,
 ) -> Option<StatementPart>
-    ensures { MatchOption result (own_right (place_in basic.now) (For variable.now (expr_of start.now) (expr_of end.now) (step_of step.now) no_stmt) ≡ true) (λ part. part_right (place_in basic.now) (For variable.now (expr_of start.now) (expr_of end.now) (step_of step.now) no_stmt) part ≡ false) }
+    ensures { MatchOption result (own_right (context_in basic.now) (For variable.now (expr_of start.now) (expr_of end.now) (step_of step.now) no_stmt) ≡ true) (λ part. part_right (context_in basic.now) (For variable.now (expr_of start.now) (expr_of end.now) (step_of step.now) no_stmt) part ≡ false) }
 {
     if is_input(basic, variable.name()) {
         return Some(StatementPart::Assigned);
@@ -214,9 +214,9 @@ fn wrong_part(basic: &BasicType, standing: &Standing) -> Option<StatementPart>
 fn first_wrong(basic: &BasicType, statements: &[Standing]) -> Option<(usize, StatementPart)>
     ensures { MatchOption result (list_all (stands_right basic.now) (all_standing statements.now) ≡ true) (WrongAmong basic.now (all_standing statements.now)) }
 {
-    for (place, statement) in statements.iter().enumerate() {
+    for (location, statement) in statements.iter().enumerate() {
         if let Some(part) = wrong_part(basic, statement) {
-            return Some((place, part));
+            return Some((location, part));
         }
     }
     None

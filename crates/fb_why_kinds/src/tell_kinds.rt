@@ -1,8 +1,8 @@
 //! The text for a wrong kind or range: where it is, what is there, and what was expected.
 
+use crate::location::{Misfit, Misjoin, Site, StatementPart, Variables};
 use crate::misfits::internals_of;
 use crate::misjoins::type_at_end;
-use crate::place::{Misfit, Misjoin, Site, StatementPart, Variables};
 use crate::statements::{Standing, all_statements};
 use crate::tell_sites::{
     instance_of, push_basic, push_block, push_instance, push_site, push_transition, scope_of,
@@ -14,9 +14,13 @@ use fb_types::{BasicType, BlockType, Choice, Expr, Library, Reference, Sort, Stm
 use std::alloc::{AllocError, Global};
 
 /// Says where a value, an expression or a statement has the wrong kind.
-pub fn tell_misfit(alloc: Global, library: &Library, place: Misfit) -> Result<String, AllocError> {
+pub fn tell_misfit(
+    alloc: Global,
+    library: &Library,
+    location: Misfit,
+) -> Result<String, AllocError> {
     let mut text = Text::new(alloc);
-    push_misfit(alloc, &mut text, library, place)?;
+    push_misfit(alloc, &mut text, library, location)?;
     text.into_string()
 }
 
@@ -24,10 +28,10 @@ pub fn tell_misfit(alloc: Global, library: &Library, place: Misfit) -> Result<St
 pub fn tell_misjoin(
     alloc: Global,
     library: &Library,
-    place: Misjoin,
+    location: Misjoin,
 ) -> Result<String, AllocError> {
     let mut text = Text::new(alloc);
-    push_misjoin(&mut text, library, place);
+    push_misjoin(&mut text, library, location);
     text.into_string()
 }
 
@@ -35,9 +39,9 @@ fn push_misfit(
     alloc: Global,
     text: &mut Text,
     library: &Library,
-    place: Misfit,
+    location: Misfit,
 ) -> Result<(), AllocError> {
-    match place {
+    match location {
         Misfit::Initial {
             block,
             variables,
@@ -176,10 +180,10 @@ fn push_found(
     text: &mut Text,
     basic: &BasicType,
     statements: &[Standing],
-    (place, part): (usize, StatementPart),
+    (location, part): (usize, StatementPart),
 ) {
-    if let Some(standing) = statements.get(place) {
-        text.numbered(": statement ", place as i128 + 1);
+    if let Some(standing) = statements.get(location) {
+        text.numbered(": statement ", location as i128 + 1);
         text.words(": ");
         push_part(text, basic, standing.statement, part);
     }
@@ -233,16 +237,16 @@ fn push_assignment(
 }
 
 fn push_choice(text: &mut Text, basic: &BasicType, choices: &[Choice], part: StatementPart) {
-    let StatementPart::Choice(place) = part else {
+    let StatementPart::Choice(location) = part else {
         return;
     };
-    let Some(choice) = choices.get(place) else {
+    let Some(choice) = choices.get(location) else {
         return;
     };
-    let words = if place == 0 {
+    let words = if location == 0 {
         "IF .."
     } else {
-        text.numbered("IF .., ELSIF number ", place as i128);
+        text.numbered("IF .., ELSIF number ", location as i128);
         ""
     };
     push_kind(text, basic, words, (Sort::TruthValue, &choice.condition));
@@ -272,12 +276,12 @@ fn push_for(
     }
 }
 
-fn push_misjoin(text: &mut Text, library: &Library, place: Misjoin) {
-    push_site(text, library, place.site);
-    let Some(scope) = scope_of(library, place.site) else {
+fn push_misjoin(text: &mut Text, library: &Library, location: Misjoin) {
+    push_site(text, library, location.site);
+    let Some(scope) = scope_of(library, location.site) else {
         return;
     };
-    let Some(connection) = scope.network.data_connections.get(place.connection) else {
+    let Some(connection) = scope.network.data_connections.get(location.connection) else {
         return;
     };
     text.connection(": data connection ", connection);

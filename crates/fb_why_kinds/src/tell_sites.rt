@@ -1,7 +1,7 @@
 //! Words for networks, block types and instances, and how they are found.
 
+use crate::location::Site;
 use crate::networks::PlacedNetwork;
-use crate::place::Site;
 use crate::words::Text;
 use fb_types::{BasicType, BlockType, Instance, Library, Transition};
 

@@ -6,9 +6,9 @@ ghost use Rattle.fb_why_kinds.specs.Unknown.{IsUnknownAt};
 
 use crate::blocks::unknown_in_blocks;
 use crate::deployment::unknown_in_deployment;
+use crate::location::{Site, UnknownName};
 use crate::lookup::BlockTypes;
 use crate::networks::{PlacedNetwork, unknown_in_network};
-use crate::place::{Site, UnknownName};
 use fb_types::{Library, Plan};
 use std::alloc::{AllocError, Global};
 
@@ -26,11 +26,11 @@ fn unknown_with(
         composite: None,
         network: &library.application.network,
     };
-    if let Some(place) = unknown_in_network(types, Site::Application, &scope) {
-        return Ok(Some(place));
+    if let Some(location) = unknown_in_network(types, Site::Application, &scope) {
+        return Ok(Some(location));
     }
-    if let Some(place) = unknown_in_blocks(alloc, types)? {
-        return Ok(Some(place));
+    if let Some(location) = unknown_in_blocks(alloc, types)? {
+        return Ok(Some(location));
     }
     Ok(unknown_in_deployment(library, plan))
 }
@@ -40,7 +40,7 @@ fn unknown_with(
 /// # Errors
 ///
 /// When memory runs out.
-pub fn unknown_place(
+pub fn unknown_location(
     alloc: Global,
     library: &Library,
     plan: &Plan,

@@ -1,9 +1,9 @@
 //! The text for a name that stands for nothing: where it is, and what was expected there.
 
+use crate::location::{ActionPart, Direction, FlowKind, Side, Site, TransitionPart, UnknownName};
 use crate::lookup::BlockTypes;
 use crate::mentions::{Mention, push_body, push_expression};
 use crate::networks::{PlacedNetwork, input_of, output_of};
-use crate::place::{ActionPart, Direction, FlowKind, Side, Site, TransitionPart, UnknownName};
 use crate::tell_sites::{
     instance_of, push_basic, push_block, push_instance, push_site, push_transition, scope_of,
 };
@@ -17,10 +17,10 @@ pub fn tell_unknown(
     alloc: Global,
     library: &Library,
     plan: &Plan,
-    place: UnknownName,
+    location: UnknownName,
 ) -> Result<String, AllocError> {
     let types = BlockTypes::new(alloc, library)?;
-    unknown_text(alloc, &types, plan, place)
+    unknown_text(alloc, &types, plan, location)
 }
 
 /// Writes the text of the location into a text that has one owner, outside all calls that may fail.
@@ -28,22 +28,22 @@ fn unknown_text(
     alloc: Global,
     types: &BlockTypes,
     plan: &Plan,
-    place: UnknownName,
+    location: UnknownName,
 ) -> Result<String, AllocError> {
     let mut text = Text::new(alloc);
-    tell_place(alloc, &mut text, types, plan, place)?;
+    tell_location(alloc, &mut text, types, plan, location)?;
     text.into_string()
 }
 
-fn tell_place(
+fn tell_location(
     alloc: Global,
     text: &mut Text,
     types: &BlockTypes,
     plan: &Plan,
-    place: UnknownName,
+    location: UnknownName,
 ) -> Result<(), AllocError> {
     let library = types.library;
-    match place {
+    match location {
         UnknownName::InstanceType { site, instance } => tell_type(text, library, site, instance),
         UnknownName::Parameter {
             site,
@@ -60,7 +60,7 @@ fn tell_place(
             tell_mapped(text, library, plan, resource, instance);
         }
         UnknownName::LinkEnd { link, side } => tell_link(text, plan, link, side),
-        _ => return tell_in_block(alloc, text, library, place),
+        _ => return tell_in_block(alloc, text, library, location),
     }
     Ok(())
 }
@@ -187,9 +187,9 @@ fn tell_in_block(
     alloc: Global,
     text: &mut Text,
     library: &Library,
-    place: UnknownName,
+    location: UnknownName,
 ) -> Result<(), AllocError> {
-    match place {
+    match location {
         UnknownName::With {
             block,
             direction,

@@ -17,7 +17,7 @@ use Rattle.fb_laws.specs.Sound.{IsSound}
 use Rattle.fb_link.specs.Arrivals.{arrival_at, IsEarliest}
 use Rattle.fb_laws.specs.Cuts.{IsCut, StopAllows, LinkAllows}
 use Rattle.fb_window.specs.Bounding.{IsInReach, IsNear, IsGreatest, AreGreatest}
-use Rattle.fb_types.proofs.ByPlace.{element_at}
+use Rattle.fb_types.proofs.ByIndex.{element_at}
 
 -- ---- The greatest tick that is allowed
 
@@ -351,7 +351,7 @@ module _ {X : Type 0} (clock : X → ℕ) (stop : X → Option Reason) (Rests : 
         (λ q y t sent f. earliest_allows sys table l (floor_of (stop x) (clock x) m) e same is (min v e) sent (omega arith) (moved x y (sys.sender l) s t sent f))
         (λ other b h. let g : other ≤ e = earliest_greatest sys table l (floor_of (stop x) (clock x) m) e same is other (λ sent f. h at x s sent f) in omega arith)
 
-  -- One link more, at the places of all resources.
+  -- One link more, at the indexes of all resources.
   module _ (sys : System) (xs : List X) (m top : ℕ) where
     abbrev pub AreCut : (count : ℕ) → List ℕ → Type 0
     AreCut count all = (r : ℕ) → r < length all → IsCut (LinkAllows clock stop sys xs m r) top count (slice_index all r)

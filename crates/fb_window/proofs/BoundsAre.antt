@@ -28,7 +28,7 @@ use Rattle.fb_laws.specs.Phases.{Turn, IsPhase}
 use Rattle.fb_window.specs.Leaving.{AreLegal}
 use Rattle.fb_window.specs.Settling.{AreTurns, HasRisen, after_phase}
 use Rattle.fb_laws.proofs.AtHome.{clock_legal, clock_in_range}
-use Rattle.fb_types.proofs.ByPlace.{element_at}
+use Rattle.fb_types.proofs.ByIndex.{element_at}
 use Rattle.fb_window.proofs.Bounding.{IsCoreOf, AreComputed, greatest, least_floor, least_most}
 use Rattle.fb_window.proofs.Passes.{clock_of, stop_of, Rests, IsLeastOf, least_cut}
 use Rattle.fb_laws.proofs.Keeps.{Inv}

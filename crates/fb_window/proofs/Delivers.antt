@@ -38,9 +38,9 @@ map_at f [] n x e = absurd (let g : None ≡ Some x = e in cc)
 map_at f (y ∷ ys) zero x e = let g : y ≡ x = cc in ap (λ z. Some (f z)) g
 map_at f (y ∷ ys) (suc n) x e = map_at f ys n x e
 
-pub all_by_place : {X : Type 0} (P : X → Type 0) (xs : List X) → ((n : ℕ) (x : X) → slice_get xs n ≡ Some x → P x) → All P xs
-all_by_place P [] h = All-nil P
-all_by_place P (x ∷ xs) h = All-cons P x xs (h 0 x refl) (all_by_place P xs (λ n y e. h (suc n) y e))
+pub all_by_index : {X : Type 0} (P : X → Type 0) (xs : List X) → ((n : ℕ) (x : X) → slice_get xs n ≡ Some x → P x) → All P xs
+all_by_index P [] h = All-nil P
+all_by_index P (x ∷ xs) h = All-cons P x xs (h 0 x refl) (all_by_index P xs (λ n y e. h (suc n) y e))
 
 pub all_flat : {X A : Type 0} (P : X → Type 0) (g : A → List X) (boxes : List A) → ((s : ℕ) (a : A) → slice_get boxes s ≡ Some a → All P (g a)) → All P (flat_map g boxes)
 all_flat P g [] h = All-nil P
@@ -96,7 +96,7 @@ stands_alike i limit l n x s part stop own inbox class = record {
 
 -- ---- The exchange
 
--- The resource at a place is what a member of the core has there, which may have an outbox that is not empty.
+-- The resource at an index is what a member of the core has there, which may have an outbox that is not empty.
 pub record IsBackAs (i : Inputs) (limit : ℕ) (m : Member (machine (system_of i) limit)) (r : ℕ) (y : Resource) : Type 0 where
   pub number : y.tree.resource ≡ r
   pub of : IsOf i y

@@ -19,7 +19,7 @@ use Rattle.fb_window.specs.Frontiers.{AreCut}
 use Rattle.fb_window.specs.Settling.{lists_of}
 use Rattle.fb_laws.proofs.Edges.{IsLater, each_filter, whole, handed_merge, handed_more, none_final}
 use Rattle.fb_laws.proofs.Handing.{AreLinesOf}
-use Rattle.fb_laws.proofs.Places.{has_at, is_at, one_at, index_at}
+use Rattle.fb_laws.proofs.Indexes.{has_at, is_at, one_at, index_at}
 
 -- ---- Lists
 

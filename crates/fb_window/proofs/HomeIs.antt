@@ -16,7 +16,7 @@ use Rattle.fb_resource.specs.declared.resource.WindowDone.TheVariants.{Ran}
 use Rattle.fb_window.specs.Jobs.{Does, JobModel, job_of, jobs_of, resting_of}
 use Rattle.fb_window.specs.Homes.{HasCome, IsHomeAt, IsHomeTo, AreHome}
 use Rattle.fb_window.specs.declared.home.Home.{Home}
-use Rattle.fb_laws.proofs.Places.{push_here, push_before, push_counted, drop_at, drop_none}
+use Rattle.fb_laws.proofs.Indexes.{push_here, push_before, push_counted, drop_at, drop_none}
 
 -- what rested had stopped, and what had not stopped left
 pub resting_some : (x y : Resource) → resting_of x ≡ Some y → (reason : Reason) × (x.stopped ≡ Some reason) × (y ≡ x)
@@ -56,28 +56,28 @@ module _ (i : Inputs) (limit : ℕ) (bounds : List ℕ) (xs : List Resource) (li
   }
 
   -- what is left of the lists, where the first of them is this one
-  first_left : (place : ℕ) (k : Vec Line) (ks : List (Vec Line)) → k ∷ ks ≡ drop place lists → (slice_get lists place ≡ Some k) × (ks ≡ drop (place + 1) lists)
-  first_left place k ks e = go (slice_get lists place) refl
+  first_left : (index : ℕ) (k : Vec Line) (ks : List (Vec Line)) → k ∷ ks ≡ drop index lists → (slice_get lists index ≡ Some k) × (ks ≡ drop (index + 1) lists)
+  first_left index k ks e = go (slice_get lists index) refl
     where
-      go : (o : Option (Vec Line)) → slice_get lists place ≡ o → (slice_get lists place ≡ Some k) × (ks ≡ drop (place + 1) lists)
-      go (Some z) q = let f : k ∷ ks ≡ z ∷ drop (place + 1) lists = e ∙ drop_at lists place z q in let g : z ≡ k = cc in let t : ks ≡ drop (place + 1) lists = cc in (q ∙ ap Some g, t)
-      go None q = absurd (let f : k ∷ ks ≡ [] = e ∙ drop_none lists place q in cc)
+      go : (o : Option (Vec Line)) → slice_get lists index ≡ o → (slice_get lists index ≡ Some k) × (ks ≡ drop (index + 1) lists)
+      go (Some z) q = let f : k ∷ ks ≡ z ∷ drop (index + 1) lists = e ∙ drop_at lists index z q in let g : z ≡ k = cc in let t : ks ≡ drop (index + 1) lists = cc in (q ∙ ap Some g, t)
+      go None q = absurd (let f : k ∷ ks ≡ [] = e ∙ drop_none lists index q in cc)
 
-  home_push : (place : ℕ) (x y : Resource) (k lines : Vec Line) (sent : Vec Message) (ks : List (Vec Line)) (ds es : List WindowDone) (old new : Home)
-      → slice_get xs place ≡ Some x → IsHomeTo i limit bounds xs lists place (k ∷ ks) ds old → IsPushed y lines sent old new
-      → HasCome i limit (slice_index_or bounds place 0) x k.items y lines.items sent
-      → AllZip Does (jobs_of i limit bounds (place + 1) (drop (place + 1) xs)) es
-      → IsHomeTo i limit bounds xs lists (place + 1) ks es new
-  home_push place x y k lines sent ks ds es old new at h p come done = record {
-    resources = ap length p.resources ∙ push_counted old.resources.items y place h.resources;
-    pending = ap length p.pending ∙ push_counted old.pending.items lines place h.pending;
-    outboxes = ap length p.outboxes ∙ push_counted old.outboxes.items sent place h.outboxes;
-    left = (first_left place k ks h.left).1;
+  home_push : (index : ℕ) (x y : Resource) (k lines : Vec Line) (sent : Vec Message) (ks : List (Vec Line)) (ds es : List WindowDone) (old new : Home)
+      → slice_get xs index ≡ Some x → IsHomeTo i limit bounds xs lists index (k ∷ ks) ds old → IsPushed y lines sent old new
+      → HasCome i limit (slice_index_or bounds index 0) x k.items y lines.items sent
+      → AllZip Does (jobs_of i limit bounds (index + 1) (drop (index + 1) xs)) es
+      → IsHomeTo i limit bounds xs lists (index + 1) ks es new
+  home_push index x y k lines sent ks ds es old new at h p come done = record {
+    resources = ap length p.resources ∙ push_counted old.resources.items y index h.resources;
+    pending = ap length p.pending ∙ push_counted old.pending.items lines index h.pending;
+    outboxes = ap length p.outboxes ∙ push_counted old.outboxes.items sent index h.outboxes;
+    left = (first_left index k ks h.left).1;
     done = done;
-    each = λ r b. ⊎_elim (λ l. kept_at r y lines sent old new p (h.each r l)) (λ l. let e : place ≡ r = omega arith in subst (λ (z : ℕ). IsHomeAt i limit bounds xs lists z new) e here) (cases_lt r place);
+    each = λ r b. ⊎_elim (λ l. kept_at r y lines sent old new p (h.each r l)) (λ l. let e : index ≡ r = omega arith in subst (λ (z : ℕ). IsHomeAt i limit bounds xs lists z new) e here) (cases_lt r index);
   }
     where
-      here : IsHomeAt i limit bounds xs lists place new
+      here : IsHomeAt i limit bounds xs lists index new
       here = record {
         old = x;
         kept = k;
@@ -85,45 +85,45 @@ module _ (i : Inputs) (limit : ℕ) (bounds : List ℕ) (xs : List Resource) (li
         lines = lines;
         sent = sent;
         old_at = at;
-        kept_at = (first_left place k ks h.left).0;
-        new_at = ap (λ z. slice_get z place) p.resources ∙ push_here old.resources.items y place h.resources;
-        lines_at = ap (λ z. slice_get z place) p.pending ∙ push_here old.pending.items lines place h.pending;
-        sent_at = ap (λ z. slice_get z place) p.outboxes ∙ push_here old.outboxes.items sent place h.outboxes;
+        kept_at = (first_left index k ks h.left).0;
+        new_at = ap (λ z. slice_get z index) p.resources ∙ push_here old.resources.items y index h.resources;
+        lines_at = ap (λ z. slice_get z index) p.pending ∙ push_here old.pending.items lines index h.pending;
+        sent_at = ap (λ z. slice_get z index) p.outboxes ∙ push_here old.outboxes.items sent index h.outboxes;
         come = come;
       }
 
   -- the jobs that are left, from a resource on
-  jobs_left : (place : ℕ) (x : Resource) (ds : List WindowDone) → slice_get xs place ≡ Some x → AllZip Does (jobs_of i limit bounds place (drop place xs)) ds
-      → AllZip Does (job_of i limit (slice_index_or bounds place 0) x ++ jobs_of i limit bounds (place + 1) (drop (place + 1) xs)) ds
-  jobs_left place x ds at h = subst (λ (z : List Resource). AllZip Does (jobs_of i limit bounds place z) ds) (drop_at xs place x at) h
+  jobs_left : (index : ℕ) (x : Resource) (ds : List WindowDone) → slice_get xs index ≡ Some x → AllZip Does (jobs_of i limit bounds index (drop index xs)) ds
+      → AllZip Does (job_of i limit (slice_index_or bounds index 0) x ++ jobs_of i limit bounds (index + 1) (drop (index + 1) xs)) ds
+  jobs_left index x ds at h = subst (λ (z : List Resource). AllZip Does (jobs_of i limit bounds index z) ds) (drop_at xs index x at) h
 
   -- a resource that has stopped
-  pub home_rested : (place : ℕ) (x : Resource) (k : Vec Line) (sent : Vec Message) (ks : List (Vec Line)) (ds : List WindowDone) (old new : Home) (reason : Reason)
-      → slice_get xs place ≡ Some x → x.stopped ≡ Some reason → IsHomeTo i limit bounds xs lists place (k ∷ ks) ds old → IsPushed x k sent old new → sent.items ≡ []
-      → IsHomeTo i limit bounds xs lists (place + 1) ks ds new
-  home_rested place x k sent ks ds old new reason at stop h p none =
-      home_push place x x k k sent ks ds ds old new at h p
+  pub home_rested : (index : ℕ) (x : Resource) (k : Vec Line) (sent : Vec Message) (ks : List (Vec Line)) (ds : List WindowDone) (old new : Home) (reason : Reason)
+      → slice_get xs index ≡ Some x → x.stopped ≡ Some reason → IsHomeTo i limit bounds xs lists index (k ∷ ks) ds old → IsPushed x k sent old new → sent.items ≡ []
+      → IsHomeTo i limit bounds xs lists (index + 1) ks ds new
+  home_rested index x k sent ks ds old new reason at stop h p none =
+      home_push index x x k k sent ks ds ds old new at h p
       (record { ran = λ e. absurd (none_some _ _ e stop); rested = λ q e. (refl, refl, none) })
-      (subst (λ (o : List JobModel). AllZip Does (o ++ jobs_of i limit bounds (place + 1) (drop (place + 1) xs)) ds) (no_job x.stopped stop) (jobs_left place x ds at h.done))
+      (subst (λ (o : List JobModel). AllZip Does (o ++ jobs_of i limit bounds (index + 1) (drop (index + 1) xs)) ds) (no_job x.stopped stop) (jobs_left index x ds at h.done))
     where
       no_job : (o : Option Reason) → o ≡ Some reason
-          → elim o as (λ _. List JobModel) [ None ↦ record { inputs = i; steps = limit; resource = x; to = slice_index_or bounds place 0 } ∷ [] | Some q ↦ [] ] ≡ []
+          → elim o as (λ _. List JobModel) [ None ↦ record { inputs = i; steps = limit; resource = x; to = slice_index_or bounds index 0 } ∷ [] | Some q ↦ [] ] ≡ []
       no_job None e = absurd (let f : None ≡ Some reason = e in cc)
       no_job (Some q) e = refl
 
   -- and one that ran
-  pub home_ran : (place : ℕ) (x y : Resource) (k new_lines lines : Vec Line) (sent : Vec Message) (stop : Option StopMark) (ks : List (Vec Line)) (ds : List WindowDone) (old new : Home)
-      → slice_get xs place ≡ Some x → x.stopped ≡ None → IsHomeTo i limit bounds xs lists place (k ∷ ks) (Ran y new_lines sent stop ∷ ds) old → IsPushed y lines sent old new
+  pub home_ran : (index : ℕ) (x y : Resource) (k new_lines lines : Vec Line) (sent : Vec Message) (stop : Option StopMark) (ks : List (Vec Line)) (ds : List WindowDone) (old new : Home)
+      → slice_get xs index ≡ Some x → x.stopped ≡ None → IsHomeTo i limit bounds xs lists index (k ∷ ks) (Ran y new_lines sent stop ∷ ds) old → IsPushed y lines sent old new
       → lines.items ≡ k.items ++ new_lines.items
-      → IsHomeTo i limit bounds xs lists (place + 1) ks ds new
-  home_ran place x y k new_lines lines sent stop ks ds old new at live h p joined =
-      let jobs = subst (λ (o : List JobModel). AllZip Does (o ++ jobs_of i limit bounds (place + 1) (drop (place + 1) xs)) (Ran y new_lines sent stop ∷ ds)) (one_job x.stopped live) (jobs_left place x (Ran y new_lines sent stop ∷ ds) at h.done) in
-      home_push place x y k lines sent ks (Ran y new_lines sent stop ∷ ds) ds old new at h p
+      → IsHomeTo i limit bounds xs lists (index + 1) ks ds new
+  home_ran index x y k new_lines lines sent stop ks ds old new at live h p joined =
+      let jobs = subst (λ (o : List JobModel). AllZip Does (o ++ jobs_of i limit bounds (index + 1) (drop (index + 1) xs)) (Ran y new_lines sent stop ∷ ds)) (one_job x.stopped live) (jobs_left index x (Ran y new_lines sent stop ∷ ds) at h.done) in
+      home_push index x y k lines sent ks (Ran y new_lines sent stop ∷ ds) ds old new at h p
       (record { ran = λ e. (new_lines, stop, jobs.0, joined); rested = λ q e. absurd (none_some _ _ live e) })
       jobs.1
     where
       one_job : (o : Option Reason) → o ≡ None
-          → elim o as (λ _. List JobModel) [ None ↦ record { inputs = i; steps = limit; resource = x; to = slice_index_or bounds place 0 } ∷ [] | Some q ↦ [] ] ≡ record { inputs = i; steps = limit; resource = x; to = slice_index_or bounds place 0 } ∷ []
+          → elim o as (λ _. List JobModel) [ None ↦ record { inputs = i; steps = limit; resource = x; to = slice_index_or bounds index 0 } ∷ [] | Some q ↦ [] ] ≡ record { inputs = i; steps = limit; resource = x; to = slice_index_or bounds index 0 } ∷ []
       one_job None e = refl
       one_job (Some q) e = absurd (let f : Some q ≡ None = e in cc)
 
@@ -140,9 +140,9 @@ home_none i limit bounds xs lists ds h done a b c = record {
 }
 
 -- all have
-pub home_all : (i : Inputs) (limit : ℕ) (bounds : List ℕ) (xs : List Resource) (lists : List (Vec Line)) (place : ℕ) (ks : List (Vec Line)) (ds : List WindowDone) (h : Home)
-    → IsHomeTo i limit bounds xs lists place ks ds h → place ≡ length xs → AreHome i limit bounds xs lists h
-home_all i limit bounds xs lists place ks ds h a e = record {
+pub home_all : (i : Inputs) (limit : ℕ) (bounds : List ℕ) (xs : List Resource) (lists : List (Vec Line)) (index : ℕ) (ks : List (Vec Line)) (ds : List WindowDone) (h : Home)
+    → IsHomeTo i limit bounds xs lists index ks ds h → index ≡ length xs → AreHome i limit bounds xs lists h
+home_all i limit bounds xs lists index ks ds h a e = record {
   resources = a.resources ∙ e;
   pending = a.pending ∙ e;
   outboxes = a.outboxes ∙ e;

@@ -9,7 +9,7 @@ use Rattle.fb_types.specs.Simulation.{opening}
 use Rattle.fb_types.specs.Cores.{Core, CoreStep, Lend, Member, done, opening_core, returned}
 use Rattle.fb_types.specs.Schedules.{IsSchedule, core_after}
 use Rattle.fb_types.specs.declared.run.Line.{Line}
-use Rattle.fb_types.proofs.ByPlace.{element_at}
+use Rattle.fb_types.proofs.ByIndex.{element_at}
 use Rattle.fb_types.proofs.Lookups.{option_cases}
 use Rattle.fb_system.specs.Lines.{BelongsTo}
 use Rattle.fb_resource.specs.declared.resource.Resource.{Resource}

@@ -7,15 +7,15 @@ use Rattle.fb_window.specs.Jobs.{JobModel, job_of, jobs_of, resting_of}
 use Rattle.std.specs.Prelude.{slice_index_or, is_some}
 
 -- the jobs of one resource more
-pub jobs_push : (i : Inputs) (limit : ℕ) (bounds : List ℕ) (first place : ℕ) (xs : List Resource) (x : Resource) → first + length xs ≡ place
-    → jobs_of i limit bounds first (xs ++ x ∷ []) ≡ jobs_of i limit bounds first xs ++ job_of i limit (slice_index_or bounds place 0) x
-jobs_push i limit bounds first place [] x e =
-    let f : first ≡ place = omega arith in
+pub jobs_push : (i : Inputs) (limit : ℕ) (bounds : List ℕ) (first index : ℕ) (xs : List Resource) (x : Resource) → first + length xs ≡ index
+    → jobs_of i limit bounds first (xs ++ x ∷ []) ≡ jobs_of i limit bounds first xs ++ job_of i limit (slice_index_or bounds index 0) x
+jobs_push i limit bounds first index [] x e =
+    let f : first ≡ index = omega arith in
     append-nil (job_of i limit (slice_index_or bounds first 0) x) ∙ ap (λ n. job_of i limit (slice_index_or bounds n 0) x) f
-jobs_push i limit bounds first place (y ∷ ys) x e =
-    let f : (first + 1) + length ys ≡ place = omega arith in
-    ap (λ z. job_of i limit (slice_index_or bounds first 0) y ++ z) (jobs_push i limit bounds (first + 1) place ys x f)
-    ∙ sym (append_assoc (job_of i limit (slice_index_or bounds first 0) y) (jobs_of i limit bounds (first + 1) ys) (job_of i limit (slice_index_or bounds place 0) x))
+jobs_push i limit bounds first index (y ∷ ys) x e =
+    let f : (first + 1) + length ys ≡ index = omega arith in
+    ap (λ z. job_of i limit (slice_index_or bounds first 0) y ++ z) (jobs_push i limit bounds (first + 1) index ys x f)
+    ∙ sym (append_assoc (job_of i limit (slice_index_or bounds first 0) y) (jobs_of i limit bounds (first + 1) ys) (job_of i limit (slice_index_or bounds index 0) x))
 
 job_few : (i : Inputs) (limit to : ℕ) (x : Resource) → length (job_of i limit to x) ≤ 1
 job_few i limit to x = go x.stopped
@@ -40,7 +40,7 @@ jobs_few i limit bounds first (x ∷ xs) =
 
 -- ---- One resource
 
--- one that has not stopped has a job, and none rests at its place
+-- one that has not stopped has a job, and none rests at its index
 pub job_none : (i : Inputs) (limit to : ℕ) (x : Resource) → x.stopped ≡ None → job_of i limit to x ≡ record { inputs = i; steps = limit; resource = x; to = to } ∷ []
 job_none i limit to x e =
     ap (λ (o : Option Reason). elim o as (λ _. List JobModel) [ None ↦ record { inputs = i; steps = limit; resource = x; to = to } ∷ [] | Some q ↦ [] ]) e

@@ -6,7 +6,7 @@ use Rattle.fb_types.specs.Headline.{Inputs, system_of}
 use Rattle.fb_types.specs.Parts.{count_of}
 use Rattle.fb_types.specs.Systems.{System}
 use Rattle.fb_laws.proofs.Accepting.{sound_of}
-use Rattle.fb_laws.proofs.Places.{has_at, is_at, one_at, push_before, push_counted, push_here}
+use Rattle.fb_laws.proofs.Indexes.{has_at, is_at, one_at, push_before, push_counted, push_here}
 use Rattle.fb_window.specs.LinkRows.{AreLinksOf, AreRowsOf, IsLink}
 use Rattle.fb_window.specs.declared.links.LinkRow.{LinkRow}
 use Rattle.fb_window.proofs.Passes.{few_resources}

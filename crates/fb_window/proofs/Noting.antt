@@ -12,7 +12,7 @@ use Rattle.fb_resource.specs.Posts.{receiver_of}
 use Rattle.fb_resource.specs.declared.resource.Resource.{Resource}
 use Rattle.fb_window.specs.Mails.{AreGiven}
 use Rattle.fb_window.specs.Noting.{AreNoted, IsHanded, IsNoted}
-use Rattle.fb_laws.proofs.Places.{has_at, is_at, one_at, push_before, push_counted, push_here}
+use Rattle.fb_laws.proofs.Indexes.{has_at, is_at, one_at, push_before, push_counted, push_here}
 use Rattle.fb_window.proofs.Receives.{given_more, given_none}
 
 -- ---- Of so many resources
@@ -57,20 +57,20 @@ noted_all horizon xs count ticks h e = record { counted = h.counted ∙ e; each 
 
 -- ---- One of them again
 
-pub noted_set : (horizon : ℕ) (xs : List Resource) (ticks : List ℕ) (place : ℕ) (x : Resource) (tick : ℕ) → AreNoted horizon xs ticks → place < length ticks → IsNoted horizon x tick
-    → AreNoted horizon (slice_set xs place x) (slice_set ticks place tick)
-noted_set horizon xs ticks place x tick h within here = record {
-  counted = length-set ticks place tick ∙ h.counted ∙ sym (length-set xs place x);
-  each = λ r y t f g. ⊎_elim (λ q. same r q y t f g) (λ n. h.each r y t (set_apart xs place r x y n f) (set_apart ticks place r tick t n g)) (cases_eq r place);
+pub noted_set : (horizon : ℕ) (xs : List Resource) (ticks : List ℕ) (index : ℕ) (x : Resource) (tick : ℕ) → AreNoted horizon xs ticks → index < length ticks → IsNoted horizon x tick
+    → AreNoted horizon (slice_set xs index x) (slice_set ticks index tick)
+noted_set horizon xs ticks index x tick h within here = record {
+  counted = length-set ticks index tick ∙ h.counted ∙ sym (length-set xs index x);
+  each = λ r y t f g. ⊎_elim (λ q. same r q y t f g) (λ n. h.each r y t (set_apart xs index r x y n f) (set_apart ticks index r tick t n g)) (cases_eq r index);
 }
   where
-    inside : place < length xs
+    inside : index < length xs
     inside = let c = h.counted in omega arith
 
-    same : (r : ℕ) → r ≡ place → (y : Resource) (t : ℕ) → slice_get (slice_set xs place x) r ≡ Some y → slice_get (slice_set ticks place tick) r ≡ Some t → IsNoted horizon y t
+    same : (r : ℕ) → r ≡ index → (y : Resource) (t : ℕ) → slice_get (slice_set xs index x) r ≡ Some y → slice_get (slice_set ticks index tick) r ≡ Some t → IsNoted horizon y t
     same r q y t f g =
-        let one : x ≡ y = set_here xs place x y inside (subst (λ (n : ℕ). slice_get (slice_set xs place x) n ≡ Some y) q f) in
-        let number : tick ≡ t = set_here ticks place tick t within (subst (λ (n : ℕ). slice_get (slice_set ticks place tick) n ≡ Some t) q g) in
+        let one : x ≡ y = set_here xs index x y inside (subst (λ (n : ℕ). slice_get (slice_set xs index x) n ≡ Some y) q f) in
+        let number : tick ≡ t = set_here ticks index tick t within (subst (λ (n : ℕ). slice_get (slice_set ticks index tick) n ≡ Some t) q g) in
         subst (λ (z : Resource). IsNoted horizon z t) one (subst (λ (n : ℕ). IsNoted horizon x n) number here)
 
 -- ---- The least

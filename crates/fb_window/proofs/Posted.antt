@@ -26,11 +26,11 @@ use Rattle.fb_window.specs.Standing.{IsAt, IsQuiet, Sits}
 use Rattle.fb_window.specs.declared.home.Home.{Home}
 use Rattle.fb_laws.proofs.AtHome.{outbox_sends}
 use Rattle.fb_laws.proofs.Boxes.{found_in, found_some, found_with_sender}
-use Rattle.fb_types.proofs.ByPlace.{all_at}
-use Rattle.fb_window.proofs.Delivers.{IsBackAs, all_by_place, all_filter, all_flat, fits, found_keyed, map_at, map_flat, sits_received, sits_still, still_quiet}
+use Rattle.fb_types.proofs.ByIndex.{all_at}
+use Rattle.fb_window.proofs.Delivers.{IsBackAs, all_by_index, all_filter, all_flat, fits, found_keyed, map_at, map_flat, sits_received, sits_still, still_quiet}
 use Rattle.fb_laws.proofs.Keeps.{Inv}
 use Rattle.fb_laws.proofs.Phasing.{all_turned}
-use Rattle.fb_laws.proofs.Places.{is_at, one_at}
+use Rattle.fb_laws.proofs.Indexes.{is_at, one_at}
 use Rattle.fb_window.proofs.Turns.{AreBack}
 
 -- ---- The exchange
@@ -93,7 +93,7 @@ module _ (i : Inputs) (limit horizon : ℕ) (c : Core (machine (system_of i) lim
   due : (r : ℕ) (y : Resource) → y.tree.resource ≡ r → (d r).clock ≡ y.clock → All (λ m. receiver_of (system_of i) m ≡ r → IsFor i y m) all
   due r y number clock =
       all_flat (λ m. receiver_of (system_of i) m ≡ r → IsFor i y m) (λ (a : Vec Message). a.items) h.outboxes.items
-      (λ s a e. all_by_place (λ m. receiver_of (system_of i) m ≡ r → IsFor i y m) a.items
+      (λ s a e. all_by_index (λ m. receiver_of (system_of i) m ≡ r → IsFor i y m) a.items
       (λ n m f to.
       let l : s < count_of (system_of i) = let g = is_at h.outboxes.items s a e in omega arith in
       let it = b.each s l in

@@ -21,7 +21,7 @@ use Rattle.fb_resource.specs.Resources.{HasReceived, IsFor, StandsFor, with_mess
 use Rattle.fb_resource.specs.declared.resource.Resource.{Resource}
 use Rattle.fb_window.specs.Mails.{AreGiven}
 use Rattle.fb_window.proofs.Delivers.{map_append}
-use Rattle.fb_laws.proofs.Places.{has_at, is_at, one_at}
+use Rattle.fb_laws.proofs.Indexes.{has_at, is_at, one_at}
 
 -- ---- One resource
 
@@ -75,7 +75,7 @@ received_more ms m x y z f g = record {
 pub given_none : (sys : System) (xs : List Resource) → AreGiven sys [] xs xs
 given_none sys xs = record { counted = refl; each = λ r x e. (x, e, received_none x) }
 
--- what is at another place of a list in which one element was set
+-- what is at another index of a list in which one element was set
 pub set_other : {A : Type 0} (xs : List A) (i j : ℕ) (x y : A) → j ≢ i → slice_get xs j ≡ Some y → slice_get (slice_set xs i x) j ≡ Some y
 set_other xs i j x y apart e =
     let b = is_at xs j y e in

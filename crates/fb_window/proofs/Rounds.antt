@@ -55,7 +55,7 @@ use Rattle.fb_laws.proofs.Handed.{until_at_stop}
 use Rattle.fb_laws.proofs.Handing.{AreLinesOf, core_lines, is_later}
 use Rattle.fb_laws.proofs.Keeps.{Inv}
 use Rattle.fb_laws.proofs.Phasing.{IsRound, all_turned, after_append, is_phase, is_round, phase_of}
-use Rattle.fb_laws.proofs.Places.{has_at, is_at as is_at_place, one_at}
+use Rattle.fb_laws.proofs.Indexes.{has_at, is_at as is_at_index, one_at}
 use Rattle.fb_window.proofs.Posted.{is_posted}
 use Rattle.fb_laws.proofs.Reached.{inv_after, runs_after}
 use Rattle.fb_laws.proofs.FloorsRise.{rises}
@@ -159,7 +159,7 @@ module _ (i : Inputs) (good : AreGood i) (limit horizon : ℕ) (es : List (CoreS
   joined_of r p q b e f (inr l) = absurd (omega arith)
 
   joined : (r : ℕ) (p q : Vec Line) → slice_get before r ≡ Some p → slice_get h.pending.items r ≡ Some q → q.items ≡ p.items ++ more r
-  joined r p q e f = joined_of r p q (let b = is_at_place h.pending.items r q f in let n = home.pending in let k = at.counted in omega arith) e f (cases_lt r (count_of sys))
+  joined r p q e f = joined_of r p q (let b = is_at_index h.pending.items r q f in let n = home.pending in let k = at.counted in omega arith) e f (cases_lt r (count_of sys))
 
   before_counted : {ls : List model.Line} → HasKept i limit horizon c (lists_of before) ls → length before ≡ count_of (system_of i)
   before_counted left = sym (length_lists before) ∙ left.counted

@@ -46,15 +46,15 @@ use Rattle.fb_window.specs.Walking.{IsSingle, Leads, Single, single_steps}
 use Rattle.fb_window.specs.declared.cores.CoreState as held
 use Rattle.fb_laws.proofs.AtHome.{outbox_sends}
 use Rattle.fb_laws.proofs.Boxes.{found_some}
-use Rattle.fb_types.proofs.ByPlace.{all_at}
-use Rattle.fb_window.proofs.Delivers.{IsBackAs, all_by_place, all_filter, fits, found_keyed, map_append, map_at, sits_received, still_quiet}
+use Rattle.fb_types.proofs.ByIndex.{all_at}
+use Rattle.fb_window.proofs.Delivers.{IsBackAs, all_by_index, all_filter, fits, found_keyed, map_append, map_at, sits_received, still_quiet}
 use Rattle.fb_laws.proofs.Edges.{IsLater, kept_more}
 use Rattle.fb_window.proofs.Gather.{left_same, list_at, map_length}
 use Rattle.fb_laws.proofs.Handing.{floor_stays, is_later}
 use Rattle.fb_types.proofs.Options.{some_from_is_some}
 use Rattle.fb_laws.proofs.Keeps.{Inv}
 use Rattle.fb_laws.proofs.Phasing.{IsRound, all_turned, after_append, is_round, other_steps, own_steps}
-use Rattle.fb_laws.proofs.Places.{has_at, is_at as is_at_place, one_at}
+use Rattle.fb_laws.proofs.Indexes.{has_at, is_at as is_at_index, one_at}
 use Rattle.fb_laws.proofs.Reached.{inv_after, runs_after}
 use Rattle.fb_window.proofs.Receives.{set_other, set_same}
 use Rattle.fb_window.proofs.Rounds.{schedule_rest}
@@ -106,7 +106,7 @@ module _ (i : Inputs) (good : AreGood i) (limit horizon : ℕ) (es : List (CoreS
   v = inv_after M law w horizon es opens sc
 
   within : r < length xs
-  within = is_at_place xs r x x_at
+  within = is_at_index xs r x x_at
 
   -- ---- It may have the turn
 
@@ -255,7 +255,7 @@ module _ (i : Inputs) (good : AreGood i) (limit horizon : ℕ) (es : List (CoreS
   due : (q : ℕ) (u : Resource) → IsBackAs i limit (back q) q u → All (IsFor i u) (filter (goes_to (system_of i) q) sent.items)
   due q u b =
       all_filter (IsFor i u) (goes_to sys q) sent.items
-      (all_by_place (λ p. goes_to sys q p ≡ true → IsFor i u p) sent.items
+      (all_by_index (λ p. goes_to sys q p ≡ true → IsFor i u p) sent.items
       (λ n p f to.
       let e = found_some (map (arriving i) sent.items) n (arriving i p) (map_at (arriving i) sent.items n p f) in
       fits i limit horizon back sent.items law w (runs_after M (es ++ fs)) back_inv round.home out_found r p e.0 (ap (λ z. found (arriving i p).0 z) box_here ∙ e.1)
@@ -273,7 +273,7 @@ module _ (i : Inputs) (good : AreGood i) (limit horizon : ℕ) (es : List (CoreS
     counted = given.counted ∙ length-set xs r y ∙ at.counted;
     each = λ q z e.
         let n = given.counted in
-        let l = is_at_place zs q z e in
+        let l = is_at_index zs q z e in
         let u = has_at (slice_set xs r y) q (omega arith) in
         let p = given.each q u.0 u.1 in
         let b = as_back q u.0 u.1 in
@@ -343,7 +343,7 @@ module _ (i : Inputs) (good : AreGood i) (limit horizon : ℕ) (es : List (CoreS
     lines_at : (q : ℕ) → q < count_of (system_of i) → ((q ≡ r) ⊎ (q ≢ r)) → lines_in i limit (lists_of (slice_set ps r new_p)) q ≡ lines_in i limit (lists_of ps) q ++ named (more q)
     lines_at q b (inl e) =
         let p_there : slice_get ps q ≡ Some p = subst (λ (z : ℕ). slice_get ps z ≡ Some p) (sym e) p_at in
-        let there : slice_get (slice_set ps r new_p) q ≡ Some new_p = subst (λ (z : ℕ). slice_get (slice_set ps r new_p) z ≡ Some new_p) (sym e) (set_same ps r new_p (is_at_place ps r p p_at)) in
+        let there : slice_get (slice_set ps r new_p) q ≡ Some new_p = subst (λ (z : ℕ). slice_get (slice_set ps r new_p) z ≡ Some new_p) (sym e) (set_same ps r new_p (is_at_index ps r p p_at)) in
         ap named (list_at (slice_set ps r new_p) q new_p there ∙ joined)
         ∙ map_append (line_of sys) p.items new.items
         ∙ ap (λ z. named z ++ named new.items) (sym (list_at ps q p p_there))

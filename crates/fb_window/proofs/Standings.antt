@@ -20,7 +20,7 @@ use Rattle.fb_resource.specs.declared.resource.Resource.{Resource}
 use Rattle.fb_laws.specs.Finality.{Edge, IsEdge, IsLeastTick}
 use Rattle.fb_window.specs.Frontiers.{AreAllPast, AreAtHorizon, IsFirstStop, IsFrontier, floor_at}
 use Rattle.fb_window.specs.Standing.{IsAt}
-use Rattle.fb_laws.proofs.Places.{has_at, is_at}
+use Rattle.fb_laws.proofs.Indexes.{has_at, is_at}
 
 module _ (i : Inputs) (limit : ℕ) (c : Core (machine (system_of i) limit)) (xs : List Resource) (at : IsAt i limit c xs) where
   abbrev M : Machine

@@ -17,12 +17,12 @@ use Rattle.fb_window.specs.Frontiers.{AreCut}
 use Rattle.fb_laws.specs.Finality.{Edge}
 use Rattle.fb_window.specs.Homes.{AreHome}
 use Rattle.fb_window.specs.declared.home.Home.{Home}
-use Rattle.fb_laws.proofs.Places.{has_at, is_at, one_at}
-use Rattle.fb_types.proofs.ByPlace.{all_at}
+use Rattle.fb_laws.proofs.Indexes.{has_at, is_at, one_at}
+use Rattle.fb_types.proofs.ByIndex.{all_at}
 
-pub all_by_place : {X : Type 0} (P : X → Type 0) (xs : List X) → ((n : ℕ) (x : X) → slice_get xs n ≡ Some x → P x) → All P xs
-all_by_place P [] h = All-nil P
-all_by_place P (x ∷ xs) h = All-cons P x xs (h 0 x refl) (all_by_place P xs (λ n y e. h (suc n) y e))
+pub all_by_index : {X : Type 0} (P : X → Type 0) (xs : List X) → ((n : ℕ) (x : X) → slice_get xs n ≡ Some x → P x) → All P xs
+all_by_index P [] h = All-nil P
+all_by_index P (x ∷ xs) h = All-cons P x xs (h 0 x refl) (all_by_index P xs (λ n y e. h (suc n) y e))
 
 all_front : {X : Type 0} (P : X → Type 0) (xs ys : List X) → All P (xs ++ ys) → All P xs
 all_front P [] ys h = All-nil P
@@ -36,7 +36,7 @@ module _ (i : Inputs) (limit : ℕ) (bounds : List ℕ) (xs : List Resource) (be
   -- the messages go to instances of the system
   pub targets_in : All (λ (box : Vec Message). All (λ m. m.target.instance < length (system_of i).paths) box.items) h.outboxes.items
   targets_in =
-      all_by_place (λ (box : Vec Message). All (λ m. m.target.instance < length (system_of i).paths) box.items) h.outboxes.items
+      all_by_index (λ (box : Vec Message). All (λ m. m.target.instance < length (system_of i).paths) box.items) h.outboxes.items
       (λ r box e.
       let b : r < length xs = let f = is_at h.outboxes.items r box e in let n = home.outboxes in omega arith in
       let it = home.each r b in
@@ -49,7 +49,7 @@ module _ (i : Inputs) (limit : ℕ) (bounds : List ℕ) (xs : List Resource) (be
   -- and the lines are its lines
   pub lines_belong : All (λ (p : Vec Line). All (BelongsTo (system_of i)) p.items) before → All (λ (p : Vec Line). All (BelongsTo (system_of i)) p.items) h.pending.items
   lines_belong old =
-      all_by_place (λ (p : Vec Line). All (BelongsTo (system_of i)) p.items) h.pending.items
+      all_by_index (λ (p : Vec Line). All (BelongsTo (system_of i)) p.items) h.pending.items
       (λ r lines e.
       let b : r < length xs = let f = is_at h.pending.items r lines e in let n = home.pending in omega arith in
       let it = home.each r b in
@@ -64,7 +64,7 @@ module _ (i : Inputs) (limit : ℕ) (bounds : List ℕ) (xs : List Resource) (be
 module _ (P : Line → Type 0) (e : Edge) (lists fronts rests : List (Vec Line)) (cut : AreCut e lists fronts rests) (all : All (λ (p : Vec Line). All P p.items) lists) where
   pub rests_in : All (λ (p : Vec Line). All P p.items) rests
   rests_in =
-      all_by_place (λ (p : Vec Line). All P p.items) rests
+      all_by_index (λ (p : Vec Line). All P p.items) rests
       (λ r p f.
       let b : r < length lists = let g = is_at rests r p f in let n = cut.rests in omega arith in
       let q = has_at lists r b in
@@ -74,7 +74,7 @@ module _ (P : Line → Type 0) (e : Edge) (lists fronts rests : List (Vec Line))
 
   fronts_in : All (λ (p : Vec Line). All P p.items) fronts
   fronts_in =
-      all_by_place (λ (p : Vec Line). All P p.items) fronts
+      all_by_index (λ (p : Vec Line). All P p.items) fronts
       (λ r p f.
       let b : r < length lists = let g = is_at fronts r p f in let n = cut.fronts in omega arith in
       let q = has_at lists r b in

@@ -112,7 +112,7 @@ module _ (i : Inputs) (limit horizon : ℕ) (c : Core (machine (system_of i) lim
             };
           }
 
-  -- What came home at a place.
+  -- What came home at an index.
   pub record IsBackAt (bounds : List ℕ) (workers : ℕ → ℕ) (xs : List Resource) (lists : List (Vec Line)) (h : Home) (r : ℕ) (turn : Option (Turn (machine (system_of i) limit))) : Type 0 where
     pub at : IsHomeAt i limit bounds xs lists r h
     pub back : IsBack r (slice_index_or bounds r 0) (workers r) at.old at.kept.items at.new at.lines.items at.sent.items turn

@@ -25,12 +25,12 @@ use Rattle.fb_window.specs.Frontiers.{AreLive}
 use Rattle.fb_window.specs.Standing.{IsAt}
 use Rattle.fb_window.specs.Walking.{HasTurned, IsWalked, Leads, Single, Walks, after_walk}
 use Rattle.fb_window.specs.declared.cores.CoreState.{CoreState}
-use Rattle.fb_laws.proofs.Places.{has_at, is_at, one_at, push_counted}
+use Rattle.fb_laws.proofs.Indexes.{has_at, is_at, one_at, push_counted}
 use Rattle.fb_window.proofs.Receives.{set_same}
 use Rattle.fb_window.proofs.Single.{leads}
 use Rattle.fb_window.proofs.Standings.{is_least}
-use Rattle.fb_types.proofs.ByPlace.{all_at}
-use Rattle.fb_window.proofs.Targets.{all_by_place}
+use Rattle.fb_types.proofs.ByIndex.{all_at}
+use Rattle.fb_window.proofs.Targets.{all_by_index}
 use Rattle.fb_window.proofs.Walking.{leads_more, leads_none}
 
 -- So many turns have led from the one core to the other.
@@ -91,22 +91,22 @@ module _ (i : Inputs) (limit horizon : ℕ) (first : CoreState) where
 
   module _ (good : AreGood i) (k : ℕ) (old : CoreState) (live : AreLive old.resources.items) (gone : HasGone i limit horizon first old k)
       (m : ℕ) (early : m < horizon) (low : (q : ℕ) (z : Resource) (j : Key) → slice_get old.resources.items q ≡ Some z → j.tick < m → waiting z.agenda j ≡ None)
-      (place : ℕ) (x : Resource) (x_at : slice_get old.resources.items place ≡ Some x) (next : IsNext x.agenda m)
-      (new : CoreState) (stop : Option StopMark) (turned : HasTurned i limit place (m + 1) old new stop) (system : new.system ≡ old.system) (steps : new.steps ≡ old.steps) where
+      (index : ℕ) (x : Resource) (x_at : slice_get old.resources.items index ≡ Some x) (next : IsNext x.agenda m)
+      (new : CoreState) (stop : Option StopMark) (turned : HasTurned i limit index (m + 1) old new stop) (system : new.system ≡ old.system) (steps : new.steps ≡ old.steps) where
     next_of : IsNext turned.before.agenda m
-    next_of = subst (λ (z : Resource). IsNext z.agenda m) (one_at old.resources.items place x turned.before x_at turned.was) next
+    next_of = subst (λ (z : Resource). IsNext z.agenda m) (one_at old.resources.items index x turned.before x_at turned.was) next
 
-    within : place < length old.pending.items
-    within = is_at old.pending.items place turned.kept turned.kept_was
+    within : index < length old.pending.items
+    within = is_at old.pending.items index turned.kept turned.kept_was
 
     belong_more : All (λ (p : Vec Line). All (BelongsTo (system_of i)) p.items) new.pending.items
     belong_more =
-        all_by_place (λ (p : Vec Line). All (BelongsTo (system_of i)) p.items) new.pending.items
+        all_by_index (λ (p : Vec Line). All (BelongsTo (system_of i)) p.items) new.pending.items
         (λ n p e.
-        set_each (λ q (o : Vec Line). All (BelongsTo (system_of i)) o.items) old.pending.items place turned.lines within
+        set_each (λ q (o : Vec Line). All (BelongsTo (system_of i)) o.items) old.pending.items index turned.lines within
         (subst (All (BelongsTo (system_of i))) (sym turned.joined)
         (All-append (BelongsTo (system_of i)) turned.kept.items turned.told.items
-        (all_at (λ (o : Vec Line). All (BelongsTo (system_of i)) o.items) old.pending.items place turned.kept gone.belong turned.kept_was) turned.ran.2))
+        (all_at (λ (o : Vec Line). All (BelongsTo (system_of i)) o.items) old.pending.items index turned.kept gone.belong turned.kept_was) turned.ran.2))
         (λ q o apart f. all_at (λ (z : Vec Line). All (BelongsTo (system_of i)) z.items) old.pending.items q o gone.belong f)
         n p (sym (ap (λ z. slice_get z n) turned.pending) ∙ e))
 
@@ -114,24 +114,24 @@ module _ (i : Inputs) (limit horizon : ℕ) (first : CoreState) where
     gone_more = record {
       system = system ∙ gone.system;
       steps = steps ∙ gone.steps;
-      counted = ap (λ z. length z) turned.pending ∙ length-set old.pending.items place turned.lines ∙ gone.counted ∙ sym (length-set old.resources.items place turned.after) ∙ sym turned.given.counted;
+      counted = ap (λ z. length z) turned.pending ∙ length-set old.pending.items index turned.lines ∙ gone.counted ∙ sym (length-set old.resources.items index turned.after) ∙ sym turned.given.counted;
       belong = belong_more;
       leads = λ es sc at.
           let h = gone.leads es sc at in
           let here = after_walk i limit es h.0 in
-          let step = leads i good limit horizon here h.1.schedule old.resources.items h.1.at live m early low place turned.before turned.was next_of turned.after turned.told turned.sent stop turned.ran
+          let step = leads i good limit horizon here h.1.schedule old.resources.items h.1.at live m early low index turned.before turned.was next_of turned.after turned.told turned.sent stop turned.ran
           new.resources.items turned.given old.pending.items gone.counted turned.kept turned.lines turned.kept_was turned.joined old new refl refl refl turned.pending in
           (h.0 ++ step.0 ∷ [], leads_more i limit horizon es first old new h.0 (step.0 ∷ []) h.1 step.1, push_counted h.0 step.0 k h.2);
     }
 
     -- what the resource is when its messages have been delivered
-    after_at : (y : Resource) × (slice_get new.resources.items place ≡ Some y) × (y.stopped ≡ turned.after.stopped)
+    after_at : (y : Resource) × (slice_get new.resources.items index ≡ Some y) × (y.stopped ≡ turned.after.stopped)
     after_at =
-        let was = is_at old.resources.items place turned.before turned.was in
-        let p = turned.given.each place turned.after (set_same old.resources.items place turned.after was) in
+        let was = is_at old.resources.items index turned.before turned.was in
+        let p = turned.given.each index turned.after (set_same old.resources.items index turned.after was) in
         (p.0, p.1, ap (λ (z : Resource). z.stopped) p.2.besides)
 
-    pub stopped_at : (mark : StopMark) → stop ≡ Some mark → (y : Resource) × (reason : Reason) × (slice_get new.resources.items place ≡ Some y) × (y.stopped ≡ Some reason)
+    pub stopped_at : (mark : StopMark) → stop ≡ Some mark → (y : Resource) × (reason : Reason) × (slice_get new.resources.items index ≡ Some y) × (y.stopped ≡ Some reason)
     stopped_at mark e =
         let a = after_at in
         ⊎_elim
@@ -143,10 +143,10 @@ module _ (i : Inputs) (limit horizon : ℕ) (first : CoreState) where
     live_more e q z f =
         let n = turned.given.counted in
         let b = is_at new.resources.items q z f in
-        let u = has_at (slice_set old.resources.items place turned.after) q (omega arith) in
+        let u = has_at (slice_set old.resources.items index turned.after) q (omega arith) in
         let p = turned.given.each q u.0 u.1 in
         ap (λ (o : Resource). o.stopped) (sym (one_at new.resources.items q p.0 z p.1 f) ∙ p.2.besides)
-        ∙ set_each (λ k (o : Resource). o.stopped ≡ None) old.resources.items place turned.after (is_at old.resources.items place turned.before turned.was) here (λ k o apart g. live k o g) q u.0 u.1
+        ∙ set_each (λ k (o : Resource). o.stopped ≡ None) old.resources.items index turned.after (is_at old.resources.items index turned.before turned.was) here (λ k o apart g. live k o g) q u.0 u.1
       where
         here : turned.after.stopped ≡ None
         here =
@@ -162,17 +162,17 @@ pub record HasStepped (i : Inputs) (limit horizon : ℕ) (first : CoreState) (k 
 
 pub stepped : (i : Inputs) (limit horizon : ℕ) (first : CoreState) → AreGood i → (k : ℕ) (old : CoreState) → AreLive old.resources.items → HasGone i limit horizon first old k
     → (m : ℕ) → m < horizon → ((q : ℕ) (z : Resource) (j : Key) → slice_get old.resources.items q ≡ Some z → j.tick < m → waiting z.agenda j ≡ None)
-    → (place : ℕ) (x : Resource) → slice_get old.resources.items place ≡ Some x → IsNext x.agenda m
-    → (new : CoreState) (stop : Option StopMark) → HasTurned old.system old.steps place (m + 1) old new stop → new.system ≡ old.system → new.steps ≡ old.steps
+    → (index : ℕ) (x : Resource) → slice_get old.resources.items index ≡ Some x → IsNext x.agenda m
+    → (new : CoreState) (stop : Option StopMark) → HasTurned old.system old.steps index (m + 1) old new stop → new.system ≡ old.system → new.steps ≡ old.steps
     → HasStepped i limit horizon first k new stop
-stepped i limit horizon first good k old live gone m early low place x x_at next new stop turned system steps =
-    let same : HasTurned i limit place (m + 1) old new stop =
-    subst (λ (n : ℕ). HasTurned i n place (m + 1) old new stop) gone.steps (subst (λ (z : Inputs). HasTurned z old.steps place (m + 1) old new stop) gone.system turned) in
-    let on = gone_more i limit horizon first good k old live gone m early low place x x_at next new stop same system steps in
+stepped i limit horizon first good k old live gone m early low index x x_at next new stop turned system steps =
+    let same : HasTurned i limit index (m + 1) old new stop =
+    subst (λ (n : ℕ). HasTurned i n index (m + 1) old new stop) gone.steps (subst (λ (z : Inputs). HasTurned z old.steps index (m + 1) old new stop) gone.system turned) in
+    let on = gone_more i limit horizon first good k old live gone m early low index x x_at next new stop same system steps in
     record {
       gone = on;
-      live = live_more i limit horizon first good k old live gone m early low place x x_at next new stop same system steps;
+      live = live_more i limit horizon first good k old live gone m early low index x x_at next new stop same system steps;
       ends = λ mark e most.
-          let s = stopped_at i limit horizon first good k old live gone m early low place x x_at next new stop same system steps mark e in
-          by_stop i limit horizon first most (k + 1) place new s.0 s.1 s.2 s.3 on;
+          let s = stopped_at i limit horizon first good k old live gone m early low index x x_at next new stop same system steps mark e in
+          by_stop i limit horizon first most (k + 1) index new s.0 s.1 s.2 s.3 on;
     }

@@ -23,7 +23,7 @@ use Rattle.fb_trace.specs.Merging.{Rises, tick_of}
 use Rattle.fb_window.specs.Mails.{AreDelivered, ArePosted}
 use Rattle.fb_laws.specs.Finality.{Edge, until}
 use Rattle.fb_window.specs.Frontiers.{AreAllPast, AreCut, AreAtHorizon, AreLive, IsFirstStop, IsFrontierTo, IsSplit, floor_at}
-use Rattle.fb_laws.proofs.Places.{is_at, one_at, push_before, push_counted, push_here}
+use Rattle.fb_laws.proofs.Indexes.{is_at, one_at, push_before, push_counted, push_here}
 
 -- ---- The frontier
 
@@ -34,7 +34,7 @@ module _ (m : ℕ) (xs : List Resource) where
   -- the next resource has the least floor
   pub frontier_new : (n : ℕ) (e new : Edge) (x : Resource) → slice_get xs n ≡ Some x → IsFrontierTo m xs n e → (n ≡ 0) ⊎ (floor_at m x < e.tick)
       → new.tick ≡ floor_at m x → new.resource ≡ n → new.within ≡ is_some x.stopped → IsFrontierTo m xs (n + 1) new
-  frontier_new n e new x at f less tick place within = record {
+  frontier_new n e new x at f less tick index within = record {
     least = λ r y b g.
         ⊎_elim
         (λ (l : r < n). ⊎_elim
@@ -44,7 +44,7 @@ module _ (m : ℕ) (xs : List Resource) where
         (λ (l : n ≤ r). let q : r ≡ n = omega arith in let same : y ≡ x = one_at xs r y x g (subst (λ (z : ℕ). slice_get xs z ≡ Some x) (sym q) at) in
         let h : floor_at m y ≡ floor_at m x = ap (λ z. floor_at m z) same in inr (omega arith, omega arith))
         (cases_lt r n);
-    there = λ b. (x, omega arith, subst (λ (z : ℕ). slice_get xs z ≡ Some x) (sym place) at, sym tick, within);
+    there = λ b. (x, omega arith, subst (λ (z : ℕ). slice_get xs z ≡ Some x) (sym index) at, sym tick, within);
   }
 
   -- it has not
@@ -96,8 +96,8 @@ module _ (xs : List Resource) where
   -- one that has stopped, at the mark that is its own
   pub first_new : (n : ℕ) (o : Option StopMark) (m : StopMark) (x : Resource) → slice_get xs n ≡ Some x → x.stopped ≡ Some m.reason → x.clock ≡ m.tick → m.resource ≡ n
       → FirstOf xs n o → ((old : StopMark) → o ≡ Some old → m.tick < old.tick) → IsFirstStop xs (n + 1) m
-  first_new n o m x at stop clock place f less = record {
-    there = (x, subst (λ (z : ℕ). slice_get xs z ≡ Some x) (sym place) at, stop, clock);
+  first_new n o m x at stop clock index f less = record {
+    there = (x, subst (λ (z : ℕ). slice_get xs z ≡ Some x) (sym index) at, stop, clock);
     least = λ r y reason b g e.
         ⊎_elim (λ (l : r < n). inl (before r y reason l g e o f less))
         (λ (l : n ≤ r). let q : r ≡ n = omega arith in let same : y.clock ≡ x.clock = ap (λ (z : Resource). z.clock) (one_at xs r y x g (subst (λ (z : ℕ). slice_get xs z ≡ Some x) (sym q) at)) in inr (omega arith, omega arith))
@@ -165,7 +165,7 @@ cut_at tick (suc n) (x ∷ xs) low high =
       rest.1 ∙ sym (filter_out (λ y. not (nat_lt y.key.tick tick)) x xs (ap not b)),
     )
 
--- what is before a place does not come after what is from it on
+-- what is before an index does not come after what is from it on
 pub rises_apart : (xs : List Line) → Rises tick_of xs → (j k : ℕ) (x y : Line) → j ≤ k → slice_get xs j ≡ Some x → slice_get xs k ≡ Some y → tick_of x ≤ tick_of y
 rises_apart [] up j k x y b e f = absurd (let g : None ≡ Some x = e in cc)
 rises_apart (z ∷ zs) up zero zero x y b e f = let g : x ≡ y = let h : Some x ≡ Some y = sym e ∙ f in cc in let w : tick_of x ≡ tick_of y = ap tick_of g in omega arith
@@ -182,7 +182,7 @@ non_decreasing : (xs : List Line) → Rises tick_of xs → IsNonDecreasingBy tic
 non_decreasing xs up i j d l b =
     rises_apart xs up i j (get_or xs i d) (get_or xs j d) (omega arith) (slice_get-get_or xs i d (omega arith)) (slice_get-get_or xs j d b)
 
--- so the place of the cut can be searched for
+-- so the index of the cut can be searched for
 pub parted : (tick : ℕ) (xs : List Line) → Rises tick_of xs → IsPartitionedBy (λ x. nat_lt x.key.tick tick) xs
 parted tick xs up = IsPartitionedBy-ltb tick_of xs tick (non_decreasing xs up)
 
@@ -208,7 +208,7 @@ pub drop_whole : {X : Type 0} (xs : List X) → drop (length xs) xs ≡ []
 drop_whole [] = refl
 drop_whole (x ∷ xs) = drop_whole xs
 
--- What is cut where the search has found the place is cut at the tick.
+-- What is cut where the search has found the index is cut at the tick.
 pub split_point : (tick n : ℕ) (xs before from : List Line) → before ≡ take n xs → from ≡ drop n xs
     → (Rises tick_of xs → IsPartitionPoint (λ x. nat_lt x.key.tick tick ≡ true) (λ x. nat_lt x.key.tick tick ≡ false) xs n) → IsSplit tick xs before from
 split_point tick n xs before from p q point = record {

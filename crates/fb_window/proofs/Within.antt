@@ -14,7 +14,7 @@ use Rattle.fb_laws.proofs.Keeps.{done_of, passed, Inv, Moved, moved, inv_opening
 use Rattle.fb_laws.proofs.Reached.{reached_by}
 use Rattle.fb_laws.proofs.Steps.{put_ind, run_ends, Stopped}
 
--- what is set at a place, seen through a function
+-- what is set at an index, seen through a function
 map_at : {A B : Type 0} (f : A → B) (r : ℕ) (x : A) (g : ℕ → A) (q : ℕ) → with_at r (f x) (λ n. f (g n)) q ≡ f (with_at r x g q)
 map_at {A} {B} f r x g q = go (q == r)
   where

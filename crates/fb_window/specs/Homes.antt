@@ -19,28 +19,28 @@ pub record HasCome (i : Inputs) (limit bound : ℕ) (x : Resource) (kept : List 
   pub ran : x.stopped ≡ None → (new : Vec Line) × (stop : Option StopMark) × HasRun i limit x bound (Ran y new sent stop) × (lines ≡ kept ++ new.items)
   pub rested : (reason : Reason) → x.stopped ≡ Some reason → (y ≡ x) × (lines ≡ kept) × (sent.items ≡ [])
 
--- what is at a place, of all lists
-pub record IsHomeAt (i : Inputs) (limit : ℕ) (bounds : List ℕ) (xs : List Resource) (lists : List (Vec Line)) (place : ℕ) (h : Home) : Type 0 where
+-- what is at an index, of all lists
+pub record IsHomeAt (i : Inputs) (limit : ℕ) (bounds : List ℕ) (xs : List Resource) (lists : List (Vec Line)) (index : ℕ) (h : Home) : Type 0 where
   pub old : Resource
   pub kept : Vec Line
   pub new : Resource
   pub lines : Vec Line
   pub sent : Vec Message
-  pub old_at : slice_get xs place ≡ Some old
-  pub kept_at : slice_get lists place ≡ Some kept
-  pub new_at : slice_get h.resources.items place ≡ Some new
-  pub lines_at : slice_get h.pending.items place ≡ Some lines
-  pub sent_at : slice_get h.outboxes.items place ≡ Some sent
-  pub come : HasCome i limit (slice_index_or bounds place 0) old kept.items new lines.items sent
+  pub old_at : slice_get xs index ≡ Some old
+  pub kept_at : slice_get lists index ≡ Some kept
+  pub new_at : slice_get h.resources.items index ≡ Some new
+  pub lines_at : slice_get h.pending.items index ≡ Some lines
+  pub sent_at : slice_get h.outboxes.items index ≡ Some sent
+  pub come : HasCome i limit (slice_index_or bounds index 0) old kept.items new lines.items sent
 
--- The resources below a place have come home, and of the others the lists and the jobs' done values are left.
-pub record IsHomeTo (i : Inputs) (limit : ℕ) (bounds : List ℕ) (xs : List Resource) (lists : List (Vec Line)) (place : ℕ) (kept : List (Vec Line)) (dones : List WindowDone) (h : Home) : Type 0 where
-  pub resources : length h.resources.items ≡ place
-  pub pending : length h.pending.items ≡ place
-  pub outboxes : length h.outboxes.items ≡ place
-  pub left : kept ≡ drop place lists
-  pub done : AllZip Does (jobs_of i limit bounds place (drop place xs)) dones
-  pub each : (r : ℕ) → r < place → IsHomeAt i limit bounds xs lists r h
+-- The resources below an index have come home, and of the others the lists and the jobs' done values are left.
+pub record IsHomeTo (i : Inputs) (limit : ℕ) (bounds : List ℕ) (xs : List Resource) (lists : List (Vec Line)) (index : ℕ) (kept : List (Vec Line)) (dones : List WindowDone) (h : Home) : Type 0 where
+  pub resources : length h.resources.items ≡ index
+  pub pending : length h.pending.items ≡ index
+  pub outboxes : length h.outboxes.items ≡ index
+  pub left : kept ≡ drop index lists
+  pub done : AllZip Does (jobs_of i limit bounds index (drop index xs)) dones
+  pub each : (r : ℕ) → r < index → IsHomeAt i limit bounds xs lists r h
 
 -- All are home.
 pub record AreHome (i : Inputs) (limit : ℕ) (bounds : List ℕ) (xs : List Resource) (lists : List (Vec Line)) (h : Home) : Type 0 where

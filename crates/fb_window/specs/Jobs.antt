@@ -41,16 +41,16 @@ Does j = HasRun j.inputs j.steps j.resource j.to
 abbrev pub job_of : Inputs → (limit to : ℕ) → Resource → List JobModel
 job_of i limit to x = elim x.stopped [ None ↦ record { inputs = i; steps = limit; resource = x; to = to } ∷ [] | Some reason ↦ [] ]
 
--- one job for each resource that has not stopped, in their order, each with the bound at its place
-abbrev pub jobs_of : Inputs → (limit : ℕ) → (bounds : List ℕ) → (place : ℕ) → List Resource → List JobModel
+-- one job for each resource that has not stopped, in their order, each with the bound at its index
+abbrev pub jobs_of : Inputs → (limit : ℕ) → (bounds : List ℕ) → (index : ℕ) → List Resource → List JobModel
 jobs_of i limit bs r [] = []
 jobs_of i limit bs r (x ∷ xs) = job_of i limit (slice_index_or bs r 0) x ++ jobs_of i limit bs (r + 1) xs
 
--- a resource that has stopped stays behind, at its place
+-- a resource that has stopped stays behind, at its index
 abbrev pub resting_of : Resource → Option Resource
 resting_of x = elim x.stopped [ None ↦ None | Some reason ↦ Some x ]
 
--- Each resource that has not stopped may run to the bound at its place.
+-- Each resource that has not stopped may run to the bound at its index.
 abbrev pub MayLeave : (bounds : List ℕ) → List Resource → Type 0
 MayLeave bs xs = (r : ℕ) (x : Resource) → slice_get xs r ≡ Some x → x.stopped ≡ None → (x.clock ≤ slice_index_or bs r 0) × (slice_index_or bs r 0 ≤ 10 ^ 12)
 

@@ -8,7 +8,7 @@ use Rattle.fb_resource.specs.declared.resource.Resource.{Resource}
 use Rattle.fb_window.specs.Jobs.{jobs_of, resting_of}
 use Rattle.fb_window.specs.declared.cores.AwayState.{AwayState}
 
--- What is away has left these resources with these bounds: each that has not stopped is a job, and each other stayed at its place.
+-- What is away has left these resources with these bounds: each that has not stopped is a job, and each other stayed at its index.
 pub record HasLeft (xs : List Resource) (bounds : List ℕ) (a : AwayState) : Type 0 where
   pub counted : length xs ≡ count_of (system_of a.system)
   pub numbered : (r : ℕ) (x : Resource) → slice_get xs r ≡ Some x → x.tree.resource ≡ r

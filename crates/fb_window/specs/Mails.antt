@@ -8,7 +8,7 @@ use Rattle.fb_resource.specs.Resources.{HasReceived}
 use Rattle.fb_resource.specs.declared.resource.Resource.{Resource}
 use Rattle.fb_link.specs.Exchanges.{AreFor, goes_to}
 
--- each has received the messages in the list at its place
+-- each has received the messages in the list at its index
 pub record AreDelivered (xs : List Resource) (boxes : List (Vec Message)) (ys : List Resource) : Type 0 where
   pub counted : length ys ≡ length xs
   pub each : (r : ℕ) (x : Resource) → slice_get xs r ≡ Some x

@@ -17,9 +17,9 @@ pub record AreNoted (horizon : ℕ) (xs : List Resource) (ticks : List ℕ) : Ty
   pub each : (r : ℕ) (x : Resource) (tick : ℕ) → slice_get xs r ≡ Some x → slice_get ticks r ≡ Some tick → IsNoted horizon x tick
 
 -- One resource has received messages, and all others are as they were.
-pub record IsHanded (place : ℕ) (ms : List Message) (xs ys : List Resource) : Type 0 where
+pub record IsHanded (index : ℕ) (ms : List Message) (xs ys : List Resource) : Type 0 where
   pub before : Resource
   pub after : Resource
-  pub was : slice_get xs place ≡ Some before
+  pub was : slice_get xs index ≡ Some before
   pub received : HasReceived ms before after
-  pub set : ys ≡ slice_set xs place after
+  pub set : ys ≡ slice_set xs index after

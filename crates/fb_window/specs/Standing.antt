@@ -8,7 +8,7 @@ use Rattle.fb_types.specs.declared.key.Key.{Key}
 use Rattle.fb_resource.specs.Resources.{IsOf, StandsFor}
 use Rattle.fb_resource.specs.declared.resource.Resource.{Resource}
 
--- The resource at a place is what a member of the core has there: at home, with an empty outbox.
+-- The resource at an index is what a member of the core has there: at home, with an empty outbox.
 pub record Sits (i : Inputs) (limit : ℕ) (m : Member (machine (system_of i) limit)) (r : ℕ) (x : Resource) : Type 0 where
   pub number : x.tree.resource ≡ r
   pub of : IsOf i x

@@ -80,16 +80,16 @@ Walks i limit horizon most before after =
 -- ---- In code
 
 -- A resource has run below a tick by itself. Its lines stand behind those that were kept, its messages were delivered, and nothing else has changed.
-pub record HasTurned (i : Inputs) (limit place to : ℕ) (old new : CoreState) (stop : Option StopMark) : Type 0 where
+pub record HasTurned (i : Inputs) (limit index to : ℕ) (old new : CoreState) (stop : Option StopMark) : Type 0 where
   pub before : Resource
   pub after : Resource
   pub told : Vec Line
   pub sent : Vec Message
-  pub was : slice_get old.resources.items place ≡ Some before
+  pub was : slice_get old.resources.items index ≡ Some before
   pub ran : HasRun i limit before to (Ran after told sent stop)
-  pub given : AreGiven (system_of i) sent.items (slice_set old.resources.items place after) new.resources.items
+  pub given : AreGiven (system_of i) sent.items (slice_set old.resources.items index after) new.resources.items
   pub kept : Vec Line
   pub lines : Vec Line
-  pub kept_was : slice_get old.pending.items place ≡ Some kept
+  pub kept_was : slice_get old.pending.items index ≡ Some kept
   pub joined : lines.items ≡ kept.items ++ told.items
-  pub pending : new.pending.items ≡ slice_set old.pending.items place lines
+  pub pending : new.pending.items ≡ slice_set old.pending.items index lines

@@ -53,7 +53,7 @@ impl Core {
     }
 }
 
-/// How far each resource may run, in ticks: to below the bound at its place. The places past the last resource
+/// How far each resource may run, in ticks: to below the bound at its index. The indexes past the last resource
 /// have no meaning.
 #[derive(Drop)]
 pub struct Bounds {
@@ -72,7 +72,7 @@ pub struct AwayState {
     pub steps: u64,
     /// The tick past which no bound lies.
     pub horizon: u64,
-    /// At the place of each resource that has stopped, this resource.
+    /// At the index of each resource that has stopped, this resource.
     pub resting: Vec<Option<Resource>>,
     /// For each resource its lines that are not final yet.
     pub pending: Vec<Vec<Line>>,

@@ -25,7 +25,7 @@ pub(crate) fn first_stop(resources: &[Resource]) -> Option<StopMark>
     ensures none { IfNone result (AreLive resources.now) }
 {
     let mut first: Option<StopMark> = None;
-    for (place, resource) in resources.iter().enumerate() {
+    for (index, resource) in resources.iter().enumerate() {
         if let Some(reason) = resource.stopped() {
             let tick = resource.clock();
             let is_less = match &first {
@@ -35,7 +35,7 @@ pub(crate) fn first_stop(resources: &[Resource]) -> Option<StopMark>
             if is_less {
                 first = Some(StopMark {
                     tick,
-                    resource: place as u32,
+                    resource: index as u32,
                     reason,
                 });
             }

@@ -7,7 +7,7 @@ ghost use Rattle.fb_window.specs.Frontiers.{IsFrontier, edge_of};
 use crate::bounds::floor;
 use fb_resource::Resource;
 
-/// A place among the lines, which are in order by tick, then resource: those before it are final, and where it is
+/// A position among the lines, which are in order by tick, then resource: those before it are final, and where it is
 /// within, those of its own resource at its tick are too.
 #[derive(Clone, Copy)]
 pub(crate) struct Frontier {
@@ -42,12 +42,12 @@ pub(crate) fn frontier_of(resources: &[Resource], least: u64) -> Frontier
         resource: 0,
         within: false,
     };
-    for (place, resource) in resources.iter().enumerate() {
+    for (index, resource) in resources.iter().enumerate() {
         let tick = floor(resource, least);
-        if place == 0 || tick < at.tick {
+        if index == 0 || tick < at.tick {
             at = Frontier {
                 tick,
-                resource: place,
+                resource: index,
                 within: resource.stopped().is_some(),
             };
         }

@@ -63,7 +63,7 @@ impl Home {
         Ok(())
     }
 
-    /// Takes in the next resource, which has rested at its place, or else comes back from the next job.
+    /// Takes in the next resource, which has rested at its index, or else comes back from the next job.
     fn admit(
         &mut self,
         alloc: Global,
@@ -71,10 +71,10 @@ impl Home {
         pending: &mut IntoIter<Vec<Line>>,
         dones: &mut IntoIter<WindowDone>,
     ) -> Result<(), Failed>
-        ensures { OnOk result ((i : Inputs) (limit : ℕ) (bounds : List ℕ) (xs : List Resource) (lists : List (Vec Line)) (place : ℕ) (x : Resource)
-            → slice_get xs place ≡ Some x → rested ≡ resting_of x
-            → IsHomeTo i limit bounds xs lists place (into_iter_items pending.old) (into_iter_items dones.old) self.old
-            → IsHomeTo i limit bounds xs lists (place + 1) (into_iter_items pending.new) (into_iter_items dones.new) self.new) }
+        ensures { OnOk result ((i : Inputs) (limit : ℕ) (bounds : List ℕ) (xs : List Resource) (lists : List (Vec Line)) (index : ℕ) (x : Resource)
+            → slice_get xs index ≡ Some x → rested ≡ resting_of x
+            → IsHomeTo i limit bounds xs lists index (into_iter_items pending.old) (into_iter_items dones.old) self.old
+            → IsHomeTo i limit bounds xs lists (index + 1) (into_iter_items pending.new) (into_iter_items dones.new) self.new) }
     {
         let Some(kept) = pending.next() else {
             return Err(Failed);
@@ -99,7 +99,7 @@ impl Home {
         }
     }
 
-    /// Takes in all resources, each of which has rested at its place, or else comes back from the next job.
+    /// Takes in all resources, each of which has rested at its index, or else comes back from the next job.
     fn admit_all(
         &mut self,
         alloc: Global,

@@ -41,7 +41,7 @@ fn leave(
 }
 
 impl CoreState {
-    /// Sends each resource out with the bound at its place, or lets it rest. What has left is lent here, so that no exit of
+    /// Sends each resource out with the bound at its index, or lets it rest. What has left is lent here, so that no exit of
     /// the loop drops it.
     fn leave_all(
         jobs: &mut Vec<Job>,
@@ -67,7 +67,7 @@ impl CoreState {
         Ok(())
     }
 
-    /// One job for each resource that has not stopped, with the bound at its place, and what stays behind.
+    /// One job for each resource that has not stopped, with the bound at its index, and what stays behind.
     fn jobs(
         self,
         alloc: Global,
@@ -108,7 +108,7 @@ impl CoreState {
 }
 
 impl Core {
-    /// Takes the core apart: one job for each resource that has not stopped, with the bound at its place, and what
+    /// Takes the core apart: one job for each resource that has not stopped, with the bound at its index, and what
     /// stays behind.
     ///
     /// # Errors

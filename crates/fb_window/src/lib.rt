@@ -6,20 +6,20 @@
 //! knows nothing of this code, says what the rounds lead to.
 //!
 //! Read in this order: `laws`; `cores`, `links` and `open`, what a core is; `bounds`; `leave` and `job`; `settle`, with
-//! `home`, `post`, `frontier`, `cut`, `ends` and `beside`; `walk`, with `nexts`; `let_go`.
+//! `home`, `post`, `frontier`, `cut`, `ends` and `beside`; `walk`, with `nexts`; `discarding`.
 #![tactic(auto)]
 
 mod beside;
 pub mod bounds;
 pub mod cores;
 mod cut;
+pub mod discarding;
 mod ends;
 mod frontier;
 mod home;
 pub mod job;
 pub mod laws;
 mod leave;
-pub mod let_go;
 pub mod links;
 mod nexts;
 mod open;
@@ -28,6 +28,6 @@ pub mod settle;
 mod walk;
 
 pub use cores::{Away, AwayState, Bounds, Core, CoreState, Failed, Settled};
+pub use discarding::{discard_jobs, discard_resource, discard_system};
 pub use job::Job;
-pub use let_go::{let_jobs_go, let_resource_go, let_system_go};
 pub use links::{LinkRow, SystemLinks};

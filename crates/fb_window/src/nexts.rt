@@ -29,7 +29,7 @@ fn next_of(resource: &Resource, horizon: u64) -> u64
     }
 }
 
-/// The first place that has the least tick, and this tick; the tick is the horizon where none is before it.
+/// The first index that has the least tick, and this tick; the tick is the horizon where none is before it.
 fn first_least(ticks: &[u64], horizon: u64) -> (usize, u64)
     ensures cap { result.1 ≤ horizon }
     ensures low { (r tick : ℕ) → slice_get ticks.now r ≡ Some tick → result.1 ≤ tick }
@@ -37,9 +37,9 @@ fn first_least(ticks: &[u64], horizon: u64) -> (usize, u64)
 {
     let mut first = 0;
     let mut least = horizon;
-    for (place, tick) in ticks.iter().enumerate() {
+    for (index, tick) in ticks.iter().enumerate() {
         if *tick < least {
-            first = place;
+            first = index;
             least = *tick;
         }
     }
@@ -66,14 +66,14 @@ impl Nexts {
         Ok(Nexts { horizon, ticks })
     }
 
-    /// Looks again at the resource at a place.
-    pub(crate) fn note(&mut self, place: usize, resource: &Resource)
-        requires { place < length self.old.ticks.items }
+    /// Looks again at the resource at an index.
+    pub(crate) fn note(&mut self, index: usize, resource: &Resource)
+        requires { index < length self.old.ticks.items }
         ensures horizon { self.new.horizon ≡ self.old.horizon }
         ensures noted { (xs : List Resource) → AreNoted self.old.horizon xs self.old.ticks.items
-            → AreNoted self.new.horizon (slice_set xs place resource.now) self.new.ticks.items }
+            → AreNoted self.new.horizon (slice_set xs index resource.now) self.new.ticks.items }
     {
-        self.ticks[place] = next_of(resource, self.horizon);
+        self.ticks[index] = next_of(resource, self.horizon);
     }
 
     /// The first resource that has the least event, and the tick of this event; the tick is the horizon where no event

@@ -54,7 +54,7 @@ fn deliver_each(
     Ok(())
 }
 
-/// Puts messages on the agendas of the resources, for each those in the list at its place.
+/// Puts messages on the agendas of the resources, for each those in the list at its index.
 fn deliver(
     alloc: Global,
     resources: Vec<Resource>,

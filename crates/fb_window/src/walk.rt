@@ -25,22 +25,22 @@ use fb_system::System;
 use fb_types::{Message, StopMark};
 use std::alloc::{AllocError, Global};
 
-/// Puts messages on the agenda of the resource at a place, and notes when it has its next event.
+/// Puts messages on the agenda of the resource at an index, and notes when it has its next event.
 fn hand(
     resources: &mut Vec<Resource>,
     nexts: &mut Nexts,
-    place: usize,
+    index: usize,
     messages: Vec<Message>,
 ) -> Result<(), AllocError>
-    requires place { place < length resources.old.items }
+    requires index { index < length resources.old.items }
     requires noted { AreNoted nexts.old.horizon resources.old.items nexts.old.ticks.items }
     ensures horizon { nexts.new.horizon ≡ nexts.old.horizon }
     ensures noted { OnOk result (AreNoted nexts.new.horizon resources.new.items nexts.new.ticks.items) }
-    ensures handed { OnOk result (IsHanded place messages.items resources.old.items resources.new.items) }
+    ensures handed { OnOk result (IsHanded index messages.items resources.old.items resources.new.items) }
 {
-    match resources[place].receive(messages) {
+    match resources[index].receive(messages) {
         Ok(()) => {
-            nexts.note(place, &resources[place]);
+            nexts.note(index, &resources[index]);
             Ok(())
         }
         Err((error, _messages)) => Err(error),
@@ -102,17 +102,17 @@ impl CoreState {
         &mut self,
         alloc: Global,
         system: &System,
-        place: usize,
+        index: usize,
         to: u64,
         nexts: &mut Nexts,
     ) -> Result<Option<StopMark>, AllocError>
         requires system { system.now ≡ self.old.system }
         requires counted { length self.old.resources.items ≡ count_of (system_of self.old.system) }
         requires pending { length self.old.pending.items ≡ length self.old.resources.items }
-        requires place { place < length self.old.resources.items }
-        requires of { (x : Resource) → slice_get self.old.resources.items place ≡ Some x → IsOf self.old.system x }
-        requires live { (x : Resource) → slice_get self.old.resources.items place ≡ Some x → x.stopped ≡ None }
-        requires ahead { (x : Resource) → slice_get self.old.resources.items place ≡ Some x → x.clock ≤ to }
+        requires index { index < length self.old.resources.items }
+        requires of { (x : Resource) → slice_get self.old.resources.items index ≡ Some x → IsOf self.old.system x }
+        requires live { (x : Resource) → slice_get self.old.resources.items index ≡ Some x → x.stopped ≡ None }
+        requires ahead { (x : Resource) → slice_get self.old.resources.items index ≡ Some x → x.clock ≤ to }
         requires early { to ≤ 10 ^ 12 }
         requires few_steps { self.old.steps ≤ 10 ^ 7 }
         requires noted { AreNoted nexts.old.horizon self.old.resources.items nexts.old.ticks.items }
@@ -120,12 +120,12 @@ impl CoreState {
         ensures noted { OnOk result (AreNoted nexts.new.horizon self.new.resources.items nexts.new.ticks.items) }
         ensures system { OnOk result (self.new.system ≡ self.old.system) }
         ensures steps { OnOk result (self.new.steps ≡ self.old.steps) }
-        ensures turned { IfOk result (HasTurned self.old.system self.old.steps place to self.old self.new) }
+        ensures turned { IfOk result (HasTurned self.old.system self.old.steps index to self.old self.new) }
     {
         let steps = self.steps;
-        let output = self.resources[place].run_here(alloc, system, to, steps)?;
-        put_behind(&mut self.pending[place], output.lines)?;
-        nexts.note(place, &self.resources[place]);
+        let output = self.resources[index].run_here(alloc, system, to, steps)?;
+        put_behind(&mut self.pending[index], output.lines)?;
+        nexts.note(index, &self.resources[index]);
         give(alloc, system, &mut self.resources, nexts, output.sent)?;
         Ok(output.stop)
     }
@@ -223,11 +223,11 @@ fn take_turns(
 {
     system.facts();
     for _ in 0..most {
-        let (place, tick) = nexts.least();
+        let (index, tick) = nexts.least();
         if tick == horizon {
             return Ok(());
         }
-        let stop = core.turn(alloc, system, place, tick + 1, nexts)?;
+        let stop = core.turn(alloc, system, index, tick + 1, nexts)?;
         if stop.is_some() {
             return Ok(());
         }

@@ -8,7 +8,7 @@ use crate::line::{Action, Task, Wave};
 use crate::sources::{Source, Streams};
 use crate::statuses::Done;
 use crate::texts::read_files;
-use fb_sim::{Inputs, let_go, open};
+use fb_sim::{Inputs, discard, open};
 use fb_wave::write_wave;
 use std::alloc::Global;
 use std::io::{BufRead, Write};
@@ -38,7 +38,7 @@ fn dump<R: BufRead, W: Write>(
     let system = open(alloc, inputs)?;
     let written = write_wave(alloc, &system, trace, out);
     // Dropped by one call: the end of its scope would prove the drop part by part.
-    let_go(system);
+    discard(system);
     written?;
     Ok(Done::Shown)
 }

@@ -19,7 +19,7 @@ fn take(agenda: &mut Agenda, horizon: u64) -> Option<Key> {
     if is_taken { Some(key) } else { None }
 }
 
-/// What is put under a key that has an event takes its place. Nothing is taken at the horizon.
+/// What is put under a key that has an event takes its index. Nothing is taken at the horizon.
 #[test]
 fn the_least_key_is_taken_once(rt: HostRuntime) {
     let mut agenda = Agenda::new(rt.alloc(), 1).expect(&rt, "memory");

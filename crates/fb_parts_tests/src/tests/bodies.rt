@@ -114,8 +114,8 @@ fn names_are_declared_once(rt: HostRuntime) {
         Reference::new(named(&rt, alloc, "Y")),
     );
     assert!(rt; frame.value(&x) == Value::Whole(0));
-    for place in [0, 1, 9] {
-        y.expect_at(place);
+    for index in [0, 1, 9] {
+        y.expect_at(index);
         assert!(rt; frame.value(&y) == Value::Whole(7));
     }
     forget(frame);

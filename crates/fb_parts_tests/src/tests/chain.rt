@@ -17,7 +17,7 @@ use fb_resource::{Resource, WindowDone};
 use fb_system::System;
 use fb_trace::write_lines;
 use fb_types::{Deploy, Form, Line, Message, StopMark};
-use fb_window::let_resource_go;
+use fb_window::discard_resource;
 use std::alloc::Global;
 use std::mem::forget;
 use std::process::Abort;
@@ -109,7 +109,7 @@ pub fn run(
         } => {
             assert!(rt; stop.is_some() || resource.clock() == to);
             let next = resource.next();
-            let_resource_go(resource);
+            discard_resource(resource);
             Ran {
                 lines,
                 sent,

@@ -8,9 +8,9 @@ static GUARDS: &str = "FUNCTION_BLOCK F EC_STATES S; END_STATES\n\
     EC_TRANSITIONS S TO S := [A < B > C]; S TO S := [A <= B >= C]; END_TRANSITIONS\n\
     END_FUNCTION_BLOCK APPLICATION A FBS END_FBS END_APPLICATION";
 
-/// The operator of the left operand of the guard at a place, and that of the guard itself.
-fn operators(block: &BasicType, place: usize) -> Option<(BinaryOperator, BinaryOperator)> {
-    match block.transitions.get(place)?.condition.guard.as_ref()? {
+/// The operator of the left operand of the guard at an index, and that of the guard itself.
+fn operators(block: &BasicType, index: usize) -> Option<(BinaryOperator, BinaryOperator)> {
+    match block.transitions.get(index)?.condition.guard.as_ref()? {
         Expr::Binary(outer, left, _) => match left.get() {
             Expr::Binary(inner, _, _) => Some((*inner, *outer)),
             _ => None,

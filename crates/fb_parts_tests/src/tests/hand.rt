@@ -11,7 +11,7 @@ use fb_resource::{Resource, WindowDone};
 use fb_system::System;
 use fb_trace::{RunEnd, write_last, write_lines};
 use fb_types::{Form, Line};
-use fb_window::{Bounds, Core, Job, Settled, let_jobs_go};
+use fb_window::{Bounds, Core, Job, Settled, discard_jobs};
 use std::alloc::{AllocError, Global};
 use std::mem::forget;
 use std::process::Abort;
@@ -51,7 +51,7 @@ fn run_jobs<R: Abort>(rt: &R, alloc: Global, mut jobs: Vec<Job>, order: u64) -> 
     ensures { AllZip Does jobs.items result.items }
 {
     let Some(last) = jobs.pop() else {
-        let_jobs_go(jobs);
+        discard_jobs(jobs);
         return Vec::new(alloc);
     };
     let next = order.rotate_right(1);
@@ -170,7 +170,7 @@ fn run_on<R: Abort>(
             Settled::Ended(last, lines) => {
                 hand_out(rt, system, plan.form, lines, out);
                 write_last(out, system, RunEnd::Horizon(plan.horizon)).expect(rt, "written");
-                last.let_go();
+                last.discard();
                 return;
             }
             Settled::Stopped(lines, mark) => {

@@ -3,7 +3,7 @@
 use fb_check::accept;
 use fb_read::read_library;
 use fb_types::{Deploy, Items, Name, Stimulus};
-use fb_window::let_system_go;
+use fb_window::discard_system;
 use std::alloc::Global;
 use std::process::Abort;
 
@@ -31,7 +31,7 @@ fn number_of(rt: &impl Abort, alloc: Global, count: u64) -> Option<u8> {
     }
     match accept(alloc, library, deploy, stimuli) {
         Ok(system) => {
-            let_system_go(system);
+            discard_system(system);
             None
         }
         Err(error) => error.number(),

@@ -3,7 +3,7 @@
 use super::chain::{ENOUGH, accepted, deliver_first, expect_text, handed, opened, run, turned};
 use fb_system::System;
 use fb_types::{Form, Reason, StopMark};
-use fb_window::let_system_go;
+use fb_window::discard_system;
 use std::alloc::Global;
 use std::mem::forget;
 use std::process::Abort;
@@ -84,7 +84,7 @@ static OTHER: Talk = Talk {
     ..SPLIT
 };
 
-/// A merge passes each of sixty events on: so many messages need several places to stand.
+/// A merge passes each of sixty events on: so many messages need several indexes to stand.
 static PASS: Talk = Talk {
     declaration: "APPLICATION A FBS A : E_MERGE; M : E_MERGE; END_FBS\n\
         EVENT_CONNECTIONS A.EO TO M.EI1; END_CONNECTIONS END_APPLICATION",
@@ -134,7 +134,7 @@ fn messages_come_after_a_want_of_memory(rt: HostRuntime) {
     for talk in [&LATCH, &SPLIT, &OTHER, &PASS] {
         let system = accepted(&rt, rt.alloc(), talk.declaration, talk.deploy, talk.stimuli);
         expect_heard(&rt, rt.alloc(), &system, talk);
-        let_system_go(system);
+        discard_system(system);
     }
 }
 
@@ -183,5 +183,5 @@ fn a_resource_stops_by_itself(rt: HostRuntime) {
     let stimuli = "tick,event,values\n7,C.EI1,\n7,L.GO,\n7,A.EI1,\n";
     let system = accepted(&rt, rt.alloc(), LOOPER, IN_THREE, stimuli);
     expect_stop(&rt, rt.alloc(), &system);
-    let_system_go(system);
+    discard_system(system);
 }

@@ -5,7 +5,7 @@ use super::hand::{FALLING, HandPlan, RISING, SHUFFLED, run_by_hand};
 use super::serial::{expect_serial, inputs_of};
 use fb_system::System;
 use fb_types::Form;
-use fb_window::let_system_go;
+use fb_window::discard_system;
 use std::alloc::Global;
 use std::process::Abort;
 
@@ -334,7 +334,7 @@ fn rounds_have_their_bounds_and_lines(rt: HostRuntime) {
         for order in &ORDERS {
             expect_rounds(&rt, rt.alloc(), &system, row, *order);
         }
-        let_system_go(system);
+        discard_system(system);
         let inputs = inputs_of(row.declaration, row.deploy, row.stimuli);
         let _trace = expect_serial(&rt, rt.alloc(), &inputs, row.horizon, row.steps);
     }

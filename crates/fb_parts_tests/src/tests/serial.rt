@@ -3,7 +3,7 @@
 use super::hand::{FALLING, HandPlan, RISING, run_by_hand};
 use fb_sim::{Inputs, Options, open, run_serial};
 use fb_types::Form;
-use fb_window::let_system_go;
+use fb_window::discard_system;
 use std::alloc::Global;
 use std::fmt::Write;
 use std::process::Abort;
@@ -66,7 +66,7 @@ pub fn expect_serial<R: Abort>(
             assert!(rt; rounds.as_slice() == trace.as_slice());
         }
     }
-    let_system_go(system);
+    discard_system(system);
     serial(rt, alloc, inputs, plan)
 }
 

@@ -49,12 +49,12 @@ fn a_name_is_its_bytes(rt: HostRuntime) {
 }
 
 #[test]
-fn a_reference_keeps_its_name_at_each_place(rt: HostRuntime) {
+fn a_reference_keeps_its_name_at_each_index(rt: HostRuntime) {
     let named = Name::from_text(rt.alloc(), "X").expect(&rt, "memory");
     let far = ManuallyDrop::new(Reference::new(named));
     far.expect_at(1);
     far.expect_at(40);
-    assert!(rt; far.place() == 40);
+    assert!(rt; far.index() == 40);
     assert!(rt; far.name().as_bytes() == b"X".as_slice());
 }
 

@@ -1,7 +1,7 @@
 //! A network of two components: which ends its connections join, at components and at the boundary.
 //! And one in which the second component is connected at a port with a high number alone.
 
-use fb_check_names::{NetworkNumbers, Wire, WireEnd};
+use fb_check_names::{ConnectionEnd, NetworkNumbers, NumberedConnection};
 use fb_system::Wiring;
 use fb_types::Items;
 use std::alloc::Global;
@@ -9,31 +9,31 @@ use std::mem::forget;
 use std::process::Abort;
 
 /// The first port at the boundary.
-const BOUNDARY: WireEnd = WireEnd {
+const BOUNDARY: ConnectionEnd = ConnectionEnd {
     component: None,
     port: 0,
 };
 
 /// The first port of the first component.
-const FIRST: WireEnd = WireEnd {
+const FIRST: ConnectionEnd = ConnectionEnd {
     component: Some(0),
     port: 0,
 };
 
 /// The third port of the second component.
-const THIRD_OF_SECOND: WireEnd = WireEnd {
+const THIRD_OF_SECOND: ConnectionEnd = ConnectionEnd {
     component: Some(1),
     port: 2,
 };
 
 /// A port of the second component with a high number.
-const FAR_OF_SECOND: WireEnd = WireEnd {
+const FAR_OF_SECOND: ConnectionEnd = ConnectionEnd {
     component: Some(1),
     port: 1_000_000,
 };
 
 /// The port before that one, which is not connected.
-const NEXT_TO_FAR: WireEnd = WireEnd {
+const NEXT_TO_FAR: ConnectionEnd = ConnectionEnd {
     component: Some(1),
     port: 999_999,
 };
@@ -41,35 +41,35 @@ const NEXT_TO_FAR: WireEnd = WireEnd {
 /// The connections of events and of data; where those of events lead from some ends; and from where those of data come to
 /// some ends.
 type Network = (
-    &'static [Wire],
-    &'static [Wire],
-    &'static [(WireEnd, &'static [WireEnd])],
-    &'static [(WireEnd, Option<WireEnd>)],
+    &'static [NumberedConnection],
+    &'static [NumberedConnection],
+    &'static [(ConnectionEnd, &'static [ConnectionEnd])],
+    &'static [(ConnectionEnd, Option<ConnectionEnd>)],
 );
 
 /// Events from the boundary to the first component, and from there to both ends. Data from the first component to the
 /// second, and from the second to the boundary.
 static NEAR: Network = (
     &[
-        Wire {
+        NumberedConnection {
             from: BOUNDARY,
             to: FIRST,
         },
-        Wire {
+        NumberedConnection {
             from: FIRST,
             to: THIRD_OF_SECOND,
         },
-        Wire {
+        NumberedConnection {
             from: FIRST,
             to: BOUNDARY,
         },
     ],
     &[
-        Wire {
+        NumberedConnection {
             from: FIRST,
             to: THIRD_OF_SECOND,
         },
-        Wire {
+        NumberedConnection {
             from: THIRD_OF_SECOND,
             to: BOUNDARY,
         },
@@ -90,25 +90,25 @@ static NEAR: Network = (
 /// from the first component to the far port, and from there to the boundary. The ports below it have no ends.
 static FAR: Network = (
     &[
-        Wire {
+        NumberedConnection {
             from: FIRST,
             to: FAR_OF_SECOND,
         },
-        Wire {
+        NumberedConnection {
             from: FAR_OF_SECOND,
             to: BOUNDARY,
         },
-        Wire {
+        NumberedConnection {
             from: FAR_OF_SECOND,
             to: FIRST,
         },
     ],
     &[
-        Wire {
+        NumberedConnection {
             from: FIRST,
             to: FAR_OF_SECOND,
         },
-        Wire {
+        NumberedConnection {
             from: FAR_OF_SECOND,
             to: BOUNDARY,
         },
@@ -125,7 +125,12 @@ static FAR: Network = (
     ],
 );
 
-fn wiring_of(rt: &impl Abort, alloc: Global, events: &[Wire], data: &[Wire]) -> Wiring {
+fn wiring_of(
+    rt: &impl Abort,
+    alloc: Global,
+    events: &[NumberedConnection],
+    data: &[NumberedConnection],
+) -> Wiring {
     let numbers = NetworkNumbers {
         types: Items::new(alloc),
         parameters: Items::new(alloc),

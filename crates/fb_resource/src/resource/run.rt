@@ -64,7 +64,7 @@ impl Resource {
         Ok(None)
     }
 
-    /// Takes all events below a tick, in milliseconds, or up to its stop. In each tick it has so many steps.
+    /// Takes all events below a tick, in milliseconds, or up to its stop. In each tick it has the given number of steps.
     pub fn run_to(mut self, alloc: Global, system: &System, to: u64, steps: u64) -> WindowDone
         requires of { IsOf system.now self }
         requires live { self.stopped ≡ None }
@@ -84,7 +84,7 @@ impl Resource {
         }
     }
 
-    /// Takes all events below a tick, in milliseconds, or up to its stop, where it is. In each tick it has so many steps.
+    /// Takes all events below a tick, in milliseconds, or up to its stop, where it is. In each tick it has the given number of steps.
     ///
     /// # Errors
     /// When memory runs out, or a link has carried 2^128 messages. Then nothing is said of the resource.

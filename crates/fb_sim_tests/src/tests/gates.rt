@@ -106,8 +106,8 @@ impl InOrder {
 
 impl Gate for InOrder {
     fn at<R: Wait>(&self, _rt: &R, number: usize) {
-        let place = self.passed.fetch_add(1, SeqCst);
-        if place < Self::JOBS && number as u64 != place {
+        let index = self.passed.fetch_add(1, SeqCst);
+        if index < Self::JOBS && number as u64 != index {
             self.differs.store(true, SeqCst);
         }
     }

@@ -7,7 +7,7 @@ use super::inputs_of;
 use super::texts::{ARRIVAL, BETWEEN, Case, LATER_STOP, PAST_A_STOP, TWO_STOPS};
 use super::writers::{ANY, Narrow, with_room};
 use fb_phase::OpenGate;
-use fb_sim::{Options, Outcome, Round, RunError, let_go, open, open_core, round};
+use fb_sim::{Options, Outcome, Round, RunError, discard, open, open_core, round};
 use fb_system::System;
 use fb_types::Form;
 use fb_window::Core;
@@ -121,12 +121,12 @@ fn expect_rounds<R: Abort + Threads + Wait + Sync>(
                 drop(last);
                 expect_lines(rt, &out, before, lines);
                 assert!(rt; is_last && case.outcome == Outcome::End(case.horizon));
-                return let_go(system);
+                return discard(system);
             }
             Ok(Round::Stopped(mark)) => {
                 expect_lines(rt, &out, before, lines);
                 assert!(rt; is_last && case.outcome == Outcome::Stop(mark));
-                return let_go(system);
+                return discard(system);
             }
             Err(error) => {
                 assert!(rt; !matches!(error, RunError::Memory) || out.got.len() == before);

@@ -30,11 +30,11 @@ returns-in_err-insert-in-Err-clause-absent c =
 pub returns-in-Some-clause-ok : goal.returns-in-Some-clause-ok
 returns-in-Some-clause-ok c =
     let es = c.args.events.now.items in
-    let place = c.in-Some.ensures in
-    c.in_ok-insert.ensures.items ∙ put_between c.args.key c.args.event es c.in-Some.index place.within place.below place.above
+    let index = c.in-Some.ensures in
+    c.in_ok-insert.ensures.items ∙ put_between c.args.key c.args.event es c.in-Some.index index.within index.below index.above
 
 pub returns-in_err-insert-clause-absent : goal.returns-in_err-insert-clause-absent
 returns-in_err-insert-clause-absent c =
     let es = c.args.events.now.items in
-    let place = c.in-Some.ensures in
-    err_known c.from_residual.result (absent_between c.args.key es c.in-Some.index place.below place.above)
+    let index = c.in-Some.ensures in
+    err_known c.from_residual.result (absent_between c.args.key es c.in-Some.index index.below index.above)

@@ -8,21 +8,21 @@ use Rattle.fb_check.proofs.directory_making.events_of.Goals.{then-not-contains_k
 abbrev name_of : EventPort → Name
 name_of e = e.name
 
-abbrev place_of : ℕ → EventPort → ℕ
-place_of k e = k
+abbrev index_of : ℕ → EventPort → ℕ
+index_of k e = k
 
-pub loop-place-init : goal.loop-place-init
-loop-place-init c = first_none name_of place_of _ c.new-places.ensures.empty
+pub loop-index-init : goal.loop-index-init
+loop-index-init c = first_none name_of index_of _ c.new-indexes.ensures.empty
 
-pub loop-place-preserved : goal.loop-place-preserved
-loop-place-preserved c =
+pub loop-index-preserved : goal.loop-index-preserved
+loop-index-preserved c =
     elim c.if-not-contains_key.branch [
       | then-not-contains_key+in_ok-number_of+in_ok-insert w ↦
-          rw w.places-is
-          (first_more name_of place_of _ _ _ c.loop-place.places _ c.as_bytes-name.result _ c.loop-place-test.true c.index-events-place.is c.as_bytes-name.ensures
-          w.in_ok-number_of.ensures (sym c.contains_key.ensures ∙ w.if-not-contains_key.true) c.loop-place.invariant w.in_ok-insert.ensures.updates.0)
+          rw w.indexes-is
+          (first_more name_of index_of _ _ _ c.loop-index.indexes _ c.as_bytes-name.result _ c.loop-index-test.true c.index-events-index.is c.as_bytes-name.ensures
+          w.in_ok-number_of.ensures (sym c.contains_key.ensures ∙ w.if-not-contains_key.true) c.loop-index.invariant w.in_ok-insert.ensures.updates.0)
       | else-not-contains_key w ↦
-          rw w.places-is
-          (first_kept name_of place_of _ _ _ c.loop-place.places c.as_bytes-name.result.now c.loop-place-test.true c.index-events-place.is c.as_bytes-name.ensures
-          (sym c.contains_key.ensures ∙ w.if-not-contains_key.false) c.loop-place.invariant)
+          rw w.indexes-is
+          (first_kept name_of index_of _ _ _ c.loop-index.indexes c.as_bytes-name.result.now c.loop-index-test.true c.index-events-index.is c.as_bytes-name.ensures
+          (sym c.contains_key.ensures ∙ w.if-not-contains_key.false) c.loop-index.invariant)
     ]

@@ -7,10 +7,10 @@ use Rattle.fb_check.proofs.stimuli.inputs_at.Goals as goal
 
 pub returns-in_err-instance : goal.returns-in_err-instance
 returns-in_err-instance c =
-    rw c.from_residual.ensures (missing_instance c.args.library.now c.args.place (sym c.get.ensures.value ∙ ap option_copied c.in_err-instance.was))
+    rw c.from_residual.ensures (missing_instance c.args.library.now c.args.index (sym c.get.ensures.value ∙ ap option_copied c.in_err-instance.was))
 
 pub returns : goal.returns
 returns c =
     let P : Name → Type 0 = λ m. IsFound (ports_named c.args.library.now m) (option_copied c.inputs_named.result) in
-    found_instance c.args.library.now c.args.place c.in_ok-instance.instance.now (option_copied c.inputs_named.result)
+    found_instance c.args.library.now c.args.index c.in_ok-instance.instance.now (option_copied c.inputs_named.result)
     (sym c.get.ensures.value ∙ ap option_copied c.in_ok-instance.was) (subst P c.as_bytes-name.ensures c.inputs_named.ensures)

@@ -3,7 +3,7 @@ use Rattle.std.proofs.lemmas.List.{map-append, take_all}
 use Rattle.fb_types.specs.Names.{Name}
 use Rattle.fb_types.specs.declared.deploy.Setting.{Setting}
 use Rattle.fb_types.proofs.LoopSteps.{map_take_more}
-use Rattle.fb_check_names.specs.Places.{names_in}
+use Rattle.fb_check_names.specs.Indexes.{names_in}
 use Rattle.fb_check.proofs.stimuli.push_names.Goals as goal
 
 abbrev variable_of : Setting → Name

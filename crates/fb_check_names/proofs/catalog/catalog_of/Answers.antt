@@ -9,7 +9,7 @@ returns-in-None c =
     let plan = c.args.plan.now in
     match_none c.in_ok-found.found (NameTwice lib plan) (AreAll lib plan)
     (catalog_found lib plan _ _ _ _ _ _ _ c.in_ok-found.found c.as_slice-blocks.ensures c.both-declared.ensures c.both-placed.ensures c.in_ok-found.ensures
-    c.type_places.ensures c.blocks_places.ensures c.network_places.ensures c.resource_places.ensures) c.in-None.is
+    c.type_indexes.ensures c.blocks_indexes.ensures c.network_indexes.ensures c.resource_indexes.ensures) c.in-None.is
 
 pub returns-in-Some : goal.returns-in-Some
 returns-in-Some c =
@@ -17,4 +17,4 @@ returns-in-Some c =
     let plan = c.args.plan.now in
     match_some c.in_ok-found.found (NameTwice lib plan) (AreAll lib plan) _
     (catalog_found lib plan _ _ _ _ _ _ _ c.in_ok-found.found c.as_slice-blocks.ensures c.both-declared.ensures c.both-placed.ensures c.in_ok-found.ensures
-    c.type_places.ensures c.blocks_places.ensures c.network_places.ensures c.resource_places.ensures) c.in-Some.is
+    c.type_indexes.ensures c.blocks_indexes.ensures c.network_indexes.ensures c.resource_indexes.ensures) c.in-Some.is

@@ -4,8 +4,8 @@ use Rattle.fb_check_names.proofs.ends.boundary_end.Goals as goal
 pub returns-in_err-composite : goal.returns-in_err-composite
 returns-in_err-composite c = rw c.in_err-composite.was c.from_residual.ensures
 
-pub place_in-requires : goal.place_in-requires
-place_in-requires c = c.requires.boundary (c.in_ok-composite.composite, c.in_ok-composite.places) c.in_ok-composite.was
+pub index_in-requires : goal.index_in-requires
+index_in-requires c = c.requires.boundary (c.in_ok-composite.composite, c.in_ok-composite.indexes) c.in_ok-composite.was
 
 pub returns-in_err-port : goal.returns-in_err-port
 returns-in_err-port c = rw (c.in_ok-composite.was, sym c.in_err-port.ensures) c.from_residual-in_err-port.ensures

@@ -11,8 +11,8 @@ use Rattle.fb_check_networks.proofs.parameters.has_wrong_in.Goals as goal
 abbrev Three : Type 0
 Three = (Instance × TypeNumber) × List ℕ
 
-pub loop-place-init : goal.loop-place-init
-loop-place-init c = refl
+pub loop-index-init : goal.loop-index-init
+loop-index-init c = refl
 
 pub returns-in_default : goal.returns-in_default
 returns-in_default c =
@@ -20,8 +20,8 @@ returns-in_default c =
     let xs = c.as_slice-instances.result.now in
     let ts = c.args.numbers.now.types in
     let ys = c.args.numbers.now.parameters in
-    let k = c.loop-place.place in
-    any_none test (zip (zip xs ts) ys) k (past_first (zip xs ts) ys k (past_second xs ts k (sym c.in_default.ensures.value))) c.loop-place.invariant
+    let k = c.loop-index.index in
+    any_none test (zip (zip xs ts) ys) k (past_first (zip xs ts) ys k (past_second xs ts k (sym c.in_default.ensures.value))) c.loop-index.invariant
     ∙ ap (λ (zs : List Instance). list_any test (zip (zip zs ts) ys)) c.as_slice-instances.ensures
 
 pub returns-in_default-get : goal.returns-in_default-get
@@ -30,8 +30,8 @@ returns-in_default-get c =
     let xs = c.as_slice-instances.result.now in
     let ts = c.args.numbers.now.types in
     let ys = c.args.numbers.now.parameters in
-    let k = c.loop-place.place in
-    any_none test (zip (zip xs ts) ys) k (past_second (zip xs ts) ys k (sym c.in_default-get.ensures.value)) c.loop-place.invariant
+    let k = c.loop-index.index in
+    any_none test (zip (zip xs ts) ys) k (past_second (zip xs ts) ys k (sym c.in_default-get.ensures.value)) c.loop-index.invariant
     ∙ ap (λ (zs : List Instance). list_any test (zip (zip zs ts) ys)) c.as_slice-instances.ensures
 
 pub returns-then-has_wrong : goal.returns-then-has_wrong
@@ -40,28 +40,28 @@ returns-then-has_wrong c =
     let xs = c.as_slice-instances.result.now in
     let ts = c.args.numbers.now.types in
     let ys = c.args.numbers.now.parameters in
-    let k = c.loop-place.place in
-    let x = c.index-instances-place.result in
+    let k = c.loop-index.index in
+    let x = c.index-instances-index.result in
     let t = c.in-Some.number.now in
     let y = c.in-Some-get.inputs.now in
     any_here test (zip (zip xs ts) ys) k ((x, t), y)
-    (at_pair (zip xs ts) ys k (x, t) y (at_pair xs ts k x t (at_element xs k x c.loop-place-test.true c.index-instances-place.is) (sym c.in-Some.ensures.value)) (sym c.in-Some-get.ensures.value))
-    c.loop-place.invariant (ap (has_wrong c.args.library.now x t) (sym c.as_slice.ensures) ∙ sym c.has_wrong.ensures ∙ c.if-has_wrong.true)
+    (at_pair (zip xs ts) ys k (x, t) y (at_pair xs ts k x t (at_element xs k x c.loop-index-test.true c.index-instances-index.is) (sym c.in-Some.ensures.value)) (sym c.in-Some-get.ensures.value))
+    c.loop-index.invariant (ap (has_wrong c.args.library.now x t) (sym c.as_slice.ensures) ∙ sym c.has_wrong.ensures ∙ c.if-has_wrong.true)
     ∙ ap (λ (zs : List Instance). list_any test (zip (zip zs ts) ys)) c.as_slice-instances.ensures
 
-pub loop-place-preserved : goal.loop-place-preserved
-loop-place-preserved c =
+pub loop-index-preserved : goal.loop-index-preserved
+loop-index-preserved c =
     let test : Three → Bool = λ p. has_wrong c.args.library.now p.0.0 p.0.1 p.1 in
     let xs = c.as_slice-instances.result.now in
     let ts = c.args.numbers.now.types in
     let ys = c.args.numbers.now.parameters in
-    let k = c.loop-place.place in
-    let x = c.index-instances-place.result in
+    let k = c.loop-index.index in
+    let x = c.index-instances-index.result in
     let t = c.in-Some.number.now in
     let y = c.in-Some-get.inputs.now in
     any_later test (zip (zip xs ts) ys) k ((x, t), y)
-    (at_pair (zip xs ts) ys k (x, t) y (at_pair xs ts k x t (at_element xs k x c.loop-place-test.true c.index-instances-place.is) (sym c.in-Some.ensures.value)) (sym c.in-Some-get.ensures.value))
-    c.loop-place.invariant (ap (has_wrong c.args.library.now x t) (sym c.as_slice.ensures) ∙ sym c.has_wrong.ensures ∙ c.if-has_wrong.false)
+    (at_pair (zip xs ts) ys k (x, t) y (at_pair xs ts k x t (at_element xs k x c.loop-index-test.true c.index-instances-index.is) (sym c.in-Some.ensures.value)) (sym c.in-Some-get.ensures.value))
+    c.loop-index.invariant (ap (has_wrong c.args.library.now x t) (sym c.as_slice.ensures) ∙ sym c.has_wrong.ensures ∙ c.if-has_wrong.false)
 
 pub returns : goal.returns
 returns c =
@@ -69,6 +69,6 @@ returns c =
     let xs = c.as_slice-instances.result.now in
     let ts = c.args.numbers.now.types in
     let ys = c.args.numbers.now.parameters in
-    let k = c.loop-place.place in
-    any_none test (zip (zip xs ts) ys) k (past_first (zip xs ts) ys k (past_first xs ts k (slice_get_past xs k c.loop-place-test.false))) c.loop-place.invariant
+    let k = c.loop-index.index in
+    any_none test (zip (zip xs ts) ys) k (past_first (zip xs ts) ys k (past_first xs ts k (slice_get_past xs k c.loop-index-test.false))) c.loop-index.invariant
     ∙ ap (λ (zs : List Instance). list_any test (zip (zip zs ts) ys)) c.as_slice-instances.ensures

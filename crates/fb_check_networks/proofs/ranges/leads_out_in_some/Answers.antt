@@ -8,16 +8,16 @@ use Rattle.fb_check_networks.specs.Joins.{leads_out_in}
 use Rattle.fb_check_networks.proofs.Looking.{any_here, any_later, any_none, at_element, at_pair, past_first, past_second}
 use Rattle.fb_check_networks.proofs.ranges.leads_out_in_some.Goals as goal
 
-pub loop-place-init : goal.loop-place-init
-loop-place-init c = refl
+pub loop-index-init : goal.loop-index-init
+loop-index-init c = refl
 
 pub returns-in_default : goal.returns-in_default
 returns-in_default c =
     let test : BlockType × Option NetworkNumbers → Bool = λ p. inside_passes (leads_out_in c.args.library.now) p.0 p.1 in
     let xs = c.as_slice-types.result.now in
     let ys = c.args.blocks.now in
-    let k = c.loop-place.place in
-    any_none test (zip xs ys) k (past_second xs ys k (slice_get_past ys k c.in_default.ensures.lookup.3)) c.loop-place.invariant
+    let k = c.loop-index.index in
+    any_none test (zip xs ys) k (past_second xs ys k (slice_get_past ys k c.in_default.ensures.lookup.3)) c.loop-index.invariant
     ∙ ap (λ (zs : List BlockType). list_any test (zip zs ys)) c.as_slice-types.ensures
 
 pub returns-then-leads_out_inside : goal.returns-then-leads_out_inside
@@ -25,26 +25,26 @@ returns-then-leads_out_inside c =
     let test : BlockType × Option NetworkNumbers → Bool = λ p. inside_passes (leads_out_in c.args.library.now) p.0 p.1 in
     let xs = c.as_slice-types.result.now in
     let ys = c.args.blocks.now in
-    let k = c.loop-place.place in
-    let x = c.index-types-place.result in
+    let k = c.loop-index.index in
+    let x = c.index-types-index.result in
     let y = c.in-Some.numbers.now in
     let at = c.in-Some.ensures.lookup in
     any_here test (zip xs ys) k (x, y)
-    (at_pair xs ys k x y (at_element xs k x c.loop-place-test.true c.index-types-place.is) (at_element ys k y at.3.0 at.1)) c.loop-place.invariant
+    (at_pair xs ys k x y (at_element xs k x c.loop-index-test.true c.index-types-index.is) (at_element ys k y at.3.0 at.1)) c.loop-index.invariant
     (sym c.leads_out_inside.ensures ∙ c.if-leads_out_inside.true)
     ∙ ap (λ (zs : List BlockType). list_any test (zip zs ys)) c.as_slice-types.ensures
 
-pub loop-place-preserved : goal.loop-place-preserved
-loop-place-preserved c =
+pub loop-index-preserved : goal.loop-index-preserved
+loop-index-preserved c =
     let test : BlockType × Option NetworkNumbers → Bool = λ p. inside_passes (leads_out_in c.args.library.now) p.0 p.1 in
     let xs = c.as_slice-types.result.now in
     let ys = c.args.blocks.now in
-    let k = c.loop-place.place in
-    let x = c.index-types-place.result in
+    let k = c.loop-index.index in
+    let x = c.index-types-index.result in
     let y = c.in-Some.numbers.now in
     let at = c.in-Some.ensures.lookup in
     any_later test (zip xs ys) k (x, y)
-    (at_pair xs ys k x y (at_element xs k x c.loop-place-test.true c.index-types-place.is) (at_element ys k y at.3.0 at.1)) c.loop-place.invariant
+    (at_pair xs ys k x y (at_element xs k x c.loop-index-test.true c.index-types-index.is) (at_element ys k y at.3.0 at.1)) c.loop-index.invariant
     (sym c.leads_out_inside.ensures ∙ c.if-leads_out_inside.false)
 
 pub returns : goal.returns
@@ -52,6 +52,6 @@ returns c =
     let test : BlockType × Option NetworkNumbers → Bool = λ p. inside_passes (leads_out_in c.args.library.now) p.0 p.1 in
     let xs = c.as_slice-types.result.now in
     let ys = c.args.blocks.now in
-    let k = c.loop-place.place in
-    any_none test (zip xs ys) k (past_first xs ys k (slice_get_past xs k c.loop-place-test.false)) c.loop-place.invariant
+    let k = c.loop-index.index in
+    any_none test (zip xs ys) k (past_first xs ys k (slice_get_past xs k c.loop-index-test.false)) c.loop-index.invariant
     ∙ ap (λ (zs : List BlockType). list_any test (zip zs ys)) c.as_slice-types.ensures

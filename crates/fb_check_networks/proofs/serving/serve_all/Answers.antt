@@ -4,27 +4,27 @@ use Rattle.fb_check_networks.proofs.Numbers.{withs_read}
 use Rattle.fb_check_networks.proofs.serving.serve_all.Goals as goal
 use Rattle.fb_check_networks.proofs.serving.serve_all.Goals.{then-branch+in_ok-extend, else-branch}
 
-pub loop-place-init : goal.loop-place-init
-loop-place-init c = carried_none _ _ _ _ c.requires.events c.requires.served
+pub loop-index-init : goal.loop-index-init
+loop-index-init c = carried_none _ _ _ _ c.requires.events c.requires.served
 
-pub loop-place-preserved : goal.loop-place-preserved
-loop-place-preserved c =
+pub loop-index-preserved : goal.loop-index-preserved
+loop-index-preserved c =
     elim c.if-branch.branch [
       | then-branch+in_ok-extend w ↦
           rw w.served-is
-          (carried_new c.args.library.now c.args.mapping.now _ _ c.index-connections-place.result c.component_of-component.result c.as_bytes.result c.resource_of-resource.result _ _ _ _ _
-          c.loop-place-test.true c.index-connections-place.is
-          (record { at = c.component_of-component.ensures; name = c.as_bytes.ensures; leads = c.resource_of-resource.ensures }) c.loop-place.invariant
+          (carried_new c.args.library.now c.args.mapping.now _ _ c.index-connections-index.result c.component_of-component.result c.as_bytes.result c.resource_of-resource.result _ _ _ _ _
+          c.loop-index-test.true c.index-connections-index.is
+          (record { at = c.component_of-component.ensures; name = c.as_bytes.ensures; leads = c.resource_of-resource.ensures }) c.loop-index.invariant
           (w.variables_with-names.ensures
-          ∙ withs_read c.args.library.now c.args.numbers.now _ _ _ c.requires.numbers c.as_slice-connections.ensures c.loop-place-test.true c.index-connections-place.is)
+          ∙ withs_read c.args.library.now c.args.numbers.now _ _ _ c.requires.numbers c.as_slice-connections.ensures c.loop-index-test.true c.index-connections-index.is)
           w.in_ok-extend.ensures c.in_ok-insert.ensures.updates.0)
       | else-branch w ↦
           rw w.served-is
-          (carried_old c.args.library.now c.args.mapping.now _ _ c.index-connections-place.result c.component_of-component.result c.as_bytes.result c.resource_of-resource.result _ _ _ _
-          c.loop-place-test.true c.index-connections-place.is
-          (record { at = c.component_of-component.ensures; name = c.as_bytes.ensures; leads = c.resource_of-resource.ensures }) c.loop-place.invariant
+          (carried_old c.args.library.now c.args.mapping.now _ _ c.index-connections-index.result c.component_of-component.result c.as_bytes.result c.resource_of-resource.result _ _ _ _
+          c.loop-index-test.true c.index-connections-index.is
+          (record { at = c.component_of-component.ensures; name = c.as_bytes.ensures; leads = c.resource_of-resource.ensures }) c.loop-index.invariant
           c.in_ok-insert.ensures.added w.if-branch.false c.in_ok-insert.ensures.updates.0)
     ]
 
 pub returns : goal.returns
-returns c = all_served c.args.library.now c.args.plan.now c.args.mapping.now _ _ _ _ c.requires.mapping c.as_slice-connections.ensures c.loop-place-test.false c.loop-place.invariant
+returns c = all_served c.args.library.now c.args.plan.now c.args.mapping.now _ _ _ _ c.requires.mapping c.as_slice-connections.ensures c.loop-index-test.false c.loop-index.invariant

@@ -11,7 +11,7 @@ use Rattle.fb_check_networks.proofs.variables.input_type.Goals as goal
 pub returns-in_err-get-in-Declared : goal.returns-in_err-get-in-Declared
 returns-in_err-get-in-Declared c =
     let lib = c.args.library.now in
-    let typed : Option Kind → Option Ty = option_and_then (λ k. type_at (ports_of k).inputs c.args.place) in
+    let typed : Option Kind → Option Ty = option_and_then (λ k. type_at (ports_of k).inputs c.args.index) in
     let none : kind_of_number lib c.args.number ≡ None =
     ap (kind_of_number lib) c.in-Declared.is ∙ ap (option_map kind_of) (sym c.in_err-get-in-Declared.ensures.value) in
     c.from_residual.ensures ∙ sym (ap typed none)
@@ -19,8 +19,8 @@ returns-in_err-get-in-Declared c =
 pub returns-in_ok-get-in-Declared : goal.returns-in_ok-get-in-Declared
 returns-in_ok-get-in-Declared c =
     let lib = c.args.library.now in
-    let typed : Option Kind → Option Ty = option_and_then (λ k. type_at (ports_of k).inputs c.args.place) in
+    let typed : Option Kind → Option Ty = option_and_then (λ k. type_at (ports_of k).inputs c.args.index) in
     let kind : kind_of_number lib c.args.number ≡ Some (kind_of c.in_ok-get-in-Declared.field-0.now) =
     ap (kind_of_number lib) c.in-Declared.is ∙ ap (option_map kind_of) (sym c.in_ok-get-in-Declared.ensures.value) in
     let its = c.as_slice.ensures ∙ ap (λ (p : Ports). p.inputs) c.ports-ports.ensures in
-    c.type_at.ensures ∙ (λ i. type_at (its i) c.args.place) ∙ sym (ap typed kind)
+    c.type_at.ensures ∙ (λ i. type_at (its i) c.args.index) ∙ sym (ap typed kind)

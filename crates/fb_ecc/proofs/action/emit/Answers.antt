@@ -3,7 +3,7 @@ use Rattle.std.specs.Prelude.{All}
 use Rattle.fb_st.specs.Frames.{values_of}
 use Rattle.fb_types.specs.declared.run.Emission.{Emission}
 use Rattle.fb_ecc.specs.Actions.{IsOutput}
-use Rattle.fb_ecc.specs.Places.{IsWellFormed}
+use Rattle.fb_ecc.specs.Indexes.{IsWellFormed}
 use Rattle.fb_ecc.proofs.Actions.{output_here, emitted_some, shown_here, shown_within, fit_some, on_ok, either}
 use Rattle.fb_ecc.proofs.action.emit.Goals as goal
 

@@ -1,9 +1,9 @@
 use Rattle.std.proofs.Common.{◌≤◌, ◌+◌, ℕ, List, [], ◌∷◌, drop, length, Some, None, Result, refl, sym, ◌∙◌, subst, arith}
 use Rattle.std.proofs.lemmas.Result.{err_from_is_err_and}
-use Rattle.fb_types.specs.Charts.{Acts, Place}
+use Rattle.fb_types.specs.Charts.{Acts, Position}
 use Rattle.fb_types.specs.declared.library.Action.{Action}
 use Rattle.fb_types.specs.declared.run.Halt.{Halt}
-use Rattle.fb_ecc.specs.Places.{Ended, place}
+use Rattle.fb_ecc.specs.Indexes.{Ended, index}
 use Rattle.fb_ecc.specs.declared.chart.Act.{Act}
 use Rattle.fb_ecc.proofs.Actions.{action_here, next_acts, no_next_acts, no_action_left, ended_early}
 use Rattle.fb_ecc.proofs.action.perform_all.Goals as goal
@@ -22,9 +22,9 @@ returns-in_err-perform-clause-performed c =
     let x = err_from_is_err_and c.from_residual.result c.from_residual.ensures.1 in
     λ actions state are.
     let n = action_here c.args.block.now c.args.acts.now actions i unread are c.loop-act-test.true in
-    let p : Place = place c.args.block.now state c.args.frame.now c.args.meter.now.left c.args.emits.now in
-    let m : Place = place c.args.block.now state c.loop-act.frame c.loop-act.meter.left c.loop-act.emits in
-    let q : Place = place c.args.block.now state c.perform.new.frame c.perform.new.meter.left c.perform.new.emits in
+    let p : Position = index c.args.block.now state c.args.frame.now c.args.meter.now.left c.args.emits.now in
+    let m : Position = index c.args.block.now state c.loop-act.frame c.loop-act.meter.left c.loop-act.emits in
+    let q : Position = index c.args.block.now state c.perform.new.frame c.perform.new.meter.left c.perform.new.emits in
     let left : ℕ = c.loop-act.meter.left in
     let ended = subst (λ (r : Result (Unit {0}) Halt). Ended r (Acts c.args.block.now (n.action ∷ []) left) m q) c.in_err-perform.was (c.perform.ensures.performed n.action state n.is) in
     rw (x.1, x.2)
@@ -40,8 +40,8 @@ loop-act-preserved c =
     record {
       performed = λ actions state are stop q rest.
           let n = action_here c.args.block.now c.args.acts.now actions i unread are c.loop-act-test.true in
-          let m : Place = place c.args.block.now state c.loop-act.frame c.loop-act.meter.left c.loop-act.emits in
-          let o : Place = place c.args.block.now state c.perform.new.frame c.perform.new.meter.left c.perform.new.emits in
+          let m : Position = index c.args.block.now state c.loop-act.frame c.loop-act.meter.left c.loop-act.emits in
+          let o : Position = index c.args.block.now state c.perform.new.frame c.perform.new.meter.left c.perform.new.emits in
           let one = subst (λ (r : Result (Unit {0}) Halt). Ended r (Acts c.args.block.now (n.action ∷ []) left) m o) c.in_ok-perform.was (c.perform.ensures.performed n.action state n.is) in
           c.loop-act.invariant.performed actions state are stop q
           (subst (λ (l : List Action). Acts c.args.block.now l left m stop q) (sym n.here)
@@ -54,7 +54,7 @@ loop-act-preserved c =
 pub returns-clause-performed : goal.returns-clause-performed
 returns-clause-performed c = λ actions state are.
     let i : ℕ = c.loop-act.act-index in
-    let m : Place = place c.args.block.now state c.loop-act.frame c.loop-act.meter.left c.loop-act.emits in
+    let m : Position = index c.args.block.now state c.loop-act.frame c.loop-act.meter.left c.loop-act.emits in
     let over : length c.args.acts.now ≤ i = let f = c.loop-act-test.false in omega arith in
     c.loop-act.invariant.performed actions state are None m
     (subst (λ (l : List Action). Acts c.args.block.now l c.loop-act.meter.left m None m) (sym (no_action_left c.args.block.now c.args.acts.now actions i are over)) (refl, refl))

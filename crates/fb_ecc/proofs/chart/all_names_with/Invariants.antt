@@ -2,7 +2,7 @@ use Rattle.std.proofs.Common.{◌≡◌, List, map, take}
 use Rattle.std.specs.List.{filter}
 use Rattle.fb_types.specs.Blocks.{among, variable_names}
 use Rattle.fb_types.specs.declared.library.Variable.{Variable}
-use Rattle.fb_check_names.specs.Places.{IsIndex}
+use Rattle.fb_check_names.specs.Indexes.{IsIndex}
 use Rattle.fb_ecc.proofs.chart.all_names_with.Given as goal
 
 abbrev pub invariant-loop-event : goal.invariant-loop-event

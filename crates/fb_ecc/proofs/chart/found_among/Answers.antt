@@ -2,7 +2,7 @@ use Rattle.std.proofs.Common.{◌≡◌, ◌+◌, ◌++◌, ◌∷◌, [], List,
 use Rattle.std.proofs.lemmas.List.{take_more}
 use Rattle.fb_types.specs.Names.{Name}
 use Rattle.fb_types.specs.Blocks.{among}
-use Rattle.fb_check_names.specs.Places.{place_in}
+use Rattle.fb_check_names.specs.Indexes.{index_in}
 use Rattle.fb_ecc.specs.Indexed.{entry_of, picked}
 use Rattle.fb_ecc.proofs.Indexing.{picked_none, picks_found, picks_none}
 use Rattle.fb_ecc.proofs.chart.found_among.Goals as goal
@@ -18,15 +18,15 @@ loop-name-preserved c = λ all index.
     let sofar : List Name = take c.loop-name.name-index names in
     let more : take (c.loop-name.name-index + 1) names ≡ sofar ++ name ∷ [] =
     take_more names c.loop-name.name-index name c.loop-name-test.true ∙ ap (λ (n : Name). sofar ++ n ∷ []) (sym c.name-item.is) in
-    let told : place_in c.args.places.now name ≡ c.place_of.result = ap (place_in c.args.places.now) (sym c.as_bytes.ensures) ∙ sym c.place_of.ensures in
-    elim c.match-place_of.branch [
+    let told : index_in c.args.indexes.now name ≡ c.index_of.result = ap (index_in c.args.indexes.now) (sym c.as_bytes.ensures) ∙ sym c.index_of.ensures in
+    elim c.match-index_of.branch [
       | in-Some+in_ok-insert w ↦
           rw w.found-is
-          (picks_found all sofar c.loop-name.found.entries _ _ w.in-Some.place c.args.places.now index (told ∙ w.in-Some.is) w.in_ok-insert.ensures.entries
+          (picks_found all sofar c.loop-name.found.entries _ _ w.in-Some.index c.args.indexes.now index (told ∙ w.in-Some.is) w.in_ok-insert.ensures.entries
           (c.loop-name.invariant all index)
           ∙ ap (λ (ns : List Name). picked (among ns) all 0) (sym more))
       | in_default w ↦
           rw w.found-is
-          (picks_none all sofar c.loop-name.found.entries name c.args.places.now index (told ∙ w.in_default.is) (c.loop-name.invariant all index)
+          (picks_none all sofar c.loop-name.found.entries name c.args.indexes.now index (told ∙ w.in_default.is) (c.loop-name.invariant all index)
           ∙ ap (λ (ns : List Name). picked (among ns) all 0) (sym more))
     ]

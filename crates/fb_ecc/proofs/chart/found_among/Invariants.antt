@@ -1,9 +1,9 @@
 use Rattle.std.proofs.Common.{◌≡◌, List, map, take}
 use Rattle.fb_types.specs.Names.{Name}
 use Rattle.fb_types.specs.Blocks.{among}
-use Rattle.fb_check_names.specs.Places.{IsIndex}
+use Rattle.fb_check_names.specs.Indexes.{IsIndex}
 use Rattle.fb_ecc.specs.Indexed.{entry_of, picked}
 use Rattle.fb_ecc.proofs.chart.found_among.Given as goal
 
 abbrev pub invariant-loop-name : goal.invariant-loop-name
-invariant-loop-name l = (all : List Name) → IsIndex all l.places → map entry_of l.found.entries ≡ picked (among (take l.name-index l.names)) all 0
+invariant-loop-name l = (all : List Name) → IsIndex all l.indexes → map entry_of l.found.entries ≡ picked (among (take l.name-index l.names)) all 0

@@ -2,14 +2,14 @@ use Rattle.std.proofs.Common.{◌≡◌, Bool, List, Option, None, Result, Ok, E
 use Rattle.std.specs.Prelude.{option_map}
 use Rattle.std.proofs.lemmas.Result.{err_from_is_err_and}
 use Rattle.fb_types.specs.Names.{Name}
-use Rattle.fb_types.specs.Charts.{ChartReacts, Place}
+use Rattle.fb_types.specs.Charts.{ChartReacts, Position}
 use Rattle.fb_types.specs.Numbers.{event_at, pair_up}
 use Rattle.fb_types.specs.Reactions.{with_values}
 use Rattle.fb_types.specs.Values.{Values}
 use Rattle.fb_types.specs.declared.run.Halt.{Halt}
 use Rattle.fb_st.specs.Frames.{values_of, declared_in}
 use Rattle.fb_ecc.specs.Links.{Linked}
-use Rattle.fb_ecc.specs.Places.{Ended, place, sampled}
+use Rattle.fb_ecc.specs.Indexes.{Ended, index, sampled}
 use Rattle.fb_ecc.proofs.Links.{variables_here, declared_each, reacted_early}
 use Rattle.fb_ecc.proofs.reaction.react.Goals as goal
 
@@ -26,9 +26,9 @@ returns-in_err-link-clause-reacted c =
     let is = variables_here c.args.block.now c.args.state.now.chart c.sampled.result.now c.args.event c.as_slice-variables.result.now c.index-sampled-event.result c.requires.block.chart
     c.sampled.ensures c.requires.event (c.as_slice-variables.ensures ∙ c.index-sampled-event.is) in
     let event : Option Name = option_map (event_at c.args.block.now.ports.event_inputs) c.loop-present.present in
-    let p : Place = place c.args.block.now c.args.state.now.state c.sample.new.frame c.args.meter.now.left c.args.emits.now in
-    let m : Place = place c.args.block.now c.loop-present.state.state c.loop-present.state.frame c.loop-present.meter.left c.loop-present.emits in
-    let q : Place = place c.args.block.now c.link.new.state.state c.link.new.state.frame c.link.new.meter.left c.link.new.emits in
+    let p : Position = index c.args.block.now c.args.state.now.state c.sample.new.frame c.args.meter.now.left c.args.emits.now in
+    let m : Position = index c.args.block.now c.loop-present.state.state c.loop-present.state.frame c.loop-present.meter.left c.loop-present.emits in
+    let q : Position = index c.args.block.now c.link.new.state.state c.link.new.state.frame c.link.new.meter.left c.link.new.emits in
     let begun : values_of c.sample.new.frame ≡ sampled c.args.block.now c.args.event c.args.values.now (values_of c.args.state.now.frame) =
     c.sample.ensures.sampled ∙ ap (λ (l : List Name). with_values (pair_up l c.args.values.now) (values_of c.args.state.now.frame)) is in
     let linked = subst (λ (r : Result Bool Halt). Linked c.args.block.now r event m q) c.in_err-link.was c.link.ensures.linked in
@@ -43,8 +43,8 @@ returns-in_err-link-clause-well_formed c = λ all. c.link.ensures.well_formed (c
 pub loop-present-preserved : goal.loop-present-preserved
 loop-present-preserved c =
     let event : Option Name = option_map (event_at c.args.block.now.ports.event_inputs) c.loop-present.present in
-    let m : Place = place c.args.block.now c.loop-present.state.state c.loop-present.state.frame c.loop-present.meter.left c.loop-present.emits in
-    let q : Place = place c.args.block.now c.link.new.state.state c.link.new.state.frame c.link.new.meter.left c.link.new.emits in
+    let m : Position = index c.args.block.now c.loop-present.state.state c.loop-present.state.frame c.loop-present.meter.left c.loop-present.emits in
+    let q : Position = index c.args.block.now c.link.new.state.state c.link.new.state.frame c.link.new.meter.left c.link.new.emits in
     let went = c.in_ok-link.was ∙ ap (λ (b : Bool). Ok b) c.if-branch.true in
     let linked = subst (λ (r : Result Bool Halt). Linked c.args.block.now r event m q) went c.link.ensures.linked in
     record {
@@ -61,9 +61,9 @@ returns-clause-reacted c =
     let is = variables_here c.args.block.now c.args.state.now.chart c.sampled.result.now c.args.event c.as_slice-variables.result.now c.index-sampled-event.result c.requires.block.chart
     c.sampled.ensures c.requires.event (c.as_slice-variables.ensures ∙ c.index-sampled-event.is) in
     let event : Option Name = option_map (event_at c.args.block.now.ports.event_inputs) c.loop-present.present in
-    let p : Place = place c.args.block.now c.args.state.now.state c.sample.new.frame c.args.meter.now.left c.args.emits.now in
-    let m : Place = place c.args.block.now c.loop-present.state.state c.loop-present.state.frame c.loop-present.meter.left c.loop-present.emits in
-    let q : Place = place c.args.block.now c.link.new.state.state c.link.new.state.frame c.link.new.meter.left c.link.new.emits in
+    let p : Position = index c.args.block.now c.args.state.now.state c.sample.new.frame c.args.meter.now.left c.args.emits.now in
+    let m : Position = index c.args.block.now c.loop-present.state.state c.loop-present.state.frame c.loop-present.meter.left c.loop-present.emits in
+    let q : Position = index c.args.block.now c.link.new.state.state c.link.new.state.frame c.link.new.meter.left c.link.new.emits in
     let begun : values_of c.sample.new.frame ≡ sampled c.args.block.now c.args.event c.args.values.now (values_of c.args.state.now.frame) =
     c.sample.ensures.sampled ∙ ap (λ (l : List Name). with_values (pair_up l c.args.values.now) (values_of c.args.state.now.frame)) is in
     let rested = c.in_ok-link.was ∙ ap (λ (b : Bool). Ok b) c.if-branch.false in

@@ -1,18 +1,18 @@
 use Rattle.std.proofs.Common.{◌≤◌, ◌<◌, length, Option, Some}
 use Rattle.std.specs.Prelude.{All, IfSome, option_map}
-use Rattle.fb_types.specs.Charts.{Place}
+use Rattle.fb_types.specs.Charts.{Position}
 use Rattle.fb_types.specs.Numbers.{event_at}
 use Rattle.fb_types.specs.declared.value.Reason.{Reason}
 use Rattle.fb_ecc.specs.Links.{Chain}
-use Rattle.fb_ecc.specs.Places.{IsBlockOf, IsWellFormed, place}
+use Rattle.fb_ecc.specs.Indexes.{IsBlockOf, IsWellFormed, index}
 use Rattle.fb_ecc.proofs.reaction.react.Given as goal
 
 -- the chain that goes on from here goes on from the start
 abbrev pub invariant-loop-present : goal.invariant-loop-present
 invariant-loop-present l = record {
-  linked : (stop : Option Reason) (q : Place)
-      → Chain l.block (option_map (event_at l.block.ports.event_inputs) l.present) (place l.block l.state.state l.state.frame l.meter.left l.emits) stop q
-      → Chain l.block (Some (event_at l.block.ports.event_inputs l.fn.event)) (place l.block l.initial.state.state l.initial.state.frame l.initial.meter.left l.initial.emits) stop q;
+  linked : (stop : Option Reason) (q : Position)
+      → Chain l.block (option_map (event_at l.block.ports.event_inputs) l.present) (index l.block l.state.state l.state.frame l.meter.left l.emits) stop q
+      → Chain l.block (Some (event_at l.block.ports.event_inputs l.fn.event)) (index l.block l.initial.state.state l.initial.state.frame l.initial.meter.left l.initial.emits) stop q;
   block : IsBlockOf l.block l.state;
   present : IfSome l.present (λ event. event < length l.block.ports.event_inputs);
   fewer : l.meter.left ≤ l.initial.meter.left;

@@ -5,8 +5,8 @@ use Rattle.fb_st.specs.Frames.{values_of, declared_in}
 use Rattle.fb_ecc.proofs.reaction.sample.Given as goal
 
 -- the rest of the values makes of the variables what all values make of them from the start
-abbrev pub invariant-loop-place : goal.invariant-loop-place
-invariant-loop-place l = record {
-  sampled : with_values (pair_up (drop l.place l.variables) (drop l.place l.values)) (values_of l.frame) ≡ with_values (pair_up l.variables l.values) (values_of l.initial.frame);
+abbrev pub invariant-loop-index : goal.invariant-loop-index
+invariant-loop-index l = record {
+  sampled : with_values (pair_up (drop l.index l.variables) (drop l.index l.values)) (values_of l.frame) ≡ with_values (pair_up l.variables l.values) (values_of l.initial.frame);
   declared : declared_in l.frame ≡ declared_in l.initial.frame;
 }

@@ -5,7 +5,7 @@ use Rattle.fb_net.proofs.basic_blocks.+react_at.Goals as goal
 
 pub returns-in-Basic-clause-reacted : goal.returns-in-Basic-clause-reacted
 returns-in-Basic-clause-reacted t c =
-    changed_here _ c.args.blocks.now c.args.first c.args.below.now c.in-Some.place.now (sym c.in-Some.ensures.value) _ c.react.result (omega arith)
+    changed_here _ c.args.blocks.now c.args.first c.args.below.now c.in-Some.slot.now (sym c.in-Some.ensures.value) _ c.react.result (omega arith)
     (record {
       basic = _;
       state = c.react.new.state;

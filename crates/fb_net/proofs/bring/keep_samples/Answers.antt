@@ -6,20 +6,20 @@ use Rattle.fb_net.specs.Samples.{names_in}
 use Rattle.fb_net.proofs.Changing.{changes_none, samples_all, samples_push}
 use Rattle.fb_net.proofs.bring.keep_samples.Goals as goal
 
-pub loop-place-init : goal.loop-place-init
-loop-place-init c = changes_none c.args.system.now c.args.forest.now c.args.at.instance
+pub loop-index-init : goal.loop-index-init
+loop-index-init c = changes_none c.args.system.now c.args.forest.now c.args.at.instance
 
-pub loop-place-preserved : goal.loop-place-preserved
-loop-place-preserved c =
+pub loop-index-preserved : goal.loop-index-preserved
+loop-index-preserved c =
     let sys = system_of c.args.system.now in
     let inputs = (ports_at sys (path_at sys c.args.at.instance)).inputs in
-    samples_push inputs c.loop-place.yielded (c.in-Some.place, c.in-Some.value) c.loop-place.invariant c.set_input.ensures
+    samples_push inputs c.loop-index.yielded (c.in-Some.index, c.in-Some.value) c.loop-index.invariant c.set_input.ensures
 
 pub returns : goal.returns
 returns c =
     let sys = system_of c.args.system.now in
     let inputs = (ports_at sys (path_at sys c.args.at.instance)).inputs in
-    let places = c.args.places.now in
-    samples_all inputs (names_in sys c.args.at) places c.args.values.now c.loop-place.yielded c.loop-place.invariant
-    (YieldsList-end (YieldsList-from_zip {s = c.into_iter-place-iterator.result} (YieldsList-from_slice places (cc)) (YieldsList-from_slice c.args.values.now (cc)))
-    c.loop-place.yielded c.loop-place.place-iterator c.loop-place.yielded_by c.next.result c.next.new.self c.in-None.is c.next.ensures.steps).0 c.requires.places
+    let indexes = c.args.indexes.now in
+    samples_all inputs (names_in sys c.args.at) indexes c.args.values.now c.loop-index.yielded c.loop-index.invariant
+    (YieldsList-end (YieldsList-from_zip {s = c.into_iter-index-iterator.result} (YieldsList-from_slice indexes (cc)) (YieldsList-from_slice c.args.values.now (cc)))
+    c.loop-index.yielded c.loop-index.index-iterator c.loop-index.yielded_by c.next.result c.next.new.self c.in-None.is c.next.ensures.steps).0 c.requires.indexes

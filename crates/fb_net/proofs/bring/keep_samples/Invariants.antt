@@ -5,8 +5,8 @@ use Rattle.fb_net.proofs.Changing.{lent_bounds, one_by_one, variable_sampled}
 use Rattle.fb_net.proofs.bring.keep_samples.Given as goal
 
 -- each pair so far was sampled
-abbrev pub invariant-loop-place : goal.invariant-loop-place
-invariant-loop-place l =
+abbrev pub invariant-loop-index : goal.invariant-loop-index
+invariant-loop-index l =
     let sys = system_of l.system in
     let inputs = (ports_at sys (path_at sys l.at.instance)).inputs in
     Changes l.system l.initial.forest l.at.instance (one_by_one variable_sampled (lent_bounds inputs l.yielded)) l.forest

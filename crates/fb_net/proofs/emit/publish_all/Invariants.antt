@@ -4,6 +4,6 @@ use Rattle.fb_net.specs.Changes.{Changes}
 use Rattle.fb_net.specs.Emitting.{outputs_at, outputs_shown}
 use Rattle.fb_net.proofs.emit.publish_all.Given as goal
 
-abbrev pub invariant-loop-place : goal.invariant-loop-place
-invariant-loop-place l =
-    Changes l.system l.initial.forest l.instance (outputs_shown (take (length l.yielded) (outputs_at (system_of l.system) l.instance l.places l.values))) l.forest
+abbrev pub invariant-loop-index : goal.invariant-loop-index
+invariant-loop-index l =
+    Changes l.system l.initial.forest l.instance (outputs_shown (take (length l.yielded) (outputs_at (system_of l.system) l.instance l.indexes l.values))) l.forest

@@ -8,7 +8,7 @@ use Rattle.fb_net.proofs.emit.send_others.Given as goal
 abbrev pub invariant-loop-reached : goal.invariant-loop-reached
 invariant-loop-reached l =
     let sys = system_of l.system in
-    HaveGone sys l.resource (map (carried_of sys) (carried_by l.from.instance l.places l.values)) (others (sys.targets (port_of sys l.from))) l.initial.outs.items l.place l.outs.items
+    HaveGone sys l.resource (map (carried_of sys) (carried_by l.from.instance l.indexes l.values)) (others (sys.targets (port_of sys l.from))) l.initial.outs.items l.index l.outs.items
 
 abbrev pub decreases-loop-reached : goal.decreases-loop-reached
-decreases-loop-reached l = let sys = system_of l.system in length (sys.targets (port_of sys l.from)) - l.place
+decreases-loop-reached l = let sys = system_of l.system in length (sys.targets (port_of sys l.from)) - l.index

@@ -6,7 +6,7 @@ use Rattle.fb_net.proofs.event_blocks.+expire_at.Goals as goal
 
 pub returns-in-Event-clause-reacted : goal.returns-in-Event-clause-reacted
 returns-in-Event-clause-reacted t c =
-    changed_here _ c.args.blocks.now c.args.first c.args.below.now c.in-Some.place.now (sym c.in-Some.ensures.value) _ c.expire.result (omega arith)
+    changed_here _ c.args.blocks.now c.args.first c.args.below.now c.in-Some.slot.now (sym c.in-Some.ensures.value) _ c.expire.result (omega arith)
     (record {
       event = _;
       state = c.expire.new.state;
@@ -19,5 +19,5 @@ returns-in-Event-clause-reacted t c =
 
 pub returns-in-Some-components_mut-clause-reacted : goal.returns-in-Some-components_mut-clause-reacted
 returns-in-Some-components_mut-clause-reacted t c =
-    changed_below _ c.args.blocks.now c.args.first c.args.below.now c.in-Some.place.now (sym c.in-Some.ensures.value) _ c.expire_at.new.blocks c.expire_at.result (omega (arith, c.in-len1-up.len_at_least))
+    changed_below _ c.args.blocks.now c.args.first c.args.below.now c.in-Some.slot.now (sym c.in-Some.ensures.value) _ c.expire_at.new.blocks c.expire_at.result (omega (arith, c.in-len1-up.len_at_least))
     c.in-Some-components_mut.ensures.value c.expire_at.ensures.reacted

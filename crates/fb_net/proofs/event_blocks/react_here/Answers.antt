@@ -6,7 +6,7 @@ use Rattle.fb_net.proofs.event_blocks.react_here.Goals as goal
 
 pub returns-clause-reacted : goal.returns-clause-reacted
 returns-clause-reacted c =
-    changed_here _ c.args.blocks.now c.args.first [] c.in-Some.place.now (sym c.in-Some.ensures.value) _ c.react.result (omega arith)
+    changed_here _ c.args.blocks.now c.args.first [] c.in-Some.slot.now (sym c.in-Some.ensures.value) _ c.react.result (omega arith)
     (record {
       event = _;
       state = c.react.new.state;

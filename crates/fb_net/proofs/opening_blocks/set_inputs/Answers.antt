@@ -5,17 +5,17 @@ use Rattle.fb_net.proofs.opening_blocks.set_inputs.Goals as goal
 
 pub put-requires : goal.put-requires
 put-requires c =
-    declared_step _ _ c.args.inputs.now c.loop-place.place c.index-inputs-place.result _ c.loop-place.invariant.declared c.requires.declared
-    (at_index _ _ _ c.loop-place-test.true c.index-inputs-place.is) (c.new-variable.ensures ∙ c.in_ok-try_clone.ensures)
+    declared_step _ _ c.args.inputs.now c.loop-index.index c.index-inputs-index.result _ c.loop-index.invariant.declared c.requires.declared
+    (at_index _ _ _ c.loop-index-test.true c.index-inputs-index.is) (c.new-variable.ensures ∙ c.in_ok-try_clone.ensures)
 
-pub loop-place-preserved : goal.loop-place-preserved
-loop-place-preserved c =
+pub loop-index-preserved : goal.loop-index-preserved
+loop-index-preserved c =
     let long = c.requires.as_many in
-    let within : c.loop-place.place < length c.args.values.now = omega (arith, long) in
+    let within : c.loop-index.index < length c.args.values.now = omega (arith, long) in
     record {
       values =
-          values_step c.args.inputs.now c.args.values.now c.loop-place.place c.index-inputs-place.result _ _ _ _ _
-          (at_index _ _ _ c.loop-place-test.true c.index-inputs-place.is) (c.new-variable.ensures ∙ c.in_ok-try_clone.ensures)
-          (slice_get-get_or c.args.values.now c.loop-place.place _ within) c.put.ensures.value c.loop-place.invariant.values;
-      declared = c.put.ensures.declared ∙ c.loop-place.invariant.declared;
+          values_step c.args.inputs.now c.args.values.now c.loop-index.index c.index-inputs-index.result _ _ _ _ _
+          (at_index _ _ _ c.loop-index-test.true c.index-inputs-index.is) (c.new-variable.ensures ∙ c.in_ok-try_clone.ensures)
+          (slice_get-get_or c.args.values.now c.loop-index.index _ within) c.put.ensures.value c.loop-index.invariant.values;
+      declared = c.put.ensures.declared ∙ c.loop-index.invariant.declared;
     }

@@ -12,19 +12,19 @@ pub returns-clause-sampled : goal.returns-clause-sampled
 returns-clause-sampled c =
     let sys = system_of c.args.system.now in
     let p = path_at sys c.args.at.instance in
-    read_all (ports_at sys p).inputs (names_in sys c.args.at) (λ w n. sampled_from sys c.args.forest.now.resource w (record { at = p; name = n })) c.loop-place.place-index c.args.places.now c.loop-place.values
-    c.loop-place.invariant c.loop-place-test.false c.requires.places
+    read_all (ports_at sys p).inputs (names_in sys c.args.at) (λ w n. sampled_from sys c.args.forest.now.resource w (record { at = p; name = n })) c.loop-index.index-index c.args.indexes.now c.loop-index.values
+    c.loop-index.invariant c.loop-index-test.false c.requires.indexes
 
 pub returns-in-len1-clause-sampled : goal.returns-in-len1-clause-sampled
 returns-in-len1-clause-sampled c =
-    let one : length c.args.places.now ≡ 1 = omega (arith, c.in-len1.len_at_least, c.in-len1.len_below) in
+    let one : length c.args.indexes.now ≡ 1 = omega (arith, c.in-len1.len_at_least, c.in-len1.len_below) in
     IfOk-weaker c.from_slice.result (λ values. values ≡ c.sampled-value.result ∷ []) (AreSampled c.args.system.now c.args.forest.now c.args.at)
-    (λ values is. one-sampled c.args.system.now c.args.forest.now c.args.at c.args.places.now c.sampled-value.result values c.requires.places one c.sampled-value.ensures is)
+    (λ values is. one-sampled c.args.system.now c.args.forest.now c.args.at c.args.indexes.now c.sampled-value.result values c.requires.indexes one c.sampled-value.ensures is)
     c.from_slice.ensures
 
-pub loop-place-preserved : goal.loop-place-preserved
-loop-place-preserved c =
+pub loop-index-preserved : goal.loop-index-preserved
+loop-index-preserved c =
     let i = c.args.system.now in
     let f = c.args.forest.now in
     let k = c.args.at.instance in
-    read_more i f k (sampled_at i f k) c.loop-place.place-index c.args.places.now c.loop-place.values c.push.new.self c.sampled.result c.loop-place.invariant c.loop-place-test.true c.in_ok-push.ensures.ok c.sampled.ensures
+    read_more i f k (sampled_at i f k) c.loop-index.index-index c.args.indexes.now c.loop-index.values c.push.new.self c.sampled.result c.loop-index.invariant c.loop-index-test.true c.in_ok-push.ensures.ok c.sampled.ensures

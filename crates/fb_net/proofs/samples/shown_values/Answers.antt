@@ -11,20 +11,20 @@ pub returns-clause-shown : goal.returns-clause-shown
 returns-clause-shown c =
     let sys = system_of c.args.system.now in
     let p = path_at sys c.args.at.instance in
-    read_all (ports_at sys p).outputs (names_out sys c.args.at) (λ w n. from_inside sys c.args.forest.now.resource w p n) c.loop-place.place-index c.args.places.now c.loop-place.values
-    c.loop-place.invariant c.loop-place-test.false c.requires.places
+    read_all (ports_at sys p).outputs (names_out sys c.args.at) (λ w n. from_inside sys c.args.forest.now.resource w p n) c.loop-index.index-index c.args.indexes.now c.loop-index.values
+    c.loop-index.invariant c.loop-index-test.false c.requires.indexes
 
 pub returns-in-len1-clause-shown : goal.returns-in-len1-clause-shown
 returns-in-len1-clause-shown c =
-    let places = c.args.places.now in
-    let one : length places ≡ 1 = omega (arith, c.in-len1.len_at_least, c.in-len1.len_below) in
+    let indexes = c.args.indexes.now in
+    let one : length indexes ≡ 1 = omega (arith, c.in-len1.len_at_least, c.in-len1.len_below) in
     IfOk-weaker c.from_slice.result (λ values. values ≡ c.shown_inside-value.result ∷ []) (AreShown c.args.system.now c.args.forest.now c.args.at)
-    (λ values is. one-shown c.args.system.now c.args.forest.now c.args.at places c.shown_inside-value.result values c.requires.places one c.shown_inside-value.ensures is)
+    (λ values is. one-shown c.args.system.now c.args.forest.now c.args.at indexes c.shown_inside-value.result values c.requires.indexes one c.shown_inside-value.ensures is)
     c.from_slice.ensures
 
-pub loop-place-preserved : goal.loop-place-preserved
-loop-place-preserved c =
+pub loop-index-preserved : goal.loop-index-preserved
+loop-index-preserved c =
     let i = c.args.system.now in
     let f = c.args.forest.now in
     let k = c.args.at.instance in
-    read_more i f k (shown_at i f k) c.loop-place.place-index c.args.places.now c.loop-place.values c.push.new.self c.shown_inside.result c.loop-place.invariant c.loop-place-test.true c.in_ok-push.ensures.ok c.shown_inside.ensures
+    read_more i f k (shown_at i f k) c.loop-index.index-index c.args.indexes.now c.loop-index.values c.push.new.self c.shown_inside.result c.loop-index.invariant c.loop-index-test.true c.in_ok-push.ensures.ok c.shown_inside.ensures

@@ -1,7 +1,7 @@
 use Rattle.std.proofs.Common.{◌+◌, ◌∷◌, [], length, length-append, Some, sym, ap, ◌∙◌}
 use Rattle.std.specs.Prelude.{slice_get}
 use Rattle.fb_resource.specs.Openings.{HasStimuli}
-use Rattle.fb_types.proofs.ByPlace.{slice_get-push}
+use Rattle.fb_types.proofs.ByIndex.{slice_get-push}
 use Rattle.fb_resource.proofs.OpenIs.{stimuli_none}
 use Rattle.fb_resource.proofs.opening.empty_agendas.Goals as goal
 

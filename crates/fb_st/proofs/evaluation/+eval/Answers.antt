@@ -21,15 +21,15 @@ value-returns-in-Binary t c =
 pub value-returns-in-Binary-2 : goal.value-returns-in-Binary-2
 value-returns-in-Binary-2 t c =
     let is : expr_of c.args.expr.now ≡ Binary c.in-Binary.operator (expr_of c.in-Binary.field-1) (expr_of c.in-Binary.field-2) = binary_is _ _ _ _ c.in-Binary.is in
-    c.told-in-Binary-2.ensures
+    c.bool_value-in-Binary-2.ensures
     ∙ truth_again (expr_of c.args.expr.now) c.in-Binary.operator _ _ is (values_of c.args.frame.now) (sym c.is_arithmetic.ensures ∙ c.if-is_arithmetic.false)
 
-pub counted-returns-in-Binary : goal.counted-returns-in-Binary
-counted-returns-in-Binary t c =
+pub number_with_fault-returns-in-Binary : goal.number_with_fault-returns-in-Binary
+number_with_fault-returns-in-Binary t c =
     let is : expr_of c.args.expr.now ≡ Binary c.in-Binary.operator (expr_of c.get-in-Binary.result.now) (expr_of c.get-in-Binary-2.result.now) =
     rw c.get-in-Binary.ensures (rw c.get-in-Binary-2.ensures (binary_is _ _ _ _ c.in-Binary.is)) in
     let known = counted_at (expr_of c.args.expr.now) c.in-Binary.operator _ _ is (values_of c.args.frame.now) _ _ _ _ _ _ _ _ _ _
-    c.operand-x.ensures c.operand-y.ensures c.number_of_two.ensures (search rules) (search rules) c.noted-in-Binary.ensures in
+    c.operand-x.ensures c.operand-y.ensures c.number_of_two.ensures (search rules) (search rules) c.keep_fault-in-Binary.ensures in
     rw (← known) (search rules)
 
 pub truth-returns-in-Or : goal.truth-returns-in-Or

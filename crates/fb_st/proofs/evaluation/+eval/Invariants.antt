@@ -15,8 +15,8 @@ invariant-call-loop-argument l =
 
 -- ---- How deep the trees are
 
-abbrev pub decreases-counted : goal.decreases-counted
-decreases-counted l = 16 * expr.the_size l.expr.now
+abbrev pub decreases-number_with_fault : goal.decreases-number_with_fault
+decreases-number_with_fault l = 16 * expr.the_size l.expr.now
 
 abbrev pub decreases-operand : goal.decreases-operand
 decreases-operand l = 16 * expr.the_size l.expr.now + 1
@@ -30,8 +30,8 @@ decreases-untrue l = 16 * expr.the_size l.expr.now + 2
 abbrev pub decreases-truth : goal.decreases-truth
 decreases-truth l = 16 * expr.the_size l.expr.now + 3
 
-abbrev pub decreases-told : goal.decreases-told
-decreases-told l = 16 * expr.the_size l.expr.now + 4
+abbrev pub decreases-bool_value : goal.decreases-bool_value
+decreases-bool_value l = 16 * expr.the_size l.expr.now + 4
 
 abbrev pub decreases-value : goal.decreases-value
 decreases-value l = 16 * expr.the_size l.expr.now + 5

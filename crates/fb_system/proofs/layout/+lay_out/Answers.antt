@@ -16,39 +16,39 @@ pub returns-then-depth-eq0-clause-numbers : goal.returns-then-depth-eq0-clause-n
 returns-then-depth-eq0-clause-numbers t c =
     c.new-layer.ensures.numbers ∙ ap (λ (l : Layer). l.numbers) (sym (none_deep _ _ _ _ _ _ _ c.if-depth-eq0.true))
 
-pub loop-place-init : goal.loop-place-init
-loop-place-init t c =
+pub loop-index-init : goal.loop-index-init
+loop-index-init t c =
     let deep : c.args.depth ≡ suc (c.args.depth - 1) = omega arith in
     first_laid _ _ _ _ _ _ _ _ _ _ _ _ deep c.as_slice-instances.ensures c.new-layer.ensures.rows c.new-layer.ensures.numbers refl
 
 pub returns-in_default-clause-rows : goal.returns-in_default-clause-rows
 returns-in_default-clause-rows t c =
-    (all_typed _ _ _ _ _ _ _ _ _ _ _ _ (instance_at _ _ _ c.loop-place-test.true c.index-instances-place.is) (sym c.in_default.ensures.value) c.loop-place.invariant).0
+    (all_typed _ _ _ _ _ _ _ _ _ _ _ _ (instance_at _ _ _ c.loop-index-test.true c.index-instances-index.is) (sym c.in_default.ensures.value) c.loop-index.invariant).0
 
 pub returns-in_default-clause-numbers : goal.returns-in_default-clause-numbers
 returns-in_default-clause-numbers t c =
-    (all_typed _ _ _ _ _ _ _ _ _ _ _ _ (instance_at _ _ _ c.loop-place-test.true c.index-instances-place.is) (sym c.in_default.ensures.value) c.loop-place.invariant).1
+    (all_typed _ _ _ _ _ _ _ _ _ _ _ _ (instance_at _ _ _ c.loop-index-test.true c.index-instances-index.is) (sym c.in_default.ensures.value) c.loop-index.invariant).1
 
 pub lay_out-requires : goal.lay_out-requires
 lay_out-requires t c =
-    let at : slice_get c.as_slice-instances.result.now c.loop-place.place ≡ Some c.index-instances-place.result =
-    instance_at _ _ _ c.loop-place-test.true c.index-instances-place.is in
-    let typed : slice_get c.args.site.types.now c.loop-place.place ≡ Some c.in-Some.kind.now = sym c.in-Some.ensures.value in
-    let number : c.args.first + c.len.result ≡ c.args.first + length c.loop-place.layer.rows.items =
+    let at : slice_get c.as_slice-instances.result.now c.loop-index.index ≡ Some c.index-instances-index.result =
+    instance_at _ _ _ c.loop-index-test.true c.index-instances-index.is in
+    let typed : slice_get c.args.site.types.now c.loop-index.index ≡ Some c.in-Some.kind.now = sym c.in-Some.ensures.value in
+    let number : c.args.first + c.len.result ≡ c.args.first + length c.loop-index.layer.rows.items =
     ap (λ n. c.args.first + n) (search rules) in (
       omega arith,
       subst
           (λ (o : Option (Network × NetworkNumbers)). c.args.first + c.len.result + 1 + length (layer_inside (layer (c.args.depth - 1) c.args.library.now c.args.numbers.now) (c.args.first + c.len.result) c.in_ok-row.row o).rows ≤ 4096)
           (sym c.in-Some-network_inside.ensures)
-          (room_inside _ _ _ _ _ _ _ _ _ _ _ _ _ _ _ at typed c.in_ok-row.ensures c.loop-place.invariant number c.requires),
+          (room_inside _ _ _ _ _ _ _ _ _ _ _ _ _ _ _ at typed c.in_ok-row.ensures c.loop-index.invariant number c.requires),
     )
 
-pub loop-place-preserved : goal.loop-place-preserved
-loop-place-preserved t c =
-    let at : slice_get c.as_slice-instances.result.now c.loop-place.place ≡ Some c.index-instances-place.result =
-    instance_at _ _ _ c.loop-place-test.true c.index-instances-place.is in
-    let typed : slice_get c.args.site.types.now c.loop-place.place ≡ Some c.in-Some.kind.now = sym c.in-Some.ensures.value in
-    let number : c.args.first + c.len.result ≡ c.args.first + length c.loop-place.layer.rows.items =
+pub loop-index-preserved : goal.loop-index-preserved
+loop-index-preserved t c =
+    let at : slice_get c.as_slice-instances.result.now c.loop-index.index ≡ Some c.index-instances-index.result =
+    instance_at _ _ _ c.loop-index-test.true c.index-instances-index.is in
+    let typed : slice_get c.args.site.types.now c.loop-index.index ≡ Some c.in-Some.kind.now = sym c.in-Some.ensures.value in
+    let number : c.args.first + c.len.result ≡ c.args.first + length c.loop-index.layer.rows.items =
     ap (λ n. c.args.first + n) (search rules) in
     let below : Layer = record { rows = c.match-network_inside.inside.rows.items; numbers = c.match-network_inside.inside.numbers } in
     let inside = layer (c.args.depth - 1) c.args.library.now c.args.numbers.now in
@@ -65,4 +65,4 @@ loop-place-preserved t c =
           (ap (λ (l : Laid). l.rows.items) w.inside-is ∙ w.in_ok-inside-in-Some-network_inside.ensures.rows)
           (ap (λ (l : Laid). l.numbers) w.inside-is ∙ w.in_ok-inside-in-Some-network_inside.ensures.numbers)
     ] in
-    next_laid _ _ _ _ _ _ _ _ _ _ _ _ below _ _ _ _ _ at typed c.in_ok-row.ensures inside_is number c.loop-place.invariant c.in_ok-add.ensures.rows c.in_ok-add.ensures.numbers
+    next_laid _ _ _ _ _ _ _ _ _ _ _ _ below _ _ _ _ _ at typed c.in_ok-row.ensures inside_is number c.loop-index.invariant c.in_ok-add.ensures.rows c.in_ok-add.ensures.numbers

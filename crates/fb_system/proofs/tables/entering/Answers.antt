@@ -17,7 +17,7 @@ returns-else-to-clause-within c = parent_within c.args.tables.now.library _ _ c.
 
 pub returns-else-to-clause-end : goal.returns-else-to-clause-end
 returns-else-to-clause-end c =
-    data_input_end _ _ _ _ c.requires.variable c.if-to.false c.row_at-row.ensures (c.last_place-component.ensures ∙ ap last_of c.as_slice.ensures)
+    data_input_end _ _ _ _ c.requires.variable c.if-to.false c.row_at-row.ensures (c.last_index-component.ensures ∙ ap last_of c.as_slice.ensures)
 
 pub returns-else-to-clause-source : goal.returns-else-to-clause-source
 returns-else-to-clause-source c = comes_around _ _ _ _ _ _ c.requires.netlist c.requires.variable c.if-to.false c.row_at-row.ensures

@@ -9,7 +9,7 @@ returns-then-from-clause-within c = parent_within c.args.tables.now.library _ _ 
 
 pub returns-then-from-clause-end : goal.returns-then-from-clause-end
 returns-then-from-clause-end c =
-    output_end _ _ _ _ c.requires.port c.if-from.true c.row_at-row.ensures (c.last_place-component.ensures ∙ ap last_of c.as_slice.ensures)
+    output_end _ _ _ _ c.requires.port c.if-from.true c.row_at-row.ensures (c.last_index-component.ensures ∙ ap last_of c.as_slice.ensures)
 
 pub returns-then-from-clause-targets : goal.returns-then-from-clause-targets
 returns-then-from-clause-targets c = leads_around _ _ _ _ _ _ c.requires.netlist c.requires.port c.if-from.true c.row_at-row.ensures

@@ -1,9 +1,9 @@
 use Rattle.std.proofs.Common.{◌≡◌, map, take}
 use Rattle.std.specs.List.{filter}
-use Rattle.fb_check_names.specs.declared.numbers.WireEnd.{WireEnd}
+use Rattle.fb_check_names.specs.declared.numbers.ConnectionEnd.{ConnectionEnd}
 use Rattle.fb_system.specs.NetworkTables.{ends_at}
 use Rattle.fb_system.specs.Wirings.{same_end}
 use Rattle.fb_system.proofs.wiring.sources_of.Given as goal
 
 abbrev pub invariant-loop-wire : goal.invariant-loop-wire
-invariant-loop-wire l = (e : WireEnd) → ends_at l.table e ≡ map (λ w. w.from) (filter (λ w. same_end w.to e) (take l.wire-index l.wires))
+invariant-loop-wire l = (e : ConnectionEnd) → ends_at l.table e ≡ map (λ w. w.from) (filter (λ w. same_end w.to e) (take l.wire-index l.wires))

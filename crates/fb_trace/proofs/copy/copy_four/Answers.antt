@@ -2,4 +2,4 @@ use Rattle.fb_trace.proofs.Copies.{four}
 use Rattle.fb_trace.proofs.copy.copy_four.Goals as goal
 
 pub returns : goal.returns
-returns c = four c.args.to.now c.args.from.now c.args.place c.requires.same c.requires.within
+returns c = four c.args.to.now c.args.from.now c.args.index c.requires.same c.requires.within

@@ -11,7 +11,7 @@ pub put_values-requires-clause-counted : goal.put_values-requires-clause-counted
 put_values-requires-clause-counted g c =
     let shown = c.shown_by-shown.result in
     ap length c.as_slice.ensures ∙ c.requires.belongs.values ∙ sym (ap length c.shown_by-shown.ensures.named)
-    ∙ length-map shown.places.now (variable_at shown.variables.now)
+    ∙ length-map shown.indexes.now (variable_at shown.variables.now)
 
 pub put_values-requires-clause-within : goal.put_values-requires-clause-within
 put_values-requires-clause-within g c = c.shown_by-shown.ensures.within

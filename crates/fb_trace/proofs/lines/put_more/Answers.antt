@@ -13,9 +13,9 @@ use Rattle.fb_trace.proofs.lines.put_more.Goals as goal
 pub put_values-requires-clause-counted : goal.put_values-requires-clause-counted
 put_values-requires-clause-counted g c =
     let shown = c.shown_by-shown.result in
-    others_counted c.as_slice-values.result.now shown.places.now
+    others_counted c.as_slice-values.result.now shown.indexes.now
     (ap length c.as_slice-values.ensures ∙ c.requires.belongs.values ∙ sym (ap length c.shown_by-shown.ensures.named)
-    ∙ length-map shown.places.now (variable_at shown.variables.now))
+    ∙ length-map shown.indexes.now (variable_at shown.variables.now))
 
 pub put_values-requires-clause-within : goal.put_values-requires-clause-within
 put_values-requires-clause-within g c =
@@ -33,7 +33,7 @@ returns-clause-text g c =
     let page = c.args.page.now in
     let whole =
     subst (λ (t : List ℕ). Puts old between page c.put_values.new.page t)
-    (others_sliced sys l shown.variables.now shown.places.now c.shown_by-shown.ensures) (rw c.as_slice-values.ensures at c.in_ok-put_values.ensures.whole) in
+    (others_sliced sys l shown.variables.now shown.indexes.now c.shown_by-shown.ensures) (rw c.as_slice-values.ensures at c.in_ok-put_values.ensures.whole) in
     subst (λ (t : List ℕ). Gathers old new page c.make_room.new.self t c.make_room.result) (append-nil (values_text (drop 1 (line_of sys l).values)))
     (Gathers-after c.make_room.result whole c.make_room.ensures.text)
 
@@ -46,4 +46,4 @@ returns-in_err-put_values-clause-text g c =
     let between = g.W.Write.contents c.put_values.new.out in
     Gathers-passed _ c.from_residual.ensures.1
     (subst (λ (t : List ℕ). Fails old between c.args.page.now t c.in_err-put_values.field-0.0.written)
-    (others_sliced sys l shown.variables.now shown.places.now c.shown_by-shown.ensures) (rw c.as_slice-values.ensures at c.in_err-put_values.ensures.part))
+    (others_sliced sys l shown.variables.now shown.indexes.now c.shown_by-shown.ensures) (rw c.as_slice-values.ensures at c.in_err-put_values.ensures.part))

@@ -3,7 +3,7 @@ use Rattle.fb_wave.proofs.Spelled.{Spells-none, Spells-more, Spells-all}
 use Rattle.fb_wave.proofs.digits.write_digits.Goals as goal
 
 pub loop-start-init : goal.loop-start-init
-loop-start-init c = Spells-none c.args.base c.args.number c.args.places.now (omega (arith, c.told-places))
+loop-start-init c = Spells-none c.args.base c.args.number c.args.indexes.now (omega (arith, c.told-indexes))
 
 pub loop-start-preserved : goal.loop-start-preserved
 loop-start-preserved c =

@@ -57,7 +57,7 @@ overflow_add-result-else-line-2 c =
 pub returns-then-line : goal.returns-then-line
 returns-then-line c =
     let first = get_or c.args.firsts.now c.args.line.now.instance 0 in
-    let m : Marks = record { event = first + c.args.line.now.event; first = first + c.len.result + c.len-2.result; places = c.inputs_with.result } in
+    let m : Marks = record { event = first + c.args.line.now.event; first = first + c.len.result + c.len-2.result; indexes = c.inputs_with.result } in
     let variables : m.first ≡ first + length c.ports-ports.result.now.event_inputs + length c.ports-ports.result.now.event_outputs =
     omega (arith, c.len.ensures, c.len-2.ensures)
     in
@@ -71,7 +71,7 @@ returns-else-line c =
     let m : Marks = record {
       event = first + c.len.result + c.args.line.now.event;
       first = first + c.len.result + c.len-2.result + c.len-else-line.result;
-      places = c.outputs_with.result;
+      indexes = c.outputs_with.result;
     } in
     let event : m.event ≡ first + length its.event_inputs + c.args.line.now.event = omega (arith, c.len.ensures) in
     let variables : m.first ≡ first + length its.event_inputs + length its.event_outputs + length its.inputs =

@@ -1,8 +1,8 @@
 use Rattle.std.proofs.Common.{[], ◌∷◌, ◌++◌, arith}
 use Rattle.fb_wave.proofs.dump.tell.Goals as goal
 
-pub tell_all-requires-clause-places : goal.tell_all-requires-clause-places
-tell_all-requires-clause-places c = λ k d h. let w = c.requires.places k d h in omega (arith, w, c.in_ok-fire.ensures.counted)
+pub tell_all-requires-clause-indexes : goal.tell_all-requires-clause-indexes
+tell_all-requires-clause-indexes c = λ k d h. let w = c.requires.indexes k d h in omega (arith, w, c.in_ok-fire.ensures.counted)
 
 pub returns-clause-levels : goal.returns-clause-levels
 returns-clause-levels c n fires tells touches are =

@@ -9,7 +9,7 @@ use Rattle.fb_wave.proofs.dump.tell_all.Goals as goal
 pub loop-index-preserved : goal.loop-index-preserved
 loop-index-preserved c =
     let f : ℕ → ℕ = λ k. c.args.first + k in
-    let ks = c.args.places.now in
+    let ks = c.args.indexes.now in
     let vs = c.args.values.now in
     let n = c.loop-index.index in
     let k = get_or ks n 0 in
@@ -26,7 +26,7 @@ loop-index-preserved c =
 pub returns-clause-levels : goal.returns-clause-levels
 returns-clause-levels c n fires tells touches are =
     let f : ℕ → ℕ = λ k. c.args.first + k in
-    let ks = c.args.places.now in
+    let ks = c.args.indexes.now in
     let vs = c.args.values.now in
     let ps : List (ℕ × Value) = pairs (map f ks) vs in
     let short = length-pairs (map f ks) vs in

@@ -8,5 +8,5 @@ abbrev pub invariant-loop-index : goal.invariant-loop-index
 invariant-loop-index l = record {
   counted : length l.levels.cells.items ≡ length l.initial.levels.cells.items;
   within : All (λ s. s < length l.levels.cells.items) l.levels.noted.items;
-  told : AreTold l.initial.levels l.levels (take l.index (pairs (map (λ k. l.first + k) l.places) l.values));
+  told : AreTold l.initial.levels l.levels (take l.index (pairs (map (λ k. l.first + k) l.indexes) l.values));
 }

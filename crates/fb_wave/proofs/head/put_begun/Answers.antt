@@ -10,18 +10,18 @@ use Rattle.fb_wave.proofs.head.put_begun.Goals as goal
 pub put_ports-requires : goal.put_ports-requires
 put_ports-requires c =
     let sys = system_of c.args.system.now in
-    let i = c.loop-place.place in
+    let i = c.loop-index.index in
     let within : i < length sys.paths = omega arith in
     subst (λ (its : Ports). get_or c.args.firsts.now i 0 + size_of its < 2 ^ 64) (sym c.ports.ensures) (signals_fit sys c.args.firsts.now i within c.requires)
 
-pub loop-place-preserved : goal.loop-place-preserved
-loop-place-preserved c =
+pub loop-index-preserved : goal.loop-index-preserved
+loop-index-preserved c =
     let sys = system_of c.args.system.now in
-    let i = c.loop-place.place in
-    let text = c.loop-place.text.items in
+    let i = c.loop-index.index in
+    let text = c.loop-index.text.items in
     let within : i < length sys.paths = omega arith in
     begun_on sys i text c.put_ports.new.text.items _ within
     (c.in_ok-put_ports.ensures
     ∙ ap (λ (s : ℕ). text ++ ports_begun s c.ports.result.now) (c.requires.each i (omega (arith, within)))
     ∙ ap (λ (its : Ports). text ++ ports_begun (first_signal sys i) its) c.ports.ensures)
-    c.loop-place.invariant
+    c.loop-index.invariant

@@ -11,16 +11,16 @@ use Rattle.fb_wave.proofs.head.put_instances.Goals.{then-resource+in_ok-height, 
 pub put_instance-requires-clause-first : goal.put_instance-requires-clause-first
 put_instance-requires-clause-first c =
     let sys = system_of c.args.system.now in
-    let within : c.loop-place.place < length sys.paths = omega arith in
-    signals_fit sys c.args.firsts.now c.loop-place.place within c.requires
+    let within : c.loop-index.index < length sys.paths = omega arith in
+    signals_fit sys c.args.firsts.now c.loop-index.index within c.requires
 
-pub loop-place-preserved : goal.loop-place-preserved
-loop-place-preserved c =
+pub loop-index-preserved : goal.loop-index-preserved
+loop-index-preserved c =
     let sys = system_of c.args.system.now in
-    let i = c.loop-place.place in
+    let i = c.loop-index.index in
     let r = c.args.resource in
-    let depth = c.loop-place.depth in
-    let text = c.loop-place.text.items in
+    let depth = c.loop-index.depth in
+    let text = c.loop-index.text.items in
     let p = path_at sys i in
     let within : i < length sys.paths = omega arith in
     elim c.if-resource.branch [
@@ -29,8 +29,8 @@ loop-place-preserved c =
           (ap (λ (k : ℕ). w.put_instance.new.text.items ++ instances_declared sys r k (first_signal sys (i + 1)) (drop (i + 1) sys.paths)) w.in_ok-height.ensures.height
           ∙ declared_on sys r depth i text w.put_instance.new.text.items _ within (sym c.resource.ensures ∙ w.if-resource.true)
           (w.in_ok-height.ensures.text ∙ ap (λ (s : ℕ). text ++ instance_declared sys depth s p) (c.requires.each i (omega (arith, within))))
-          c.loop-place.invariant)
+          c.loop-index.invariant)
       | else-resource w ↦
           rw (w.text-is, w.depth-is)
-          (declared_past sys r depth i text _ within (λ e. w.if-resource.false (c.resource.ensures ∙ e)) c.loop-place.invariant)
+          (declared_past sys r depth i text _ within (λ e. w.if-resource.false (c.resource.ensures ∙ e)) c.loop-index.invariant)
     ]

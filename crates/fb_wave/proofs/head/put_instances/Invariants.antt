@@ -4,7 +4,7 @@ use Rattle.fb_wave.specs.Scopes.{instances_declared}
 use Rattle.fb_wave.specs.Signals.{first_signal}
 use Rattle.fb_wave.proofs.head.put_instances.Given as goal
 
-abbrev pub invariant-loop-place : goal.invariant-loop-place
-invariant-loop-place l =
-    l.text.items ++ instances_declared (system_of l.system) l.resource l.depth (first_signal (system_of l.system) l.place) (drop l.place (system_of l.system).paths)
+abbrev pub invariant-loop-index : goal.invariant-loop-index
+invariant-loop-index l =
+    l.text.items ++ instances_declared (system_of l.system) l.resource l.depth (first_signal (system_of l.system) l.index) (drop l.index (system_of l.system).paths)
     ≡ l.initial.text.items ++ instances_declared (system_of l.system) l.resource 0 0 (system_of l.system).paths

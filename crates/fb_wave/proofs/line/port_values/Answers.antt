@@ -16,10 +16,10 @@ returns-then-port-clause-values c =
     let port = c.args.port in
     let text = c.args.text.now in
     let vs = c.as_slice.result.now in
-    let ks = c.inputs_with-places.result.now in
+    let ks = c.inputs_with-indexes.result.now in
     some_read (AreUnread vs ks text) (AreRead vs ks text) (AreValuesOf sys port text) c.values_of.result
     (λ values are.
-    input_values sys port.instance port.event port.taken ks text values c.if-port.true c.inputs_with-places.ensures
+    input_values sys port.instance port.event port.taken ks text values c.if-port.true c.inputs_with-indexes.ensures
     (subst (λ (us : List Variable). AreRead us ks text values) (c.as_slice.ensures ∙ ap (λ (its : Ports). its.inputs) c.ports-ports.ensures) are))
     c.values_of.ensures
 
@@ -29,10 +29,10 @@ returns-else-port-clause-values c =
     let port = c.args.port in
     let text = c.args.text.now in
     let vs = c.as_slice-else-port.result.now in
-    let ks = c.outputs_with-places.result.now in
+    let ks = c.outputs_with-indexes.result.now in
     some_read (AreUnread vs ks text) (AreRead vs ks text) (AreValuesOf sys port text) c.values_of-else-port.result
     (λ values are.
-    output_values sys port.instance port.event port.taken ks text values c.if-port.false c.outputs_with-places.ensures
+    output_values sys port.instance port.event port.taken ks text values c.if-port.false c.outputs_with-indexes.ensures
     (subst (λ (us : List Variable). AreRead us ks text values) (c.as_slice-else-port.ensures ∙ ap (λ (its : Ports). its.outputs) c.ports-ports.ensures) are))
     c.values_of-else-port.ensures
 
@@ -42,10 +42,10 @@ returns-then-port-clause-none c accepted =
     let port = c.args.port in
     let text = c.args.text.now in
     let vs = c.as_slice.result.now in
-    let ks = c.inputs_with-places.result.now in
+    let ks = c.inputs_with-indexes.result.now in
     none_read (AreUnread vs ks text) (AreRead vs ks text) (AreNoValuesOf sys port text) c.values_of.result
     (λ unread.
-    no_input_values sys port.instance port.event port.taken ks text c.if-port.true (inputs_once c.args.system.now accepted (path_at sys port.instance)) c.inputs_with-places.ensures
+    no_input_values sys port.instance port.event port.taken ks text c.if-port.true (inputs_once c.args.system.now accepted (path_at sys port.instance)) c.inputs_with-indexes.ensures
     (subst (λ (us : List Variable). AreUnread us ks text) (c.as_slice.ensures ∙ ap (λ (its : Ports). its.inputs) c.ports-ports.ensures) unread))
     c.values_of.ensures
 
@@ -55,9 +55,9 @@ returns-else-port-clause-none c accepted =
     let port = c.args.port in
     let text = c.args.text.now in
     let vs = c.as_slice-else-port.result.now in
-    let ks = c.outputs_with-places.result.now in
+    let ks = c.outputs_with-indexes.result.now in
     none_read (AreUnread vs ks text) (AreRead vs ks text) (AreNoValuesOf sys port text) c.values_of-else-port.result
     (λ unread.
-    no_output_values sys port.instance port.event port.taken ks text c.if-port.false (outputs_once c.args.system.now accepted (path_at sys port.instance)) c.outputs_with-places.ensures
+    no_output_values sys port.instance port.event port.taken ks text c.if-port.false (outputs_once c.args.system.now accepted (path_at sys port.instance)) c.outputs_with-indexes.ensures
     (subst (λ (us : List Variable). AreUnread us ks text) (c.as_slice-else-port.ensures ∙ ap (λ (its : Ports). its.outputs) c.ports-ports.ensures) unread))
     c.values_of-else-port.ensures

@@ -5,16 +5,16 @@ use Rattle.fb_wave.specs.Ports.{side}
 use Rattle.fb_wave.proofs.Porting.{HasThose, below_more, no_outputs_yet, none_yet, still_below}
 use Rattle.fb_wave.proofs.ports.ports_of.Goals as goal
 
-pub loop-place-preserved : goal.loop-place-preserved
-loop-place-preserved c =
+pub loop-index-preserved : goal.loop-index-preserved
+loop-index-preserved c =
     let sys = system_of c.args.system.now in
-    let before = c.loop-place.invariant in
-    let i = c.loop-place.place in
+    let before = c.loop-index.invariant in
+    let i = c.loop-index.index in
     let ins : c.len.result ≡ length (side sys i true) = c.len.ensures ∙ ap (λ (its : Ports). length its.event_inputs) c.ports-ports.ensures in
-    let outs : c.len-in-loop-place.result ≡ length (side sys i false) = c.len-in-loop-place.ensures ∙ ap (λ (its : Ports). length its.event_outputs) c.ports-ports.ensures in
-    let a = c.loop-place.all.items in
+    let outs : c.len-in-loop-index.result ≡ length (side sys i false) = c.len-in-loop-index.ensures ∙ ap (λ (its : Ports). length its.event_outputs) c.ports-ports.ensures in
+    let a = c.loop-index.all.items in
     let b = c.push_events.new.all.items in
-    let d = c.push_events-in-loop-place.new.all.items in
+    let d = c.push_events-in-loop-index.new.all.items in
     let first = c.in_ok-push_events.ensures in
     let second = c.in_ok-push_events-2.ensures in
     record {

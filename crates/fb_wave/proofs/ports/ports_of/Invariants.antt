@@ -5,10 +5,10 @@ use Rattle.fb_wave.specs.Ports.{IsPortOf}
 use Rattle.fb_wave.proofs.Porting.{AreBelow, HasBelow}
 use Rattle.fb_wave.proofs.ports.ports_of.Given as goal
 
-abbrev pub invariant-loop-place : goal.invariant-loop-place
-invariant-loop-place l = record {
+abbrev pub invariant-loop-index : goal.invariant-loop-index
+invariant-loop-index l = record {
   are : All (IsPortOf (system_of l.system)) l.all.items;
-  has : HasBelow (system_of l.system) l.all.items l.place;
-  below : AreBelow l.all.items l.place;
+  has : HasBelow (system_of l.system) l.all.items l.index;
+  below : AreBelow l.all.items l.index;
   once : ¬ (Twice l.all.items);
 }

@@ -1,6 +1,6 @@
 use Rattle.std.proofs.Common.{List, ◌++◌, [], ◌∷◌, take, sym, ap, ◌∙◌, arith}
 use Rattle.std.proofs.lemmas.List.{map_push, take_all, take_more}
-use Rattle.fb_check_names.specs.Places.{names_in}
+use Rattle.fb_check_names.specs.Indexes.{names_in}
 use Rattle.fb_types.specs.Names.{Name}
 use Rattle.fb_wave.proofs.table.names_of.Goals as goal
 

@@ -1,5 +1,5 @@
 use Rattle.std.proofs.Common.{◌≡◌, take}
-use Rattle.fb_check_names.specs.Places.{names_in}
+use Rattle.fb_check_names.specs.Indexes.{names_in}
 use Rattle.fb_wave.proofs.table.names_of.Given as goal
 
 abbrev pub invariant-loop-text : goal.invariant-loop-text

@@ -1,5 +1,5 @@
 use Rattle.fb_wave.proofs.Valued.{AreSoFar}
 use Rattle.fb_wave.proofs.values.values_of.Given as goal
 
-abbrev pub invariant-loop-place : goal.invariant-loop-place
-invariant-loop-place l = AreSoFar l.variables l.places l.text l.place-index l.values l.rest
+abbrev pub invariant-loop-index : goal.invariant-loop-index
+invariant-loop-index l = AreSoFar l.variables l.indexes l.text l.index-index l.values l.rest

@@ -14,5 +14,5 @@ returns-in-Err c =
     let text = c.args.declaration.now in
     let bytes = option_map (λ (b : Bor (List ℕ)). b.now) c.args.deploy in
     let given = option_map (λ (b : Bor (List ℕ)). b.now) c.args.stimuli in
-    unread_told c.no_finding.result (¬ (IsMemory c.in-Err.fault)) (HasNoExcess c.args.excess text bytes given) (λ (r : Finding). TellsExcess c.args.excess text bytes given r.place)
+    unread_told c.no_finding.result (¬ (IsMemory c.in-Err.fault)) (HasNoExcess c.args.excess text bytes given) (λ (r : Finding). TellsExcess c.args.excess text bytes given r.location)
     c.no_finding.ensures (λ m. inr (inl (c.in-Err.ensures.none m)))

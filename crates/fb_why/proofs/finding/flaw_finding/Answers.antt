@@ -13,5 +13,5 @@ pub returns-in-Err : goal.returns-in-Err
 returns-in-Err c =
     let text = c.args.declaration.now in
     let bytes = option_map (λ (b : Bor (List ℕ)). b.now) c.args.deploy in
-    unread_told c.no_finding.result (¬ (IsMemory c.in-Err.fault)) (HasNoFlaw c.args.flaw text bytes) (λ (r : Finding). TellsFlaw c.args.flaw text bytes r.place) c.no_finding.ensures
+    unread_told c.no_finding.result (¬ (IsMemory c.in-Err.fault)) (HasNoFlaw c.args.flaw text bytes) (λ (r : Finding). TellsFlaw c.args.flaw text bytes r.location) c.no_finding.ensures
     (λ m. inr (inl (c.in-Err.ensures.none m)))

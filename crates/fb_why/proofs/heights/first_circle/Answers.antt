@@ -5,9 +5,9 @@ use Rattle.fb_why.proofs.heights.first_circle.Goals as goal
 
 pub returns-then-leads_back : goal.returns-then-leads_back
 returns-then-leads_back c =
-    let t : BlockType = c.index-blocks-place.result in (
+    let t : BlockType = c.index-blocks-location.result in (
       t,
-      at_hand c.args.blocks.now c.loop-place.place t c.loop-place-test.true c.index-blocks-place.is,
+      at_hand c.args.blocks.now c.loop-location.location t c.loop-location-test.true c.index-blocks-location.is,
       sym c.marked_in.ensures ∙ c.in-Some.is,
       c.leads_back.ensures c.if-leads_back.true,
     )

@@ -9,12 +9,12 @@ use Rattle.fb_why.proofs.pair.link_pair.Goals as goal
 pub returns-in-Some : goal.returns-in-Some
 returns-in-Some c =
     link_pair_at c.args.links.now c.loop-second.second c.in-Some.first c.index-links-second.result c.as_bytes.result.now c.as_bytes-in-loop-second.result.now
-    c.loop-second-test.true c.index-links-second.is c.as_bytes.ensures c.as_bytes-in-loop-second.ensures (sym c.place_of_link.ensures ∙ c.in-Some.is)
+    c.loop-second-test.true c.index-links-second.is c.as_bytes.ensures c.as_bytes-in-loop-second.ensures (sym c.location_of_link.ensures ∙ c.in-Some.is)
 
 pub loop-second-preserved : goal.loop-second-preserved
 loop-second-preserved c =
     link_once c.args.links.now c.loop-second.second c.index-links-second.result c.as_bytes.result.now c.as_bytes-in-loop-second.result.now
-    c.loop-second-test.true c.index-links-second.is c.as_bytes.ensures c.as_bytes-in-loop-second.ensures (sym c.place_of_link.ensures ∙ c.in_default.is)
+    c.loop-second-test.true c.index-links-second.is c.as_bytes.ensures c.as_bytes-in-loop-second.ensures (sym c.location_of_link.ensures ∙ c.in_default.is)
     c.loop-second.invariant
 
 pub returns : goal.returns

@@ -1,5 +1,5 @@
 use Rattle.std.proofs.Common.{take}
-use Rattle.fb_check_names.specs.Places.{names_in}
+use Rattle.fb_check_names.specs.Indexes.{names_in}
 use Rattle.fb_check_names.proofs.Seen.{name_cmp}
 use Rattle.fb_why.proofs.Tables.{IsTable}
 use Rattle.fb_why.proofs.pair.name_pair.Given as goal

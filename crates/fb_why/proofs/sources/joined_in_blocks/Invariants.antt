@@ -3,5 +3,5 @@ use Rattle.std.specs.Prelude.{All}
 use Rattle.fb_why.specs.Sources.{IsParted}
 use Rattle.fb_why.proofs.sources.joined_in_blocks.Given as goal
 
-abbrev pub invariant-loop-place : goal.invariant-loop-place
-invariant-loop-place l = All IsParted (take l.place l.blocks)
+abbrev pub invariant-loop-location : goal.invariant-loop-location
+invariant-loop-location l = All IsParted (take l.location l.blocks)

@@ -18,7 +18,7 @@ pub returns-in-Some : goal.returns-in-Some
 returns-in-Some c =
     let lib = c.args.library.now in
     let s = c.args.stimulus.now in
-    match_some c.in_ok-unfit.unfit (¬ (¬ (DoAllFit lib s s.settings))) (HasUnfit lib s) c.in-Some.place c.in_ok-unfit.ensures c.in-Some.is
+    match_some c.in_ok-unfit.unfit (¬ (¬ (DoAllFit lib s s.settings))) (HasUnfit lib s) c.in-Some.location c.in_ok-unfit.ensures c.in-Some.is
 
 pub returns-in-None : goal.returns-in-None
 returns-in-None c =

@@ -7,12 +7,12 @@ use Rattle.fb_why.proofs.twice.event_block.Goals as goal
 
 pub returns-then-is_some : goal.returns-then-is_some
 returns-then-is_some c = (
-  c.index-blocks-place.result,
-  at_hand c.args.blocks.now c.loop-place.place c.index-blocks-place.result c.loop-place-test.true c.index-blocks-place.is,
+  c.index-blocks-location.result,
+  at_hand c.args.blocks.now c.loop-location.location c.index-blocks-location.result c.loop-location-test.true c.index-blocks-location.is,
   sym (ap not (c.is_some.ensures ∙ ap is_some (c.kind_named.ensures ∙ ap event_block_named (c.as_bytes.ensures ∙ c.name.ensures)))) ∙ ap not c.if-is_some.true,
 )
 
-pub loop-place-preserved : goal.loop-place-preserved
-loop-place-preserved c =
-    holds_on is_own_name c.args.blocks.now c.loop-place.place c.index-blocks-place.result c.loop-place-test.true c.index-blocks-place.is c.loop-place.invariant
+pub loop-location-preserved : goal.loop-location-preserved
+loop-location-preserved c =
+    holds_on is_own_name c.args.blocks.now c.loop-location.location c.index-blocks-location.result c.loop-location-test.true c.index-blocks-location.is c.loop-location.invariant
     (sym (ap not (c.is_some.ensures ∙ ap is_some (c.kind_named.ensures ∙ ap event_block_named (c.as_bytes.ensures ∙ c.name.ensures)))) ∙ ap not c.if-is_some.false)

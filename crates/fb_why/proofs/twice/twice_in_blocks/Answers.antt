@@ -7,19 +7,19 @@ use Rattle.fb_why.proofs.Firsts.{at_hand}
 use Rattle.fb_why.proofs.Once.{IsBlockOnce}
 use Rattle.fb_why.proofs.twice.twice_in_blocks.Goals as goal
 
-pub loop-place-preserved : goal.loop-place-preserved
-loop-place-preserved c =
-    let t : BlockType = c.index-blocks-place.result in
-    all_next IsBlockOnce c.args.blocks.now c.loop-place.place t c.loop-place-test.true c.index-blocks-place.is c.loop-place.invariant
+pub loop-location-preserved : goal.loop-location-preserved
+loop-location-preserved c =
+    let t : BlockType = c.index-blocks-location.result in
+    all_next IsBlockOnce c.args.blocks.now c.loop-location.location t c.loop-location-test.true c.index-blocks-location.is c.loop-location.invariant
     (MatchOption-at_none (¬ (BlockTwice t)) (IsTwiceInBlock t) c.in_default.is c.in_ok-found.ensures)
 
 pub returns : goal.returns
-returns c = all_of_taken IsBlockOnce c.args.blocks.now c.loop-place.place c.loop-place-test.false c.loop-place.invariant
+returns c = all_of_taken IsBlockOnce c.args.blocks.now c.loop-location.location c.loop-location-test.false c.loop-location.invariant
 
 pub returns-in-Some : goal.returns-in-Some
 returns-in-Some c =
-    let t : BlockType = c.index-blocks-place.result in (
+    let t : BlockType = c.index-blocks-location.result in (
       t,
-      at_hand c.args.blocks.now c.loop-place.place t c.loop-place-test.true c.index-blocks-place.is,
+      at_hand c.args.blocks.now c.loop-location.location t c.loop-location-test.true c.index-blocks-location.is,
       MatchOption-at_some (¬ (BlockTwice t)) (IsTwiceInBlock t) _ c.in-Some.is c.in_ok-found.ensures,
     )

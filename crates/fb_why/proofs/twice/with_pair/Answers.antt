@@ -10,23 +10,23 @@ use Rattle.fb_why.proofs.Firsts.{at_hand}
 use Rattle.fb_why.proofs.Once.{IsWithOnce}
 use Rattle.fb_why.proofs.twice.with_pair.Goals as goal
 
-pub loop-place-preserved : goal.loop-place-preserved
-loop-place-preserved c =
+pub loop-location-preserved : goal.loop-location-preserved
+loop-location-preserved c =
     let ns : List Name = c.as_slice.result.now in
     let named : List Name = map (λ (n : Name). n) ns in
-    all_next IsWithOnce c.args.events.now c.loop-place.place c.index-events-place.result c.loop-place-test.true c.index-events-place.is c.loop-place.invariant
+    all_next IsWithOnce c.args.events.now c.loop-location.location c.index-events-location.result c.loop-location-test.true c.index-events-location.is c.loop-location.invariant
     (subst (λ (ns : List Name). ¬ (Twice ns)) (map-id ns ∙ c.as_slice.ensures) (MatchOption-at_none (¬ (Twice named)) (IsPair named) c.in_default.is c.in_ok-pair.ensures))
 
 pub returns-in-Some : goal.returns-in-Some
 returns-in-Some c =
-    let e : EventPort = c.index-events-place.result in
+    let e : EventPort = c.index-events-location.result in
     let ns : List Name = c.as_slice.result.now in
     let named : List Name = map (λ (n : Name). n) ns in (
       e,
-      at_hand c.args.events.now c.loop-place.place e c.loop-place-test.true c.index-events-place.is,
+      at_hand c.args.events.now c.loop-location.location e c.loop-location-test.true c.index-events-location.is,
       subst (λ (ns : List Name). IsPair ns c.in-Some.pair) (map-id ns ∙ c.as_slice.ensures)
           (MatchOption-at_some (¬ (Twice named)) (IsPair named) c.in-Some.pair c.in-Some.is c.in_ok-pair.ensures),
     )
 
 pub returns : goal.returns
-returns c = all_of_taken IsWithOnce c.args.events.now c.loop-place.place c.loop-place-test.false c.loop-place.invariant
+returns c = all_of_taken IsWithOnce c.args.events.now c.loop-location.location c.loop-location-test.false c.loop-location.invariant

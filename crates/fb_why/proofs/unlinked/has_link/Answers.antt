@@ -5,4 +5,4 @@ use Rattle.fb_why.specs.Unlinked.{is_joining}
 use Rattle.fb_why.proofs.unlinked.has_link.Goals as goal
 
 pub returns : goal.returns
-returns c = c.is_some.ensures ∙ ap is_some c.place_of_link-place.ensures ∙ is_some-position (is_joining c.args.from.now c.args.to.now) c.args.links.now
+returns c = c.is_some.ensures ∙ ap is_some c.location_of_link-location.ensures ∙ is_some-position (is_joining c.args.from.now c.args.to.now) c.args.links.now

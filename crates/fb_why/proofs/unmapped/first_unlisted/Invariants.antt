@@ -3,5 +3,5 @@ use Rattle.std.specs.List.{list_all}
 use Rattle.fb_why.specs.Unmapped.{is_listed}
 use Rattle.fb_why.proofs.unmapped.first_unlisted.Given as goal
 
-abbrev pub invariant-loop-place : goal.invariant-loop-place
-invariant-loop-place l = list_all (is_listed l.names) l.instances ≡ list_all (is_listed l.names) (drop l.place l.instances)
+abbrev pub invariant-loop-location : goal.invariant-loop-location
+invariant-loop-location l = list_all (is_listed l.names) l.instances ≡ list_all (is_listed l.names) (drop l.location l.instances)

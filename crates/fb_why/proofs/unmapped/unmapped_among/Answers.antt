@@ -1,6 +1,6 @@
 use Rattle.std.proofs.lemmas.Option.{MatchOption-at_none}
 use Rattle.fb_types.specs.Repeated.{Twice}
-use Rattle.fb_check_names.specs.Places.{names_in}
+use Rattle.fb_check_names.specs.Indexes.{names_in}
 use Rattle.fb_why.specs.Pairs.{IsPair}
 use Rattle.fb_why.proofs.Listed.{all_listed, unlisted_at}
 use Rattle.fb_why.proofs.unmapped.unmapped_among.Goals as goal

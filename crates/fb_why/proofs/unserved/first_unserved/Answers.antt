@@ -5,9 +5,9 @@ use Rattle.fb_why.proofs.unserved.first_unserved.Goals as goal
 
 pub returns-then-not-is_served : goal.returns-then-not-is_served
 returns-then-not-is_served c =
-    (c.index-connections-place.result, at_hand c.args.connections.now c.loop-place.place c.index-connections-place.result c.loop-place-test.true c.index-connections-place.is, sym c.is_served.ensures ∙ c.if-not-is_served.true)
+    (c.index-connections-location.result, at_hand c.args.connections.now c.loop-location.location c.index-connections-location.result c.loop-location-test.true c.index-connections-location.is, sym c.is_served.ensures ∙ c.if-not-is_served.true)
 
-pub loop-place-preserved : goal.loop-place-preserved
-loop-place-preserved c =
-    holds_on (is_served c.args.library.now c.args.plan.now) c.args.connections.now c.loop-place.place c.index-connections-place.result c.loop-place-test.true c.index-connections-place.is c.loop-place.invariant
+pub loop-location-preserved : goal.loop-location-preserved
+loop-location-preserved c =
+    holds_on (is_served c.args.library.now c.args.plan.now) c.args.connections.now c.loop-location.location c.index-connections-location.result c.loop-location-test.true c.index-connections-location.is c.loop-location.invariant
     (sym c.is_served.ensures ∙ c.if-not-is_served.false)

@@ -8,7 +8,7 @@ use Rattle.fb_why_bytes.proofs.applies.is_nesting.Goals as goal
 pub returns : goal.returns
 returns c =
     let text = c.args.text.now in
-    let place = c.args.place in
-    IfOk-weaker _ (λ b. IsTrue b → IsNoLibrary IsLibraryText (take place.end text)) (λ b. IsTrue b → IsNestingAt text place)
+    let location = c.args.location in
+    IfOk-weaker _ (λ b. IsTrue b → IsNoLibrary IsLibraryText (take location.end text)) (λ b. IsTrue b → IsNestingAt text location)
     (λ b up_to yes. record { before = c.in_ok-has_tokens.ensures c.if-not-branch.false; up_to = up_to yes; whole = c.in_ok-is_too_deep.ensures c.if-not-branch-2.false })
     c.is_too_deep-2.ensures

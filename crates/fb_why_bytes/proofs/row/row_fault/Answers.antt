@@ -4,7 +4,7 @@ use Rattle.std.specs.List.{list_all}
 use Rattle.fb_inputs.specs.Rows.{draft, words}
 use Rattle.fb_why_bytes.specs.RowParts.{is_tick, is_valued}
 use Rattle.fb_why_bytes.specs.RowVerdicts.{IsFine, IsNumberFault, IsRefusedFor, IsShapeFault, IsVerdict}
-use Rattle.fb_why_bytes.specs.declared.place.RowFault.{RowFault}
+use Rattle.fb_why_bytes.specs.declared.location.RowFault.{RowFault}
 use Rattle.fb_why_bytes.specs.declared.row_verdict.RowVerdict.{RowVerdict}
 use Rattle.fb_why_bytes.proofs.RowFaults.{answers, late_told, number_told, shape_told, taken_told}
 use Rattle.fb_why_bytes.proofs.row.row_fault.Goals as goal

@@ -2,7 +2,7 @@ use Rattle.std.proofs.Common.{◌≡◌, Bor, List, ℕ, false, true, ap, ◌∙
 use Rattle.std.specs.List.{list_all}
 use Rattle.fb_why_bytes.specs.RowParts.{FailsAt, is_event, is_word}
 use Rattle.fb_types.proofs.Options.{match_none, match_some}
-use Rattle.fb_why_bytes.proofs.RowFaults.{all_words, no_event, wrong_word_place}
+use Rattle.fb_why_bytes.proofs.RowFaults.{all_words, no_event, wrong_word_location}
 use Rattle.fb_why_bytes.proofs.RowJudgements.{whole_draft}
 use Rattle.fb_why_bytes.proofs.WordLists.{all_single, shown}
 use Rattle.fb_why_bytes.proofs.row.shape_fault.Goals as goal
@@ -16,8 +16,8 @@ wrong_word-requires c = all_single c.as_slice.result.now c.args.values.now (ap s
 pub returns-in-Some : goal.returns-in-Some
 returns-in-Some c =
     let ws = c.as_slice.result.now in
-    wrong_word_place c.args.event.now c.args.values.now ws c.in-Some.place (ap shown c.as_slice.ensures.value ∙ c.in_ok-words.ensures)
-    (match_some c.in_ok-found.found (list_all (λ (w : Bor (List ℕ)). is_word w.now) ws ≡ true) (FailsAt is_word ws) c.in-Some.place c.in_ok-found.ensures c.in-Some.is)
+    wrong_word_location c.args.event.now c.args.values.now ws c.in-Some.location (ap shown c.as_slice.ensures.value ∙ c.in_ok-words.ensures)
+    (match_some c.in_ok-found.found (list_all (λ (w : Bor (List ℕ)). is_word w.now) ws ≡ true) (FailsAt is_word ws) c.in-Some.location c.in_ok-found.ensures c.in-Some.is)
 
 pub returns : goal.returns
 returns c =

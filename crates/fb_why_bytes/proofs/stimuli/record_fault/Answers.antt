@@ -2,7 +2,7 @@ use Rattle.std.proofs.Common.{Option, List, ℕ, sym, subst}
 use Rattle.std.specs.Prelude.{IfOk, MatchOption}
 use Rattle.csv.specs.Records.{fields_of}
 use Rattle.fb_why_bytes.specs.RowVerdicts.{IsFine, IsRefusedFor}
-use Rattle.fb_why_bytes.specs.declared.place.RowFault.{RowFault}
+use Rattle.fb_why_bytes.specs.declared.location.RowFault.{RowFault}
 use Rattle.fb_inputs.proofs.Fields.{three_row}
 use Rattle.fb_why_bytes.proofs.RowFaults.{other_fields}
 use Rattle.fb_why_bytes.proofs.stimuli.record_fault.Goals as goal

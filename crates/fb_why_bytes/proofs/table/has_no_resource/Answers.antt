@@ -1,6 +1,6 @@
 use Rattle.std.proofs.Common.{◌∙◌}
 use Rattle.toml.specs.View.{table_view, view}
-use Rattle.fb_why_bytes.specs.declared.place.DeployKey.TheVariants as key
+use Rattle.fb_why_bytes.specs.declared.location.DeployKey.TheVariants as key
 use Rattle.fb_why_bytes.proofs.TableValues.{emptied}
 use Rattle.fb_why_bytes.proofs.table.has_no_resource.Goals as goal
 

@@ -6,7 +6,7 @@ use Rattle.toml.specs.View.{table_view, view}
 use Rattle.toml.specs.declared.value.Value.{Value}
 use Rattle.fb_inputs.specs.Documents.{name_of}
 use Rattle.fb_why_bytes.specs.Tables.{FailsAt}
-use Rattle.fb_why_bytes.specs.declared.place.DeployKey.TheVariants as key
+use Rattle.fb_why_bytes.specs.declared.location.DeployKey.TheVariants as key
 use Rattle.fb_types.proofs.Options.{match_none, match_some}
 use Rattle.fb_why_bytes.proofs.TableValues.{array_is_met, read_is_met, wrong_element}
 use Rattle.fb_why_bytes.proofs.table.instances_fault.Goals as goal
@@ -14,9 +14,9 @@ use Rattle.fb_why_bytes.proofs.table.instances_fault.Goals as goal
 pub returns-in-Some-found : goal.returns-in-Some-found
 returns-in-Some-found c =
     let xs = c.as_slice.result.now in
-    wrong_element (table_view c.args.keys.now) key.Instances (view c.in-Some.value.now) c.in-Some-as_array.values.now.items xs c.in-Some-found.place c.in-Some.ensures c.in-Some-as_array.ensures
+    wrong_element (table_view c.args.keys.now) key.Instances (view c.in-Some.value.now) c.in-Some-as_array.values.now.items xs c.in-Some-found.location c.in-Some.ensures c.in-Some-as_array.ensures
     c.as_slice.ensures.value
-    (match_some c.in_ok-found.found (list_all (λ (v : Value). is_some (name_of (view v))) xs ≡ true) (FailsAt (λ (d : Data). is_some (name_of d)) xs) c.in-Some-found.place c.in_ok-found.ensures
+    (match_some c.in_ok-found.found (list_all (λ (v : Value). is_some (name_of (view v))) xs ≡ true) (FailsAt (λ (d : Data). is_some (name_of d)) xs) c.in-Some-found.location c.in_ok-found.ensures
     c.in-Some-found.is)
 
 pub returns-in-None : goal.returns-in-None

@@ -2,7 +2,7 @@ use Rattle.std.proofs.Common.{ap, sym, ◌∙◌}
 use Rattle.std.specs.Prelude.{is_some}
 use Rattle.toml.specs.View.{table_view, view}
 use Rattle.fb_why_bytes.specs.Keys.{value_at}
-use Rattle.fb_why_bytes.specs.declared.place.DeployKey.TheVariants as key
+use Rattle.fb_why_bytes.specs.declared.location.DeployKey.TheVariants as key
 use Rattle.fb_why_bytes.proofs.TableValues.{entries_told, none_seen, one_met}
 use Rattle.fb_why_bytes.proofs.table.latency_fault.Goals as goal
 

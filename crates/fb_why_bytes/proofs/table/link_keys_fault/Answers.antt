@@ -4,7 +4,7 @@ use Rattle.toml.specs.View.{table_view}
 use Rattle.fb_inputs.specs.Documents.{count_of, name_of, read_at}
 use Rattle.fb_why_bytes.specs.Keys.{text_of, value_at}
 use Rattle.fb_why_bytes.specs.Tables.{IsAtKey}
-use Rattle.fb_why_bytes.specs.declared.place.DeployKey.TheVariants as key
+use Rattle.fb_why_bytes.specs.declared.location.DeployKey.TheVariants as key
 use Rattle.fb_types.proofs.Options.{match_none}
 use Rattle.fb_why_bytes.proofs.TableFaults.{link_met}
 use Rattle.fb_why_bytes.proofs.TableValues.{found_at, found_one}

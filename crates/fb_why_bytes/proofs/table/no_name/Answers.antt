@@ -8,9 +8,9 @@ use Rattle.fb_why_bytes.proofs.table.no_name.Goals as goal
 
 pub returns-then-not-branch : goal.returns-then-not-branch
 returns-then-not-branch c =
-    (c.index-values-place.result, at_hand c.args.values.now c.loop-place.place c.index-values-place.result c.loop-place-test.true c.index-values-place.is, sym c.in_ok-is_name_value.ensures ∙ c.if-not-branch.true)
+    (c.index-values-location.result, at_hand c.args.values.now c.loop-location.location c.index-values-location.result c.loop-location-test.true c.index-values-location.is, sym c.in_ok-is_name_value.ensures ∙ c.if-not-branch.true)
 
-pub loop-place-preserved : goal.loop-place-preserved
-loop-place-preserved c =
-    holds_on (λ (v : Value). is_some (name_of (view v))) c.args.values.now c.loop-place.place c.index-values-place.result c.loop-place-test.true c.index-values-place.is c.loop-place.invariant
+pub loop-location-preserved : goal.loop-location-preserved
+loop-location-preserved c =
+    holds_on (λ (v : Value). is_some (name_of (view v))) c.args.values.now c.loop-location.location c.index-values-location.result c.loop-location-test.true c.index-values-location.is c.loop-location.invariant
     (sym c.in_ok-is_name_value.ensures ∙ c.if-not-branch.false)

@@ -8,9 +8,9 @@ use Rattle.fb_why_bytes.proofs.table.no_pair.Goals as goal
 
 pub returns-then-not-is_pair : goal.returns-then-not-is_pair
 returns-then-not-is_pair c =
-    (c.index-values-place.result, at_hand c.args.values.now c.loop-place.place c.index-values-place.result c.loop-place-test.true c.index-values-place.is, sym c.is_pair.ensures ∙ c.if-not-is_pair.true)
+    (c.index-values-location.result, at_hand c.args.values.now c.loop-location.location c.index-values-location.result c.loop-location-test.true c.index-values-location.is, sym c.is_pair.ensures ∙ c.if-not-is_pair.true)
 
-pub loop-place-preserved : goal.loop-place-preserved
-loop-place-preserved c =
-    holds_on (λ (v : Value). is_some (pair (view v))) c.args.values.now c.loop-place.place c.index-values-place.result c.loop-place-test.true c.index-values-place.is c.loop-place.invariant
+pub loop-location-preserved : goal.loop-location-preserved
+loop-location-preserved c =
+    holds_on (λ (v : Value). is_some (pair (view v))) c.args.values.now c.loop-location.location c.index-values-location.result c.loop-location-test.true c.index-values-location.is c.loop-location.invariant
     (sym c.is_pair.ensures ∙ c.if-not-is_pair.false)

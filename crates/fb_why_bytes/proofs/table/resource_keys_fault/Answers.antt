@@ -4,7 +4,7 @@ use Rattle.toml.specs.View.{table_view}
 use Rattle.fb_inputs.specs.Documents.{array_of, count_of, name_of, read_at}
 use Rattle.fb_why_bytes.specs.Keys.{text_of}
 use Rattle.fb_why_bytes.specs.Tables.{IsAtKey, IsResourceFault}
-use Rattle.fb_why_bytes.specs.declared.place.DeployKey.TheVariants as key
+use Rattle.fb_why_bytes.specs.declared.location.DeployKey.TheVariants as key
 use Rattle.fb_types.proofs.Options.{match_none}
 use Rattle.fb_why_bytes.proofs.TableFaults.{resource_met}
 use Rattle.fb_why_bytes.proofs.table.resource_keys_fault.Goals as goal

@@ -5,7 +5,7 @@ use Rattle.toml.specs.View.{table_view, view}
 use Rattle.toml.specs.declared.value.Value.{Value}
 use Rattle.fb_inputs.specs.Documents.{resource}
 use Rattle.fb_why_bytes.specs.Tables.{IsFaultAmong, IsResourceFault}
-use Rattle.fb_why_bytes.specs.declared.place.DeployKey.TheVariants as key
+use Rattle.fb_why_bytes.specs.declared.location.DeployKey.TheVariants as key
 use Rattle.fb_types.proofs.Options.{match_none, match_some}
 use Rattle.fb_why_bytes.proofs.TableValues.{array_is_met, in_array, read_is_met}
 use Rattle.fb_why_bytes.proofs.table.resources_at.Goals as goal
@@ -13,9 +13,9 @@ use Rattle.fb_why_bytes.proofs.table.resources_at.Goals as goal
 pub returns-in-Some-found : goal.returns-in-Some-found
 returns-in-Some-found c =
     let xs = c.as_slice.result.now in
-    in_array IsResourceFault (table_view c.args.keys.now) key.Resource (view c.in-Some.value.now) c.in-Some-as_array.values.now.items xs c.in-Some-found.place c.in-Some-found.fault c.in-Some.ensures
+    in_array IsResourceFault (table_view c.args.keys.now) key.Resource (view c.in-Some.value.now) c.in-Some-as_array.values.now.items xs c.in-Some-found.location c.in-Some-found.fault c.in-Some.ensures
     c.in-Some-as_array.ensures c.as_slice.ensures.value
-    (match_some c.in_ok-found.found (list_all (λ (v : Value). is_some (resource (view v))) xs ≡ true) (IsFaultAmong IsResourceFault xs) (c.in-Some-found.place, c.in-Some-found.fault) c.in_ok-found.ensures
+    (match_some c.in_ok-found.found (list_all (λ (v : Value). is_some (resource (view v))) xs ≡ true) (IsFaultAmong IsResourceFault xs) (c.in-Some-found.location, c.in-Some-found.fault) c.in_ok-found.ensures
     c.in-Some-found.is)
 
 pub returns-in-None : goal.returns-in-None

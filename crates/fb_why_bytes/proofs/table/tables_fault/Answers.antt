@@ -8,9 +8,9 @@ use Rattle.fb_why_bytes.proofs.table.tables_fault.Goals as goal
 
 pub returns-in-Some : goal.returns-in-Some
 returns-in-Some c =
-    (c.index-values-place.result, at_hand c.args.values.now c.loop-place.place c.index-values-place.result c.loop-place-test.true c.index-values-place.is, MatchOption-at_some (is_entry c.args.are_links (view c.index-values-place.result) ≡ true) (IsTableFault (IsEntryFault c.args.are_links) (view c.index-values-place.result)) _ c.in-Some.is c.in_ok-fault.ensures)
+    (c.index-values-location.result, at_hand c.args.values.now c.loop-location.location c.index-values-location.result c.loop-location-test.true c.index-values-location.is, MatchOption-at_some (is_entry c.args.are_links (view c.index-values-location.result) ≡ true) (IsTableFault (IsEntryFault c.args.are_links) (view c.index-values-location.result)) _ c.in-Some.is c.in_ok-fault.ensures)
 
-pub loop-place-preserved : goal.loop-place-preserved
-loop-place-preserved c =
-    holds_on (λ (v : Value). is_entry c.args.are_links (view v)) c.args.values.now c.loop-place.place c.index-values-place.result c.loop-place-test.true c.index-values-place.is c.loop-place.invariant
-    (MatchOption-at_none (is_entry c.args.are_links (view c.index-values-place.result) ≡ true) (IsTableFault (IsEntryFault c.args.are_links) (view c.index-values-place.result)) c.in_default.is c.in_ok-fault.ensures)
+pub loop-location-preserved : goal.loop-location-preserved
+loop-location-preserved c =
+    holds_on (λ (v : Value). is_entry c.args.are_links (view v)) c.args.values.now c.loop-location.location c.index-values-location.result c.loop-location-test.true c.index-values-location.is c.loop-location.invariant
+    (MatchOption-at_none (is_entry c.args.are_links (view c.index-values-location.result) ≡ true) (IsTableFault (IsEntryFault c.args.are_links) (view c.index-values-location.result)) c.in_default.is c.in_ok-fault.ensures)

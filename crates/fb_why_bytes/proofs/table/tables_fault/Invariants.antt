@@ -5,6 +5,6 @@ use Rattle.toml.specs.declared.value.Value.{Value}
 use Rattle.fb_why_bytes.specs.Tables.{is_entry}
 use Rattle.fb_why_bytes.proofs.table.tables_fault.Given as goal
 
-abbrev pub invariant-loop-place : goal.invariant-loop-place
-invariant-loop-place l =
-    list_all (λ (v : Value). is_entry l.are_links (view v)) l.values ≡ list_all (λ (v : Value). is_entry l.are_links (view v)) (drop l.place l.values)
+abbrev pub invariant-loop-location : goal.invariant-loop-location
+invariant-loop-location l =
+    list_all (λ (v : Value). is_entry l.are_links (view v)) l.values ≡ list_all (λ (v : Value). is_entry l.are_links (view v)) (drop l.location l.values)

@@ -1,8 +1,8 @@
 use Rattle.std.proofs.Common.{sym, ◌∙◌, ap}
 use Rattle.std.specs.List.{list_all}
 use Rattle.fb_check_types.specs.Checks.{transition_met, actions_met}
-use Rattle.fb_why_kinds.proofs.BlockPlaces.{chart_known}
-use Rattle.fb_why_kinds.proofs.NetworkPlaces.{none_answer}
+use Rattle.fb_why_kinds.proofs.BlockLocations.{chart_known}
+use Rattle.fb_why_kinds.proofs.NetworkLocations.{none_answer}
 use Rattle.fb_why_kinds.proofs.blocks.unknown_in_chart.Goals as goal
 
 pub returns-in_err-state : goal.returns-in_err-state

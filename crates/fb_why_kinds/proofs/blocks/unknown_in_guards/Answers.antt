@@ -7,9 +7,9 @@ use Rattle.fb_why_kinds.proofs.blocks.unknown_in_guards.Goals as goal
 
 pub returns-in-Some : goal.returns-in-Some
 returns-in-Some c =
-    (c.index-transitions-place.result, at_hand c.args.transitions.now c.loop-place.place c.index-transitions-place.result c.loop-place-test.true c.index-transitions-place.is, MatchOption-at_some (guard_known c.args.basic.now c.index-transitions-place.result ≡ true) (UnknownAmong c.args.basic.now (guard_mentions c.index-transitions-place.result)) _ c.in-Some.is c.in_ok-mention.ensures)
+    (c.index-transitions-location.result, at_hand c.args.transitions.now c.loop-location.location c.index-transitions-location.result c.loop-location-test.true c.index-transitions-location.is, MatchOption-at_some (guard_known c.args.basic.now c.index-transitions-location.result ≡ true) (UnknownAmong c.args.basic.now (guard_mentions c.index-transitions-location.result)) _ c.in-Some.is c.in_ok-mention.ensures)
 
-pub loop-place-preserved : goal.loop-place-preserved
-loop-place-preserved c =
-    holds_on (guard_known c.args.basic.now) c.args.transitions.now c.loop-place.place c.index-transitions-place.result c.loop-place-test.true c.index-transitions-place.is c.loop-place.invariant
-    (MatchOption-at_none (guard_known c.args.basic.now c.index-transitions-place.result ≡ true) (UnknownAmong c.args.basic.now (guard_mentions c.index-transitions-place.result)) c.in_default.is c.in_ok-mention.ensures)
+pub loop-location-preserved : goal.loop-location-preserved
+loop-location-preserved c =
+    holds_on (guard_known c.args.basic.now) c.args.transitions.now c.loop-location.location c.index-transitions-location.result c.loop-location-test.true c.index-transitions-location.is c.loop-location.invariant
+    (MatchOption-at_none (guard_known c.args.basic.now c.index-transitions-location.result ≡ true) (UnknownAmong c.args.basic.now (guard_mentions c.index-transitions-location.result)) c.in_default.is c.in_ok-mention.ensures)

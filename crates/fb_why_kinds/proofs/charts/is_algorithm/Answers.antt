@@ -2,7 +2,7 @@ use Rattle.std.proofs.Common.{◌∙◌, ap}
 use Rattle.std.specs.List.{list_any}
 use Rattle.fb_types.specs.Names.{same_name}
 use Rattle.fb_types.specs.declared.library.Algorithm.{Algorithm}
-use Rattle.fb_why_kinds.proofs.NetworkPlaces.{any_map}
+use Rattle.fb_why_kinds.proofs.NetworkLocations.{any_map}
 use Rattle.fb_why_kinds.proofs.charts.is_algorithm.Goals as goal
 
 pub returns : goal.returns

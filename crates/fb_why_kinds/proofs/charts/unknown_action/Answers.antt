@@ -3,7 +3,7 @@ use Rattle.std.specs.Prelude.{option_map}
 use Rattle.fb_types.specs.Names.{Name}
 use Rattle.fb_types.specs.Repeated.{algorithm_names}
 use Rattle.fb_types.specs.Unknown.{event_outs}
-use Rattle.fb_why_kinds.proofs.NetworkPlaces.{unmet_is}
+use Rattle.fb_why_kinds.proofs.NetworkLocations.{unmet_is}
 use Rattle.fb_why_kinds.proofs.charts.unknown_action.Goals as goal
 
 pub returns-then-not-is_algorithm : goal.returns-then-not-is_algorithm

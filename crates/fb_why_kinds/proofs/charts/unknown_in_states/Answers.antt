@@ -9,12 +9,12 @@ use Rattle.fb_why_kinds.proofs.charts.unknown_in_states.Goals as goal
 pub returns-in-Some : goal.returns-in-Some
 returns-in-Some c =
     let f = c.in-Some.ensures in (
-      c.index-states-place.result,
-      at_hand c.args.states.now c.loop-place.place c.index-states-place.result c.loop-place-test.true c.index-states-place.is,
+      c.index-states-location.result,
+      at_hand c.args.states.now c.loop-location.location c.index-states-location.result c.loop-location-test.true c.index-states-location.is,
       (f.0, ap (λ (xs : List Action). slice_get xs c.in-Some.found.0) (sym c.as_slice.ensures) ∙ f.1, f.2),
     )
 
-pub loop-place-preserved : goal.loop-place-preserved
-loop-place-preserved c =
-    holds_on (actions_met c.args.basic.now) c.args.states.now c.loop-place.place c.index-states-place.result c.loop-place-test.true c.index-states-place.is c.loop-place.invariant
+pub loop-location-preserved : goal.loop-location-preserved
+loop-location-preserved c =
+    holds_on (actions_met c.args.basic.now) c.args.states.now c.loop-location.location c.index-states-location.result c.loop-location-test.true c.index-states-location.is c.loop-location.invariant
     (sym (ap (list_all (action_met c.args.basic.now)) c.as_slice.ensures) ∙ c.in_default.ensures)

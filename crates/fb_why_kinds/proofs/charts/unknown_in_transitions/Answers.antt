@@ -4,9 +4,9 @@ use Rattle.fb_why_kinds.proofs.charts.unknown_in_transitions.Goals as goal
 
 pub returns-in-Some : goal.returns-in-Some
 returns-in-Some c =
-    (c.index-transitions-place.result, at_hand c.args.transitions.now c.loop-place.place c.index-transitions-place.result c.loop-place-test.true c.index-transitions-place.is, c.in-Some.ensures)
+    (c.index-transitions-location.result, at_hand c.args.transitions.now c.loop-location.location c.index-transitions-location.result c.loop-location-test.true c.index-transitions-location.is, c.in-Some.ensures)
 
-pub loop-place-preserved : goal.loop-place-preserved
-loop-place-preserved c =
-    holds_on (transition_met c.args.basic.now) c.args.transitions.now c.loop-place.place c.index-transitions-place.result c.loop-place-test.true c.index-transitions-place.is c.loop-place.invariant
+pub loop-location-preserved : goal.loop-location-preserved
+loop-location-preserved c =
+    holds_on (transition_met c.args.basic.now) c.args.transitions.now c.loop-location.location c.index-transitions-location.result c.loop-location-test.true c.index-transitions-location.is c.loop-location.invariant
     c.in_default.ensures

@@ -2,7 +2,7 @@ use Rattle.std.proofs.Common.{sym, ◌∙◌, ap}
 use Rattle.std.specs.Prelude.{option_map}
 use Rattle.fb_types.specs.Names.{Name}
 use Rattle.fb_types.specs.Unknown.{event_ins}
-use Rattle.fb_why_kinds.proofs.NetworkPlaces.{unmet_is}
+use Rattle.fb_why_kinds.proofs.NetworkLocations.{unmet_is}
 use Rattle.fb_why_kinds.proofs.charts.unknown_part.Goals as goal
 
 pub returns-in-Some : goal.returns-in-Some

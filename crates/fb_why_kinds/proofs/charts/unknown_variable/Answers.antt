@@ -6,9 +6,9 @@ use Rattle.fb_why_kinds.proofs.charts.unknown_variable.Goals as goal
 
 pub returns-then-not-has_port : goal.returns-then-not-has_port
 returns-then-not-has_port c =
-    (c.index-names-place.result, at_hand c.args.names.now c.loop-place.place c.index-names-place.result c.loop-place-test.true c.index-names-place.is, sym c.has_port.ensures ∙ c.if-not-has_port.true)
+    (c.index-names-location.result, at_hand c.args.names.now c.loop-location.location c.index-names-location.result c.loop-location-test.true c.index-names-location.is, sym c.has_port.ensures ∙ c.if-not-has_port.true)
 
-pub loop-place-preserved : goal.loop-place-preserved
-loop-place-preserved c =
-    holds_on (among (names_of_sort c.args.sort c.args.ports.now)) c.args.names.now c.loop-place.place c.index-names-place.result c.loop-place-test.true c.index-names-place.is c.loop-place.invariant
+pub loop-location-preserved : goal.loop-location-preserved
+loop-location-preserved c =
+    holds_on (among (names_of_sort c.args.sort c.args.ports.now)) c.args.names.now c.loop-location.location c.index-names-location.result c.loop-location-test.true c.index-names-location.is c.loop-location.invariant
     (sym c.has_port.ensures ∙ c.if-not-has_port.false)

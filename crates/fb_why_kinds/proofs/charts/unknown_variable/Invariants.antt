@@ -4,6 +4,6 @@ use Rattle.fb_types.specs.Blocks.{among}
 use Rattle.fb_check_names.specs.Sorts.{names_of_sort}
 use Rattle.fb_why_kinds.proofs.charts.unknown_variable.Given as goal
 
-abbrev pub invariant-loop-place : goal.invariant-loop-place
-invariant-loop-place l =
-    list_all (among (names_of_sort l.sort l.ports)) l.names ≡ list_all (among (names_of_sort l.sort l.ports)) (drop l.place l.names)
+abbrev pub invariant-loop-location : goal.invariant-loop-location
+invariant-loop-location l =
+    list_all (among (names_of_sort l.sort l.ports)) l.names ≡ list_all (among (names_of_sort l.sort l.ports)) (drop l.location l.names)

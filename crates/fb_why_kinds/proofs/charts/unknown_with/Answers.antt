@@ -11,12 +11,12 @@ use Rattle.fb_why_kinds.proofs.charts.unknown_with.Goals as goal
 pub returns-in-Some : goal.returns-in-Some
 returns-in-Some c =
     let f = c.in-Some.ensures in (
-      c.index-events-place.result,
-      at_hand c.args.events.now c.loop-place.place c.index-events-place.result c.loop-place-test.true c.index-events-place.is,
+      c.index-events-location.result,
+      at_hand c.args.events.now c.loop-location.location c.index-events-location.result c.loop-location-test.true c.index-events-location.is,
       (f.0, ap (λ (xs : List Name). slice_get xs c.in-Some.variable) (sym c.as_slice.ensures) ∙ f.1, f.2),
     )
 
-pub loop-place-preserved : goal.loop-place-preserved
-loop-place-preserved c =
-    holds_on (λ (e : EventPort). list_all (among (names_of_sort c.args.sort c.args.ports.now)) e.with) c.args.events.now c.loop-place.place c.index-events-place.result c.loop-place-test.true c.index-events-place.is c.loop-place.invariant
+pub loop-location-preserved : goal.loop-location-preserved
+loop-location-preserved c =
+    holds_on (λ (e : EventPort). list_all (among (names_of_sort c.args.sort c.args.ports.now)) e.with) c.args.events.now c.loop-location.location c.index-events-location.result c.loop-location-test.true c.index-events-location.is c.loop-location.invariant
     (sym (ap (list_all (among (names_of_sort c.args.sort c.args.ports.now))) c.as_slice.ensures) ∙ c.in_default.ensures)

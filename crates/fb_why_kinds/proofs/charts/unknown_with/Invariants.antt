@@ -5,7 +5,7 @@ use Rattle.fb_types.specs.declared.library.EventPort.{EventPort}
 use Rattle.fb_check_names.specs.Sorts.{names_of_sort}
 use Rattle.fb_why_kinds.proofs.charts.unknown_with.Given as goal
 
-abbrev pub invariant-loop-place : goal.invariant-loop-place
-invariant-loop-place l =
+abbrev pub invariant-loop-location : goal.invariant-loop-location
+invariant-loop-location l =
     list_all (λ (e : EventPort). list_all (among (names_of_sort l.sort l.ports)) e.with) l.events
-    ≡ list_all (λ (e : EventPort). list_all (among (names_of_sort l.sort l.ports)) e.with) (drop l.place l.events)
+    ≡ list_all (λ (e : EventPort). list_all (among (names_of_sort l.sort l.ports)) e.with) (drop l.location l.events)

@@ -1,10 +1,10 @@
-use Rattle.fb_why_kinds.proofs.DeploymentPlaces.{mapped_place, link_place, deployment_known}
-use Rattle.fb_why_kinds.proofs.NetworkPlaces.{none_answer}
+use Rattle.fb_why_kinds.proofs.DeploymentLocations.{mapped_location, link_location, deployment_known}
+use Rattle.fb_why_kinds.proofs.NetworkLocations.{none_answer}
 use Rattle.fb_why_kinds.proofs.deployment.unknown_in_deployment.Goals as goal
 
 pub returns-in-Some : goal.returns-in-Some
 returns-in-Some c =
-    mapped_place c.args.library.now c.args.plan.now c.as_slice-instances.result.now c.as_slice-resources.result.now (c.in-Some.resource, c.in-Some.instance)
+    mapped_location c.args.library.now c.args.plan.now c.as_slice-instances.result.now c.as_slice-resources.result.now (c.in-Some.resource, c.in-Some.instance)
     c.as_slice-instances.ensures c.as_slice-resources.ensures c.in-Some.ensures
 
 pub returns-in_err-link : goal.returns-in_err-link
@@ -15,5 +15,5 @@ returns-in_err-link c =
 
 pub returns : goal.returns
 returns c =
-    link_place c.args.plan.now c.as_slice-resources.result.now c.as_slice.result.now (c.in_ok-link.link, c.in_ok-link.side)
+    link_location c.args.plan.now c.as_slice-resources.result.now c.as_slice.result.now (c.in_ok-link.link, c.in_ok-link.side)
     c.as_slice-resources.ensures c.as_slice.ensures c.in_ok-link.ensures

@@ -9,12 +9,12 @@ use Rattle.fb_why_kinds.proofs.deployment.unknown_mapped.Goals as goal
 pub returns-in-Some : goal.returns-in-Some
 returns-in-Some c =
     let f = c.in-Some.ensures in (
-      c.index-resources-place.result,
-      at_hand c.args.resources.now c.loop-place.place c.index-resources-place.result c.loop-place-test.true c.index-resources-place.is,
+      c.index-resources-location.result,
+      at_hand c.args.resources.now c.loop-location.location c.index-resources-location.result c.loop-location-test.true c.index-resources-location.is,
       (f.0, ap (λ (xs : List Name). slice_get xs c.in-Some.instance) (sym c.as_slice.ensures) ∙ f.1, f.2),
     )
 
-pub loop-place-preserved : goal.loop-place-preserved
-loop-place-preserved c =
-    holds_on (are_mapped c.args.instances.now) c.args.resources.now c.loop-place.place c.index-resources-place.result c.loop-place-test.true c.index-resources-place.is c.loop-place.invariant
+pub loop-location-preserved : goal.loop-location-preserved
+loop-location-preserved c =
+    holds_on (are_mapped c.args.instances.now) c.args.resources.now c.loop-location.location c.index-resources-location.result c.loop-location-test.true c.index-resources-location.is c.loop-location.invariant
     (sym (ap (list_all (is_instance c.args.instances.now)) c.as_slice.ensures) ∙ c.in_default.ensures)

@@ -6,7 +6,7 @@ use Rattle.fb_types.specs.declared.library.EventPort.{EventPort}
 use Rattle.fb_types.specs.declared.library.Variable.{Variable}
 use Rattle.fb_check_names.specs.declared.ports.PortSort.{PortSort}
 use Rattle.fb_check_names.specs.Sorts.{names_of_sort}
-use Rattle.fb_why_kinds.proofs.NetworkPlaces.{any_map}
+use Rattle.fb_why_kinds.proofs.NetworkLocations.{any_map}
 use Rattle.fb_why_kinds.proofs.lookup.has_port.Goals as goal
 
 pub returns-in-EventInput : goal.returns-in-EventInput

@@ -6,9 +6,9 @@ use Rattle.fb_why_kinds.proofs.misfits.misfit_in_some.Goals as goal
 
 pub returns-in-Some : goal.returns-in-Some
 returns-in-Some c =
-    MatchOption-at_some (is_all_right c.args.library.now c.index-blocks-place.result ≡ true) (IsMisfitAt c.args.library.now) _ c.in-Some.is c.in_ok-found.ensures
+    MatchOption-at_some (is_all_right c.args.library.now c.index-blocks-location.result ≡ true) (IsMisfitAt c.args.library.now) _ c.in-Some.is c.in_ok-found.ensures
 
-pub loop-place-preserved : goal.loop-place-preserved
-loop-place-preserved c =
-    holds_on (is_all_right c.args.library.now) c.args.blocks.now c.loop-place.place c.index-blocks-place.result c.loop-place-test.true c.index-blocks-place.is c.loop-place.invariant
-    (MatchOption-at_none (is_all_right c.args.library.now c.index-blocks-place.result ≡ true) (IsMisfitAt c.args.library.now) c.in_default.is c.in_ok-found.ensures)
+pub loop-location-preserved : goal.loop-location-preserved
+loop-location-preserved c =
+    holds_on (is_all_right c.args.library.now) c.args.blocks.now c.loop-location.location c.index-blocks-location.result c.loop-location-test.true c.index-blocks-location.is c.loop-location.invariant
+    (MatchOption-at_none (is_all_right c.args.library.now c.index-blocks-location.result ≡ true) (IsMisfitAt c.args.library.now) c.in_default.is c.in_ok-found.ensures)

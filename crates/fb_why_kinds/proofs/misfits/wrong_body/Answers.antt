@@ -8,9 +8,9 @@ use Rattle.fb_why_kinds.proofs.misfits.wrong_body.Goals as goal
 
 pub returns-in-Some : goal.returns-in-Some
 returns-in-Some c =
-    (c.index-algorithms-place.result, at_hand c.args.algorithms.now c.loop-place.place c.index-algorithms-place.result c.loop-place-test.true c.index-algorithms-place.is, MatchOption-at_some (algorithm_right c.args.basic.now c.index-algorithms-place.result ≡ true) (WrongAmong c.args.basic.now (each_in_body false (body_of c.index-algorithms-place.result.body))) _ c.in-Some.is c.in_ok-found.ensures)
+    (c.index-algorithms-location.result, at_hand c.args.algorithms.now c.loop-location.location c.index-algorithms-location.result c.loop-location-test.true c.index-algorithms-location.is, MatchOption-at_some (algorithm_right c.args.basic.now c.index-algorithms-location.result ≡ true) (WrongAmong c.args.basic.now (each_in_body false (body_of c.index-algorithms-location.result.body))) _ c.in-Some.is c.in_ok-found.ensures)
 
-pub loop-place-preserved : goal.loop-place-preserved
-loop-place-preserved c =
-    holds_on (algorithm_right c.args.basic.now) c.args.algorithms.now c.loop-place.place c.index-algorithms-place.result c.loop-place-test.true c.index-algorithms-place.is c.loop-place.invariant
-    (MatchOption-at_none (algorithm_right c.args.basic.now c.index-algorithms-place.result ≡ true) (WrongAmong c.args.basic.now (each_in_body false (body_of c.index-algorithms-place.result.body))) c.in_default.is c.in_ok-found.ensures)
+pub loop-location-preserved : goal.loop-location-preserved
+loop-location-preserved c =
+    holds_on (algorithm_right c.args.basic.now) c.args.algorithms.now c.loop-location.location c.index-algorithms-location.result c.loop-location-test.true c.index-algorithms-location.is c.loop-location.invariant
+    (MatchOption-at_none (algorithm_right c.args.basic.now c.index-algorithms-location.result ≡ true) (WrongAmong c.args.basic.now (each_in_body false (body_of c.index-algorithms-location.result.body))) c.in_default.is c.in_ok-found.ensures)

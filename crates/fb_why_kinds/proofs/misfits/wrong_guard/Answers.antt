@@ -5,9 +5,9 @@ use Rattle.fb_why_kinds.proofs.misfits.wrong_guard.Goals as goal
 
 pub returns-then-not-is_guard_right : goal.returns-then-not-is_guard_right
 returns-then-not-is_guard_right c =
-    (c.index-transitions-place.result, at_hand c.args.transitions.now c.loop-place.place c.index-transitions-place.result c.loop-place-test.true c.index-transitions-place.is, sym c.is_guard_right.ensures ∙ c.if-not-is_guard_right.true)
+    (c.index-transitions-location.result, at_hand c.args.transitions.now c.loop-location.location c.index-transitions-location.result c.loop-location-test.true c.index-transitions-location.is, sym c.is_guard_right.ensures ∙ c.if-not-is_guard_right.true)
 
-pub loop-place-preserved : goal.loop-place-preserved
-loop-place-preserved c =
-    holds_on (is_guard_right c.args.basic.now) c.args.transitions.now c.loop-place.place c.index-transitions-place.result c.loop-place-test.true c.index-transitions-place.is c.loop-place.invariant
+pub loop-location-preserved : goal.loop-location-preserved
+loop-location-preserved c =
+    holds_on (is_guard_right c.args.basic.now) c.args.transitions.now c.loop-location.location c.index-transitions-location.result c.loop-location-test.true c.index-transitions-location.is c.loop-location.invariant
     (sym c.is_guard_right.ensures ∙ c.if-not-is_guard_right.false)

@@ -4,9 +4,9 @@ use Rattle.fb_why_kinds.proofs.misjoins.misjoined_in_some.Goals as goal
 
 pub returns-in-Some : goal.returns-in-Some
 returns-in-Some c =
-    (c.index-blocks-place.result, at_hand c.args.blocks.now c.loop-place.place c.index-blocks-place.result c.loop-place-test.true c.index-blocks-place.is, c.in-Some.ensures)
+    (c.index-blocks-location.result, at_hand c.args.blocks.now c.loop-location.location c.index-blocks-location.result c.loop-location-test.true c.index-blocks-location.is, c.in-Some.ensures)
 
-pub loop-place-preserved : goal.loop-place-preserved
-loop-place-preserved c =
-    holds_on (are_joined_inside c.args.library.now) c.args.blocks.now c.loop-place.place c.index-blocks-place.result c.loop-place-test.true c.index-blocks-place.is c.loop-place.invariant
+pub loop-location-preserved : goal.loop-location-preserved
+loop-location-preserved c =
+    holds_on (are_joined_inside c.args.library.now) c.args.blocks.now c.loop-location.location c.index-blocks-location.result c.loop-location-test.true c.index-blocks-location.is c.loop-location.invariant
     c.in_default.ensures

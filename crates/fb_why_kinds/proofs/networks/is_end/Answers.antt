@@ -2,7 +2,7 @@ use Rattle.std.proofs.Common.{Some, None, sym, ◌∙◌, ap}
 use Rattle.std.specs.Option.{option_copied}
 use Rattle.fb_why_kinds.specs.Sites.{placed}
 use Rattle.fb_check_names.specs.Sorts.{names_of_sort}
-use Rattle.fb_why_kinds.proofs.NetworkPlaces.{instance_found, component_end, no_component_end}
+use Rattle.fb_why_kinds.proofs.NetworkLocations.{instance_found, component_end, no_component_end}
 use Rattle.fb_why_kinds.proofs.networks.is_end.Goals as goal
 
 pub returns-in-Some-ports_named : goal.returns-in-Some-ports_named

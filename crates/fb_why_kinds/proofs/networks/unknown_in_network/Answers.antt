@@ -2,16 +2,16 @@ use Rattle.std.proofs.Common.{List, sym, ◌∙◌, ap}
 use Rattle.std.specs.Prelude.{slice_get}
 use Rattle.std.specs.List.{list_all}
 use Rattle.fb_types.specs.declared.library.Instance.{Instance}
-use Rattle.fb_why_kinds.specs.declared.place.FlowKind.TheVariants.{Events, Data}
+use Rattle.fb_why_kinds.specs.declared.location.FlowKind.TheVariants.{Events, Data}
 use Rattle.fb_why_kinds.specs.Sites.{placed}
 use Rattle.fb_why_kinds.specs.Unknown.{is_type_met, are_parameters_met, are_ends_known}
-use Rattle.fb_why_kinds.proofs.NetworkPlaces.{none_answer, type_place, network_known}
+use Rattle.fb_why_kinds.proofs.NetworkLocations.{none_answer, type_location, network_known}
 use Rattle.fb_why_kinds.proofs.networks.unknown_in_network.Goals as goal
 
 pub returns-in-Some : goal.returns-in-Some
 returns-in-Some c =
     let f = c.in-Some.ensures in
-    type_place c.args.types.now.library.now c.args.site (placed c.args.scope.now) c.in-Some.instance f.0 c.requires
+    type_location c.args.types.now.library.now c.args.site (placed c.args.scope.now) c.in-Some.instance f.0 c.requires
     (ap (λ (is : List Instance). slice_get is c.in-Some.instance) (sym c.as_slice-instances.ensures) ∙ f.1) f.2
 
 pub returns-in_err-connection : goal.returns-in_err-connection

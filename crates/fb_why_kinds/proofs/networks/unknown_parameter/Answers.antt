@@ -1,6 +1,6 @@
 use Rattle.std.proofs.Common.{sym, ◌∙◌, ap}
 use Rattle.std.specs.Option.{option_copied}
-use Rattle.fb_why_kinds.proofs.NetworkPlaces.{parameters_answer}
+use Rattle.fb_why_kinds.proofs.NetworkLocations.{parameters_answer}
 use Rattle.fb_why_kinds.proofs.networks.unknown_parameter.Goals as goal
 
 pub returns : goal.returns

@@ -4,9 +4,9 @@ use Rattle.fb_why_kinds.proofs.networks.unknown_parameters.Goals as goal
 
 pub returns-in-Some : goal.returns-in-Some
 returns-in-Some c =
-    (c.index-instances-place.result, at_hand c.args.instances.now c.loop-place.place c.index-instances-place.result c.loop-place-test.true c.index-instances-place.is, c.in-Some.ensures)
+    (c.index-instances-location.result, at_hand c.args.instances.now c.loop-location.location c.index-instances-location.result c.loop-location-test.true c.index-instances-location.is, c.in-Some.ensures)
 
-pub loop-place-preserved : goal.loop-place-preserved
-loop-place-preserved c =
-    holds_on (are_parameters_met c.args.types.now.library.now) c.args.instances.now c.loop-place.place c.index-instances-place.result c.loop-place-test.true c.index-instances-place.is c.loop-place.invariant
+pub loop-location-preserved : goal.loop-location-preserved
+loop-location-preserved c =
+    holds_on (are_parameters_met c.args.types.now.library.now) c.args.instances.now c.loop-location.location c.index-instances-location.result c.loop-location-test.true c.index-instances-location.is c.loop-location.invariant
     c.in_default.ensures

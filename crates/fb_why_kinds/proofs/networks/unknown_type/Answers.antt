@@ -5,9 +5,9 @@ use Rattle.fb_why_kinds.proofs.networks.unknown_type.Goals as goal
 
 pub returns-then-not-is_type : goal.returns-then-not-is_type
 returns-then-not-is_type c =
-    (c.index-instances-place.result, at_hand c.args.instances.now c.loop-place.place c.index-instances-place.result c.loop-place-test.true c.index-instances-place.is, sym c.is_type.ensures ∙ c.if-not-is_type.true)
+    (c.index-instances-location.result, at_hand c.args.instances.now c.loop-location.location c.index-instances-location.result c.loop-location-test.true c.index-instances-location.is, sym c.is_type.ensures ∙ c.if-not-is_type.true)
 
-pub loop-place-preserved : goal.loop-place-preserved
-loop-place-preserved c =
-    holds_on (is_type_met c.args.types.now.library.now) c.args.instances.now c.loop-place.place c.index-instances-place.result c.loop-place-test.true c.index-instances-place.is c.loop-place.invariant
+pub loop-location-preserved : goal.loop-location-preserved
+loop-location-preserved c =
+    holds_on (is_type_met c.args.types.now.library.now) c.args.instances.now c.loop-location.location c.index-instances-location.result c.loop-location-test.true c.index-instances-location.is c.loop-location.invariant
     (sym c.is_type.ensures ∙ c.if-not-is_type.false)

@@ -7,9 +7,9 @@ use Rattle.fb_why_kinds.proofs.parameters.first_wrong.Goals as goal
 
 pub returns-then-not-is_right : goal.returns-then-not-is_right
 returns-then-not-is_right c =
-    (c.index-parameters-place.result, at_hand c.args.parameters.now c.loop-place.place c.index-parameters-place.result c.loop-place-test.true c.index-parameters-place.is, sym c.is_right.ensures ∙ c.if-not-is_right.true)
+    (c.index-parameters-location.result, at_hand c.args.parameters.now c.loop-location.location c.index-parameters-location.result c.loop-location-test.true c.index-parameters-location.is, sym c.is_right.ensures ∙ c.if-not-is_right.true)
 
-pub loop-place-preserved : goal.loop-place-preserved
-loop-place-preserved c =
-    holds_on (parameter_right (ports_of (meant c.args.kind))) c.args.parameters.now c.loop-place.place c.index-parameters-place.result c.loop-place-test.true c.index-parameters-place.is c.loop-place.invariant
+pub loop-location-preserved : goal.loop-location-preserved
+loop-location-preserved c =
+    holds_on (parameter_right (ports_of (meant c.args.kind))) c.args.parameters.now c.loop-location.location c.index-parameters-location.result c.loop-location-test.true c.index-parameters-location.is c.loop-location.invariant
     (sym c.is_right.ensures ∙ c.if-not-is_right.false)

@@ -3,5 +3,5 @@ use Rattle.std.specs.List.{list_all}
 use Rattle.fb_types.specs.Kinds.{parameters_right}
 use Rattle.fb_why_kinds.proofs.parameters.wrong_in_instances.Given as goal
 
-abbrev pub invariant-loop-place : goal.invariant-loop-place
-invariant-loop-place l = list_all (parameters_right l.library) l.instances ≡ list_all (parameters_right l.library) (drop l.place l.instances)
+abbrev pub invariant-loop-location : goal.invariant-loop-location
+invariant-loop-location l = list_all (parameters_right l.library) l.instances ≡ list_all (parameters_right l.library) (drop l.location l.instances)

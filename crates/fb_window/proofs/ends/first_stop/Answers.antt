@@ -6,19 +6,19 @@ use Rattle.fb_window.proofs.Walks.{FirstOf, first_live, first_new, first_kept, n
 use Rattle.fb_window.proofs.ends.first_stop.Goals as goal
 use Rattle.fb_window.proofs.ends.first_stop.Goals.{in-Some+then-is_less, in-Some-first, in-None, in-Some+else-is_less, in_default}
 
-pub loop-place-preserved : goal.loop-place-preserved
-loop-place-preserved c =
+pub loop-index-preserved : goal.loop-index-preserved
+loop-index-preserved c =
     let xs = c.args.resources.now in
-    let n = c.loop-place.place in
-    let x = c.index-resources-place.result in
-    let at : slice_get xs n ≡ Some x = slice_get_read xs _ n x refl c.loop-place-test.true c.index-resources-place.is in
-    let found = c.loop-place.invariant.first_of in
-    let placed = c.loop-place.invariant.placed in
+    let n = c.loop-index.index in
+    let x = c.index-resources-index.result in
+    let at : slice_get xs n ≡ Some x = slice_get_read xs _ n x refl c.loop-index-test.true c.index-resources-index.is in
+    let found = c.loop-index.invariant.first_of in
+    let placed = c.loop-index.invariant.placed in
     elim c.match-stopped.branch [
       | in-Some+then-is_less w ↦
           let mark : StopMark = record { tick = w.clock-tick.result; resource = n; reason = w.in-Some.reason } in
           let is : c.match-stopped.first ≡ Some mark = w.first-is in
-          let less : (old : StopMark) → c.loop-place.first ≡ Some old → mark.tick < old.tick = λ old e.
+          let less : (old : StopMark) → c.loop-index.first ≡ Some old → mark.tick < old.tick = λ old e.
           elim w.match-first.branch [
             | in-Some-first v ↦
                 let same : v.in-Some-first.mark ≡ old = same_Some v.in-Some-first.mark old (sym v.in-Some-first.is ∙ e) in
@@ -29,15 +29,15 @@ loop-place-preserved c =
           ] in
           record {
             first_of = subst (FirstOf xs (n + 1)) (sym is)
-                (first_new xs n c.loop-place.first mark x at (sym c.stopped.ensures ∙ w.in-Some.is) (sym w.clock-tick.ensures) refl found less);
+                (first_new xs n c.loop-index.first mark x at (sym c.stopped.ensures ∙ w.in-Some.is) (sym w.clock-tick.ensures) refl found less);
             placed = λ m e. let f : mark ≡ m = same_Some mark m (sym is ∙ e) in let g : n ≡ m.resource = ap (λ (z : StopMark). z.resource) f in omega arith;
           }
       | in-Some+else-is_less w ↦
-          let is : c.match-stopped.first ≡ c.loop-place.first = w.first-is in
+          let is : c.match-stopped.first ≡ c.loop-index.first = w.first-is in
           elim w.match-first.branch [
             | in-Some-first v ↦
                 let old = v.in-Some-first.mark in
-                let e : c.loop-place.first ≡ Some old = v.in-Some-first.is in
+                let e : c.loop-index.first ≡ Some old = v.in-Some-first.is in
                 let low : old.tick ≤ w.clock-tick.result = ltb-false w.clock-tick.result old.tick (sym v.is_less-is ∙ w.if-is_less.false) in
                 let clock = w.clock-tick.ensures in
                 record {
@@ -47,12 +47,12 @@ loop-place-preserved c =
             | in-None v ↦ let f : true ≡ false = sym v.is_less-is ∙ w.if-is_less.false in cc
           ]
       | in_default w ↦
-          let is : c.match-stopped.first ≡ c.loop-place.first = w.first-is in
+          let is : c.match-stopped.first ≡ c.loop-index.first = w.first-is in
           record {
-            first_of = subst (FirstOf xs (n + 1)) (sym is) (first_live xs n c.loop-place.first x at (sym c.stopped.ensures ∙ w.in_default.is) found);
+            first_of = subst (FirstOf xs (n + 1)) (sym is) (first_live xs n c.loop-index.first x at (sym c.stopped.ensures ∙ w.in_default.is) found);
             placed = λ m f. let g = placed m (sym is ∙ f) in omega arith;
           }
     ]
 
 pub returns-clause-none : goal.returns-clause-none
-returns-clause-none c = none_found c.args.resources.now c.loop-place.place c.loop-place.first c.loop-place-test.false c.loop-place.invariant.first_of
+returns-clause-none c = none_found c.args.resources.now c.loop-index.index c.loop-index.first c.loop-index-test.false c.loop-index.invariant.first_of

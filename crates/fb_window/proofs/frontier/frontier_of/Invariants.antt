@@ -1,5 +1,5 @@
 use Rattle.fb_window.specs.Frontiers.{IsFrontierTo, edge_of}
 use Rattle.fb_window.proofs.frontier.frontier_of.Given as goal
 
-abbrev pub invariant-loop-place : goal.invariant-loop-place
-invariant-loop-place l = IsFrontierTo l.least l.resources l.place (edge_of l.at)
+abbrev pub invariant-loop-index : goal.invariant-loop-index
+invariant-loop-index l = IsFrontierTo l.least l.resources l.index (edge_of l.at)

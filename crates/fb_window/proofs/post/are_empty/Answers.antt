@@ -4,7 +4,7 @@ use Rattle.std.specs.Prelude.{slice_get, vec_len}
 use Rattle.std.proofs.lemmas.Bool.{cases_lt, eqb-true}
 use Rattle.std.proofs.lemmas.Option.{slice_get_read}
 use Rattle.fb_types.specs.declared.run.Message.{Message}
-use Rattle.fb_laws.proofs.Places.{is_at, one_at}
+use Rattle.fb_laws.proofs.Indexes.{is_at, one_at}
 use Rattle.fb_window.proofs.Walks.{no_length}
 use Rattle.fb_window.proofs.post.are_empty.Goals as goal
 

@@ -1,7 +1,7 @@
 use Rattle.std.proofs.Common.{◌++◌, ℕ, [], ◌∷◌, length, drop, refl, sym, ap, ◌∙◌, subst, append_assoc, arith}
 use Rattle.std.specs.Vec.Iter.{into_iter_items}
 use Rattle.fb_window.proofs.Leaves.{length_join}
-use Rattle.fb_laws.proofs.Places.{drop_first, middle_at, push_counted}
+use Rattle.fb_laws.proofs.Indexes.{drop_first, middle_at, push_counted}
 use Rattle.fb_window.proofs.Walks.{AreDeliveredTo, delivered_all, delivered_more}
 use Rattle.fb_window.proofs.post.deliver_each.Goals as goal
 

@@ -13,8 +13,8 @@ nil_of : (xs : List Message) → length xs ≡ 0 → xs ≡ []
 nil_of [] e = refl
 nil_of (x ∷ xs) e = absurd (omega arith)
 
-pub hand-requires-clause-place : goal.hand-requires-clause-place
-hand-requires-clause-place c =
+pub hand-requires-clause-index : goal.hand-requires-clause-index
+hand-requires-clause-index c =
     let i = c.args.system.now in
     let named = (sound_of i (record { accepted = c.facts.ensures.accepted; limits = c.facts.ensures.limits })).counted (path_at (system_of i) c.in-Some.message.target.instance) in
     let to = c.resource-receiver.ensures in

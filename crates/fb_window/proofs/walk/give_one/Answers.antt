@@ -8,7 +8,7 @@ use Rattle.fb_laws.proofs.Accepting.{sound_of}
 use Rattle.fb_window.specs.Mails.{AreGiven}
 use Rattle.fb_window.specs.Noting.{IsHanded}
 use Rattle.fb_window.proofs.Noting.{given_only, on_ok, only_of}
-use Rattle.fb_types.proofs.ByPlace.{all_at}
+use Rattle.fb_types.proofs.ByIndex.{all_at}
 use Rattle.fb_window.proofs.walk.give_one.Goals as goal
 use Rattle.fb_window.proofs.walk.give_one.Goals.{After-index}
 
@@ -20,8 +20,8 @@ resource-receiver-requires c =
     let d = (goal.at.resource-receiver-requires c).After-index in
     all_at (λ (m : Message). m.target.instance < length (system_of c.args.system.now).paths) c.args.sent.items 0 c.index.result.now c.requires.targets (first_of d)
 
-pub hand-requires-clause-place : goal.hand-requires-clause-place
-hand-requires-clause-place c =
+pub hand-requires-clause-index : goal.hand-requires-clause-index
+hand-requires-clause-index c =
     let i = c.args.system.now in
     let named = (sound_of i (record { accepted = c.facts.ensures.accepted; limits = c.facts.ensures.limits })).counted (path_at (system_of i) c.index.result.now.target.instance) in
     let to = c.resource-receiver.ensures in

@@ -8,7 +8,7 @@ returns-in-Ok-clause-handed c =
     record {
       before = c.index_mut.result.now;
       after = c.receive.new.self;
-      was = slice_get_read xs (length xs) c.args.place c.index_mut.result.now refl c.requires.place c.index_mut.ensures.value;
+      was = slice_get_read xs (length xs) c.args.index c.index_mut.result.now refl c.requires.index c.index_mut.ensures.value;
       received = c.in-Ok.ensures.received;
       set = refl;
     }

@@ -6,7 +6,7 @@ use Rattle.fb_types.specs.declared.run.Event.TheVariants.{Local}
 use Rattle.fb_agenda.specs.Agendas.{local_events, waiting}
 use Rattle.fb_agenda.specs.Inside.{contents_of}
 use Rattle.fb_agenda.proofs.Apart.{moved_apart, moved_waits, queue_apart, queue_waits}
-use Rattle.fb_agenda.proofs.Queueing.{gone_queue, gone_sets, here, place_within, set_queue, set_sets, where_some}
+use Rattle.fb_agenda.proofs.Queueing.{gone_queue, gone_sets, here, index_within, set_queue, set_sets, where_some}
 use Rattle.fb_agenda.proofs.agenda.Agenda.put_aside.Goals as goal
 
 -- ---- Another target is put into the queue
@@ -19,9 +19,9 @@ invariant_of-self-in-Some-target_of c =
     let k = c.args.key in
     let i = c.in-Some.index in
     let t = c.in-Some-target_of.target in
-    let place = c.in-Some.ensures.there in
-    queue_apart v c.self.inside.later.has_local inv k (Some (Local t)) (local_events (slice_set ts i (k, t))) (set_sets ts k i t inv.queue place) (inv.apart k (here ts k i t inv.queue place))
-    (set_queue ts k i t inv.queue place)
+    let index = c.in-Some.ensures.there in
+    queue_apart v c.self.inside.later.has_local inv k (Some (Local t)) (local_events (slice_set ts i (k, t))) (set_sets ts k i t inv.queue index) (inv.apart k (here ts k i t inv.queue index))
+    (set_queue ts k i t inv.queue index)
 
 pub returns-in-Some-target_of-clause-put : goal.returns-in-Some-target_of-clause-put
 returns-in-Some-target_of-clause-put c =
@@ -31,9 +31,9 @@ returns-in-Some-target_of-clause-put c =
     let k = c.args.key in
     let i = c.in-Some.index in
     let t = c.in-Some-target_of.target in
-    let place = c.in-Some.ensures.there in
+    let index = c.in-Some.ensures.there in
     rw (← c.self.view_is)
-    (λ j. queue_waits v c.self.inside.later.has_local inv k (Some (Local t)) (local_events (slice_set ts i (k, t))) (set_sets ts k i t inv.queue place) (inv.apart k (here ts k i t inv.queue place)) j
+    (λ j. queue_waits v c.self.inside.later.has_local inv k (Some (Local t)) (local_events (slice_set ts i (k, t))) (set_sets ts k i t inv.queue index) (inv.apart k (here ts k i t inv.queue index)) j
     ∙ ap (λ (e : Event). cond (same_key k j) (Some e) (waiting v j)) (sym c.in-Some-target_of.ensures))
 
 -- ---- The event is removed from the queue
@@ -45,13 +45,13 @@ invariant_of-self-2 c =
     let ts = c.self.inside.now.items in
     let k = c.args.key in
     let i = c.in-Some.index in
-    let place = c.in-Some.ensures.there in
+    let index = c.in-Some.ensures.there in
     let new = c.remove.new.self.items in
     let later = c.insert_local-2.new.self in
-    let within : i < length ts = place_within ts k i place in
+    let within : i < length ts = index_within ts k i index in
     let is = where_some c.remove.result (c.remove.ensures.variant.1 (omega (arith, within))) c.remove.ensures.items in
-    moved_apart v c.self.inside.later.has_local inv k c.args.event (local_events new) later.events (gone_sets ts new k i inv.queue place is) c.in_ok-insert_local.ensures.put later.due.items later.has_local
-    c.in_ok-insert_local.ensures.marked (gone_queue ts new k i inv.queue place is)
+    moved_apart v c.self.inside.later.has_local inv k c.args.event (local_events new) later.events (gone_sets ts new k i inv.queue index is) c.in_ok-insert_local.ensures.put later.due.items later.has_local
+    c.in_ok-insert_local.ensures.marked (gone_queue ts new k i inv.queue index is)
 
 pub returns-clause-put : goal.returns-clause-put
 returns-clause-put c =
@@ -60,10 +60,10 @@ returns-clause-put c =
     let ts = c.self.inside.now.items in
     let k = c.args.key in
     let i = c.in-Some.index in
-    let place = c.in-Some.ensures.there in
+    let index = c.in-Some.ensures.there in
     let new = c.remove.new.self.items in
     let later = c.insert_local-2.new.self in
-    let within : i < length ts = place_within ts k i place in
+    let within : i < length ts = index_within ts k i index in
     let is = where_some c.remove.result (c.remove.ensures.variant.1 (omega (arith, within))) c.remove.ensures.items in
     rw (← c.self.view_is)
-    (moved_waits v c.self.inside.later.has_local inv k c.args.event (local_events new) later.events (gone_sets ts new k i inv.queue place is) c.in_ok-insert_local.ensures.put later.due.items)
+    (moved_waits v c.self.inside.later.has_local inv k c.args.event (local_events new) later.events (gone_sets ts new k i inv.queue index is) c.in_ok-insert_local.ensures.put later.due.items)

@@ -32,12 +32,12 @@ invariant_of-self-2 c =
     let split = c.self.invariant.split in
     let k = c.args.key.now in
     let i = c.in-Some.index in
-    let place = c.in-Some.ensures.there in
+    let index = c.in-Some.ensures.there in
     let new = c.remove-2.new.self.items in
     let is = c.in_ok-event.ensures.items in
-    let sets : Sets k None few new = subst (λ es. Sets k None few es) (sym is) (removed_sets few k i split.rising place.within place.there) in
+    let sets : Sets k None few new = subst (λ es. Sets k None few es) (sym is) (removed_sets few k i split.rising index.within index.there) in
     let rises : AreRising new = subst (λ es. AreRising es) (sym is) (removed_rises few i split.rising) in
-    let none = alone few many split k i place in
+    let none = alone few many split k i index in
     record {
       split = few_split few many split k None new sets rises none;
       quiet = quiet_gone c.self.inside.quiet k (few ++ many) (new ++ many) c.self.invariant.quiet (few_sets few many split k None new sets none);
@@ -50,8 +50,8 @@ returns c =
     let split = c.self.invariant.split in
     let k = c.args.key.now in
     let i = c.in-Some.index in
-    let place = c.in-Some.ensures.there in
+    let index = c.in-Some.ensures.there in
     let new = c.remove-2.new.self.items in
     let is = c.in_ok-event.ensures.items in
-    let sets : Sets k None few new = subst (λ es. Sets k None few es) (sym is) (removed_sets few k i split.rising place.within place.there) in
-    rw (← c.self.view_is) (few_sets few many split k None new sets (alone few many split k i place))
+    let sets : Sets k None few new = subst (λ es. Sets k None few es) (sym is) (removed_sets few k i split.rising index.within index.there) in
+    rw (← c.self.view_is) (few_sets few many split k None new sets (alone few many split k i index))

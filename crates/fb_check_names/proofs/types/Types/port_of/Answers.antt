@@ -1,8 +1,8 @@
 use Rattle.std.proofs.Common.{sym}
-use Rattle.fb_check_names.proofs.Lookups.{block_places}
+use Rattle.fb_check_names.proofs.Lookups.{block_indexes}
 use Rattle.fb_check_names.proofs.types.Types.port_of.Goals as goal
 
-pub place_in-requires : goal.place_in-requires
-place_in-requires c =
-    block_places _ _ _ _ _ _ _ c.requires.has (sym c.in_ok-block-in-Declared.ensures.value) c.deref.ensures.value
-    c.in_ok-places-in-Declared.ensures.lookup.3.0 c.in_ok-places-in-Declared.ensures.lookup.1 c.ports.ensures
+pub index_in-requires : goal.index_in-requires
+index_in-requires c =
+    block_indexes _ _ _ _ _ _ _ c.requires.has (sym c.in_ok-block-in-Declared.ensures.value) c.deref.ensures.value
+    c.in_ok-indexes-in-Declared.ensures.lookup.3.0 c.in_ok-indexes-in-Declared.ensures.lookup.1 c.ports.ensures

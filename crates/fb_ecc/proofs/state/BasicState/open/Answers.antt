@@ -2,7 +2,7 @@ use Rattle.std.proofs.Common.{refl, ◌∙◌, ap}
 use Rattle.fb_types.specs.Blocks.{variables_of}
 use Rattle.fb_st.specs.Frames.{declared_in}
 use Rattle.fb_ecc.proofs.Acceptance.{sound_in_declaration}
-use Rattle.fb_ecc.proofs.Links.{first_place}
+use Rattle.fb_ecc.proofs.Links.{first_index}
 use Rattle.fb_ecc.proofs.Soundness.{declared_opened}
 use Rattle.fb_ecc.proofs.state.BasicState.open.Goals as goal
 
@@ -13,7 +13,7 @@ pub returns : goal.returns
 returns c = record {
   sound = sound_in_declaration c.args.block.now c.requires.declared;
   block = record {
-    state = first_place c.args.block.now;
+    state = first_index c.args.block.now;
     chart = c.requires.chart;
     declared = ap declared_in c.in_ok-frame.ensures ∙ declared_opened (variables_of c.args.block.now);
   };

@@ -40,11 +40,11 @@ returns-in_ok-leave-in-Some-Composite-clause-reacted c =
     let at = c.args.at in
     let left = c.args.meter.now.left in
     let t = c.in-Some-Composite.field-0-0 in
-    let declared : slice_get i.library.blocks c.in-Declared.place ≡ Some (block.Composite t) =
-    ap (λ (l : Library). slice_get l.blocks c.in-Declared.place) (sym c.library.ensures) ∙ sym c.in-Some-Composite.ensures.value ∙ ap Some c.in-Some-Composite.field-0-is in
+    let declared : slice_get i.library.blocks c.in-Declared.index ≡ Some (block.Composite t) =
+    ap (λ (l : Library). slice_get l.blocks c.in-Declared.index) (sym c.library.ensures) ∙ sym c.in-Some-Composite.ensures.value ∙ ap Some c.in-Some-Composite.field-0-is in
     let is : (system_of i).kind (path_at (system_of i) at.instance) ≡ Some (Composite t) = sym c.in-Declared.ensures ∙ ap (option_map kind_of) declared in
     done-reacted i (leaving i k at) (Arrives i k at left) c.args.self.now.forest.now c.leave.new.self.forest.now c.args.self.now.outbox.now c.leave.new.self.outbox.now left
-    (composite-leaves i k at t is c.requires.target.port c.facts.ensures.accepted c.in-Declared.place declared c.if-at.true left) (λ w. refl) (λ w. refl)
+    (composite-leaves i k at t is c.requires.target.port c.facts.ensures.accepted c.in-Declared.index declared c.if-at.true left) (λ w. refl) (λ w. refl)
     c.in_ok-leave-in-Some-Composite.ensures.left
 
 pub returns-in_ok-enter-in-Some-Composite-clause-reacted : goal.returns-in_ok-enter-in-Some-Composite-clause-reacted
@@ -54,8 +54,8 @@ returns-in_ok-enter-in-Some-Composite-clause-reacted c =
     let at = c.args.at in
     let left = c.args.meter.now.left in
     let t = c.in-Some-Composite.field-0-0 in
-    let declared : slice_get i.library.blocks c.in-Declared.place ≡ Some (block.Composite t) =
-    ap (λ (l : Library). slice_get l.blocks c.in-Declared.place) (sym c.library.ensures) ∙ sym c.in-Some-Composite.ensures.value ∙ ap Some c.in-Some-Composite.field-0-is in
+    let declared : slice_get i.library.blocks c.in-Declared.index ≡ Some (block.Composite t) =
+    ap (λ (l : Library). slice_get l.blocks c.in-Declared.index) (sym c.library.ensures) ∙ sym c.in-Some-Composite.ensures.value ∙ ap Some c.in-Some-Composite.field-0-is in
     let is : (system_of i).kind (path_at (system_of i) at.instance) ≡ Some (Composite t) = sym c.in-Declared.ensures ∙ ap (option_map kind_of) declared in
     done-reacted i (entering i k at) (Arrives i k at left) c.args.self.now.forest.now c.enter.new.self.forest.now c.args.self.now.outbox.now c.enter.new.self.outbox.now left
     (composite-enters i k at t is c.requires.target.port c.if-at.false left) (λ w. refl) (λ w. refl)
@@ -67,8 +67,8 @@ arrive_event-requires-clause-typed c = c.requires.typed
 pub arrive_basic-requires-clause-kind : goal.arrive_basic-requires-clause-kind
 arrive_basic-requires-clause-kind c =
     let i = c.args.self.now.system.now in
-    let declared : slice_get i.library.blocks c.in-Declared.place ≡ Some (block.Basic c.in-Some-Basic.block) =
-    ap (λ (l : Library). slice_get l.blocks c.in-Declared.place) (sym c.library.ensures) ∙ sym c.in-Some-Basic.ensures.value ∙ ap Some c.in-Some-Basic.field-0-is in
+    let declared : slice_get i.library.blocks c.in-Declared.index ≡ Some (block.Basic c.in-Some-Basic.block) =
+    ap (λ (l : Library). slice_get l.blocks c.in-Declared.index) (sym c.library.ensures) ∙ sym c.in-Some-Basic.ensures.value ∙ ap Some c.in-Some-Basic.field-0-is in
     sym c.in-Declared.ensures ∙ ap (option_map kind_of) declared
 
 pub arrive_basic-requires-clause-one : goal.arrive_basic-requires-clause-one
@@ -77,13 +77,13 @@ arrive_basic-requires-clause-one c = (c.requires.typed.0, c.requires.typed.1, c.
 pub enter-requires-clause-composite : goal.enter-requires-clause-composite
 enter-requires-clause-composite c =
     let i = c.args.self.now.system.now in
-    let declared : slice_get i.library.blocks c.in-Declared.place ≡ Some (block.Composite c.in-Some-Composite.field-0-0) =
-    ap (λ (l : Library). slice_get l.blocks c.in-Declared.place) (sym c.library.ensures) ∙ sym c.in-Some-Composite.ensures.value ∙ ap Some c.in-Some-Composite.field-0-is in
+    let declared : slice_get i.library.blocks c.in-Declared.index ≡ Some (block.Composite c.in-Some-Composite.field-0-0) =
+    ap (λ (l : Library). slice_get l.blocks c.in-Declared.index) (sym c.library.ensures) ∙ sym c.in-Some-Composite.ensures.value ∙ ap Some c.in-Some-Composite.field-0-is in
     (c.in-Some-Composite.field-0-0, sym c.in-Declared.ensures ∙ ap (option_map kind_of) declared)
 
 pub leave-requires-clause-composite : goal.leave-requires-clause-composite
 leave-requires-clause-composite c =
     let i = c.args.self.now.system.now in
-    let declared : slice_get i.library.blocks c.in-Declared.place ≡ Some (block.Composite c.in-Some-Composite.field-0-0) =
-    ap (λ (l : Library). slice_get l.blocks c.in-Declared.place) (sym c.library.ensures) ∙ sym c.in-Some-Composite.ensures.value ∙ ap Some c.in-Some-Composite.field-0-is in
+    let declared : slice_get i.library.blocks c.in-Declared.index ≡ Some (block.Composite c.in-Some-Composite.field-0-0) =
+    ap (λ (l : Library). slice_get l.blocks c.in-Declared.index) (sym c.library.ensures) ∙ sym c.in-Some-Composite.ensures.value ∙ ap Some c.in-Some-Composite.field-0-is in
     (c.in-Some-Composite.field-0-0, sym c.in-Declared.ensures ∙ ap (option_map kind_of) declared)

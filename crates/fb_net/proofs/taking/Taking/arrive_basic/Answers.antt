@@ -14,7 +14,7 @@ returns-clause-reacted c =
     let ended = subst (λ (vs : List Value). ChartEnded i c.args.self.now.forest.now c.args.at c.args.block.now vs c.args.meter.now.left end.result end.new.forest end.new.meter.left end.new.emits)
     c.as_slice.ensures end.ensures.reacted in
     chart-reacts i c.args.self.now.key.now c.args.at c.args.block.now c.requires.kind c.requires.input c.args.self.now.forest.now end.new.forest c.tell.new.self.forest.now
-    c.args.self.now.outbox.now c.tell.new.self.outbox.now c.requires.place.ready c.requires.place.here c.in_ok-values.values c.in_ok-values.ensures.sampled c.args.meter.now.left end.new.meter.left end.new.emits
+    c.args.self.now.outbox.now c.tell.new.self.outbox.now c.requires.index.ready c.requires.index.here c.in_ok-values.values c.in_ok-values.ensures.sampled c.args.meter.now.left end.new.meter.left end.new.emits
     c.in_ok-tell.ensures.told end.result ended
 
 pub returns-in_err-values-clause-kept : goal.returns-in_err-values-clause-kept
@@ -37,15 +37,15 @@ tell-requires-clause-counted c = c.in_ok-values.ensures.counted
 pub returns-clause-fewer : goal.returns-clause-fewer
 returns-clause-fewer c = c.react_basic-end.ensures.fewer
 
-pub tell-requires-clause-place : goal.tell-requires-clause-place
-tell-requires-clause-place c =
-    let place = c.requires.place in
+pub tell-requires-clause-index : goal.tell-requires-clause-index
+tell-requires-clause-index c =
+    let index = c.requires.index in
     let same = c.react_basic-end.ensures.resource in
     record {
-      port = place.port;
-      here = place.here ∙ sym same;
+      port = index.port;
+      here = index.here ∙ sym same;
       ready = record {
-        resource = place.ready.resource ∙ sym same;
-        outs = subst (λ r. AreOuts (system_of c.args.self.now.system.now) r c.args.self.now.outbox.now) (sym same) place.ready.outs;
+        resource = index.ready.resource ∙ sym same;
+        outs = subst (λ r. AreOuts (system_of c.args.self.now.system.now) r c.args.self.now.outbox.now) (sym same) index.ready.outs;
       };
     }

@@ -20,7 +20,7 @@ use Rattle.fb_net.proofs.taking.Taking.arrive_event.Goals as goal
 
 pub react_event-requires-clause-port : goal.react_event-requires-clause-port
 react_event-requires-clause-port c =
-    still (λ (i : Inputs) (k : Key). IsPort (system_of i) c.args.at) c.args.self.now c.take_samples.new.self c.take_samples.ensures.same c.requires.place.port
+    still (λ (i : Inputs) (k : Key). IsPort (system_of i) c.args.at) c.args.self.now c.take_samples.new.self c.take_samples.ensures.same c.requires.index.port
 
 pub react_event-requires-clause-kind : goal.react_event-requires-clause-kind
 react_event-requires-clause-kind c =
@@ -33,18 +33,18 @@ react_event-requires-clause-typed c =
     let b = c.take_samples.new.self in
     still (λ (i : Inputs) (k : Key). (w : World) × IsForest i b.forest.now w × InForest i b.forest.now c.args.at.instance × HasTypedInputs i c.args.kind c.args.at.instance w) a b c.take_samples.ensures.same
     (event-typed a.system.now a.key.now c.args.kind c.args.at c.requires.kind c.requires.input a.forest.now b.forest.now
-    a.outbox.now b.outbox.now c.in_ok-take_samples.ensures.taken c.requires.sound c.requires.typed (c.requires.place.here ∙ sym c.take_samples.ensures.kept.resource))
+    a.outbox.now b.outbox.now c.in_ok-take_samples.ensures.taken c.requires.sound c.requires.typed (c.requires.index.here ∙ sym c.take_samples.ensures.kept.resource))
 
-pub emit_all-requires-clause-place : goal.emit_all-requires-clause-place
-emit_all-requires-clause-place c =
+pub emit_all-requires-clause-index : goal.emit_all-requires-clause-index
+emit_all-requires-clause-index c =
     let a = c.args.self.now in
     let b = c.take_samples.new.self in
     let g = c.react_event.new.forest in
     let ready = c.in_ok-take_samples.ensures.ready in
     let resource = sym c.react_event.ensures.resource in
     record {
-      number = still (λ (i : Inputs) (k : Key). c.args.at.instance < length (system_of i).paths) a b c.take_samples.ensures.same c.requires.place.port.instance;
-      here = still (λ (i : Inputs) (k : Key). InForest i g c.args.at.instance) a b c.take_samples.ensures.same (c.requires.place.here ∙ sym c.take_samples.ensures.kept.resource ∙ resource);
+      number = still (λ (i : Inputs) (k : Key). c.args.at.instance < length (system_of i).paths) a b c.take_samples.ensures.same c.requires.index.port.instance;
+      here = still (λ (i : Inputs) (k : Key). InForest i g c.args.at.instance) a b c.take_samples.ensures.same (c.requires.index.here ∙ sym c.take_samples.ensures.kept.resource ∙ resource);
       resource = ready.resource ∙ resource;
       outs = subst (λ (x : Outbox). AreOuts (system_in b) g.resource x) (sym c.ask_timer.ensures)
           (record { lines = ready.outs.lines; outs = subst (λ r. All (IsOut (system_in b) r) b.outbox.now.outs.items) resource ready.outs.outs });
@@ -68,7 +68,7 @@ returns-clause-reacted c =
     let emits = c.react_event.new.emits in
     let same = c.take_samples.ensures.same in
     event-reacts a.system.now a.key.now c.args.kind at c.requires.kind c.requires.input a.forest.now b.forest.now late z.forest.now a.outbox.now b.outbox.now z.outbox.now ask emits
-    c.in_ok-take_samples.ensures.taken (c.requires.place.here ∙ sym c.take_samples.ensures.kept.resource)
+    c.in_ok-take_samples.ensures.taken (c.requires.index.here ∙ sym c.take_samples.ensures.kept.resource)
     (already (λ (i : Inputs) (k : Key). (w : World) → IsForest i b.forest.now w → InForest i b.forest.now at.instance → EventCame i at.instance c.args.kind (taken_reaction i c.args.kind at k.tick w) late ask emits w) a b same
     c.in_ok-react_event.ensures.reacted)
     (already (λ (i : Inputs) (k : Key). EmitsSo i k at.instance late (record b.outbox.now { timer = asked b.outbox.now.timer ask }) emits z.forest.now z.outbox.now) a b same

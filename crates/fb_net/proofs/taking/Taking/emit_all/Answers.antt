@@ -11,9 +11,9 @@ use Rattle.fb_net.proofs.Emitting.{others_fit}
 use Rattle.fb_net.proofs.Same.{emitted-after, kept-after, may-emit-again, still}
 use Rattle.fb_net.proofs.taking.Taking.emit_all.Goals as goal
 
-pub emit_others-requires-clause-place : goal.emit_others-requires-clause-place
-emit_others-requires-clause-place c =
-    may-emit-again c.args.self.now c.emit_one.new.self c.args.instance (c.in-Some.emission ∷ []) c.emit_one.ensures.same c.requires.place c.in_ok-emit_one.ensures.emitted
+pub emit_others-requires-clause-index : goal.emit_others-requires-clause-index
+emit_others-requires-clause-index c =
+    may-emit-again c.args.self.now c.emit_one.new.self c.args.instance (c.in-Some.emission ∷ []) c.emit_one.ensures.same c.requires.index c.in_ok-emit_one.ensures.emitted
 
 pub emit_others-requires-clause-emissions : goal.emit_others-requires-clause-emissions
 emit_others-requires-clause-emissions c =

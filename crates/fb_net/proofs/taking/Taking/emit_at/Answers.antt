@@ -14,7 +14,7 @@ use Rattle.fb_net.proofs.taking.Taking.emit_at.Goals as goal
 
 pub send_out-requires-clause-carried : goal.send_out-requires-clause-carried
 send_out-requires-clause-carried c =
-    are_carried (system_of c.args.self.now.system.now) c.args.instance c.args.places.now c.as_slice-2.result.now c.requires.place.number c.requires.places.within
+    are_carried (system_of c.args.self.now.system.now) c.args.instance c.args.indexes.now c.as_slice-2.result.now c.requires.index.number c.requires.indexes.within
 
 pub returns-clause-emitted : goal.returns-clause-emitted
 returns-clause-emitted c =
@@ -22,29 +22,29 @@ returns-clause-emitted c =
     let sys = system_of i in
     let k = c.args.instance in
     let e = c.args.emission in
-    let places = c.args.places.now in
+    let indexes = c.args.indexes.now in
     let f = c.args.self.now.forest.now in
     let g = c.publish_all.new.forest in
     let x = c.args.self.now.outbox.now in
     let y : Outbox = record { lines = c.push_reserved.new.self; outs = c.send_out.new.outs; timer = x.timer } in
     let done : Doing i c.args.self.now.key.now k f x e g y = record {
-      places = places;
-      stand = c.requires.places;
-      published = subst (λ (vs : List Value). Changes i f k (outputs_shown (outputs_at sys k places vs)) g) c.as_slice.ensures c.publish_all.ensures;
+      indexes = indexes;
+      stand = c.requires.indexes;
+      published = subst (λ (vs : List Value). Changes i f k (outputs_shown (outputs_at sys k indexes vs)) g) c.as_slice.ensures c.publish_all.ensures;
       sent =
           c.in_ok-send_out.ensures.sent
-          ∙ ap (λ (vs : List Value). map (out_of sys) x.outs.items ++ spread sys g.resource (map (carried_of sys) (carried_by k places vs)) (sys.targets (event_output sys k e.event))) c.as_slice-2.ensures;
+          ∙ ap (λ (vs : List Value). map (out_of sys) x.outs.items ++ spread sys g.resource (map (carried_of sys) (carried_by k indexes vs)) (sys.targets (event_output sys k e.event))) c.as_slice-2.ensures;
       belong = c.in_ok-send_out.ensures.outs;
       lines = c.push_reserved.ensures.items ∙ ap (λ (ls : List Line). ls ++ line_by c.args.self.now.key.now k e ∷ []) c.in_ok-reserve.ensures.items;
       timer = refl;
     } in
-    has_emitted i c.args.self.now.key.now k f x e g y done c.requires.place.number c.requires.place.here c.requires.place.resource c.args.self.now.named c.requires.emission c.requires.place.outs
+    has_emitted i c.args.self.now.key.now k f x e g y done c.requires.index.number c.requires.index.here c.requires.index.resource c.args.self.now.named c.requires.emission c.requires.index.outs
 
 pub returns-in_err-send_out-clause-kept : goal.returns-in_err-send_out-clause-kept
-returns-in_err-send_out-clause-kept c = kept-changed c.args.self.now.system.now c.args.self.now.forest.now c.publish_all.new.forest c.args.instance _ c.publish_all.ensures c.requires.place.here
+returns-in_err-send_out-clause-kept c = kept-changed c.args.self.now.system.now c.args.self.now.forest.now c.publish_all.new.forest c.args.instance _ c.publish_all.ensures c.requires.index.here
 
 pub returns-in_err-reserve-clause-kept : goal.returns-in_err-reserve-clause-kept
-returns-in_err-reserve-clause-kept c = kept-changed c.args.self.now.system.now c.args.self.now.forest.now c.publish_all.new.forest c.args.instance _ c.publish_all.ensures c.requires.place.here
+returns-in_err-reserve-clause-kept c = kept-changed c.args.self.now.system.now c.args.self.now.forest.now c.publish_all.new.forest c.args.instance _ c.publish_all.ensures c.requires.index.here
 
 pub returns-clause-kept : goal.returns-clause-kept
-returns-clause-kept c = kept-changed c.args.self.now.system.now c.args.self.now.forest.now c.publish_all.new.forest c.args.instance _ c.publish_all.ensures c.requires.place.here
+returns-clause-kept c = kept-changed c.args.self.now.system.now c.args.self.now.forest.now c.publish_all.new.forest c.args.instance _ c.publish_all.ensures c.requires.index.here

@@ -3,7 +3,7 @@ use Rattle.fb_types.specs.declared.run.Line.{Line}
 use Rattle.fb_types.specs.declared.value.Value.{Value}
 use Rattle.fb_net.specs.Emitting.{bare}
 use Rattle.fb_net.specs.declared.outbox.Outbox.{Outbox}
-use Rattle.fb_net.proofs.Emitting.{Doing, has_emitted, line_by, no_places}
+use Rattle.fb_net.proofs.Emitting.{Doing, has_emitted, line_by, no_indexes}
 use Rattle.fb_net.proofs.Publishing.{nothing_shown}
 use Rattle.fb_net.proofs.Wholes.{kept-same}
 use Rattle.fb_net.proofs.taking.Taking.emit_bare.Goals as goal
@@ -18,8 +18,8 @@ returns-clause-emitted c =
     let x = c.args.self.now.outbox.now in
     let y : Outbox = record { lines = c.push_reserved.new.self; outs = c.send_out.new.outs; timer = x.timer } in
     let done : Doing i key k f x e f y = record {
-      places = [];
-      stand = no_places _ _ c.requires.emission.values;
+      indexes = [];
+      stand = no_indexes _ _ c.requires.emission.values;
       published = nothing_shown i k f;
       sent = c.in_ok-send_out.ensures.sent;
       belong = c.in_ok-send_out.ensures.outs;
@@ -29,7 +29,7 @@ returns-clause-emitted c =
           ∙ ap (λ (ls : List Line). ls ++ line_by key k e ∷ []) c.in_ok-reserve.ensures.items;
       timer = refl;
     } in
-    has_emitted i key k f x e f y done c.requires.place.number c.requires.place.here c.requires.place.resource c.args.self.now.named c.requires.emission c.requires.place.outs
+    has_emitted i key k f x e f y done c.requires.index.number c.requires.index.here c.requires.index.resource c.args.self.now.named c.requires.emission c.requires.index.outs
 
 pub returns-in_err-send_out-clause-kept : goal.returns-in_err-send_out-clause-kept
 returns-in_err-send_out-clause-kept c = kept-same c.args.self.now.system.now c.args.self.now.forest.now

@@ -15,14 +15,14 @@ pub loop-emission-init : goal.loop-emission-init
 loop-emission-init c = record {
   done = [];
   parts = refl;
-  emitted = nothing_emitted c.args.self.now.system.now c.args.self.now.key.now c.args.instance c.args.self.now.forest.now c.args.self.now.outbox.now c.requires.place.outs;
+  emitted = nothing_emitted c.args.self.now.system.now c.args.self.now.key.now c.args.instance c.args.self.now.forest.now c.args.self.now.outbox.now c.requires.index.outs;
   kept = kept-same c.args.self.now.system.now c.args.self.now.forest.now;
   same = record { system = refl; key = refl; forest = refl; outbox = refl };
 }
 
-pub emit_one-requires-clause-place : goal.emit_one-requires-clause-place
-emit_one-requires-clause-place c =
-    may-emit-again c.args.self.now c.loop-emission.self c.args.instance c.loop-emission.invariant.done c.loop-emission.invariant.same c.requires.place c.loop-emission.invariant.emitted
+pub emit_one-requires-clause-index : goal.emit_one-requires-clause-index
+emit_one-requires-clause-index c =
+    may-emit-again c.args.self.now c.loop-emission.self c.args.instance c.loop-emission.invariant.done c.loop-emission.invariant.same c.requires.index c.loop-emission.invariant.emitted
 
 pub emit_one-requires-clause-emission : goal.emit_one-requires-clause-emission
 emit_one-requires-clause-emission c =

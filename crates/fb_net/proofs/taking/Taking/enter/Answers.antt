@@ -11,7 +11,7 @@ use Rattle.fb_net.proofs.taking.Taking.enter.Goals as goal
 
 pub send_out-requires-clause-port : goal.send_out-requires-clause-port
 send_out-requires-clause-port c =
-    still (λ (i : Inputs) (k : Key). IsPort (system_of i) c.args.at) c.args.self.now c.take_samples.new.self c.take_samples.ensures.same c.requires.place.port
+    still (λ (i : Inputs) (k : Key). IsPort (system_of i) c.args.at) c.args.self.now c.take_samples.new.self c.take_samples.ensures.same c.requires.index.port
 
 pub returns-clause-entered : goal.returns-clause-entered
 returns-clause-entered c =

@@ -19,8 +19,8 @@ returns-clause-expired c =
     c.args.self.now.outbox.now z.outbox.now c.expire_event.new.ask emits c.requires.kind c.requires.here c.in_ok-expire_event.ensures.reacted
     (subst (λ (x : Outbox). EmitsSo i k c.args.instance late x emits z.forest.now z.outbox.now) c.ask_timer.ensures c.in_ok-emit_all.ensures.emitted)
 
-pub emit_all-requires-clause-place : goal.emit_all-requires-clause-place
-emit_all-requires-clause-place c =
+pub emit_all-requires-clause-index : goal.emit_all-requires-clause-index
+emit_all-requires-clause-index c =
     let a = c.args.self.now in
     let g = c.expire_event.new.forest in
     let resource = sym c.expire_event.ensures.resource in

@@ -13,11 +13,11 @@ returns-then-is_empty-clause-taken c =
     let i = c.args.self.now.system.now in
     let at = c.args.at in
     let f = c.args.self.now.forest.now in
-    let sampled = none-sampled i f at c.inputs_with-places.result.now c.new-values.result c.inputs_with-places.ensures (eqb-true _ 0 (sym c.is_empty.ensures ∙ c.if-is_empty.true)) c.new-values.ensures in
+    let sampled = none-sampled i f at c.inputs_with-indexes.result.now c.new-values.result c.inputs_with-indexes.ensures (eqb-true _ 0 (sym c.is_empty.ensures ∙ c.if-is_empty.true)) c.new-values.ensures in
     let kept = samples_none i f at.instance (names_in (system_of i) at) c.new-values.result (ap length c.new-values.ensures) in
     on_ok_weaker c.write_taken.result
     (λ written. sampling-stands i c.args.self.now.key.now at f f c.args.self.now.outbox.now c.write_taken.new.outbox c.new-values.result
-    c.requires.place.ready c.requires.input c.requires.place.here sampled kept written c.write_taken.ensures.outs c.write_taken.ensures.timer)
+    c.requires.index.ready c.requires.input c.requires.index.here sampled kept written c.write_taken.ensures.outs c.write_taken.ensures.timer)
     c.write_taken.ensures.written
 
 pub returns-then-is_empty-clause-kept : goal.returns-then-is_empty-clause-kept
@@ -25,7 +25,7 @@ returns-then-is_empty-clause-kept c =
     kept-same c.args.self.now.system.now c.args.self.now.forest.now
 
 pub write_taken-requires-clause-port : goal.write_taken-requires-clause-port
-write_taken-requires-clause-port c = c.requires.place.port
+write_taken-requires-clause-port c = c.requires.index.port
 
 pub write_taken-requires-clause-lines : goal.write_taken-requires-clause-lines
-write_taken-requires-clause-lines c = c.requires.place.ready.outs.lines
+write_taken-requires-clause-lines c = c.requires.index.ready.outs.lines

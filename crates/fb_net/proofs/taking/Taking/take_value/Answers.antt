@@ -13,19 +13,19 @@ use Rattle.fb_net.proofs.Wholes.{kept-changed}
 use Rattle.fb_net.proofs.taking.Taking.take_value.Goals as goal
 
 pub sampled-value-requires-clause-variable : goal.sampled-value-requires-clause-variable
-sampled-value-requires-clause-variable c = record { instance = c.requires.place.port.instance; variable = c.requires.stands.within 0 0 (omega arith) }
+sampled-value-requires-clause-variable c = record { instance = c.requires.index.port.instance; variable = c.requires.stands.within 0 0 (omega arith) }
 
 pub set_input-requires-clause-variable : goal.set_input-requires-clause-variable
-set_input-requires-clause-variable c = record { instance = c.requires.place.port.instance; variable = c.requires.stands.within 0 0 (omega arith) }
+set_input-requires-clause-variable c = record { instance = c.requires.index.port.instance; variable = c.requires.stands.within 0 0 (omega arith) }
 
 pub write_taken-requires-clause-line : goal.write_taken-requires-clause-line
 write_taken-requires-clause-line c =
     let sys = system_of c.args.self.now.system.now in
     let its = ports_at sys (path_at sys c.args.at.instance) in
     record {
-      instance = c.requires.place.port.instance;
+      instance = c.requires.index.port.instance;
       resource = c.args.self.now.named;
-      event = subst (λ b. c.args.at.event < length (cond b its.event_outputs its.event_inputs)) c.requires.input c.requires.place.port.event;
+      event = subst (λ b. c.args.at.event < length (cond b its.event_outputs its.event_inputs)) c.requires.input c.requires.index.port.event;
       values = ap length c.in_ok-values.ensures ∙ ap length c.requires.stands.named;
     }
 
@@ -46,13 +46,13 @@ returns-clause-taken c =
     let sampled = one-sampled i f at (c.args.variable ∷ []) value values c.requires.stands refl c.sampled-value.ensures is in
     on_ok_weaker c.write_taken.result
     (λ written. sampling-stands i c.args.self.now.key.now at f g c.args.self.now.outbox.now c.write_taken.new.outbox values
-    c.requires.place.ready c.requires.input c.requires.place.here sampled changes written c.write_taken.ensures.outs c.write_taken.ensures.timer)
+    c.requires.index.ready c.requires.input c.requires.index.here sampled changes written c.write_taken.ensures.outs c.write_taken.ensures.timer)
     c.write_taken.ensures.written
 
 pub returns-in_err-values-clause-kept : goal.returns-in_err-values-clause-kept
 returns-in_err-values-clause-kept c =
-    kept-changed c.args.self.now.system.now c.args.self.now.forest.now c.set_input.new.self c.args.at.instance _ c.set_input.ensures c.requires.place.here
+    kept-changed c.args.self.now.system.now c.args.self.now.forest.now c.set_input.new.self c.args.at.instance _ c.set_input.ensures c.requires.index.here
 
 pub returns-clause-kept : goal.returns-clause-kept
 returns-clause-kept c =
-    kept-changed c.args.self.now.system.now c.args.self.now.forest.now c.set_input.new.self c.args.at.instance _ c.set_input.ensures c.requires.place.here
+    kept-changed c.args.self.now.system.now c.args.self.now.forest.now c.set_input.new.self c.args.at.instance _ c.set_input.ensures c.requires.index.here

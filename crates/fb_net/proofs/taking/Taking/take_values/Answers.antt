@@ -4,14 +4,14 @@ use Rattle.fb_types.specs.Headline.{system_of}
 use Rattle.fb_types.specs.declared.value.Value.{Value}
 use Rattle.fb_net.specs.Samples.{all_sampled, names_in}
 use Rattle.fb_net.specs.Changes.{Changes}
-use Rattle.fb_net.proofs.Sampling.{one_place, sampling-stands}
+use Rattle.fb_net.proofs.Sampling.{one_index, sampling-stands}
 use Rattle.fb_net.proofs.Wholes.{kept-changed, kept-same}
 use Rattle.fb_net.proofs.taking.Taking.take_values.Goals as goal
 
 pub take_value-requires-clause-stands : goal.take_value-requires-clause-stands
 take_value-requires-clause-stands c =
-    let one : length c.args.places.now ≡ 1 = omega (arith, c.in-len1.len_at_least, c.in-len1.len_below) in
-    one_place _ _ c.args.places.now one c.requires.places
+    let one : length c.args.indexes.now ≡ 1 = omega (arith, c.in-len1.len_at_least, c.in-len1.len_below) in
+    one_index _ _ c.args.indexes.now one c.requires.indexes
 
 pub returns-clause-taken : goal.returns-clause-taken
 returns-clause-taken c =
@@ -20,7 +20,7 @@ returns-clause-taken c =
     let kept = subst (λ (vs : List Value). Changes i c.args.self.now.forest.now at.instance (all_sampled (names_in (system_of i) at) vs) c.keep_samples.new.forest) c.as_slice.ensures c.keep_samples.ensures in
     on_ok_weaker c.write_taken.result
     (λ written. sampling-stands i c.args.self.now.key.now at c.args.self.now.forest.now c.keep_samples.new.forest c.args.self.now.outbox.now c.write_taken.new.outbox c.in_ok-values.values
-    c.requires.place.ready c.requires.input c.requires.place.here c.in_ok-values.ensures.sampled kept written c.write_taken.ensures.outs c.write_taken.ensures.timer)
+    c.requires.index.ready c.requires.input c.requires.index.here c.in_ok-values.ensures.sampled kept written c.write_taken.ensures.outs c.write_taken.ensures.timer)
     c.write_taken.ensures.written
 
 pub returns-in_err-values-clause-kept : goal.returns-in_err-values-clause-kept
@@ -29,4 +29,4 @@ returns-in_err-values-clause-kept c =
 
 pub returns-clause-kept : goal.returns-clause-kept
 returns-clause-kept c =
-    kept-changed c.args.self.now.system.now c.args.self.now.forest.now c.keep_samples.new.forest c.args.at.instance _ c.keep_samples.ensures c.requires.place.here
+    kept-changed c.args.self.now.system.now c.args.self.now.forest.now c.keep_samples.new.forest c.args.at.instance _ c.keep_samples.ensures c.requires.index.here

@@ -2,7 +2,7 @@ use Rattle.std.proofs.Common.{◌≡◌, sym, subst, Some, length}
 use Rattle.std.specs.Prelude.{slice_get}
 use Rattle.fb_types.specs.Headline.{system_of}
 use Rattle.fb_resource.specs.Posts.{IsMessage}
-use Rattle.fb_types.proofs.ByPlace.{slice_get-append_here}
+use Rattle.fb_types.proofs.ByIndex.{slice_get-append_here}
 use Rattle.fb_parts_tests.proofs.Handed.{handed}
 use Rattle.fb_parts_tests.proofs.tests.chain.handed.Goals as goal
 

@@ -28,19 +28,19 @@ loop-counts-init c =
     }
 
 pub take-requires-clause-tree : goal.take-requires-clause-tree
-take-requires-clause-tree c = sym (c.loop-counts.invariant.running.home c.take_least_into.new.place.key c.take_least_into.new.place.event c.loop-counts-test.ensures.found)
+take-requires-clause-tree c = sym (c.loop-counts.invariant.running.home c.take_least_into.new.index.key c.take_least_into.new.index.event c.loop-counts-test.ensures.found)
 
 pub take-requires-clause-queues : goal.take-requires-clause-queues
 take-requires-clause-queues c =
     let x = in_run c.loop-counts.self c.loop-counts.counts c.loop-counts.given in
     let found = c.loop-counts-test.ensures in
-    ready_left c.args.system.now x.clock c.take_least_into.new.place.key x.queues _ c.loop-counts.invariant.running.ready found.left found.least found.due
+    ready_left c.args.system.now x.clock c.take_least_into.new.index.key x.queues _ c.loop-counts.invariant.running.ready found.left found.least found.due
 
 pub take-requires-clause-stands : goal.take-requires-clause-stands
 take-requires-clause-stands c =
     let x = in_run c.loop-counts.self c.loop-counts.counts c.loop-counts.given in
-    let k = c.take_least_into.new.place.key in
-    let e = c.take_least_into.new.place.event in
+    let k = c.take_least_into.new.index.key in
+    let e = c.take_least_into.new.index.event in
     let inv = c.loop-counts.invariant in
     let first = c.requires.of.stands c.args.steps in
     let s = (inv.comes first.0 first.1).stands in
@@ -48,24 +48,24 @@ take-requires-clause-stands c =
     (s.state, here_at c.args.system.now s.state k x (inv.running.home k e found) (inv.running.ready.order.waits k e found).later s.here)
 
 pub take-requires-clause-event : goal.take-requires-clause-event
-take-requires-clause-event c = (c.loop-counts.invariant.running.ready.order.waits c.take_least_into.new.place.key c.take_least_into.new.place.event c.loop-counts-test.ensures.found).event
+take-requires-clause-event c = (c.loop-counts.invariant.running.ready.order.waits c.take_least_into.new.index.key c.take_least_into.new.index.event c.loop-counts-test.ensures.found).event
 
 pub take-requires-clause-own : goal.take-requires-clause-own
-take-requires-clause-own c = (c.loop-counts.invariant.running.ready.order.waits c.take_least_into.new.place.key c.take_least_into.new.place.event c.loop-counts-test.ensures.found).own
+take-requires-clause-own c = (c.loop-counts.invariant.running.ready.order.waits c.take_least_into.new.index.key c.take_least_into.new.index.event c.loop-counts-test.ensures.found).own
 
 pub take-requires-clause-typed : goal.take-requires-clause-typed
-take-requires-clause-typed c = (c.loop-counts.invariant.running.ready.order.waits c.take_least_into.new.place.key c.take_least_into.new.place.event c.loop-counts-test.ensures.found).typed
+take-requires-clause-typed c = (c.loop-counts.invariant.running.ready.order.waits c.take_least_into.new.index.key c.take_least_into.new.index.event c.loop-counts-test.ensures.found).typed
 
 pub take-requires-clause-named : goal.take-requires-clause-named
-take-requires-clause-named c = (c.loop-counts.invariant.running.ready.order.waits c.take_least_into.new.place.key c.take_least_into.new.place.event c.loop-counts-test.ensures.found).resource
+take-requires-clause-named c = (c.loop-counts.invariant.running.ready.order.waits c.take_least_into.new.index.key c.take_least_into.new.index.event c.loop-counts-test.ensures.found).resource
 
 -- ---- An event was taken
 
 pub returns-in-Some : goal.returns-in-Some
 returns-in-Some c =
     let i = c.args.system.now in
-    let k = c.take_least_into.new.place.key in
-    let e = c.take_least_into.new.place.event in
+    let k = c.take_least_into.new.index.key in
+    let e = c.take_least_into.new.index.event in
     let found = c.loop-counts-test.ensures in
     let inv = c.loop-counts.invariant in
     let old = in_run c.loop-counts.self c.loop-counts.counts c.loop-counts.given in
@@ -96,19 +96,19 @@ returns-in-Some c =
 
 pub loop-counts-smaller : goal.loop-counts-smaller
 loop-counts-smaller c =
-    let k = c.take_least_into.new.place.key in
+    let k = c.take_least_into.new.index.key in
     let found = c.loop-counts-test.ensures in
     let running = c.loop-counts.invariant.running in
     let spent = c.in_ok-self.ensures.spent c.in_default.is in
     let past = running.past in
-    let later = (running.ready.order.waits k c.take_least_into.new.place.event found.found).later in
+    let later = (running.ready.order.waits k c.take_least_into.new.index.event found.found).later in
     fuel_falls c.args.to c.args.steps k.tick c.loop-counts.counts c.take.new.counts spent.0 spent.1 (omega (arith, past, later)) found.below
 
 pub loop-counts-preserved : goal.loop-counts-preserved
 loop-counts-preserved c =
     let i = c.args.system.now in
-    let k = c.take_least_into.new.place.key in
-    let e = c.take_least_into.new.place.event in
+    let k = c.take_least_into.new.index.key in
+    let e = c.take_least_into.new.index.event in
     let found = c.loop-counts-test.ensures in
     let inv = c.loop-counts.invariant in
     let old = in_run c.loop-counts.self c.loop-counts.counts c.loop-counts.given in

@@ -10,7 +10,7 @@ use Rattle.fb_st.proofs.frame.Frame.small_at_once.Goals as goal
 pub returns-in-Some : goal.returns-in-Some
 returns-in-Some c =
     let xs : List Slot = c.self.inside.slots.items in
-    let i : ℕ = c.place.result in
+    let i : ℕ = c.index.result in
     let s : Slot = c.in-Some.slot.now in
     let Reads : List Slot → Type 0 = λ l. (i < length l) × (s ≡ get_or l i s) in
     let read : Reads xs = subst Reads c.deref.ensures.value (c.in-Some.ensures.lookup.3.0, c.in-Some.ensures.lookup.1) in

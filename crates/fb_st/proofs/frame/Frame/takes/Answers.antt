@@ -3,17 +3,17 @@ use Rattle.fb_types.specs.Names.{Name, with_value}
 use Rattle.fb_types.specs.Repeated.{Twice}
 use Rattle.fb_types.specs.declared.value.Value.TheVariants as value
 use Rattle.fb_st.specs.declared.frame.Slot.{Slot}
-use Rattle.fb_st.specs.Frames.{values_of, place_of, declared_in}
-use Rattle.fb_st.proofs.Slots.{written, place_within, names_same, declared_same, read_at}
+use Rattle.fb_st.specs.Frames.{values_of, index_of, declared_in}
+use Rattle.fb_st.proofs.Slots.{written, index_within, names_same, declared_same, read_at}
 use Rattle.fb_st.proofs.frame.Frame.takes.Goals as goal
 
 pub invariant_of-self : goal.invariant_of-self
 invariant_of-self c =
     let xs : List Slot = c.self.inside.slots.items in
     let put = rw (to_z-of_z c.ranges.number) at c.put_small.ensures in
-    let at = ap (place_of c.args.variable.now) c.self.view_is ∙ (c.may_take.ensures c.if-not-may_take.false).0 in
-    let within = place_within xs c.args.variable.now c.place-place.result at in
-    let names = names_same xs c.place-place.result c.index_mut-slot.result.now (value.Whole c.args.number) within c.index_mut-slot.ensures.value in
+    let at = ap (index_of c.args.variable.now) c.self.view_is ∙ (c.may_take.ensures c.if-not-may_take.false).0 in
+    let within = index_within xs c.args.variable.now c.index-index.result at in
+    let names = names_same xs c.index-index.result c.index_mut-slot.result.now (value.Whole c.args.number) within c.index_mut-slot.ensures.value in
     let P : List Name → Type 0 = λ ns. ¬ (Twice ns) in
     rw put (subst P (sym names) c.self.invariant)
 
@@ -22,11 +22,11 @@ returns-clause-taken c = λ told.
     let xs : List Slot = c.self.inside.slots.items in
     let put = rw (to_z-of_z c.ranges.number) at c.put_small.ensures in
     let known = rw (to_z-of_z c.ranges.number) at (c.may_take.ensures c.if-not-may_take.false) in
-    let at = ap (place_of c.args.variable.now) c.self.view_is ∙ known.0 in
-    let there = read_at xs c.args.variable.now c.place-place.result c.index_mut-slot.result.now at c.index_mut-slot.ensures.value in (
+    let at = ap (index_of c.args.variable.now) c.self.view_is ∙ known.0 in
+    let there = read_at xs c.args.variable.now c.index-index.result c.index_mut-slot.result.now at c.index_mut-slot.ensures.value in (
       known.1,
       rw put
-          (written xs c.args.variable.now c.place-place.result c.index_mut-slot.result.now (value.Whole c.args.number) at there
+          (written xs c.args.variable.now c.index-index.result c.index_mut-slot.result.now (value.Whole c.args.number) at there
           ∙ ap (λ l. with_value c.args.variable.now (value.Whole c.args.number) (values_of l)) c.self.view_is),
     )
 
@@ -34,8 +34,8 @@ pub returns-clause-declared : goal.returns-clause-declared
 returns-clause-declared c =
     let xs : List Slot = c.self.inside.slots.items in
     let put = rw (to_z-of_z c.ranges.number) at c.put_small.ensures in
-    let at = ap (place_of c.args.variable.now) c.self.view_is ∙ (c.may_take.ensures c.if-not-may_take.false).0 in
-    let within = place_within xs c.args.variable.now c.place-place.result at in
+    let at = ap (index_of c.args.variable.now) c.self.view_is ∙ (c.may_take.ensures c.if-not-may_take.false).0 in
+    let within = index_within xs c.args.variable.now c.index-index.result at in
     rw put
-    (declared_same xs c.place-place.result c.index_mut-slot.result.now (value.Whole c.args.number) within c.index_mut-slot.ensures.value
+    (declared_same xs c.index-index.result c.index_mut-slot.result.now (value.Whole c.args.number) within c.index_mut-slot.ensures.value
     ∙ ap declared_in c.self.view_is)

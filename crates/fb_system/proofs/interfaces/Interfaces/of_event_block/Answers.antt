@@ -1,18 +1,18 @@
 use Rattle.std.proofs.Common.{◌<◌, List, length, sym, subst}
-use Rattle.fb_system.specs.declared.with_places.WithPlaces.{WithPlaces}
+use Rattle.fb_system.specs.declared.with_indexes.WithIndexes.{WithIndexes}
 use Rattle.fb_types.specs.Blocks.{ports_of_event_block}
-use Rattle.fb_system.specs.Stands.{AreWithPlaces}
+use Rattle.fb_system.specs.Stands.{AreWithIndexes}
 use Rattle.fb_system.proofs.EventBlocks.{entry_within, entry_stands}
 use Rattle.fb_system.proofs.interfaces.Interfaces.of_event_block.Goals as goal
 
-pub bounds-as_slice-place : goal.bounds-as_slice-place
-bounds-as_slice-place c =
-    subst (λ (l : List WithPlaces). c.place.result < length l) (sym c.as_slice.ensures)
-    (entry_within _ _ _ c.requires.1.event_blocks c.place.ensures)
+pub bounds-as_slice-index : goal.bounds-as_slice-index
+bounds-as_slice-index c =
+    subst (λ (l : List WithIndexes). c.index.result < length l) (sym c.as_slice.ensures)
+    (entry_within _ _ _ c.requires.1.event_blocks c.index.ensures)
 
 pub returns : goal.returns
 returns c =
     let all = c.args.self.now.event_blocks in
-    subst (λ (x : WithPlaces). AreWithPlaces (ports_of_event_block c.args.kind) x)
-    (sym (rw c.as_slice.ensures at c.index-as_slice-place.is))
-    (entry_stands all c.args.kind c.place.result c.index-as_slice-place.result c.requires.1.event_blocks c.place.ensures)
+    subst (λ (x : WithIndexes). AreWithIndexes (ports_of_event_block c.args.kind) x)
+    (sym (rw c.as_slice.ensures at c.index-as_slice-index.is))
+    (entry_stands all c.args.kind c.index.result c.index-as_slice-index.result c.requires.1.event_blocks c.index.ensures)

@@ -8,10 +8,10 @@ declared-declared-requires c = within_seen _ _ _ _ c.deref.ensures c.self.view_i
 pub parameters-requires : goal.parameters-requires
 parameters-requires c = within_seen _ _ _ _ c.deref.ensures c.self.view_is c.requires
 
-pub input_values-requires-clause-places : goal.input_values-requires-clause-places
-input_values-requires-clause-places c =
+pub input_values-requires-clause-indexes : goal.input_values-requires-clause-indexes
+input_values-requires-clause-indexes c =
     (inputs_seen _ _ c.args.self.now c.args.instance _ _ _ _ c.deref.ensures c.self.view_is (accepted_seen _ _ c.self.invariant.tables c.self.view_is) c.declared-declared.ensures
-    c.parameters.ensures c.ports.ensures c.as_slice.ensures).places
+    c.parameters.ensures c.ports.ensures c.as_slice.ensures).indexes
 
 pub input_values-requires-clause-inputs : goal.input_values-requires-clause-inputs
 input_values-requires-clause-inputs c =

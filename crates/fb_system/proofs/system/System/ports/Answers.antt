@@ -1,4 +1,4 @@
-use Rattle.fb_system.proofs.WithPlacesLaws.{ports_of_instance}
+use Rattle.fb_system.proofs.WithIndexesLaws.{ports_of_instance}
 use Rattle.fb_system.proofs.Seen.{stand_seen, within_seen}
 use Rattle.fb_system.proofs.system.System.ports.Goals as goal
 

@@ -17,7 +17,7 @@ returns-clause-told c ls sent t =
     let n = sizes_of sys sys.paths in
     let fires : List ℕ = fires_of sys ls in
     let u = c.in_ok-turn.ensures.turned sys ls sent t in
-    let more : List Value → List (ℕ × Value) = λ vs. pairs (map (λ k. m.first + k) m.places.now) vs in
+    let more : List Value → List (ℕ × Value) = λ vs. pairs (map (λ k. m.first + k) m.indexes.now) vs in
     let at : List Value → Type 0 =
     λ vs. AreLevels n (fires ++ m.event ∷ []) (tells_of sys ls ++ more vs) ((touches_of sys u.now ++ m.event ∷ []) ++ map (λ (p : ℕ × Value). p.0) (more vs)) c.tell.new.levels
     in
@@ -36,6 +36,6 @@ returns-clause-numbers c =
       fit = record { counted = c.tell.ensures.counted ∙ c.in_ok-turn.ensures.counted ∙ c.requires.dump.fit.counted; within = c.tell.ensures.within };
     })
 
-pub tell-requires-clause-places : goal.tell-requires-clause-places
-tell-requires-clause-places c =
+pub tell-requires-clause-indexes : goal.tell-requires-clause-indexes
+tell-requires-clause-indexes c =
     λ k d h. let w = c.marks_of-marks.ensures.within k d h in omega (arith, w, c.in_ok-turn.ensures.counted, c.requires.dump.fit.counted)

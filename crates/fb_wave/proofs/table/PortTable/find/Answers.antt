@@ -1,5 +1,5 @@
 use Rattle.std.proofs.Common.{List, ap, sym, ◌∙◌}
-use Rattle.fb_check_names.specs.Places.{place_in}
+use Rattle.fb_check_names.specs.Indexes.{index_in}
 use Rattle.fb_types.specs.Headline.{system_of}
 use Rattle.fb_types.specs.Names.{Name}
 use Rattle.fb_wave.proofs.Finding.{begins_three, front_is_port, port_placed, port_there}
@@ -11,14 +11,14 @@ returns-in_err-length-clause-none c names =
     let sys = system_of c.args.self.now.system.now in
     rw c.from_residual.ensures (λ p rest begins. c.in_err-length.ensures.three _ _ _ _ (begins_three sys c.args.text.now p rest names begins))
 
-pub returns-in_err-place-clause-none : goal.returns-in_err-place-clause-none
-returns-in_err-place-clause-none c names =
+pub returns-in_err-index-clause-none : goal.returns-in_err-index-clause-none
+returns-in_err-index-clause-none c names =
     let sys = system_of c.args.self.now.system.now in
     let t = c.args.self.now in
-    rw c.from_residual-in_err-place.ensures
+    rw c.from_residual-in_err-index.ensures
     (λ p rest begins.
     port_placed t c.requires p begins.port
-    (ap (λ (n : Name). place_in t.places n) (sym (front_is_port sys c.args.text.now p rest c.in_ok-length.length names begins c.in_ok-length.ensures.three)) ∙ sym c.in_err-place.ensures))
+    (ap (λ (n : Name). index_in t.indexes n) (sym (front_is_port sys c.args.text.now p rest c.in_ok-length.length names begins c.in_ok-length.ensures.three)) ∙ sym c.in_err-index.ensures))
 
 pub returns-clause-none : goal.returns-clause-none
 returns-clause-none c names =
@@ -27,6 +27,6 @@ returns-clause-none c names =
     none_then c.at-2.result _ _ c.at-2.ensures.none
     (λ none p rest begins.
     none p rest
-    (port_there t c.requires p c.in_ok-place.place begins.port
-    (ap (λ (n : Name). place_in t.places n) (sym (front_is_port sys c.args.text.now p rest c.in_ok-length.length names begins c.in_ok-length.ensures.three)) ∙ sym c.in_ok-place.ensures))
+    (port_there t c.requires p c.in_ok-index.index begins.port
+    (ap (λ (n : Name). index_in t.indexes n) (sym (front_is_port sys c.args.text.now p rest c.in_ok-length.length names begins c.in_ok-length.ensures.three)) ∙ sym c.in_ok-index.ensures))
     begins)

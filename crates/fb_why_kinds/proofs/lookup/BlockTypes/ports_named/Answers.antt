@@ -9,7 +9,7 @@ use Rattle.fb_why_kinds.proofs.lookup.BlockTypes.ports_named.Goals as goal
 pub returns-in-Some : goal.returns-in-Some
 returns-in-Some c =
     let self = c.args.self.now in
-    c.get.ensures.value ∙ ap (slice_get self.event_ports) c.place.ensures
+    c.get.ensures.value ∙ ap (slice_get self.event_ports) c.index.ensures
     ∙ event_ports_are self.library.now self.event_ports c.args.name.now c.in-Some.kind self.of_kinds
     (sym (ap event_block_named c.as_bytes.ensures) ∙ sym c.kind_named.ensures ∙ c.in-Some.is)
 

@@ -8,7 +8,7 @@ use Rattle.fb_resource.specs.declared.resource.WindowDone.TheVariants.{Ran}
 use Rattle.fb_resource.specs.declared.resource.Resource.{Resource}
 use Rattle.fb_window.specs.Mails.{AreGiven}
 use Rattle.fb_window.specs.Noting.{AreNoted}
-use Rattle.fb_laws.proofs.Places.{one_at}
+use Rattle.fb_laws.proofs.Indexes.{one_at}
 use Rattle.fb_window.proofs.Receives.{set_same}
 use Rattle.fb_window.proofs.cores.CoreState.turn.Goals as goal
 use Rattle.fb_window.proofs.cores.CoreState.turn.Goals.{After-index}
@@ -17,17 +17,17 @@ use Rattle.fb_window.proofs.cores.CoreState.turn.Goals.{After-index}
 looked : (c : After-index) → c.index.result.now ≡ c.run_here.new.self
 looked c =
     let xs = c.args.self.now.resources.items in
-    let place = c.args.place in
+    let index = c.args.index in
     let after = c.run_here.new.self in
-    let within : place < length xs = c.requires.place in
-    let same = length-set xs place after in
-    one_at (slice_set xs place after) place c.index.result.now after (slice_get_read (slice_set xs place after) (length (slice_set xs place after)) place c.index.result.now refl (omega arith) c.index.ensures) (set_same xs place after within)
+    let within : index < length xs = c.requires.index in
+    let same = length-set xs index after in
+    one_at (slice_set xs index after) index c.index.result.now after (slice_get_read (slice_set xs index after) (length (slice_set xs index after)) index c.index.result.now refl (omega arith) c.index.ensures) (set_same xs index after within)
 
 pub give-requires-clause-noted : goal.give-requires-clause-noted
 give-requires-clause-noted c =
     let d = (goal.at.give-requires-clause-noted c).After-index in
     let xs = c.args.self.now.resources.items in
-    subst (λ (z : Resource). AreNoted c.note.new.self.horizon (slice_set xs c.args.place z) c.note.new.self.ticks.items) (looked d) (c.note.ensures.noted xs c.requires.noted)
+    subst (λ (z : Resource). AreNoted c.note.new.self.horizon (slice_set xs c.args.index z) c.note.new.self.ticks.items) (looked d) (c.note.ensures.noted xs c.requires.noted)
 
 pub returns-clause-horizon : goal.returns-clause-horizon
 returns-clause-horizon c = c.in_ok-give.ensures.horizon ∙ c.note.ensures.horizon
@@ -35,27 +35,27 @@ returns-clause-horizon c = c.in_ok-give.ensures.horizon ∙ c.note.ensures.horiz
 pub returns-clause-turned : goal.returns-clause-turned
 returns-clause-turned c =
     let old = c.args.self.now in
-    let place = c.args.place in
+    let index = c.args.index in
     let xs = old.resources.items in
     let ps = old.pending.items in
     let before = c.index_mut.result.now in
     let after = c.run_here.new.self in
     let output = c.in_ok-output.output in
     let kept = c.index_mut-2.result.now in
-    let within : place < length xs = c.requires.place in
+    let within : index < length xs = c.requires.index in
     let counted = c.requires.pending in
-    let within_too : place < length ps = omega (arith, within, counted) in
+    let within_too : index < length ps = omega (arith, within, counted) in
     record {
       before = before;
       after = after;
       told = output.lines;
       sent = output.sent;
-      was = slice_get_read xs (length xs) place before refl within c.index_mut.ensures.value;
+      was = slice_get_read xs (length xs) index before refl within c.index_mut.ensures.value;
       ran = subst (λ (z : Inputs). HasRun z old.steps before c.args.to (Ran after output.lines output.sent output.stop)) c.requires.system c.in_ok-output.ensures;
-      given = subst (λ (z : Inputs). AreGiven (system_of z) output.sent.items (slice_set xs place after) c.give.new.resources.items) c.requires.system c.in_ok-give.ensures.given;
+      given = subst (λ (z : Inputs). AreGiven (system_of z) output.sent.items (slice_set xs index after) c.give.new.resources.items) c.requires.system c.in_ok-give.ensures.given;
       kept = kept;
       lines = c.put_behind.new.kept;
-      kept_was = slice_get_read ps (length ps) place kept refl within_too c.index_mut-2.ensures.value;
+      kept_was = slice_get_read ps (length ps) index kept refl within_too c.index_mut-2.ensures.value;
       joined = c.in_ok-put_behind.ensures;
       pending = refl;
     }

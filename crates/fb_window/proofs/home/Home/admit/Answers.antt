@@ -11,13 +11,13 @@ use Rattle.fb_window.proofs.HomeIs.{home_ran, home_rested, resting_none, resting
 use Rattle.fb_window.proofs.home.Home.admit.Goals as goal
 
 pub returns-in-Some-rested : goal.returns-in-Some-rested
-returns-in-Some-rested c = λ i limit bounds xs lists place x at rested home.
+returns-in-Some-rested c = λ i limit bounds xs lists index x at rested home.
     let was : resting_of x ≡ Some c.in-Some-rested.resource = sym rested ∙ c.in-Some-rested.is in
     let stop = resting_some x c.in-Some-rested.resource was in
     let first : into_iter_items c.args.pending.now ≡ c.in-Some.kept ∷ into_iter_items c.next.new.self = c.in-Some.ensures.items in
-    home_rested i limit bounds xs lists place x c.in-Some.kept c.new.result (into_iter_items c.next.new.self) (into_iter_items c.args.dones.now) c.args.self.now c.push.new.self stop.0
+    home_rested i limit bounds xs lists index x c.in-Some.kept c.new.result (into_iter_items c.next.new.self) (into_iter_items c.args.dones.now) c.args.self.now c.push.new.self stop.0
     at stop.1
-    (subst (λ (z : List (Vec Line)). IsHomeTo i limit bounds xs lists place z (into_iter_items c.args.dones.now) c.args.self.now) first home)
+    (subst (λ (z : List (Vec Line)). IsHomeTo i limit bounds xs lists index z (into_iter_items c.args.dones.now) c.args.self.now) first home)
     (record {
       resources = c.in_ok-push.ensures.resources ∙ ap (λ (z : Resource). c.args.self.now.resources.items ++ z ∷ []) stop.2;
       pending = c.in_ok-push.ensures.pending;
@@ -26,17 +26,17 @@ returns-in-Some-rested c = λ i limit bounds xs lists place x at rested home.
     c.new.ensures.items
 
 pub returns-in_ok-push-in-Some-Ran : goal.returns-in_ok-push-in-Some-Ran
-returns-in_ok-push-in-Some-Ran c = λ i limit bounds xs lists place x at rested home.
+returns-in_ok-push-in-Some-Ran c = λ i limit bounds xs lists index x at rested home.
     let none : c.args.rested ≡ None = cc in
     let live = resting_none x (sym rested ∙ none) in
     let first : into_iter_items c.args.pending.now ≡ c.in-Some.kept ∷ into_iter_items c.next.new.self = c.in-Some.ensures.items in
     let done : into_iter_items c.args.dones.now ≡ Ran c.in-Some-Ran.resource c.in-Some-Ran.lines c.in-Some-Ran.sent c.in-Some-Ran.field-0-3 ∷ into_iter_items c.next-2.new.self =
     c.in-Some-Ran.ensures.items ∙ ap (λ (z : WindowDone). z ∷ into_iter_items c.next-2.new.self) c.in-Some-Ran.field-0-is in
-    home_ran i limit bounds xs lists place x c.in-Some-Ran.resource c.in-Some.kept c.in-Some-Ran.lines c.in_ok-keep-in-Some-Ran.field-0 c.in-Some-Ran.sent c.in-Some-Ran.field-0-3
+    home_ran i limit bounds xs lists index x c.in-Some-Ran.resource c.in-Some.kept c.in-Some-Ran.lines c.in_ok-keep-in-Some-Ran.field-0 c.in-Some-Ran.sent c.in-Some-Ran.field-0-3
     (into_iter_items c.next.new.self) (into_iter_items c.next-2.new.self) c.args.self.now c.push-in-Some-Ran.new.self
     at live
-    (subst (λ (z : List WindowDone). IsHomeTo i limit bounds xs lists place (c.in-Some.kept ∷ into_iter_items c.next.new.self) z c.args.self.now) done
-    (subst (λ (z : List (Vec Line)). IsHomeTo i limit bounds xs lists place z (into_iter_items c.args.dones.now) c.args.self.now) first home))
+    (subst (λ (z : List WindowDone). IsHomeTo i limit bounds xs lists index (c.in-Some.kept ∷ into_iter_items c.next.new.self) z c.args.self.now) done
+    (subst (λ (z : List (Vec Line)). IsHomeTo i limit bounds xs lists index z (into_iter_items c.args.dones.now) c.args.self.now) first home))
     (record {
       resources = c.in_ok-push-in-Some-Ran.ensures.resources;
       pending = c.in_ok-push-in-Some-Ran.ensures.pending;

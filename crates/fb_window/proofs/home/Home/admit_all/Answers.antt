@@ -6,7 +6,7 @@ use Rattle.fb_window.specs.Homes.{IsHomeTo}
 use Rattle.fb_window.specs.Jobs.{resting_of}
 use Rattle.fb_window.proofs.HomeIs.{home_all}
 use Rattle.fb_window.proofs.Leaves.{length_join}
-use Rattle.fb_laws.proofs.Places.{map_has, middle_at, push_counted}
+use Rattle.fb_laws.proofs.Indexes.{map_has, middle_at, push_counted}
 use Rattle.fb_window.proofs.home.Home.admit_all.Goals as goal
 
 pub loop-rested-preserved : goal.loop-rested-preserved

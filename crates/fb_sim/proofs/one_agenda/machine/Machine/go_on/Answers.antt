@@ -10,31 +10,31 @@ pub take-requires-clause-ready : goal.take-requires-clause-ready
 take-requires-clause-ready c =
     let inv = c.loop-self.invariant in
     let found = c.loop-self-test.ensures in
-    machine_left c.args.system.now c.args.limit inv.ready.0 c.take_least_into.new.place.key c.take_least_into.new.place.event c.loop-self.self _ inv.ready.1 found.left found.found found.least found.due
+    machine_left c.args.system.now c.args.limit inv.ready.0 c.take_least_into.new.index.key c.take_least_into.new.index.event c.loop-self.self _ inv.ready.1 found.left found.found found.least found.due
 
 pub take-requires-clause-stands : goal.take-requires-clause-stands
 take-requires-clause-stands c =
     let stands = c.loop-self.invariant.stands in
-    let k = c.take_least_into.new.place.key in
+    let k = c.take_least_into.new.index.key in
     (stands.0.state, without k stands.0.agenda, at_left c.args.system.now k stands.0 c.loop-self.self _ stands.1 c.loop-self-test.ensures.left)
 
 pub take-requires-clause-event : goal.take-requires-clause-event
-take-requires-clause-event c = (c.loop-self.invariant.ready.1.queues.order.waits c.take_least_into.new.place.key c.take_least_into.new.place.event c.loop-self-test.ensures.found).event
+take-requires-clause-event c = (c.loop-self.invariant.ready.1.queues.order.waits c.take_least_into.new.index.key c.take_least_into.new.index.event c.loop-self-test.ensures.found).event
 
 pub take-requires-clause-own : goal.take-requires-clause-own
-take-requires-clause-own c = (c.loop-self.invariant.ready.1.queues.order.waits c.take_least_into.new.place.key c.take_least_into.new.place.event c.loop-self-test.ensures.found).own
+take-requires-clause-own c = (c.loop-self.invariant.ready.1.queues.order.waits c.take_least_into.new.index.key c.take_least_into.new.index.event c.loop-self-test.ensures.found).own
 
 pub take-requires-clause-typed : goal.take-requires-clause-typed
-take-requires-clause-typed c = (c.loop-self.invariant.ready.1.queues.order.waits c.take_least_into.new.place.key c.take_least_into.new.place.event c.loop-self-test.ensures.found).typed
+take-requires-clause-typed c = (c.loop-self.invariant.ready.1.queues.order.waits c.take_least_into.new.index.key c.take_least_into.new.index.event c.loop-self-test.ensures.found).typed
 
 pub take-requires-clause-named : goal.take-requires-clause-named
-take-requires-clause-named c = (c.loop-self.invariant.ready.1.queues.order.waits c.take_least_into.new.place.key c.take_least_into.new.place.event c.loop-self-test.ensures.found).resource
+take-requires-clause-named c = (c.loop-self.invariant.ready.1.queues.order.waits c.take_least_into.new.index.key c.take_least_into.new.index.event c.loop-self-test.ensures.found).resource
 
 pub returns-in-Some-clause-pauses : goal.returns-in-Some-clause-pauses
 returns-in-Some-clause-pauses c start is =
     let i = c.args.system.now in
-    let k = c.take_least_into.new.place.key in
-    let e = c.take_least_into.new.place.event in
+    let k = c.take_least_into.new.index.key in
+    let e = c.take_least_into.new.index.event in
     let found = c.loop-self-test.ensures in
     let comes = c.loop-self.invariant.comes start is in
     let d = comes.0 in
@@ -49,8 +49,8 @@ returns-in-Some-clause-pauses c start is =
 pub returns-then-len-many-clause-pauses : goal.returns-then-len-many-clause-pauses
 returns-then-len-many-clause-pauses c start is =
     let i = c.args.system.now in
-    let k = c.take_least_into.new.place.key in
-    let e = c.take_least_into.new.place.event in
+    let k = c.take_least_into.new.index.key in
+    let e = c.take_least_into.new.index.event in
     let found = c.loop-self-test.ensures in
     let comes = c.loop-self.invariant.comes start is in
     let d = comes.0 in
@@ -68,10 +68,10 @@ pub returns-then-len-many-clause-sooner : goal.returns-then-len-many-clause-soon
 returns-then-len-many-clause-sooner c =
     let inv = c.loop-self.invariant in
     let found = c.loop-self-test.ensures in
-    let k = c.take_least_into.new.place.key in
+    let k = c.take_least_into.new.index.key in
     let spent = c.in_ok-reason.ensures.spent c.in_default.is in
     let past = inv.ready.1.past k.resource spent.before spent.was in
-    let later = (inv.ready.1.queues.order.waits k c.take_least_into.new.place.event found.found).later in
+    let later = (inv.ready.1.queues.order.waits k c.take_least_into.new.index.event found.found).later in
     let falls = all_falls c.args.horizon c.args.limit k c.loop-self.self.meters.items c.take.new.self.meters.items spent (omega (arith, past, later)) found.below in
     let left = inv.left in
     omega (arith, falls, left)
@@ -80,17 +80,17 @@ pub loop-self-smaller : goal.loop-self-smaller
 loop-self-smaller c =
     let ready = c.loop-self.invariant.ready in
     let found = c.loop-self-test.ensures in
-    let k = c.take_least_into.new.place.key in
+    let k = c.take_least_into.new.index.key in
     let spent = c.in_ok-reason.ensures.spent c.in_default.is in
     let past = ready.1.past k.resource spent.before spent.was in
-    let later = (ready.1.queues.order.waits k c.take_least_into.new.place.event found.found).later in
+    let later = (ready.1.queues.order.waits k c.take_least_into.new.index.event found.found).later in
     all_falls c.args.horizon c.args.limit k c.loop-self.self.meters.items c.take.new.self.meters.items spent (omega (arith, past, later)) found.below
 
 pub loop-self-preserved : goal.loop-self-preserved
 loop-self-preserved c =
     let i = c.args.system.now in
-    let k = c.take_least_into.new.place.key in
-    let e = c.take_least_into.new.place.event in
+    let k = c.take_least_into.new.index.key in
+    let e = c.take_least_into.new.index.event in
     let found = c.loop-self-test.ensures in
     let inv = c.loop-self.invariant in
     let going = c.in_default.is in

@@ -1,0 +1,21 @@
+-- Names by their indices (this project's profile).
+use Rattle.std.specs.Prelude.{◌≡◌, ℕ, List, map, Option, position}
+use Rattle.std.specs.Ordering.{nat_cmp}
+use Rattle.std.specs.Cmp.Lexicographic.{slice_cmp}
+use Rattle.std.specs.BTreeMap.{BTreeMap, get_by}
+use Rattle.std.specs.Borrow.{Bor}
+use Rattle.fb_types.specs.Names.{Name, same_name}
+use Rattle.fb_types.specs.Repeated.{Twice}
+
+-- names that are borrowed
+abbrev pub names_in : List (Bor Name) → List Name
+names_in ns = map (λ n. n.now) ns
+
+-- what the map has for a name
+abbrev pub index_in : BTreeMap (Bor Name) ℕ → Name → Option ℕ
+index_in indexes n = get_by (λ k. slice_cmp nat_cmp n k.now) indexes
+
+-- The names differ, and the map gives the index of each.
+pub record IsIndex (names : List Name) (indexes : BTreeMap (Bor Name) ℕ) : Type 0 where
+  pub once : ¬ (Twice names)
+  pub index : (n : Name) → index_in indexes n ≡ position (same_name n) names

@@ -1,0 +1,18 @@
+use Rattle.std.proofs.Common.{◌∙◌, map, take, arith}
+use Rattle.std.proofs.lemmas.Grind.{common_steps}
+use Rattle.fb_event.specs.Emissions.{emission_at}
+use Rattle.fb_event.proofs.Emissions.{push-IsWellFormed}
+use Rattle.fb_event.proofs.emission.emit_each_bare.Goals as goal
+
+pub loop-event-preserved : goal.loop-event-preserved
+loop-event-preserved c = record {
+  emitted = grind (arith, common_steps);
+  well_formed = λ all. rw c.in_ok-emit_bare.ensures.ok (push-IsWellFormed _ _ _ (c.loop-event.invariant.well_formed all) (c.requires.events _ _ c.loop-event-test.true));
+}
+
+pub returns-in_err-emit_bare-clause-kept : goal.returns-in_err-emit_bare-clause-kept
+returns-in_err-emit_bare-clause-kept c =
+    (map (emission_at c.args.block) (take c.loop-event.event-index c.args.events.now), c.in_err-emit_bare.ensures.err ∙ c.loop-event.invariant.emitted)
+
+pub returns-clause-kept : goal.returns-clause-kept
+returns-clause-kept c = (map (emission_at c.args.block) (take c.loop-event.event-index c.args.events.now), c.loop-event.invariant.emitted)

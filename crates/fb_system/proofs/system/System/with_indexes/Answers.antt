@@ -1,0 +1,12 @@
+use Rattle.fb_system.proofs.WithIndexesLaws.{with_indexes_of_instance}
+use Rattle.fb_system.proofs.Seen.{stand_seen, within_seen}
+use Rattle.fb_system.proofs.system.System.with_indexes.Goals as goal
+
+pub kind-requires : goal.kind-requires
+kind-requires c = within_seen _ _ _ _ c.deref-whole.ensures c.self.view_is c.requires
+
+pub with_indexes_of_type-requires : goal.with_indexes_of_type-requires
+with_indexes_of_type-requires c = record { tables = stand_seen _ _ c.deref-whole.ensures c.self.invariant.tables; known = c.kind.ensures.known }
+
+pub returns : goal.returns
+returns c = with_indexes_of_instance _ _ _ _ _ _ c.deref-whole.ensures c.self.view_is c.kind.ensures.is c.kind.ensures.known c.with_indexes_of_type.ensures

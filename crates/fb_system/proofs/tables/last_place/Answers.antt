@@ -1,6 +1,0 @@
-use Rattle.std.proofs.Common.{◌∙◌}
-use Rattle.fb_system.proofs.Wired.{last_is}
-use Rattle.fb_system.proofs.tables.last_place.Goals as goal
-
-pub returns : goal.returns
-returns c = c.in_ok-place.ensures.value ∙ last_is c.args.route.now

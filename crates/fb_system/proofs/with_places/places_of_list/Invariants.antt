@@ -1,7 +1,0 @@
-use Rattle.std.proofs.Common.{◌≡◌, take, map}
-use Rattle.fb_system.proofs.Listed.{own_place}
-use Rattle.fb_system.proofs.with_places.places_of_list.Given as goal
-
--- the indices of the names so far, in the order of the list
-abbrev pub invariant-loop-name : goal.invariant-loop-name
-invariant-loop-name l = l.numbers.items ≡ map (own_place l.variables) (take l.name-index l.list)
