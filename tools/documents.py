@@ -3,7 +3,8 @@
 
 docs/ARCHITECTURE.md has each crate of crates.txt in one table row, with all its modules; docs/PROOFS.md each but those of
 tests, with functions, clauses and definitions that there are; the blocks of docs/READING.md stand word for word in the file
-that is named before each; docs/DEFINITIONS.md has every file of definitions; and a function as `fb_sim::run::run` or a file as
+that is named before each; docs/DEFINITIONS.md has every file of definitions; the example in the comment of a public
+item is the body of the test that it names; and a function as `fb_sim::run::run` or a file as
 `docs/FORMATS.md`, wherever a page names one, is there. Where something is not so, this says it and ends with status 1. ./gate
 does it."""
 
@@ -11,6 +12,7 @@ import glob
 import os
 import re
 import sys
+import textwrap
 
 from kit import TOP
 
@@ -126,12 +128,39 @@ def blocks_stand():
     return faults
 
 
+def tests():
+    """Returns the body of each test, by name, without its indentation."""
+    found = {}
+    for place in glob.glob(f"{TOP}/crates/*/src/**/*.rt", recursive=True):
+        for name, body in re.findall(r"^#\[test\]\nfn (\w+)\(rt: HostRuntime\) \{\n(.*?)^\}$", text_of(os.path.relpath(place, TOP)), re.M | re.S):
+            found[name] = textwrap.dedent(body)
+    return found
+
+
+def examples_are_tests():
+    """What is to be said of the examples in the comments of public items: each is the body of the test that it names, and
+    each test of a file examples.rt is the example of an item."""
+    faults, bodies, shown = [], tests(), set()
+    for place in sorted(glob.glob(f"{TOP}/crates/*/src/**/*.rt", recursive=True)):
+        here = os.path.relpath(place, TOP)
+        comments = "\n".join(it.strip() for it in text_of(here).splitlines() if it.lstrip().startswith("///"))
+        text = re.sub(r"^///(?: |$)", "", comments, flags=re.M)
+        for name, body in re.findall(r"^# Example\n\nThe test `(\w+)`[^\n]*\n\n```\n(.*?)^```$", text, re.M | re.S):
+            shown.add(name)
+            if bodies.get(name) != body:
+                faults.append(f"{here}: the example is not the body of the test {name}")
+    for place in sorted(glob.glob(f"{TOP}/crates/*/src/tests/examples.rt")):
+        here = os.path.relpath(place, TOP)
+        faults += [f"{here}: {it} is the example of no item" for it in re.findall(r"^fn (\w+)\(rt: HostRuntime", text_of(here), re.M) if it not in shown]
+    return faults
+
+
 def main():
     """Looks at the documents and returns the status."""
     pages = ["README.md", "CONTRIBUTING.md", "CHANGELOG.md", *[f"docs/{it}" for it in sorted(os.listdir(f"{TOP}/docs")) if it.endswith(".md")], "bench/README.md", "examples/README.md"]
     proved = [it for it in crates() if it != "fbsim" and not it.endswith("_tests")]
     faults = has_all("docs/ARCHITECTURE.md", crates()) + has_all("docs/PROOFS.md", proved)
-    faults += modules_told() + proofs_told() + definitions_told() + blocks_stand()
+    faults += modules_told() + proofs_told() + definitions_told() + blocks_stand() + examples_are_tests()
     for page in pages:
         faults += names_told(page)
     for it in faults:

@@ -39,6 +39,25 @@ fn elaborate(alloc: Global, case: &Case) -> Result<Given, CheckError>
 ///
 /// `Refused` with the least number that applies if the inputs are not accepted, and `Memory`. A type with 2^32 ports or
 /// more counts as out of memory.
+///
+/// # Example
+///
+/// The test `an_application_is_accepted` of `fb_parts_tests`:
+///
+/// ```
+/// let declaration = b"APPLICATION A\n\
+///     FBS S : E_RESTART; D : E_DELAY(DT := T#5ms); END_FBS\n\
+///     EVENT_CONNECTIONS S.COLD TO D.START; END_CONNECTIONS\n\
+///     END_APPLICATION";
+/// let library = read_library(rt.alloc(), declaration).expect(&rt, "library");
+/// let deploy = Deploy::single(rt.alloc()).expect(&rt, "memory");
+/// let stimuli = read_stimuli(rt.alloc(), b"tick,event,values\n2,D.STOP,\n").expect(
+///     &rt, "stimuli",
+/// );
+/// let system = accept(rt.alloc(), library, deploy, stimuli).expect(&rt, "accepted");
+/// assert!(rt; system.resources() == 1);
+/// discard_system(system);
+/// ```
 pub fn accept(
     alloc: Global,
     library: Library,

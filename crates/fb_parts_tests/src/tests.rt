@@ -7,6 +7,7 @@ mod agendas;
 mod belonging;
 mod bodies;
 mod chain;
+mod examples;
 mod expressions;
 mod hand;
 mod inputs;

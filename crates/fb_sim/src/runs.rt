@@ -93,6 +93,36 @@ fn run_system<R: Threads + Wait + Sync, W: Write, P: Gate>(
 /// # Errors
 /// `BadOption` before all else; then `Refused`, after which nothing was written; `Memory`, after which a beginning of
 /// the trace was written; and `Write` with the count of the bytes written.
+///
+/// # Example
+///
+/// The test `a_cycle_runs_for_eight_ticks` of `fb_sim_tests`:
+///
+/// ```
+/// let inputs = Inputs {
+///     declaration: b"APPLICATION A\n\
+///         FBS S : E_RESTART; C : E_CYCLE(DT := T#3ms); END_FBS\n\
+///         EVENT_CONNECTIONS S.COLD TO C.START; END_CONNECTIONS\n\
+///         END_APPLICATION",
+///     deploy: None,
+///     stimuli: None,
+/// };
+/// let options = Options {
+///     horizon: 8,
+///     steps: 10_000,
+///     workers: 2,
+///     form: Form::One,
+/// };
+/// let mut out = Vec::new(rt.alloc());
+/// let outcome = run(&rt, rt.alloc(), &inputs, options, &mut out, &OpenGate).expect(&rt, "run");
+/// assert!(rt; outcome == Outcome::End(8));
+/// let trace = "0 MAIN < S.COLD\n\
+///     0 MAIN > C.START DT=3\n\
+///     3 MAIN < C.EO\n\
+///     6 MAIN < C.EO\n\
+///     end 8\n";
+/// assert!(rt; out.as_slice() == trace.as_bytes());
+/// ```
 pub fn run<R: Threads + Wait + Sync, W: Write, P: Gate>(
     rt: &R,
     alloc: Global,

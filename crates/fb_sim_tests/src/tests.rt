@@ -4,6 +4,7 @@
 
 mod advances;
 mod board;
+mod examples;
 mod gates;
 mod later_rounds;
 mod options;

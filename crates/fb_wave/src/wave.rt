@@ -26,6 +26,20 @@ use std::io::{BufRead, Write};
 /// `Refused` with the number of the first line that no trace of the system has behind the lines before it. So no trace is
 /// refused. What was written then is the beginning of a dump and ends at a line. The same holds where the reader fails or
 /// memory runs out. Where the writer fails it got as many bytes as the error says, but not all.
+///
+/// # Example
+///
+/// The test `a_trace_is_shown_as_waves` of `fb_parts_tests`:
+///
+/// ```
+/// let declaration = "APPLICATION A FBS S : E_RESTART; END_FBS END_APPLICATION";
+/// let system = accepted(&rt, rt.alloc(), declaration, "", "tick,event,values\n");
+/// let mut trace: &[u8] = b"0 MAIN < S.COLD\nend 5\n";
+/// let mut dump = Vec::new(rt.alloc());
+/// write_wave(rt.alloc(), &system, &mut trace, &mut dump).expect(&rt, "waves");
+/// assert!(rt; dump.as_slice().ends_with(b"#5\n"));
+/// discard_system(system);
+/// ```
 pub fn write_wave<R: BufRead, W: Write>(
     alloc: Global,
     system: &System,

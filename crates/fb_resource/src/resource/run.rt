@@ -65,6 +65,34 @@ impl Resource {
     }
 
     /// Takes all events below a tick, in milliseconds, or up to its stop. In each tick it has the given number of steps.
+    ///
+    /// # Example
+    ///
+    /// The test `a_resource_runs_below_a_tick` of `fb_parts_tests`:
+    ///
+    /// ```
+    /// let declaration = "APPLICATION A\n\
+    ///     FBS S : E_RESTART; C : E_CYCLE(DT := T#3ms); END_FBS\n\
+    ///     EVENT_CONNECTIONS S.COLD TO C.START; END_CONNECTIONS\n\
+    ///     END_APPLICATION";
+    /// let system = accepted(&rt, rt.alloc(), declaration, "", "tick,event,values\n");
+    /// let resource = opened(&rt, rt.alloc(), &system, 0);
+    /// assert!(rt; resource.clock() <= 8 && resource.stopped().is_none());
+    /// let WindowDone::Ran {
+    ///     resource,
+    ///     lines,
+    ///     sent,
+    ///     stop,
+    /// } = resource.run_to(rt.alloc(), &system, 8, 10_000)
+    /// else {
+    ///     panic!(rt; "memory");
+    /// };
+    /// assert!(rt; resource.clock() == 8 && resource.next() == Some(9));
+    /// assert!(rt; lines.len() == 4 && sent.is_empty() && stop.is_none());
+    /// discard_resource(resource);
+    /// forget((lines, sent));
+    /// discard_system(system);
+    /// ```
     pub fn run_to(mut self, alloc: Global, system: &System, to: u64, steps: u64) -> WindowDone
         requires of { IsOf system.now self }
         requires live { self.stopped ≡ None }

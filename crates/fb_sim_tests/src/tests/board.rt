@@ -13,7 +13,7 @@ use std::sync::atomic::Ordering::SeqCst;
 use std::thread;
 use std::thread::Threads;
 
-fn square(job: u32) -> u64
+pub fn square(job: u32) -> u64
     ensures { result ≡ job * job }
 {
     let job = u64::from(job);
