@@ -9,13 +9,13 @@ use Rattle.fb_types.specs.Text.{lines_text, last_line}
 use Rattle.fb_types.specs.declared.run.Form.{Form}
 use Rattle.fb_trace.specs.Progress.{IsPartWritten}
 use Rattle.fb_sim.specs.Given.{Given}
-use Rattle.fb_sim.specs.Serial as serial
+use Rattle.fb_trace.specs.End as trace
 use Rattle.fb_sim.specs.Serial.{Declares, IsRightly}
 use Rattle.fb_sim.specs.Sessions.{Session}
 use Rattle.fb_sim.specs.declared.state.Stage.{Stage}
 use Rattle.fb_sim.specs.declared.state.Stage.TheVariants as going
-use Rattle.fb_sim.specs.declared.outcome.Outcome.{Outcome}
-use Rattle.fb_sim.specs.declared.outcome.Outcome.TheVariants.{End, Stop}
+use Rattle.fb_trace.specs.declared.last.Outcome.{Outcome}
+use Rattle.fb_trace.specs.declared.last.Outcome.TheVariants.{End, Stop}
 use Rattle.fb_sim.specs.declared.outcome.RunError.{RunError}
 use Rattle.fb_sim.specs.declared.outcome.RunError.TheVariants.{Refused, Memory, Write, BadOption, Failed}
 
@@ -66,7 +66,7 @@ stage_after (Stop mark) = going.Stopped mark
 pub record HasAdvanced (s t : Session) (to : ℕ) (old new : Option (List ℕ)) (o : Outcome) : Type 0 where
   pub later : s.to < to
   pub bytes : List ℕ
-  pub is_next : IsNext s to bytes (serial.ending_of o)
+  pub is_next : IsNext s to bytes (trace.ending_of o)
   pub got : Appends old new bytes
   pub now : t ≡ record s { to = to; stage = stage_after o }
 

@@ -8,12 +8,12 @@ use Rattle.fb_trace.specs.Progress.{IsPartWritten, bounded}
 use Rattle.fb_sim.specs.Advances.{IsNext, stage_after}
 use Rattle.fb_sim.specs.Given.{Given}
 use Rattle.fb_sim.specs.Rounds.{IsShort}
-use Rattle.fb_sim.specs.Serial as serial
+use Rattle.fb_trace.specs.End as trace
 use Rattle.fb_sim.specs.Serial.{Declares}
 use Rattle.fb_sim.specs.Sessions.{Session}
 use Rattle.fb_sim.specs.declared.options.Options.{Options}
-use Rattle.fb_sim.specs.declared.outcome.Outcome.{Outcome}
-use Rattle.fb_sim.specs.declared.outcome.Outcome.TheVariants.{End, Stop}
+use Rattle.fb_trace.specs.declared.last.Outcome.{Outcome}
+use Rattle.fb_trace.specs.declared.last.Outcome.TheVariants.{End, Stop}
 use Rattle.fb_sim.specs.declared.outcome.RunError.{RunError}
 use Rattle.fb_sim.specs.declared.outcome.RunError.TheVariants.{Refused, Memory, Write, BadOption, Failed}
 use Rattle.fb_sim.specs.declared.state.Stage.TheVariants as going
@@ -89,7 +89,7 @@ Counted n m text = (m.bytes ≡ bounded (n.bytes + length text)) × (m.lines ≡
 -- The text of the way to the later tick was written, or a part of it, or memory ran out.
 abbrev pub GoesOn : (s t : Session) (to : ℕ) → (old new : Option (List ℕ)) → (n m : ReportTally) → Result Outcome RunError → Type 0
 GoesOn s t to old new n m (Ok o) =
-    (text : List ℕ) × IsNext s to text (serial.ending_of o) × Appends old new text × (t ≡ record s { to = to; stage = stage_after o }) × Counted n m text
+    (text : List ℕ) × IsNext s to text (trace.ending_of o) × Appends old new text × (t ≡ record s { to = to; stage = stage_after o }) × Counted n m text
 GoesOn s t to old new n m (Err Memory) = (new ≡ old) × (m ≡ n)
 GoesOn s t to old new n m (Err (Write k)) = (text : List ℕ) × (end : Ending) × IsNext s to text end × IsShort old new text n.bytes (Write k) × (m ≡ n)
 GoesOn s t to old new n m (Err (Refused r)) = ⊥
@@ -167,7 +167,7 @@ Comes i o t first out quiet err count m (Err e) = Fails i o first out e × HasTo
 
 -- what a run has written in the end
 abbrev pub Ends : Inputs → Options → (old new : Option (List ℕ)) → Result Outcome RunError → Type 0
-Ends i o old new (Ok x) = HasWritten i o old new (serial.ending_of x)
+Ends i o old new (Ok x) = HasWritten i o old new (trace.ending_of x)
 Ends i o old new (Err e) = Fails i o old new e
 
 -- and what it has told

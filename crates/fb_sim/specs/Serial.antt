@@ -19,8 +19,8 @@ use Rattle.fb_check.specs.Refusals as judge
 use Rattle.fb_trace.specs.Progress.{IsPartWritten}
 use Rattle.fb_sim.specs.Given.{Given}
 use Rattle.fb_sim.specs.declared.options.Options.{Options}
-use Rattle.fb_sim.specs.declared.outcome.Outcome.{Outcome}
-use Rattle.fb_sim.specs.declared.outcome.Outcome.TheVariants.{End, Stop}
+use Rattle.fb_trace.specs.declared.last.Outcome.{Outcome}
+use Rattle.fb_trace.specs.declared.last.Outcome.TheVariants.{End, Stop}
 use Rattle.fb_sim.specs.declared.outcome.Refusal.{Refusal}
 use Rattle.fb_sim.specs.declared.outcome.Refusal.TheVariants.{Declaration, Deployment, Stimuli, Check}
 use Rattle.fb_sim.specs.declared.outcome.RunError.{RunError}
@@ -124,10 +124,6 @@ IsRefusal given BadOption = ⊥
 IsRefusal given Failed = ⊥
 
 -- ---- What is written
-
-abbrev pub ending_of : Outcome → Ending
-ending_of (End h) = AtHorizon h
-ending_of (Stop m) = AtStop m.tick m.resource m.reason
 
 -- The bytes are the trace of what the text declares, under options that are in their ranges.
 pub record AreTrace (given : Given) (o : Options) (bytes : List ℕ) (end : Ending) : Type 0 where

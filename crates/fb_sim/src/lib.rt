@@ -24,9 +24,10 @@ mod tally;
 pub mod with_progress;
 mod work;
 
+pub use fb_trace::Outcome;
 pub use fb_types::run::Form;
 pub use options::{Inputs, Options};
-pub use outcome::{Outcome, Refusal, RunError};
+pub use outcome::{Refusal, RunError};
 pub use progress::Round;
 pub use reading::{discard, open};
 pub use rounds::round;

@@ -11,12 +11,11 @@ ghost use Rattle.std.specs.Prelude.{◌≡◌, [], IfOk, IfErr, Err};
 ghost use Rattle.fb_types.specs.Headline.{system_of, stimuli_of};
 ghost use Rattle.fb_types.specs.Simulation.{opening_agenda, opening_state};
 ghost use Rattle.fb_sim.specs.Machines.{IsAt, IsReady};
-ghost use Rattle.fb_trace.specs.End as trace;
-ghost use Rattle.fb_trace.specs.End.{EndsIn};
+ghost use Rattle.fb_trace.specs.End.{EndsIn, ending_of};
 ghost use Rattle.fb_sim.specs.Given.{Given};
 ghost use Rattle.fb_sim.specs.OneAgenda.{RunsThrough};
 ghost use Rattle.fb_sim.specs.Rounds.{FailsRun, RunsOn};
-ghost use Rattle.fb_sim.specs.Serial.{AreWithin, Declares, Writes, ending_of};
+ghost use Rattle.fb_sim.specs.Serial.{AreWithin, Declares, Writes};
 
 mod deliver;
 mod machine;
@@ -27,27 +26,17 @@ use crate::drive::later;
 use crate::one_agenda::machine::Machine;
 use crate::one_agenda::pause::Pause;
 use crate::options::Options;
-use crate::outcome::{Outcome, RunError};
+use crate::outcome::RunError;
 use crate::rounds::hand_out;
 use crate::runs::close;
 use fb_system::System;
-use fb_trace::RunEnd;
+use fb_trace::Outcome;
 use std::alloc::Global;
 use std::io::Write;
 
 /// This many lines are gathered before they are written: enough for few writes, and few enough to stay in a processor's
 /// cache until then.
 const MANY_LINES: usize = 4096;
-
-/// The answer of a run that ended so.
-fn outcome_of(end: RunEnd) -> Outcome
-    ensures { ending_of result ≡ trace.ending_of end }
-{
-    match end {
-        RunEnd::Horizon(horizon) => Outcome::End(horizon),
-        RunEnd::Stop(mark) => Outcome::Stop(mark),
-    }
-}
 
 /// Takes all events below the horizon, or up to the first stop, and writes their lines, but no last line. The count is
 /// that of the bytes written. No memory is allocated between the first byte of a piece and its last.
@@ -56,13 +45,13 @@ fn run_through<W: Write>(
     machine: &mut Machine,
     options: Options,
     out: &mut W,
-) -> Result<(RunEnd, u128), RunError>
+) -> Result<(Outcome, u128), RunError>
     requires options { AreWithin options }
     requires ready { IsReady system.now options.steps 0 machine.old }
     requires at { IsAt system.now (opening_state (system_of system.now)) (opening_agenda (system_of system.now) (stimuli_of system.now)) machine.old }
     requires none { machine.old.given.outbox.lines.items ≡ [] }
     ensures ends { IfOk result (λ r. EndsIn (system_of system.now) r.0) }
-    ensures ran { IfOk result (λ r. RunsThrough system.now options (W.contents out.old) (W.contents out.new) (trace.ending_of r.0) r.1) }
+    ensures ran { IfOk result (λ r. RunsThrough system.now options (W.contents out.old) (W.contents out.new) (ending_of r.0) r.1) }
     ensures failed { IfErr result (λ e. RunsOn system.now options [] (W.contents out.old) (W.contents out.new) (Err e)) }
 {
     system.facts();
@@ -75,8 +64,8 @@ fn run_through<W: Write>(
         }
         match pause {
             Pause::Lines => machine.clear_lines(),
-            Pause::Horizon => return Ok((RunEnd::Horizon(options.horizon), written)),
-            Pause::Stop(mark) => return Ok((RunEnd::Stop(mark), written)),
+            Pause::Horizon => return Ok((Outcome::End(options.horizon), written)),
+            Pause::Stop(mark) => return Ok((Outcome::Stop(mark), written)),
         }
     }
 }
@@ -95,5 +84,5 @@ pub(crate) fn run_one_agenda<W: Write>(
     let mut machine = Machine::open(alloc, system)?;
     let (end, written) = run_through(system, &mut machine, options, out)?;
     close(out, system, end, written)?;
-    Ok(outcome_of(end))
+    Ok(end)
 }

@@ -1,4 +1,4 @@
-//! How a run ends, and why there is none.
+//! Why there is no run, or no whole one.
 
 ghost use Rattle.std.specs.Prelude.{◌≡◌};
 ghost use Rattle.fb_sim.specs.declared.outcome.RunError.TheVariants.{Memory};
@@ -7,19 +7,9 @@ use fb_check::CheckError;
 use fb_inputs::InputError;
 use fb_phase::PhaseError;
 use fb_read::ReadError;
-use fb_types::StopMark;
 use fb_window::Failed;
 use std::alloc::AllocError;
 use thiserror::Error;
-
-/// How a run ends.
-#[derive(Clone, Copy, Debug, PartialEq, Eq)]
-pub enum Outcome {
-    /// It came to its horizon, in ticks of one millisecond.
-    End(u64),
-    /// A resource stopped before.
-    Stop(StopMark),
-}
 
 /// What refuses the inputs: the first of the declaration, the deployment, the stimuli and the check. Its error is never
 /// the variant `Memory`: a run that is out of memory answers `RunError::Memory`.

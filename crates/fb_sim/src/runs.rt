@@ -4,21 +4,20 @@ ghost use Rattle.std.specs.Prelude.{◌^◌, ◌≤◌, ℕ, [], IfOk, IfErr, On
 ghost use Rattle.std.specs.Io.KnownBytes.{Appends};
 ghost use Rattle.fb_types.specs.Headline.{system_of};
 ghost use Rattle.fb_types.specs.Text.{last_line};
-ghost use Rattle.fb_trace.specs.End as trace;
-ghost use Rattle.fb_trace.specs.End.{EndsIn};
+ghost use Rattle.fb_trace.specs.End.{EndsIn, ending_of};
 ghost use Rattle.fb_sim.specs.Given.{Given};
-ghost use Rattle.fb_sim.specs.Serial.{AreWithin, Declares, Writes, ending_of};
+ghost use Rattle.fb_sim.specs.Serial.{AreWithin, Declares, Writes};
 ghost use Rattle.fb_sim.specs.Rounds.{FailsRun, HasCome, IsShort};
 
 use crate::drive::{Finish, run_on};
 use crate::one_agenda::run_one_agenda;
 use crate::options::{Inputs, Options};
-use crate::outcome::{Outcome, RunError};
+use crate::outcome::RunError;
 use crate::reading::open;
 use fb_phase::Gate;
 use fb_resource::Resource;
 use fb_system::System;
-use fb_trace::{RunEnd, write_last};
+use fb_trace::{Outcome, write_last};
 use fb_window::Core;
 use std::alloc::{AllocError, Global};
 use std::io::Write;
@@ -39,12 +38,12 @@ pub fn open_core(alloc: Global, system: &System, steps: u64) -> Result<Core, All
 pub(crate) fn close<W: Write>(
     out: &mut W,
     system: &System,
-    end: RunEnd,
+    end: Outcome,
     written: u128,
 ) -> Result<(), RunError>
     requires { EndsIn (system_of system.now) end }
-    ensures whole { OnOk result (Appends (W.contents out.old) (W.contents out.new) (last_line (system_of system.now) (trace.ending_of end))) }
-    ensures part { IfErr result (IsShort (W.contents out.old) (W.contents out.new) (last_line (system_of system.now) (trace.ending_of end)) written) }
+    ensures whole { OnOk result (Appends (W.contents out.old) (W.contents out.new) (last_line (system_of system.now) (ending_of end))) }
+    ensures part { IfErr result (IsShort (W.contents out.old) (W.contents out.new) (last_line (system_of system.now) (ending_of end)) written) }
 {
     match write_last(out, system, end) {
         Ok(()) => Ok(()),
@@ -72,11 +71,11 @@ fn run_system<R: Threads + Wait + Sync, W: Write, P: Gate>(
     let (finish, written) = run_on(rt, alloc, system, core, options, out, gate)?;
     match finish {
         Finish::AtEnd(_) => {
-            close(out, system, RunEnd::Horizon(options.horizon), written)?;
+            close(out, system, Outcome::End(options.horizon), written)?;
             Ok(Outcome::End(options.horizon))
         }
         Finish::AtMark(mark) => {
-            close(out, system, RunEnd::Stop(mark), written)?;
+            close(out, system, Outcome::Stop(mark), written)?;
             Ok(Outcome::Stop(mark))
         }
     }

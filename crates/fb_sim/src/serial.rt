@@ -2,12 +2,14 @@
 
 ghost use Rattle.std.specs.Prelude.{IfOk, IfErr, OnOk};
 ghost use Rattle.fb_sim.specs.Rounds.{FailsRun};
-ghost use Rattle.fb_sim.specs.Serial.{IsDeclared, IsRefusal, Writes, ending_of};
+ghost use Rattle.fb_trace.specs.End.{ending_of};
+ghost use Rattle.fb_sim.specs.Serial.{IsDeclared, IsRefusal, Writes};
 
 use crate::one_agenda::run_one_agenda;
 use crate::options::{Inputs, Options};
-use crate::outcome::{Outcome, RunError};
+use crate::outcome::RunError;
 use crate::reading::{judge_inputs, open};
+use fb_trace::Outcome;
 use std::alloc::Global;
 use std::io::Write;
 

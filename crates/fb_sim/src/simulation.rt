@@ -7,13 +7,13 @@ ghost use Rattle.fb_sim.specs.declared.state.Stage.TheVariants as going;
 
 use crate::drive::{Finish, run_on};
 use crate::options::{Inputs, Options};
-use crate::outcome::{Outcome, RunError};
+use crate::outcome::RunError;
 use crate::reading::open;
 use crate::runs::{close, open_core};
 use crate::state::{SessionState, Stage};
 use fb_phase::Gate;
 use fb_system::System;
-use fb_trace::RunEnd;
+use fb_trace::Outcome;
 use fb_types::{Form, LATEST_TICK};
 use fb_window::Core;
 use std::alloc::Global;
@@ -144,7 +144,7 @@ impl Simulation {
                 Ok(Outcome::End(to))
             }
             Finish::AtMark(mark) => {
-                close(out, &self.system, RunEnd::Stop(mark), written)?;
+                close(out, &self.system, Outcome::Stop(mark), written)?;
                 self.to = to;
                 self.state.put(SessionState::Stopped(mark));
                 Ok(Outcome::Stop(mark))
@@ -163,7 +163,7 @@ impl Simulation {
             Stage::Failed => Err(RunError::Failed),
             Stage::Stopped(mark) => Ok(Outcome::Stop(mark)),
             Stage::Running => {
-                close(out, &self.system, RunEnd::Horizon(self.to), 0)?;
+                close(out, &self.system, Outcome::End(self.to), 0)?;
                 Ok(Outcome::End(self.to))
             }
         }

@@ -3,16 +3,17 @@
 ghost use Rattle.std.specs.Prelude.{◌≡◌, ◌^◌, ◌+◌, ◌<◌, ◌≤◌, ℕ, List, Option, IfOk, IfErr, IsTrue, OnOk};
 ghost use Rattle.std.specs.Io.KnownBytes.{Appends};
 ghost use Rattle.fb_laws.specs.Sound.{AreGood};
-ghost use Rattle.fb_sim.specs.Serial.{AreWithin, Writes, ending_of};
+ghost use Rattle.fb_trace.specs.End.{ending_of};
+ghost use Rattle.fb_sim.specs.Serial.{AreWithin, Writes};
 ghost use Rattle.fb_sim.specs.Rounds.{FailsRun, IsShort, behind};
 ghost use Rattle.fb_sim.specs.declared.state.Stage.TheVariants as going;
 ghost use Rattle.fb_sim.specs.Reports.{AreReports, Came, Comes, Counted, Ends, GoesOn, Hears, Tells, hundredth, in_memory, is_at_end, report_text, session};
 
 use crate::options::{Inputs, Options};
-use crate::outcome::{Outcome, RunError};
+use crate::outcome::RunError;
 use crate::simulation::Simulation;
 use fb_phase::OpenGate;
-use fb_trace::write_front;
+use fb_trace::{Outcome, write_front};
 use std::alloc::Global;
 use std::io::Write;
 use std::sync::Wait;

@@ -16,10 +16,10 @@ use fb_types::{Reason, StopMark};
 use std::io::Write;
 
 /// How a run ends.
-#[derive(Clone, Copy)]
-pub enum RunEnd {
+#[derive(Clone, Copy, Debug, PartialEq, Eq)]
+pub enum Outcome {
     /// It reached its horizon, the tick in milliseconds at which it had to end.
-    Horizon(u64),
+    End(u64),
     /// A resource stopped before its horizon.
     Stop(StopMark),
 }
@@ -65,15 +65,15 @@ fn put_last<W: Write>(
     page: &mut Page,
     out: &mut W,
     system: &System,
-    end: &RunEnd,
+    end: &Outcome,
 ) -> Result<(), WriteFault>
     requires { EndsIn (system_of system.now) end.now }
     ensures { Gathers (W.contents out.old) (W.contents out.new) page.old page.new
         (last_line (system_of system.now) (ending_of end.now)) result }
 {
     match end {
-        RunEnd::Horizon(horizon) => put_horizon(page, out, *horizon),
-        RunEnd::Stop(mark) => put_stop(page, out, system, mark),
+        Outcome::End(horizon) => put_horizon(page, out, *horizon),
+        Outcome::Stop(mark) => put_stop(page, out, system, mark),
     }
 }
 
@@ -82,7 +82,7 @@ fn put_last<W: Write>(
 /// # Errors
 /// If the writer returns an error or takes no byte. It then has a beginning of the line, but not all of it. The fault
 /// says how many bytes.
-pub fn write_last<W: Write>(out: &mut W, system: &System, end: RunEnd) -> Result<(), WriteFault>
+pub fn write_last<W: Write>(out: &mut W, system: &System, end: Outcome) -> Result<(), WriteFault>
     requires { EndsIn (system_of system.now) end }
     ensures whole { OnOk result
         (Appends (W.contents out.old) (W.contents out.new) (last_line (system_of system.now) (ending_of end))) }

@@ -21,6 +21,6 @@ mod start;
 
 pub use fault::WriteFault;
 pub use front::write_front;
-pub use last::{RunEnd, write_last};
+pub use last::{Outcome, write_last};
 pub use lines::{write_counted, write_lines};
 pub use merging::merge;

@@ -14,8 +14,8 @@ use Rattle.fb_types.specs.declared.deploy.ResourceEntry.{ResourceEntry}
 use Rattle.fb_types.specs.declared.run.Form.{Form}
 use Rattle.fb_types.specs.declared.run.Line.{Line}
 use Rattle.fb_trace.specs.End.{ending_of}
-use Rattle.fb_trace.specs.declared.last.RunEnd.{RunEnd}
-use Rattle.fb_trace.specs.declared.last.RunEnd.TheVariants.{Horizon, Stop}
+use Rattle.fb_trace.specs.declared.last.Outcome.{Outcome}
+use Rattle.fb_trace.specs.declared.last.Outcome.TheVariants.{End, Stop}
 use Rattle.fb_wave.specs.Copying.{IsAfter, IsCopied, IsCutShort, IsNoLineFrom, RefusesEnd, RefusesLine}
 use Rattle.fb_wave.specs.Dumps.{last_tick}
 use Rattle.fb_wave.specs.Lines.{IsEndOf, IsLast, IsLineOf, IsNoLast}
@@ -70,7 +70,7 @@ module _ (sys : System) (form : Form) (number : ℕ) (x : Progress) (next : List
       subst (λ (n : ℕ). IsFirstBad sys n text) count (subst (λ (t : List ℕ). IsFirstBad sys (suc (length is.lines)) t) (sym parts) bad))
 
   -- the next line is an end that comes too early
-  pub blamed_end : (end : RunEnd) → IsLast sys next end → ¬ (IsAfter x.tick end) → IfSome input (λ text. IsFirstBad sys number text)
+  pub blamed_end : (end : Outcome) → IsLast sys next end → ¬ (IsAfter x.tick end) → IfSome input (λ text. IsFirstBad sys number text)
   blamed_end end last early =
       known input left (lines_text form sys (map (line_of sys) is.lines)) next (λ text. IsFirstBad sys number text) is.read
       (λ text rest at behind parts.
@@ -82,7 +82,7 @@ module _ (sys : System) (form : Form) (number : ℕ) (x : Progress) (next : List
       subst (λ (n : ℕ). IsFirstBad sys n text) count (subst (λ (t : List ℕ). IsFirstBad sys (suc (length is.lines)) t) (sym parts) bad))
 
   -- something stands behind the end
-  pub blamed_behind : (end : RunEnd) → IsLast sys next end → IsAfter x.tick end → IfSome left (λ rest. 0 < length rest) → IfSome input (λ text. IsFirstBad sys (number + 1) text)
+  pub blamed_behind : (end : Outcome) → IsLast sys next end → IsAfter x.tick end → IfSome left (λ rest. 0 < length rest) → IfSome input (λ text. IsFirstBad sys (number + 1) text)
   blamed_behind end last after more =
       known input left (lines_text form sys (map (line_of sys) is.lines)) next (λ text. IsFirstBad sys (number + 1) text) is.read
       (λ text rest at behind parts.
@@ -101,7 +101,7 @@ module _ (sys : System) (form : Form) (number : ℕ) (x : Progress) (next : List
   line_blamed no_end Read refuses = tt
   line_blamed no_end (Write n) refuses = tt
 
-  pub end_blamed : (end : RunEnd) → IsLast sys next end → (e : WaveError) → RefusesEnd end x.tick number left e → Blames sys input e
+  pub end_blamed : (end : Outcome) → IsLast sys next end → (e : WaveError) → RefusesEnd end x.tick number left e → Blames sys input e
   end_blamed end last (Refused n) (inl early) = subst (λ (k : ℕ). IfSome input (λ text. IsFirstBad sys k text)) (sym early.0) (blamed_end end last early.1)
   end_blamed end last (Refused n) (inr late) = subst (λ (k : ℕ). IfSome input (λ text. IsFirstBad sys k text)) (sym late.0) (blamed_behind end last late.1 late.2)
   end_blamed end last Names refuses = absurd refuses

@@ -14,8 +14,8 @@ use Rattle.fb_types.specs.declared.run.Form.{Form}
 use Rattle.fb_types.specs.declared.run.Line.{Line}
 use Rattle.fb_trace.specs.End.{ending_of}
 use Rattle.fb_trace.specs.Progress.{bounded}
-use Rattle.fb_trace.specs.declared.last.RunEnd.{RunEnd}
-use Rattle.fb_trace.specs.declared.last.RunEnd.TheVariants.{Horizon, Stop}
+use Rattle.fb_trace.specs.declared.last.Outcome.{Outcome}
+use Rattle.fb_trace.specs.declared.last.Outcome.TheVariants.{End, Stop}
 use Rattle.fb_wave.specs.Scopes.{head_text}
 use Rattle.fb_wave.specs.Dumps.{dump_text, end_text, last_tick, ticks_text}
 use Rattle.fb_wave.specs.Writing.{HasTold, IsDump}
@@ -137,13 +137,13 @@ copied_none sys form number x next input left old tick numbers told written read
       counted = ap bounded written;
     }
 
-pub ends_after : (t u : ℕ) (end : RunEnd) → t ≡ u → IsAfter t end → EndsAfter u (ending_of end)
-ends_after t u (Horizon h) same after = subst (λ (k : ℕ). k < h) same after
+pub ends_after : (t u : ℕ) (end : Outcome) → t ≡ u → IsAfter t end → EndsAfter u (ending_of end)
+ends_after t u (End h) same after = subst (λ (k : ℕ). k < h) same after
 ends_after t u (Stop m) same after = subst (λ (k : ℕ). k ≤ m.tick) same after
 
 -- the end was read and told
 pub copied_all :
-    (sys : System) (form : Form) (number : ℕ) (x : Progress) (line : List ℕ) (input left old mid new : Option (List ℕ)) (end : RunEnd) → IsCopied sys form number x line input left old mid
+    (sys : System) (form : Form) (number : ℕ) (x : Progress) (line : List ℕ) (input left old mid new : Option (List ℕ)) (end : Outcome) → IsCopied sys form number x line input left old mid
     → IsLast sys line end → IsFinished sys end x left mid new → IfSome input (λ text. IsWave sys text old new)
 copied_all sys form number x line input left old mid new end is last finished = by input left is.read finished.over
   where
@@ -292,7 +292,7 @@ fails_unfinished sys form number x line input left old mid new is e same =
 
 -- a part of the end is sent
 pub unfinished_part :
-    (sys : System) (x : Progress) (page : DumpPage) (end : RunEnd) (old new : Option (List ℕ)) → page.written ≡ x.page.written
+    (sys : System) (x : Progress) (page : DumpPage) (end : Outcome) (old new : Option (List ℕ)) → page.written ≡ x.page.written
     → ((ls : List Line) (front : List ℕ) → HasTold sys ls (front ++ x.page.text.items) x.dump → front ++ page.text.items ≡ dump_text sys ls (ending_of end))
     → (e : WaveError) → IsCutShort old new page e → IsUnfinished sys x old new e
 unfinished_part sys x page end old new kept whole (Write n) cut =

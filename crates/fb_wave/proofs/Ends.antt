@@ -9,8 +9,8 @@ use Rattle.fb_types.specs.Systems.{System}
 use Rattle.fb_types.specs.Text.{last_line, tick_and_resource_text, reason_text}
 use Rattle.fb_types.specs.declared.value.Reason.{Reason}
 use Rattle.fb_trace.specs.End.{ending_of}
-use Rattle.fb_trace.specs.declared.last.RunEnd.{RunEnd}
-use Rattle.fb_trace.specs.declared.last.RunEnd.TheVariants.{Horizon, Stop}
+use Rattle.fb_trace.specs.declared.last.Outcome.{Outcome}
+use Rattle.fb_trace.specs.declared.last.Outcome.TheVariants.{End, Stop}
 use Rattle.fb_wave.specs.Copying.{IsAfter}
 use Rattle.fb_wave.specs.Lines.{IsEndOf, IsNoLast, IsNoStop, stop_text}
 use Rattle.fb_wave.specs.Named.{HasNames}
@@ -102,15 +102,15 @@ no_stop sys text rest is none (AtStop k r reason) can e =
 -- ---- Ends with one text come after the same ticks
 
 pub after_once :
-    (sys : System) (t u : ℕ) (end : RunEnd) (other : Ending) → t ≡ u → IsEndOf sys (ending_of end) → IsEndOf sys other → last_line sys (ending_of end) ≡ last_line sys other
+    (sys : System) (t u : ℕ) (end : Outcome) (other : Ending) → t ≡ u → IsEndOf sys (ending_of end) → IsEndOf sys other → last_line sys (ending_of end) ≡ last_line sys other
     → EndsAfter u other → IsAfter t end
-after_once sys t u (Horizon h) (AtHorizon k) tick can also e after =
+after_once sys t u (End h) (AtHorizon k) tick can also e after =
     let words = word_once (decimal h) (decimal k) (10 ∷ []) (10 ∷ []) (digits_of h (omega (arith, can))).word (digits_of k (omega (arith, also))).word refl refl
     (append_cancel_left (codes "end ") (decimal h ++ 10 ∷ []) (decimal k ++ 10 ∷ []) (sym (horizon_is sys h) ∙ e ∙ horizon_is sys k))
     in
     let same = decimal_once h k (omega (arith, can)) (omega (arith, also)) words.0 in
     omega (arith, same, tick, after)
-after_once sys t u (Horizon h) (AtStop k r reason) tick can also e after =
+after_once sys t u (End h) (AtStop k r reason) tick can also e after =
     absurd (apart (decimal h ++ 10 ∷ []) (stop_text sys k r reason) (sym (horizon_is sys h) ∙ e ∙ last_is sys k r reason))
 after_once sys t u (Stop m) (AtHorizon k) tick can also e after =
     absurd (apart (decimal k ++ 10 ∷ []) (stop_text sys m.tick m.resource m.reason) (sym (horizon_is sys k) ∙ sym e ∙ last_is sys m.tick m.resource m.reason))

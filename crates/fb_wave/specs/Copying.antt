@@ -10,8 +10,8 @@ use Rattle.fb_types.specs.declared.run.Form.{Form}
 use Rattle.fb_types.specs.declared.run.Line.{Line}
 use Rattle.fb_trace.specs.End.{ending_of}
 use Rattle.fb_trace.specs.Progress.{Fails, bounded}
-use Rattle.fb_trace.specs.declared.last.RunEnd.{RunEnd}
-use Rattle.fb_trace.specs.declared.last.RunEnd.TheVariants.{Horizon, Stop}
+use Rattle.fb_trace.specs.declared.last.Outcome.{Outcome}
+use Rattle.fb_trace.specs.declared.last.Outcome.TheVariants.{End, Stop}
 use Rattle.fb_wave.specs.Dumps.{dump_text, last_tick}
 use Rattle.fb_wave.specs.Writing.{HasTold, IsDump}
 use Rattle.fb_wave.specs.Lines.{IsTextOf}
@@ -23,8 +23,8 @@ use Rattle.fb_wave.specs.declared.error.WaveError.TheVariants.{Refused, Names, M
 use Rattle.fb_wave.specs.declared.page.DumpPage.{DumpPage}
 
 -- what may come behind a last line of that tick: a horizon after it, or a stop in it or after it
-abbrev pub IsAfter : ℕ → RunEnd → Type 0
-IsAfter t (Horizon h) = t < h
+abbrev pub IsAfter : ℕ → Outcome → Type 0
+IsAfter t (End h) = t < h
 IsAfter t (Stop m) = t ≤ m.tick
 
 -- ---- Refusals
@@ -42,7 +42,7 @@ RefusesLine sys form t number text Read = Unit {0}
 RefusesLine sys form t number text (Write n) = Unit {0}
 
 -- An end in the line of that number is refused only where it comes too early, and the next line only where there is one.
-abbrev pub RefusesEnd : RunEnd → (tick number : ℕ) → (left : Option (List ℕ)) → WaveError → Type 0
+abbrev pub RefusesEnd : Outcome → (tick number : ℕ) → (left : Option (List ℕ)) → WaveError → Type 0
 RefusesEnd end t number left (Refused n) =
     ((n ≡ number) × ¬ (IsAfter t end)) ⊎ ((n ≡ number + 1) × IsAfter t end × IfSome left (λ rest. 0 < length rest))
 RefusesEnd end t number left Names = ⊥
@@ -90,7 +90,7 @@ pub record IsTaken (sys : System) (form : Form) (text : List ℕ) (old new : Pro
       → HasTold sys (ls ++ line ∷ []) (sent ++ new.page.text.items) new.dump
 
 -- An end can come, nothing is behind it, and all that waited and the rest of the dump was sent.
-pub record IsFinished (sys : System) (end : RunEnd) (before : Progress) (left old new : Option (List ℕ)) : Type 0 where
+pub record IsFinished (sys : System) (end : Outcome) (before : Progress) (left old new : Option (List ℕ)) : Type 0 where
   pub after : IsAfter before.tick end
   pub over : IsAtEnd left
   pub sent : List ℕ

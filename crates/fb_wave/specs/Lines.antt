@@ -20,7 +20,7 @@ use Rattle.fb_wave.specs.declared.ports.Port.{Port}
 use Rattle.fb_system.specs.Stands.{AreIndexes}
 use Rattle.fb_system.specs.Lines.{BelongsTo, line_variables}
 use Rattle.fb_trace.specs.End.{EndsIn, ending_of}
-use Rattle.fb_trace.specs.declared.last.RunEnd.{RunEnd}
+use Rattle.fb_trace.specs.declared.last.Outcome.{Outcome}
 use Rattle.fb_wave.specs.Reading.{fit_each, type_at}
 
 -- the variables among which those of a line are
@@ -103,7 +103,7 @@ abbrev pub IsNoLast : System → List ℕ → Type 0
 IsNoLast sys text = (end : Ending) → IsEndOf sys end → text ≡ last_line sys end → ⊥
 
 -- The text is that of an end of the system.
-pub record IsLast (sys : System) (text : List ℕ) (end : RunEnd) : Type 0 where
+pub record IsLast (sys : System) (text : List ℕ) (end : Outcome) : Type 0 where
   pub ends : EndsIn sys end
   pub can : IsEndOf sys (ending_of end)
   pub is : text ≡ last_line sys (ending_of end)

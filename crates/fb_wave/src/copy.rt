@@ -21,7 +21,7 @@ use crate::page::DumpPage;
 use crate::table::{Guess, PortTable};
 use crate::words::{cut, is_digit};
 use fb_system::System;
-use fb_trace::RunEnd;
+use fb_trace::Outcome;
 use fb_types::Form;
 use std::alloc::Global;
 use std::io::{BufRead, Write};
@@ -63,12 +63,12 @@ fn form_of(line: &[u8]) -> Form
 }
 
 /// Whether a trace whose last line is of a tick can end so.
-fn can_end(tick: u64, end: RunEnd) -> bool
+fn can_end(tick: u64, end: Outcome) -> bool
     ensures { IsTrue result ↔ IsAfter tick end }
 {
     match end {
-        RunEnd::Horizon(horizon) => tick < horizon,
-        RunEnd::Stop(mark) => tick <= mark.tick,
+        Outcome::End(horizon) => tick < horizon,
+        Outcome::Stop(mark) => tick <= mark.tick,
     }
 }
 
@@ -124,7 +124,7 @@ impl Progress {
     fn finish<R: BufRead, W: Write>(
         &mut self,
         system: &System,
-        end: RunEnd,
+        end: Outcome,
         number: u64,
         line: &mut Vec<u8>,
         input: &mut R,

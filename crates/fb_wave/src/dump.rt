@@ -16,7 +16,7 @@ use crate::firsts::firsts_of;
 use crate::head::put_head;
 use crate::levels::Levels;
 use fb_system::System;
-use fb_trace::RunEnd;
+use fb_trace::Outcome;
 use fb_types::{Line, Reason, Value};
 use std::alloc::{AllocError, Global};
 
@@ -41,13 +41,13 @@ fn reason_text(reason: Reason) -> &'static [u8]
 }
 
 /// Puts the time of an end behind a text, and why a resource stopped.
-fn put_end(text: &mut Vec<u8>, system: &System, told: u64, end: RunEnd) -> Result<(), AllocError>
+fn put_end(text: &mut Vec<u8>, system: &System, told: u64, end: Outcome) -> Result<(), AllocError>
     requires { EndsIn (system_of system.now) end }
     ensures { OnOk result (text.new.items ≡ text.old.items ++ end_text (system_of system.now) told (ending_of end)) }
 {
     match end {
-        RunEnd::Horizon(horizon) => put_time(text, told, horizon),
-        RunEnd::Stop(mark) => {
+        Outcome::End(horizon) => put_time(text, told, horizon),
+        Outcome::Stop(mark) => {
             put_time(text, told, mark.tick)?;
             let resource = system.resource_name(mark.resource as usize);
             put_stop(text, resource, mark.reason)
@@ -210,7 +210,7 @@ impl Dump {
     pub(crate) fn end(
         &mut self,
         system: &System,
-        end: RunEnd,
+        end: Outcome,
         text: &mut Vec<u8>,
     ) -> Result<(), AllocError>
         requires dump { IsDump (system_of system.now) self.old }

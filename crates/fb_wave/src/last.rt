@@ -10,7 +10,7 @@ ghost use Rattle.fb_wave.specs.Named.{HasNames};
 use crate::number::{magnitude, tick};
 use crate::words::{behind, cut};
 use fb_system::System;
-use fb_trace::RunEnd;
+use fb_trace::Outcome;
 use fb_types::{Reason, StopMark};
 
 /// The number of the resource with a name.
@@ -73,7 +73,7 @@ fn stop_of(system: &System, text: &[u8]) -> Option<StopMark>
 }
 
 /// The end that a text tells, with its line feed.
-pub(crate) fn read_last(system: &System, text: &[u8]) -> Option<RunEnd>
+pub(crate) fn read_last(system: &System, text: &[u8]) -> Option<Outcome>
     ensures last { IfSome result (IsLast (system_of system.now) text.now) }
     ensures none { HasNames (system_of system.now) → IfNone result (IsNoLast (system_of system.now) text.now) }
 {
@@ -82,7 +82,7 @@ pub(crate) fn read_last(system: &System, text: &[u8]) -> Option<RunEnd>
         return None;
     }
     if let Some(rest) = behind(text, b"end ") {
-        return Some(RunEnd::Horizon(horizon_of(rest)?));
+        return Some(Outcome::End(horizon_of(rest)?));
     }
-    Some(RunEnd::Stop(stop_of(system, behind(text, b"stop ")?)?))
+    Some(Outcome::Stop(stop_of(system, behind(text, b"stop ")?)?))
 }

@@ -7,11 +7,12 @@ use Rattle.clap.specs.Words.{Text}
 use Rattle.fbsim_command.specs.Line.{AskHelp}
 use Rattle.fb_sim.specs.Given.{Given}
 use Rattle.fb_sim.specs.declared.options.Options.{Options}
-use Rattle.fb_sim.specs.declared.outcome.Outcome.{Outcome}
-use Rattle.fb_sim.specs.declared.outcome.Outcome.TheVariants as sim_end
+use Rattle.fb_trace.specs.declared.last.Outcome.{Outcome}
+use Rattle.fb_trace.specs.declared.last.Outcome.TheVariants as sim_end
 use Rattle.fb_sim.specs.declared.outcome.RunError.{RunError}
 use Rattle.fb_sim.specs.Reports.{AreReports, Hears, is_at_end}
-use Rattle.fb_sim.specs.Serial.{Writes, ending_of}
+use Rattle.fb_trace.specs.End.{ending_of}
+use Rattle.fb_sim.specs.Serial.{Writes}
 use Rattle.fbsim_command.specs.Command.{Explains, IsDoneOf, Runs, is_ended}
 use Rattle.fbsim_command.specs.Failures.{WritesPart}
 use Rattle.fbsim_command.specs.Outcomes.{End, Held}

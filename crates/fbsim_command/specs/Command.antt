@@ -12,8 +12,8 @@ use Rattle.fb_sim.specs.Rounds.{WritesFront}
 use Rattle.fb_sim.specs.Serial as sim
 use Rattle.fb_sim.specs.Serial.{AreWithin, IsDeclared, Writes}
 use Rattle.fb_sim.specs.declared.options.Options.{Options}
-use Rattle.fb_sim.specs.declared.outcome.Outcome.{Outcome}
-use Rattle.fb_sim.specs.declared.outcome.Outcome.TheVariants as sim_end
+use Rattle.fb_trace.specs.declared.last.Outcome.{Outcome}
+use Rattle.fb_trace.specs.declared.last.Outcome.TheVariants as sim_end
 use Rattle.fb_sim.specs.Reports.{AreReports}
 use Rattle.fb_why.specs.Explained.{explained}
 use Rattle.fb_why.specs.declared.table.Explanation.{Explanation}

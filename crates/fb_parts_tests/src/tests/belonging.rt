@@ -6,7 +6,7 @@ ghost use Rattle.fb_system.specs.Lines.{BelongsTo};
 ghost use Rattle.fb_trace.specs.End.{EndsIn};
 
 use fb_system::System;
-use fb_trace::RunEnd;
+use fb_trace::Outcome;
 use fb_types::Line;
 
 fn belongs(system: &System, line: &Line) -> bool
@@ -39,11 +39,11 @@ pub fn all_belong(system: &System, lines: &[Line]) -> bool
     true
 }
 
-pub fn ends_in(system: &System, end: &RunEnd) -> bool
+pub fn ends_in(system: &System, end: &Outcome) -> bool
     ensures { IsTrue result → EndsIn (system_of system.now) end.now }
 {
     match end {
-        RunEnd::Horizon(_) => true,
-        RunEnd::Stop(mark) => (mark.resource as usize) < system.resources(),
+        Outcome::End(_) => true,
+        Outcome::Stop(mark) => (mark.resource as usize) < system.resources(),
     }
 }

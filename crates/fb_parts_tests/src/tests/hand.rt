@@ -9,7 +9,7 @@ ghost use Rattle.fb_parts_tests.specs.Coming.{HasCome, IsAfter};
 
 use fb_resource::{Resource, WindowDone};
 use fb_system::System;
-use fb_trace::{RunEnd, write_last, write_lines};
+use fb_trace::{Outcome, write_last, write_lines};
 use fb_types::{Form, Line};
 use fb_window::{Bounds, Core, Job, Settled, discard_jobs};
 use std::alloc::{AllocError, Global};
@@ -169,13 +169,13 @@ fn run_on<R: Abort>(
             }
             Settled::Ended(last, lines) => {
                 hand_out(rt, system, plan.form, lines, out);
-                write_last(out, system, RunEnd::Horizon(plan.horizon)).expect(rt, "written");
+                write_last(out, system, Outcome::End(plan.horizon)).expect(rt, "written");
                 last.discard();
                 return;
             }
             Settled::Stopped(lines, mark) => {
                 hand_out(rt, system, plan.form, lines, out);
-                write_last(out, system, RunEnd::Stop(mark)).expect(rt, "written");
+                write_last(out, system, Outcome::Stop(mark)).expect(rt, "written");
                 return;
             }
         }

@@ -3,7 +3,7 @@
 use super::belonging::{all_belong, ends_in};
 use super::chain::{accepted, expect_text};
 use fb_system::System;
-use fb_trace::{RunEnd, write_last};
+use fb_trace::{Outcome, write_last};
 use fb_types::{Form, Key, Line, Reason, StopMark, Value, Values};
 use fb_window::discard_system;
 use std::alloc::Global;
@@ -172,13 +172,13 @@ fn expect_line(rt: &impl Abort, alloc: Global, system: &System, row: &Row) {
 }
 
 /// Last lines, each with its text.
-static ENDS: [(RunEnd, &[u8]); 8] = [
-    (RunEnd::Horizon(0), b"end 0\n"),
-    (RunEnd::Horizon(8), b"end 8\n"),
-    (RunEnd::Horizon(1_000_000_000_000), b"end 1000000000000\n"),
-    (RunEnd::Horizon(u64::MAX), b"end 18446744073709551615\n"),
+static ENDS: [(Outcome, &[u8]); 8] = [
+    (Outcome::End(0), b"end 0\n"),
+    (Outcome::End(8), b"end 8\n"),
+    (Outcome::End(1_000_000_000_000), b"end 1000000000000\n"),
+    (Outcome::End(u64::MAX), b"end 18446744073709551615\n"),
     (
-        RunEnd::Stop(StopMark {
+        Outcome::Stop(StopMark {
             tick: 0,
             resource: 0,
             reason: Reason::Steps,
@@ -186,7 +186,7 @@ static ENDS: [(RunEnd, &[u8]); 8] = [
         b"stop 0 R1 steps\n",
     ),
     (
-        RunEnd::Stop(StopMark {
+        Outcome::Stop(StopMark {
             tick: 7,
             resource: 1,
             reason: Reason::Divide,
@@ -194,7 +194,7 @@ static ENDS: [(RunEnd, &[u8]); 8] = [
         b"stop 7 CELLAR_2 divide\n",
     ),
     (
-        RunEnd::Stop(StopMark {
+        Outcome::Stop(StopMark {
             tick: 999_999_999_999,
             resource: 0,
             reason: Reason::Range,
@@ -202,7 +202,7 @@ static ENDS: [(RunEnd, &[u8]); 8] = [
         b"stop 999999999999 R1 range\n",
     ),
     (
-        RunEnd::Stop(StopMark {
+        Outcome::Stop(StopMark {
             tick: u64::MAX,
             resource: 1,
             reason: Reason::Steps,
@@ -211,7 +211,7 @@ static ENDS: [(RunEnd, &[u8]); 8] = [
     ),
 ];
 
-fn expect_end(rt: &impl Abort, alloc: Global, system: &System, end: RunEnd, text: &[u8]) {
+fn expect_end(rt: &impl Abort, alloc: Global, system: &System, end: Outcome, text: &[u8]) {
     assert!(rt; ends_in(system, &end));
     let mut out = Vec::new(alloc);
     write_last(&mut out, system, end).expect(rt, "written");

@@ -45,5 +45,5 @@ fn each_job_is_done_once(rt: HostRuntime) {
         board.put_back(&mut seat, slip, square(job));
     }
     let done = board.close(opener, seat).expect(&rt, "all are back");
-    assert!(rt; done.as_slice() == [9, 16]);
+    assert!(rt; done.as_slice() == [9, 16].as_slice());
 }

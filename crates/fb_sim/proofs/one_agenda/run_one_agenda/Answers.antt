@@ -1,7 +1,5 @@
-use Rattle.std.proofs.Common.{sym, subst}
 use Rattle.fb_sim.specs.declared.outcome.RunError.TheVariants.{Memory}
 use Rattle.fb_sim.specs.Rounds.{FailsRun}
-use Rattle.fb_sim.specs.Serial.{Writes}
 use Rattle.fb_trace.specs.End as trace
 use Rattle.fb_sim.proofs.RunIs.{err_is, fails_at, fails_on, fails_wanting, writes_all}
 use Rattle.fb_sim.proofs.one_agenda.run_one_agenda.Goals as goal
@@ -39,8 +37,7 @@ returns-clause-trace g c given is =
     let mid = g.W.Write.contents c.run_through.new.out in
     let new = g.W.Write.contents c.close.new.out in
     let ran = c.in_ok-end.ensures.ran in
-    subst (λ e. Writes given o old new e) (sym c.outcome_of.ensures)
-    (writes_all given o c.args.system.now c.requires is old mid new ran.out (trace.ending_of c.in_ok-end.end) ran.all ran.got c.in_ok-close.ensures.whole)
+    writes_all given o c.args.system.now c.requires is old mid new ran.out (trace.ending_of c.in_ok-end.end) ran.all ran.got c.in_ok-close.ensures.whole
 
 pub run_through-requires-clause-ready : goal.run_through-requires-clause-ready
 run_through-requires-clause-ready g c = c.in_ok-machine.ensures.ready c.args.options.steps

@@ -2,8 +2,8 @@ use Rattle.std.proofs.Common.{◌≡◌, ◌∙◌, ◌+◌, ℕ, Ok, Err, sym, 
 use Rattle.fb_types.specs.Headline.{Inputs}
 use Rattle.fb_laws.specs.Sound.{AreGood}
 use Rattle.fb_sim.specs.Sessions.{Session}
-use Rattle.fb_sim.specs.declared.outcome.Outcome.{Outcome}
-use Rattle.fb_sim.specs.declared.outcome.Outcome.TheVariants.{End}
+use Rattle.fb_trace.specs.declared.last.Outcome.{Outcome}
+use Rattle.fb_trace.specs.declared.last.Outcome.TheVariants.{End}
 use Rattle.fb_sim.specs.Reports.{Came, Comes, hundredth, session}
 use Rattle.fb_sim.proofs.Coming.{at_own, came_first, comes_so, hundredth_first}
 use Rattle.fb_sim.proofs.with_progress.go_far.Goals as goal

@@ -1,5 +1,5 @@
 use Rattle.std.proofs.Common.{Result, Ok, sym, subst}
-use Rattle.fb_sim.specs.declared.outcome.Outcome.{Outcome}
+use Rattle.fb_trace.specs.declared.last.Outcome.{Outcome}
 use Rattle.fb_sim.specs.declared.outcome.RunError.{RunError}
 use Rattle.fb_sim.specs.Reports.{Comes, Fails}
 use Rattle.fb_sim.proofs.Ending.{ends_short, ends_well, tells_short, tells_well}

@@ -1,8 +1,8 @@
 use Rattle.std.proofs.Common.{◌≡◌, ◌∙◌, ◌≤◌, ◌<◌, ◌&&◌, ◌+◌, ℕ, Bool, Ok, Err, suc, sym, ap, subst, add-one, arith}
 use Rattle.std.specs.Prelude.{IsTrue}
 use Rattle.std.specs.Io.KnownBytes.{Appends}
-use Rattle.fb_sim.specs.declared.outcome.Outcome.{Outcome}
-use Rattle.fb_sim.specs.declared.outcome.Outcome.TheVariants.{End, Stop}
+use Rattle.fb_trace.specs.declared.last.Outcome.{Outcome}
+use Rattle.fb_trace.specs.declared.last.Outcome.TheVariants.{End, Stop}
 use Rattle.fb_sim.specs.Reports.{Comes, GoesOn, hundredth, report_text}
 use Rattle.fb_sim.proofs.Coming.{came_failed, came_more, came_same, came_stop, goes_here, same_session}
 use Rattle.fb_sim.proofs.with_progress.go_to_next.Goals as goal

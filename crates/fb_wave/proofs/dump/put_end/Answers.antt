@@ -2,7 +2,7 @@ use Rattle.std.proofs.Common.{◌≡◌, ℕ, List, ◌++◌, sym, ap, ◌∙◌
 use Rattle.fb_types.specs.Headline.{system_of}
 use Rattle.fb_types.specs.Names.{Name}
 use Rattle.fb_trace.specs.End.{ending_of}
-use Rattle.fb_trace.specs.declared.last.RunEnd.{RunEnd}
+use Rattle.fb_trace.specs.declared.last.Outcome.{Outcome}
 use Rattle.fb_wave.specs.Changes.{time_text}
 use Rattle.fb_wave.specs.Dumps.{end_text, stop_comment}
 use Rattle.fb_wave.proofs.Handing.{on_ok}
@@ -21,4 +21,4 @@ returns-in_ok-put_time-in-Stop c =
     (λ e.
     e ∙ ap (λ (t : List ℕ). t ++ stop) c.in_ok-put_time-in-Stop.ensures ∙ append_assoc old time stop
     ∙ ap (λ (n : Name). old ++ (time ++ stop_comment n m.reason)) c.resource_name-resource.ensures
-    ∙ ap (λ (x : RunEnd). old ++ end_text sys c.args.told (ending_of x)) (sym c.in-Stop.is))
+    ∙ ap (λ (x : Outcome). old ++ end_text sys c.args.told (ending_of x)) (sym c.in-Stop.is))

@@ -4,7 +4,7 @@ use Rattle.fb_sim.specs.Rounds.{RunsOn}
 use Rattle.fb_sim.specs.Sessions.{IsAtTick, stage_of}
 use Rattle.fb_sim.specs.declared.drive.Finish.{Finish}
 use Rattle.fb_sim.specs.declared.drive.Finish.TheVariants.{AtEnd, AtMark}
-use Rattle.fb_sim.specs.declared.outcome.Outcome.TheVariants.{End, Stop}
+use Rattle.fb_trace.specs.declared.last.Outcome.TheVariants.{End, Stop}
 use Rattle.fb_sim.specs.declared.state.Stage.TheVariants as going
 use Rattle.fb_sim.specs.declared.state.SessionState.{SessionState}
 use Rattle.fb_sim.proofs.AdvanceIs.{onward, advanced_end, advanced_stop, broken_on, short_stop, fails_on, goes_on}
