@@ -1,8 +1,9 @@
 //! The events outside the queue of the running tick: stimuli, timers and messages.
 //!
 //! Their keys come in any order, mostly rising, and there are usually few of them. A `BTreeMap` puts and finds an event
-//! in logarithmic time, at some hundreds of instructions. So a few events are kept in a sorted row, and only events that
-//! come while the row is full go to the map.
+//! in logarithmic time, at some hundreds of instructions, and fills half of its memory where keys come in rising order.
+//! So a few events are kept in a sorted row, and also any number of events that come one after the other, as stimuli do.
+//! Only events that belong before the end of a full row go to the map, and those that come while it has any.
 
 ghost use Rattle.std.specs.Prelude.{◌≡◌, ◌<◌, ◌≤◌, List, [], IfSome, IfNone, IfOk, OnOk, OnErr, Some, None};
 ghost use Rattle.std.specs.Bool.{OnFalse, OnTrue};
@@ -18,16 +19,16 @@ use std::alloc::{AllocError, Global};
 use std::collections::{BTreeMap, VecDeque};
 use std::marker::Model;
 
-/// The number of events in the row before others go to the map. Up to here, an insertion in the row costs no more than
-/// one in the map.
+/// The number of events up to which an event goes to any index of the row: up to here, an insertion in the row costs no
+/// more than one in the map.
 const FEW: usize = 256;
 
 /// Events under their keys, at most one under each. Contracts see them as a list.
 #[derive(Drop)]
 pub(crate) struct Calendar {
-    /// Events in the order of their keys, up to `FEW` of them.
+    /// Events in the order of their keys.
     few: VecDeque<(Key, Event)>,
-    /// The events that came while the row was full.
+    /// The events that did not go to the row.
     many: BTreeMap<Key, Event>,
     /// No event waits below this tick.
     quiet: u64,
@@ -70,6 +71,14 @@ fn is_few_first(few: &VecDeque<(Key, Event)>, many: &BTreeMap<Key, Event>) -> bo
     }
 }
 
+/// Whether an event goes to the row while the map is empty: one behind all others does, however long the row is.
+#[inline(always)]
+fn fits_in(few: &VecDeque<(Key, Event)>, key: &Key) -> bool
+    requires { AreRising few.now.items }
+{
+    few.len() < FEW || rising::is_past(few, key)
+}
+
 impl Calendar {
     /// A calendar without events.
     pub(crate) fn new(alloc: Global) -> Calendar
@@ -94,7 +103,7 @@ impl Calendar {
         ensures err { OnErr result (self.new ≡ self.old) }
     {
         self.quiet = self.quiet.min(key.tick);
-        if self.many.is_empty() && self.few.len() < FEW {
+        if self.many.is_empty() && fits_in(&self.few, &key) {
             return rising::insert(&mut self.few, key, event);
         }
         if let Some(index) = rising::index_of(&self.few, &key) {

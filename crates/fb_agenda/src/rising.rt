@@ -96,7 +96,7 @@ fn is_before(events: &VecDeque<(Key, Event)>, key: &Key) -> bool
 }
 
 /// Whether the key comes after all keys of the list.
-fn is_past(events: &VecDeque<(Key, Event)>, key: &Key) -> bool
+pub(crate) fn is_past(events: &VecDeque<(Key, Event)>, key: &Key) -> bool
     requires { AreRising events.now.items }
     ensures { OnTrue result (AllByRecursion (λ j. Precedes j key.now) (keys_of events.now.items)) }
 {

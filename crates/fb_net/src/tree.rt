@@ -85,8 +85,41 @@ impl Tree {
     /// # Errors
     /// `Halt::Stop` where a reason stops the resource: the lines before it stand. `Halt::Memory`, after which each
     /// instance of the resource has its block still, and no more is said of the blocks.
-    #[tactic(auto, using(crate::proofs::Keys::keys))]
     pub fn take(
+        &mut self,
+        system: &System,
+        arrival: Arrival<'_>,
+        tick: u64,
+        meter: &mut Meter,
+        outbox: &mut Outbox,
+    ) -> Result<(), Halt>
+        requires event { IsEventIn system.now self.old.resource (event_in arrival) }
+        requires named { self.old.resource < length (system_of system.now).resource_names }
+        requires early { tick ≤ 10 ^ 12 }
+        requires belongs { (w : World) × IsForest system.now self.old w × AreTyped (system_of system.now) w }
+        requires typed { IsTypedEvent (system_of system.now) (event_of system.now (event_in arrival)) }
+        requires outs { AreOuts (system_of system.now) self.old.resource outbox.old }
+        ensures taken { HasTaken system.now (key_at tick self.old.resource arrival.entry) (event_in arrival.entry) self.old outbox.old meter.old.left result self.new meter.new.left outbox.new }
+        ensures outs { Remembered result (AreOuts (system_of system.now) self.new.resource outbox.new) }
+        ensures fewer { meter.new.left ≤ meter.old.left }
+        ensures resource { self.new.resource ≡ self.old.resource }
+
+        // Also where memory runs out.
+        ensures whole { (w : World) × IsForest system.now self.new w }
+    {
+        // Each of these branches is compiled for its events alone: what they are is asked once, and not again for their
+        // key and for what they do.
+        match arrival {
+            Arrival::Local { .. } => self.take_by_key(system, arrival, tick, meter, outbox),
+            Arrival::Message(_) => self.take_by_key(system, arrival, tick, meter, outbox),
+            _ => self.take_by_key(system, arrival, tick, meter, outbox),
+        }
+    }
+
+    /// .. under the key that the event has.
+    #[inline(always)]
+    #[tactic(auto, using(crate::proofs::Keys::keys))]
+    fn take_by_key(
         &mut self,
         system: &System,
         arrival: Arrival<'_>,

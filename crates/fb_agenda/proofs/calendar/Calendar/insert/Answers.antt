@@ -21,15 +21,15 @@ invariant_of-self c =
           (put_both few many c.self.invariant.split c.args.key c.args.event r new none c.insert.ensures.ok) (kept_both few new many r c.insert.ensures.err) (omega (arith, c.min-self-inside.ensures)) (omega (arith, c.min-self-inside.ensures));
     }
 
-pub returns-then-len-lt-FEW-clause-put : goal.returns-then-len-lt-FEW-clause-put
-returns-then-len-lt-FEW-clause-put c =
+pub returns-then-fits_in-clause-put : goal.returns-then-fits_in-clause-put
+returns-then-fits_in-clause-put c =
     let few = c.self.inside.few.items in
     let many = c.self.inside.many.entries in
     let none : lookup (same_key c.args.key) many ≡ None = ap (lookup (same_key c.args.key)) (nil_from_length many (c.is_empty.ensures.0 c.if-is_empty.true)) in
     rw (← c.self.view_is) (put_both few many c.self.invariant.split c.args.key c.args.event c.insert.result c.insert.new.events.items none c.insert.ensures.ok)
 
-pub returns-then-len-lt-FEW-clause-absent : goal.returns-then-len-lt-FEW-clause-absent
-returns-then-len-lt-FEW-clause-absent c =
+pub returns-then-fits_in-clause-absent : goal.returns-then-fits_in-clause-absent
+returns-then-fits_in-clause-absent c =
     let few = c.self.inside.few.items in
     let many = c.self.inside.many.entries in
     let none : lookup (same_key c.args.key) many ≡ None = ap (lookup (same_key c.args.key)) (nil_from_length many (c.is_empty.ensures.0 c.if-is_empty.true)) in

@@ -2,7 +2,7 @@ use Rattle.std.proofs.Common.{arith, rules, subst, sym}
 use Rattle.std.proofs.lemmas.Grind.{common_steps}
 use Rattle.fb_net.specs.Worlds.{IsForest}
 use Rattle.fb_net.specs.declared.resource.Forest.{Forest}
-use Rattle.fb_net.proofs.tree.Tree.take.Goals as goal
+use Rattle.fb_net.proofs.tree.Tree.take_by_key.Goals as goal
 
 pub invariant_of-self : goal.invariant_of-self
 invariant_of-self c =
