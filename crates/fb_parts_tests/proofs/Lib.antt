@@ -1,5 +1,3 @@
 mod Again
 mod Handed
-mod HandIs
 mod Unheard
-mod Zips

@@ -1,7 +1,7 @@
 //! What no run of the program shows of the parts that it is made of: blocks, agendas and the data that all crates share, each by
-//! itself; resources that run by themselves, rounds made by hand, lines and inputs that no run has, worked out by hand. Each test ends
-//! the process where memory runs out. What holds a system or resources is dropped by `fb_window`, and what holds other things is
-//! forgotten: whoever drops it, or only could, proves how each of its parts is dropped.
+//! itself; resources that run by themselves, lines and inputs that no run has, worked out by hand. Each test ends the process where
+//! memory runs out. What holds a system or resources is dropped by `fb_window`, and what holds other things is forgotten: whoever
+//! drops it, or only could, proves how each of its parts is dropped.
 
 mod agendas;
 mod belonging;
@@ -9,16 +9,13 @@ mod bodies;
 mod chain;
 mod examples;
 mod expressions;
-mod hand;
 mod inputs;
 mod latencies;
 mod limits;
 mod messages;
 mod narrow;
 mod numbers;
-mod rows;
 mod seats;
-mod serial;
 mod shared;
 mod timers;
 mod wiring;

@@ -1,1 +1,3 @@
+mod ByHand
 mod Coming
+mod Zips

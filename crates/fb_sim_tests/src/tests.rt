@@ -1,15 +1,18 @@
-//! What the program does not show of a run: pieces, rounds, gates, what follows a failure; and of what it stands on, a board and a phase. Its
-//! traces stand in cases/, where the program is called for them. Each test ends the process where a call fails that is not to, so that
-//! little is dropped on the way.
+//! What the program does not show of a run: pieces, rounds, their bounds, gates, what follows a failure; and of what it stands on,
+//! a board and a phase. Its traces stand in cases/, where the program is called for them. Each test ends the process where a call
+//! fails that is not to, so that little is dropped on the way.
 
 mod advances;
 mod board;
 mod examples;
 mod gates;
+mod hand;
 mod later_rounds;
 mod options;
 mod phase;
 mod rounds;
+mod rows;
+mod serial;
 mod texts;
 mod writers;
 

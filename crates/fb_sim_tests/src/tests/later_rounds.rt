@@ -59,7 +59,8 @@ static DEPLOYMENT: &str = "resource = [\n\
 /// Where the trace ends: an arrival is taken before the event of its tick that the cycle sent to the burst.
 static LAST_LINES: &str = "\n39 R3 < B3.TICKED\n39 R3 < B3.DONE\nend 40\n";
 
-fn lines_in(trace: &[u8]) -> u32 {
+/// How many lines a trace has.
+pub fn lines_in(trace: &[u8]) -> u32 {
     let mut lines: u32 = 0;
     for byte in trace {
         if *byte == b'\n' {

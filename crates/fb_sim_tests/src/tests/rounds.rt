@@ -78,7 +78,7 @@ fn expect_lines(rt: &impl Abort, out: &Narrow, before: usize, lines: &str) {
 }
 
 /// The core of a run before its first event.
-fn opened<R: Abort>(rt: &R, alloc: Global, system: &System, steps: u64) -> Core
+pub fn opened<R: Abort>(rt: &R, alloc: Global, system: &System, steps: u64) -> Core
     requires some { 1 ≤ steps }
     requires few { steps ≤ 10 ^ 7 }
     ensures { (horizon : ℕ) → HasCome system.now steps horizon result [] }
@@ -118,7 +118,7 @@ fn expect_rounds<R: Abort + Threads + Wait + Sync>(
         match round(rt, alloc, &system, core, options, &mut out, &OpenGate) {
             Ok(Round::Going(next)) => core = next,
             Ok(Round::Ended(last)) => {
-                drop(last);
+                last.discard();
                 expect_lines(rt, &out, before, lines);
                 assert!(rt; is_last && case.outcome == Outcome::End(case.horizon));
                 return discard(system);

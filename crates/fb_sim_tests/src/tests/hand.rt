@@ -1,18 +1,21 @@
 //! Rounds that are made by hand.
 
-ghost use Rattle.std.specs.Prelude.{◌≡◌, ◌^◌, ◌≤◌, ℕ, All, IfOk};
+ghost use Rattle.std.specs.Prelude.{◌^◌, ◌≤◌, List, All};
 ghost use Rattle.std.specs.List.{AllZip};
 ghost use Rattle.fb_types.specs.Headline.{system_of};
+ghost use Rattle.fb_types.specs.States as model;
 ghost use Rattle.fb_system.specs.Lines.{BelongsTo};
 ghost use Rattle.fb_window.specs.Jobs.{Does};
-ghost use Rattle.fb_parts_tests.specs.Coming.{HasCome, IsAfter};
+ghost use Rattle.fb_sim.specs.Rounds.{HasCome};
+ghost use Rattle.fb_sim_tests.specs.ByHand.{IsPutBack};
 
-use fb_resource::{Resource, WindowDone};
+use super::rounds::opened;
+use fb_resource::WindowDone;
 use fb_system::System;
 use fb_trace::{Outcome, write_last, write_lines};
 use fb_types::{Form, Line};
 use fb_window::{Bounds, Core, Job, Settled, discard_jobs};
-use std::alloc::{AllocError, Global};
+use std::alloc::Global;
 use std::mem::forget;
 use std::process::Abort;
 
@@ -110,8 +113,8 @@ fn window<R: Abort>(
     requires early { plan.horizon ≤ 10 ^ 12 }
     requires some_steps { 1 ≤ plan.steps }
     requires few_steps { plan.steps ≤ 10 ^ 7 }
-    requires come { HasCome system.now plan.steps plan.horizon core }
-    ensures { IsAfter system.now plan.steps plan.horizon result }
+    requires come { (ls : List model.Line) × HasCome system.now plan.steps plan.horizon core ls }
+    ensures { IsPutBack system.now plan.steps plan.horizon result }
 {
     system.facts();
     let bounds = core.bounds(plan.horizon, CAP);
@@ -126,16 +129,6 @@ fn window<R: Abort>(
         panic!(rt; "memory");
     };
     settled
-}
-
-/// The core of a system before the first event.
-fn open_core(alloc: Global, system: &System, steps: u64) -> Result<Core, AllocError>
-    requires some_steps { 1 ≤ steps }
-    requires few_steps { steps ≤ 10 ^ 7 }
-    ensures { IfOk result (λ c. (horizon : ℕ) → HasCome system.now steps horizon c) }
-{
-    let resources = Resource::open_all(alloc, system)?;
-    Core::open(alloc, system, resources, steps)
 }
 
 /// Writes lines that a round hands out.
@@ -158,7 +151,7 @@ fn run_on<R: Abort>(
     requires early { plan.horizon ≤ 10 ^ 12 }
     requires some_steps { 1 ≤ plan.steps }
     requires few_steps { plan.steps ≤ 10 ^ 7 }
-    requires come { HasCome system.now plan.steps plan.horizon first }
+    requires come { (ls : List model.Line) × HasCome system.now plan.steps plan.horizon first ls }
 {
     let mut core = first;
     for _ in 0..MANY {
@@ -193,8 +186,6 @@ pub fn run_by_hand<R: Abort>(
 ) {
     assert!(rt; plan.horizon <= 1_000_000_000_000);
     assert!(rt; 1 <= plan.steps && plan.steps <= 10_000_000);
-    let Ok(core) = open_core(alloc, system, plan.steps) else {
-        panic!(rt; "memory");
-    };
+    let core = opened(rt, alloc, system, plan.steps);
     run_on(rt, alloc, system, core, plan, out);
 }

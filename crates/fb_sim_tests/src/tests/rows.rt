@@ -1,11 +1,11 @@
 //! Systems whose rounds were worked out by hand.
 
-use super::chain::accepted;
 use super::hand::{FALLING, HandPlan, RISING, SHUFFLED, run_by_hand};
-use super::serial::{expect_serial, inputs_of};
+use super::inputs_of;
+use super::serial::{accepted, expect_serial};
+use fb_sim::discard;
 use fb_system::System;
 use fb_types::Form;
-use fb_window::discard_system;
 use std::alloc::Global;
 use std::process::Abort;
 
@@ -330,12 +330,12 @@ fn expect_rounds<R: Abort>(rt: &R, alloc: Global, system: &System, row: &Row, or
 #[test]
 fn rounds_have_their_bounds_and_lines(rt: HostRuntime) {
     for row in &ROWS {
-        let system = accepted(&rt, rt.alloc(), row.declaration, row.deploy, row.stimuli);
+        let inputs = inputs_of(row.declaration, row.deploy, row.stimuli);
+        let system = accepted(&rt, rt.alloc(), &inputs);
         for order in &ORDERS {
             expect_rounds(&rt, rt.alloc(), &system, row, *order);
         }
-        discard_system(system);
-        let inputs = inputs_of(row.declaration, row.deploy, row.stimuli);
+        discard(system);
         let _trace = expect_serial(&rt, rt.alloc(), &inputs, row.horizon, row.steps);
     }
 }

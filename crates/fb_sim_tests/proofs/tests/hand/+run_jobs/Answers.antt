@@ -1,6 +1,6 @@
 use Rattle.fb_window.specs.Jobs.{Does}
-use Rattle.fb_parts_tests.proofs.Zips.{joined}
-use Rattle.fb_parts_tests.proofs.tests.hand.+run_jobs.Goals as goal
+use Rattle.fb_sim_tests.proofs.Zips.{joined}
+use Rattle.fb_sim_tests.proofs.tests.hand.+run_jobs.Goals as goal
 
 pub returns-then-order-eq1 : goal.returns-then-order-eq1
 returns-then-order-eq1 g t c =

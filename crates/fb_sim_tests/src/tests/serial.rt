@@ -1,37 +1,28 @@
 //! Rounds that are made by hand write what `run_serial` writes.
 
 use super::hand::{FALLING, HandPlan, RISING, run_by_hand};
-use fb_sim::{Inputs, Options, open, run_serial};
+use super::later_rounds::lines_in;
+use super::{inputs_of, to};
+use fb_sim::{Inputs, Options, discard, open, run_serial};
+use fb_system::System;
 use fb_types::Form;
-use fb_window::discard_system;
 use std::alloc::Global;
 use std::fmt::Write;
 use std::process::Abort;
 
-fn given(text: &str) -> Option<&[u8]> {
-    if text.is_empty() {
-        None
-    } else {
-        Some(text.as_bytes())
-    }
-}
-
-/// An empty text stands for no deployment, or for no stimuli.
-pub fn inputs_of<'a>(declaration: &'a str, deploy: &'a str, stimuli: &'a str) -> Inputs<'a> {
-    Inputs {
-        declaration: declaration.as_bytes(),
-        deploy: given(deploy),
-        stimuli: given(stimuli),
-    }
+/// The system of inputs that are accepted.
+pub fn accepted<R: Abort>(rt: &R, alloc: Global, inputs: &Inputs<'_>) -> System {
+    let Ok(system) = open(alloc, inputs) else {
+        panic!(rt; "no system");
+    };
+    system
 }
 
 /// What `run_serial` writes.
 fn serial<R: Abort>(rt: &R, alloc: Global, inputs: &Inputs<'_>, plan: HandPlan) -> Vec<u8> {
     let options = Options {
-        horizon: plan.horizon,
-        steps: plan.steps,
-        workers: 1,
         form: plan.form,
+        ..to(plan.horizon, plan.steps, 1)
     };
     let mut trace = Vec::new(alloc);
     let _outcome = run_serial(alloc, inputs, options, &mut trace).expect(rt, "run");
@@ -47,9 +38,7 @@ pub fn expect_serial<R: Abort>(
     horizon: u64,
     steps: u64,
 ) -> Vec<u8> {
-    let Ok(system) = open(alloc, inputs) else {
-        panic!(rt; "no system");
-    };
+    let system = accepted(rt, alloc, inputs);
     let plan = HandPlan {
         horizon,
         steps,
@@ -66,7 +55,7 @@ pub fn expect_serial<R: Abort>(
             assert!(rt; rounds.as_slice() == trace.as_slice());
         }
     }
-    discard_system(system);
+    discard(system);
     serial(rt, alloc, inputs, plan)
 }
 
@@ -75,7 +64,7 @@ pub fn expect_serial<R: Abort>(
 struct Ring {
     count: u64,
     /// How many lines its trace has up to tick 10,000, and how it ends.
-    lines: u64,
+    lines: u32,
     last: &'static str,
 }
 
@@ -128,16 +117,6 @@ impl Ring {
         }
         text
     }
-}
-
-fn lines_in(trace: &[u8]) -> u64 {
-    let mut lines: u64 = 0;
-    for byte in trace {
-        if *byte == b'\n' {
-            lines = lines.saturating_add(1);
-        }
-    }
-    lines
 }
 
 #[test]
