@@ -1,9 +1,8 @@
 //! What stimuli may name of a type, and to which ports data connections lead.
 
-ghost use Rattle.std.specs.Prelude.{◌≡◌, map, IfOk, OnOk};
+ghost use Rattle.std.specs.Prelude.{◌≡◌, ◌<◌, ◌^◌, length, map, IfOk, OnOk};
 ghost use Rattle.fb_check.specs.Directory.{AreInputs, IsInputs, IsExtended, AreEvents, AreWiths, AreVariables, AreTargets};
 
-use fb_system::number_of;
 use fb_types::{BlockType, Connection, EventPort, Items, Name, Ports, Ty, Variable};
 use std::alloc::{AllocError, Global};
 use std::collections::{BTreeMap, BTreeSet};
@@ -66,13 +65,14 @@ fn events_of<'a>(
     alloc: Global,
     events: &'a [EventPort],
 ) -> Result<BTreeMap<&'a [u8], u32, Global>, AllocError>
+    requires { length events.now < 2 ^ 32 }
     ensures { IfOk result (AreEvents events.now) }
 {
     let mut indexes = BTreeMap::new(alloc);
     for (index, event) in events.iter().enumerate() {
         let name = event.name.as_bytes();
         if !indexes.contains_key(name) {
-            indexes.insert(name, number_of(index)?)?;
+            indexes.insert(name, index as u32)?;
         }
     }
     Ok(indexes)
@@ -107,13 +107,14 @@ fn variables_of<'a>(
     alloc: Global,
     variables: &'a [Variable],
 ) -> Result<BTreeMap<&'a [u8], Input, Global>, AllocError>
+    requires { length variables.now < 2 ^ 32 }
     ensures { IfOk result (AreVariables variables.now) }
 {
     let mut inputs = BTreeMap::new(alloc);
     for (index, variable) in variables.iter().enumerate() {
         let name = variable.name.as_bytes();
         if !inputs.contains_key(name) {
-            let index = number_of(index)?;
+            let index = index as u32;
             let ty = variable.ty;
             inputs.insert(name, Input { index, ty })?;
         }
@@ -124,6 +125,8 @@ fn variables_of<'a>(
 fn inputs_of<'a>(alloc: Global, ports: &'a Ports) -> Result<TypeInputs<'a>, AllocError>
     ensures { IfOk result (IsInputs ports.now) }
 {
+    ports.event_inputs.count();
+    ports.inputs.count();
     Ok(TypeInputs {
         events: events_of(alloc, ports.event_inputs.as_slice())?,
         withs: withs_of(alloc, ports.event_inputs.as_slice())?,

@@ -1,6 +1,6 @@
 //! The stimuli by number, if the application can take them (E29).
 
-ghost use Rattle.std.specs.Prelude.{◌≡◌, ◌↔◌, ◌++◌, map, IfOk, IsTrue, MatchOption};
+ghost use Rattle.std.specs.Prelude.{◌≡◌, ◌<◌, ◌↔◌, ◌++◌, length, map, IfOk, IsTrue, MatchOption, OnSome};
 ghost use Rattle.std.specs.Option.{option_copied};
 ghost use Rattle.fb_types.specs.Accepted.{BadStimulus, set_names};
 ghost use Rattle.fb_types.specs.EventPorts.{ArePortsOfKinds};
@@ -15,7 +15,7 @@ ghost use Rattle.fb_check.specs.Directory.{IsDirectory, IsFound, CanTake, IsTake
 use crate::directory::{Directory, directory_of, inputs_named};
 use crate::directory_making::TypeInputs;
 use fb_check_names::{Catalog, index_of, indexes_of};
-use fb_system::{SlotValue, StimulusRow, number_of};
+use fb_system::{SlotValue, StimulusRow};
 use fb_types::{Items, Library, Name, Ports, Setting, Stimulus, Value, all_ports};
 use std::alloc::{AllocError, Global};
 
@@ -28,7 +28,8 @@ fn inputs_at<'d, 'a>(
 ) -> Option<&'d TypeInputs<'a>>
     requires catalog { (plan : Plan) × IsCatalog library.now plan catalog.now }
     requires directory { IsDirectory library.now directory.now }
-    ensures { IsFound (ports_at_index library.now index) (option_copied result) }
+    ensures found { IsFound (ports_at_index library.now index) (option_copied result) }
+    ensures within { OnSome result (index < length library.now.application.network.instances) }
 {
     let instance = library.application.network.instances.get(index)?;
     let name = instance.block_type.as_bytes();
@@ -134,7 +135,8 @@ fn row_of<'a>(
     if has_setting_twice(alloc, stimulus)? {
         return Ok(None);
     }
-    let instance = number_of(index)?;
+    library.application.network.instances.count();
+    let instance = index as u32;
     let tick = stimulus.tick;
     match slots_of(alloc, directory, inputs, stimulus)? {
         Some(sets) => Ok(Some(StimulusRow {
@@ -191,7 +193,7 @@ fn rows_in(
 ///
 /// # Errors
 ///
-/// When memory runs out. An index of 2^32 or more counts as out of memory.
+/// When memory runs out.
 pub fn stimulus_rows(
     alloc: Global,
     library: &Library,

@@ -42,14 +42,10 @@ fn number_shown(variables: &[Reference], frame: &Frame) -> Option<i64>
     }
 }
 
-/// The greatest number that an event output has.
-const MOST_OUTPUTS: usize = u32::MAX as usize;
-
-/// Emits the output event at an index with what the variables hold. An index beyond all numbers of outputs
-/// would be that of one of more outputs than memory holds, so it counts as want of memory.
+/// Emits the output event at an index with what the variables hold.
 #[inline(always)]
 fn emit_with(
-    event: usize,
+    event: u32,
     variables: &[Reference],
     frame: &Frame,
     emits: &mut Emits,
@@ -57,10 +53,6 @@ fn emit_with(
     ensures ok { OnOk result (emits.new ≡ emits.old ++ record { event = event; values = map (values_of frame.now) variables.now } ∷ []) }
     ensures err { OnErr result (emits.new ≡ emits.old) }
 {
-    if MOST_OUTPUTS < event {
-        return Err(AllocError);
-    }
-    let event = event as u32;
     let alloc = emits.allocator();
     let values = match number_shown(variables, frame) {
         Some(number) => Values::from_slice(alloc, &[Value::Whole(i128::from(number))])?,
@@ -86,7 +78,10 @@ fn emit(
     ensures well_formed { let IsFit = IsWellFormed block.now in All IsFit emits.old → All IsFit emits.new }
 {
     match event {
-        Some(event) => emit_with(event, shown[event].as_slice(), frame, emits),
+        Some(event) => {
+            block.ports.event_outputs.count();
+            emit_with(event as u32, shown[event].as_slice(), frame, emits)
+        }
         None => Ok(()),
     }
 }

@@ -61,18 +61,15 @@ fn hold_indexes(
     ensures kept { OnOk result (KeepsCovers system.now resource held.old held.new) }
 {
     let ports = system.ports(instance);
-    let variables = if is_output {
-        ports.outputs.as_slice()
+    let count = if is_output {
+        ports.outputs.count()
     } else {
-        ports.inputs.as_slice()
+        ports.inputs.count()
     };
-    if variables.len() > u32::MAX as usize {
-        return Err(AllocError);
-    }
-    for (index, _) in variables.iter().enumerate() {
+    for variable in 0..count {
         let to = InstanceVariable {
             instance,
-            variable: index as u32,
+            variable,
             is_output,
         };
         hold(alloc, system, resource, to, held)?;

@@ -29,6 +29,7 @@ pub mod TextLaws
 pub mod NetworkSound
 pub mod NetworkComplete
 pub mod PortsSound
+pub mod Counts
 pub mod PortsComplete
 pub mod ChartsSound
 pub mod ChartsComplete

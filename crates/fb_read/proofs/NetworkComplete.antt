@@ -79,7 +79,7 @@ unfolding instance name expect same_mark
 instance-complete x ts rest (is_instance {xs = xs} {c = c} is_name is_mark is_name l is_mark) before =
     rw (parameters-complete xs c (token.Mark mark.Semicolon ∷ rest) l refl) refl
 
-instance-shorter : IsShorter IsInstance
+pub instance-shorter : IsShorter IsInstance
 instance-shorter x ts rest (is_instance n k t l e) = omega (arith, name-shorter n, mark-shorter k, name-shorter t, parameters-shorter l, mark-shorter e)
 
 instance-starts : (k : Mark) (x : Instance) (ts rest : Tokens) → IsInstance x ts rest → sees k ts ≡ false

@@ -76,7 +76,7 @@ parameters-sound ts x rest h =
       | inr w ↦ made AreParameters [] x ts ts rest w.1 no_parameters
     ]
 
-instance-sound : IsSound instance IsInstance
+pub instance-sound : IsSound instance IsInstance
 unfolding instance
 instance-sound ts x rest h =
     let a = both_ok (name ts) _ (x, rest) h in

@@ -22,7 +22,7 @@ pub name-complete : IsComplete name IsName Anything always
 unfolding name
 name-complete x ts rest is_name before = refl
 
-one-name-shorter : IsShorter IsName
+pub one-name-shorter : IsShorter IsName
 one-name-shorter x ts rest n = name-shorter n
 
 names-complete : (ns : List Name) (ts rest : Tokens) → AreSeparated IsName ns ts rest → sees mark.Comma rest ≡ false → separated name ts ≡ done ns rest
@@ -42,7 +42,7 @@ event-complete : IsComplete event IsEvent Anything always
 unfolding event name expect same_mark
 event-complete x ts rest (is_event {ns = ns} {a = a} is_name l is_mark) before = rw (with-complete ns a (token.Mark mark.Semicolon ∷ rest) l refl refl) refl
 
-event-shorter : IsShorter IsEvent
+pub event-shorter : IsShorter IsEvent
 event-shorter x ts rest (is_event n l k) = omega (arith, name-shorter n, with-shorter l, mark-shorter k)
 
 event-starts : (k : Mark) (x : EventPort) (ts rest : Tokens) → IsEvent x ts rest → sees k ts ≡ false
@@ -53,7 +53,7 @@ unfolding initial after same_mark
 initial-complete v ts rest no_initial ends = rw ends refl
 initial-complete v ts rest (some_initial {v = c} {a = a} is_mark l) ends = rw (constant-complete c a rest l) refl
 
-initial-shorter : {v : Option Value} {ts rest : Tokens} → IsInitial v ts rest → length rest ≤ length ts
+pub initial-shorter : {v : Option Value} {ts rest : Tokens} → IsInitial v ts rest → length rest ≤ length ts
 initial-shorter no_initial = omega arith
 initial-shorter (some_initial k c) = omega (arith, mark-shorter k, constant-shorter c)
 
@@ -62,7 +62,7 @@ unfolding declaration expect same_mark
 declaration-complete x ts rest (is_declaration {ns = ns} {t = t} {v = v} {b = b} {c = c} l is_mark o i is_mark) before =
     rw (names-complete ns ts (token.Mark mark.Colon ∷ b) l refl, type-complete t b c o, initial-complete v c (token.Mark mark.Semicolon ∷ rest) i refl) refl
 
-declaration-shorter : IsShorter IsDeclaration
+pub declaration-shorter : IsShorter IsDeclaration
 declaration-shorter x ts rest (is_declaration l k o i e) =
     omega (arith, separated-shorter IsName one-name-shorter l, mark-shorter k, type-shorter o, initial-shorter i, mark-shorter e)
 

@@ -60,7 +60,7 @@ variables-sound k ts x rest h =
     made (AreVariables k) (flat_map variables_of a.0) x ts a.1 rest a.3
     (are_variables (section-sound declaration IsDeclaration k mark.EndVar declaration-sound ts a.0 a.1 a.2))
 
-events-sound : (k : Mark) → IsSound (section event k mark.EndEvent) (IsSection IsEvent k mark.EndEvent)
+pub events-sound : (k : Mark) → IsSound (section event k mark.EndEvent) (IsSection IsEvent k mark.EndEvent)
 events-sound k = section-sound event IsEvent k mark.EndEvent event-sound
 
 pub ports-sound : IsSound ports ArePorts

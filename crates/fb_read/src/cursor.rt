@@ -1,6 +1,6 @@
 //! A cursor in a list of tokens.
 
-ghost use Rattle.std.specs.Prelude.{◌≡◌, ◌↔◌, [], length, IsNone};
+ghost use Rattle.std.specs.Prelude.{◌≡◌, ◌<◌, ◌^◌, ◌↔◌, [], length, IsNone};
 ghost use Rattle.fb_read.specs.Parser as spec;
 ghost use Rattle.fb_read.specs.Parser.{Reads};
 ghost use Rattle.fb_read.specs.Tokens.{tokens_of};
@@ -16,7 +16,7 @@ use std::alloc::Global;
 use std::marker::Model;
 
 /// The tokens that are still to be read, and the allocator for what is read. Contracts see the tokens without their
-/// offsets.
+/// offsets. There are fewer than 2^32, so that what is read can be numbered.
 #[derive(Drop)]
 pub struct Cursor<'a> {
     alloc: Global,
@@ -24,12 +24,14 @@ pub struct Cursor<'a> {
 }
 
 impl<'a> Model for Cursor<'a> {
-    ghost use Rattle.std.specs.Prelude.{List, map};
+    ghost use Rattle.std.specs.Prelude.{◌<◌, ◌^◌, List, length, map};
     ghost use Rattle.fb_read.specs.declared.token.Token.{Token};
 
     ghost Value = { List Token };
 
     ghost view = { λ c. map (λ p. p.token) c.rest.now };
+
+    ghost invariant = { λ c. length c.rest.now < 2 ^ 32 };
 }
 
 /// The elementary type that a keyword names.
@@ -56,6 +58,7 @@ impl<'a> Cursor<'a> {
 
     /// A cursor before these tokens. `alloc` is for what is read.
     pub fn new(alloc: Global, rest: &'a [Placed]) -> Cursor<'a>
+        requires { length rest.now < 2 ^ 32 }
         ensures { result ≡ tokens_of rest.now }
     {
         Cursor { alloc, rest }
@@ -71,6 +74,13 @@ impl<'a> Cursor<'a> {
         ensures { result ≡ [] }
     {
         Items::new(self.alloc)
+    }
+
+    /// Says to proofs how many tokens are left at most.
+    pub fn bound(&self)
+        ensures { length self.now < 2 ^ 32 }
+    {
+        let _ = &self.rest;
     }
 
     /// The number of tokens that are left.

@@ -2,14 +2,15 @@
 
 ghost use Rattle.std.specs.Prelude.{◌≡◌, ◌++◌, IfOk, OnOk};
 ghost use Rattle.std.specs.List.{flat_map};
-ghost use Rattle.fb_read.specs.Parser.{Reads};
+ghost use Rattle.fb_read.specs.Parser.{Reads, section};
 ghost use Rattle.fb_read.specs.Ports as spec;
+ghost use Rattle.fb_read.specs.declared.token.Mark.TheVariants as mark;
 
 use crate::cursor::Cursor;
 use crate::fault::ParseFault;
 use crate::rule::{Rule, behind, ended, listed, optional, paired, section, separated};
 use crate::token::Mark;
-use fb_types::{EventPort, Items, Name, Ports, Ty, Value, Variable};
+use fb_types::{EventPort, Items, Name, Numbered, Ports, Ty, Value, Variable};
 use std::alloc::{AllocError, Global};
 
 /// Names of variables with the type and the initial value that they share.
@@ -79,15 +80,36 @@ pub fn variables(cursor: &mut Cursor<'_>, begin: Mark) -> Result<Items<Variable>
     Ok(declared(cursor.alloc(), found)?)
 }
 
+/// The events of the section that begins with this mark, if there is one.
+fn numbered_events(cursor: &mut Cursor<'_>, begin: Mark) -> Result<Numbered<EventPort>, ParseFault>
+    ensures { Reads (section spec.event begin mark.EndEvent cursor.old) result cursor.new }
+{
+    cursor.bound();
+    let found = section::<EventPort>(cursor, begin, Mark::EndEvent)?;
+    Ok(Numbered::new(found))
+}
+
+/// The inputs or outputs of the section that begins with this mark, if there is one.
+fn numbered_variables(
+    cursor: &mut Cursor<'_>,
+    begin: Mark,
+) -> Result<Numbered<Variable>, ParseFault>
+    ensures { Reads (spec.variables begin cursor.old) result cursor.new }
+{
+    cursor.bound();
+    let found = variables(cursor, begin)?;
+    Ok(Numbered::new(found))
+}
+
 impl Rule for Ports {
     ghost parser = { spec.ports };
 
     #[tactic(auto, unfolding(crate::specs::Ports::ports))]
     fn read(cursor: &mut Cursor<'_>) -> Result<Ports, ParseFault> {
-        let event_inputs = section::<EventPort>(cursor, Mark::EventInput, Mark::EndEvent)?;
-        let event_outputs = section::<EventPort>(cursor, Mark::EventOutput, Mark::EndEvent)?;
-        let inputs = variables(cursor, Mark::VarInput)?;
-        let outputs = variables(cursor, Mark::VarOutput)?;
+        let event_inputs = numbered_events(cursor, Mark::EventInput)?;
+        let event_outputs = numbered_events(cursor, Mark::EventOutput)?;
+        let inputs = numbered_variables(cursor, Mark::VarInput)?;
+        let outputs = numbered_variables(cursor, Mark::VarOutput)?;
         Ok(Ports {
             event_inputs,
             event_outputs,

@@ -43,7 +43,8 @@ fn syntax_fault(text: &[u8], cursor: &Cursor<'_>) -> ReadError
 
 /// The library that all of the tokens form.
 fn parse(alloc: Global, text: &[u8], tokens: &[Placed]) -> Result<Library, ReadError>
-    requires { length text.now ≤ most_bytes }
+    requires text { length text.now ≤ most_bytes }
+    requires tokens { length tokens.now ≤ most_bytes }
     ensures { Parses result (ended (library (tokens_of tokens.now))) }
 {
     let mut cursor = Cursor::new(alloc, tokens);

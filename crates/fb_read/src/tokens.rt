@@ -25,6 +25,8 @@ fn behind_mark(text: &[u8]) -> &[u8]
 /// The tokens of a text, each with its offset.
 pub fn lex(alloc: Global, text: &[u8]) -> Result<Items<Placed>, LexFault>
     ensures found { IfOk result (λ found. AreTokens (spec.tokens_of found) (spec.behind_mark text.now)) }
+    // A token takes a byte.
+    ensures few { IfOk result (λ found. length found ≤ length text.now) }
     ensures fault { IfErr result (λ e. Tells e (spec.behind_mark text.now)) }
 {
     let mut found = Items::new(alloc);

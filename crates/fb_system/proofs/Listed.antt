@@ -57,19 +57,18 @@ known_index vs indexes first n stand c =
     let at = known_at vs n c in
     ap (index_in indexes) (sym at.name) ∙ stand.index (own_index vs n) at.variable at.there
 
-known_some : (vs : List Variable) (n : Name) → Contains (variable_names vs) n → 0 < length vs
-known_some vs n c =
-    let at = known_at vs n c in
-    let h = slice_get_within vs (own_index vs n) at.variable at.there in omega (arith, h)
+known_within : (vs : List Variable) (n : Name) → Contains (variable_names vs) n → own_index vs n < length vs
+known_within vs n c = let at = known_at vs n c in slice_get_within vs (own_index vs n) at.variable at.there
 
--- the lookup of the name at an index of a list, and that there are variables
+-- the lookup of the name at an index of a list, that there are variables, and that its own index is one of them
 pub found_index :
     (vs : List Variable) (indexes : BTreeMap (Bor Name) ℕ) (first : ℕ) (list : List Name) (i : ℕ) (n b : Name) (o : Option ℕ) → StandFrom first vs indexes
-    → IsList vs list → i < length list → n ≡ get_or list i n → b ≡ n → o ≡ index_in indexes b → (o ≡ Some (first + own_index vs n)) × (0 < length vs)
+    → IsList vs list → i < length list → n ≡ get_or list i n → b ≡ n → o ≡ index_in indexes b → (o ≡ Some (first + own_index vs n)) × (0 < length vs) × (own_index vs n < length vs)
 found_index vs indexes first list i n b o stand is h e same looked =
     let listed : Contains list n = subst (λ (m : Name). Contains list m) (sym e) (Contains-get_or list i n h) in
     let known = is.known n listed in
-    (looked ∙ ap (index_in indexes) same ∙ known_index vs indexes first n stand known, known_some vs n known)
+    let within = known_within vs n known in
+    (looked ∙ ap (index_in indexes) same ∙ known_index vs indexes first n stand known, omega (arith, within), within)
 
 -- the index of a variable is its own
 own_index_of : (vs : List Variable) (i : ℕ) (n : Name) → ¬ (Twice (variable_names vs)) → slice_get (variable_names vs) i ≡ Some n → own_index vs n ≡ i

@@ -1,5 +1,5 @@
 -- Lookups at an end of a connection.
-use Rattle.std.proofs.Common.{◌≡◌, ℕ, ◌+◌, ◌-◌, ◌<◌, ◌≤◌, ◌^◌, Bool, true, false, not, List, [], ◌∷◌, map, length, get_or, Option, Some, None, refl, sym, ◌∙◌, ap, subst, arith, lit<}
+use Rattle.std.proofs.Common.{◌≡◌, ℕ, ◌+◌, ◌-◌, ◌<◌, ◌≤◌, ◌^◌, Bool, true, false, not, List, [], ◌∷◌, map, length, get_or, Option, Some, None, refl, sym, ◌∙◌, ap, subst, arith}
 use Rattle.std.specs.Prelude.{slice_get, option_map, option_and_then, unwrap_or, is_none, is_some, IsTrue, nat_lt, ◌↔◌}
 use Rattle.std.specs.List.{filter}
 use Rattle.std.proofs.lemmas.Bool.{lt-ltb, ltb-true}
@@ -7,6 +7,7 @@ use Rattle.std.proofs.lemmas.List.{length-map}
 use Rattle.std.proofs.lemmas.Option.{same_Some, slice_get_within, slice_get-get_or, slice_get_read, slice_get_past}
 use Rattle.fb_types.specs.Names.{Name, Path, Port, same_port}
 use Rattle.fb_types.specs.Blocks.{Kind, Basic, Event, Composite, ports, ports_of, ports_of_event_block}
+use Rattle.fb_types.specs.Counts.{IsNarrow}
 use Rattle.fb_types.specs.Flat.{kind_of, kind_at, kind_of_instance, type_named, inside, instance_at, network_at, network_of, paths_of, events_inside, data_inside}
 use Rattle.fb_types.specs.Repeated.{NameTwice}
 use Rattle.fb_types.specs.Unknown.{event_ins, event_outs, data_ins, data_outs}
@@ -17,7 +18,6 @@ use Rattle.fb_types.specs.declared.library.Instance.{Instance}
 use Rattle.fb_types.specs.declared.library.Network.{Network}
 use Rattle.fb_types.specs.declared.library.Ports.{Ports}
 use Rattle.fb_types.specs.declared.event_kind.EventKind.{EventKind}
-use Rattle.fb_types.specs.declared.event_kind.EventKind.TheVariants.{Restart, Split, Merge, Rendezvous, Permit, Select, Switch, Delay, Cycle, SetReset, DataLatch, RisingEdge, FallingEdge, CountUp}
 use Rattle.fb_types.specs.declared.deploy.Plan.{Plan}
 use Rattle.fb_check_names.specs.declared.numbers.ConnectionEnd.{ConnectionEnd}
 use Rattle.fb_check_names.specs.declared.numbers.NetworkNumbers.{NetworkNumbers}
@@ -28,29 +28,14 @@ use Rattle.fb_check_names.proofs.Lookups.{type_named-number}
 use Rattle.fb_system.specs.Wirings.{same_end, source_in, targets_in}
 use Rattle.fb_system.specs.Layouts.{AreComponents, path_of}
 use Rattle.fb_system.specs.Netlists.{IsCompositeHere, IsPort, IsVariable, ports_here, port_of, variable_of}
-use Rattle.fb_system.specs.Networks.{AreNarrow, IsEndOf, IsNarrow, IsThere, IsWired, side, source_along, targets_along}
+use Rattle.fb_system.specs.Networks.{AreNarrow, IsEndOf, IsThere, IsWired, side, source_along, targets_along}
 use Rattle.fb_system.proofs.Leading.{sources_there, targets_there}
 use Rattle.fb_system.proofs.Lists.{first_pair, no_first, none_at, pair_at, same_length}
 use Rattle.fb_types.proofs.ByIndex.{all_at}
+use Rattle.fb_types.proofs.EventCounts.{event_block_narrow}
 use Rattle.fb_system.proofs.Wired.{component_path, component_within, number_within}
 
 -- ---- Ports of 32 bits
-
-event_block_narrow : (k : EventKind) → IsNarrow (ports_of_event_block k)
-event_block_narrow Restart = record { event_inputs = lit< tt; event_outputs = lit< tt; inputs = lit< tt; outputs = lit< tt }
-event_block_narrow Split = record { event_inputs = lit< tt; event_outputs = lit< tt; inputs = lit< tt; outputs = lit< tt }
-event_block_narrow Merge = record { event_inputs = lit< tt; event_outputs = lit< tt; inputs = lit< tt; outputs = lit< tt }
-event_block_narrow Rendezvous = record { event_inputs = lit< tt; event_outputs = lit< tt; inputs = lit< tt; outputs = lit< tt }
-event_block_narrow Permit = record { event_inputs = lit< tt; event_outputs = lit< tt; inputs = lit< tt; outputs = lit< tt }
-event_block_narrow Select = record { event_inputs = lit< tt; event_outputs = lit< tt; inputs = lit< tt; outputs = lit< tt }
-event_block_narrow Switch = record { event_inputs = lit< tt; event_outputs = lit< tt; inputs = lit< tt; outputs = lit< tt }
-event_block_narrow Delay = record { event_inputs = lit< tt; event_outputs = lit< tt; inputs = lit< tt; outputs = lit< tt }
-event_block_narrow Cycle = record { event_inputs = lit< tt; event_outputs = lit< tt; inputs = lit< tt; outputs = lit< tt }
-event_block_narrow SetReset = record { event_inputs = lit< tt; event_outputs = lit< tt; inputs = lit< tt; outputs = lit< tt }
-event_block_narrow DataLatch = record { event_inputs = lit< tt; event_outputs = lit< tt; inputs = lit< tt; outputs = lit< tt }
-event_block_narrow RisingEdge = record { event_inputs = lit< tt; event_outputs = lit< tt; inputs = lit< tt; outputs = lit< tt }
-event_block_narrow FallingEdge = record { event_inputs = lit< tt; event_outputs = lit< tt; inputs = lit< tt; outputs = lit< tt }
-event_block_narrow CountUp = record { event_inputs = lit< tt; event_outputs = lit< tt; inputs = lit< tt; outputs = lit< tt }
 
 number_narrow : (lib : Library) (t : TypeNumber) (k : Kind) → AreNarrow lib.blocks → kind_of_number lib t ≡ Some k → IsNarrow (ports_of k)
 number_narrow lib (number.Event e) k narrow h =

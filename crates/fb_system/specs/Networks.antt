@@ -1,8 +1,9 @@
 -- The networks of an application by number, and what the ends of their connections stand for (IEC 61499-1, 5.3).
-use Rattle.std.specs.Prelude.{⊤, ◌≡◌, ◌≤◌, ◌<◌, ◌^◌, ℕ, List, [], ◌∷◌, map, length, Option, Some, None, All, slice_get}
+use Rattle.std.specs.Prelude.{⊤, ◌≡◌, ◌≤◌, ◌<◌, ℕ, List, [], ◌∷◌, map, length, Option, Some, None, All, slice_get}
 use Rattle.std.specs.List.{filter}
 use Rattle.fb_types.specs.Names.{Name, Path, Port, same_port}
 use Rattle.fb_types.specs.Blocks.{Kind, Composite, ports_of}
+use Rattle.fb_types.specs.Counts.{IsNarrow}
 use Rattle.fb_types.specs.Flat.{kind_of, kind_at, network_at, paths_of, first_of}
 use Rattle.fb_types.specs.Repeated.{Twice, NameTwice, instance_names}
 use Rattle.fb_types.specs.Unknown.{event_ins, event_outs, data_ins, data_outs}
@@ -23,13 +24,7 @@ use Rattle.fb_system.specs.declared.tables.Tables.{Tables}
 
 -- ---- What the tables are
 
--- the indices of a type's ports fit in 32 bits
-pub record IsNarrow (p : Ports) : Type 0 where
-  pub event_inputs : length p.event_inputs < 2 ^ 32
-  pub event_outputs : length p.event_outputs < 2 ^ 32
-  pub inputs : length p.inputs < 2 ^ 32
-  pub outputs : length p.outputs < 2 ^ 32
-
+-- the indices of the ports of all types fit in 32 bits
 abbrev pub AreNarrow : List BlockType → Type 0
 AreNarrow ts = All (λ t. IsNarrow (ports_of (kind_of t))) ts
 

@@ -6,42 +6,41 @@ ghost use Rattle.fb_types.specs.Numbers.{path_at, ports_at};
 ghost use Rattle.fb_system.specs.Ends.{AreSources, AreTargets};
 
 use crate::ends::{Ends, FirstRows, MOST_ENDS, SourceRow, TargetRow};
-use crate::rows::number_of;
 use crate::system::System;
 use fb_types::{InstanceVariable, Items, Target};
 use std::alloc::{AllocError, Global};
 
 /// The number of event outputs, or of event inputs, of an instance that have rows. Event inputs connect to what is
 /// inside, so only those of a composite have rows.
-fn count_events(system: &System, instance: u32, are_outputs: bool) -> usize
+fn count_events(system: &System, instance: u32, are_outputs: bool) -> u32
     requires { instance < length (system_of system.now).paths }
     ensures { let its = ports_at (system_of system.now) (path_at (system_of system.now) instance) in
         result ≤ length (if are_outputs then its.event_outputs else its.event_inputs) }
 {
     let ports = system.ports(instance);
     if are_outputs {
-        ports.event_outputs.len()
+        ports.event_outputs.count()
     } else if system.components(instance).is_empty() {
         0
     } else {
-        ports.event_inputs.len()
+        ports.event_inputs.count()
     }
 }
 
 /// The number of data outputs, or of data inputs, of an instance that have rows. Data outputs connect to what is inside,
 /// so only those of a composite have rows.
-fn count_variables(system: &System, instance: u32, are_outputs: bool) -> usize
+fn count_variables(system: &System, instance: u32, are_outputs: bool) -> u32
     requires { instance < length (system_of system.now).paths }
     ensures { let its = ports_at (system_of system.now) (path_at (system_of system.now) instance) in
         result ≤ length (if are_outputs then its.outputs else its.inputs) }
 {
     let ports = system.ports(instance);
     if !are_outputs {
-        ports.inputs.len()
+        ports.inputs.count()
     } else if system.components(instance).is_empty() {
         0
     } else {
-        ports.outputs.len()
+        ports.outputs.count()
     }
 }
 
@@ -62,7 +61,7 @@ fn add_targets(
         }
         let from = Target {
             instance,
-            event: number_of(event)?,
+            event,
             is_output,
         };
         let first = system.reached(from, 0);
@@ -88,13 +87,18 @@ fn add_sources(
         }
         let to = InstanceVariable {
             instance,
-            variable: number_of(variable)?,
+            variable,
             is_output,
         };
         let source = system.source(to);
         rows.push(SourceRow { to, source })?;
     }
     Ok(())
+}
+
+/// The number of the row behind these, of those that are kept.
+fn row_behind(rows: usize) -> u32 {
+    rows.min(MOST_ENDS) as u32
 }
 
 /// Adds the rows of an instance.
@@ -105,13 +109,13 @@ fn add_instance(ends: &mut Ends, system: &System, instance: u32) -> Result<(), A
     ensures targets { OnOk result (AreTargets (system_of system.now) ends.new.targets) }
     ensures sources { OnOk result (AreSources (system_of system.now) ends.new.sources) }
 {
-    let event_inputs = number_of(ends.targets.len())?;
+    let event_inputs = row_behind(ends.targets.len());
     add_targets(&mut ends.targets, system, instance, false)?;
-    let event_outputs = number_of(ends.targets.len())?;
+    let event_outputs = row_behind(ends.targets.len());
     add_targets(&mut ends.targets, system, instance, true)?;
-    let inputs = number_of(ends.sources.len())?;
+    let inputs = row_behind(ends.sources.len());
     add_sources(&mut ends.sources, system, instance, false)?;
-    let outputs = number_of(ends.sources.len())?;
+    let outputs = row_behind(ends.sources.len());
     add_sources(&mut ends.sources, system, instance, true)?;
     ends.firsts.push(FirstRows {
         event_inputs,

@@ -7,7 +7,6 @@ ghost use Rattle.fb_system.specs.Stands.{AreIndexes};
 ghost use Rattle.fb_system.specs.Heads.{AreHeads, IsOfHead, IsRowOfHead, first_text, head_event, head_variables};
 
 use crate::heads::{Firsts, Head, HeadOf, Heads, MOST_ROWS, ROW};
-use crate::rows::number_of;
 use crate::system::System;
 use fb_types::{Items, Ports, Variable};
 use std::alloc::{AllocError, Global};
@@ -131,13 +130,13 @@ fn row_of(system: &System, text: &mut Vec<u8>, of: HeadOf) -> Result<Head, Alloc
 }
 
 /// The number of events that instances of a type take, or emit.
-fn events_of(ports: &Ports, taken: bool) -> usize
+fn events_of(ports: &Ports, taken: bool) -> u32
     ensures { result ≡ length (if taken then ports.now.event_inputs else ports.now.event_outputs) }
 {
     if taken {
-        ports.event_inputs.len()
+        ports.event_inputs.count()
     } else {
-        ports.event_outputs.len()
+        ports.event_outputs.count()
     }
 }
 
@@ -162,12 +161,17 @@ fn add_rows(
         let of = HeadOf {
             resource,
             instance,
-            event: number_of(event)?,
+            event,
             taken,
         };
         rows.push(row_of(system, text, of)?)?;
     }
     Ok(())
+}
+
+/// The number of the row behind these, of those that are kept.
+fn row_behind(rows: usize) -> u32 {
+    rows.min(MOST_ROWS) as u32
 }
 
 /// Adds the heads of an instance.
@@ -181,14 +185,15 @@ fn add_instance(
     requires rows { AreHeads (system_of system.now) heads.old.rows }
     ensures { OnOk result (AreHeads (system_of system.now) heads.new.rows) }
 {
+    system.facts();
     let resource = system.resource(instance);
     if resource >= system.resources() {
         return Ok(());
     }
-    let resource = number_of(resource)?;
-    let inputs = number_of(heads.rows.len())?;
+    let resource = resource as u32;
+    let inputs = row_behind(heads.rows.len());
     add_rows(&mut heads.rows, system, text, resource, instance, true)?;
-    let outputs = number_of(heads.rows.len())?;
+    let outputs = row_behind(heads.rows.len());
     add_rows(&mut heads.rows, system, text, resource, instance, false)?;
     heads.firsts.push(Firsts { inputs, outputs })
 }

@@ -48,7 +48,7 @@ pub use layout::{InstanceRow, Layout};
 pub use links::Links;
 pub use netlist::Netlist;
 pub use next_target::NextTarget;
-pub use rows::{SlotValue, StimulusRow, number_of};
+pub use rows::{SlotValue, StimulusRow};
 pub use stimulus::StimulusAt;
 pub use system::System;
 pub use wiring::Wiring;

@@ -1,14 +1,14 @@
 //! Makes the tables of a netlist.
 
-ghost use Rattle.std.specs.Prelude.{◌≡◌, ◌↔◌, ◌≤◌, length, IsTrue, IfOk};
-ghost use Rattle.fb_types.specs.Blocks.{ports_of};
-ghost use Rattle.fb_types.specs.Flat.{kind_of, paths_of};
+ghost use Rattle.std.specs.Prelude.{◌≡◌, ◌≤◌, length, IfOk};
+ghost use Rattle.fb_types.specs.Counts.{IsNarrow};
+ghost use Rattle.fb_types.specs.Flat.{paths_of};
 ghost use Rattle.fb_types.specs.Joined.{TooHigh};
 ghost use Rattle.fb_types.specs.Repeated.{NameTwice};
 ghost use Rattle.fb_types.specs.declared.deploy.Plan.{Plan};
 ghost use Rattle.fb_check_names.specs.Numbers.{IsResolved};
 ghost use Rattle.fb_system.specs.Layouts.{IsLayout};
-ghost use Rattle.fb_system.specs.Networks.{AreNarrow, IsNarrow};
+ghost use Rattle.fb_system.specs.Networks.{AreNarrow};
 
 use crate::layout::{Layout, layout_of};
 use crate::wiring::Wiring;
@@ -16,39 +16,26 @@ use fb_check_names::{NetworkNumbers, Resolved};
 use fb_types::{BlockType, Items, Library, Ports};
 use std::alloc::{AllocError, Global};
 
-/// Whether the index of each port fits in 32 bits.
-fn is_narrow(ports: &Ports) -> bool
-    ensures { IsTrue result ↔ IsNarrow ports.now }
+/// Says to proofs that the indices of the ports of a type fit in 32 bits.
+fn bound_ports(ports: &Ports)
+    ensures { IsNarrow ports.now }
 {
-    let most = u32::MAX as usize;
-    ports.event_inputs.len() <= most
-        && ports.event_outputs.len() <= most
-        && ports.inputs.len() <= most
-        && ports.outputs.len() <= most
+    ports.event_inputs.count();
+    ports.event_outputs.count();
+    ports.inputs.count();
+    ports.outputs.count();
 }
 
-fn is_narrow_block(block: &BlockType) -> bool
-    ensures { IsTrue result ↔ IsNarrow (ports_of (kind_of block.now)) }
-{
-    match block {
-        BlockType::Basic(basic) => is_narrow(&basic.ports),
-        BlockType::Composite(composite) => is_narrow(&composite.ports),
-    }
-}
-
-/// Whether the indices of the ports of all types fit in 32 bits.
-fn are_narrow(blocks: &[BlockType]) -> bool
-    ensures { IsTrue result ↔ AreNarrow blocks.now }
+/// Says to proofs that the indices of the ports of all types fit in 32 bits.
+fn bound_all(blocks: &[BlockType])
+    ensures { AreNarrow blocks.now }
 {
     for block in blocks {
-        if !is_narrow_block(block) {
-            return false;
-        }
+        bound_ports(block.ports());
     }
-    true
 }
 
-/// The layout of a declaration, if the indices of its ports fit in 32 bits. Otherwise the error is out of memory.
+/// The layout of a declaration. The indices of its ports fit in 32 bits.
 pub(crate) fn narrow_layout(
     alloc: Global,
     library: &Library,
@@ -60,9 +47,7 @@ pub(crate) fn narrow_layout(
     ensures narrow { IfOk result (λ _. AreNarrow library.now.blocks) }
     ensures layout { IfOk result (IsLayout library.now) }
 {
-    if !are_narrow(library.blocks.as_slice()) {
-        return Err(AllocError);
-    }
+    bound_all(library.blocks.as_slice());
     layout_of(alloc, library, numbers)
 }
 

@@ -1,12 +1,11 @@
 //! The indices of the variables WITH each event of a type of the declaration.
 
-ghost use Rattle.std.specs.Prelude.{◌≡◌, ◌<◌, ℕ, IfOk, length};
+ghost use Rattle.std.specs.Prelude.{◌≡◌, ◌<◌, ◌^◌, ℕ, IfOk, length};
 ghost use Rattle.std.specs.List.{filter};
 ghost use Rattle.fb_types.specs.Blocks.{among, variable_names};
 ghost use Rattle.fb_system.specs.Stands.{AreIndexes, AreIndexesOfEach, AreWithIndexes};
 ghost use Rattle.fb_system.specs.Lookups.{AreEvents, IsPlaced, IsList, StandFrom};
 
-use crate::rows::number_of;
 use fb_check_names::{Indexes, index_of};
 use fb_types::{EventPort, Items, Name, Ports, Variable};
 use std::alloc::{AllocError, Global};
@@ -40,6 +39,7 @@ fn indexes_of_list(
 ) -> Result<Items<u32>, AllocError>
     requires stand { (first : ℕ) × StandFrom first variables.now indexes.now }
     requires list { IsList variables.now list.now }
+    requires few { length variables.now < 2 ^ 32 }
     ensures { IfOk result (AreIndexes variables.now (filter (among list.now) (variable_names variables.now))) }
 {
     let first = first_index(variables, indexes);
@@ -48,7 +48,7 @@ fn indexes_of_list(
         let Some(index) = index_of(indexes, name.as_bytes()) else {
             unreachable!()
         };
-        numbers.push(number_of(index - first)?)?;
+        numbers.push((index - first) as u32)?;
     }
     numbers.sort_unstable();
     Ok(Items::from_vec(numbers))
@@ -63,6 +63,7 @@ fn indexes_of_lists(
 ) -> Result<Items<Items<u32>>, AllocError>
     requires stand { (first : ℕ) × StandFrom first variables.now indexes.now }
     requires events { AreEvents variables.now events.now }
+    requires few { length variables.now < 2 ^ 32 }
     ensures { IfOk result (AreIndexesOfEach events.now variables.now) }
 {
     let mut all = Items::new(alloc);
@@ -81,6 +82,8 @@ pub(crate) fn with_indexes(
     requires { IsPlaced ports.now indexes.now }
     ensures { IfOk result (AreWithIndexes ports.now) }
 {
+    ports.inputs.count();
+    ports.outputs.count();
     let inputs = indexes_of_lists(
         alloc,
         ports.event_inputs.as_slice(),

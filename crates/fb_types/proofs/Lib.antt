@@ -34,3 +34,4 @@ pub mod TwoLinks
 pub mod Acceptance
 pub mod ExamplesAccepted
 pub mod AllKinds
+pub mod EventCounts

@@ -10,6 +10,7 @@ pub mod Held
 pub mod Emitted
 pub mod Bodies
 pub mod Blocks
+pub mod Counts
 pub mod Charts
 pub mod EventBlocks
 pub mod EventPorts

@@ -10,6 +10,7 @@ use crate::event_kind::EventKind;
 use crate::items::Items;
 use crate::library::{EventPort, Ports, Variable};
 use crate::name::Name;
+use crate::numbered::Numbered;
 use crate::value::Ty;
 use std::alloc::{AllocError, Global};
 
@@ -216,10 +217,10 @@ pub fn ports_of(alloc: Global, kind: EventKind) -> Result<Ports, AllocError>
 {
     let rows = interface_rows(kind);
     Ok(Ports {
-        event_inputs: events(alloc, rows.event_inputs)?,
-        event_outputs: events(alloc, rows.event_outputs)?,
-        inputs: variables(alloc, rows.inputs)?,
-        outputs: variables(alloc, rows.outputs)?,
+        event_inputs: Numbered::new(events(alloc, rows.event_inputs)?),
+        event_outputs: Numbered::new(events(alloc, rows.event_outputs)?),
+        inputs: Numbered::new(variables(alloc, rows.inputs)?),
+        outputs: Numbered::new(variables(alloc, rows.outputs)?),
     })
 }
 

@@ -6,7 +6,7 @@
 //!
 //! Read in this order: `library`, `text`, `value`, `sort`, `function` and `name`, what is read; `deploy` and `latency`;
 //! `event_kind` and `event_ports`, the event blocks; `limits`; `key`, `run` and `emits`, what a simulation gives;
-//! `items`, `few`, `short`, `boxed` and `reference`; `laws`. The definitions are in `specs/`.
+//! `items`, `numbered`, `few`, `short`, `boxed` and `reference`; `laws`. The definitions are in `specs/`.
 #![tactic(auto)]
 
 pub mod boxed;
@@ -23,6 +23,7 @@ pub mod laws;
 pub mod library;
 pub mod limits;
 pub mod name;
+pub mod numbered;
 pub mod reference;
 pub mod run;
 mod short;
@@ -49,6 +50,7 @@ pub use limits::{
     MOST_STEPS, MOST_STIMULI, MOST_STIMULI_BYTES, MOST_WORKERS,
 };
 pub use name::Name;
+pub use numbered::Numbered;
 pub use reference::Reference;
 pub use run::{
     Carried, Emission, Emits, Event, Form, Halt, InstanceVariable, Line, Message, StopMark, Target,

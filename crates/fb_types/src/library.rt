@@ -10,6 +10,7 @@ ghost use Rattle.fb_types.specs.Names.{same_name};
 
 use crate::items::Items;
 use crate::name::Name;
+use crate::numbered::Numbered;
 use crate::text::{Body, Expr};
 use crate::value::{Ty, Value};
 
@@ -74,13 +75,13 @@ impl Variable {
 /// The interface of a type, each list in the order of the declaration.
 pub struct Ports {
     /// The event inputs.
-    pub event_inputs: Items<EventPort>,
+    pub event_inputs: Numbered<EventPort>,
     /// The event outputs.
-    pub event_outputs: Items<EventPort>,
+    pub event_outputs: Numbered<EventPort>,
     /// The data inputs.
-    pub inputs: Items<Variable>,
+    pub inputs: Numbered<Variable>,
     /// The data outputs.
-    pub outputs: Items<Variable>,
+    pub outputs: Numbered<Variable>,
 }
 
 impl Drop for Ports {
@@ -274,7 +275,7 @@ impl Drop for Instance {
 /// Instances and their connections, in the order of the text.
 pub struct Network {
     /// The instances.
-    pub instances: Items<Instance>,
+    pub instances: Numbered<Instance>,
     /// The connections of events.
     pub event_connections: Items<Connection>,
     /// The connections of data.

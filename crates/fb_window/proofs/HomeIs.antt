@@ -1,5 +1,5 @@
 -- Resources come home one after another.
-use Rattle.std.proofs.Common.{◌≡◌, ℕ, ◌+◌, Option, Some, None, List, [], ◌∷◌, ◌++◌, length, drop, refl, ap, ◌∙◌, subst, ⊎_elim, arith}
+use Rattle.std.proofs.Common.{◌≡◌, ℕ, ◌+◌, Option, Some, None, List, [], ◌∷◌, ◌++◌, length, map, drop, refl, sym, ap, ◌∙◌, subst, ⊎_elim, arith}
 use Rattle.std.specs.Global.{Vec}
 use Rattle.std.specs.List.{AllZip}
 use Rattle.std.specs.Prelude.{slice_get, slice_index_or}
@@ -14,7 +14,7 @@ use Rattle.fb_resource.specs.declared.resource.Resource.{Resource}
 use Rattle.fb_resource.specs.declared.resource.WindowDone.{WindowDone}
 use Rattle.fb_resource.specs.declared.resource.WindowDone.TheVariants.{Ran}
 use Rattle.fb_window.specs.Jobs.{Does, JobModel, job_of, jobs_of, resting_of}
-use Rattle.fb_window.specs.Homes.{HasCome, IsHomeAt, IsHomeTo, AreHome}
+use Rattle.fb_window.specs.Homes.{AreAwaited, HasCome, IsHomeAt, IsHomeTo, AreHome}
 use Rattle.fb_window.specs.declared.home.Home.{Home}
 use Rattle.fb_laws.proofs.Indexes.{push_here, push_before, push_counted, drop_at, drop_none}
 
@@ -32,6 +32,107 @@ resting_none x e = go x.stopped refl e
     go : (o : Option Reason) → x.stopped ≡ o → elim o as (λ _. Option Resource) [ None ↦ None | Some reason ↦ Some x ] ≡ None → x.stopped ≡ None
     go None q f = q
     go (Some reason) q f = absurd (let g : Some x ≡ None = f in cc)
+
+-- a resource that has not stopped has a job
+job_there : (i : Inputs) (limit to : ℕ) (x : Resource) → x.stopped ≡ None → job_of i limit to x ≡ record { inputs = i; steps = limit; resource = x; to = to } ∷ []
+job_there i limit to x live = go x.stopped live
+  where
+    go : (o : Option Reason) → o ≡ None → elim o as (λ _. List JobModel) [ None ↦ record { inputs = i; steps = limit; resource = x; to = to } ∷ [] | Some q ↦ [] ] ≡ record { inputs = i; steps = limit; resource = x; to = to } ∷ []
+    go None e = refl
+    go (Some q) e = absurd (let f : Some q ≡ None = e in cc)
+
+-- one that has stopped has none
+no_job : (i : Inputs) (limit to : ℕ) (x : Resource) (reason : Reason) → x.stopped ≡ Some reason → job_of i limit to x ≡ []
+no_job i limit to x reason stop = go x.stopped stop
+  where
+    go : (o : Option Reason) → o ≡ Some reason → elim o as (λ _. List JobModel) [ None ↦ record { inputs = i; steps = limit; resource = x; to = to } ∷ [] | Some q ↦ [] ] ≡ []
+    go None e = absurd (let f : None ≡ Some reason = e in cc)
+    go (Some q) e = refl
+
+-- ---- What is awaited
+
+-- what is awaited is at the head of its lists
+pub record AwaitsFirst (r : Option Resource) (rs : List (Option Resource)) (ks : List (Vec Line)) (ds : List WindowDone) : Type 0 where
+  pub inputs : Inputs
+  pub limit : ℕ
+  pub bounds : List ℕ
+  pub index : ℕ
+  pub first : Resource
+  pub rest : List Resource
+  pub is : r ≡ resting_of first
+  pub are : rs ≡ map resting_of rest
+  pub counted : length ks ≡ length rest + 1
+  pub done : AllZip Does (job_of inputs limit (slice_index_or bounds index 0) first ++ jobs_of inputs limit bounds (index + 1) rest) ds
+
+awaits_first : (r : Option Resource) (rs : List (Option Resource)) (ks : List (Vec Line)) (ds : List WindowDone) → AreAwaited (r ∷ rs) ks ds → AwaitsFirst r rs ks ds
+awaits_first r rs ks ds a = go a.resources a.is a.counted a.done
+  where
+    go : (xs : List Resource) → r ∷ rs ≡ map resting_of xs → length ks ≡ length xs → AllZip Does (jobs_of a.inputs a.limit a.bounds a.index xs) ds → AwaitsFirst r rs ks ds
+    go [] is counted done = absurd (let f : r ∷ rs ≡ [] = is in cc)
+    go (x ∷ xs) is counted done =
+        let f : r ∷ rs ≡ resting_of x ∷ map resting_of xs = is in
+        record {
+          inputs = a.inputs;
+          limit = a.limit;
+          bounds = a.bounds;
+          index = a.index;
+          first = x;
+          rest = xs;
+          is = cc;
+          are = cc;
+          counted = omega (arith, counted);
+          done = done;
+        }
+
+-- there are lines for each that is awaited
+pub lines_awaited : (r : Option Resource) (rs : List (Option Resource)) (ds : List WindowDone) → AreAwaited (r ∷ rs) [] ds → ⊥
+lines_awaited r rs ds a = let f = awaits_first r rs [] ds a in let n = f.counted in omega (arith, n)
+
+-- and a done value for each that has not rested
+pub done_awaited : (rs : List (Option Resource)) (ks : List (Vec Line)) → AreAwaited (None ∷ rs) ks [] → ⊥
+done_awaited rs ks a =
+    let f = awaits_first None rs ks [] a in
+    let jobs = subst (λ (js : List JobModel). AllZip Does (js ++ jobs_of f.inputs f.limit f.bounds (f.index + 1) f.rest) [])
+    (job_there f.inputs f.limit (slice_index_or f.bounds f.index 0) f.first (resting_none f.first (sym f.is))) f.done in
+    absurd jobs
+
+-- the others are awaited behind one that has rested
+pub awaited_rested : (y : Resource) (rs : List (Option Resource)) (k : Vec Line) (ks : List (Vec Line)) (ds : List WindowDone) → AreAwaited (Some y ∷ rs) (k ∷ ks) ds → AreAwaited rs ks ds
+awaited_rested y rs k ks ds a =
+    let f = awaits_first (Some y) rs (k ∷ ks) ds a in
+    let stop = resting_some f.first y (sym f.is) in
+    let n = f.counted in
+    record {
+      inputs = f.inputs;
+      limit = f.limit;
+      bounds = f.bounds;
+      index = f.index + 1;
+      resources = f.rest;
+      is = f.are;
+      counted = omega (arith, n);
+      done = subst (λ (js : List JobModel). AllZip Does (js ++ jobs_of f.inputs f.limit f.bounds (f.index + 1) f.rest) ds)
+          (no_job f.inputs f.limit (slice_index_or f.bounds f.index 0) f.first stop.0 stop.1) f.done;
+    }
+
+-- and behind one that has come back
+pub awaited_ran : (rs : List (Option Resource)) (k : Vec Line) (ks : List (Vec Line)) (d : WindowDone) (ds : List WindowDone) → AreAwaited (None ∷ rs) (k ∷ ks) (d ∷ ds) → AreAwaited rs ks ds
+awaited_ran rs k ks d ds a =
+    let f = awaits_first None rs (k ∷ ks) (d ∷ ds) a in
+    let jobs = subst (λ (js : List JobModel). AllZip Does (js ++ jobs_of f.inputs f.limit f.bounds (f.index + 1) f.rest) (d ∷ ds))
+    (job_there f.inputs f.limit (slice_index_or f.bounds f.index 0) f.first (resting_none f.first (sym f.is))) f.done in
+    let n = f.counted in
+    record {
+      inputs = f.inputs;
+      limit = f.limit;
+      bounds = f.bounds;
+      index = f.index + 1;
+      resources = f.rest;
+      is = f.are;
+      counted = omega (arith, n);
+      done = jobs.1;
+    }
+
+-- ---- One more
 
 -- one more was put behind what was there
 pub record IsPushed (y : Resource) (lines : Vec Line) (sent : Vec Message) (old new : Home) : Type 0 where
@@ -104,12 +205,7 @@ module _ (i : Inputs) (limit : ℕ) (bounds : List ℕ) (xs : List Resource) (li
   home_rested index x k sent ks ds old new reason at stop h p none =
       home_push index x x k k sent ks ds ds old new at h p
       (record { ran = λ e. absurd (none_some _ _ e stop); rested = λ q e. (refl, refl, none) })
-      (subst (λ (o : List JobModel). AllZip Does (o ++ jobs_of i limit bounds (index + 1) (drop (index + 1) xs)) ds) (no_job x.stopped stop) (jobs_left index x ds at h.done))
-    where
-      no_job : (o : Option Reason) → o ≡ Some reason
-          → elim o as (λ _. List JobModel) [ None ↦ record { inputs = i; steps = limit; resource = x; to = slice_index_or bounds index 0 } ∷ [] | Some q ↦ [] ] ≡ []
-      no_job None e = absurd (let f : None ≡ Some reason = e in cc)
-      no_job (Some q) e = refl
+      (subst (λ (o : List JobModel). AllZip Does (o ++ jobs_of i limit bounds (index + 1) (drop (index + 1) xs)) ds) (no_job i limit (slice_index_or bounds index 0) x reason stop) (jobs_left index x ds at h.done))
 
   -- and one that ran
   pub home_ran : (index : ℕ) (x y : Resource) (k new_lines lines : Vec Line) (sent : Vec Message) (stop : Option StopMark) (ks : List (Vec Line)) (ds : List WindowDone) (old new : Home)
@@ -117,15 +213,10 @@ module _ (i : Inputs) (limit : ℕ) (bounds : List ℕ) (xs : List Resource) (li
       → lines.items ≡ k.items ++ new_lines.items
       → IsHomeTo i limit bounds xs lists (index + 1) ks ds new
   home_ran index x y k new_lines lines sent stop ks ds old new at live h p joined =
-      let jobs = subst (λ (o : List JobModel). AllZip Does (o ++ jobs_of i limit bounds (index + 1) (drop (index + 1) xs)) (Ran y new_lines sent stop ∷ ds)) (one_job x.stopped live) (jobs_left index x (Ran y new_lines sent stop ∷ ds) at h.done) in
+      let jobs = subst (λ (o : List JobModel). AllZip Does (o ++ jobs_of i limit bounds (index + 1) (drop (index + 1) xs)) (Ran y new_lines sent stop ∷ ds)) (job_there i limit (slice_index_or bounds index 0) x live) (jobs_left index x (Ran y new_lines sent stop ∷ ds) at h.done) in
       home_push index x y k lines sent ks (Ran y new_lines sent stop ∷ ds) ds old new at h p
       (record { ran = λ e. (new_lines, stop, jobs.0, joined); rested = λ q e. absurd (none_some _ _ live e) })
       jobs.1
-    where
-      one_job : (o : Option Reason) → o ≡ None
-          → elim o as (λ _. List JobModel) [ None ↦ record { inputs = i; steps = limit; resource = x; to = slice_index_or bounds index 0 } ∷ [] | Some q ↦ [] ] ≡ record { inputs = i; steps = limit; resource = x; to = slice_index_or bounds index 0 } ∷ []
-      one_job None e = refl
-      one_job (Some q) e = absurd (let f : Some q ≡ None = e in cc)
 
 -- none has come home yet
 pub home_none : (i : Inputs) (limit : ℕ) (bounds : List ℕ) (xs : List Resource) (lists : List (Vec Line)) (ds : List WindowDone) (h : Home)

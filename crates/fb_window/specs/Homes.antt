@@ -1,5 +1,5 @@
 -- What becomes of resources that were away, before their messages are exchanged (this project's profile).
-use Rattle.std.specs.Prelude.{◌≡◌, ℕ, ◌<◌, ◌++◌, List, [], drop, length, Option, Some, None, slice_get, slice_index_or}
+use Rattle.std.specs.Prelude.{◌≡◌, ℕ, ◌<◌, ◌++◌, List, [], drop, length, map, Option, Some, None, slice_get, slice_index_or}
 use Rattle.std.specs.Global.{Vec}
 use Rattle.std.specs.List.{AllZip}
 use Rattle.fb_types.specs.Headline.{Inputs}
@@ -11,7 +11,7 @@ use Rattle.fb_resource.specs.Resources.{HasRun}
 use Rattle.fb_resource.specs.declared.resource.Resource.{Resource}
 use Rattle.fb_resource.specs.declared.resource.WindowDone.{WindowDone}
 use Rattle.fb_resource.specs.declared.resource.WindowDone.TheVariants.{Ran}
-use Rattle.fb_window.specs.Jobs.{Does, jobs_of}
+use Rattle.fb_window.specs.Jobs.{Does, jobs_of, resting_of}
 use Rattle.fb_window.specs.declared.home.Home.{Home}
 
 -- A resource that ran comes back from below its bound, its lines behind those that were kept; one that has stopped is as it was.
@@ -41,6 +41,17 @@ pub record IsHomeTo (i : Inputs) (limit : ℕ) (bounds : List ℕ) (xs : List Re
   pub left : kept ≡ drop index lists
   pub done : AllZip Does (jobs_of i limit bounds index (drop index xs)) dones
   pub each : (r : ℕ) → r < index → IsHomeAt i limit bounds xs lists r h
+
+-- Resources are awaited, the first of them at this index: those that rest, the lines that each has kept, and a done value for each job of the others.
+pub record AreAwaited (resting : List (Option Resource)) (kept : List (Vec Line)) (dones : List WindowDone) : Type 0 where
+  pub inputs : Inputs
+  pub limit : ℕ
+  pub bounds : List ℕ
+  pub index : ℕ
+  pub resources : List Resource
+  pub is : resting ≡ map resting_of resources
+  pub counted : length kept ≡ length resources
+  pub done : AllZip Does (jobs_of inputs limit bounds index resources) dones
 
 -- All are home.
 pub record AreHome (i : Inputs) (limit : ℕ) (bounds : List ℕ) (xs : List Resource) (lists : List (Vec Line)) (h : Home) : Type 0 where

@@ -1,13 +1,13 @@
 //! Resources that have come home, with their lines and their messages.
 
-ghost use Rattle.std.specs.Prelude.{◌≡◌, ◌+◌, ◌++◌, ℕ, List, [], ◌∷◌, IfOk, OnOk, Some, map, slice_get};
+ghost use Rattle.std.specs.Prelude.{◌≡◌, ◌+◌, ◌++◌, ℕ, List, Option, [], ◌∷◌, IfOk, OnOk, Some, map, slice_get};
 ghost use Rattle.std.specs.List.{AllZip};
 ghost use Rattle.std.specs.Global.{Vec};
 ghost use Rattle.std.specs.Vec.Iter.{into_iter_items};
 ghost use Rattle.fb_types.specs.Headline.{Inputs};
 ghost use Rattle.fb_types.specs.declared.run.Line.{Line};
 ghost use Rattle.fb_resource.specs.declared.resource.Resource.{Resource};
-ghost use Rattle.fb_window.specs.Homes.{AreHome, IsHomeTo};
+ghost use Rattle.fb_window.specs.Homes.{AreAwaited, AreHome, IsHomeTo};
 ghost use Rattle.fb_window.specs.Jobs.{Does, jobs_of, resting_of};
 
 use crate::cores::Failed;
@@ -71,13 +71,16 @@ impl Home {
         pending: &mut IntoIter<Vec<Line>>,
         dones: &mut IntoIter<WindowDone>,
     ) -> Result<(), Failed>
-        ensures { OnOk result ((i : Inputs) (limit : ℕ) (bounds : List ℕ) (xs : List Resource) (lists : List (Vec Line)) (index : ℕ) (x : Resource)
+        requires { (rest : List (Option Resource)) × AreAwaited (rested ∷ rest) (into_iter_items pending.old) (into_iter_items dones.old) }
+        ensures awaited { OnOk result ((rest : List (Option Resource)) → AreAwaited (rested ∷ rest) (into_iter_items pending.old) (into_iter_items dones.old)
+            → AreAwaited rest (into_iter_items pending.new) (into_iter_items dones.new)) }
+        ensures home { OnOk result ((i : Inputs) (limit : ℕ) (bounds : List ℕ) (xs : List Resource) (lists : List (Vec Line)) (index : ℕ) (x : Resource)
             → slice_get xs index ≡ Some x → rested ≡ resting_of x
             → IsHomeTo i limit bounds xs lists index (into_iter_items pending.old) (into_iter_items dones.old) self.old
             → IsHomeTo i limit bounds xs lists (index + 1) (into_iter_items pending.new) (into_iter_items dones.new) self.new) }
     {
         let Some(kept) = pending.next() else {
-            return Err(Failed);
+            unreachable!()
         };
         if let Some(resource) = rested {
             self.push(resource, kept, Vec::new(alloc))?;
@@ -95,7 +98,8 @@ impl Home {
                 self.push(resource, keep(kept, lines)?, sent)?;
                 Ok(())
             }
-            Some(WindowDone::NoMemory) | None => Err(Failed),
+            Some(WindowDone::NoMemory) => Err(Failed),
+            None => unreachable!(),
         }
     }
 
@@ -107,6 +111,7 @@ impl Home {
         pending: &mut IntoIter<Vec<Line>>,
         dones: &mut IntoIter<WindowDone>,
     ) -> Result<(), Failed>
+        requires { AreAwaited resting.items (into_iter_items pending.old) (into_iter_items dones.old) }
         ensures { OnOk result ((i : Inputs) (limit : ℕ) (bounds : List ℕ) (xs : List Resource) (lists : List (Vec Line))
             → resting.items ≡ map resting_of xs
             → IsHomeTo i limit bounds xs lists 0 (into_iter_items pending.old) (into_iter_items dones.old) self.old
@@ -129,6 +134,7 @@ pub(crate) fn come_home(
     pending: Vec<Vec<Line>>,
     dones: Vec<WindowDone>,
 ) -> Result<Home, Failed>
+    requires { AreAwaited resting.items pending.items dones.items }
     ensures { IfOk result (λ h. (i : Inputs) (limit : ℕ) (bounds : List ℕ) (xs : List Resource)
         → resting.items ≡ map resting_of xs → AllZip Does (jobs_of i limit bounds 0 xs) dones.items
         → AreHome i limit bounds xs pending.items h) }

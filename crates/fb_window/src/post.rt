@@ -23,11 +23,12 @@ fn deliver_next(
     mut resource: Resource,
     lists: &mut IntoIter<Vec<Message>>,
 ) -> Result<(), AllocError>
+    requires { 0 < length (into_iter_items lists.old) }
     ensures { OnOk result ((box : Vec model.Message) × (y : Resource) × (into_iter_items lists.old ≡ box ∷ into_iter_items lists.new)
         × HasReceived box.items resource y × (delivered.new.items ≡ delivered.old.items ++ y ∷ [])) }
 {
     let Some(messages) = lists.next() else {
-        return Err(AllocError);
+        unreachable!()
     };
     match resource.receive(messages) {
         Ok(()) => {
@@ -45,7 +46,8 @@ fn deliver_each(
     resources: Vec<Resource>,
     lists: &mut IntoIter<Vec<Message>>,
 ) -> Result<(), AllocError>
-    requires { delivered.old.items ≡ [] }
+    requires none { delivered.old.items ≡ [] }
+    requires counted { length (into_iter_items lists.old) ≡ length resources.items }
     ensures { OnOk result (AreDelivered resources.items (into_iter_items lists.old) delivered.new.items) }
 {
     for resource in resources {
@@ -60,6 +62,7 @@ fn deliver(
     resources: Vec<Resource>,
     inboxes: Vec<Vec<Message>>,
 ) -> Result<Vec<Resource>, AllocError>
+    requires { length inboxes.items ≡ length resources.items }
     ensures { IfOk result (λ v. AreDelivered resources.items inboxes.items v.items) }
 {
     let mut delivered = Vec::new(alloc);
@@ -90,7 +93,8 @@ pub(crate) fn post(
     resources: Vec<Resource>,
     outboxes: Vec<Vec<Message>>,
 ) -> Result<Vec<Resource>, AllocError>
-    requires { All (λ box. All (λ m. m.target.instance < length (system_of system.now).paths) box.items) outboxes.items }
+    requires counted { length resources.items ≡ length (system_of system.now).resource_names }
+    requires targets { All (λ box. All (λ m. m.target.instance < length (system_of system.now).paths) box.items) outboxes.items }
     ensures { IfOk result (λ v. ArePosted (system_of system.now) (all_of outboxes.items) resources.items v.items) }
 {
     if are_empty(&outboxes) {

@@ -53,7 +53,7 @@ number_of _ = None
 
 -- The note is the text of a place at which the refusal of this number applies.
 abbrev pub IsNoteOfNumber : Given → (number : ℕ) → List ℕ → Type 0
-IsNoteOfNumber given number note = (r : Finding) × (string_bytes r.text ≡ note) × Tells given.declaration given.deploy given.stimuli number r.place
+IsNoteOfNumber given number note = (r : Finding) × (string_bytes r.text ≡ note) × Tells given.declaration given.deploy given.stimuli number r.location
 
 -- The note is that of the number of the refusal.
 abbrev pub IsNote : Given → Failure → List ℕ → Type 0

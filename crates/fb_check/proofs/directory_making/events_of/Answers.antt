@@ -1,9 +1,9 @@
-use Rattle.std.proofs.Common.{ℕ, sym, ◌∙◌}
+use Rattle.std.proofs.Common.{ℕ, refl, sym, ◌∙◌}
 use Rattle.fb_types.specs.Names.{Name}
 use Rattle.fb_types.specs.declared.library.EventPort.{EventPort}
 use Rattle.fb_check.proofs.Steps.{first_none, first_kept, first_more}
 use Rattle.fb_check.proofs.directory_making.events_of.Goals as goal
-use Rattle.fb_check.proofs.directory_making.events_of.Goals.{then-not-contains_key+in_ok-number_of+in_ok-insert, else-not-contains_key}
+use Rattle.fb_check.proofs.directory_making.events_of.Goals.{then-not-contains_key+in_ok-insert, else-not-contains_key}
 
 abbrev name_of : EventPort → Name
 name_of e = e.name
@@ -17,10 +17,10 @@ loop-index-init c = first_none name_of index_of _ c.new-indexes.ensures.empty
 pub loop-index-preserved : goal.loop-index-preserved
 loop-index-preserved c =
     elim c.if-not-contains_key.branch [
-      | then-not-contains_key+in_ok-number_of+in_ok-insert w ↦
+      | then-not-contains_key+in_ok-insert w ↦
           rw w.indexes-is
           (first_more name_of index_of _ _ _ c.loop-index.indexes _ c.as_bytes-name.result _ c.loop-index-test.true c.index-events-index.is c.as_bytes-name.ensures
-          w.in_ok-number_of.ensures (sym c.contains_key.ensures ∙ w.if-not-contains_key.true) c.loop-index.invariant w.in_ok-insert.ensures.updates.0)
+          refl (sym c.contains_key.ensures ∙ w.if-not-contains_key.true) c.loop-index.invariant w.in_ok-insert.ensures.updates.0)
       | else-not-contains_key w ↦
           rw w.indexes-is
           (first_kept name_of index_of _ _ _ c.loop-index.indexes c.as_bytes-name.result.now c.loop-index-test.true c.index-events-index.is c.as_bytes-name.ensures

@@ -1,10 +1,10 @@
-use Rattle.std.proofs.Common.{ℕ, sym, ◌∙◌, ap}
+use Rattle.std.proofs.Common.{refl, sym, ◌∙◌}
 use Rattle.fb_types.specs.Names.{Name}
 use Rattle.fb_types.specs.declared.library.Variable.{Variable}
 use Rattle.fb_check.specs.Directory.{input_of}
 use Rattle.fb_check.proofs.Steps.{first_none, first_kept, first_more}
 use Rattle.fb_check.proofs.directory_making.variables_of.Goals as goal
-use Rattle.fb_check.proofs.directory_making.variables_of.Goals.{then-not-contains_key+in_ok-index+in_ok-insert, else-not-contains_key}
+use Rattle.fb_check.proofs.directory_making.variables_of.Goals.{then-not-contains_key+in_ok-insert, else-not-contains_key}
 
 abbrev name_of : Variable → Name
 name_of e = e.name
@@ -15,10 +15,10 @@ loop-index-init c = first_none name_of input_of _ c.new-inputs.ensures.empty
 pub loop-index-preserved : goal.loop-index-preserved
 loop-index-preserved c =
     elim c.if-not-contains_key.branch [
-      | then-not-contains_key+in_ok-index+in_ok-insert w ↦
+      | then-not-contains_key+in_ok-insert w ↦
           rw w.inputs-is
           (first_more name_of input_of _ _ _ c.loop-index.inputs _ c.as_bytes-name.result _ c.loop-index-test.true c.index-variables-index.is c.as_bytes-name.ensures
-          (ap (λ (k : ℕ). input_of k c.index-variables-index.result) w.in_ok-index.ensures) (sym c.contains_key.ensures ∙ w.if-not-contains_key.true) c.loop-index.invariant w.in_ok-insert.ensures.updates.0)
+          refl (sym c.contains_key.ensures ∙ w.if-not-contains_key.true) c.loop-index.invariant w.in_ok-insert.ensures.updates.0)
       | else-not-contains_key w ↦
           rw w.inputs-is
           (first_kept name_of input_of _ _ _ c.loop-index.inputs c.as_bytes-name.result.now c.loop-index-test.true c.index-variables-index.is c.as_bytes-name.ensures

@@ -26,7 +26,7 @@ returns-in_default-inputs_at c =
     let at = placed_at (instance_names lib.application.network) c.args.catalog.now.instances s.instance c.as_bytes.result.now c.index_of.result
     c.requires.catalog.1.instances c.as_bytes.ensures c.index_of.ensures in
     let P : Option TypeInputs → Type 0 = λ o. IsFound (ports_at_index lib c.in-Some.index) o in
-    no_instance lib s (found_at lib s c.in-Some.index None (at ∙ c.in-Some.is, subst P (ap option_copied c.in_default-inputs_at.is) c.inputs_at.ensures))
+    no_instance lib s (found_at lib s c.in-Some.index None (at ∙ c.in-Some.is, subst P (ap option_copied c.in_default-inputs_at.is) c.inputs_at.ensures.found))
 
 pub returns-in_default-event_index : goal.returns-in_default-event_index
 returns-in_default-event_index c =
@@ -36,7 +36,7 @@ returns-in_default-event_index c =
     c.requires.catalog.1.instances c.as_bytes.ensures c.index_of.ensures in
     let x = c.in-Some-inputs_at.inputs.now in
     let P : Option TypeInputs → Type 0 = λ o. IsFound (ports_at_index lib c.in-Some.index) o in
-    no_event lib s x (found_at lib s c.in-Some.index (Some x) (at ∙ c.in-Some.is, subst P (ap option_copied c.in-Some-inputs_at.is) c.inputs_at.ensures))
+    no_event lib s x (found_at lib s c.in-Some.index (Some x) (at ∙ c.in-Some.is, subst P (ap option_copied c.in-Some-inputs_at.is) c.inputs_at.ensures.found))
     (ap is_some (ap (index_in x.events) (sym c.as_bytes-2.ensures) ∙ sym c.event_index.ensures ∙ c.in_default-event_index.is))
 
 pub returns-then-branch : goal.returns-then-branch
@@ -52,7 +52,7 @@ returns-in-None c =
     let x = c.in-Some-inputs_at.inputs.now in
     let P : Option TypeInputs → Type 0 = λ o. IsFound (ports_at_index lib c.in-Some.index) o in
     slots_none lib d s x c.in-Some.index c.in-Some-event_index.event c.requires.directory
-    (at ∙ c.in-Some.is, subst P (ap option_copied c.in-Some-inputs_at.is) c.inputs_at.ensures)
+    (at ∙ c.in-Some.is, subst P (ap option_copied c.in-Some-inputs_at.is) c.inputs_at.ensures.found)
     (ap (index_in x.events) (sym c.as_bytes-2.ensures) ∙ sym c.event_index.ensures ∙ c.in-Some-event_index.is)
     (λ t. true≢false (sym (c.in_ok-has_setting_twice.ensures.1 t) ∙ c.if-branch.false)) (sym c.in_ok-sets.ensures ∙ c.in-None.is)
 
@@ -66,7 +66,7 @@ returns-in-Some-2 c =
     let x = c.in-Some-inputs_at.inputs.now in
     let P : Option TypeInputs → Type 0 = λ o. IsFound (ports_at_index lib c.in-Some.index) o in
     taken_is lib d s x _ c.in-Some.index c.in-Some-event_index.event c.requires.directory
-    (at ∙ c.in-Some.is, subst P (ap option_copied c.in-Some-inputs_at.is) c.inputs_at.ensures)
+    (at ∙ c.in-Some.is, subst P (ap option_copied c.in-Some-inputs_at.is) c.inputs_at.ensures.found)
     (ap (index_in x.events) (sym c.as_bytes-2.ensures) ∙ sym c.event_index.ensures ∙ c.in-Some-event_index.is)
     (λ t. true≢false (sym (c.in_ok-has_setting_twice.ensures.1 t) ∙ c.if-branch.false)) (sym c.in_ok-sets.ensures ∙ c.in-Some-2.is)
-    refl c.in_ok-instance.ensures refl
+    refl refl refl

@@ -7,7 +7,7 @@ use Rattle.fb_read.proofs.TokenLaws.{begun, ended, one_more, unclosed, faulty}
 use Rattle.fb_read.proofs.tokens.lex.Goals as goal
 
 pub tokens-init : goal.tokens-init
-tokens-init c = record { reading = begun _ _ _ c.new-found.ensures c.behind_mark-rest.ensures.value; within = omega arith }
+tokens-init c = record { reading = begun _ _ _ c.new-found.ensures c.behind_mark-rest.ensures.value; within = omega arith; few = grind (arith, common_steps) }
 
 pub returns-in_default-clause-fault : goal.returns-in_default-clause-fault
 returns-in_default-clause-fault c = let h : skip start c.tokens.rest.now ≡ None = search rules in unclosed _ c.tokens.rest.now _ c.tokens.invariant.reading h
@@ -32,4 +32,5 @@ tokens-preserved c =
       reading = one_more c.tokens.found c.push.new.self _ c.tokens.rest.now _ c.in-Some.here.now c.split_at.result.1.now c.in_ok-token.len c.in_ok-push.ensures.ok c.split_at.ensures.back
           c.tokens.invariant.reading h e;
       within = grind (arith, common_steps);
+      few = grind (arith, common_steps);
     }

@@ -1,4 +1,4 @@
-use Rattle.std.proofs.Common.{◌≡◌, ℕ, ◌+◌, ◌++◌, ◌∷◌, [], List, Some, None, map, take, sym, ◌∙◌, ap, subst, arith}
+use Rattle.std.proofs.Common.{◌≡◌, ℕ, ◌+◌, ◌-◌, ◌++◌, ◌∷◌, [], List, Some, None, map, take, sym, ◌∙◌, ap, subst, arith}
 use Rattle.std.specs.List.{filter}
 use Rattle.std.proofs.lemmas.List.{take_all}
 use Rattle.fb_types.specs.Blocks.{among, variable_names}
@@ -29,6 +29,19 @@ overflow_sub-index c =
     let first = c.first_index-first.ensures stand.0 stand.1 found.1 in
     omega (arith, index, first)
 
+pub overflow_cast-index : goal.overflow_cast-index
+overflow_cast-index c =
+    let vs = c.args.variables.now in
+    let stand = c.requires.stand in
+    let found =
+    found_index vs c.args.indexes.now stand.0 c.args.list.now _ c.name-item.result _ _ stand.1 c.requires.list c.loop-name-test.true c.name-item.is
+    c.as_bytes.ensures c.index_of.ensures in
+    let same : Some c.in-Some.index ≡ Some (stand.0 + own_index vs c.name-item.result) = sym c.in-Some.is ∙ found.0 in
+    let index : c.in-Some.index ≡ stand.0 + own_index vs c.name-item.result = cc in
+    let first = c.first_index-first.ensures stand.0 stand.1 found.1 in
+    let within = found.2 in
+    record { fits = omega (arith, index, first, within, c.requires.few) }
+
 pub loop-name-preserved : goal.loop-name-preserved
 loop-name-preserved c =
     let vs = c.args.variables.now in
@@ -42,8 +55,8 @@ loop-name-preserved c =
     let same : Some c.in-Some.index ≡ Some (stand.0 + own n) = sym c.in-Some.is ∙ found.0 in
     let index : c.in-Some.index ≡ stand.0 + own n = cc in
     let first = c.first_index-first.ensures stand.0 stand.1 found.1 in
-    let number : c.in_ok-number_of.field-0 ≡ own n = omega (arith, index, first, c.in_ok-number_of.ensures) in
-    c.in_ok-push.ensures.items ∙ ap (λ (l : List ℕ). l ++ c.in_ok-number_of.field-0 ∷ []) c.loop-name.invariant
+    let number : c.in-Some.index - c.first_index-first.result ≡ own n = omega (arith, index, first) in
+    c.in_ok-push.ensures.items ∙ ap (λ (l : List ℕ). l ++ (c.in-Some.index - c.first_index-first.result) ∷ []) c.loop-name.invariant
     ∙ ap (λ (k : ℕ). map own (take i c.args.list.now) ++ k ∷ []) number ∙ sym (map_take_more own c.args.list.now i n c.loop-name-test.true c.name-item.is)
 
 pub returns : goal.returns

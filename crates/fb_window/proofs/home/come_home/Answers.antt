@@ -4,11 +4,16 @@ use Rattle.std.specs.List.{AllZip}
 use Rattle.std.specs.Vec.Iter.{into_iter_items}
 use Rattle.fb_types.specs.declared.run.Line.{Line}
 use Rattle.fb_resource.specs.declared.resource.WindowDone.{WindowDone}
-use Rattle.fb_window.specs.Homes.{IsHomeTo}
+use Rattle.fb_window.specs.Homes.{AreAwaited, IsHomeTo}
 use Rattle.fb_window.specs.Jobs.{Does, jobs_of}
 use Rattle.fb_window.specs.declared.home.Home.{Home}
 use Rattle.fb_window.proofs.HomeIs.{home_none}
 use Rattle.fb_window.proofs.home.come_home.Goals as goal
+
+pub admit_all-admitted-requires : goal.admit_all-admitted-requires
+admit_all-admitted-requires c =
+    subst (λ (ks : List (Vec Line)). AreAwaited c.args.resting.items ks (into_iter_items c.into_iter-2.result)) (sym c.into_iter.ensures.rest)
+    (subst (λ (ds : List WindowDone). AreAwaited c.args.resting.items c.args.pending.items ds) (sym c.into_iter-2.ensures.rest) c.requires)
 
 pub returns : goal.returns
 returns c = λ i limit bounds xs same jobs.

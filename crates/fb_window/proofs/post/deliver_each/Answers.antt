@@ -1,9 +1,21 @@
-use Rattle.std.proofs.Common.{◌++◌, ℕ, [], ◌∷◌, length, drop, refl, sym, ap, ◌∙◌, subst, append_assoc, arith}
+use Rattle.std.proofs.Common.{◌++◌, ℕ, [], ◌∷◌, length, drop, refl, sym, ap, ◌∙◌, subst, append_assoc, arith, length-drop}
 use Rattle.std.specs.Vec.Iter.{into_iter_items}
 use Rattle.fb_window.proofs.Leaves.{length_join}
 use Rattle.fb_laws.proofs.Indexes.{drop_first, middle_at, push_counted}
 use Rattle.fb_window.proofs.Walks.{AreDeliveredTo, delivered_all, delivered_more}
 use Rattle.fb_window.proofs.post.deliver_each.Goals as goal
+
+pub deliver_next-requires : goal.deliver_next-requires
+deliver_next-requires c =
+    let inv = c.loop-resource.invariant in
+    let done = c.loop-resource.yielded in
+    let step = c.in-Some.ensures.steps in
+    let whole = ap length inv.rest in
+    let joined = length_join done (into_iter_items c.loop-resource.resource-iterator) in
+    let more = ap length step.0 in
+    let left = ap length inv.left in
+    let dropped = length-drop (length done) (into_iter_items c.args.lists.now) in
+    omega (arith, whole, joined, more, left, dropped, c.requires.counted)
 
 pub loop-resource-preserved : goal.loop-resource-preserved
 loop-resource-preserved c =

@@ -13,9 +13,9 @@ returns-in-Ok-Some c =
     let text = c.as_slice-declaration.result.now in
     let plan = option_map (λ (b : Bor (List ℕ)). b.now) c.deployment.result in
     let rows = option_map (λ (b : Bor (List ℕ)). b.now) c.rows.result in
-    let at : MatchOption (Some finding) (IsSilent text plan rows n) (λ (r : Finding). Tells text plan rows n r.place) =
-    subst (λ (o : Option Finding). MatchOption o (IsSilent text plan rows n) (λ (r : Finding). Tells text plan rows n r.place)) c.in-Ok-Some.field-0-is c.in-Ok-Some.ensures in
-    let here : Tells given.declaration plan rows n finding.place = subst (λ (t : List ℕ). Tells t plan rows n finding.place) c.as_slice-declaration.ensures.value at in
-    let planned : Tells given.declaration given.deploy rows n finding.place = subst (λ (p : Option (List ℕ)). Tells given.declaration p rows n finding.place) c.deployment.ensures here in
-    let tells : Tells given.declaration given.deploy given.stimuli n finding.place = subst (λ (s : Option (List ℕ)). Tells given.declaration given.deploy s n finding.place) c.rows.ensures planned in
+    let at : MatchOption (Some finding) (IsSilent text plan rows n) (λ (r : Finding). Tells text plan rows n r.location) =
+    subst (λ (o : Option Finding). MatchOption o (IsSilent text plan rows n) (λ (r : Finding). Tells text plan rows n r.location)) c.in-Ok-Some.field-0-is c.in-Ok-Some.ensures in
+    let here : Tells given.declaration plan rows n finding.location = subst (λ (t : List ℕ). Tells t plan rows n finding.location) c.as_slice-declaration.ensures.value at in
+    let planned : Tells given.declaration given.deploy rows n finding.location = subst (λ (p : Option (List ℕ)). Tells given.declaration p rows n finding.location) c.deployment.ensures here in
+    let tells : Tells given.declaration given.deploy given.stimuli n finding.location = subst (λ (s : Option (List ℕ)). Tells given.declaration given.deploy s n finding.location) c.rows.ensures planned in
     (finding, refl, tells)

@@ -24,8 +24,31 @@ use Rattle.fb_window.proofs.Targets.{lines_belong, merged_in, rests_in, targets_
 use Rattle.fb_window.proofs.cores.AwayState.settle.Goals as goal
 use Rattle.fb_window.proofs.cores.AwayState.settle.Goals.{After-end_of-end}
 
-pub post-posted-requires : goal.post-posted-requires
-post-posted-requires c =
+pub come_home-requires : goal.come_home-requires
+come_home-requires c =
+    let a = c.args.self in
+    let b = c.requires.behind in
+    record {
+      inputs = a.system;
+      limit = a.steps;
+      bounds = b.bounds;
+      index = 0;
+      resources = b.resources;
+      is = b.left.resting;
+      counted = b.counted;
+      done = subst (λ z. AllZip Does z c.args.dones.items) b.left.jobs c.requires.done;
+    }
+
+pub post-posted-requires-clause-counted : goal.post-posted-requires-clause-counted
+post-posted-requires-clause-counted c =
+    let a = c.args.self in
+    let b = c.requires.behind in
+    let done = subst (λ z. AllZip Does z c.args.dones.items) b.left.jobs c.requires.done in
+    let home : AreHome a.system a.steps b.bounds b.resources a.pending.items c.in_ok-home.home = c.in_ok-home.ensures a.system a.steps b.bounds b.resources b.left.resting done in
+    home.resources ∙ b.left.counted ∙ ap (λ (i : Inputs). length (system_of i).resource_names) (sym c.requires.system)
+
+pub post-posted-requires-clause-targets : goal.post-posted-requires-clause-targets
+post-posted-requires-clause-targets c =
     let a = c.args.self in
     let b = c.requires.behind in
     let done = subst (λ z. AllZip Does z c.args.dones.items) b.left.jobs c.requires.done in

@@ -1,17 +1,18 @@
-use Rattle.std.proofs.Common.{◌≡◌, ◌++◌, List, [], ◌∷◌, None, Some, sym, ap, ◌∙◌, subst}
+use Rattle.std.proofs.Common.{◌≡◌, ◌++◌, List, Option, [], ◌∷◌, None, Some, sym, ap, ◌∙◌, subst}
 use Rattle.std.specs.Global.{Vec}
 use Rattle.std.specs.Vec.Iter.{into_iter_items}
 use Rattle.fb_types.specs.declared.run.Line.{Line}
 use Rattle.fb_resource.specs.declared.resource.Resource.{Resource}
 use Rattle.fb_resource.specs.declared.resource.WindowDone.{WindowDone}
 use Rattle.fb_resource.specs.declared.resource.WindowDone.TheVariants.{Ran}
-use Rattle.fb_window.specs.Homes.{IsHomeTo}
+use Rattle.fb_window.specs.Homes.{AreAwaited, IsHomeTo}
 use Rattle.fb_window.specs.Jobs.{resting_of}
-use Rattle.fb_window.proofs.HomeIs.{home_ran, home_rested, resting_none, resting_some}
+use Rattle.fb_window.proofs.HomeIs.{awaited_ran, awaited_rested, done_awaited, home_ran, home_rested, resting_none, resting_some}
+use Rattle.fb_window.proofs.Walks.{no_length}
 use Rattle.fb_window.proofs.home.Home.admit.Goals as goal
 
-pub returns-in-Some-rested : goal.returns-in-Some-rested
-returns-in-Some-rested c = λ i limit bounds xs lists index x at rested home.
+pub returns-in-Some-rested-clause-home : goal.returns-in-Some-rested-clause-home
+returns-in-Some-rested-clause-home c = λ i limit bounds xs lists index x at rested home.
     let was : resting_of x ≡ Some c.in-Some-rested.resource = sym rested ∙ c.in-Some-rested.is in
     let stop = resting_some x c.in-Some-rested.resource was in
     let first : into_iter_items c.args.pending.now ≡ c.in-Some.kept ∷ into_iter_items c.next.new.self = c.in-Some.ensures.items in
@@ -25,8 +26,8 @@ returns-in-Some-rested c = λ i limit bounds xs lists index x at rested home.
     })
     c.new.ensures.items
 
-pub returns-in_ok-push-in-Some-Ran : goal.returns-in_ok-push-in-Some-Ran
-returns-in_ok-push-in-Some-Ran c = λ i limit bounds xs lists index x at rested home.
+pub returns-in_ok-push-in-Some-Ran-clause-home : goal.returns-in_ok-push-in-Some-Ran-clause-home
+returns-in_ok-push-in-Some-Ran-clause-home c = λ i limit bounds xs lists index x at rested home.
     let none : c.args.rested ≡ None = cc in
     let live = resting_none x (sym rested ∙ none) in
     let first : into_iter_items c.args.pending.now ≡ c.in-Some.kept ∷ into_iter_items c.next.new.self = c.in-Some.ensures.items in
@@ -43,3 +44,26 @@ returns-in_ok-push-in-Some-Ran c = λ i limit bounds xs lists index x at rested 
       outboxes = c.in_ok-push-in-Some-Ran.ensures.outboxes;
     })
     c.in_ok-keep-in-Some-Ran.ensures
+
+pub returns-in-Some-rested-clause-awaited : goal.returns-in-Some-rested-clause-awaited
+returns-in-Some-rested-clause-awaited c = λ rest a.
+    let first : into_iter_items c.args.pending.now ≡ c.in-Some.kept ∷ into_iter_items c.next.new.self = c.in-Some.ensures.items in
+    awaited_rested c.in-Some-rested.resource rest c.in-Some.kept (into_iter_items c.next.new.self) (into_iter_items c.args.dones.now)
+    (subst (λ (o : Option Resource). AreAwaited (o ∷ rest) (c.in-Some.kept ∷ into_iter_items c.next.new.self) (into_iter_items c.args.dones.now)) c.in-Some-rested.is
+    (subst (λ (z : List (Vec Line)). AreAwaited (c.args.rested ∷ rest) z (into_iter_items c.args.dones.now)) first a))
+
+pub returns-in_ok-push-in-Some-Ran-clause-awaited : goal.returns-in_ok-push-in-Some-Ran-clause-awaited
+returns-in_ok-push-in-Some-Ran-clause-awaited c = λ rest a.
+    let none : c.args.rested ≡ None = cc in
+    let first : into_iter_items c.args.pending.now ≡ c.in-Some.kept ∷ into_iter_items c.next.new.self = c.in-Some.ensures.items in
+    awaited_ran rest c.in-Some.kept (into_iter_items c.next.new.self) c.in-Some-Ran.field-0 (into_iter_items c.next-2.new.self)
+    (subst (λ (z : List WindowDone). AreAwaited (None ∷ rest) (c.in-Some.kept ∷ into_iter_items c.next.new.self) z) c.in-Some-Ran.ensures.items
+    (subst (λ (o : Option Resource). AreAwaited (o ∷ rest) (c.in-Some.kept ∷ into_iter_items c.next.new.self) (into_iter_items c.args.dones.now)) none
+    (subst (λ (z : List (Vec Line)). AreAwaited (c.args.rested ∷ rest) z (into_iter_items c.args.dones.now)) first a)))
+
+pub unreachable-requires-in-None : goal.unreachable-requires-in-None
+unreachable-requires-in-None c =
+    let none = no_length (into_iter_items c.args.dones.now) (sym c.args.dones.now.rest.ok.0 ∙ c.in-None.ensures.cases.0) in
+    done_awaited c.requires.0 (into_iter_items c.args.pending.now)
+    (subst (λ (z : List WindowDone). AreAwaited (None ∷ c.requires.0) (into_iter_items c.args.pending.now) z) none
+    (subst (λ (o : Option Resource). AreAwaited (o ∷ c.requires.0) (into_iter_items c.args.pending.now) (into_iter_items c.args.dones.now)) c.in_default-rested.is c.requires.1))

@@ -1,13 +1,20 @@
-use Rattle.std.proofs.Common.{◌≡◌, ◌++◌, ℕ, [], ◌∷◌, length, refl, sym, ap, ◌∙◌, subst, append_assoc, arith}
+use Rattle.std.proofs.Common.{◌≡◌, ◌++◌, ℕ, List, Option, [], ◌∷◌, length, refl, sym, ap, ◌∙◌, subst, append_assoc, arith}
 use Rattle.std.specs.Prelude.{slice_get}
 use Rattle.std.proofs.lemmas.List.{length-map}
 use Rattle.std.specs.Vec.Iter.{into_iter_items}
-use Rattle.fb_window.specs.Homes.{IsHomeTo}
+use Rattle.fb_resource.specs.declared.resource.Resource.{Resource}
+use Rattle.fb_window.specs.Homes.{AreAwaited, IsHomeTo}
 use Rattle.fb_window.specs.Jobs.{resting_of}
 use Rattle.fb_window.proofs.HomeIs.{home_all}
 use Rattle.fb_window.proofs.Leaves.{length_join}
 use Rattle.fb_laws.proofs.Indexes.{map_has, middle_at, push_counted}
 use Rattle.fb_window.proofs.home.Home.admit_all.Goals as goal
+
+pub admit-requires : goal.admit-requires
+admit-requires c = (
+  into_iter_items c.next.new.self,
+  subst (λ (rs : List (Option Resource)). AreAwaited rs (into_iter_items c.loop-rested.pending) (into_iter_items c.loop-rested.dones)) c.in-Some.ensures.steps.0 c.loop-rested.invariant.awaited,
+)
 
 pub loop-rested-preserved : goal.loop-rested-preserved
 loop-rested-preserved c =
@@ -21,7 +28,9 @@ loop-rested-preserved c =
       home = λ i limit bounds xs lists same first.
           let x = map_has resting_of xs n c.in-Some.rested (sym (ap (λ z. slice_get z n) same) ∙ at) in
           subst (λ (k : ℕ). IsHomeTo i limit bounds xs lists k (into_iter_items c.admit.new.pending) (into_iter_items c.admit.new.dones) c.admit.new.self) (sym (push_counted done c.in-Some.rested n refl))
-          (c.in_ok-admit.ensures i limit bounds xs lists n x.0 x.1 x.2 (inv.home i limit bounds xs lists same first));
+          (c.in_ok-admit.ensures.home i limit bounds xs lists n x.0 x.1 x.2 (inv.home i limit bounds xs lists same first));
+      awaited = c.in_ok-admit.ensures.awaited (into_iter_items c.next.new.self)
+          (subst (λ (rs : List (Option Resource)). AreAwaited rs (into_iter_items c.loop-rested.pending) (into_iter_items c.loop-rested.dones)) step.0 inv.awaited);
       rest = append_assoc done (c.in-Some.rested ∷ []) (into_iter_items c.next.new.self) ∙ rest;
       len = let same = ap length step.0 in omega (arith, inv.len, step.1, same);
     }

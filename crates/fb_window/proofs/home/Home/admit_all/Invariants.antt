@@ -4,7 +4,7 @@ use Rattle.std.specs.Vec.Iter.{into_iter_items, into_iter_len}
 use Rattle.fb_types.specs.Headline.{Inputs}
 use Rattle.fb_types.specs.declared.run.Line.{Line}
 use Rattle.fb_resource.specs.declared.resource.Resource.{Resource}
-use Rattle.fb_window.specs.Homes.{IsHomeTo}
+use Rattle.fb_window.specs.Homes.{AreAwaited, IsHomeTo}
 use Rattle.fb_window.specs.Jobs.{resting_of}
 use Rattle.fb_window.proofs.home.Home.admit_all.Given as goal
 
@@ -13,6 +13,7 @@ invariant-loop-rested l = record {
   home : (i : Inputs) (limit : ℕ) (bounds : List ℕ) (xs : List Resource) (lists : List (Vec Line)) → l.fn.resting.items ≡ map resting_of xs
       → IsHomeTo i limit bounds xs lists 0 (into_iter_items l.initial.pending) (into_iter_items l.initial.dones) l.initial.self
       → IsHomeTo i limit bounds xs lists (length l.yielded) (into_iter_items l.pending) (into_iter_items l.dones) l.self;
+  awaited : AreAwaited (into_iter_items l.rested-iterator) (into_iter_items l.pending) (into_iter_items l.dones);
   rest : l.yielded ++ into_iter_items l.rested-iterator ≡ l.fn.resting.items;
   len : into_iter_len l.rested-iterator ≡ length (into_iter_items l.rested-iterator);
 }

@@ -1,6 +1,6 @@
 use Rattle.std.proofs.Common.{take}
 use Rattle.fb_system.specs.Networks.{AreNarrow}
-use Rattle.fb_system.proofs.making.are_narrow.Given as goal
+use Rattle.fb_system.proofs.making.bound_all.Given as goal
 
 abbrev pub invariant-loop-block : goal.invariant-loop-block
 invariant-loop-block l = AreNarrow (take l.block-index l.blocks)

@@ -1,0 +1,6 @@
+use Rattle.std.proofs.Common.{arith}
+use Rattle.fb_read.proofs.Counts.{events-count}
+use Rattle.fb_read.proofs.ports.numbered_events.Goals as goal
+
+pub new-requires : goal.new-requires
+new-requires c = omega (arith, events-count c.args.begin c.in_ok-found.found c.args.cursor.now _ c.in_ok-found.ensures, c.bound.ensures)
