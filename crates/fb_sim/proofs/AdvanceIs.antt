@@ -10,7 +10,7 @@ use Rattle.fb_types.specs.Text.{lines_text, last_line}
 use Rattle.fb_types.specs.declared.run.StopMark.{StopMark}
 use Rattle.fb_trace.specs.Progress.{IsPartWritten}
 use Rattle.fb_window.specs.declared.cores.CoreState.{CoreState}
-use Rattle.fb_sim.specs.Advances.{AdvancesOn, Finishes, FinishesBy, FinishesOn, HasAdvanced, IsNext, stop_line}
+use Rattle.fb_sim.specs.Advances.{AdvancesOn, Finishes, FinishesBy, FinishesOn, HasAdvanced, IsNext, RunsTo, stop_line}
 use Rattle.fb_sim.specs.Rounds.{AreAll, Begin, IsShort, RunsOn, text_of}
 use Rattle.fb_sim.specs.Sessions.{Session}
 use Rattle.fb_sim.specs.declared.drive.Finish.TheVariants.{AtEnd, AtMark}
@@ -20,12 +20,13 @@ use Rattle.fb_trace.specs.declared.last.Outcome.TheVariants.{End, Stop}
 use Rattle.fb_sim.specs.declared.outcome.RunError.{RunError}
 use Rattle.fb_sim.specs.declared.outcome.RunError.TheVariants.{Refused, Memory, Write, BadOption, Failed}
 use Rattle.fb_sim.specs.declared.state.Stage.{Stage}
+use Rattle.fb_sim.specs.declared.tally.Written.{Written}
 use Rattle.fb_sim.specs.declared.state.Stage.TheVariants as going
 use Rattle.fb_sim.proofs.Texts.{lines_text-append, part-after, part-before}
 
 module _ (s : Session) (to : ℕ) (ls out : List Line) (was : AreAll s.inputs s.steps s.to ls (AtHorizon s.to)) where
   -- all lines to the later tick
-  pub next_all : (end : Ending) → AreAll s.inputs s.steps to (ls ++ out) end → IsNext s to (text_of s.inputs s.form out ++ stop_line (system_of s.inputs) end) end
+  abbrev pub next_all : (end : Ending) → AreAll s.inputs s.steps to (ls ++ out) end → IsNext s to (text_of s.inputs s.form out ++ stop_line (system_of s.inputs) end) end
   next_all end all = record {
     before = was.takings;
     takings = all.takings;
@@ -71,30 +72,38 @@ abbrev pub onward : Session → ℕ → Options
 onward s to = record { horizon = to; steps = s.steps; workers = s.workers; form = s.form }
 
 module _ (s : Session) (to : ℕ) (later : s.to < to) (ls : List Line) (was : AreAll s.inputs s.steps s.to ls (AtHorizon s.to)) (old : Option (List ℕ)) where
-  pub advanced_end : (new : Option (List ℕ)) (core : CoreState) (n : ℕ) → RunsOn s.inputs (onward s to) ls old new (Ok (AtEnd core, n)) → HasAdvanced s (record s { to = to; stage = going.Running }) to old new (End to)
-  advanced_end new core n r = record {
-    later = later;
-    bytes = text_of s.inputs s.form r.0 ++ stop_line (system_of s.inputs) (AtHorizon to);
-    is_next = next_all s to ls r.0 was (AtHorizon to) r.1.2;
-    got = subst (λ (t : List ℕ). Appends old new t) (sym (append-nil (text_of s.inputs s.form r.0))) r.2;
-    now = refl;
-  }
+  pub advanced_end : (new : Option (List ℕ)) (core : CoreState) (n : Written) → RunsOn s.inputs (onward s to) ls old new (Ok (AtEnd core, n))
+      → RunsTo s (record s { to = to; stage = going.Running }) to old new (Ok (End to, n))
+  advanced_end new core n r = (
+    record {
+      later = later;
+      bytes = text_of s.inputs s.form r.0 ++ stop_line (system_of s.inputs) (AtHorizon to);
+      is_next = next_all s to ls r.0 was (AtHorizon to) r.1.2;
+      got = subst (λ (t : List ℕ). Appends old new t) (sym (append-nil (text_of s.inputs s.form r.0))) r.2;
+      now = refl;
+    },
+    r.3,
+    r.4,
+  )
 
-  pub advanced_stop : (mid new : Option (List ℕ)) (mark : StopMark) (n : ℕ) → RunsOn s.inputs (onward s to) ls old mid (Ok (AtMark mark, n)) → Appends mid new (last_line (system_of s.inputs) (AtStop mark.tick mark.resource mark.reason))
-      → HasAdvanced s (record s { to = to; stage = going.Stopped mark }) to old new (Stop mark)
+  pub advanced_stop : (mid new : Option (List ℕ)) (mark : StopMark) (n : Written) → RunsOn s.inputs (onward s to) ls old mid (Ok (AtMark mark, n)) → Appends mid new (last_line (system_of s.inputs) (AtStop mark.tick mark.resource mark.reason))
+      → RunsTo s (record s { to = to; stage = going.Stopped mark }) to old new (Ok (Stop mark, n))
   advanced_stop mid new mark n r got =
-      let end = AtStop mark.tick mark.resource mark.reason in
-      record {
-        later = later;
-        bytes = text_of s.inputs s.form r.0 ++ last_line (system_of s.inputs) end;
-        is_next = next_all s to ls r.0 was end r.1.1;
-        got = Appends-trans old mid new (text_of s.inputs s.form r.0) (last_line (system_of s.inputs) end) r.2 got;
-        now = refl;
-      }
+      let end = AtStop mark.tick mark.resource mark.reason in (
+        record {
+          later = later;
+          bytes = text_of s.inputs s.form r.0 ++ last_line (system_of s.inputs) end;
+          is_next = next_all s to ls r.0 was end r.1.1;
+          got = Appends-trans old mid new (text_of s.inputs s.form r.0) (last_line (system_of s.inputs) end) r.2 got;
+          now = refl;
+        },
+        r.3,
+        r.4,
+      )
 
   -- the last line of a stop can't be written
-  pub short_stop : (mid new : Option (List ℕ)) (mark : StopMark) (n : ℕ) → RunsOn s.inputs (onward s to) ls old mid (Ok (AtMark mark, n)) → (e : RunError)
-      → IsShort mid new (last_line (system_of s.inputs) (AtStop mark.tick mark.resource mark.reason)) n e → AdvancesOn s (record s { stage = going.Failed }) to old new (Err e)
+  pub short_stop : (mid new : Option (List ℕ)) (mark : StopMark) (n : Written) → RunsOn s.inputs (onward s to) ls old mid (Ok (AtMark mark, n)) → (e : RunError)
+      → IsShort mid new (last_line (system_of s.inputs) (AtStop mark.tick mark.resource mark.reason)) n.bytes e → AdvancesOn s (record s { stage = going.Failed }) to old new (Err e)
   short_stop mid new mark n r (Write k) p =
       let end = AtStop mark.tick mark.resource mark.reason in
       record {
@@ -114,7 +123,7 @@ module _ (s : Session) (to : ℕ) (later : s.to < to) (ls : List Line) (was : Ar
   pub broken_on : (new : Option (List ℕ)) (e : RunError) → RunsOn s.inputs (onward s to) ls old new (Err e) → AdvancesOn s (record s { stage = going.Failed }) to old new (Err e)
   broken_on new Memory r =
       let f = next_begin s to ls r.0 was r.1 in
-      record { later = later; bytes = text_of s.inputs s.form r.0; rest = f.rest; end = f.end; is_next = f.next; got = r.2; now = refl }
+      record { later = later; bytes = text_of s.inputs s.form r.0; rest = f.rest; end = f.end; is_next = f.next; got = r.2; lines = r.0; whole = refl; now = refl }
   broken_on new (Write n) r =
       let f = next_begin s to ls r.0 was r.1 in
       record { later = later; bytes = text_of s.inputs s.form r.0 ++ f.rest; end = f.end; is_next = f.next; got = part-before f.rest r.2; now = refl }
@@ -139,21 +148,25 @@ short_end s old new Failed bad = absurd bad
 -- ---- In the functions
 
 -- the error that `?` passes on
-passed_on : (s t : Session) (to : ℕ) (old new : Option (List ℕ)) (e : RunError) → AdvancesOn s t to old new (Err e) → (r : Result Outcome RunError) → IsErrAnd r (λ f. f ≡ e) → AdvancesOn s t to old new r
+passed_on : (s t : Session) (to : ℕ) (old new : Option (List ℕ)) (e : RunError) → AdvancesOn s t to old new (Err e) → (r : Result (Outcome × Written) RunError) → IsErrAnd r (λ f. f ≡ e) → RunsTo s t to old new r
 passed_on s t to old new e h (Ok x) bad = absurd bad
 passed_on s t to old new e h (Err f) is = subst (λ (x : RunError). AdvancesOn s t to old new (Err x)) (sym is) h
 
 -- A call that fails leaves the simulation as it was when its core had been taken out.
 pub fails_on : (v s : Session) → v ≡ s → s.stage ≡ going.Failed → (to : ℕ) (old new : Option (List ℕ)) (e : RunError) → AdvancesOn (record v { stage = going.Running }) (record v { stage = going.Failed }) to old new (Err e)
-    → (r : Result Outcome RunError) → IsErrAnd r (λ f. f ≡ e) → AdvancesOn (record s { stage = going.Running }) s to old new r
+    → (r : Result (Outcome × Written) RunError) → IsErrAnd r (λ f. f ≡ e) → RunsTo (record s { stage = going.Running }) s to old new r
 fails_on v s same failed to old new e h r is =
     let t : record s { stage = going.Failed } ≡ s = ap (λ (p : Stage). record s { stage = p }) (sym failed) in
     let a : AdvancesOn (record s { stage = going.Running }) (record s { stage = going.Failed }) to old new (Err e) =
     subst (λ (x : Session). AdvancesOn (record x { stage = going.Running }) (record x { stage = going.Failed }) to old new (Err e)) same h in
     passed_on (record s { stage = going.Running }) s to old new e (subst (λ (x : Session). AdvancesOn (record s { stage = going.Running }) x to old new (Err e)) t a) r is
 
-pub goes_on : (v s t : Session) → v ≡ s → (to : ℕ) (old new : Option (List ℕ)) (o : Outcome) → HasAdvanced (record v { stage = going.Running }) t to old new o → AdvancesOn (record s { stage = going.Running }) t to old new (Ok o)
-goes_on v s t same to old new o h = inl (subst (λ (x : Session). HasAdvanced (record x { stage = going.Running }) t to old new o) same h)
+pub goes_on : (v s t : Session) → v ≡ s → (to : ℕ) (old new : Option (List ℕ)) (o : Outcome) (w : Written) → RunsTo (record v { stage = going.Running }) t to old new (Ok (o, w)) → RunsTo (record s { stage = going.Running }) t to old new (Ok (o, w))
+goes_on v s t same to old new o w h = subst (λ (x : Session). RunsTo (record x { stage = going.Running }) t to old new (Ok (o, w))) same h
+
+-- what running on to a later tick says of advancing
+pub goes_so : (s t : Session) (to : ℕ) (old new : Option (List ℕ)) (o : Outcome) (w : Written) → RunsTo s t to old new (Ok (o, w)) → AdvancesOn s t to old new (Ok o)
+goes_so s t to old new o w h = inl h.0
 
 -- the error of the last line
 pub unfinished : (v s : Session) → v ≡ s → v.stage ≡ going.Running → (old new : Option (List ℕ)) (e : RunError) → IsShort old new (last_line (system_of v.inputs) (AtHorizon v.to)) 0 e

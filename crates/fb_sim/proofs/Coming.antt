@@ -1,11 +1,10 @@
 -- How a run comes from hundredth to hundredth, and what it has written then.
-use Rattle.std.proofs.Common.{◌≡◌, inl, inr, ℕ, suc, ◌+◌, ◌*◌, ◌/◌, ◌<◌, ◌≤◌, ◌&&◌, Bool, true, false, refl, sym, ap, ap₂, ◌∙◌, subst, arith, List, [], ◌∷◌, ◌++◌, length, append_assoc, append-nil, length-append, Option, mul-suc, mul-zero}
-use Rattle.std.specs.Prelude.{IsTrue, Result, Ok, Err}
-use Rattle.std.proofs.lemmas.List.Sums.{sum_by-append}
+use Rattle.std.proofs.Common.{◌≡◌, inl, inr, ℕ, suc, ◌+◌, ◌*◌, ◌/◌, ◌<◌, ◌≤◌, ◌&&◌, Bool, true, false, refl, sym, ap, ap₂, ◌∙◌, subst, arith, List, [], ◌∷◌, ◌++◌, length, take, drop, take-append-drop, append_assoc, append-nil, length-append, length-drop, Option, mul-suc, mul-zero}
+use Rattle.std.specs.Prelude.{Result, Ok, Err}
 use Rattle.std.specs.Io.KnownBytes.{Appends}
 use Rattle.std.proofs.KnownBytes.{Appends-nil, Appends-trans}
 use Rattle.fb_types.specs.Headline.{Inputs, IsTrace, system_of, stimuli_of}
-use Rattle.fb_types.specs.Simulation.{Ending, AtHorizon, AtStop, ending_of, lines_of}
+use Rattle.fb_types.specs.Simulation.{Taken, IsSimulation, Ending, AtHorizon, AtStop, ending_of, lines_of}
 use Rattle.fb_types.specs.States.{Line}
 use Rattle.fb_types.specs.Text.{lines_text, last_line}
 use Rattle.fb_types.specs.declared.value.Reason.{Reason}
@@ -25,15 +24,15 @@ use Rattle.fb_sim.specs.declared.outcome.RunError.{RunError}
 use Rattle.fb_sim.specs.declared.outcome.RunError.TheVariants.{Refused, Memory, Write, BadOption, Failed}
 use Rattle.fb_sim.specs.declared.state.Stage.TheVariants as going
 use Rattle.fb_sim.proofs.Texts.{lines_text-append, part-after, part-before}
-use Rattle.fb_sim.specs.Reports.{Came, Comes, GoesOn, HasCome, HasTold, Hears, feeds, hundredth, report_text, session}
+use Rattle.fb_sim.specs.Reports.{Came, Comes, GoesOn, HasBroken, HasCome, HasTold, Hears, IsAsFar, hundredth, report_text, session}
 use Rattle.fb_sim.specs.declared.with_progress.ReportTally.{ReportTally}
-use Rattle.fb_sim.proofs.Simulations.{horizon_is, later_begins, stopped_later, stops}
+use Rattle.fb_sim.proofs.Simulations.{horizon_is, later_begins, stop_is_early, stopped_later, stops}
 
 module _ (i : Inputs) (o : Options) where
   text_of : List Line → List ℕ
   text_of ls = lines_text o.form (system_of i) ls
 
-  pub come_first : HasCome i o 0 []
+  abbrev pub come_first : HasCome i o 0 []
   come_first = record {
     takings = [];
     simulation = record { chain = tt; below = λ k d b. absurd (omega arith); rests = λ j b. absurd (omega arith) };
@@ -41,12 +40,29 @@ module _ (i : Inputs) (o : Options) where
     text_is = refl;
   }
 
+  -- the same, with the tick named otherwise
+  abbrev pub come_at : (from to : ℕ) (text : List ℕ) → from ≡ to → HasCome i o from text → HasCome i o to text
+  come_at from to text e h = record {
+    takings = h.takings;
+    simulation = subst (λ (t : ℕ). IsSimulation (system_of i) (stimuli_of i) t o.steps h.takings) e h.simulation;
+    goes_on = subst (λ (t : ℕ). ending_of t h.takings ≡ AtHorizon t) e h.goes_on;
+    text_is = h.text_is;
+  }
+
   module _ (from to : ℕ) (text bytes : List ℕ) (come : HasCome i o from text) where
+    same_takings : (end : Ending) (n : IsNext (session i o from) to bytes end) → come.takings ≡ n.before
+    same_takings end n = one-simulation (system_of i) (stimuli_of i) from o.steps come.takings n.before come.simulation n.was
+
+    -- the lines that were written and those that come next
+    pub next_lines : (end : Ending) (n : IsNext (session i o from) to bytes end) → length (lines_of n.takings) ≡ length (lines_of come.takings) + length n.rest
+    next_lines end n =
+        ap length n.split ∙ length-append (lines_of n.before) n.rest ∙ ap (λ (ts : List Taken). length (lines_of ts) + length n.rest) (sym (same_takings end n))
+
     -- what was written and what comes next
-    next_text : (end : Ending) (n : IsNext (session i o from) to bytes end) → text ++ bytes ≡ lines_text o.form (system_of i) (lines_of n.takings) ++ stop_line (system_of i) end
+    pub next_text : (end : Ending) (n : IsNext (session i o from) to bytes end) → text ++ bytes ≡ lines_text o.form (system_of i) (lines_of n.takings) ++ stop_line (system_of i) end
     next_text end n =
         let sys = system_of i in
-        let same : come.takings ≡ n.before = one-simulation sys (stimuli_of i) from o.steps come.takings n.before come.simulation n.was in
+        let same : come.takings ≡ n.before = same_takings end n in
         let first : text ≡ lines_text o.form sys (lines_of n.before) = come.text_is ∙ ap (λ ts. lines_text o.form sys (lines_of ts)) same in
         let both : lines_text o.form sys (lines_of n.takings) ≡ lines_text o.form sys (lines_of n.before) ++ lines_text o.form sys n.rest =
         ap (lines_text o.form sys) n.split ∙ lines_text-append o.form sys (lines_of n.before) n.rest in
@@ -54,7 +70,7 @@ module _ (i : Inputs) (o : Options) where
         ∙ sym (append_assoc (lines_text o.form sys (lines_of n.before)) (lines_text o.form sys n.rest) (stop_line sys end))
         ∙ ap (λ (a : List ℕ). a ++ stop_line sys end) (sym both)
 
-    pub come_next : IsNext (session i o from) to bytes (AtHorizon to) → HasCome i o to (text ++ bytes)
+    abbrev pub come_next : IsNext (session i o from) to bytes (AtHorizon to) → HasCome i o to (text ++ bytes)
     come_next n = record {
       takings = n.takings;
       simulation = n.simulation;
@@ -130,6 +146,19 @@ module _ (i : Inputs) (o : Options) where
 
 -- ---- From hundredth to hundredth
 
+-- the same, with the horizon named otherwise
+abbrev pub next_at : (s : Session) (to : ℕ) (bytes : List ℕ) (h k : ℕ) → h ≡ k → IsNext s to bytes (AtHorizon h) → IsNext s to bytes (AtHorizon k)
+next_at s to bytes h k e n = record {
+  before = n.before;
+  takings = n.takings;
+  was = n.was;
+  simulation = n.simulation;
+  rest = n.rest;
+  split = n.split;
+  ending = subst (λ (j : ℕ). AtHorizon j ≡ ending_of to n.takings) e n.ending;
+  text = n.text;
+}
+
 -- a simulation as its own inputs say
 pub at_own : (s : Session) (i : Inputs) (o : Options) (to : ℕ) → s ≡ session i o to → s ≡ session s.inputs o to
 at_own s i o to at = at ∙ ap (λ (j : Inputs). session j o to) (sym (ap (λ (z : Session). z.inputs) at))
@@ -152,22 +181,46 @@ behind_none : (x y : List ℕ) → x ++ y ≡ [] → y ≡ []
 behind_none [] y e = e
 behind_none (k ∷ x) y e = cc
 
+-- where there is nothing to hear
+pub heard_none : (err : Option (List ℕ)) → Hears true err err []
+heard_none err = record { front = []; rest = []; parts = refl; got = Appends-nil err; all = λ h. refl; none = λ e. refl }
+
 pub came_first : (i : Inputs) (o : Options) (out err : Option (List ℕ)) → Came i o out out err err 0 (record { bytes = 0; lines = 0; is_heard = true })
 came_first i o out err = record {
   text = [];
-  come = subst (λ (t : ℕ). HasCome i o t []) (sym (hundredth_first o.horizon)) (come_first i o);
+  come = come_at i o 0 (hundredth o.horizon 0) [] (sym (hundredth_first o.horizon)) (come_first i o);
   got = Appends-nil out;
   bytes_are = omega arith;
   lines_are = refl;
   reports = [];
   told = refl;
-  hears = record { all = λ h. Appends-nil err; none = λ e. refl };
+  hears = heard_none err;
 }
 
-heard_more : (told heard : Bool) (old mid new : Option (List ℕ)) (a b : List ℕ) → (b ≡ [] → ⊥) → Hears heard old mid a → (IsTrue told → Appends mid new b) → Hears (told && heard) old new (a ++ b)
-heard_more true true old mid new a b some h t = record { all = λ e. Appends-trans old mid new a b (h.all refl) (t refl); none = λ e. absurd (some (behind_none a b e)) }
-heard_more true false old mid new a b some h t = record { all = λ e. absurd (let f : false ≡ true = e in cc); none = λ e. absurd (some (behind_none a b e)) }
-heard_more false heard old mid new a b some h t = record { all = λ e. absurd (let f : false ≡ true = e in cc); none = λ e. absurd (some (behind_none a b e)) }
+-- more is heard where all was heard so far
+heard_more : (told : Bool) (old mid new : Option (List ℕ)) (a b : List ℕ) → (b ≡ [] → ⊥) → Hears true old mid a → Hears told mid new b → Hears told old new (a ++ b)
+heard_more told old mid new a b some h k =
+    let e : h.rest ≡ [] = h.all refl in
+    let whole : a ≡ h.front = h.parts ∙ ap (λ (t : List ℕ). h.front ++ t) e ∙ append-nil h.front in
+    record {
+      front = a ++ k.front;
+      rest = k.rest;
+      parts = ap (λ (t : List ℕ). a ++ t) k.parts ∙ sym (append_assoc a k.front k.rest);
+      got = Appends-trans old mid new a k.front (subst (λ (t : List ℕ). Appends old mid t) (sym whole) h.got) k.got;
+      all = k.all;
+      none = λ e. absurd (some (behind_none a b e));
+    }
+
+-- and nothing more where it was not
+heard_no_more : (old mid : Option (List ℕ)) (a b : List ℕ) → (b ≡ [] → ⊥) → Hears false old mid a → Hears false old mid (a ++ b)
+heard_no_more old mid a b some h = record {
+  front = h.front;
+  rest = h.rest ++ b;
+  parts = ap (λ (t : List ℕ). t ++ b) h.parts ∙ append_assoc h.front h.rest b;
+  got = h.got;
+  all = λ e. absurd (let f : false ≡ true = e in cc);
+  none = λ e. absurd (some (behind_none a b e));
+}
 
 module _ (i : Inputs) (o : Options) (first out quiet err : Option (List ℕ)) (n : ReportTally) (count : ℕ) (c : Came i o first out quiet err count n) where
   abbrev now : ℕ
@@ -185,7 +238,7 @@ module _ (i : Inputs) (o : Options) (first out quiet err : Option (List ℕ)) (n
       let e = sym (same_tick b) in
       record {
         text = c.text;
-        come = subst (λ (t : ℕ). HasCome i o t c.text) e c.come;
+        come = come_at i o now next c.text e c.come;
         got = c.got;
         bytes_are = c.bytes_are;
         lines_are = c.lines_are;
@@ -198,14 +251,15 @@ module _ (i : Inputs) (o : Options) (first out quiet err : Option (List ℕ)) (n
   pub same_session : next ≤ now → session i o now ≡ session i o next
   same_session b = ap (session i o) (sym (same_tick b))
 
-  -- the counts behind a text
+  -- the count of bytes behind a text
   more_bytes : (bytes : List ℕ) → bounded (n.bytes + length bytes) ≡ bounded (length (c.text ++ bytes))
   more_bytes bytes = let e = c.bytes_are in rw length-append (omega (arith, e))
 
-  more_lines : (bytes : List ℕ) → bounded (n.lines + feeds bytes) ≡ bounded (feeds (c.text ++ bytes))
-  more_lines bytes =
+  -- and that of lines
+  more_lines : (bytes : List ℕ) (k : IsNext (session i o now) next bytes (AtHorizon next)) → bounded (n.lines + length k.rest) ≡ bounded (length (lines_of k.takings))
+  more_lines bytes k =
       let e = c.lines_are in
-      let f : feeds (c.text ++ bytes) ≡ feeds c.text + feeds bytes = sum_by-append _ c.text bytes in
+      let f : length (lines_of k.takings) ≡ length (lines_of c.come.takings) + length k.rest = next_lines i o now next c.text bytes c.come (AtHorizon next) k in
       omega (arith, e, f)
 
   -- a simulation at the tick of so many hundredths, on the way to the next
@@ -214,35 +268,50 @@ module _ (i : Inputs) (o : Options) (first out quiet err : Option (List ℕ)) (n
   goes_here s t tick mid m r at is goes =
       subst (λ (z : Session). GoesOn z t next out mid n m r) at (subst (λ (k : ℕ). GoesOn s t k out mid n m r) is goes)
 
-  -- the run goes on to the next hundredth, and that is reported
+  -- it is reported that the run has come to the next hundredth
+  pub hears_more : (mid : Option (List ℕ)) (t : Session) (m : ReportTally) (k : ℕ) (heard : Bool) (new : Option (List ℕ)) → GoesOn (session i o now) t next out mid n m (Ok (End k)) → m.is_heard ≡ true
+      → Hears heard err new (report_text o.horizon next m.lines) → Hears heard quiet new (c.reports ++ report_text o.horizon next m.lines)
+  hears_more mid t m k heard new r is h =
+      heard_more heard quiet err new c.reports (report_text o.horizon next m.lines) (λ e. cc) (subst (λ (b : Bool). Hears b quiet err c.reports) (sym r.4.2 ∙ is) c.hears) h
+
+  -- or not, as standard error did not take an earlier report
+  pub hears_no_more : (mid : Option (List ℕ)) (t : Session) (m : ReportTally) (k : ℕ) → GoesOn (session i o now) t next out mid n m (Ok (End k)) → m.is_heard ≡ false
+      → Hears false quiet err (c.reports ++ report_text o.horizon next m.lines)
+  hears_no_more mid t m k r is =
+      heard_no_more quiet err c.reports (report_text o.horizon next m.lines) (λ e. cc) (subst (λ (b : Bool). Hears b quiet err c.reports) (sym r.4.2 ∙ is) c.hears)
+
+  -- the run goes on to the next hundredth
   pub came_more : (t : Session) (mid : Option (List ℕ)) (m : ReportTally) (k : ℕ) (heard : Bool) (new : Option (List ℕ)) → now < next
-      → GoesOn (session i o now) t next out mid n m (Ok (End k)) → (IsTrue heard → Appends err new (report_text o.horizon next m.lines))
-      → Comes i o t first mid quiet new (suc count) (record m { is_heard = heard && m.is_heard }) (Ok (End next))
-  came_more t mid m k heard new later r told =
+      → GoesOn (session i o now) t next out mid n m (Ok (End k)) → Hears heard quiet new (c.reports ++ report_text o.horizon next m.lines)
+      → Comes i o t first mid quiet new (suc count) (record m { is_heard = heard }) (Ok (End next))
+  came_more t mid m k heard new later r hears =
       let bytes = r.0 in
-      let y : IsNext (session i o now) next bytes (AtHorizon next) = subst (λ (h : ℕ). IsNext (session i o now) next bytes (AtHorizon h)) (horizon_is next r.1.takings k r.1.ending) r.1 in
+      let at : k ≡ next = horizon_is next r.1.takings k r.1.ending in
+      let y : IsNext (session i o now) next bytes (AtHorizon next) = next_at (session i o now) next bytes k next at r.1 in
       let come = come_next i o now next c.text bytes c.come y in
-      let lines_are = r.4.1 ∙ more_lines bytes in
-      let report = report_text o.horizon next m.lines in
-      let heard_so = heard_more heard n.is_heard quiet err new c.reports report (λ e. cc) c.hears told in (
+      let lines_are : m.lines ≡ bounded (length (lines_of come.takings)) = r.4.1 ∙ more_lines bytes y in
+      let written : bytes ≡ lines_text o.form (system_of i) y.rest = y.text ∙ append-nil (lines_text o.form (system_of i) y.rest) in
+      let bytes_are : m.bytes ≡ bounded (length (c.text ++ bytes)) = r.4.0 ∙ ap (λ (t : List ℕ). bounded (n.bytes + length t)) (sym written) ∙ more_bytes bytes in
+      let report = report_text o.horizon next m.lines in (
         record {
           text = c.text ++ bytes;
           come = come;
           got = Appends-trans first out mid c.text bytes c.got r.2;
-          bytes_are = r.4.0 ∙ more_bytes bytes;
+          bytes_are = bytes_are;
           lines_are = lines_are;
           reports = c.reports ++ report;
           told = (c.reports, report, c.told, inr (later, record { text = c.text ++ bytes; come = come; is = ap (report_text o.horizon next) lines_are }), refl);
-          hears = subst (λ (h : Bool). Hears (heard && h) quiet new (c.reports ++ report)) (sym r.4.2) heard_so;
+          hears = hears;
         },
         r.3,
       )
 
   -- what was told so far
-  pub has_told : count ≤ 100 → (heard : Bool) → heard ≡ n.is_heard → HasTold i o quiet err heard
-  has_told few heard same = record {
+  has_told : count ≤ 100 → (mid : Option (List ℕ)) (heard : Bool) (end : Result Outcome RunError) → heard ≡ n.is_heard → IsAsFar i o first mid count end → HasTold i o first mid quiet err heard end
+  has_told few mid heard end same far = record {
     count = count;
     few = few;
+    far = far;
     reports = c.reports;
     told = c.told;
     hears = subst (λ (h : Bool). Hears h quiet err c.reports) (sym same) c.hears;
@@ -258,24 +327,61 @@ module _ (i : Inputs) (o : Options) (first out quiet err : Option (List ℕ)) (n
       got = Appends-trans first out mid c.text r.0 c.got r.2;
       trace = come_stop i o now next c.text r.0 c.come o.horizon mark.tick mark.resource mark.reason early r.1;
     },
-    has_told few m.is_heard r.4.2,
+    has_told few mid m.is_heard (Ok (Stop mark)) r.4.2
+        (stop_is_early (system_of i) (stimuli_of i) o.steps next mark.tick mark.resource mark.reason r.1.takings (sym r.1.ending) r.1.simulation),
   )
 
+  -- The run was out of memory on the way, when this part was written.
+  broken_at : (mid : Option (List ℕ)) (part rest : List ℕ) (end : Ending) → IsNext (session i o now) next (part ++ rest) end → Appends out mid part → HasBroken i o first mid count Memory
+  broken_at mid part rest end k got = record {
+    text = c.text;
+    come = c.come;
+    part = part;
+    got = Appends-trans first out mid c.text part c.got got;
+    left = λ b. record { rest = rest; end = end; next = k; missing = tt };
+  }
+
+  -- The writer failed on the way.
+  cut_at : (mid : Option (List ℕ)) (bytes : List ℕ) (end : Ending) (w k : ℕ) → IsNext (session i o now) next bytes end → IsPartWritten out mid bytes w → HasBroken i o first mid count (Write k)
+  cut_at mid bytes end w k x p =
+      let part = take p.count bytes in
+      let rest = drop p.count bytes in
+      let both : bytes ≡ part ++ rest = sym (take-append-drop p.count bytes) in
+      record {
+        text = c.text;
+        come = c.come;
+        part = part;
+        got = Appends-trans first out mid c.text part c.got p.got;
+        left = λ b. record {
+          rest = rest;
+          end = end;
+          next = subst (λ (t : List ℕ). IsNext (session i o now) next t end) both x;
+          missing = let s = p.short in rw length-drop (omega arith);
+        };
+      }
+
   -- the run finds no memory on the way, or can't write
-  pub came_failed : AreGood i → count ≤ 100 → now ≤ o.horizon → next ≤ o.horizon → (t : Session) (mid : Option (List ℕ)) (m : ReportTally) (e : RunError)
+  pub came_failed : AreGood i → count ≤ 100 → next ≤ o.horizon → (t : Session) (mid : Option (List ℕ)) (m : ReportTally) (e : RunError)
       → GoesOn (session i o now) t next out mid n m (Err e) → Comes i o t first mid quiet err (suc count) m (Err e)
-  came_failed good few early later t mid m Memory r =
-      let f = come_front i o good now o.horizon c.text early c.come in (
+  came_failed good few later t mid m Memory r =
+      let sys = system_of i in
+      let part = lines_text o.form sys r.0 in
+      let rest = r.1 in
+      let f = come_part i o good now next o.horizon c.text (part ++ rest) later c.come r.2 r.3 in
+      let lines = lines_of c.come.takings ++ r.0 in
+      let same : c.text ++ part ≡ lines_text o.form sys lines =
+      ap (λ (t : List ℕ). t ++ part) c.come.text_is ∙ sym (lines_text-append o.form sys (lines_of c.come.takings) r.0) in
+      let both : (c.text ++ (part ++ rest)) ++ f.rest ≡ (c.text ++ part) ++ (rest ++ f.rest) = simp append_assoc in (
         record {
-          bytes = c.text;
-          rest = f.rest;
+          lines = lines;
+          rest = rest ++ f.rest;
           end = f.end;
-          got = subst (λ (z : Option (List ℕ)). Appends first z c.text) (sym r.0) c.got;
-          trace = f.trace;
+          got = subst (λ (t : List ℕ). Appends first mid t) same (Appends-trans first out mid c.text part c.got r.4);
+          trace = subst (λ (t : List ℕ). IsTrace i o.form o.horizon o.steps t f.end) (both ∙ ap (λ (t : List ℕ). t ++ (rest ++ f.rest)) same) f.trace;
         },
-        has_told few m.is_heard (ap (λ (z : ReportTally). z.is_heard) r.1),
+        has_told few mid m.is_heard (Err Memory) (ap (λ (z : ReportTally). z.is_heard) r.5) (broken_at mid part rest r.2 r.3 r.4),
       )
-  came_failed good few early later t mid m (Write k) r =
+  came_failed good few later t mid m (Write k) r =
       let bytes = r.0 in
       let f = come_part i o good now next o.horizon c.text bytes later c.come r.1 r.2 in
       let short = r.3 in
@@ -286,8 +392,8 @@ module _ (i : Inputs) (o : Options) (first out quiet err : Option (List ℕ)) (n
           got = subst (λ (z : ℕ). IsPartWritten first mid ((c.text ++ bytes) ++ f.rest) z) (sym short.2) part;
           trace = f.trace;
         },
-        has_told few m.is_heard (ap (λ (z : ReportTally). z.is_heard) r.4),
+        has_told few mid m.is_heard (Err (Write k)) (ap (λ (z : ReportTally). z.is_heard) r.4) (cut_at mid bytes r.1 short.0 k r.2 short.1),
       )
-  came_failed good few early later t mid m (Refused x) bad = absurd bad
-  came_failed good few early later t mid m BadOption bad = absurd bad
-  came_failed good few early later t mid m Failed bad = absurd bad
+  came_failed good few later t mid m (Refused x) bad = absurd bad
+  came_failed good few later t mid m BadOption bad = absurd bad
+  came_failed good few later t mid m Failed bad = absurd bad

@@ -1,14 +1,17 @@
 -- What a run has written and told in the end.
-use Rattle.std.proofs.Common.{◌≡◌, ℕ, Bool, true, false, refl, sym, ap, ◌∙◌, subst, arith, List, ◌++◌, Option}
-use Rattle.std.specs.Prelude.{IsTrue, OnOk, Result, Ok, Err}
-use Rattle.std.specs.Result.{is_ok}
+use Rattle.std.proofs.Common.{◌≡◌, ◌≤◌, ℕ, Bool, true, inl, inr, refl, sym, ap, ◌∙◌, subst, arith, List, [], ◌++◌, length, take, drop, take-append-drop, drop_of_length-le, Option}
+use Rattle.std.specs.Prelude.{IfErr, IsTrue, Result, Ok, Err}
+use Rattle.std.specs.Io.KnownBytes.{Appends}
 use Rattle.std.proofs.KnownBytes.{Appends-trans}
 use Rattle.fb_types.specs.Headline.{Inputs, IsTrace, system_of}
 use Rattle.fb_types.specs.Simulation.{AtHorizon}
-use Rattle.fb_types.specs.Text.{last_line}
-use Rattle.fb_sim.specs.Advances.{Finishes, FinishesBy}
-use Rattle.fb_sim.specs.Rounds.{behind}
+use Rattle.fb_types.specs.Text.{last_line, lines_text}
+use Rattle.fb_sim.specs.Advances.{FailsToOpen, Finishes, FinishesBy}
+use Rattle.fb_sim.specs.Given.{Given}
+use Rattle.fb_sim.specs.Rounds.{FailsRun, behind}
 use Rattle.fb_sim.specs.Serial as serial
+use Rattle.fb_sim.specs.Serial.{AreWithin, Declares}
+use Rattle.fb_trace.specs.Progress.{IsPartWritten}
 use Rattle.fb_sim.specs.Sessions.{Session}
 use Rattle.fb_sim.specs.declared.options.Options.{Options}
 use Rattle.fb_trace.specs.declared.last.Outcome.{Outcome}
@@ -17,17 +20,21 @@ use Rattle.fb_sim.specs.declared.outcome.RunError.{RunError}
 use Rattle.fb_sim.specs.declared.outcome.RunError.TheVariants.{Refused, Memory, Write, BadOption, Failed}
 use Rattle.fb_sim.specs.declared.state.Stage.{Stage}
 use Rattle.fb_sim.proofs.Texts.{part-after}
-use Rattle.fb_sim.specs.Reports.{Came, Comes, Ends, Fails, HasCome, HasTold, Hears, Tells, hundredth, is_at_end, session}
+use Rattle.fb_sim.specs.Reports.{AreReports, Came, Comes, Ends, Fails, HasBroken, HasCome, HasTold, Hears, IsAsFar, Reports, hundredth, session}
 use Rattle.fb_sim.specs.declared.with_progress.ReportTally.{ReportTally}
-use Rattle.fb_sim.proofs.Coming.{come_end, hundredth_last}
+use Rattle.fb_sim.proofs.Coming.{come_end, heard_none, hundredth_last}
 
-untrue : false ≡ true → {P : Type 0} → P
-untrue e = absurd (let f : false ≡ true = e in cc)
-
--- what holds where a writer took all
-pub heard_if : {T E : Type 0} (r : Result T E) (b : Bool) (P : Type 0) → b ≡ is_ok r → OnOk r P → IsTrue b → P
-heard_if (Ok x) b P is holds t = holds
-heard_if (Err e) b P is holds t = untrue (sym is ∙ t)
+-- what holds where a writer took all of a text
+pub heard_whole : (old new : Option (List ℕ)) (text bytes : List ℕ) (n : ℕ) (b : Bool) → bytes ≡ text → (text ≡ [] → ⊥) → n ≤ length bytes → Appends old new (take n bytes) → (IsTrue b → n ≡ length bytes)
+    → Hears b old new text
+heard_whole old new text bytes n b is some few got all = record {
+  front = take n bytes;
+  rest = drop n bytes;
+  parts = sym is ∙ sym (take-append-drop n bytes);
+  got = got;
+  all = λ t. let e : n ≡ length bytes = all t in drop_of_length-le bytes {i = n} (omega (arith, e));
+  none = λ e. absurd (some e);
+}
 
 -- ---- The last line
 
@@ -55,15 +62,25 @@ module _ (i : Inputs) (o : Options) (first mid quiet err : Option (List ℕ)) (n
   cut_off new BadOption bad = absurd bad
   cut_off new Failed bad = absurd bad
 
-  all_told : (heard is_all : Bool) → heard ≡ n.is_heard → Tells i o quiet err heard is_all
-  all_told heard is_all same = record {
-    told = record { count = 100; few = omega arith; reports = c.reports; told = c.told; hears = subst (λ (h : Bool). Hears h quiet err c.reports) (sym same) c.hears };
-    all = λ t. refl;
+  all_told : (new : Option (List ℕ)) (end : Result Outcome RunError) → IsAsFar i o first new 100 end → HasTold i o first new quiet err n.is_heard end
+  all_told new end far = record { count = 100; few = omega arith; far = far; reports = c.reports; told = c.told; hears = c.hears }
+
+  -- the last line was not written whole
+  cut_at : (new : Option (List ℕ)) (k : ℕ) → IsPartWritten mid new last k → (e : RunError) → HasBroken i o first new 100 e
+  cut_at new k p e = record {
+    text = c.text;
+    come = c.come;
+    part = take p.count last;
+    got = Appends-trans first mid new c.text (take p.count last) c.got p.got;
+    left = λ b. absurd (omega (arith, b));
   }
 
--- nothing more is reported where a run has not come to its horizon
-some_told : (i : Inputs) (o : Options) (quiet err : Option (List ℕ)) (heard : Bool) → HasTold i o quiet err heard → Tells i o quiet err heard false
-some_told i o quiet err heard told = record { told = told; all = λ t. untrue t }
+  cut_told : (new : Option (List ℕ)) (e : RunError) → Finishes (session i o o.horizon) mid new (Err e) → HasTold i o first new quiet err n.is_heard (Err (behind n.bytes e))
+  cut_told new (Write k) f = all_told new (Err (behind n.bytes (Write k))) (cut_at new k f (behind n.bytes (Write k)))
+  cut_told new (Refused x) bad = absurd bad
+  cut_told new Memory bad = absurd bad
+  cut_told new BadOption bad = absurd bad
+  cut_told new Failed bad = absurd bad
 
 module _ (i : Inputs) (o : Options) (t : Session) (first mid quiet err : Option (List ℕ)) (m : ReportTally) where
   at_last : (new : Option (List ℕ)) (r : Result Outcome RunError) → t ≡ session i o (hundredth o.horizon 100) → Finishes t mid new r → Finishes (session i o o.horizon) mid new r
@@ -78,19 +95,73 @@ module _ (i : Inputs) (o : Options) (t : Session) (first mid quiet err : Option 
       let g = stopped new (Ok y) _ c.0 f in
       subst (λ (r : Result Outcome RunError). Ends i o first new r) (sym g.0) (subst (λ (w : Option (List ℕ)). Ends i o first w (Ok (Stop mark))) (sym g.1) c.1)
 
-  pub tells_well : (x : Outcome) → Comes i o t first mid quiet err 100 m (Ok x) → (new : Option (List ℕ)) (y : Outcome) → Finishes t mid new (Ok y) → Tells i o quiet err m.is_heard (is_at_end (Ok y))
-  tells_well (End h) c new y f = all_told i o first mid quiet err m c.0 m.is_heard _ refl
+  pub tells_well : (x : Outcome) → Comes i o t first mid quiet err 100 m (Ok x) → (new : Option (List ℕ)) (y : Outcome) → Finishes t mid new (Ok y) → HasTold i o first new quiet err m.is_heard (Ok y)
+  tells_well (End h) c new y f =
+      let g = at_last new (Ok y) c.1 f in
+      subst (λ (z : Outcome). HasTold i o first new quiet err m.is_heard (Ok z)) (sym g.0) (all_told i o first mid quiet err m c.0 new (Ok (End o.horizon)) refl)
   tells_well (Stop mark) c new y f =
       let g = stopped new (Ok y) _ c.0 f in
-      subst (λ (r : Result Outcome RunError). Tells i o quiet err m.is_heard (is_at_end r)) (sym g.0) (some_told i o quiet err m.is_heard c.2)
+      subst (λ (r : Result Outcome RunError). HasTold i o first new quiet err m.is_heard r) (sym g.0)
+      (subst (λ (w : Option (List ℕ)). HasTold i o first w quiet err m.is_heard (Ok (Stop mark))) (sym g.1) c.2)
 
   pub ends_short : (x : Outcome) → Comes i o t first mid quiet err 100 m (Ok x) → (new : Option (List ℕ)) (e : RunError) → Finishes t mid new (Err e) → Fails i o first new (behind m.bytes e)
   ends_short (End h) c new e f = cut_off i o first mid quiet err m c.0 new e (at_last new (Err e) c.1 f)
   ends_short (Stop mark) c new e f = let g = stopped new (Err e) _ c.0 f in absurd (let q : Err e ≡ Ok (Stop mark) = g.0 in cc)
 
-  pub tells_short : (x : Outcome) → Comes i o t first mid quiet err 100 m (Ok x) → Tells i o quiet err m.is_heard false
-  tells_short (End h) c = all_told i o first mid quiet err m c.0 m.is_heard false refl
-  tells_short (Stop mark) c = some_told i o quiet err m.is_heard c.2
+  pub tells_short : (x : Outcome) → Comes i o t first mid quiet err 100 m (Ok x) → (new : Option (List ℕ)) (e : RunError) → Finishes t mid new (Err e) → HasTold i o first new quiet err m.is_heard (Err (behind m.bytes e))
+  tells_short (End h) c new e f = cut_told i o first mid quiet err m c.0 new e (at_last new (Err e) c.1 f)
+  tells_short (Stop mark) c new e f = let g = stopped new (Err e) _ c.0 f in absurd (let q : Err e ≡ Ok (Stop mark) = g.0 in cc)
 
-  pub tells_failed : (e : RunError) → Comes i o t first mid quiet err 100 m (Err e) → Tells i o quiet err m.is_heard false
-  tells_failed e c = some_told i o quiet err m.is_heard c.1
+-- ---- What is reported in the end
+
+pub reports_of :
+    (given : Given) (i : Inputs) (o : Options) (old new quiet err : Option (List ℕ)) (heard : Bool) (end : Result Outcome RunError) → Declares given i → Ends i o old new end → HasTold i o old new quiet err heard end
+    → (reports : List ℕ) × AreReports given o old new end reports × Hears heard quiet err reports
+reports_of given i o old new quiet err heard end declared ends told = (told.reports, go end ends (record { inputs = i; declared = declared; count = told.count; few = told.few; far = told.far; told = told.told }), told.hears)
+  where
+    go : (r : Result Outcome RunError) → Ends i o old new r → Reports given o old new r told.reports → AreReports given o old new r told.reports
+    go (Ok x) e t = t
+    go (Err (Write n)) e t = t
+    go (Err Memory) e t = inl t
+    go (Err (Refused r)) e t = absurd e
+    go (Err BadOption) e t = absurd e
+    go (Err Failed) e t = absurd e
+
+-- What a run has written that failed.
+pub fails_of : (given : Given) (i : Inputs) (o : Options) (old new : Option (List ℕ)) (e : RunError) → AreWithin o → Declares given i → Fails i o old new e → FailsRun given o old new e
+fails_of given i o old new e within declared h = go e h
+  where
+    go : (e : RunError) → Fails i o old new e → FailsRun given o old new e
+    go Memory h = inr (
+        record {
+          bytes = lines_text o.form (system_of i) h.lines;
+          rest = h.rest;
+          end = h.end;
+          got = h.got;
+          trace = record { within = within; inputs = i; declared = declared; trace = h.trace };
+          lines = h.lines;
+          whole = refl;
+        }
+        )
+    go (Write n) h = record { bytes = h.bytes; end = h.end; got = h.got; trace = record { within = within; inputs = i; declared = declared; trace = h.trace } }
+    go (Refused r) h = absurd h
+    go BadOption h = absurd h
+    go Failed h = absurd h
+
+-- where it may have
+pub fails_if : (given : Given) (i : Inputs) (o : Options) (old new : Option (List ℕ)) (end : Result Outcome RunError) → AreWithin o → Declares given i → Ends i o old new end → IfErr end (FailsRun given o old new)
+fails_if given i o old new (Ok x) within declared h = tt
+fails_if given i o old new (Err e) within declared h = fails_of given i o old new e within declared h
+
+-- where no run begins
+pub no_reports :
+    (given : Given) (o : Options) (old quiet : Option (List ℕ)) (e : RunError) → FailsToOpen given o.steps o.workers e
+    → (reports : List ℕ) × AreReports given o old old (Err e) reports × Hears true quiet quiet reports
+no_reports given o old quiet e h = ([], go e h, heard_none quiet)
+  where
+    go : (e : RunError) → FailsToOpen given o.steps o.workers e → AreReports given o old old (Err e) []
+    go (Refused r) h = (refl, refl)
+    go Memory h = inr (refl, refl)
+    go BadOption h = (refl, refl)
+    go (Write n) h = absurd h
+    go Failed h = absurd h

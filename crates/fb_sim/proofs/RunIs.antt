@@ -1,9 +1,9 @@
 -- Round after round, and what a whole run has written.
-use Rattle.std.proofs.Common.{◌≡◌, ℕ, ◌+◌, ◌<◌, List, [], ◌++◌, length, Option, Result, Ok, Err, IfErr, inl, inr, refl, sym, ap, ◌∙◌, subst, arith, append_assoc, append-nil}
+use Rattle.std.proofs.Common.{◌≡◌, ℕ, ◌+◌, ◌<◌, List, [], ◌++◌, length, Option, Result, Ok, Err, IfErr, inl, inr, refl, sym, ap, ◌∙◌, subst, arith, append_assoc, append-nil, length-append}
 use Rattle.std.specs.Io.KnownBytes.{Appends}
 use Rattle.std.specs.Result.{IsErrAnd}
 use Rattle.std.proofs.KnownBytes.{Appends-nil, Appends-trans}
-use Rattle.fb_types.specs.Headline.{Inputs, system_of}
+use Rattle.fb_types.specs.Headline.{Inputs, IsTrace, system_of}
 use Rattle.fb_types.specs.Simulation.{Ending, AtHorizon, AtStop, ending_of}
 use Rattle.fb_types.specs.Cores.{IsFloor}
 use Rattle.fb_types.specs.Parts.{machine, count_of}
@@ -25,18 +25,20 @@ use Rattle.fb_sim.specs.declared.outcome.RunError.{RunError}
 use Rattle.fb_sim.specs.declared.outcome.RunError.TheVariants.{Refused, Memory, Write, BadOption, Failed}
 use Rattle.fb_sim.specs.declared.progress.Round.TheVariants.{Going, Ended, Stopped}
 use Rattle.fb_sim.specs.declared.tally.Tally.{Tally}
+use Rattle.fb_sim.specs.declared.tally.Written.{Written}
 use Rattle.fb_sim.proofs.RoundIs.{come_begins}
 use Rattle.fb_sim.proofs.Texts.{bounded-length, lines_text-append, part-after, part-before}
 
 -- ---- Rounds
 
--- From where these lines were handed out, the core has come on by some rounds, and the writer has got the text of the next ones, of so many bytes. No event comes before the tick that has the number of the rounds.
-pub record Came (i : Inputs) (o : Options) (ls : List Line) (core : CoreState) (old now : Option (List ℕ)) (n rounds : ℕ) : Type 0 where
+-- From where these lines were handed out, the core has come on by some rounds, and the writer has got the text of the next ones, of so many bytes and lines. No event comes before the tick that has the number of the rounds.
+pub record Came (i : Inputs) (o : Options) (ls : List Line) (core : CoreState) (old now : Option (List ℕ)) (w : Written) (rounds : ℕ) : Type 0 where
   pub out : List Line
   pub come : HasCome i o.steps o.horizon core (ls ++ out)
   pub floor : IsFloor (machine (system_of i) o.steps) (core_of i o.steps come.steps) rounds
   pub got : Appends old now (text_of i o.form out)
-  pub counted : n ≡ bounded (length (text_of i o.form out))
+  pub counted : w.bytes ≡ bounded (length (text_of i o.form out))
+  pub lined : w.lines ≡ bounded (length out)
 
 -- the same lines, named otherwise
 abbrev come_as : (i : Inputs) (limit horizon : ℕ) (core : CoreState) (ks ls : List Line) → ks ≡ ls → HasCome i limit horizon core ks → HasCome i limit horizon core ls
@@ -47,13 +49,14 @@ come_as i limit horizon core ks ls e h = record {
 }
 
 module _ (i : Inputs) (o : Options) (ls : List Line) where
-  pub came_first : (core : CoreState) (old : Option (List ℕ)) → HasCome i o.steps o.horizon core ls → Came i o ls core old old 0 0
+  pub came_first : (core : CoreState) (old : Option (List ℕ)) → HasCome i o.steps o.horizon core ls → Came i o ls core old old (record { bytes = 0; lines = 0 }) 0
   came_first core old h = record {
     out = [];
     come = come_as i o.steps o.horizon core ls (ls ++ []) (sym (append-nil ls)) h;
     floor = λ s k b. absurd (omega arith);
     got = Appends-nil old;
     counted = omega arith;
+    lined = omega arith;
   }
 
   -- the text of what came before and of what a round gave
@@ -68,41 +71,51 @@ module _ (i : Inputs) (o : Options) (ls : List Line) where
       ap (λ z. bounded (z + m)) a ∙ ap (λ z. bounded (bounded (length (text_of i o.form ks)) + z)) b
       ∙ bounded-length (text_of i o.form ks) (text_of i o.form ms) ∙ ap (λ (t : List ℕ). bounded (length t)) (joined ks ms)
 
-  module _ (core : CoreState) (old mid new : Option (List ℕ)) (n rounds : ℕ) (c : Came i o ls core old mid n rounds) where
+  both_lined : (ks ms : List Line) (n m : ℕ) → n ≡ bounded (length ks) → m ≡ length ms → bounded (n + m) ≡ bounded (length (ks ++ ms))
+  both_lined ks ms n m a b = rw length-append (omega (arith, a, b))
+
+  module _ (core : CoreState) (old mid new : Option (List ℕ)) (n : Written) (rounds : ℕ) (c : Came i o ls core old mid n rounds) where
+    -- with a round behind
+    abbrev with : Tally → Written
+    with m = record { bytes = bounded (n.bytes + m.bytes); lines = bounded (n.lines + m.final_lines) }
+
     -- There are no more rounds than ticks.
     pub came_early : (next : CoreState) (m : Tally) → CountedRounds i o (core_of i o.steps c.come.steps) (ls ++ c.out) mid new (Ok (Going next, m)) → rounds < o.horizon
     came_early next m r = let risen = r.1.3 rounds c.floor in risen.0
 
-    pub came_more : (next : CoreState) (m : Tally) → CountedRounds i o (core_of i o.steps c.come.steps) (ls ++ c.out) mid new (Ok (Going next, m)) → Came i o ls next old new (bounded (n + m.bytes)) (rounds + 1)
+    pub came_more : (next : CoreState) (m : Tally) → CountedRounds i o (core_of i o.steps c.come.steps) (ls ++ c.out) mid new (Ok (Going next, m)) → Came i o ls next old new (with m) (rounds + 1)
     came_more next m r = record {
       out = c.out ++ r.0;
       come = come_as i o.steps o.horizon next ((ls ++ c.out) ++ r.0) (ls ++ (c.out ++ r.0)) (append_assoc ls c.out r.0) r.1.0;
       floor = let risen = r.1.3 rounds c.floor in risen.1;
       got = both_got old mid new c.out r.0 c.got r.2;
-      counted = both_counted c.out r.0 n m.bytes c.counted r.3;
+      counted = both_counted c.out r.0 n.bytes m.bytes c.counted r.3;
+      lined = both_lined c.out r.0 n.lines m.final_lines c.lined r.4;
     }
 
-    pub came_end : (last : CoreState) (m : Tally) → CountedRounds i o (core_of i o.steps c.come.steps) (ls ++ c.out) mid new (Ok (Ended last, m)) → RunsOn i o ls old new (Ok (AtEnd last, bounded (n + m.bytes)))
+    pub came_end : (last : CoreState) (m : Tally) → CountedRounds i o (core_of i o.steps c.come.steps) (ls ++ c.out) mid new (Ok (Ended last, m)) → RunsOn i o ls old new (Ok (AtEnd last, with m))
     came_end last m r = (
       c.out ++ r.0,
       subst (λ (ks : List Line). IsFinished i o.steps o.horizon (AtEnd last) ks) (append_assoc ls c.out r.0) r.1,
       both_got old mid new c.out r.0 c.got r.2,
-      both_counted c.out r.0 n m.bytes c.counted r.3,
+      both_counted c.out r.0 n.bytes m.bytes c.counted r.3,
+      both_lined c.out r.0 n.lines m.final_lines c.lined r.4,
     )
 
-    pub came_stop : (mark : StopMark) (m : Tally) → CountedRounds i o (core_of i o.steps c.come.steps) (ls ++ c.out) mid new (Ok (Stopped mark, m)) → RunsOn i o ls old new (Ok (AtMark mark, bounded (n + m.bytes)))
+    pub came_stop : (mark : StopMark) (m : Tally) → CountedRounds i o (core_of i o.steps c.come.steps) (ls ++ c.out) mid new (Ok (Stopped mark, m)) → RunsOn i o ls old new (Ok (AtMark mark, with m))
     came_stop mark m r = (
       c.out ++ r.0,
       subst (λ (ks : List Line). IsFinished i o.steps o.horizon (AtMark mark) ks) (append_assoc ls c.out r.0) r.1,
       both_got old mid new c.out r.0 c.got r.2,
-      both_counted c.out r.0 n m.bytes c.counted r.3,
+      both_counted c.out r.0 n.bytes m.bytes c.counted r.3,
+      both_lined c.out r.0 n.lines m.final_lines c.lined r.4,
     )
 
-    pub came_short : (m : ℕ) → CountedRounds i o (core_of i o.steps c.come.steps) (ls ++ c.out) mid new (Err (Write m)) → RunsOn i o ls old new (Err (Write (bounded (n + m))))
+    pub came_short : (m : ℕ) → CountedRounds i o (core_of i o.steps c.come.steps) (ls ++ c.out) mid new (Err (Write m)) → RunsOn i o ls old new (Err (Write (bounded (n.bytes + m))))
     came_short m r = (
       c.out ++ r.0,
       subst (λ (ks : List Line). Begin i o.steps o.horizon ks) (append_assoc ls c.out r.0) r.1,
-      subst (λ (t : List ℕ). IsPartWritten old new t (bounded (n + m))) (joined c.out r.0) (part-after (text_of i o.form c.out) c.got c.counted r.2),
+      subst (λ (t : List ℕ). IsPartWritten old new t (bounded (n.bytes + m))) (joined c.out r.0) (part-after (text_of i o.form c.out) c.got c.counted r.2),
     )
 
     pub came_wanting : AreGood i → CountedRounds i o (core_of i o.steps c.come.steps) (ls ++ c.out) mid new (Err Memory) → RunsOn i o ls old new (Err Memory)
@@ -113,7 +126,7 @@ module _ (i : Inputs) (o : Options) (ls : List Line) where
     )
 
     -- the options of a round may name other workers
-    pub came_failed : AreGood i → (w : ℕ) (e : RunError) → CountedRounds i (record { horizon = o.horizon; steps = o.steps; workers = w; form = o.form }) (core_of i o.steps c.come.steps) (ls ++ c.out) mid new (Err e) → RunsOn i o ls old new (Err (behind n e))
+    pub came_failed : AreGood i → (w : ℕ) (e : RunError) → CountedRounds i (record { horizon = o.horizon; steps = o.steps; workers = w; form = o.form }) (core_of i o.steps c.come.steps) (ls ++ c.out) mid new (Err e) → RunsOn i o ls old new (Err (behind n.bytes e))
     came_failed good w (Write m) r = came_short m r
     came_failed good w Memory same = came_wanting good same
     came_failed good w (Refused r) bad = absurd bad
@@ -140,7 +153,7 @@ module _ (given : Given) (o : Options) (within : AreWithin o) (old : Option (Lis
   fails_wanting = inl (within, refl)
 
 -- a run that was stopped, was so by one of its resources
-pub stop_counted : (i : Inputs) (o : Options) (finish : Finish) (n : ℕ) (old mid : Option (List ℕ)) → RunsOn i o [] old mid (Ok (finish, n)) → (mark : StopMark)
+pub stop_counted : (i : Inputs) (o : Options) (finish : Finish) (n : Written) (old mid : Option (List ℕ)) → RunsOn i o [] old mid (Ok (finish, n)) → (mark : StopMark)
     → finish ≡ AtMark mark → mark.resource < count_of (system_of i)
 stop_counted i o finish n old mid ran mark is =
     let r = subst (λ (f : Finish). RunsOn i o [] old mid (Ok (f, n))) is ran in r.1.0
@@ -163,7 +176,11 @@ module _ (given : Given) (o : Options) (i : Inputs) (within : AreWithin o) (decl
   pub record Fronts (out : List Line) : Type 0 where
     pub rest : List ℕ
     pub end : Ending
-    pub trace : AreTrace given o (text_of i o.form out ++ rest) end
+    pub trace : IsTrace i o.form o.horizon o.steps (text_of i o.form out ++ rest) end
+
+  -- the trace of what is declared
+  abbrev trace_so : (bytes : List ℕ) (end : Ending) → IsTrace i o.form o.horizon o.steps bytes end → AreTrace given o bytes end
+  trace_so bytes end t = record { within = within; inputs = i; declared = declares; trace = t }
 
   -- what begins the lines begins the trace
   pub front_of : (out : List Line) → Begin i o.steps o.horizon out → Fronts out
@@ -174,30 +191,25 @@ module _ (given : Given) (o : Options) (i : Inputs) (within : AreWithin o) (decl
         rest = text_of i o.form b.rest ++ last_line sys end;
         end = end;
         trace = record {
-          within = within;
-          inputs = i;
-          declared = declares;
-          trace = record {
-            takings = b.takings;
-            simulation = b.simulation;
-            ending = refl;
-            text =
-                sym (append_assoc (text_of i o.form out) (text_of i o.form b.rest) (last_line sys end))
-                ∙ ap (λ (t : List ℕ). t ++ last_line sys end) (sym (lines_text-append o.form sys out b.rest))
-                ∙ ap (λ (ls : List Line). trace_text o.form sys ls end) (sym b.split);
-          };
+          takings = b.takings;
+          simulation = b.simulation;
+          ending = refl;
+          text =
+              sym (append_assoc (text_of i o.form out) (text_of i o.form b.rest) (last_line sys end))
+              ∙ ap (λ (t : List ℕ). t ++ last_line sys end) (sym (lines_text-append o.form sys out b.rest))
+              ∙ ap (λ (ls : List Line). trace_text o.form sys ls end) (sym b.split);
         };
       }
 
   pub fails_short : (old new : Option (List ℕ)) (n : ℕ) (out : List Line) → Begin i o.steps o.horizon out → IsPartWritten old new (text_of i o.form out) n → WritesPart given o old new n
   fails_short old new n out b p =
       let f = front_of out b in
-      record { bytes = text_of i o.form out ++ f.rest; end = f.end; got = part-before f.rest p; trace = f.trace }
+      record { bytes = text_of i o.form out ++ f.rest; end = f.end; got = part-before f.rest p; trace = trace_so (text_of i o.form out ++ f.rest) f.end f.trace }
 
   pub fails_front : (old new : Option (List ℕ)) (out : List Line) → Begin i o.steps o.horizon out → Appends old new (text_of i o.form out) → WritesFront given o old new
   fails_front old new out b got =
       let f = front_of out b in
-      record { bytes = text_of i o.form out; rest = f.rest; end = f.end; got = got; trace = f.trace }
+      record { bytes = text_of i o.form out; rest = f.rest; end = f.end; got = got; trace = trace_so (text_of i o.form out ++ f.rest) f.end f.trace; lines = out; whole = refl }
 
   -- what is written of a last line, behind all lines
   pub writes_all : (old mid new : Option (List ℕ)) (out : List Line) (end : Ending) → AreAll i o.steps o.horizon out end → Appends old mid (text_of i o.form out)
@@ -234,7 +246,7 @@ module _ (given : Given) (o : Options) (i : Inputs) (within : AreWithin o) (decl
   fails_at n old mid new end out all got counted BadOption s = absurd s
   fails_at n old mid new end out all got counted Failed s = absurd s
 
-  module _ (finish : Finish) (n : ℕ) (old mid new : Option (List ℕ)) (ran : RunsOn i o [] old mid (Ok (finish, n))) where
+  module _ (finish : Finish) (n : Written) (old mid new : Option (List ℕ)) (ran : RunsOn i o [] old mid (Ok (finish, n))) where
     at_end : (core : CoreState) → finish ≡ AtEnd core → RunsOn i o [] old mid (Ok (AtEnd core, n))
     at_end core is = subst (λ (f : Finish). RunsOn i o [] old mid (Ok (f, n))) is ran
 
@@ -248,8 +260,8 @@ module _ (given : Given) (o : Options) (i : Inputs) (within : AreWithin o) (decl
     pub stopped : (mark : StopMark) → finish ≡ AtMark mark → Appends mid new (last_line (system_of i) (AtStop mark.tick mark.resource mark.reason)) → Writes given o old new (AtStop mark.tick mark.resource mark.reason)
     stopped mark is last = let r = at_mark mark is in writes_all old mid new r.0 (AtStop mark.tick mark.resource mark.reason) r.1.1 r.2 last
 
-    pub ended_short : (core : CoreState) → finish ≡ AtEnd core → (e : RunError) → IsShort mid new (last_line (system_of i) (AtHorizon o.horizon)) n e → FailsRun given o old new e
-    ended_short core is e s = let r = at_end core is in fails_at n old mid new (AtHorizon o.horizon) r.0 r.1.2 r.2 r.3 e s
+    pub ended_short : (core : CoreState) → finish ≡ AtEnd core → (e : RunError) → IsShort mid new (last_line (system_of i) (AtHorizon o.horizon)) n.bytes e → FailsRun given o old new e
+    ended_short core is e s = let r = at_end core is in fails_at n.bytes old mid new (AtHorizon o.horizon) r.0 r.1.2 r.2 r.3 e s
 
-    pub stopped_short : (mark : StopMark) → finish ≡ AtMark mark → (e : RunError) → IsShort mid new (last_line (system_of i) (AtStop mark.tick mark.resource mark.reason)) n e → FailsRun given o old new e
-    stopped_short mark is e s = let r = at_mark mark is in fails_at n old mid new (AtStop mark.tick mark.resource mark.reason) r.0 r.1.1 r.2 r.3 e s
+    pub stopped_short : (mark : StopMark) → finish ≡ AtMark mark → (e : RunError) → IsShort mid new (last_line (system_of i) (AtStop mark.tick mark.resource mark.reason)) n.bytes e → FailsRun given o old new e
+    stopped_short mark is e s = let r = at_mark mark is in fails_at n.bytes old mid new (AtStop mark.tick mark.resource mark.reason) r.0 r.1.1 r.2 r.3 e s

@@ -81,6 +81,18 @@ horizon_is to (t ∷ ts) h is = by t.effect.stop is (horizon_is to ts h)
     by None e rest = rest e
     by (Some p) e rest = absurd (let f : AtHorizon h ≡ AtStop t.key.tick t.key.resource p = e in cc)
 
+-- it stops before its horizon
+stops_early : (to tick r : ℕ) (reason : Reason) (ts : List Taken) → Each (λ (t : Taken). t.key.tick < to) ts → ending_of to ts ≡ AtStop tick r reason → tick < to
+stops_early to tick r reason [] a is = absurd (let f : AtHorizon to ≡ AtStop tick r reason = is in cc)
+stops_early to tick r reason (t ∷ ts) a is = by t.effect.stop is (stops_early to tick r reason ts a.1)
+  where
+    by : (s : Option Reason) → ending_by s t.key (ending_of to ts) ≡ AtStop tick r reason → (ending_of to ts ≡ AtStop tick r reason → tick < to) → tick < to
+    by None e rest = rest e
+    by (Some p) e rest = let q : tick ≡ t.key.tick = (let f : AtStop t.key.tick t.key.resource p ≡ AtStop tick r reason = e in cc) in let b = a.0 in omega (arith, q, b)
+
+pub stop_is_early : (sys : System) (stimuli : List Stimulus) (limit to tick r : ℕ) (reason : Reason) (ts : List Taken) → ending_of to ts ≡ AtStop tick r reason → IsSimulation sys stimuli to limit ts → tick < to
+stop_is_early sys stimuli limit to tick r reason ts is x = stops_early to tick r reason ts (all_each (λ (t : Taken). t.key.tick < to) ts x.below) is
+
 -- a simulation that stops is one to each later tick
 pub stopped_later : (sys : System) (stimuli : List Stimulus) (limit to horizon tick r : ℕ) (reason : Reason) → to ≤ horizon → (ts : List Taken) → ending_of to ts ≡ AtStop tick r reason
     → IsSimulation sys stimuli to limit ts → IsSimulation sys stimuli horizon limit ts

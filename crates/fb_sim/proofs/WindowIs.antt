@@ -157,8 +157,9 @@ home_since i limit horizon c ls core h s home = record { belong = home.belong; a
 
 module _ (i : Inputs) (o : Options) (c : model_cores.Core (machine (system_of i) o.steps)) (ls : List Line) (old new : Option (List ℕ)) where
   pub counted_whole : (s : Settled) (n : Tally) → IsHomeAgain i o.steps o.horizon c ls s → Appends old new (text_of i o.form (map (line_of (system_of i)) (lines_out s)))
-      → n.bytes ≡ bounded (length (text_of i o.form (map (line_of (system_of i)) (lines_out s)))) → CountedRounds i o c ls old new (Ok (round_of s, n))
-  counted_whole s n h got counted = (map (line_of (system_of i)) (lines_out s), h.after, got, counted)
+      → n.bytes ≡ bounded (length (text_of i o.form (map (line_of (system_of i)) (lines_out s)))) → n.final_lines ≡ length (lines_out s)
+      → CountedRounds i o c ls old new (Ok (round_of s, n))
+  counted_whole s n h got counted lined = (map (line_of (system_of i)) (lines_out s), h.after, got, counted, lined ∙ sym (length-map (lines_out s) (line_of (system_of i))))
 
   home_begins : AreGood i → (s : Settled) → IsHomeAgain i o.steps o.horizon c ls s → Begin i o.steps o.horizon (ls ++ map (line_of (system_of i)) (lines_out s))
   home_begins good (settled.Going core out) h = come_begins i good o.steps o.horizon core (ls ++ map (line_of (system_of i)) out.items) h.after.0

@@ -1,5 +1,5 @@
 -- What advancing a simulation, and ending it, writes and answers (this project's profile).
-use Rattle.std.specs.Prelude.{◌≡◌, ◌^◌, ℕ, ◌<◌, ◌≤◌, ◌⊎◌, List, [], ◌++◌, Option, Result, Ok, Err}
+use Rattle.std.specs.Prelude.{◌≡◌, ◌^◌, ℕ, ◌<◌, ◌≤◌, ◌⊎◌, List, [], ◌++◌, length, Option, Result, Ok, Err}
 use Rattle.std.specs.Io.KnownBytes.{Appends}
 use Rattle.fb_types.specs.Headline.{system_of, stimuli_of}
 use Rattle.fb_types.specs.Simulation.{Taken, IsSimulation, Ending, AtHorizon, AtStop, ending_of, lines_of}
@@ -7,7 +7,7 @@ use Rattle.fb_types.specs.States.{Line}
 use Rattle.fb_types.specs.Systems.{System}
 use Rattle.fb_types.specs.Text.{lines_text, last_line}
 use Rattle.fb_types.specs.declared.run.Form.{Form}
-use Rattle.fb_trace.specs.Progress.{IsPartWritten}
+use Rattle.fb_trace.specs.Progress.{IsPartWritten, bounded}
 use Rattle.fb_sim.specs.Given.{Given}
 use Rattle.fb_trace.specs.End as trace
 use Rattle.fb_sim.specs.Serial.{Declares, IsRightly}
@@ -17,6 +17,7 @@ use Rattle.fb_sim.specs.declared.state.Stage.TheVariants as going
 use Rattle.fb_trace.specs.declared.last.Outcome.{Outcome}
 use Rattle.fb_trace.specs.declared.last.Outcome.TheVariants.{End, Stop}
 use Rattle.fb_sim.specs.declared.outcome.RunError.{RunError}
+use Rattle.fb_sim.specs.declared.tally.Written.{Written}
 use Rattle.fb_sim.specs.declared.outcome.RunError.TheVariants.{Refused, Memory, Write, BadOption, Failed}
 
 -- ---- Opening
@@ -70,7 +71,7 @@ pub record HasAdvanced (s t : Session) (to : ℕ) (old new : Option (List ℕ)) 
   pub got : Appends old new bytes
   pub now : t ≡ record s { to = to; stage = stage_after o }
 
--- it has failed, and the writer got some first bytes of the text
+-- it has failed, and the writer got some first bytes of the text, of whole lines
 pub record HasBroken (s t : Session) (to : ℕ) (old new : Option (List ℕ)) : Type 0 where
   pub later : s.to < to
   pub bytes : List ℕ
@@ -78,6 +79,8 @@ pub record HasBroken (s t : Session) (to : ℕ) (old new : Option (List ℕ)) : 
   pub end : Ending
   pub is_next : IsNext s to (bytes ++ rest) end
   pub got : Appends old new bytes
+  pub lines : List Line
+  pub whole : bytes ≡ lines_text s.form (system_of s.inputs) lines
   pub now : t ≡ record s { stage = going.Failed }
 
 -- the same, with the count of these bytes
@@ -97,6 +100,14 @@ AdvancesOn s t to old new (Err (Write n)) = HasNotWritten s t to old new n
 AdvancesOn s t to old new (Err (Refused r)) = ⊥
 AdvancesOn s t to old new (Err BadOption) = ⊥
 AdvancesOn s t to old new (Err Failed) = ⊥
+
+-- To a later tick: what was written, but for the line of a stop, has so many bytes and so many lines.
+abbrev pub RunsTo : (s t : Session) (to : ℕ) → (old new : Option (List ℕ)) → Result (Outcome × Written) RunError → Type 0
+RunsTo s t to old new (Ok (o, w)) =
+    (gone : HasAdvanced s t to old new o)
+    × (w.bytes ≡ bounded (length (lines_text s.form (system_of s.inputs) gone.is_next.rest)))
+    × (w.lines ≡ bounded (length gone.is_next.rest))
+RunsTo s t to old new (Err e) = AdvancesOn s t to old new (Err e)
 
 -- Nothing is written, and nothing changes.
 abbrev pub Stays : (s t : Session) → (old new : Option (List ℕ)) → Type 0

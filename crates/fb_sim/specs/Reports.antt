@@ -1,8 +1,9 @@
 -- The progress of a run, as it is reported, and what it has written then (this project's profile).
-use Rattle.std.specs.Prelude.{◌≡◌, ◌==◌, ◌⊎◌, ℕ, zero, suc, ◌+◌, ◌*◌, ◌/◌, ◌≤◌, ◌<◌, List, [], ◌++◌, length, count_by, Bool, true, false, IsTrue, Option, Result, Ok, Err, codes, decimal}
+use Rattle.std.specs.Prelude.{◌≡◌, ◌⊎◌, ℕ, zero, suc, ◌+◌, ◌*◌, ◌/◌, ◌≤◌, ◌<◌, List, [], ◌++◌, length, Bool, IsTrue, Option, Result, Ok, Err, codes, decimal}
 use Rattle.std.specs.Io.KnownBytes.{Appends}
 use Rattle.fb_types.specs.Headline.{Inputs, IsTrace, system_of, stimuli_of}
 use Rattle.fb_types.specs.Simulation.{Taken, IsSimulation, Ending, AtHorizon, AtStop, ending_of, lines_of}
+use Rattle.fb_types.specs.States.{Line}
 use Rattle.fb_types.specs.Text.{lines_text}
 use Rattle.fb_trace.specs.Progress.{IsPartWritten, bounded}
 use Rattle.fb_sim.specs.Advances.{IsNext, stage_after}
@@ -21,9 +22,13 @@ use Rattle.fb_sim.specs.declared.with_progress.ReportTally.{ReportTally}
 
 -- ---- What standard error hears
 
--- Where a writer took all, it holds this text behind what it held; and where there is none it holds what it held.
+-- A writer holds a beginning of this text behind what it held, and all of it where it took all. Where there is no text, it holds what it held.
 pub record Hears (heard : Bool) (old new : Option (List ℕ)) (text : List ℕ) : Type 0 where
-  pub all : IsTrue heard → Appends old new text
+  pub front : List ℕ
+  pub rest : List ℕ
+  pub parts : text ≡ front ++ rest
+  pub got : Appends old new front
+  pub all : IsTrue heard → rest ≡ []
   pub none : text ≡ [] → new ≡ old
 
 -- the tick of so many hundredths of the horizon
@@ -33,10 +38,6 @@ hundredth horizon count = horizon * count / 100
 abbrev pub report_text : (horizon tick lines : ℕ) → List ℕ
 report_text horizon tick lines =
     codes "progress: tick " ++ (decimal tick ++ (codes " of " ++ (decimal horizon ++ (codes ", " ++ (decimal lines ++ codes " lines\n")))))
-
--- how many line feeds a text has
-abbrev pub feeds : List ℕ → ℕ
-feeds text = count_by (λ b. b == 10) text
 
 -- All events below the tick were taken, and none of them stopped the simulation. Their lines have this text.
 pub record HasCome (i : Inputs) (o : Options) (to : ℕ) (text : List ℕ) : Type 0 where
@@ -49,7 +50,7 @@ pub record HasCome (i : Inputs) (o : Options) (to : ℕ) (text : List ℕ) : Typ
 pub record IsReport (i : Inputs) (o : Options) (to : ℕ) (report : List ℕ) : Type 0 where
   pub text : List ℕ
   pub come : HasCome i o to text
-  pub is : report ≡ report_text o.horizon to (bounded (feeds text))
+  pub is : report ≡ report_text o.horizon to (bounded (length (lines_of come.takings)))
 
 -- at a hundredth nothing is reported where its tick is that of the one before
 abbrev pub TellsAt : Inputs → Options → (before now : ℕ) → List ℕ → Type 0
@@ -61,59 +62,90 @@ TellsTo i o zero reports = reports ≡ []
 TellsTo i o (suc n) reports =
     (first : List ℕ) × (next : List ℕ) × TellsTo i o n first × TellsAt i o (hundredth o.horizon n) (hundredth o.horizon (suc n)) next × (reports ≡ first ++ next)
 
--- Where a run of these inputs begins, the first so many hundredths are reported, and where it comes to its horizon all of them.
-pub record Reports (given : Given) (o : Options) (is_all : Bool) (reports : List ℕ) : Type 0 where
+-- the simulation of the inputs, at a tick
+abbrev pub session : Inputs → Options → ℕ → Session
+session i o to = record { inputs = i; steps = o.steps; workers = o.workers; form = o.form; to = to; stage = going.Running }
+
+-- where a writer failed, some bytes of a text were not written
+abbrev pub HasMissing : RunError → (rest : List ℕ) → Type 0
+HasMissing (Write n) rest = 0 < length rest
+HasMissing Memory rest = Unit {0}
+HasMissing (Refused r) rest = ⊥
+HasMissing BadOption rest = ⊥
+HasMissing Failed rest = ⊥
+
+-- Of what is to be written from one hundredth to the next, this was written when the run failed.
+pub record HasPart (i : Inputs) (o : Options) (count : ℕ) (e : RunError) (part : List ℕ) : Type 0 where
+  pub rest : List ℕ
+  pub end : Ending
+  pub next : IsNext (session i o (hundredth o.horizon count)) (hundredth o.horizon (suc count)) (part ++ rest) end
+  pub missing : HasMissing e rest
+
+-- The run failed when all lines of the first hundredths were written, but not all of the next one.
+pub record HasBroken (i : Inputs) (o : Options) (old new : Option (List ℕ)) (count : ℕ) (e : RunError) : Type 0 where
+  pub text : List ℕ
+  pub come : HasCome i o (hundredth o.horizon count) text
+  pub part : List ℕ
+  pub got : Appends old new (text ++ part)
+  pub left : count < 100 → HasPart i o count e part
+
+-- A run ends when it has come so many hundredths far, and no more.
+abbrev pub IsAsFar : Inputs → Options → (old new : Option (List ℕ)) → (count : ℕ) → Result Outcome RunError → Type 0
+IsAsFar i o old new count (Ok (End h)) = count ≡ 100
+IsAsFar i o old new count (Ok (Stop mark)) = mark.tick < hundredth o.horizon (suc count)
+IsAsFar i o old new count (Err e) = HasBroken i o old new count e
+
+-- A run of these inputs begins, and each hundredth is reported that it comes to.
+pub record Reports (given : Given) (o : Options) (old new : Option (List ℕ)) (end : Result Outcome RunError) (reports : List ℕ) : Type 0 where
   pub inputs : Inputs
   pub declared : Declares given inputs
   pub count : ℕ
   pub few : count ≤ 100
-  pub all : IsTrue is_all → count ≡ 100
+  pub far : IsAsFar inputs o old new count end
   pub told : TellsTo inputs o count reports
 
 -- where no run begins, nothing is reported
-abbrev pub AreReports : Given → Options → (is_all : Bool) → List ℕ → Type 0
-AreReports given o is_all reports = Reports given o is_all reports ⊎ ((is_all ≡ false) × (reports ≡ []))
-
--- whether a run comes to its horizon
-abbrev pub is_at_end : Result Outcome RunError → Bool
-is_at_end (Ok (End h)) = true
-is_at_end (Ok (Stop mark)) = false
-is_at_end (Err e) = false
+abbrev pub AreReports : Given → Options → (old new : Option (List ℕ)) → (end : Result Outcome RunError) → List ℕ → Type 0
+AreReports given o old new (Ok x) reports = Reports given o old new (Ok x) reports
+AreReports given o old new (Err (Write n)) reports = Reports given o old new (Err (Write n)) reports
+AreReports given o old new (Err Memory) reports = Reports given o old new (Err Memory) reports ⊎ ((reports ≡ []) × (new ≡ old))
+AreReports given o old new (Err (Refused r)) reports = (reports ≡ []) × (new ≡ old)
+AreReports given o old new (Err BadOption) reports = (reports ≡ []) × (new ≡ old)
+AreReports given o old new (Err Failed) reports = ⊥
 
 -- ---- From one tick to a later one
 
--- the counts of bytes and of line feeds, with a text behind
-abbrev pub Counted : (n m : ReportTally) → (text : List ℕ) → Type 0
-Counted n m text = (m.bytes ≡ bounded (n.bytes + length text)) × (m.lines ≡ bounded (n.lines + feeds text)) × (m.is_heard ≡ n.is_heard)
+-- the counts of bytes and of lines, with more lines behind
+abbrev pub Counted : (n m : ReportTally) → (text : List ℕ) (lines : List Line) → Type 0
+Counted n m text lines = (m.bytes ≡ bounded (n.bytes + length text)) × (m.lines ≡ bounded (n.lines + length lines)) × (m.is_heard ≡ n.is_heard)
 
--- The text of the way to the later tick was written, or a part of it, or memory ran out.
+-- What comes up to the later tick was written; or a part of it, and then memory ran out or the writer failed.
 abbrev pub GoesOn : (s t : Session) (to : ℕ) → (old new : Option (List ℕ)) → (n m : ReportTally) → Result Outcome RunError → Type 0
 GoesOn s t to old new n m (Ok o) =
-    (text : List ℕ) × IsNext s to text (trace.ending_of o) × Appends old new text × (t ≡ record s { to = to; stage = stage_after o }) × Counted n m text
-GoesOn s t to old new n m (Err Memory) = (new ≡ old) × (m ≡ n)
+    (text : List ℕ)
+    × (next : IsNext s to text (trace.ending_of o))
+    × Appends old new text
+    × (t ≡ record s { to = to; stage = stage_after o })
+    × Counted n m (lines_text s.form (system_of s.inputs) next.rest) next.rest
+GoesOn s t to old new n m (Err Memory) =
+    (lines : List Line)
+    × (rest : List ℕ)
+    × (end : Ending)
+    × IsNext s to (lines_text s.form (system_of s.inputs) lines ++ rest) end
+    × Appends old new (lines_text s.form (system_of s.inputs) lines)
+    × (m ≡ n)
 GoesOn s t to old new n m (Err (Write k)) = (text : List ℕ) × (end : Ending) × IsNext s to text end × IsShort old new text n.bytes (Write k) × (m ≡ n)
 GoesOn s t to old new n m (Err (Refused r)) = ⊥
 GoesOn s t to old new n m (Err BadOption) = ⊥
 GoesOn s t to old new n m (Err Failed) = ⊥
 
--- where the writer that a simulation writes to is memory, memory ran out
-abbrev pub in_memory : RunError → RunError
-in_memory (Write n) = Memory
-in_memory (Refused r) = Refused r
-in_memory Memory = Memory
-in_memory BadOption = BadOption
-in_memory Failed = Failed
-
 -- ---- From hundredth to hundredth
 
--- the simulation of the inputs, at a tick
-abbrev pub session : Inputs → Options → ℕ → Session
-session i o to = record { inputs = i; steps = o.steps; workers = o.workers; form = o.form; to = to; stage = going.Running }
-
--- It was told at some of the first hundredths, and standard error took it where it says so.
-pub record HasTold (i : Inputs) (o : Options) (quiet err : Option (List ℕ)) (heard : Bool) : Type 0 where
+-- Each hundredth was reported that a run came to, and standard error took a beginning of that, or all where it says so.
+pub record HasTold (i : Inputs) (o : Options) (old new quiet err : Option (List ℕ)) (heard : Bool) (end : Result Outcome RunError) : Type 0 where
   pub count : ℕ
   pub few : count ≤ 100
+  pub far : IsAsFar i o old new count end
   pub reports : List ℕ
   pub told : TellsTo i o count reports
   pub hears : Hears heard quiet err reports
@@ -124,7 +156,7 @@ pub record Came (i : Inputs) (o : Options) (first out quiet err : Option (List �
   pub come : HasCome i o (hundredth o.horizon count) text
   pub got : Appends first out text
   pub bytes_are : n.bytes ≡ bounded (length text)
-  pub lines_are : n.lines ≡ bounded (feeds text)
+  pub lines_are : n.lines ≡ bounded (length (lines_of come.takings))
   pub reports : List ℕ
   pub told : TellsTo i o count reports
   pub hears : Hears n.is_heard quiet err reports
@@ -135,13 +167,13 @@ pub record HasWritten (i : Inputs) (o : Options) (old new : Option (List ℕ)) (
   pub got : Appends old new bytes
   pub trace : IsTrace i o.form o.horizon o.steps bytes end
 
--- The writer got a beginning of the trace.
+-- The writer got the first lines of the trace.
 pub record HasBegun (i : Inputs) (o : Options) (old new : Option (List ℕ)) : Type 0 where
-  pub bytes : List ℕ
+  pub lines : List Line
   pub rest : List ℕ
   pub end : Ending
-  pub got : Appends old new bytes
-  pub trace : IsTrace i o.form o.horizon o.steps (bytes ++ rest) end
+  pub got : Appends old new (lines_text o.form (system_of i) lines)
+  pub trace : IsTrace i o.form o.horizon o.steps (lines_text o.form (system_of i) lines ++ rest) end
 
 -- The writer failed when it had got so many bytes of the trace.
 pub record HasFailed (i : Inputs) (o : Options) (old new : Option (List ℕ)) (written : ℕ) : Type 0 where
@@ -162,15 +194,10 @@ Fails i o old new Failed = ⊥
 abbrev pub Comes : (i : Inputs) (o : Options) (t : Session) (first out quiet err : Option (List ℕ)) (count : ℕ) (m : ReportTally) → Result Outcome RunError → Type 0
 Comes i o t first out quiet err count m (Ok (End h)) = Came i o first out quiet err count m × (t ≡ session i o (hundredth o.horizon count))
 Comes i o t first out quiet err count m (Ok (Stop mark)) =
-    (t.stage ≡ going.Stopped mark) × HasWritten i o first out (AtStop mark.tick mark.resource mark.reason) × HasTold i o quiet err m.is_heard
-Comes i o t first out quiet err count m (Err e) = Fails i o first out e × HasTold i o quiet err m.is_heard
+    (t.stage ≡ going.Stopped mark) × HasWritten i o first out (AtStop mark.tick mark.resource mark.reason) × HasTold i o first out quiet err m.is_heard (Ok (Stop mark))
+Comes i o t first out quiet err count m (Err e) = Fails i o first out e × HasTold i o first out quiet err m.is_heard (Err e)
 
 -- what a run has written in the end
 abbrev pub Ends : Inputs → Options → (old new : Option (List ℕ)) → Result Outcome RunError → Type 0
 Ends i o old new (Ok x) = HasWritten i o old new (trace.ending_of x)
 Ends i o old new (Err e) = Fails i o old new e
-
--- and what it has told
-pub record Tells (i : Inputs) (o : Options) (quiet err : Option (List ℕ)) (heard is_all : Bool) : Type 0 where
-  pub told : HasTold i o quiet err heard
-  pub all : IsTrue is_all → told.count ≡ 100

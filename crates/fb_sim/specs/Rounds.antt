@@ -33,6 +33,7 @@ use Rattle.fb_sim.specs.declared.drive.Finish.TheVariants.{AtEnd, AtMark}
 use Rattle.fb_sim.specs.declared.progress.Round.{Round}
 use Rattle.fb_sim.specs.declared.progress.Round.TheVariants.{Going, Ended, Stopped}
 use Rattle.fb_sim.specs.declared.tally.Tally.{Tally}
+use Rattle.fb_sim.specs.declared.tally.Written.{Written}
 
 -- ---- What was handed out
 
@@ -151,10 +152,14 @@ FailsRound i o ls old new (Refused r) = ⊥
 FailsRound i o ls old new BadOption = ⊥
 FailsRound i o ls old new Failed = ⊥
 
--- Where these lines were handed out of the core c, some turns of single resources and a round hand out the next ones, and the writer gets their text, of so many bytes.
+-- Where these lines were handed out of the core c, some turns of single resources and a round hand out the next ones, and the writer gets their text, of so many bytes and so many lines.
 abbrev pub CountedRounds : (i : Inputs) (o : Options) (c : model_cores.Core (machine (system_of i) o.steps)) (ls : List Line) → (old new : Option (List ℕ)) → Result (Round × Tally) RunError → Type 0
 CountedRounds i o c ls old new (Ok (round, tally)) =
-    (out : List Line) × IsAfter i o.steps o.horizon c (ls ++ out) round × Appends old new (text_of i o.form out) × (tally.bytes ≡ bounded (length (text_of i o.form out)))
+    (out : List Line)
+    × IsAfter i o.steps o.horizon c (ls ++ out) round
+    × Appends old new (text_of i o.form out)
+    × (tally.bytes ≡ bounded (length (text_of i o.form out)))
+    × (tally.final_lines ≡ length out)
 CountedRounds i o c ls old new (Err e) = FailsRound i o ls old new e
 
 -- ---- A run
@@ -168,22 +173,28 @@ IsFinished i limit horizon (AtEnd core) ls =
 IsFinished i limit horizon (AtMark mark) ls = (mark.resource < count_of (system_of i)) × AreAll i limit horizon ls (AtStop mark.tick mark.resource mark.reason)
 
 -- From a core out of which these lines were handed, the rest is run and written.
-abbrev pub RunsOn : Inputs → Options → (ls : List Line) → (old new : Option (List ℕ)) → Result (Finish × ℕ) RunError → Type 0
-RunsOn i o ls old new (Ok (finish, n)) =
-    (out : List Line) × IsFinished i o.steps o.horizon finish (ls ++ out) × Appends old new (text_of i o.form out) × (n ≡ bounded (length (text_of i o.form out)))
+abbrev pub RunsOn : Inputs → Options → (ls : List Line) → (old new : Option (List ℕ)) → Result (Finish × Written) RunError → Type 0
+RunsOn i o ls old new (Ok (finish, w)) =
+    (out : List Line)
+    × IsFinished i o.steps o.horizon finish (ls ++ out)
+    × Appends old new (text_of i o.form out)
+    × (w.bytes ≡ bounded (length (text_of i o.form out)))
+    × (w.lines ≡ bounded (length out))
 RunsOn i o ls old new (Err (Write n)) = (out : List Line) × Begin i o.steps o.horizon (ls ++ out) × IsPartWritten old new (text_of i o.form out) n
 RunsOn i o ls old new (Err Memory) = (out : List Line) × Begin i o.steps o.horizon (ls ++ out) × Appends old new (text_of i o.form out)
 RunsOn i o ls old new (Err (Refused r)) = ⊥
 RunsOn i o ls old new (Err BadOption) = ⊥
 RunsOn i o ls old new (Err Failed) = ⊥
 
--- The writer got the first bytes of the trace.
+-- The writer got the first bytes of the trace, of whole lines.
 pub record WritesFront (given : Given) (o : Options) (old new : Option (List ℕ)) : Type 0 where
   pub bytes : List ℕ
   pub rest : List ℕ
   pub end : Ending
   pub got : Appends old new bytes
   pub trace : AreTrace given o (bytes ++ rest) end
+  pub lines : List Line
+  pub whole : bytes ≡ lines_text o.form (system_of trace.inputs) lines
 
 -- What a writer has where a run with workers failed. Options out of their range come before all else. Memory may run out before a round, when the lines of those before it are written.
 abbrev pub FailsRun : Given → Options → (old new : Option (List ℕ)) → RunError → Type 0

@@ -9,7 +9,7 @@ use crate::options::Options;
 use crate::outcome::RunError;
 use crate::progress::Round;
 use crate::rounds::counted_round;
-use crate::tally::{RoundPlan, first_window};
+use crate::tally::{RoundPlan, Written, first_window};
 use fb_phase::Gate;
 use fb_system::System;
 use fb_types::StopMark;
@@ -38,8 +38,8 @@ pub(crate) fn later(written: u128, error: RunError) -> RunError
     }
 }
 
-/// Runs a core by rounds to the horizon, or to a stop, and writes all lines, but no last line. The count is that of the
-/// bytes that were written. The first round has all workers, and each other one as many as what the round before it did
+/// Runs a core by rounds to the horizon, or to a stop, and writes all lines, but no last line. It answers what was
+/// written. The first round has all workers, and each other one as many as what the round before it did
 /// is worth. There is at most one round more than there are ticks below the horizon.
 pub(crate) fn run_on<R: Threads + Wait + Sync, W: Write, P: Gate>(
     rt: &R,
@@ -49,14 +49,14 @@ pub(crate) fn run_on<R: Threads + Wait + Sync, W: Write, P: Gate>(
     options: Options,
     out: &mut W,
     gate: &P,
-) -> Result<(Finish, u128), RunError>
+) -> Result<(Finish, Written), RunError>
     requires options { AreWithin options }
     requires come { (ls : List model.Line) × HasCome system.now options.steps options.horizon first ls }
     ensures { (ls : List model.Line) → HasCome system.now options.steps options.horizon first ls → RunsOn system.now options ls (W.contents out.old) (W.contents out.new) result }
 {
     system.facts();
     let mut core = first;
-    let mut written: u128 = 0;
+    let mut written = Written { bytes: 0, lines: 0 };
     let mut workers = options.workers;
     let mut turns = 0;
     let mut ticks = first_window(system.count());
@@ -69,7 +69,7 @@ pub(crate) fn run_on<R: Threads + Wait + Sync, W: Write, P: Gate>(
         };
         match counted_round(rt, alloc, system, core, plan, out, gate) {
             Ok((round, tally)) => {
-                written = written.saturating_add(tally.bytes);
+                written = written.with(&tally);
                 workers = tally.workers(options.workers);
                 turns = tally.turns();
                 ticks = tally.ticks(ticks);
@@ -79,7 +79,7 @@ pub(crate) fn run_on<R: Threads + Wait + Sync, W: Write, P: Gate>(
                     Round::Stopped(mark) => return Ok((Finish::AtMark(mark), written)),
                 }
             }
-            Err(error) => return Err(later(written, error)),
+            Err(error) => return Err(later(written.bytes, error)),
         }
     }
     unreachable!()

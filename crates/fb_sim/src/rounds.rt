@@ -210,8 +210,16 @@ pub(crate) fn counted_round<R: Threads + Wait + Sync, W: Write, P: Gate>(
     system.facts();
     let core = walked(alloc, system, core, plan)?;
     let (settled, busy, lines) = window(rt, alloc, system, core, plan.options, plan.ticks, gate)?;
-    let bytes = hand_out(out, system, plan.options.form, lines_of(&settled))?;
-    Ok((round_of(settled), Tally { bytes, busy, lines }))
+    let finals = lines_of(&settled);
+    let final_lines = finals.len() as u128;
+    let bytes = hand_out(out, system, plan.options.form, finals)?;
+    let tally = Tally {
+        bytes,
+        busy,
+        lines,
+        final_lines,
+    };
+    Ok((round_of(settled), tally))
 }
 
 /// One phase and one exchange: each resource that has not stopped runs to its greatest legal bound, at most 1,024 ticks

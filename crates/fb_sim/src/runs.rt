@@ -71,11 +71,11 @@ fn run_system<R: Threads + Wait + Sync, W: Write, P: Gate>(
     let (finish, written) = run_on(rt, alloc, system, core, options, out, gate)?;
     match finish {
         Finish::AtEnd(_) => {
-            close(out, system, Outcome::End(options.horizon), written)?;
+            close(out, system, Outcome::End(options.horizon), written.bytes)?;
             Ok(Outcome::End(options.horizon))
         }
         Finish::AtMark(mark) => {
-            close(out, system, Outcome::Stop(mark), written)?;
+            close(out, system, Outcome::Stop(mark), written.bytes)?;
             Ok(Outcome::Stop(mark))
         }
     }

@@ -1,7 +1,7 @@
 //! A run that is advanced piece by piece.
 
 ghost use Rattle.std.specs.Prelude.{◌≡◌, ◌^◌, ◌<◌, ◌≤◌, IfOk, IfErr};
-ghost use Rattle.fb_sim.specs.Advances.{Advances, AdvancesOn, Finishes, IsOpened, FailsToOpen};
+ghost use Rattle.fb_sim.specs.Advances.{Advances, Finishes, IsOpened, FailsToOpen, RunsTo};
 ghost use Rattle.fb_sim.specs.Sessions.{IsAhead};
 ghost use Rattle.fb_sim.specs.declared.state.Stage.TheVariants as going;
 
@@ -11,6 +11,7 @@ use crate::outcome::RunError;
 use crate::reading::open;
 use crate::runs::{close, open_core};
 use crate::state::{SessionState, Stage};
+use crate::tally::Written;
 use fb_phase::Gate;
 use fb_system::System;
 use fb_trace::Outcome;
@@ -107,10 +108,29 @@ impl Simulation {
             Stage::Failed => Err(RunError::Failed),
             Stage::Stopped(mark) => Ok(Outcome::Stop(mark)),
             Stage::Running if to <= self.to => Ok(Outcome::End(self.to)),
-            Stage::Running => match self.state.take() {
-                Some(core) => self.run_to(rt, core, to, out, gate),
-                None => unreachable!(),
+            Stage::Running => match self.go_on(rt, to, out, gate) {
+                Ok((outcome, _)) => Ok(outcome),
+                Err(error) => Err(error),
             },
+        }
+    }
+
+    /// Runs on to a later tick, as `advance` does. It answers also what it has written, but for the line of a stop.
+    pub(crate) fn go_on<R: Threads + Wait + Sync, W: Write, P: Gate>(
+        &mut self,
+        rt: &R,
+        to: u64,
+        out: &mut W,
+        gate: &P,
+    ) -> Result<(Outcome, Written), RunError>
+        requires running { self.old.stage ≡ going.Running }
+        requires later { self.old.to < to }
+        requires early { to ≤ 10 ^ 12 }
+        ensures { RunsTo self.old self.new to (W.contents out.old) (W.contents out.new) result }
+    {
+        match self.state.take() {
+            Some(core) => self.run_to(rt, core, to, out, gate),
+            None => unreachable!(),
         }
     }
 
@@ -122,12 +142,12 @@ impl Simulation {
         to: u64,
         out: &mut W,
         gate: &P,
-    ) -> Result<Outcome, RunError>
+    ) -> Result<(Outcome, Written), RunError>
         requires ahead { IsAhead self.old.inputs self.old.steps self.old.to core }
         requires later { self.old.to < to }
         requires early { to ≤ 10 ^ 12 }
         requires out { self.old.stage ≡ going.Failed }
-        ensures { AdvancesOn (record self.old { stage = going.Running }) self.new to (W.contents out.old) (W.contents out.new) result }
+        ensures { RunsTo (record self.old { stage = going.Running }) self.new to (W.contents out.old) (W.contents out.new) result }
     {
         self.system.facts();
         let options = Options {
@@ -141,13 +161,13 @@ impl Simulation {
             Finish::AtEnd(core) => {
                 self.to = to;
                 self.state.put(SessionState::Open(core));
-                Ok(Outcome::End(to))
+                Ok((Outcome::End(to), written))
             }
             Finish::AtMark(mark) => {
-                close(out, &self.system, Outcome::Stop(mark), written)?;
+                close(out, &self.system, Outcome::Stop(mark), written.bytes)?;
                 self.to = to;
                 self.state.put(SessionState::Stopped(mark));
-                Ok(Outcome::Stop(mark))
+                Ok((Outcome::Stop(mark), written))
             }
         }
     }

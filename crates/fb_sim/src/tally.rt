@@ -1,6 +1,7 @@
 //! What a round has done, and how the next one is made of it.
 
-ghost use Rattle.std.specs.Prelude.{◌≤◌};
+ghost use Rattle.std.specs.Prelude.{◌≡◌, ◌+◌, ◌≤◌};
+ghost use Rattle.fb_trace.specs.Progress.{bounded};
 
 use crate::options::Options;
 
@@ -42,6 +43,29 @@ pub(crate) struct Tally {
     pub busy: usize,
     /// The lines that they gave.
     pub lines: usize,
+    /// The lines that it wrote.
+    pub final_lines: u128,
+}
+
+/// What a run has written, without a last line.
+#[derive(Clone, Copy)]
+pub(crate) struct Written {
+    /// The bytes, up to the greatest `u128`.
+    pub bytes: u128,
+    /// The lines, up to the greatest `u128`.
+    pub lines: u128,
+}
+
+impl Written {
+    /// What is written once a round is written too.
+    pub(crate) fn with(self, round: &Tally) -> Written
+        ensures { result ≡ record { bytes = bounded (self.bytes + round.now.bytes); lines = bounded (self.lines + round.now.final_lines) } }
+    {
+        Written {
+            bytes: self.bytes.saturating_add(round.bytes),
+            lines: self.lines.saturating_add(round.final_lines),
+        }
+    }
 }
 
 /// How a round is made.

@@ -1,20 +1,22 @@
 //! A run that reports its progress, from one hundredth of its horizon to the next.
 
-ghost use Rattle.std.specs.Prelude.{◌≡◌, ◌^◌, ◌+◌, ◌<◌, ◌≤◌, ℕ, List, Option, IfOk, IfErr, IsTrue, OnOk};
-ghost use Rattle.std.specs.Io.KnownBytes.{Appends};
+ghost use Rattle.std.specs.Prelude.{◌≡◌, ◌^◌, ◌+◌, ◌<◌, ◌≤◌, ℕ, List, Option, IfOk, IfErr, string_bytes};
 ghost use Rattle.fb_laws.specs.Sound.{AreGood};
 ghost use Rattle.fb_trace.specs.End.{ending_of};
 ghost use Rattle.fb_sim.specs.Serial.{AreWithin, Writes};
-ghost use Rattle.fb_sim.specs.Rounds.{FailsRun, IsShort, behind};
+ghost use Rattle.fb_sim.specs.Rounds.{FailsRun};
+ghost use Rattle.fb_trace.specs.Progress.{bounded};
 ghost use Rattle.fb_sim.specs.declared.state.Stage.TheVariants as going;
-ghost use Rattle.fb_sim.specs.Reports.{AreReports, Came, Comes, Counted, Ends, GoesOn, Hears, Tells, hundredth, in_memory, is_at_end, report_text, session};
+ghost use Rattle.fb_sim.specs.Reports.{AreReports, Came, Comes, Ends, GoesOn, HasTold, Hears, hundredth, report_text, session};
 
+use crate::drive::later;
 use crate::options::{Inputs, Options};
 use crate::outcome::RunError;
 use crate::simulation::Simulation;
+use crate::tally::Written;
 use fb_phase::OpenGate;
 use fb_trace::{Outcome, write_front};
-use std::alloc::Global;
+use std::alloc::{AllocError, Global};
 use std::io::Write;
 use std::sync::Wait;
 use std::thread::Threads;
@@ -28,14 +30,13 @@ struct ReportTally {
 }
 
 impl ReportTally {
-    /// The tally once this text is written too.
-    fn with(self, text: &[u8]) -> ReportTally
-        ensures { Counted self result text.now }
+    /// The tally once this is written too.
+    fn with(self, written: Written) -> ReportTally
+        ensures { result ≡ record self { bytes = bounded (self.bytes + written.bytes); lines = bounded (self.lines + written.lines) } }
     {
-        let feeds = text.iter().filter(|byte| **byte == b'\n').count();
         ReportTally {
-            bytes: self.bytes.saturating_add(text.len() as u128),
-            lines: self.lines.saturating_add(feeds as u128),
+            bytes: self.bytes.saturating_add(written.bytes),
+            lines: self.lines.saturating_add(written.lines),
             is_heard: self.is_heard,
         }
     }
@@ -51,32 +52,9 @@ fn hundredth(horizon: u64, count: u64) -> u64
     horizon * count / 100
 }
 
-/// The error of a simulation that writes to memory: a text that takes no more is out of memory.
-fn in_memory(error: RunError) -> RunError
-    ensures { result ≡ in_memory error }
-{
-    match error {
-        RunError::Write(_) => RunError::Memory,
-        error => error,
-    }
-}
-
-/// Writes a text after this many bytes.
-fn write_behind<W: Write>(out: &mut W, text: &[u8], before: u128) -> Result<(), RunError>
-    ensures whole { OnOk result (Appends (W.contents out.old) (W.contents out.new) text.now) }
-    ensures part { IfErr result (IsShort (W.contents out.old) (W.contents out.new) text.now before) }
-{
-    let taken = write_front(out, text);
-    if taken < text.len() {
-        return Err(RunError::Write(before.saturating_add(taken as u128)));
-    }
-    Ok(())
-}
-
-/// Runs a simulation on to a later tick, and writes what that gives once it is all there.
+/// Runs a simulation on to a later tick, and writes what that gives, round by round.
 fn go_on<R: Threads + Wait + Sync, W: Write>(
     rt: &R,
-    alloc: Global,
     simulation: &mut Simulation,
     to: u64,
     out: &mut W,
@@ -87,24 +65,34 @@ fn go_on<R: Threads + Wait + Sync, W: Write>(
     requires early { to ≤ 10 ^ 12 }
     ensures { GoesOn simulation.old simulation.new to (W.contents out.old) (W.contents out.new) tally.old tally.new result }
 {
-    let mut text = Vec::new(alloc);
-    match simulation.advance(rt, to, &mut text, &OpenGate) {
-        Ok(outcome) => match write_behind(out, text.as_slice(), tally.bytes) {
-            Ok(()) => {
-                *tally = tally.with(text.as_slice());
-                Ok(outcome)
-            }
-            Err(error) => Err(error),
-        },
-        Err(error) => Err(in_memory(error)),
+    match simulation.go_on(rt, to, out, &OpenGate) {
+        Ok((outcome, written)) => {
+            *tally = tally.with(written);
+            Ok(outcome)
+        }
+        Err(error) => Err(later(tally.bytes, error)),
     }
 }
 
-/// Reports how many lines there are below a tick, and answers whether standard error took it.
-fn report<E: Write>(err: &mut E, horizon: u64, tick: u64, lines: u128) -> bool
-    ensures { IsTrue result → Appends (E.contents err.old) (E.contents err.new) (report_text horizon tick lines) }
+/// The report that there are so many lines below a tick.
+fn report_text(alloc: Global, horizon: u64, tick: u64, lines: u128) -> Result<String, AllocError>
+    ensures { IfOk result (λ text. string_bytes text ≡ report_text horizon tick lines) }
 {
-    writeln!(err, "progress: tick {tick} of {horizon}, {lines} lines").is_ok()
+    Ok(format!(in alloc; "progress: tick {tick} of {horizon}, {lines} lines\n")?)
+}
+
+/// Reports how many lines there are below a tick, and answers whether standard error took it. A report for which there
+/// is no memory is one that it did not take.
+fn report<E: Write>(alloc: Global, err: &mut E, horizon: u64, tick: u64, lines: u128) -> bool
+    ensures { Hears result (E.contents err.old) (E.contents err.new) (report_text horizon tick lines) }
+{
+    match report_text(alloc, horizon, tick, lines) {
+        Ok(text) => {
+            let bytes = text.as_bytes();
+            write_front(err, bytes) == bytes.len()
+        }
+        Err(_) => false,
+    }
 }
 
 /// Goes from one hundredth of the horizon to the next, and reports it where that is another tick.
@@ -130,10 +118,12 @@ fn go_to_next<R: Threads + Wait + Sync, W: Write, E: Write>(
     if tick <= before {
         return Ok(Outcome::End(tick));
     }
-    match go_on(rt, alloc, simulation, tick, out, tally) {
+    match go_on(rt, simulation, tick, out, tally) {
         Ok(Outcome::End(_)) => {
-            let is_heard = report(err, options.horizon, tick, tally.lines);
-            tally.is_heard = is_heard && tally.is_heard;
+            // Once standard error did not take a report, it gets no other.
+            if tally.is_heard {
+                tally.is_heard = report(alloc, err, options.horizon, tick, tally.lines);
+            }
             Ok(Outcome::End(tick))
         }
         Ok(Outcome::Stop(mark)) => Ok(Outcome::Stop(mark)),
@@ -170,16 +160,6 @@ fn go_far<R: Threads + Wait + Sync, W: Write, E: Write>(
     (Ok(Outcome::End(options.horizon)), tally)
 }
 
-/// The error of the last line, after this many bytes.
-fn behind(written: u128, error: RunError) -> RunError
-    ensures { result ≡ behind written error }
-{
-    match error {
-        RunError::Write(count) => RunError::Write(written.saturating_add(count)),
-        error => error,
-    }
-}
-
 /// How a run ends that reports its progress.
 #[derive(Drop)]
 pub struct ReportedRun {
@@ -202,7 +182,7 @@ fn go_through<R: Threads + Wait + Sync, W: Write, E: Write>(
     requires good { AreGood simulation.inputs }
     requires first { simulation ≡ session simulation.inputs options 0 }
     ensures ends { Ends simulation.inputs options (W.contents out.old) (W.contents out.new) result.end }
-    ensures tells { Tells simulation.inputs options (E.contents err.old) (E.contents err.new) result.is_heard (is_at_end result.end) }
+    ensures tells { HasTold simulation.inputs options (W.contents out.old) (W.contents out.new) (E.contents err.old) (E.contents err.new) result.is_heard result.end }
 {
     let (end, tally) = go_far(rt, alloc, &mut simulation, options, out, err);
     let is_heard = tally.is_heard;
@@ -213,7 +193,7 @@ fn go_through<R: Threads + Wait + Sync, W: Write, E: Write>(
                 is_heard,
             },
             Err(error) => ReportedRun {
-                end: Err(behind(tally.bytes, error)),
+                end: Err(later(tally.bytes, error)),
                 is_heard,
             },
         },
@@ -228,9 +208,10 @@ fn go_through<R: Threads + Wait + Sync, W: Write, E: Write>(
     }
 }
 
-/// Runs the application of the inputs with workers, and writes its trace, as `run` does. At each hundredth of the
-/// horizon that is reached it reports the tick and how many lines of the trace are below it. The lines of one
-/// hundredth are kept in memory until the run has come to its end. It waits for its workers, as `run` does.
+/// Runs the application of the inputs with workers, and writes its trace, as `run` does: the lines of each round as soon
+/// as they are final. At each hundredth of the horizon, when all lines below it are written, it reports the tick and how
+/// many lines these are. Once standard error did not take a report, it gets no other. It waits for its workers, as `run`
+/// does.
 pub fn run_with_progress<R: Threads + Wait + Sync, W: Write, E: Write>(
     rt: &R,
     alloc: Global,
@@ -241,7 +222,8 @@ pub fn run_with_progress<R: Threads + Wait + Sync, W: Write, E: Write>(
 ) -> ReportedRun
     ensures trace { IfOk result.end (λ o. Writes inputs.now options (W.contents out.old) (W.contents out.new) (ending_of o)) }
     ensures failed { IfErr result.end (FailsRun inputs.now options (W.contents out.old) (W.contents out.new)) }
-    ensures told { (reports : List ℕ) × AreReports inputs.now options (is_at_end result.end) reports × Hears result.is_heard (E.contents err.old) (E.contents err.new) reports }
+    ensures told { (reports : List ℕ) × AreReports inputs.now options (W.contents out.old) (W.contents out.new) result.end reports
+        × Hears result.is_heard (E.contents err.old) (E.contents err.new) reports }
 {
     if !options.are_within() {
         return ReportedRun {

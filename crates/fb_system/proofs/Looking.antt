@@ -6,7 +6,7 @@ use Rattle.std.proofs.lemmas.Bool.{lt-ltb, ltb-true}
 use Rattle.std.proofs.lemmas.List.{length-map}
 use Rattle.std.proofs.lemmas.Option.{same_Some, slice_get_within, slice_get-get_or, slice_get_read, slice_get_past}
 use Rattle.fb_types.specs.Names.{Name, Path, Port, same_port}
-use Rattle.fb_types.specs.Blocks.{Kind, Basic, Event, Composite, ports, ports_of, ports_of_event_block}
+use Rattle.fb_types.specs.Blocks.{Kind, Basic, Event, Composite, ports, ports_of}
 use Rattle.fb_types.specs.Counts.{IsNarrow}
 use Rattle.fb_types.specs.Flat.{kind_of, kind_at, kind_of_instance, type_named, inside, instance_at, network_at, network_of, paths_of, events_inside, data_inside}
 use Rattle.fb_types.specs.Repeated.{NameTwice}
@@ -17,7 +17,6 @@ use Rattle.fb_types.specs.declared.library.CompositeType.{CompositeType}
 use Rattle.fb_types.specs.declared.library.Instance.{Instance}
 use Rattle.fb_types.specs.declared.library.Network.{Network}
 use Rattle.fb_types.specs.declared.library.Ports.{Ports}
-use Rattle.fb_types.specs.declared.event_kind.EventKind.{EventKind}
 use Rattle.fb_types.specs.declared.deploy.Plan.{Plan}
 use Rattle.fb_check_names.specs.declared.numbers.ConnectionEnd.{ConnectionEnd}
 use Rattle.fb_check_names.specs.declared.numbers.NetworkNumbers.{NetworkNumbers}

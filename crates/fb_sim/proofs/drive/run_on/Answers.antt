@@ -44,20 +44,20 @@ loop-preserved g c = record {
   came =
       λ ls h.
       let came = c.loop.invariant.came ls h in
-      rw c.saturating_add-written.ensures
+      rw c.with-written.ensures
       (came_more c.args.system.now c.args.options ls c.loop.core _ _ _ c.loop.written c.loop.counter came c.in-Going.next c.in-Ok.tally (rw c.in-Going.is at c.in-Ok.ensures _ came.come));
 }
 
 pub returns-in-Ended : goal.returns-in-Ended
 returns-in-Ended g c ls h =
     let came = c.loop.invariant.came ls h in
-    rw c.saturating_add-written.ensures
+    rw c.with-written.ensures
     (came_end c.args.system.now c.args.options ls c.loop.core _ _ _ c.loop.written c.loop.counter came c.in-Ended.last c.in-Ok.tally (rw c.in-Ended.is at c.in-Ok.ensures _ came.come))
 
 pub returns-in-Stopped : goal.returns-in-Stopped
 returns-in-Stopped g c ls h =
     let came = c.loop.invariant.came ls h in
-    rw c.saturating_add-written.ensures
+    rw c.with-written.ensures
     (came_stop c.args.system.now c.args.options ls c.loop.core _ _ _ c.loop.written c.loop.counter came c.in-Stopped.mark c.in-Ok.tally (rw c.in-Stopped.is at c.in-Ok.ensures _ came.come))
 
 pub returns-in-Err : goal.returns-in-Err

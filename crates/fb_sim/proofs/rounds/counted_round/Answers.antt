@@ -1,4 +1,4 @@
-use Rattle.std.proofs.Common.{Ok, refl, subst, sym}
+use Rattle.std.proofs.Common.{Ok, length, ap, refl, subst, sym}
 use Rattle.fb_laws.specs.Sound.{AreGood}
 use Rattle.fb_laws.specs.Finality.{core_of}
 use Rattle.fb_sim.specs.Rounds.{CountedRounds}
@@ -16,7 +16,7 @@ pub hand_out-requires : goal.hand_out-requires
 hand_out-requires g c =
     let walked = c.in_ok-core.ensures.on c.requires.come.0 c.requires.come.1 in
     let home = c.in_ok-settled.ensures.home c.requires.come.0 walked.way in
-    rw c.lines_of.ensures home.belong
+    rw c.lines_of-finals.ensures home.belong
 
 pub returns-in_err-core : goal.returns-in_err-core
 returns-in_err-core g c ls h =
@@ -45,7 +45,7 @@ returns-in_err-bytes g c ls h =
     let walked = c.in_ok-core.ensures.on ls h in
     let home = home_since c.args.system.now o.steps o.horizon before ls _ walked _ (c.in_ok-settled.ensures.home ls walked.way) in
     counted_passed c.args.system.now o before ls old new _ e c.from_residual-in_err-bytes.ensures.1
-    (counted_failed c.args.system.now o before ls old new good c.in_ok-settled.settled e home (rw c.lines_of.ensures at c.in_err-bytes.ensures.part))
+    (counted_failed c.args.system.now o before ls old new good c.in_ok-settled.settled e home (rw c.lines_of-finals.ensures at c.in_err-bytes.ensures.part))
 
 pub returns : goal.returns
 returns g c ls h =
@@ -56,6 +56,6 @@ returns g c ls h =
     let walked = c.in_ok-core.ensures.on ls h in
     let home = home_since c.args.system.now o.steps o.horizon before ls _ walked _ (c.in_ok-settled.ensures.home ls walked.way) in
     let whole = c.in_ok-bytes.ensures.whole in
-    let tally : Tally = record { bytes = c.in_ok-bytes.bytes; busy = c.in_ok-settled.busy; lines = c.in_ok-settled.lines } in
+    let tally : Tally = record { bytes = c.in_ok-bytes.bytes; busy = c.in_ok-settled.busy; lines = c.in_ok-settled.lines; final_lines = length c.lines_of-finals.result.now } in
     subst (λ (r : Round). CountedRounds c.args.system.now o before ls old new (Ok (r, tally))) (sym c.round_of.ensures)
-    (counted_whole c.args.system.now o before ls old new c.in_ok-settled.settled tally home (rw c.lines_of.ensures at whole.0) (rw c.lines_of.ensures at whole.1))
+    (counted_whole c.args.system.now o before ls old new c.in_ok-settled.settled tally home (rw c.lines_of-finals.ensures at whole.0) (rw c.lines_of-finals.ensures at whole.1) (ap length c.lines_of-finals.ensures))

@@ -1,7 +1,7 @@
-use Rattle.std.proofs.Common.{Result, Ok, sym, subst}
+use Rattle.std.proofs.Common.{Result, Ok, Err, sym, subst}
 use Rattle.fb_trace.specs.declared.last.Outcome.{Outcome}
 use Rattle.fb_sim.specs.declared.outcome.RunError.{RunError}
-use Rattle.fb_sim.specs.Reports.{Comes, Fails}
+use Rattle.fb_sim.specs.Reports.{Comes, Fails, HasTold}
 use Rattle.fb_sim.proofs.Ending.{ends_short, ends_well, tells_short, tells_well}
 use Rattle.fb_sim.proofs.with_progress.go_through.Goals as goal
 
@@ -43,7 +43,7 @@ returns-in-Err-finish-clause-ends g c =
     let quiet = g.E.Write.contents c.args.err.now in
     let err = g.E.Write.contents c.go_far-end.new.err in
     let comes : Comes i o t first mid quiet err 100 m (Ok c.in-Ok.field-0) = subst (λ (r : Result Outcome RunError). Comes i o t first mid quiet err 100 m r) c.in-Ok.is c.go_far-end.ensures in
-    subst (λ (e : RunError). Fails i o first new e) (sym c.behind.ensures) (ends_short i o t first mid quiet err m c.in-Ok.field-0 comes new c.in-Err-finish.error c.in-Err-finish.ensures)
+    subst (λ (e : RunError). Fails i o first new e) (sym c.later.ensures) (ends_short i o t first mid quiet err m c.in-Ok.field-0 comes new c.in-Err-finish.error c.in-Err-finish.ensures)
 
 pub returns-in-Err-finish-clause-tells : goal.returns-in-Err-finish-clause-tells
 returns-in-Err-finish-clause-tells g c =
@@ -56,4 +56,5 @@ returns-in-Err-finish-clause-tells g c =
     let quiet = g.E.Write.contents c.args.err.now in
     let err = g.E.Write.contents c.go_far-end.new.err in
     let comes : Comes i o t first mid quiet err 100 m (Ok c.in-Ok.field-0) = subst (λ (r : Result Outcome RunError). Comes i o t first mid quiet err 100 m r) c.in-Ok.is c.go_far-end.ensures in
-    tells_short i o t first mid quiet err m c.in-Ok.field-0 comes
+    let new = g.W.Write.contents c.finish.new.out in
+    subst (λ (e : RunError). HasTold i o first new quiet err m.is_heard (Err e)) (sym c.later.ensures) (tells_short i o t first mid quiet err m c.in-Ok.field-0 comes new c.in-Err-finish.error c.in-Err-finish.ensures)

@@ -1,4 +1,4 @@
-use Rattle.std.proofs.Common.{List, subst}
+use Rattle.std.proofs.Common.{subst}
 use Rattle.fb_types.specs.Blocks.{ports_of}
 use Rattle.fb_types.specs.Counts.{IsNarrow}
 use Rattle.fb_types.specs.Flat.{kind_of}

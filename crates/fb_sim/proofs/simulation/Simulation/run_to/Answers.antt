@@ -1,5 +1,5 @@
 use Rattle.std.proofs.Common.{Ok, sym, subst}
-use Rattle.fb_sim.specs.Advances.{AdvancesOn}
+use Rattle.fb_sim.specs.Advances.{RunsTo}
 use Rattle.fb_sim.specs.Rounds.{RunsOn}
 use Rattle.fb_sim.specs.Sessions.{IsAtTick, stage_of}
 use Rattle.fb_sim.specs.declared.drive.Finish.{Finish}
@@ -55,8 +55,9 @@ returns-in-AtEnd g c =
     subst (λ (f : Finish). RunsOn v.inputs (onward v c.args.to) way.lines old new (Ok (f, c.in_ok-finish.written))) c.in-AtEnd.is (c.in_ok-finish.ensures way.lines way.come) in
     let s = c.args.self.now in
     let gone = advanced_end (record v { stage = going.Running }) c.args.to way.later way.lines way.was old new c.in-AtEnd.core c.in_ok-finish.written ran in
-    subst (λ (x : SessionState). AdvancesOn (record s { stage = going.Running }) (record v { to = c.args.to; stage = stage_of x }) c.args.to old new (Ok (End c.args.to))) (sym c.put.ensures)
-    (goes_on v s (record v { to = c.args.to; stage = going.Running }) c.self.view_is c.args.to old new (End c.args.to) gone)
+    let n = c.in_ok-finish.written in
+    subst (λ (x : SessionState). RunsTo (record s { stage = going.Running }) (record v { to = c.args.to; stage = stage_of x }) c.args.to old new (Ok (End c.args.to, n))) (sym c.put.ensures)
+    (goes_on v s (record v { to = c.args.to; stage = going.Running }) c.self.view_is c.args.to old new (End c.args.to) n gone)
 
 pub close-requires : goal.close-requires
 close-requires g c =
@@ -110,5 +111,6 @@ returns-in_ok-close-in-AtMark g c =
     subst (λ (f : Finish). RunsOn v.inputs (onward v c.args.to) way.lines old mid (Ok (f, c.in_ok-finish.written))) c.in-AtMark.is (c.in_ok-finish.ensures way.lines way.come) in
     let s = c.args.self.now in
     let gone = advanced_stop (record v { stage = going.Running }) c.args.to way.later way.lines way.was old mid new mark c.in_ok-finish.written ran c.in_ok-close-in-AtMark.ensures.whole in
-    subst (λ (x : SessionState). AdvancesOn (record s { stage = going.Running }) (record v { to = c.args.to; stage = stage_of x }) c.args.to old new (Ok (Stop mark))) (sym c.put-in-AtMark.ensures)
-    (goes_on v s (record v { to = c.args.to; stage = going.Stopped mark }) c.self.view_is c.args.to old new (Stop mark) gone)
+    let n = c.in_ok-finish.written in
+    subst (λ (x : SessionState). RunsTo (record s { stage = going.Running }) (record v { to = c.args.to; stage = stage_of x }) c.args.to old new (Ok (Stop mark, n))) (sym c.put-in-AtMark.ensures)
+    (goes_on v s (record v { to = c.args.to; stage = going.Stopped mark }) c.self.view_is c.args.to old new (Stop mark) n gone)
