@@ -38,7 +38,6 @@ impl Taking<'_> {
     ///
     /// # Errors
     /// As `arrive`.
-    #[inline(always)]
     fn take_message(
         &mut self,
         message: &Message,
@@ -123,6 +122,8 @@ impl Taking<'_> {
         ensures taken { WasTaken self.old (event_in arrival.entry) meter.old.left result self.new meter.new.left }
         ensures same { IsSame self.old self.new }
     {
+        // The compiler drops the hint to inline a function that is too large with all that is always inlined into it. So
+        // `arrive` is so inlined here once, for local events.
         match arrival {
             Arrival::Stimulus(row) => self.take_stimulus(row, meter, emits),
             Arrival::Timer(instance) => self.take_timer(instance, emits),
