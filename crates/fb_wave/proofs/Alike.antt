@@ -1,18 +1,16 @@
 -- No two ports of a system with names are written alike.
-use Rattle.std.proofs.Common.{◌≡◌, ◌⊎◌, ℕ, zero, suc, ◌+◌, ◌<◌, ◌≤◌, Bool, true, false, List, [], ◌∷◌, ◌++◌, length, map, codes, Contains, Option, Some, None, refl, sym, ap, subst, ◌∙◌, inl, inr, arith, append_assoc}
-use Rattle.std.specs.Prelude.{All, not, ◌&&◌, ◌||◌, ◌==◌, if◌then◌else◌, option_map, slice_get, unwrap_or}
+use Rattle.std.proofs.Common.{◌≡◌, ℕ, zero, suc, ◌<◌, ◌≤◌, Bool, true, false, List, [], ◌∷◌, ◌++◌, length, map, codes, Contains, Some, refl, sym, ap, subst, ◌∙◌, inl, inr, arith, append_assoc}
+use Rattle.std.specs.Prelude.{All, not, ◌||◌, ◌==◌, slice_get, unwrap_or}
 use Rattle.std.specs.List.{list_all}
-use Rattle.std.proofs.lemmas.Bool.{and_from, and_parts, false≢true, leb-true, ne_eqb, not-true, not_from_false, or_cases, true≢false}
+use Rattle.std.proofs.lemmas.Bool.{and_from, and_parts, false≢true, leb-true, ne_eqb, not_from_false, or_cases}
 use Rattle.std.proofs.lemmas.List.{length-map}
 use Rattle.std.proofs.lemmas.List.Elements.{All-head, All-tail}
 use Rattle.std.proofs.lemmas.List.Folds.{list_all-append}
-use Rattle.std.proofs.lemmas.Option.{same_Some}
 use Rattle.fb_types.specs.Blocks.{event_names}
 use Rattle.fb_types.specs.Headline.{AreAccepted, Inputs, system_of}
 use Rattle.fb_types.specs.Names.{Name, Path}
 use Rattle.fb_types.specs.Numbers.{event_at, path_at}
 use Rattle.fb_types.specs.Repeated.{Twice}
-use Rattle.fb_types.specs.Systems.{System}
 use Rattle.fb_types.specs.Text.{path_text}
 use Rattle.fb_types.specs.declared.library.EventPort.{EventPort}
 use Rattle.fb_types.proofs.ByIndex.{all_at, index_of_element}
@@ -21,7 +19,7 @@ use Rattle.fb_wave.specs.Named.{AreNames, HasNames, is_digit, is_letter, is_name
 use Rattle.fb_wave.specs.Nested.{AreNumbered}
 use Rattle.fb_wave.specs.Ports.{IsPortOf, port_text, side}
 use Rattle.fb_wave.specs.declared.ports.Port.{Port}
-use Rattle.fb_wave.proofs.Finding.{begins_three, one_index, path_event, sign, three_words}
+use Rattle.fb_wave.proofs.Finding.{begins_three, one_index, sign, three_words}
 use Rattle.fb_wave.proofs.Known.{events_once, path_some}
 use Rattle.fb_wave.proofs.Lining.{event_named, path_named}
 use Rattle.fb_wave.proofs.Plain.{letter_low, names_rest}

@@ -1,5 +1,5 @@
 -- Where the copy of a trace refuses a line, it is the first with which the text is no trace.
-use Rattle.std.proofs.Common.{◌≡◌, ◌⊎◌, ℕ, suc, ◌+◌, ◌<◌, ◌≤◌, ◌^◌, List, [], ◌∷◌, ◌++◌, length, map, refl, sym, ap, subst, ◌∙◌, inl, inr, arith, append_assoc}
+use Rattle.std.proofs.Common.{◌≡◌, ℕ, suc, ◌+◌, ◌<◌, ◌^◌, List, [], ◌∷◌, ◌++◌, length, map, refl, sym, ap, subst, ◌∙◌, inl, inr, arith, append_assoc}
 use Rattle.std.specs.Prelude.{All, IfSome, Option, None, Some}
 use Rattle.std.specs.Io.KnownBytes.{Consumes}
 use Rattle.std.proofs.lemmas.List.{length-map}
@@ -7,7 +7,6 @@ use Rattle.std.proofs.lemmas.List.Elements.{All-head, All-tail}
 use Rattle.fb_types.specs.Headline.{Inputs, system_of}
 use Rattle.fb_types.specs.Limits.{IsWithinLimits}
 use Rattle.fb_types.specs.Numbers.{line_of}
-use Rattle.fb_types.specs.Simulation.{Ending, AtHorizon, AtStop}
 use Rattle.fb_types.specs.Systems.{System}
 use Rattle.fb_types.specs.Text.{last_line, lines_text}
 use Rattle.fb_types.specs.declared.deploy.ResourceEntry.{ResourceEntry}
@@ -15,13 +14,11 @@ use Rattle.fb_types.specs.declared.run.Form.{Form}
 use Rattle.fb_types.specs.declared.run.Line.{Line}
 use Rattle.fb_trace.specs.End.{ending_of}
 use Rattle.fb_trace.specs.declared.last.Outcome.{Outcome}
-use Rattle.fb_trace.specs.declared.last.Outcome.TheVariants.{End, Stop}
 use Rattle.fb_wave.specs.Copying.{IsAfter, IsCopied, IsCutShort, IsNoLineFrom, RefusesEnd, RefusesLine}
 use Rattle.fb_wave.specs.Dumps.{last_tick}
-use Rattle.fb_wave.specs.Lines.{IsEndOf, IsLast, IsLineOf, IsNoLast}
+use Rattle.fb_wave.specs.Lines.{IsLast, IsLineOf, IsNoLast}
 use Rattle.fb_wave.specs.Named.{HasNames}
 use Rattle.fb_wave.specs.Refusals.{Blames, IsFirstBad}
-use Rattle.fb_wave.specs.Waves.{AreLinesOf, EndsAfter}
 use Rattle.fb_wave.specs.declared.copy.Progress.{Progress}
 use Rattle.fb_wave.specs.declared.error.WaveError.{WaveError}
 use Rattle.fb_wave.specs.declared.error.WaveError.TheVariants.{Refused, Names, Memory, Read, Write}
@@ -29,7 +26,7 @@ use Rattle.fb_wave.specs.declared.page.DumpPage.{DumpPage}
 use Rattle.fb_wave.proofs.Copied.{ends_after}
 use Rattle.fb_wave.proofs.Ends.{after_once}
 use Rattle.fb_wave.proofs.Lining.{line_not_last}
-use Rattle.fb_wave.proofs.Refusing.{IsNoEndFrom, refused, refused_behind}
+use Rattle.fb_wave.proofs.Refusing.{refused, refused_behind}
 
 pub some_resource : (i : Inputs) → IsWithinLimits i.plan → 0 < length (system_of i).resource_names
 some_resource i limits =

@@ -1,5 +1,5 @@
 -- What keeps a text from being the last line of a trace, and which ends have one text.
-use Rattle.std.proofs.Common.{◌≡◌, ℕ, zero, suc, ◌+◌, ◌<◌, ◌≤◌, ◌^◌, true, false, List, [], ◌∷◌, ◌++◌, length, get_or, codes, decimal, refl, sym, ap, subst, ◌∙◌, arith, append_assoc}
+use Rattle.std.proofs.Common.{◌≡◌, ℕ, ◌<◌, ◌^◌, true, List, [], ◌∷◌, ◌++◌, length, get_or, codes, decimal, refl, sym, ap, ◌∙◌, arith, append_assoc}
 use Rattle.std.specs.Prelude.{slice_get, unwrap_or}
 use Rattle.std.proofs.lemmas.List.{append_cancel_left}
 use Rattle.std.proofs.lemmas.Option.{unwrap_or-slice_get}
@@ -16,7 +16,7 @@ use Rattle.fb_wave.specs.Lines.{IsEndOf, IsNoLast, IsNoStop, stop_text}
 use Rattle.fb_wave.specs.Named.{HasNames}
 use Rattle.fb_wave.specs.Reading.{HasNoNumber, number_text}
 use Rattle.fb_wave.specs.Waves.{EndsAfter}
-use Rattle.fb_wave.specs.Words.{IsCut, is_ended, is_word}
+use Rattle.fb_wave.specs.Words.{IsCut, is_word}
 use Rattle.fb_wave.proofs.Cutting.{cut_once, uncut, word_once}
 use Rattle.fb_wave.proofs.Known.{there}
 use Rattle.fb_wave.proofs.Lining.{last_first}

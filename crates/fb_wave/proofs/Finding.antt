@@ -1,10 +1,10 @@
 -- How the port of a line is found by its text.
-use Rattle.std.proofs.Common.{◌≡◌, ℕ, zero, suc, ◌+◌, ◌-◌, ◌<◌, Bool, true, false, List, [], ◌∷◌, ◌++◌, length, map, take, get_or, codes, Contains, Option, Some, None, refl, sym, ap, subst, ◌∙◌, inl, inr, arith, append_assoc, length-append}
-use Rattle.std.specs.Prelude.{All, if◌then◌else◌, is_some, option_map, position, slice_get, unwrap_or}
+use Rattle.std.proofs.Common.{◌≡◌, ℕ, zero, suc, ◌-◌, Bool, true, false, List, [], ◌∷◌, ◌++◌, length, map, take, get_or, codes, Contains, Some, None, refl, sym, ap, subst, ◌∙◌, inl, inr, arith, append_assoc, length-append}
+use Rattle.std.specs.Prelude.{if◌then◌else◌, is_some, option_map, position, slice_get}
 use Rattle.std.proofs.Math.Seq.{take-append_seam}
 use Rattle.std.proofs.lemmas.Bool.{true≢false}
 use Rattle.std.proofs.lemmas.List.{append_cancel_left}
-use Rattle.std.proofs.lemmas.Option.{same_Some, slice_get-map, unwrap_or-slice_get}
+use Rattle.std.proofs.lemmas.Option.{same_Some, slice_get-map}
 use Rattle.fb_types.specs.Headline.{system_of}
 use Rattle.fb_types.specs.Names.{Name, same_name}
 use Rattle.fb_types.specs.Numbers.{event_at, path_at}
@@ -14,13 +14,12 @@ use Rattle.fb_types.specs.Text.{path_text}
 use Rattle.fb_types.proofs.ByIndex.{all_at, element_of_index, index_of_element}
 use Rattle.fb_types.proofs.Elements.{Contains-here, Contains-map}
 use Rattle.fb_types.proofs.NameLaws.{any_from_contains}
-use Rattle.fb_types.proofs.Options.{map_parts}
 use Rattle.fb_types.proofs.Positions.{is_some-position, position_is}
 use Rattle.fb_check_names.specs.Indexes.{index_in}
-use Rattle.fb_wave.specs.Named.{AreNames, HasNames, is_name}
+use Rattle.fb_wave.specs.Named.{AreNames, HasNames}
 use Rattle.fb_wave.specs.Ports.{BeginsWith, IsPortOf, holder_name, port_text, side}
 use Rattle.fb_wave.specs.Tables.{IsTable}
-use Rattle.fb_wave.specs.Words.{AreThree, HasNoThree, HasThree, IsCut, is_end, is_ended, is_word, three}
+use Rattle.fb_wave.specs.Words.{AreThree, HasNoThree, HasThree, IsCut, is_ended, is_word, three}
 use Rattle.fb_wave.specs.declared.ports.Port.{Port}
 use Rattle.fb_wave.specs.declared.table.PortTable.{PortTable}
 use Rattle.fb_wave.proofs.Cutting.{cut_once, uncut, word_once}

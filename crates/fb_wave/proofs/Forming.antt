@@ -1,15 +1,13 @@
 -- The form of a trace by the second word of its first line.
-use Rattle.std.proofs.Common.{◌≡◌, ℕ, ◌+◌, ◌<◌, ◌≤◌, ◌^◌, Bool, true, false, List, [], ◌∷◌, ◌++◌, length, get_or, codes, decimal, refl, sym, ap, subst, ◌∙◌, arith, append_assoc}
-use Rattle.std.specs.Prelude.{◌&&◌, if◌then◌else◌, nat_le}
+use Rattle.std.proofs.Common.{◌≡◌, ℕ, ◌<◌, ◌≤◌, Bool, true, false, List, [], ◌∷◌, ◌++◌, length, get_or, codes, decimal, refl, sym, ap, ◌∙◌, arith, append_assoc}
+use Rattle.std.specs.Prelude.{if◌then◌else◌, nat_le}
 use Rattle.std.proofs.lemmas.Bool.{and_from, and_parts, false_from_ne_true, le-leb, leb-true}
 use Rattle.fb_types.specs.declared.run.Form.{Form}
 use Rattle.fb_types.specs.declared.run.Form.TheVariants.{One, Two}
 use Rattle.fb_types.specs.declared.run.Line.{Line}
-use Rattle.fb_types.specs.Numbers.{line_of}
 use Rattle.fb_types.specs.Systems.{System}
-use Rattle.fb_types.specs.Text.{line_text}
 use Rattle.fb_wave.specs.Lines.{IsTextOf}
-use Rattle.fb_wave.specs.Named.{HasNames, is_digit, is_letter}
+use Rattle.fb_wave.specs.Named.{HasNames, is_digit}
 use Rattle.fb_wave.specs.Ports.{holder_name, port_text}
 use Rattle.fb_wave.specs.Reading.{number_text}
 use Rattle.fb_wave.specs.Words.{is_word}

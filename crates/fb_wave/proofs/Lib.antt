@@ -25,6 +25,7 @@ pub mod Porting
 pub mod Refusing
 pub mod ByTick
 pub mod Nesting
+pub mod Naming
 pub mod Alike
 pub mod Ends
 pub mod Blaming

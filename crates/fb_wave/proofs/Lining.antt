@@ -1,15 +1,15 @@
 -- What the text of a line begins with, and what it has behind that.
-use Rattle.std.proofs.Common.{◌≡◌, ℕ, zero, suc, ◌+◌, ◌<◌, ◌≤◌, ◌^◌, Bool, true, false, List, [], ◌∷◌, ◌++◌, length, map, get_or, codes, decimal, Contains, refl, sym, ap, subst, ◌∙◌, arith, append_assoc}
-use Rattle.std.specs.Prelude.{All, if◌then◌else◌, slice_get, unwrap_or}
-use Rattle.std.proofs.lemmas.List.{append_cancel_left, get_or_append_left, length-map}
+use Rattle.std.proofs.Common.{◌≡◌, ℕ, ◌<◌, ◌≤◌, ◌^◌, Bool, true, false, List, [], ◌∷◌, ◌++◌, length, map, get_or, codes, decimal, Contains, refl, sym, ap, subst, ◌∙◌, arith, append_assoc}
+use Rattle.std.specs.Prelude.{if◌then◌else◌, slice_get, unwrap_or}
+use Rattle.std.proofs.lemmas.List.{get_or_append_left, length-map}
 use Rattle.std.proofs.lemmas.List.Elements.{Contains-append_left, Contains-append_right}
 use Rattle.std.proofs.lemmas.Option.{unwrap_or-slice_get}
 use Rattle.fb_types.specs.Blocks.{event_names, inputs_with, outputs_with, variable_names}
-use Rattle.fb_types.specs.Names.{Name, Path}
+use Rattle.fb_types.specs.Names.{Name}
 use Rattle.fb_types.specs.Numbers.{event_at, line_of, pair_up, path_at, ports_at}
 use Rattle.fb_types.specs.Simulation.{Ending, AtHorizon, AtStop}
 use Rattle.fb_types.specs.Systems.{System}
-use Rattle.fb_types.specs.Text.{key_text, last_line, line_text, path_text, tick_and_resource_text, reason_text, values_text}
+use Rattle.fb_types.specs.Text.{key_text, last_line, line_text, path_text, reason_text, values_text}
 use Rattle.fb_types.specs.declared.key.Key.{Key}
 use Rattle.fb_types.specs.declared.library.EventPort.{EventPort}
 use Rattle.fb_types.specs.declared.library.Variable.{Variable}
@@ -20,13 +20,13 @@ use Rattle.fb_types.specs.declared.value.Reason.{Reason}
 use Rattle.fb_types.specs.declared.value.Reason.TheVariants.{Steps, Divide, Range}
 use Rattle.fb_types.specs.declared.value.Value.{Value}
 use Rattle.fb_types.proofs.Elements.{map-Contains}
-use Rattle.fb_system.specs.Lines.{BelongsTo, line_events, line_variables}
+use Rattle.fb_system.specs.Lines.{line_variables}
 use Rattle.fb_system.specs.Stands.{AreIndexes, variable_at}
 use Rattle.fb_wave.specs.Lines.{IsEndOf, IsInRange, IsLineOf, line_side}
-use Rattle.fb_wave.specs.Named.{AreNames, HasNames, is_name, port_names}
+use Rattle.fb_wave.specs.Named.{AreNames, HasNames, is_name}
 use Rattle.fb_wave.specs.Ports.{BeginsWith, IsPortOf, holder_name, port_text, side}
 use Rattle.fb_wave.specs.Reading.{number_text, type_at}
-use Rattle.fb_wave.specs.Words.{is_ended, is_word}
+use Rattle.fb_wave.specs.Words.{is_ended}
 use Rattle.fb_wave.specs.declared.ports.Port.{Port}
 use Rattle.fb_wave.proofs.Gluing.{port_at}
 use Rattle.fb_wave.proofs.Known.{there}
@@ -113,29 +113,29 @@ event_named sys p names is = by p.taken is.event
     by : (b : Bool) → p.event < length (side sys p.instance b) → is_name (event_at (side sys p.instance b) p.event) ≡ true
     by true within =
         let its = ports_at sys (path_at sys p.instance) in
-        names.ports (path_at sys p.instance) _
+        names.ports (path_at sys p.instance) (there sys.paths p.instance [] is.instance) _
         (Contains-append_left ((event_names its.event_inputs ++ event_names its.event_outputs) ++ variable_names its.inputs) (variable_names its.outputs) _
         (Contains-append_left (event_names its.event_inputs ++ event_names its.event_outputs) (variable_names its.inputs) _
         (Contains-append_left (event_names its.event_inputs) (event_names its.event_outputs) _ (event_in its.event_inputs p.event within))))
     by false within =
         let its = ports_at sys (path_at sys p.instance) in
-        names.ports (path_at sys p.instance) _
+        names.ports (path_at sys p.instance) (there sys.paths p.instance [] is.instance) _
         (Contains-append_left ((event_names its.event_inputs ++ event_names its.event_outputs) ++ variable_names its.inputs) (variable_names its.outputs) _
         (Contains-append_left (event_names its.event_inputs ++ event_names its.event_outputs) (variable_names its.inputs) _
         (Contains-append_right (event_names its.event_inputs) (event_names its.event_outputs) _ (event_in its.event_outputs p.event within))))
 
-side_named : (sys : System) (l : Line) → HasNames sys → AreNames (variable_names (line_side sys l))
-side_named sys l names = by l.taken
+side_named : (sys : System) (l : Line) → HasNames sys → l.instance < length sys.paths → AreNames (variable_names (line_side sys l))
+side_named sys l names within = by l.taken
   where
     by : (b : Bool) → AreNames (variable_names (line_side sys (with_sign l b)))
     by true n c =
         let its = ports_at sys (path_at sys l.instance) in
-        names.ports (path_at sys l.instance) n
+        names.ports (path_at sys l.instance) (there sys.paths l.instance [] within) n
         (Contains-append_left ((event_names its.event_inputs ++ event_names its.event_outputs) ++ variable_names its.inputs) (variable_names its.outputs) n
         (Contains-append_right (event_names its.event_inputs ++ event_names its.event_outputs) (variable_names its.inputs) n c))
     by false n c =
         let its = ports_at sys (path_at sys l.instance) in
-        names.ports (path_at sys l.instance) n
+        names.ports (path_at sys l.instance) (there sys.paths l.instance [] within) n
         (Contains-append_right ((event_names its.event_inputs ++ event_names its.event_outputs) ++ variable_names its.inputs) (variable_names its.outputs) n c)
 
 variables_named : (vs : List Variable) (ns : List Name) (ks : List ℕ) → AreNames (variable_names vs) → AreIndexes vs ns ks → AreNames ns
@@ -194,7 +194,7 @@ line_one sys form l names is =
     let P = port_text sys (port_of_line l) in
     let V = values_text (pair_up (line_variables sys l) l.values) in
     let tick = is.range.tick in
-    let are : AreNames (line_variables sys l) = variables_named (line_side sys l) (line_variables sys l) is.indexes (side_named sys l names) is.stand in
+    let are : AreNames (line_variables sys l) = variables_named (line_side sys l) (line_variables sys l) is.indexes (side_named sys l names is.belongs.instance) is.stand in
     let long : length (line_variables sys l) ≡ length (map (type_at (line_side sys l)) is.indexes) =
     sym (ap length is.stand.named) ∙ length-map is.indexes (variable_at (line_side sys l)) ∙ sym (length-map is.indexes (type_at (line_side sys l)))
     in

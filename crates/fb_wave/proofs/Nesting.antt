@@ -4,7 +4,7 @@ use Rattle.std.specs.Prelude.{◌==◌, filter, slice_get, unwrap_or}
 use Rattle.std.specs.List.{flat_map}
 use Rattle.std.proofs.Math.Seq.{take-append_seam}
 use Rattle.std.proofs.lemmas.Bool.{eq-eqb, eqb-true}
-use Rattle.fb_types.specs.Flat.{holder, inside, paths_inside, resource_of}
+use Rattle.fb_types.specs.Flat.{holder, inside, resource_of}
 use Rattle.fb_types.specs.Headline.{Inputs, system_of}
 use Rattle.fb_types.specs.Names.{Name, Path}
 use Rattle.fb_types.specs.Numbers.{path_at, ports_at}
@@ -15,7 +15,7 @@ use Rattle.fb_types.specs.declared.library.Library.{Library}
 use Rattle.fb_types.specs.declared.library.Network.{Network}
 use Rattle.fb_types.proofs.Elements.{Contains-cons_cases, Contains-here, Contains-nil, Contains-there, flat_map-Contains}
 use Rattle.fb_system.proofs.Distinct.{below, paths_from}
-use Rattle.fb_wave.specs.Nested.{AreNested, AreNumbered, scope_text, scopes_in, scopes_inside}
+use Rattle.fb_wave.specs.Nested.{AreNested, AreNumbered, scope_text, scopes_inside}
 use Rattle.fb_wave.specs.Scopes.{closed, instances_declared, opened, own_name, ports_declared}
 use Rattle.fb_wave.specs.Signals.{first_signal, size_of, sizes_of}
 use Rattle.fb_wave.proofs.Numbering.{sizes_of-append}

@@ -1,10 +1,9 @@
 -- Which texts are words, and which have no line feed.
-use Rattle.std.proofs.Common.{◌≡◌, ℕ, zero, suc, ◌+◌, ◌<◌, ◌≤◌, ◌^◌, Bool, true, false, cond, List, [], ◌∷◌, ◌++◌, length, map, get_or, codes, decimal, Contains, refl, sym, ap, subst, ◌∙◌, inl, inr, arith, pos, negsuc}
-use Rattle.std.specs.Prelude.{not, ◌&&◌, ◌||◌, ◌==◌, slice_get, unwrap_or}
+use Rattle.std.proofs.Common.{◌≡◌, ℕ, ◌<◌, ◌≤◌, ◌^◌, Bool, true, false, List, [], ◌∷◌, ◌++◌, length, get_or, codes, decimal, refl, ◌∙◌, inl, inr, arith}
+use Rattle.std.specs.Prelude.{not, ◌||◌, ◌==◌}
 use Rattle.std.specs.List.{list_all}
 use Rattle.std.proofs.lemmas.Bool.{and_parts, and_from, or_cases, or_from, or_parts, ne_eqb, eqb-true, leb-true, not-true, not_from_false, false≢true}
 use Rattle.std.proofs.lemmas.List.Folds.{list_all-append}
-use Rattle.fb_types.specs.Blocks.{Bound, event_names, variable_names}
 use Rattle.fb_types.specs.Names.{Name, Path}
 use Rattle.fb_types.specs.Numbers.{pair_up}
 use Rattle.fb_types.specs.Text.{path_text, value_text, values_text}

@@ -1,15 +1,15 @@
 -- The line at which a text is refused is the first with which it can be no trace.
-use Rattle.std.proofs.Common.{◌≡◌, ◌⊎◌, ℕ, zero, suc, ◌+◌, ◌<◌, ◌≤◌, ◌^◌, Bool, true, false, cond, List, [], ◌∷◌, ◌++◌, length, map, take, refl, sym, ap, subst, ◌∙◌, inl, inr, arith, append_assoc, append-nil}
+use Rattle.std.proofs.Common.{◌≡◌, ◌⊎◌, ℕ, suc, ◌<◌, ◌≤◌, ◌^◌, Bool, true, false, cond, List, [], ◌∷◌, ◌++◌, length, map, take, refl, sym, ap, subst, ◌∙◌, inl, inr, arith, append_assoc, append-nil}
 use Rattle.std.specs.Prelude.{All, not, ◌==◌}
 use Rattle.std.specs.Io.BufRead.{take_through}
-use Rattle.std.proofs.lemmas.Bool.{and_parts, cases_Bool, not-true, true≢false}
+use Rattle.std.proofs.lemmas.Bool.{and_parts, not-true}
 use Rattle.std.proofs.lemmas.List.{length-map}
 use Rattle.std.proofs.lemmas.List.Elements.{All-head, All-tail}
 use Rattle.std.proofs.Math.Seq.{take-append_seam}
 use Rattle.fb_types.specs.Numbers.{line_of}
-use Rattle.fb_types.specs.Simulation.{Ending, AtHorizon, AtStop}
+use Rattle.fb_types.specs.Simulation.{Ending, AtStop}
 use Rattle.fb_types.specs.Systems.{System}
-use Rattle.fb_types.specs.Text.{last_line, line_text, lines_text, trace_text}
+use Rattle.fb_types.specs.Text.{last_line, line_text, lines_text}
 use Rattle.fb_types.specs.declared.run.Form.{Form}
 use Rattle.fb_types.specs.declared.run.Line.{Line}
 use Rattle.fb_types.specs.declared.value.Reason.TheVariants.{Steps}
@@ -17,7 +17,7 @@ use Rattle.fb_wave.specs.Copying.{IsNoLineFrom}
 use Rattle.fb_wave.specs.Dumps.{last_tick}
 use Rattle.fb_wave.specs.Lines.{IsEndOf, IsLineOf, IsTextOf}
 use Rattle.fb_wave.specs.Named.{HasNames}
-use Rattle.fb_wave.specs.Refusals.{GoesOn, IsFirstBad, IsTrace, lines_in, longer}
+use Rattle.fb_wave.specs.Refusals.{GoesOn, IsFirstBad, lines_in, longer}
 use Rattle.fb_wave.specs.Waves.{AreLinesOf, EndsAfter, IsTraceOf, RiseFrom}
 use Rattle.fb_wave.proofs.Lining.{IsOneLine, last_one, line_not_last, line_one, same_line}
 use Rattle.fb_wave.proofs.Plain.{is_flat}

@@ -1,14 +1,13 @@
 -- What keeps a text from being that of a line.
-use Rattle.std.proofs.Common.{◌≡◌, ℕ, zero, suc, ◌+◌, ◌<◌, ◌≤◌, ◌^◌, Bool, true, false, List, [], ◌∷◌, ◌++◌, length, map, codes, decimal, refl, sym, ap, subst, ◌∙◌, arith, append_assoc}
-use Rattle.std.specs.Prelude.{if◌then◌else◌}
+use Rattle.std.proofs.Common.{◌≡◌, ℕ, ◌+◌, ◌<◌, ◌≤◌, ◌^◌, Bool, true, false, List, [], ◌∷◌, ◌++◌, length, map, decimal, refl, sym, ap, subst, ◌∙◌, arith}
 use Rattle.std.proofs.lemmas.List.{length-map}
 use Rattle.fb_types.specs.Blocks.{inputs_with, outputs_with, variable_names}
 use Rattle.fb_types.specs.Headline.{system_of}
 use Rattle.fb_types.specs.Names.{Name}
-use Rattle.fb_types.specs.Numbers.{event_at, line_of, pair_up, path_at, ports_at}
+use Rattle.fb_types.specs.Numbers.{event_at, pair_up, path_at, ports_at}
 use Rattle.fb_types.specs.Repeated.{Twice}
 use Rattle.fb_types.specs.Systems.{System}
-use Rattle.fb_types.specs.Text.{line_text, values_text}
+use Rattle.fb_types.specs.Text.{values_text}
 use Rattle.fb_types.specs.declared.key.Key.{Key}
 use Rattle.fb_types.specs.declared.library.Variable.{Variable}
 use Rattle.fb_types.specs.declared.run.Form.{Form}
@@ -21,7 +20,6 @@ use Rattle.fb_wave.specs.Named.{HasNames}
 use Rattle.fb_wave.specs.Ports.{BeginsWith, HasNoPort}
 use Rattle.fb_wave.specs.Reading.{AreRead, AreUnread, HasNoNumber, fit_each, number_text, type_at}
 use Rattle.fb_wave.specs.Tables.{IsTable}
-use Rattle.fb_wave.specs.Told.{index_of}
 use Rattle.fb_wave.specs.declared.line.Parts.{Parts}
 use Rattle.fb_wave.specs.declared.ports.Port.{Port}
 use Rattle.fb_wave.specs.declared.table.PortTable.{PortTable}

@@ -3,9 +3,10 @@ use Rattle.std.specs.Prelude.{◌≡◌, ℕ, List, [], ◌∷◌, ◌++◌, Boo
 use Rattle.std.specs.List.{list_all}
 use Rattle.fb_types.specs.Blocks.{event_names, variable_names}
 use Rattle.fb_types.specs.Names.{Name, Path}
-use Rattle.fb_types.specs.Numbers.{ports_at}
+use Rattle.fb_types.specs.Numbers.{path_at, ports_at}
 use Rattle.fb_types.specs.Systems.{System}
 use Rattle.fb_types.specs.declared.library.Ports.{Ports}
+use Rattle.fb_wave.specs.Scopes.{own_name}
 
 abbrev pub is_digit : ℕ → Bool
 is_digit b = nat_le 48 b && nat_le b 57
@@ -26,8 +27,18 @@ AreNames ns = (n : Name) → Contains ns n → is_name n ≡ true
 abbrev pub port_names : Ports → List Name
 port_names its = event_names its.event_inputs ++ event_names its.event_outputs ++ variable_names its.inputs ++ variable_names its.outputs
 
+-- whether all of them are names
+abbrev pub are_ports_named : Ports → Bool
+are_ports_named its =
+    list_all (λ e. is_name e.name) its.event_inputs
+    && (list_all (λ e. is_name e.name) its.event_outputs && (list_all (λ v. is_name v.name) its.inputs && list_all (λ v. is_name v.name) its.outputs))
+
+-- whether the instance of this number has a name, and all its ports
+abbrev pub is_named_at : System → (instance : ℕ) → Bool
+is_named_at sys k = is_name (own_name (path_at sys k)) && are_ports_named (ports_at sys (path_at sys k))
+
 -- The resources of a system, its instances and their ports have names.
 pub record HasNames (sys : System) : Type 0 where
   pub resources : AreNames sys.resource_names
   pub paths : (p : Path) → Contains sys.paths p → AreNames p
-  pub ports : (p : Path) → AreNames (port_names (ports_at sys p))
+  pub ports : (p : Path) → Contains sys.paths p → AreNames (port_names (ports_at sys p))

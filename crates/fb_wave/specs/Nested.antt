@@ -1,12 +1,11 @@
 -- The scopes of a dump, nested as the networks of the declaration are: what `instances_declared` is (`proofs/Nesting`, `scopes_are`).
-use Rattle.std.specs.Prelude.{◌≡◌, ◌<◌, ℕ, zero, suc, ◌==◌, List, [], ◌∷◌, ◌++◌, filter, length, Option, Some, None}
+use Rattle.std.specs.Prelude.{◌≡◌, ◌<◌, ℕ, zero, suc, ◌==◌, List, [], ◌∷◌, ◌++◌, filter, length, Some, None}
 use Rattle.std.specs.List.{flat_map}
 use Rattle.fb_types.specs.Flat.{holder, inside}
-use Rattle.fb_types.specs.Headline.{AreAccepted, Inputs, system_of}
+use Rattle.fb_types.specs.Headline.{Inputs, system_of}
 use Rattle.fb_types.specs.Names.{Path}
 use Rattle.fb_types.specs.Numbers.{path_at, ports_at}
 use Rattle.fb_types.specs.Systems.{System}
-use Rattle.fb_types.specs.declared.library.Instance.{Instance}
 use Rattle.fb_types.specs.declared.library.Network.{Network}
 use Rattle.fb_wave.specs.Scopes.{closed, instances_declared, opened, own_name, ports_declared}
 use Rattle.fb_wave.specs.Signals.{first_signal}

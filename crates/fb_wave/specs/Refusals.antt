@@ -4,6 +4,7 @@ use Rattle.fb_types.specs.Systems.{System}
 use Rattle.fb_types.specs.Simulation.{Ending}
 use Rattle.fb_types.specs.declared.run.Form.{Form}
 use Rattle.fb_types.specs.declared.run.Line.{Line}
+use Rattle.fb_wave.specs.Named.{HasNames}
 use Rattle.fb_wave.specs.Waves.{IsTraceOf}
 use Rattle.fb_wave.specs.declared.error.WaveError.{WaveError}
 use Rattle.fb_wave.specs.declared.error.WaveError.TheVariants.{Refused, Names, Memory, Read, Write}
@@ -39,10 +40,10 @@ pub record IsFirstBad (sys : System) (number : ℕ) (text : List ℕ) : Type 0 w
   pub good : GoesOn sys before text
   pub bad : ¬ (GoesOn sys number text)
 
--- What a failure says of a system with names, and of the text where that is known.
+-- What a failure says of the system, and of the text where that is known.
 abbrev pub Blames : System → (text : Option (List ℕ)) → WaveError → Type 0
 Blames sys text (Refused line) = IfSome text (IsFirstBad sys line)
-Blames sys text Names = ⊥
+Blames sys text Names = ¬ (HasNames sys)
 Blames sys text Memory = Unit {0}
 Blames sys text Read = Unit {0}
 Blames sys text (Write n) = Unit {0}

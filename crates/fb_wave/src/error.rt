@@ -12,8 +12,8 @@ pub enum WaveError {
     /// The line, from 1, that no trace of the system has after the lines before it.
     #[error("refused trace line {0}")]
     Refused(u64),
-    /// Two ports are written alike, so that lines do not tell them. That is never so where names are letters, digits and
-    /// underscores, as in every declaration and deployment that was read from a text.
+    /// A resource, an instance or a port has a name of other bytes than letters in upper case, digits and underscores, so
+    /// that lines may not tell the ports. No declaration or deployment that was read from a text has such a name.
     #[error("names of the declaration do not tell its ports")]
     Names,
     #[error("out of memory")]

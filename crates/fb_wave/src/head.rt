@@ -21,7 +21,7 @@ fn rest_from(text: &[u8], count: usize) -> &[u8]
 }
 
 /// The name of an instance among those beside it.
-fn own_name(system: &System, instance: u32) -> &[u8]
+pub(crate) fn own_name(system: &System, instance: u32) -> &[u8]
     requires { instance < length (system_of system.now).paths }
     ensures { result.now ≡ spec.own_name (path_at (system_of system.now) instance) }
 {

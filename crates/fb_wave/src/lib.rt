@@ -6,7 +6,7 @@
 //! writer got the first bytes of a dump.
 //!
 //! Read in this order: `wave`, the entry, with `error`; `copy`, which goes line by line, and `page`, where text waits. Then
-//! how lines are read: `words`, what parts a line; `number` and `values`, what words stand for; `ports`, the event ports of a
+//! how lines are read: `names`, whether names are some; `words`, what parts a line; `number` and `values`, what words stand for; `ports`, the event ports of a
 //! system; `table`, finds them by what lines have of them; `line`; `last`. Then how they are told: `levels` and `change`, what
 //! signals show and how changes are told; `scopes`, `declared`, `begun` and `signals`, what stands before them; `digits`; `firsts` and `head`;
 //! `dump`.
@@ -24,6 +24,7 @@ mod head;
 mod last;
 mod levels;
 mod line;
+mod names;
 mod number;
 mod page;
 mod ports;

@@ -2,13 +2,13 @@
 
 ghost use Rattle.std.specs.Prelude.{IfErr, IfSome, OnOk};
 ghost use Rattle.fb_types.specs.Headline.{system_of};
-ghost use Rattle.fb_wave.specs.Named.{HasNames};
 ghost use Rattle.fb_wave.specs.Refusals.{Blames};
 ghost use Rattle.fb_wave.specs.Waves.{FailsWave, IsWave};
 
 use crate::copy::Progress;
 use crate::dump::Dump;
 use crate::error::WaveError;
+use crate::names::has_names;
 use crate::page::DumpPage;
 use crate::ports::ports_of;
 use crate::table::{Guess, PortTable, texts_of};
@@ -48,13 +48,16 @@ pub fn write_wave<R: BufRead, W: Write>(
 ) -> Result<(), WaveError>
     ensures whole { OnOk result (IfSome (R.remaining input.old) (λ text. IsWave (system_of system.now) text (W.contents out.old) (W.contents out.new))) }
     ensures part { IfErr result (FailsWave (system_of system.now) (W.contents out.old) (W.contents out.new)) }
-    ensures refused { HasNames (system_of system.now) → IfErr result (Blames (system_of system.now) (R.remaining input.old)) }
+    ensures refused { IfErr result (Blames (system_of system.now) (R.remaining input.old)) }
 {
     system.facts();
+    if !has_names(system) {
+        return Err(WaveError::Names);
+    }
     let ports = ports_of(alloc, system)?;
     let texts = texts_of(alloc, system, ports.as_slice())?;
     let Some(table) = PortTable::of(alloc, system, ports.as_slice(), texts.as_slice())? else {
-        return Err(WaveError::Names);
+        unreachable!()
     };
     let guess = Guess::new(alloc, &table)?;
     let mut page = DumpPage::new(alloc);

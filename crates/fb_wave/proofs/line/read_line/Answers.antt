@@ -1,5 +1,5 @@
-use Rattle.std.proofs.Common.{List, Option, ap, subst, ◌∙◌}
-use Rattle.std.specs.Prelude.{IfNone, IfSome, None}
+use Rattle.std.proofs.Common.{List, Option, subst}
+use Rattle.std.specs.Prelude.{IfNone, IfSome}
 use Rattle.fb_types.specs.Headline.{system_of}
 use Rattle.fb_types.specs.declared.value.Value.{Value}
 use Rattle.fb_wave.specs.Lines.{AreNoValuesOf, AreValuesOf}

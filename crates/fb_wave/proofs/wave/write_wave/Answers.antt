@@ -1,5 +1,5 @@
-use Rattle.std.proofs.Common.{◌≡◌, List, [], map, Option, Some, ap, sym, subst, ◌∙◌}
-use Rattle.std.specs.Prelude.{IfErr, IfNone, IfSome, OnOk}
+use Rattle.std.proofs.Common.{◌≡◌, Bool, true, List, [], map, Option, Some, ap, sym, subst, ◌∙◌}
+use Rattle.std.specs.Prelude.{IfErr, IfNone, IfSome, IsTrue, OnOk}
 use Rattle.fb_types.specs.Headline.{Inputs, system_of}
 use Rattle.fb_types.specs.Names.{Name}
 use Rattle.fb_types.specs.Repeated.{Twice}
@@ -17,6 +17,10 @@ use Rattle.fb_wave.proofs.wave.write_wave.Goals as goal
 
 of_table : (o : Option PortTable) (t : PortTable) (s : Inputs) → o ≡ Some t → IfSome o (λ t. IsTable t × (t.system.now ≡ s)) → t.system.now ≡ s
 of_table o t s is are = (subst (λ (o : Option PortTable). IfSome o (λ t. IsTable t × (t.system.now ≡ s))) is are).1
+
+-- behind the test of the names
+names_so : {P : Type 0} (b : Bool) → b ≡ true → (IsTrue b → P) → P
+names_so b is so = so is
 
 pub copy-requires-clause-dump : goal.copy-requires-clause-dump
 copy-requires-clause-dump g c =
@@ -50,8 +54,11 @@ returns-in_err-texts-clause-part g c = on_passed _ _ _ c.from_residual-in_err-te
 pub returns-in_err-table-clause-part : goal.returns-in_err-table-clause-part
 returns-in_err-table-clause-part g c = on_passed _ _ _ c.from_residual-in_err-table.ensures.1 (front_none _ _)
 
-pub returns-in_default-clause-part : goal.returns-in_default-clause-part
-returns-in_default-clause-part g c = front_none _ _
+pub returns-then-not-has_names-clause-part : goal.returns-then-not-has_names-clause-part
+returns-then-not-has_names-clause-part g c = front_none _ _
+
+pub returns-then-not-has_names-clause-refused : goal.returns-then-not-has_names-clause-refused
+returns-then-not-has_names-clause-refused g c = c.has_names.ensures.unnamed c.if-not-has_names.true
 
 pub returns-in_err-guess-clause-part : goal.returns-in_err-guess-clause-part
 returns-in_err-guess-clause-part g c = on_passed _ _ _ c.from_residual-in_err-guess.ensures.1 (front_none _ _)
@@ -65,25 +72,28 @@ returns-clause-refused g c =
     (λ (s : Inputs).
     HasNames (system_of s) → IfErr c.copy.result (Blames (system_of s) (g.R.Read.remaining c.args.input.now)))
     (of_table _ c.in-Some.table c.args.system.now c.in-Some.is c.in_ok-table.ensures.table) c.copy.ensures.refused
+    (names_so c.has_names.result c.if-not-has_names.false c.has_names.ensures.named)
 
 pub returns-in_err-ports-clause-refused : goal.returns-in_err-ports-clause-refused
-returns-in_err-ports-clause-refused g c names = on_passed _ _ (Blames (system_of c.args.system.now) (g.R.Read.remaining c.args.input.now)) c.from_residual.ensures.1 tt
+returns-in_err-ports-clause-refused g c = on_passed _ _ (Blames (system_of c.args.system.now) (g.R.Read.remaining c.args.input.now)) c.from_residual.ensures.1 tt
 
 pub returns-in_err-texts-clause-refused : goal.returns-in_err-texts-clause-refused
-returns-in_err-texts-clause-refused g c names = on_passed _ _ (Blames (system_of c.args.system.now) (g.R.Read.remaining c.args.input.now)) c.from_residual-in_err-texts.ensures.1 tt
+returns-in_err-texts-clause-refused g c = on_passed _ _ (Blames (system_of c.args.system.now) (g.R.Read.remaining c.args.input.now)) c.from_residual-in_err-texts.ensures.1 tt
 
 pub returns-in_err-table-clause-refused : goal.returns-in_err-table-clause-refused
-returns-in_err-table-clause-refused g c names = on_passed _ _ (Blames (system_of c.args.system.now) (g.R.Read.remaining c.args.input.now)) c.from_residual-in_err-table.ensures.1 tt
+returns-in_err-table-clause-refused g c = on_passed _ _ (Blames (system_of c.args.system.now) (g.R.Read.remaining c.args.input.now)) c.from_residual-in_err-table.ensures.1 tt
 
 pub returns-in_err-guess-clause-refused : goal.returns-in_err-guess-clause-refused
-returns-in_err-guess-clause-refused g c names = on_passed _ _ (Blames (system_of c.args.system.now) (g.R.Read.remaining c.args.input.now)) c.from_residual-in_err-guess.ensures.1 tt
+returns-in_err-guess-clause-refused g c = on_passed _ _ (Blames (system_of c.args.system.now) (g.R.Read.remaining c.args.input.now)) c.from_residual-in_err-guess.ensures.1 tt
 
 pub returns-in_err-dump-clause-refused : goal.returns-in_err-dump-clause-refused
-returns-in_err-dump-clause-refused g c names = on_passed _ _ (Blames (system_of c.args.system.now) (g.R.Read.remaining c.args.input.now)) c.from_residual-in_err-dump.ensures.1 tt
+returns-in_err-dump-clause-refused g c = on_passed _ _ (Blames (system_of c.args.system.now) (g.R.Read.remaining c.args.input.now)) c.from_residual-in_err-dump.ensures.1 tt
 
-pub returns-in_default-clause-refused : goal.returns-in_default-clause-refused
-returns-in_default-clause-refused g c names =
+-- no two ports are written alike, so there is a table
+pub unreachable-requires : goal.unreachable-requires
+unreachable-requires g c =
     let i = c.args.system.now in
     let twice : Twice c.as_slice-3.result.now = subst (λ (o : Option PortTable). IfNone o (Twice c.as_slice-3.result.now)) c.in_default.is c.in_ok-table.ensures.alike in
-    texts_differ i c.facts.ensures.accepted c.facts.ensures.numbered names c.in_ok-ports.ports.items c.in_ok-ports.ensures.are c.in_ok-ports.ensures.once
+    texts_differ i c.facts.ensures.accepted c.facts.ensures.numbered (names_so c.has_names.result c.if-not-has_names.false c.has_names.ensures.named) c.in_ok-ports.ports.items c.in_ok-ports.ensures.are
+    c.in_ok-ports.ensures.once
     (subst (λ (ns : List Name). Twice ns) (c.as_slice-3.ensures.value ∙ c.in_ok-texts.ensures ∙ ap (map (port_text (system_of i))) c.as_slice.ensures.value) twice)

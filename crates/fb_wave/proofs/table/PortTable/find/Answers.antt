@@ -1,4 +1,4 @@
-use Rattle.std.proofs.Common.{List, ap, sym, ◌∙◌}
+use Rattle.std.proofs.Common.{ap, sym, ◌∙◌}
 use Rattle.fb_check_names.specs.Indexes.{index_in}
 use Rattle.fb_types.specs.Headline.{system_of}
 use Rattle.fb_types.specs.Names.{Name}

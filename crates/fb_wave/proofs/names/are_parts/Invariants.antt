@@ -1,0 +1,7 @@
+use Rattle.std.proofs.Common.{◌≡◌, ◌||◌, drop}
+use Rattle.std.specs.List.{list_all}
+use Rattle.fb_wave.specs.Named.{is_digit, is_letter}
+use Rattle.fb_wave.proofs.names.are_parts.Given as goal
+
+abbrev pub invariant-loop-byte : goal.invariant-loop-byte
+invariant-loop-byte l = list_all (λ b. is_letter b || is_digit b) l.bytes ≡ list_all (λ b. is_letter b || is_digit b) (drop l.byte-index l.bytes)

@@ -1,0 +1,120 @@
+//! Whether the names of a system are those of a declaration and a deployment.
+
+ghost use Rattle.std.specs.Prelude.{◌≡◌, ◌<◌, ◌||◌, ℕ, [], IsTrue, true, false, length, slice_index_or};
+ghost use Rattle.std.specs.List.{list_all};
+ghost use Rattle.fb_types.specs.Headline.{system_of};
+ghost use Rattle.fb_wave.specs.Named as named;
+ghost use Rattle.fb_wave.specs.Named.{HasNames, is_named_at};
+
+use crate::head::own_name;
+use crate::words::is_digit;
+use fb_system::System;
+use fb_types::{EventPort, Ports, Variable};
+
+/// Whether a byte is a letter in upper case, or an underscore.
+fn is_letter(byte: u8) -> bool
+    ensures { result ≡ named.is_letter byte }
+{
+    byte.is_ascii_uppercase() || byte == b'_'
+}
+
+/// Whether a byte may stand in a name behind its first.
+fn is_part(byte: u8) -> bool
+    ensures { result ≡ (named.is_letter byte || named.is_digit byte) }
+{
+    is_letter(byte) || is_digit(byte)
+}
+
+fn are_parts(bytes: &[u8]) -> bool
+    ensures { result ≡ list_all (λ b. named.is_letter b || named.is_digit b) bytes.now }
+{
+    for byte in bytes {
+        if !is_part(*byte) {
+            return false;
+        }
+    }
+    true
+}
+
+/// Whether a text is a name: a letter or an underscore, and then letters, digits and underscores.
+fn is_name(name: &[u8]) -> bool
+    ensures { result ≡ named.is_name name.now }
+{
+    match name {
+        [] => false,
+        [first, rest @ ..] => is_letter(*first) && are_parts(rest),
+    }
+}
+
+fn are_events_named(events: &[EventPort]) -> bool
+    ensures { result ≡ list_all (λ e. named.is_name e.name) events.now }
+{
+    for event in events {
+        if !is_name(event.name.as_bytes()) {
+            return false;
+        }
+    }
+    true
+}
+
+fn are_variables_named(variables: &[Variable]) -> bool
+    ensures { result ≡ list_all (λ v. named.is_name v.name) variables.now }
+{
+    for variable in variables {
+        if !is_name(variable.name.as_bytes()) {
+            return false;
+        }
+    }
+    true
+}
+
+/// Whether all ports of an interface have names.
+fn are_ports_named(ports: &Ports) -> bool
+    ensures { result ≡ named.are_ports_named ports.now }
+{
+    are_events_named(ports.event_inputs.as_slice())
+        && are_events_named(ports.event_outputs.as_slice())
+        && are_variables_named(ports.inputs.as_slice())
+        && are_variables_named(ports.outputs.as_slice())
+}
+
+/// Whether an instance has a name, and all its ports.
+fn is_instance_named(system: &System, instance: u32) -> bool
+    requires { instance < length (system_of system.now).paths }
+    ensures { result ≡ is_named_at (system_of system.now) instance }
+{
+    is_name(own_name(system, instance)) && are_ports_named(system.ports(instance))
+}
+
+fn are_instances_named(system: &System) -> bool
+    ensures named { IsTrue result → (k : ℕ) → k < length (system_of system.now).paths → is_named_at (system_of system.now) k ≡ true }
+    ensures unnamed { result ≡ false → (k : ℕ) × (k < length (system_of system.now).paths) × (is_named_at (system_of system.now) k ≡ false) }
+{
+    system.facts();
+    for index in 0..system.count() {
+        if !is_instance_named(system, index as u32) {
+            return false;
+        }
+    }
+    true
+}
+
+fn are_resources_named(system: &System) -> bool
+    ensures named { let names = (system_of system.now).resource_names in IsTrue result → (k : ℕ) → k < length names → named.is_name (slice_index_or names k []) ≡ true }
+    ensures unnamed { let names = (system_of system.now).resource_names in result ≡ false → (k : ℕ) × (k < length names) × (named.is_name (slice_index_or names k []) ≡ false) }
+{
+    for resource in 0..system.resources() {
+        if !is_name(system.resource_name(resource)) {
+            return false;
+        }
+    }
+    true
+}
+
+/// Whether the resources of a system, its instances and their ports have names.
+pub(crate) fn has_names(system: &System) -> bool
+    ensures named { IsTrue result → HasNames (system_of system.now) }
+    ensures unnamed { result ≡ false → HasNames (system_of system.now) → ⊥ }
+{
+    are_resources_named(system) && are_instances_named(system)
+}
