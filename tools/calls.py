@@ -1,11 +1,11 @@
 #!/usr/bin/env python3
-"""tools/calls.py: calls the built program, once at least for each status and by several numbers of workers for each example, and
-compares how it ends, what it writes and what it tells.
+"""tools/calls.py: calls the built program, at least once for each status and with several numbers of workers for each example. It
+compares the status, standard output and standard error.
 
-These calls show what no contract can say: which bytes a file, standard input and a named pipe give, up to the greatest length
-of each text and beyond, what the help tells, that the process ends with the status of the call, what becomes of words that are
-no text, of files that can't be read, and of outputs that are full, closed or gone.
-./gate makes them each time it has run the program. Without ./gate they are made of the program as ./simulate built it."""
+These calls show what no contract can say: which bytes a file, standard input and a named pipe give, up to the greatest length of
+each text and beyond; the texts of the help; that the process ends with the status of the call; and what happens with arguments that
+are no text, files that can't be read, and outputs that are full, closed or gone.
+./gate makes these calls each time it has run the program. Without ./gate they use the program that ./simulate built."""
 
 import glob
 import os
@@ -46,7 +46,7 @@ FED = b"0,C.START,DT=5\n"
 FED_TO_6 = b"0 MAIN > C.START DT=5\n0 MAIN < S.COLD\n0 MAIN > C.START DT=5\n5 MAIN < C.EO\nend 6\n"
 LINKS = 4000
 
-# A waveform of the cycle, as a value change dump: its signals, what they begin with, and what changes at each tick.
+# A waveform of the cycle, as a value change dump: its signals, their initial values, and the changes of each tick.
 SIGNALS = b"""$timescale 1 ms $end
 $scope module MAIN $end
 $scope module S $end
@@ -81,20 +81,35 @@ $end
 """
 WAVE_TO_8 = SIGNALS + b"1e0\nb1 n0\n1e3\nb1 n3\nb11 v6\n#3\n1e5\nb1 n5\n#6\n1e5\nb10 n5\n#8\n"
 WAVE_STOPPED = SIGNALS + b"1e0\nb1 n0\n$comment stop MAIN steps $end\n"
-# A trace of so many lines, and what changes in each of its ticks.
+# The graph of the same application, in its one resource.
+GRAPH = b"""digraph "A" {
+  graph [rankdir=LR, compound=true, newrank=true];
+  node [shape=record];
+  "S" [label="{{ }|{ <COLD> COLD|<WARM> WARM|<STOP> STOP}}|S\\nE_RESTART|{{ }|{ }}"];
+  "C" [label="{{ <START> START|<STOP> STOP}|{ <EO> EO}}|C\\nE_CYCLE\\nDT := 3|{{ <DT> DT}|{ }}"];
+  "S":"COLD" -> "C":"START";
+  subgraph "cluster MAIN" {
+    label="DEV.MAIN";
+    "resource MAIN" [shape=point, style=invis];
+    "S";
+    "C";
+  }
+}
+"""
+# A trace of this many lines, and the changes of each of its ticks.
 BEATS = 20_000
 LONG_TRACE = b"".join(b"%d MAIN < C.EO\n" % (tick + 1) for tick in range(BEATS)) + b"end %d\n" % (BEATS + 1)
 LONG_WAVE = SIGNALS + b"".join(b"#%d\n1e5\nb%s n5\n" % (tick + 1, f"{tick + 1:b}".encode()) for tick in range(BEATS)) + b"#%d\n" % (BEATS + 1)
 
 
 def crowd(count):
-    """Returns a declaration of so many blocks."""
+    """Returns a declaration of this many blocks."""
     blocks = "".join(f" M{i} : E_MERGE;" for i in range(count))
     return f"APPLICATION A FBS{blocks} END_FBS END_APPLICATION\n".encode()
 
 
 def chain():
-    """Returns a declaration in which one event goes from block to block, and its trace, in which each of them has its lines."""
+    """Returns a declaration in which one event goes from block to block, and its trace, which has lines of each block."""
     blocks = "".join(f"M{i} : E_MERGE;\n" for i in range(LINKS))
     ways = "".join(f"M{i}.EO TO M{i + 1}.EI1;\n" for i in range(LINKS - 1))
     text = f"APPLICATION A FBS S : E_RESTART;\n{blocks}END_FBS\nEVENT_CONNECTIONS S.COLD TO M0.EI1;\n{ways}END_CONNECTIONS END_APPLICATION\n"
@@ -149,12 +164,22 @@ FILES |= {
     "falling_trace": b"3 MAIN < C.EO\n2 MAIN < C.EO\nend 8\n",
     "longer_trace": b"0 MAIN < S.COLD\nend 8\nend 9\n",
 }
-# What is told of the slip, behind its fault.
+RULE = b'[[rule]]\nname = "the cycle answers"\nafter = "MAIN > C.START"\nwithin = %d\nsee = "MAIN < C.EO"\n'
+FILES |= {"rules": RULE % 3, "broken_rules": RULE % 2, "negative_rules": RULE % -1, "no_pattern": RULE.replace(b"MAIN > ", b"> ") % 3}
+FILES["many_rules"] = FILES["rules"] * 1001
+REPORT = b"TAP version 14\n1..1\nok 1 - the cycle answers\n"
+REPORT_OF_TWO = b"TAP version 14\n1..2\nok 1 - the cycle answers (trace)\nok 2 - the cycle answers (keyed_trace)\n"
+# The cycle starts in the second line, at tick 0, and its answer comes at 3.
+BROKEN_REPORT = (
+    b"TAP version 14\n1..1\nnot ok 1 - the cycle answers\n  ---\n  message: \"nothing that is to be seen follows in time\"\n  trace: \"trace\"\n"
+    b"  line: 2\n  tick: 0\n  ...\n"
+)
+# The line about the slip, after its fault.
 AT_THE_SLIP = b"application A: event connection F.EO TO W.EJ: E_SWITCH has no event input EJ (it has EI)\n"
 # Named pipes, and what is written into each before it ends.
 PIPES = {"trace_pipe": LONG_TRACE, "pipe": CYCLE, "cut_pipe": CYCLE[:40], "empty_pipe": b"", "long_pipe": FILES["longest"]}
 
-# What the help has of a run and of a check: each argument's name and words of its sentence, with the range, and an example.
+# Parts of the help of `run` and `check`: each argument's name and words of its sentence, with the range, and an example.
 HELP_OF_FILES = (
     "DECL", "declaration of the types", "--deploy", "in TOML", "at most 1 MiB", "--stim", "in CSV", "at most 16 MiB", "--why", "shows its place",
 )
@@ -167,9 +192,15 @@ HELP_OF_CHECK = (*HELP_OF_FILES, "Example: fbsim check ")
 HELP_OF_WAVE = (
     "DECL", "declaration of the types", "TRACE", "file with the trace", "--deploy", "in TOML", "at most 1 MiB", "Example: fbsim wave ",
 )
-HELP_OF_EXPLAIN = ("NAME", "name of the refusal", "E01 to E30", "Example: fbsim explain E21")
+HELP_OF_EXPECT = (
+    "RULES", "in TOML", "1000 rules", "TRACE", "--decl", "all names of the rules", "--deploy", "--strict", "undecided as broken", "--cut", "cut off",
+    "Example: fbsim expect ",
+)
+HELP_OF_DIFF = ("first trace", "second trace", "Example: fbsim diff ")
+HELP_OF_DRAW = ("DECL", "declaration of the types", "--deploy", "in TOML", "--type", "type to draw", "network of a composite", "Example: fbsim draw ")
+HELP_OF_EXPLAIN = ("NAME", "name of the refusal", "E01 to E45", "Example: fbsim explain E21")
 HELP_OF_ALL = (
-    "run", "writes the trace", "check", "which fault comes first", "wave", "value change dump", "explain", "what a refusal means", "a millisecond", "Example: fbsim run ",
+    "run", "writes the trace", "check", "which fault comes first", "wave", "value change dump", "expect", "rules hold", "diff", "the same bytes", "draw", "graphviz", "explain", "what a refusal means", "a millisecond", "Example: fbsim run ",
 )
 
 # The ways to run an example.
@@ -177,9 +208,9 @@ WAYS = [["--serial"], *(["--workers", count] for count in ("1", "2", "7", "64"))
 
 
 class Call(NamedTuple):
-    """Words, and what a call by them comes to. Where `out` or `err` is None, it is some text that ends with its line; each of the words
-    of `has` stands in what is written. The call is made in the folder of this example, or in that of FILES. Its standard output and
-    its standard error are pipes that are read to their end, where they are not among OUTPUTS."""
+    """A call, by its arguments, and its result. If `out` or `err` is None, it is some text that ends with a line feed. Each of the words
+    of `has` is in the output. The call is made in the folder of this example, or in that of FILES. Its standard output and its standard
+    error are pipes that are read to their end, unless they are among OUTPUTS."""
 
     words: list
     status: int
@@ -194,7 +225,7 @@ class Call(NamedTuple):
     example: str = ""
 
 
-# How an output may be: a device that has no room, closed, a pipe that nobody reads, or a file that takes ten bytes and no more.
+# The kinds of outputs: a device that has no room, closed, a pipe that nobody reads, or a file that takes ten bytes and no more.
 OUTPUTS = ("full", "closed", "gone", "short")
 ROOM = 10
 
@@ -207,6 +238,9 @@ CALLS = [
     Call(["explain", "--help"], 0, out=None, has=HELP_OF_EXPLAIN),
     Call(["explain", "file fault"], 0, out=None, has=("file fault: A file can't be read.", "For example:", "Look at: ")),
     Call(["wave", "--help"], 0, out=None, has=HELP_OF_WAVE),
+    Call(["expect", "--help"], 0, out=None, has=HELP_OF_EXPECT),
+    Call(["diff", "--help"], 0, out=None, has=HELP_OF_DIFF),
+    Call(["draw", "--help"], 0, out=None, has=HELP_OF_DRAW),
     # The version is that of CHANGELOG.md.
     *(Call([it], 0, out=f"fbsim {unbuilt.version()}\n".encode()) for it in ("--version", "-V")),
     Call(["--version"], 3, err=b"write fault after 0 bytes\n", to="full"),
@@ -220,7 +254,7 @@ CALLS = [
     Call(["wave", "cycle", "long_trace"], 0, out=LONG_WAVE),
     Call(["wave", "cycle", "trace_pipe"], 0, out=LONG_WAVE),
     Call(["wave", "pipe", "-"], 0, out=LONG_WAVE, given=LONG_TRACE),
-    # What is no trace is refused by its line, and what it is of before it.
+    # A text that is no trace is refused with its line, but after the declaration and the deployment.
     Call(["wave", "cycle", "cut_trace"], 2, err=b"refused trace line 5\n"),
     Call(["wave", "cycle", "strange_trace"], 2, err=b"refused trace line 4\n"),
     Call(["wave", "cycle", "no_trace"], 2, err=b"refused trace line 1\n"),
@@ -228,7 +262,7 @@ CALLS = [
     Call(["wave", "cycle", "cycle"], 2, err=b"refused trace line 1\n"),
     Call(["wave", "twice", "no_trace"], 2, err=b"refused E20\n"),
     Call(["wave", "cycle", "--deploy", "cut_pipe", "trace"], 2, err=b"refused E10\n"),
-    # What is not there, or not to be read.
+    # Files that are missing or can't be read.
     Call(["wave", "nowhere", "trace"], 3, err=b"file fault\n"),
     Call(["wave", "twice", "nowhere"], 3, err=b"file fault\n"),
     Call(["wave", "cycle", "."], 3, err=b"file fault\n"),
@@ -249,7 +283,7 @@ CALLS = [
     Call(["run", "ring", "--horizon", "1", "--steps", "3"], 1, out=STOPPED),
     Call(["run", "ring", "--horizon", "1", "--steps", "3", "--workers", "2"], 1, out=STOPPED),
     Call(["run", "ring", "--horizon", "1", "--steps", "3", "--serial"], 1, out=STOPPED),
-    # How far a run is, told by a run with workers alone.
+    # Progress, which only a run with workers reports.
     Call(["run", "cycle", "--horizon", "8", "--progress"], 0, out=TO_8, err=TOLD_TO_8),
     Call(["run", "-", "--horizon", "8", "--progress", "--workers", "7", "--trace", "2"], 0, out=KEYED_TO_8, err=TOLD_TO_8, given=CYCLE),
     Call(["run", "cycle", "--horizon", "8", "--progress", "--serial"], 0, out=TO_8),
@@ -288,7 +322,7 @@ CALLS = [
     Call(["check", "cycle", "--stim", "-"], 2, err=b"refused E15\n", given=FILES["too_long_stimuli"]),
     Call(["check", "far_too_long"], 2, err=b"refused E04\n"),
     Call(["check", "-"], 2, err=b"refused E04\n", given=FILES["far_too_long"]),
-    # All that is read stands in its place.
+    # Each file is the one that its argument names.
     Call(["run", "last", "--horizon", "8"], 0, out=TO_8),
     Call(["run", "-", "--horizon", "8"], 0, out=TO_8, given=FILES["last"]),
     Call(["run", "chain", "--horizon", "1"], 0, out=ALONG_THE_CHAIN),
@@ -348,16 +382,16 @@ REFUSED = [
     (b"APPLICATION A\nFBS END_FBS\n", b"refused E03 line 3\n"),
     (b"APPLICATION A FBS X : E_NONE; END_FBS END_APPLICATION", b"refused E21\n"),
 ]
-# All refusals, and what is called as none is. A name stands in the fault's line as it was given.
-EXPLAINED = (*(f"E{at:02}" for at in (*range(1, 6), *range(10, 17), *range(20, 31))), "file fault")
-NOT_EXPLAINED = ("", "E", "E00", "E06", "E17", "E31", "E021", "e21", "E21 ", "file")
+# All refusals, and a name that is none. The line of the fault has the name as it was given.
+EXPLAINED = (*(f"E{at:02}" for at in (*range(1, 6), *range(10, 17), *range(20, 31), *range(40, 46))), "file fault")
+NOT_EXPLAINED = ("", "E", "E00", "E06", "E17", "E31", "E46", "E021", "e21", "E21 ", "file")
 SLIP_EXPLAINED = b"""E21: A name stands for nothing of the required kind.
 For example:
 - `F.EO TO W.EJ;` where `W` is an E_SWITCH: it has no event input `EJ`.
 - `S.COLD TO C;` in an application: only composites have ports that are named without an instance.
 Look at: Typing errors; an input where an output is required, or the other way round; an event among the data connections; an instance that a resource lists and the application does not have.
 """
-# Words that are no call.
+# Arguments that are no call.
 FAULTS = [
     [],
     ["cycle"],
@@ -421,11 +455,11 @@ TO_6_ELSEWHERE = b"0 R1 < S.COLD\n0 R1 > C.START DT=3\n3 R1 < C.EO\nend 6\n"
 
 
 def of(words, *ending, **how):
-    """A call by these words, which are parted by blanks."""
+    """A call with these arguments, which are separated by blanks."""
     return Call(words.split(), *ending, **how)
 
 
-# What is asked for in other words, which files are read, and what is told first where several things are wrong.
+# The same calls with other arguments, the files that are read, and the fault that is reported first if there are several.
 CALLS += [
     *(of(words, 2, err=line, given=text) for text, line in REFUSED for words in ("check -", "run - --horizon 5")),
     of("run nowhere --horizon 1", 3, err=b"file fault\n"),
@@ -433,7 +467,7 @@ CALLS += [
     *(Call(["explain", name], 0, out=None, has=(f"{name}: ", "\nFor example:\n- ", "\nLook at: ")) for name in EXPLAINED),
     *(Call(["explain", name], 5, err=f"error: no refusal is called {name}\n".encode()) for name in NOT_EXPLAINED),
     of("explain E21", 0, out=SLIP_EXPLAINED),
-    # Numbers at their limits, other forms of a number, and other places of the words.
+    # Numbers at their limits, other forms of a number, and another order of the arguments.
     of("run cycle --horizon 8 --trace 1", 0, out=TO_8),
     of("run cycle --horizon 8 --trace=1", 0, out=TO_8),
     of("run cycle --horizon 8 --trace 2", 0, out=KEYED_TO_8),
@@ -446,7 +480,7 @@ CALLS += [
     of("run empty --horizon +8", 0, out=b"end 8\n"),
     of("run empty --horizon 008", 0, out=b"end 8\n"),
     of("run empty --horizon 8 --workers 64", 0, out=b"end 8\n"),
-    # What is asked for is told of the place.
+    # The location of a fault is printed if it is asked for.
     of("run slip --horizon 1 --why", 2, err=b"refused E21\n" + AT_THE_SLIP),
     of("check merge --deploy merge_plan --why", 2, err=b"refused E21\nresource R: instance N: application A has no instance N\n"),
     of("check - --why", 2, err=b"refused E03 line 2\nline 2, column 7: found the end of the text, expected :\n", given=b"APPLICATION A\nFBS M "),
@@ -457,7 +491,7 @@ CALLS += [
         "run slip --horizon 1 --stim - --why", 3,
         err=b"file fault\nstimuli -: standard input can't be read, or was read before\n", closes_input=True,
     ),
-    # How far a run is that stops: what is reached before is told.
+    # The progress of a run that stops: what it reached before is reported.
     of("run late --horizon 5 --steps 2 --progress", 1, out=STOPPED_LATE, err=TOLD_LATE),
     of("run cycle --horizon 8 --progress --workers 3", 0, out=TO_8, err=TOLD_TO_8),
     of("run cycle --horizon 8 --progress --trace 2", 0, out=KEYED_TO_8, err=TOLD_TO_8),
@@ -476,7 +510,7 @@ CALLS += [
     of("run no_text --horizon 1 --deploy nowhere", 3, err=b"file fault\n"),
     of("run no_text --horizon 1 --stim nowhere --deploy no_plan", 3, err=b"file fault\n"),
     of("run nowhere --horizon 1 --deploy no_plan --stim no_text", 3, err=b"file fault\n"),
-    # Waveforms of traces: the resource is that of the deployment. What a trace is of is refused before it, in the order of a check.
+    # Waveforms of traces: the resource is that of the deployment. The declaration and the deployment are refused before the trace.
     of("wave cycle keyed_trace", 0, out=WAVE_TO_8),
     of("wave cycle --deploy cycle_plan trace", 0, out=WAVE_TO_8),
     of("wave --deploy cycle_plan cycle trace", 0, out=WAVE_TO_8),
@@ -487,6 +521,68 @@ CALLS += [
     of("wave cycle --deploy other_plan trace", 2, err=b"refused trace line 1\n"),
     of("wave twice --deploy no_plan no_trace", 2, err=b"refused E10\n"),
     of("wave cycle --deploy nowhere trace", 3, err=b"file fault\n"),
+    # Graphs. What is drawn is refused before the name of a type, in the order of a check.
+    of("draw cycle", 0, out=GRAPH),
+    of("draw -", 0, out=GRAPH, given=CYCLE),
+    of("draw cycle --deploy cycle_plan", 0, out=GRAPH.replace(b"DEV.", b"D.")),
+    of("draw --deploy other_plan cycle", 0, out=GRAPH.replace(b"DEV.", b"D.").replace(b"MAIN", b"R1")),
+    of("draw cycle --type A", 2, err=b"refused E21\n"),
+    of("draw cycle --type E_CYCLE", 2, err=b"refused E21\n"),
+    of("draw cycle --type=", 2, err=b"refused E21\n"),
+    of("draw twice --type A", 2, err=b"refused E20\n"),
+    of("draw twice --deploy no_plan", 2, err=b"refused E10\n"),
+    of("draw no_text --deploy nowhere", 3, err=b"file fault\n"),
+    of("draw nowhere", 3, err=b"file fault\n"),
+    of("draw - --deploy -", 3, err=b"file fault\n", given=CYCLE),
+    of("draw cycle trace", 5, err=None),
+    of("draw", 5, err=None),
+    *(of("draw cycle", 3, err=b"write fault after 0 bytes\n", to=it) for it in OUTPUTS[:3]),
+    of("draw cycle", 3, out=GRAPH[:ROOM], err=b"write fault after 10 bytes\n", to="short"),
+    # Rules over traces, of both forms, from files, a pipe and standard input.
+    of("expect rules trace", 0, out=REPORT),
+    of("expect rules trace keyed_trace", 0, out=REPORT_OF_TWO),
+    of("expect - trace", 0, out=REPORT, given=FILES["rules"]),
+    of("expect rules -", 0, out=REPORT, given=TO_8),
+    of("expect rules trace_pipe", 0, out=None, has=("ok 1", "# no line of the trace is of: MAIN > C.START")),
+    of("expect broken_rules trace", 1, out=BROKEN_REPORT),
+    of("expect rules cut_trace --cut", 0, out=REPORT),
+    of("expect rules trace --decl cycle", 0, out=REPORT),
+    of("expect rules trace --decl cycle --deploy cycle_plan", 0, out=REPORT),
+    # Rules are refused first, then the declaration and the deployment, then names that these do not have, and then traces.
+    of("expect no_plan cut_trace --decl twice", 2, err=b"refused E41\n"),
+    of("expect cut_plan cut_trace --why", 2, err=b"refused E41\nrules: line 2, column 5: this is no TOML\n"),
+    of("expect no_pattern cut_trace --decl twice --why", 2, err=b"refused E43\nrules: 1st rule: after: \"> C.START\" is no pattern\n"),
+    of("expect many_rules cut_trace --why", 2, err=b"refused E40\nrules: there are more than 1,000 rules\n"),
+    of("expect rules cut_trace --decl twice --why", 2, err=b"refused E20\napplication A: instance S is given twice\n"),
+    of("expect rules cut_trace --decl merge --why", 2, err=b"refused E45\nrules: 1st rule: after: the declaration has no port with this pattern\n"),
+    of("expect nowhere trace --decl nowhere --why", 3, err=b"file fault\nrules nowhere: no file of this name can be read\n"),
+    of("expect rules trace --decl nowhere --why", 3, err=b"file fault\ndeclaration nowhere: no file of this name can be read\n"),
+    of("expect rules trace --decl cycle --deploy nowhere --why", 3, err=b"file fault\ndeployment nowhere: no file of this name can be read\n"),
+    of("expect rules cut_trace --why", 2, err=b"refused trace cut_trace line 5\n"),
+    of("expect rules trace --why", 0, out=REPORT),
+    of("expect cycle_plan cut_trace --decl twice", 2, err=b"refused E42\n"),
+    of("expect no_pattern cut_trace --decl twice", 2, err=b"refused E43\n"),
+    of("expect negative_rules cut_trace --decl twice", 2, err=b"refused E44\n"),
+    of("expect too_long cut_trace --decl twice", 2, err=b"refused E40\n"),
+    of("expect rules cut_trace --decl twice", 2, err=b"refused E20\n"),
+    of("expect rules cut_trace --decl merge", 2, err=b"refused E45\n"),
+    of("expect rules cut_trace --decl cycle --deploy other_plan", 2, err=b"refused E45\n"),
+    of("expect rules trace cut_trace", 2, err=b"refused trace cut_trace line 5\n"),
+    of("expect rules nowhere", 3, err=b"file fault\n"),
+    of("expect nowhere trace", 3, err=b"file fault\n"),
+    of("expect no_plan trace --decl nowhere", 3, err=b"file fault\n"),
+    of("expect rules trace --deploy cycle_plan", 5, err=b"error: the words name no call\n"),
+    of("expect rules", 5, err=None),
+    *(of("expect rules trace", 3, err=b"write fault after 0 bytes\n", to=it) for it in OUTPUTS[:3]),
+    # Where two traces differ.
+    of("diff trace trace", 0),
+    of("diff trace keyed_trace", 1, out=b"line 1 differs in: key\ntrace, tick 0: 0 MAIN < S.COLD\nkeyed_trace, tick 0: 1 0 0 0 MAIN < S.COLD\n"),
+    of("diff trace strange_trace", 1, out=b"line 4 differs in: resource\ntrace, tick 6: 6 MAIN < C.EO\nstrange_trace, tick 6: 6 NONE < C.EO\n"),
+    of("diff no_trace trace", 1, out=b"line 1 differs in: length\nno_trace has no such line\ntrace, tick 0: 0 MAIN < S.COLD\n"),
+    of("diff - trace", 0, given=TO_8),
+    of("diff - -", 3, err=b"file fault\n", given=TO_8),
+    of("diff nowhere trace", 3, err=b"file fault\n"),
+    of("diff trace", 5, err=None),
 ]
 
 
@@ -496,7 +592,7 @@ def content(path):
 
 
 def calls_of_examples(folder):
-    """Copies the examples into this folder, and returns for each the calls that are to give its trace."""
+    """Copies the examples into this folder, and returns for each the calls that must give its trace."""
     found = []
     shutil.copytree(f"{TOP}/examples", folder, dirs_exist_ok=True)
     for args in sorted(glob.glob(f"{folder}/**/args", recursive=True)):
@@ -507,17 +603,33 @@ def calls_of_examples(folder):
     return found
 
 
+def suite(folder, drop, program, room):
+    """Runs the suite of the bottling line with the program, and returns what is wrong with it, a line each."""
+    out = f"{room}/suite"
+    os.mkdir(out)
+    os.chmod(out, 0o777)
+    ran = subprocess.run(
+        [*drop, f"{folder}/bottling/suite"], env={**os.environ, "FBSIM": program, "OUT": out}, capture_output=True, timeout=SECONDS, check=False,
+    )
+    points = [it for it in ran.stdout.decode().splitlines() if it.startswith("ok ")]
+    rules = content(f"{folder}/bottling/bottling.rules").count(b"[[rule]]")
+    scenarios = len(glob.glob(f"{folder}/bottling/*/args"))
+    if ran.returncode or ran.stderr or len(points) != rules * scenarios:
+        return [f"the suite of the bottling line: status {ran.returncode}, {len(points)} points: {shown(ran.stdout + ran.stderr)}"]
+    return []
+
+
 def is_as_wanted(wrote, wanted):
     return wrote == wanted if wanted is not None else wrote.endswith(b"\n")
 
 
 def shown(it):
-    """Returns bytes, or that there are too many, as a line can show them."""
+    """Returns bytes, or that there are too many, in the form of a line."""
     return repr(it) if len(it) <= 300 else f"{len(it)} bytes that begin {it[:80]!r}"
 
 
 def output(how, room):
-    """Returns what stands for an output that is so; one that is closed is closed later, by the call itself."""
+    """Returns the file for an output of this kind. A closed one is closed later, by the call itself."""
     if how == "gone":
         read, write = os.pipe()
         os.close(read)
@@ -528,7 +640,7 @@ def output(how, room):
 
 
 def feed(pipe, text):
-    """Writes a text into a named pipe, once somebody reads it."""
+    """Writes a text into a named pipe when somebody reads it."""
     try:
         with open(pipe, "wb") as it:
             it.write(text)
@@ -537,7 +649,7 @@ def feed(pipe, text):
 
 
 def prepare(call):
-    """Sets the call's limits, and closes what it is to find closed. It is run by the new process."""
+    """Sets the call's limits, and closes the outputs that it must find closed. The new process runs this."""
     if call.memory:
         resource.setrlimit(resource.RLIMIT_AS, (call.memory, call.memory))
     if "short" in (call.to, call.tells):
@@ -549,7 +661,7 @@ def prepare(call):
 
 
 def make(call, words, room):
-    """Makes a call in the folder of this room, and returns what is wrong with what comes of it, a line each."""
+    """Makes a call in the folder of this room, and returns what is wrong with its result, a line each."""
     folder = f"{room}/files/{call.example}"
     for name in PIPES.keys() & set(call.words):
         threading.Thread(target=feed, args=(f"{folder}/{name}", PIPES[name]), daemon=True).start()
@@ -569,12 +681,12 @@ def make(call, words, room):
     if not is_as_wanted(wrote, call.out) or not all(it.encode() in wrote for it in call.has):
         wrong.append(f"it wrote {shown(wrote)}")
     if call.tells == "pipe" and not is_as_wanted(told, call.err):
-        wrong.append(f"it told {shown(told)}")
+        wrong.append(f"standard error had {shown(told)}")
     return wrong
 
 
 def make_all(program):
-    """Makes all calls of the program, outside the repository and as nobody where this is root. Returns whether all came to what they should."""
+    """Makes all calls of the program, outside the repository, and as nobody if this is root. Returns whether all had the expected result."""
     drop, failed = rt.drop_to_nobody(), 0
     if drop is None:
         print(f"{PROGRAM} was not called: as root, it is called only as nobody, and setpriv failed here")
@@ -598,7 +710,10 @@ def make_all(program):
             failed += bool(wrong)
             for it in wrong:
                 print(f"{PROGRAM} {call.words}, to {call.to}, {call.tells}: {it}")
-    print(f"{PROGRAM}: {len(made) - failed} of {len(made)} calls came to what they should", flush=True)
+        wrong = suite(folder, drop, copy, room)
+        print(*wrong, sep="\n", end="\n" if wrong else "")
+        failed += bool(wrong)
+    print(f"{PROGRAM}: {len(made) + 1 - failed} of {len(made) + 1} calls had the expected result", flush=True)
     return not failed
 
 

@@ -1,30 +1,35 @@
 #!/usr/bin/env python3
-"""tools/cases.py [--program PROGRAM] [FILE..]: the built program on the stored cases of cases/*.toml, or on those of these files.
+"""tools/cases.py [--program PROGRAM] [FILE..]: runs the built program on the stored cases of cases/*.toml, or of these files.
 
-A case is a declaration, with a deployment, stimuli and a trace where it needs them, and an answer: what the program is to write, or
-how it is to refuse. The answers were worked out by hand; each file says from what. None comes from what the program wrote.
+A case has inputs and an answer: what the program must write, or how it must refuse. The inputs are a declaration, with a deployment,
+stimuli and a trace if it needs them, or rules and a trace, or two texts. The answers were worked out by hand; each file says from
+what. None comes from the program's output.
 
-A file has texts under `[text]`, which have names, and groups of cases, `[[group]]`. What a group lacks it takes from `[head]`, where
-the file has one. A group has
-- `name`: what its cases show,
-- `command`: `check` (where there is none), `run` or `wave`,
-- `declaration`, `deployment`, `stimuli` and `trace`: the texts that the program reads, without the last three where there are none,
-- `horizon`, `steps` and `form`: the numbers of a `run`; the other commands leave them out,
-- `answer`: `accepted`, a refusal as the program tells it (`E20`, `E03 line 4`, `trace line 3`), or a trace or a dump, to the byte,
-- `why`: the line behind the refusal, which `--why` asks for,
-- `rows`: a case each; a group without rows is one case. A row is the list of its values by `columns`, which are `text` and `answer` where there are none; a row that is
-  a text alone has that as its first value, and no others. A column that is named as one of the fields above is that field,
-- `within`: `columns` and `rows` once more. Each case is tried with each row of these,
-- `text`: texts of its own by names, as those of the file,
-- `bytes`: true where each character of the texts stands for the byte of its number.
+A file has named texts under `[text]`, and groups of cases, `[[group]]`. A group takes what it lacks from `[head]`, if the file has
+one. A group has
+- `name`: what its cases show
+- `command`: `check` (the default), `run`, `wave`, `draw`, `expect` or `diff`
+- `declaration`, `deployment`, `stimuli` and `trace`: the texts that the program reads; the last three are optional
+- `options`: further words
+- `rules` and `trace` of `expect`, with a `declaration` and a `deployment` if its names must be known; `first` and `second` of `diff`
+- `horizon`, `steps` and `form`: the numbers of a `run`; the other commands have none
+- `answer`: `accepted`, `same`, a refusal as the program prints it (`E20`, `E03 line 4`, `trace line 3`), or a trace, a dump, a report
+  or a difference, to the byte. The text that the program gets on standard input is called `-`, the first one of `diff` `FIRST`
+- `why`: the line after the refusal, for `--why`
+- `rows`: one case each; a group without rows is one case. A row is the list of its values by `columns`, by default `text` and
+  `answer`. A row that is only a text has that as its first value, and no others. A column with the name of a field above is that field
+- `within`: `columns` and `rows` again. Each case is tried with each of these rows
+- `text`: named texts of its own, like those of the file
+- `bytes`: true if each character of the texts means the byte with its number
 
-In a text `${name}` stands for the value of the column or for the text of that name. A value is a text, a number, a list
-`[before, inside, behind, times]`, which is what is inside, with so many times the one before it and the other behind it, or
-`{ numbered = text, from = first, to = last }`, the text once for each number, which is `${number}` in it, and `${below}` the one below;
-with `by = -1` the numbers fall.
+In a text `${name}` is replaced by the value of the column or by the text of that name. A value is one of
+- a text or a number
+- a list `[before, inside, after, times]`: the text inside, with the other two repeated that many times before and after it
+- `{ numbered = text, from = first, to = last }`: the text once for each number, which is `${number}` in it, and `${below}` is one
+  less. With `by = -1` the numbers fall
 
 A run is made with `--serial` and with several numbers of workers. ./gate tries all cases each time it has run the program. Without
-./gate they are tried with the program as ./simulate built it."""
+./gate they are tried with the program that ./simulate built."""
 
 import glob
 import hashlib
@@ -44,18 +49,23 @@ WAYS = {
     "check": [[]],
     "run": [["--serial"], *(["--workers", count] for count in ("1", "2", "7", "64"))],
     "wave": [[]],
+    "draw": [[]],
+    "expect": [[]],
+    "diff": [[]],
 }
-# The texts of a case but the declaration, which is given by standard input, and the words before each.
+# The text of a case that is given on standard input, and the others with the words before each.
+INPUT = {"expect": "trace", "diff": "second"}
 FILES = {"deployment": ["--deploy"], "stimuli": ["--stim"], "trace": []}
+FILES_OF = {"expect": {"rules": [], "declaration": ["--decl"], "deployment": ["--deploy"]}, "diff": {"first": []}}
 NUMBERS = {"horizon": "--horizon", "steps": "--steps", "form": "--trace"}
-FIELDS = {"declaration", "answer", "why", *FILES, *NUMBERS}
+FIELDS = {"declaration", "answer", "why", "rules", "options", "first", "second", *FILES, *NUMBERS}
 OF_GROUP = {"name", "command", "rows", "columns", "within", "text", "bytes", *FIELDS}
-REFUSAL = re.compile(r"E[0-3][0-9]|E03 line [1-9][0-9]*|trace line [1-9][0-9]*")
+REFUSAL = re.compile(r"E[0-4][0-9]|E03 line [1-9][0-9]*|trace (- )?line [1-9][0-9]*")
 NAMED = re.compile(r"\$\{(\w+)\}")
 
 
 class Case(NamedTuple):
-    """A case by itself: where it stands, and its fields as bytes."""
+    """One case: its name, and its fields as bytes."""
 
     place: str
     command: str
@@ -63,7 +73,7 @@ class Case(NamedTuple):
 
 
 def text_of(piece, names):
-    """Returns the text that a value of a file stands for."""
+    """Returns the text of a value of a file."""
     if isinstance(piece, int):
         return str(piece)
     if isinstance(piece, str):
@@ -98,8 +108,9 @@ def cases_of_group(group, texts):
             names = {**texts, **group.get("text", {}), **around, **row}
             fields = {it: group[it] for it in FIELDS & group.keys()} | {it: row[it] for it in FIELDS & row.keys()}
             fields = {it: text_of(piece, names).encode(encoding) for it, piece in fields.items()}
-            if not {"declaration", "answer"} <= fields.keys():
-                raise ValueError(f"row {number} has no declaration or no answer")
+            needed = INPUT.get(group.get("command"), "declaration")
+            if not {needed, "answer"} <= fields.keys():
+                raise ValueError(f"row {number} has no {needed} or no answer")
             place = f"row {number}" + f" within row {turn}" * ("within" in group) + "".join(f" ({it!r:.60})" for it in [*row.values()][:1])
             found.append(Case(place, group.get("command", "check"), fields))
     return found
@@ -119,54 +130,66 @@ def cases_of(path):
     return found
 
 
-def wanted(fields):
-    """Returns the status, what is written and what is told."""
-    answer = fields["answer"]
+def wanted(case):
+    """Returns the status, standard output and standard error."""
+    fields, answer = case.fields, case.fields["answer"]
     if REFUSAL.fullmatch(answer.decode("latin-1")):
         return 2, b"", b"refused " + answer + b"\n" + fields.get("why", b"")
     if answer == b"accepted":
         return 0, b"accepted\n", b""
-    return int(answer.split(b"\n")[-2].startswith(b"stop ")), answer, b""
+    if answer == b"same":
+        return 0, b"", b""
+    if answer.startswith(b"TAP "):
+        return int(b"\nnot ok " in answer), answer, b""
+    if answer.startswith(b"line "):
+        return 1, answer, b""
+    is_stop = case.command == "run" and answer.split(b"\n")[-2].startswith(b"stop ")
+    return int(is_stop), answer, b""
 
 
 def shown(status, wrote, told):
     """Returns how a call ended, as a line can show it."""
     short = [repr(it) if len(it) <= 400 else f"{len(it)} bytes {it[:200]!r} .. {it[-100:]!r}" for it in (wrote, told)]
-    return f"status {status}, wrote {short[0]}, told {short[1]}"
+    return f"status {status}, wrote {short[0]}, standard error {short[1]}"
+
+
+def kept_text(room, text):
+    """Writes a text into the room, and returns the name of its file."""
+    name = hashlib.sha256(text).hexdigest()
+    path = f"{room.folder}/{name}"
+    if not os.path.exists(path):
+        # (another case may write the same text at this moment)
+        own = f"{path}-{threading.get_ident()}"
+        with open(own, "wb") as it:
+            it.write(text)
+        os.replace(own, path)
+    return name
 
 
 def words_of(room, case):
     """Returns the words of the call, and writes the files that they name."""
-    words = [case.command, "-"]
-    for field in [it for it in FILES if it in case.fields]:
-        text = case.fields[field]
-        name = hashlib.sha256(text).hexdigest()
-        path = f"{room.folder}/{name}"
-        if not os.path.exists(path):
-            # (another case may write the same text at this moment)
-            own = f"{path}-{threading.get_ident()}"
-            with open(own, "wb") as it:
-                it.write(text)
-            os.replace(own, path)
-        words += [*FILES[field], name]
+    files = FILES_OF.get(case.command, FILES)
+    named = [[*files[it], kept_text(room, case.fields[it])] for it in files if it in case.fields]
+    words = [case.command, *(["-"] if files is FILES else []), *sum(named, []), *(["-"] if files is not FILES else [])]
     for field in [it for it in NUMBERS if it in case.fields and case.command == "run"]:
         words += [NUMBERS[field], case.fields[field].decode()]
-    return words + ["--why"] * ("why" in case.fields)
+    return words + case.fields.get("options", b"").decode().split() + ["--why"] * ("why" in case.fields)
 
 
 def fault_of(room, case):
-    """Returns what is wrong with what comes of a case, or None."""
-    words, is_to_be = words_of(room, case), wanted(case.fields)
+    """Returns what is wrong with the result of a case, or None."""
+    words, is_to_be = words_of(room, case), wanted(case)
     for way in WAYS[case.command]:
-        ran = room.call([*words, *way], case.fields["declaration"])
-        came = (ran.returncode, ran.stdout, ran.stderr)
+        ran = room.call([*words, *way], case.fields[INPUT.get(case.command, "declaration")])
+        written = ran.stdout.replace(words[1].encode(), b"FIRST") if case.command == "diff" else ran.stdout
+        came = (ran.returncode, written, ran.stderr)
         if came != is_to_be:
             return f"{case.place}, {' '.join([case.command, *way])}: expected {shown(*is_to_be)}; got {shown(*came)}"
     return None
 
 
 def try_cases(program, cases, called="cases"):
-    """Returns whether each of these cases, which are called so, came to its answer."""
+    """Returns whether each of these cases, from the file of this name, has its answer."""
     with Room(program) as room:
         faults = [it for it in side_by_side(lambda case: fault_of(room, case), cases) if it]
     for it in faults[:SHOWN]:
@@ -178,7 +201,7 @@ def try_cases(program, cases, called="cases"):
 
 
 def run_all(program, paths=()):
-    """Returns whether each case of these files, or of all, came to its answer."""
+    """Returns whether each case of these files, or of all, has its answer."""
     paths = paths or sorted(glob.glob(f"{TOP}/cases/*.toml"))
     return try_cases(program, [case for path in paths for case in cases_of(path)])
 

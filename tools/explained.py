@@ -1,10 +1,9 @@
 #!/usr/bin/env python3
-"""tools/explained.py [--write]: says whether docs/FORMATS.md shows the explanations of the refusals that the program has, and
-lines of --why that it tells.
+"""tools/explained.py [--write]: checks that docs/FORMATS.md shows the program's explanations of refusals and lines of --why.
 
-The explanations stand in the tables of crates/fb_why/src/table.rt. With --write this writes them into the page, between the two
-marks there. Each line of --why that the page shows has to be one that a stored case or a call of tools/calls.py wants told.
-Where the page shows others, this says so and ends with status 1. ./gate does it."""
+The explanations are in the tables of crates/fb_why/src/table.rt. With --write this writes them into the page, between the two
+marks there. Each line of --why that the page shows must be expected by a stored case or by a call of tools/calls.py. Otherwise
+this reports it and ends with status 1. ./gate runs it."""
 
 import re
 import sys
@@ -19,7 +18,7 @@ PAGE = f"{TOP}/docs/FORMATS.md"
 FIRST = "<!-- The explanations of crates/fb_why/src/table.rt, by tools/explained.py --write -->\n"
 LAST = "<!-- The end of the explanations -->\n"
 HEADING = "| name | means | for example | look at |\n|---|---|---|---|\n"
-TOLD = "| refusal | a line that `--why` tells |\n|---|---|\n"
+WHY_HEADING = "| refusal | a line that `--why` prints |\n|---|---|\n"
 
 
 def rows(table):
@@ -35,7 +34,7 @@ def rows(table):
 
 
 def wanted_lines():
-    """Returns the lines that a stored case or a call wants told."""
+    """Returns the lines that a stored case or a call expects."""
     with open(CASES, "rb") as it:
         groups = tomllib.load(it)["group"]
     texts = [text for group in groups for row in group["rows"] for text in row]
@@ -44,10 +43,10 @@ def wanted_lines():
 
 
 def untried(page):
-    """Returns the rows of the page's table of lines of --why that no case and no call wants told."""
-    if page.count(TOLD) != 1:
-        sys.exit(f"{PAGE}: the table of lines that --why tells does not stand there once")
-    shown = page.split(TOLD)[1].split("\n\n")[0].splitlines()
+    """Returns the rows of the page's table of lines of --why that no case and no call expects."""
+    if page.count(WHY_HEADING) != 1:
+        sys.exit(f"{PAGE}: the table of lines of --why must be there once")
+    shown = page.split(WHY_HEADING)[1].split("\n\n")[0].splitlines()
     wanted = wanted_lines()
     return [row for row in shown if row.split(" | ", 1)[1].removesuffix(" |").strip("`") not in wanted]
 
@@ -59,7 +58,7 @@ def main(words):
     with open(PAGE) as it:
         page = it.read()
     if page.count(FIRST) != 1 or page.count(LAST) != 1:
-        sys.exit(f"{PAGE}: the marks of the explanations do not stand there once")
+        sys.exit(f"{PAGE}: the marks of the explanations must be there once")
     before, rest = page.split(FIRST)
     shown, after = rest.split(LAST)
     if words == ["--write"]:
@@ -71,9 +70,9 @@ def main(words):
         print(f"{PAGE}: shows other explanations than {TABLE} has: tools/explained.py --write", file=sys.stderr)
         return 1
     if rows_untried := untried(page):
-        print(f"{PAGE}: neither {CASES} nor tools/calls.py wants this told:", *rows_untried, sep="\n", file=sys.stderr)
+        print(f"{PAGE}: neither {CASES} nor tools/calls.py expects these lines:", *rows_untried, sep="\n", file=sys.stderr)
         return 1
-    print("explained: the page shows the explanations of the program, and lines that it tells")
+    print("explained: the page shows the explanations of the program, and lines that it prints")
     return 0
 
 

@@ -1,10 +1,11 @@
 #!/usr/bin/env python3
-"""tools/launcher.py [--write] [PROGRAM]: what ./simulate does around the program, and the texts that it has beside the program.
+"""tools/launcher.py [--write] [PROGRAM]: checks ./simulate, and the texts that it prints without the program.
 
-The built program, or PROGRAM, prints the help of docs/HELP.md, the explanations that tools/unbuilt.py reads from the sources, and the
-version of CHANGELOG.md. The man page and the completions name each command and option of the help. Then ./simulate is called in a copy
-of what it needs, with stand-ins for the tools that build: by a symbolic link, without a build, with an unproved program, and to
-install. With --write this writes docs/HELP.md as the program prints it. ./gate does all but that each time it has run the program."""
+The built program, or PROGRAM, must print the help of docs/HELP.md, the explanations that tools/unbuilt.py reads from the sources, and
+the version of CHANGELOG.md. The man page and the completions must name each command and option of the help. Then ./simulate is called
+in a copy of the files that it needs, with stand-ins for the tools that build: by a symbolic link, without a build, with an unproved
+program, and to install. With --write this writes docs/HELP.md as the program prints it. ./gate runs the rest each time it has run the
+program."""
 
 import os
 import re
@@ -20,7 +21,7 @@ from kit import TOP
 from program import Room
 
 PROGRAM = f"{TOP}/crates/fbsim/out/fbsim"
-COMMANDS = ("", "run", "check", "wave", "explain")
+COMMANDS = ("", "run", "check", "wave", "expect", "diff", "draw", "explain")
 HEAD = "# Help\n\nWhat `--help` prints, for the program and each of its commands. `tools/launcher.py --write` writes this page.\n"
 COMPLETIONS = ("bash-completion/completions/fbsim", "zsh/site-functions/_fbsim", "fish/vendor_completions.d/fbsim.fish")
 MANUAL = "man/man1/fbsim.1"
@@ -54,7 +55,7 @@ def help_page(room):
 
 
 def unnamed(texts):
-    """What is to be said of the man page and the completions that lack an option, a command or a refusal."""
+    """Returns the options, commands and refusals that the man page and the completions lack."""
     options = {it for text in texts.values() for it in re.findall(r"^ +(?:-\w, )?--(\w+)", text, re.M)}
     faults = []
     for place in (MANUAL, *COMPLETIONS):
@@ -73,13 +74,13 @@ def completed(*words):
 
 
 def texts_beside(room):
-    """What is to be said of the texts that stand beside the program."""
+    """Returns the faults of the texts that ./simulate prints without the program."""
     faults = unnamed(unbuilt.helps())
     if help_page(room) != unbuilt.content(unbuilt.HELP):
         faults.append("docs/HELP.md: the program prints another help: tools/launcher.py --write")
     told = unbuilt.explanations()
     faults += [f"explain {it}: the program prints another text than tools/unbuilt.py" for it in EXPLAINED if printed(room, ["explain", it]) != told.get(it)]
-    wanted = {("fbsim", "wa"): ["wave"], ("fbsim", "run", "--se"): ["--serial"], ("fbsim", "explain", "E3"): ["E30"], ("fbsim", "check", "cas"): ["cases"]}
+    wanted = {("fbsim", "wa"): ["wave"], ("fbsim", "run", "--se"): ["--serial"], ("fbsim", "explain", "E3"): ["E30"], ("fbsim", "expect", "--st"): ["--strict"], ("fbsim", "draw", "--t"): ["--type"], ("fbsim", "check", "cas"): ["cases"]}
     faults += [f"bash completes {words} to {completed(*words)}" for words, to in wanted.items() if completed(*words) != to]
     return faults
 
@@ -88,7 +89,7 @@ def texts_beside(room):
 
 
 class Launcher:
-    """./simulate in a copy of what it needs, with stand-ins for what builds, and what was wrong with its calls."""
+    """./simulate in a copy of the files that it needs, with stand-ins for the tools that build, and the faults of its calls."""
 
     def __init__(self, folder, program):
         self.folder, self.tree, self.faults, self.count = folder, f"{folder}/a tree", [], 0
@@ -113,7 +114,7 @@ class Launcher:
         os.utime(f"{self.tree}/crates.txt", (now - 5, now - 5))
 
     def call(self, words, status, out="", err="", by=None):
-        """Calls it, and notes where that ends otherwise. Only the last lines of a long text are compared."""
+        """Calls it, and records a fault if the result is another one. Only the last lines of a long text are compared."""
         ran = subprocess.run([by or f"{self.tree}/simulate", *words], input=CYCLE.decode(), capture_output=True, text=True, cwd=self.folder)
         self.count += 1
         if (ran.returncode, ran.stdout, ran.stderr) != (status, out, err):
@@ -130,7 +131,7 @@ def follow_links(it):
 
 
 def answer_unbuilt(it):
-    """Without a build: what needs none is answered, and all else asks for one."""
+    """Without a build: calls that need none are answered, and all others ask for one."""
     it.is_changed(it.built)
     texts, refusal = unbuilt.helps(), "E21"
     it.call(["--help"], 0, texts[""])
@@ -166,7 +167,7 @@ def install(it):
 
 
 def main(program=PROGRAM, *words):
-    """Returns the status: 0 where all is as it should be."""
+    """Returns the status: 0 if there are no faults."""
     if program == "--write":
         with Room(*words or [PROGRAM]) as room, open(unbuilt.HELP, "w") as it:
             it.write(help_page(room))
@@ -182,7 +183,7 @@ def main(program=PROGRAM, *words):
     faults += it.faults
     for fault in faults:
         print(fault)
-    print(f"launcher: {len(faults)} faults" if faults else f"launcher: {it.count} calls, and the texts beside the program, are as they should be", flush=True)
+    print(f"launcher: {len(faults)} faults" if faults else f"launcher: {it.count} calls and the texts without the program, 0 faults", flush=True)
     return int(bool(faults))
 
 

@@ -15,6 +15,7 @@ mod limits;
 mod messages;
 mod narrow;
 mod numbers;
+mod rules;
 mod seats;
 mod shared;
 mod timers;

@@ -13,5 +13,8 @@ of_checks =
     codes "E20" ∷ codes "E21" ∷ codes "E22" ∷ codes "E23" ∷ codes "E24" ∷ codes "E25" ∷ codes "E26" ∷ codes "E27" ∷ codes "E28" ∷ codes "E29"
     ∷ codes "E30" ∷ []
 
+abbrev pub of_rules : List Name
+of_rules = codes "E40" ∷ codes "E41" ∷ codes "E42" ∷ codes "E43" ∷ codes "E44" ∷ codes "E45" ∷ []
+
 abbrev pub explained : List Name
-explained = of_declarations ++ of_inputs ++ of_checks ++ codes "file fault" ∷ []
+explained = of_declarations ++ of_inputs ++ (of_checks ++ codes "file fault" ∷ []) ++ of_rules

@@ -1,12 +1,12 @@
 //! The explanation of a refusal.
 
-ghost use Rattle.std.specs.Prelude.{◌≡◌, ◌++◌, ◌∷◌, [], IfSome, codes, is_some, map};
+ghost use Rattle.std.specs.Prelude.{◌≡◌, ◌++◌, ◌∷◌, [], Contains, IfSome, codes, is_some, map};
 ghost use Rattle.std.specs.List.{list_any};
 ghost use Rattle.fb_types.specs.Names.{same_name};
 ghost use Rattle.fb_why.specs.Explained as spec;
 ghost use Rattle.fb_why.specs.Explained.{explained};
 
-use crate::table::{Explanation, OF_CHECKS, OF_DECLARATIONS, OF_INPUTS};
+use crate::table::{Explanation, OF_CHECKS, OF_DECLARATIONS, OF_INPUTS, OF_RULES};
 
 // A search needs only the names in a table. So each table is lent by a function whose contract is about the names only.
 
@@ -28,10 +28,17 @@ fn of_checks() -> &'static [Explanation]
     &OF_CHECKS
 }
 
+fn of_rules() -> &'static [Explanation]
+    ensures { map (λ e. e.name.now) result.now ≡ spec.of_rules }
+{
+    &OF_RULES
+}
+
 /// The first explanation with the name.
 fn look_up(table: &[Explanation], name: &[u8]) -> Option<Explanation>
     ensures named { IfSome result (λ e. e.name.now ≡ name.now) }
     ensures found { is_some result ≡ list_any (λ e. same_name e.name.now name.now) table.now }
+    ensures whole { IfSome result (Contains table.now) }
 {
     for explanation in table {
         if explanation.name.as_bytes() == name {
@@ -55,5 +62,9 @@ pub fn explain(name: &str) -> Option<Explanation>
     if found.is_some() {
         return found;
     }
-    look_up(of_checks(), name)
+    let found = look_up(of_checks(), name);
+    if found.is_some() {
+        return found;
+    }
+    look_up(of_rules(), name)
 }

@@ -13,7 +13,7 @@ pub struct Explanation {
     pub look: &'static str,
 }
 
-// Three tables, since the proof of the function that lends one takes time in the square of its text. docs/FORMATS.md
+// Four tables, since the proof of the function that lends one takes time in the square of its text. docs/FORMATS.md
 // shows them one after another; `tools/explained.py` compares.
 
 /// Refusals of the text of a declaration.
@@ -241,5 +241,63 @@ pub static OF_CHECKS: [Explanation; 12] = [
             "`-` for two files: standard input is read once.",
         ],
         look: "The names in the call. The declaration is read first, then the deployment, then the stimuli.",
+    },
+];
+
+/// Of what rules over traces are refused for.
+pub static OF_RULES: [Explanation; 6] = [
+    Explanation {
+        name: "E40",
+        meaning: "The rules have more than 1,048,576 bytes, or there are more than 1,000.",
+        examples: [
+            "Rules that a tool wrote for each of many ports.",
+            "A file of another sort, given by mistake: the rules come before the traces.",
+        ],
+        look: "The size of the file, and the number of its `[[rule]]`. A `*` in a pattern stands for many ports.",
+    },
+    Explanation {
+        name: "E41",
+        meaning: "The rules are no TOML.",
+        examples: [
+            "`see = R2 < VALVE.CLOSED`: a text has quotes, `see = \"R2 < VALVE.CLOSED\"`.",
+            "The same key twice in one rule.",
+        ],
+        look: "Quotes, brackets and commas. The text is UTF-8, and integers have 64 bits.",
+    },
+    Explanation {
+        name: "E42",
+        meaning: "A rule lacks a key, has another one, or has a value of another sort; or there is no rule.",
+        examples: [
+            "`after` with both `see` and `not`, or with neither.",
+            "`within = \"10\"`: a number has no quotes.",
+        ],
+        look: "Each `[[rule]]` has a `name`, and the keys of one form: `after`, `within`, and `see` or `not`; `before`, `within`, `see`; `never`, with `from` and `to` or without; `count`, with `least` or `most` or both, and with `every` or without.",
+    },
+    Explanation {
+        name: "E43",
+        meaning: "A text of a rule is not a pattern.",
+        examples: [
+            "`VALVE.CLOSED`: a resource and a sign come first, as in `* < VALVE.CLOSED`.",
+            "`R1 > LAMP.SET ON = TRUE`: a condition has no blanks.",
+        ],
+        look: "A pattern is `RESOURCE > PATH.EVENT VAR=value ..`: a name or `*`; `>`, `<` or `*`; two names or more with full stops, the last parts perhaps `*`; then conditions. TRUE and FALSE are compared by `=` and `<>` alone.",
+    },
+    Explanation {
+        name: "E44",
+        meaning: "A number of a rule is out of its range.",
+        examples: [
+            "`within = -1`: a Q before a P is asked for by `before`.",
+            "`least = 3` with `most = 2`.",
+        ],
+        look: "`within`, `least` and `most` are 0 to 1,000,000,000,000, `every` is 1 to that, and `least` is not over `most`.",
+    },
+    Explanation {
+        name: "E45",
+        meaning: "The declared system has no event for a pattern of a rule, or none with all its variables.",
+        examples: [
+            "`R1 > VALVE.CLOSE` where `VALVE` is in `R2`.",
+            "`* < VALVE.CLOSED Q=TRUE` where `Q` is not WITH the event.",
+        ],
+        look: "Slips of the pen; the resource of the instance; `>` for an event output, or `<` for an event input. Without `--decl` the report tells for each trace what it does not have.",
     },
 ];

@@ -32,7 +32,7 @@ fn push_deployment(alloc: Global, text: &mut ByteText, bytes: &[u8], location: D
 }
 
 /// The line and the column of a byte, both counted from 1. A column counts characters.
-fn push_position(text: &mut ByteText, bytes: &[u8], at: usize) {
+pub(crate) fn push_position(text: &mut ByteText, bytes: &[u8], at: usize) {
     let mut line = 1usize;
     let mut column = 1usize;
     for byte in front(bytes, at) {

@@ -8,8 +8,9 @@
 //! Read in this order: `text_locations`; `text_verdict`, what the reader of declarations says of a text;
 //! `applies`, whether a refusal applies at a location; `scan` and `find`, which search it; `expected`
 //! and `text_messages`. Then `location`; `row_verdict`, which applies the reader of stimuli to a row or a word; `words`, `row`,
-//! `stimuli`; `names`, `table`, `numbers`, `deployment`; `text`, `stimuli_messages`, `deployment_messages`. All of this runs only
-//! after a refusal, and reads the text of a declaration some hundred times at most.
+//! `stimuli`; `names`, `table`, `numbers`, `deployment`; `text`, `stimuli_messages`, `deployment_messages`;
+//! `rules_messages`, the texts of the places that `fb_expect` finds. All of this runs only after a refusal, and reads the
+//! text of a declaration some hundred times at most.
 #![tactic(auto)]
 
 mod applies;
@@ -22,6 +23,7 @@ mod names;
 mod numbers;
 mod row;
 mod row_verdict;
+pub mod rules_messages;
 mod scan;
 pub mod stimuli;
 pub mod stimuli_messages;
@@ -38,6 +40,7 @@ pub use find::text_location;
 pub use location::{
     DeployKey, DeployLocation, RowFault, StimuliLocation, TableFault, TableLocation,
 };
+pub use rules_messages::{tell_rules, tell_unknown};
 pub use stimuli::stimuli_location;
 pub use stimuli_messages::tell_stimuli;
 pub use text_locations::{TextLocation, behind_mark, location_at};

@@ -6,7 +6,7 @@ use Rattle.fb_why.specs.declared.table.Explanation.{Explanation}
 use Rattle.fbsim_command.specs.Command.{ExplainsRefusal, IsRefusalName}
 use Rattle.fbsim_command.specs.Failures.{IsPartWritten, WritesPart, explained_text}
 use Rattle.fbsim_command.specs.declared.failure.Failure.{Failure}
-use Rattle.fbsim_command.specs.declared.failure.Failure.TheVariants.{Refused, File, Write, Memory, Line, BadOption}
+use Rattle.fbsim_command.specs.declared.failure.Failure.TheVariants.{Refused, RefusedTrace, File, Write, Memory, Line, BadOption}
 use Rattle.fbsim_command.specs.declared.statuses.Done.{Done}
 use Rattle.fbsim_command.specs.declared.statuses.Done.TheVariants.{Explained}
 
@@ -24,6 +24,7 @@ module _
     -- a part
     part : (f : Failure) → WritesPart old new bytes f → ExplainsRefusal name old new (Err f)
     part (Refused refusal) got = absurd got
+    part (RefusedTrace text) got = absurd got
     part File got = absurd got
     part (Write n) got = (there, e, first, second, named, subst (λ (bs : List ℕ). IsPartWritten old new bs n) shown got)
     part Memory got = absurd got

@@ -6,6 +6,12 @@ pub mod FormLaws
 pub mod GetterLaws
 pub mod LineLaws
 mod Fronts
+mod Anywhere
+mod Holding
+mod Naming
+mod Declaring
+mod Parting
+mod Drawing
 mod Explaining
 mod Showing
 mod Noting

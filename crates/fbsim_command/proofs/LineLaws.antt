@@ -1,14 +1,16 @@
 -- Where the words name no call.
-use Rattle.std.proofs.Common.{◌≡◌, ℕ, Option, Some, None, Result, Ok, Err, List, false, true, refl, sym, ap, ◌∙◌, subst, inl, inr, codes}
-use Rattle.std.specs.Prelude.{◌≢◌, IfNone, IfOk, IfErr, OnOk, []}
-use Rattle.clap.specs.Words.{App, Row, Text, HasKind, IsAmong, first_of, fault_of, kind_of, is_simple, is_simple_and_free, takes, matches_of, subcommand_of}
+use Rattle.std.proofs.Common.{◌≡◌, ◌&&◌, ℕ, Bool, Bor, Option, Some, None, Result, Ok, Err, List, false, true, not, is_some, option_map, refl, sym, ap, ◌∙◌, subst, inl, inr, codes}
+use Rattle.std.specs.Str.{bytes_eq}
+use Rattle.std.proofs.lemmas.Slice.Eq.{bytes_eq-Decides}
+use Rattle.std.specs.Prelude.{◌≢◌, IfNone, IfOk, IfErr, IfSome, OnOk, []}
+use Rattle.clap.specs.Words.{App, Row, Text, HasKind, IsAmong, all_of, first_of, fault_of, kind_of, is_simple, is_simple_and_free, takes, matches_of, subcommand_of}
 use Rattle.clap.specs.declared.error.Error.{Error}
 use Rattle.clap.specs.declared.error.kind.ErrorKind.{ErrorKind}
 use Rattle.clap.specs.declared.error.kind.ErrorKind.TheVariants.{DisplayHelp, DisplayVersion, OutOfMemory}
 use Rattle.fb_types.specs.declared.run.Form.{Form}
 use Rattle.fb_types.specs.declared.run.Form.TheVariants.{One, Two}
 use Rattle.clap.specs.declared.builder.value_parser.ValueParser.{ValueParser}
-use Rattle.fbsim_command.specs.Line.{AreCall, AreNoCall, AskHelp, IsTaken, NameNoCall, IsForm, AsksWave, IsNumber, IsAction, IsTask, IsCall, IsCallOf, IsFault, IsFlag, IsText, command_name, call_name, AreForms, simulator, simulator_with}
+use Rattle.fbsim_command.specs.Line.{AreCall, AreNoCall, AskHelp, IsTaken, NameNoCall, IsForm, AsksDiff, AsksDraw, AsksExpect, AsksWave, IsNumber, IsAction, IsTask, IsCall, IsCallOf, IsFault, IsFlag, IsText, command_name, call_name, deploys_nothing, AreForms, simulator, simulator_with}
 use Rattle.fbsim_command.proofs.FormLaws.{same_fault, same_subcommand, same_takes}
 use Rattle.fbsim_command.specs.declared.line.LineFault.{LineFault}
 use Rattle.fbsim_command.specs.declared.line.Task.{Task}
@@ -17,6 +19,9 @@ use Rattle.fbsim_command.specs.declared.line.Action.TheVariants.{Check, Run}
 use Rattle.fbsim_command.specs.declared.line.Call.{Call}
 use Rattle.fbsim_command.specs.declared.line.Call.TheVariants as call
 use Rattle.fbsim_command.specs.declared.line.Wave.{Wave}
+use Rattle.fbsim_command.specs.declared.bench_line.Diff.{Diff}
+use Rattle.fbsim_command.specs.declared.bench_line.Expect.{Expect}
+use Rattle.fbsim_command.specs.declared.draw.Draw.{Draw}
 
 pub if_none : {T : Type 0} (r : Option T) (P : Type 0) → P → IfNone r P
 if_none (Some x) P p = tt
@@ -25,6 +30,16 @@ if_none None P p = p
 pub when_none : {T : Type 0} (r : Option T) (P Q : Type 0) → (P → Q) → IfNone r P → IfNone r Q
 when_none (Some x) P Q f p = tt
 when_none None P Q f p = f p
+
+-- the same of a call that may fail
+pub ok_some : {T E : Type 0} (r : Result (Option T) E) (P Q : T → Type 0) → ((x : T) → P x → Q x) → IfOk r (λ o. IfSome o P) → IfOk r (λ o. IfSome o Q)
+ok_some (Err e) P Q f p = tt
+ok_some (Ok None) P Q f p = tt
+ok_some (Ok (Some x)) P Q f p = f x p
+
+pub ok_none : {T E : Type 0} (r : Result (Option T) E) (P Q : Type 0) → (P → Q) → IfOk r (λ o. IfNone o P) → IfOk r (λ o. IfNone o Q)
+ok_none (Err e) P Q f p = tt
+ok_none (Ok o) P Q f p = when_none o P Q f p
 
 some_is : {T : Type 0} {x y : T} → Some x ≡ Some y → x ≡ y
 some_is {T} {x} {y} e = ap (unwrap_or_of x) e
@@ -76,29 +91,108 @@ no_declaration rows name none c named is = let given = is.declaration in absurd 
 
 -- ---- A command by its name
 
-not_explain : (o : Action) → codes "explain" ≡ command_name o → ⊥
-not_explain Check same = cc
-not_explain (Run horizon steps workers serial form progress) same = cc
+-- the name of a run or a check is no other one
+own_name : (o : Action) (name : Text) → name ≡ command_name o → (name ≡ codes "check" → ⊥) → (name ≡ codes "run" → ⊥) → ⊥
+own_name Check name named no_check no_run = no_check named
+own_name (Run horizon steps workers serial form progress) name named no_check no_run = no_run named
+
+-- two texts
+differs : (a b : Text) → bytes_eq a b ≡ false → a ≡ b → ⊥
+differs a b off same = let bad : false ≡ true = sym off ∙ (bytes_eq-Decides a b).1 same in cc
+
+other_than : (name word other : Text) → name ≡ word → (word ≡ other → ⊥) → name ≡ other → ⊥
+other_than name word other is differ same = differ (sym is ∙ same)
+
+no_task : (o : Action) (name word : Text) → name ≡ word → (word ≡ codes "check" → ⊥) → (word ≡ codes "run" → ⊥) → name ≡ command_name o → ⊥
+no_task o name word is no_check no_run named = own_name o name named (other_than name word (codes "check") is no_check) (other_than name word (codes "run") is no_run)
 
 pub no_name : (rows : List Row) (name : Text) → name ≡ codes "explain" → first_of (codes "NAME") rows ≡ None → (r : Call) → name ≡ call_name r → IsCall rows r → ⊥
 no_name rows name is none (call.Explain word) named given = let bad : None ≡ Some word.now = sym none ∙ given in cc
-no_name rows name is none (call.Task c) named given = not_explain c.action (sym is ∙ named)
-no_name rows name is none (call.Wave w) named given = let bad : codes "explain" ≡ codes "wave" = sym is ∙ named in cc
-
-not_wave : (o : Action) → codes "wave" ≡ command_name o → ⊥
-not_wave Check same = cc
-not_wave (Run horizon steps workers serial form progress) same = cc
+no_name rows name is none (call.Task c) named given = no_task c.action name (codes "explain") is (λ e. cc) (λ e. cc) named
+no_name rows name is none (call.Wave w) named given = differs (codes "explain") (codes "wave") refl (sym is ∙ named)
+no_name rows name is none (call.Expect x) named given = differs (codes "explain") (codes "expect") refl (sym is ∙ named)
+no_name rows name is none (call.Diff d) named given = differs (codes "explain") (codes "diff") refl (sym is ∙ named)
+no_name rows name is none (call.Draw d) named given = differs (codes "explain") (codes "draw") refl (sym is ∙ named)
 
 pub no_wave : (rows : List Row) (name : Text) → name ≡ codes "wave" → ((w : Wave) → AsksWave rows w → ⊥) → (r : Call) → name ≡ call_name r → IsCall rows r → ⊥
-no_wave rows name is none (call.Explain word) named given = let bad : codes "wave" ≡ codes "explain" = sym is ∙ named in cc
-no_wave rows name is none (call.Task c) named given = not_wave c.action (sym is ∙ named)
+no_wave rows name is none (call.Explain word) named given = differs (codes "wave") (codes "explain") refl (sym is ∙ named)
+no_wave rows name is none (call.Task c) named given = no_task c.action name (codes "wave") is (λ e. cc) (λ e. cc) named
 no_wave rows name is none (call.Wave w) named given = none w given
+no_wave rows name is none (call.Expect x) named given = differs (codes "wave") (codes "expect") refl (sym is ∙ named)
+no_wave rows name is none (call.Diff d) named given = differs (codes "wave") (codes "diff") refl (sym is ∙ named)
+no_wave rows name is none (call.Draw d) named given = differs (codes "wave") (codes "draw") refl (sym is ∙ named)
 
-pub no_other_call : (rows : List Row) (name : Text) → (name ≡ codes "explain" → ⊥) → (name ≡ codes "wave" → ⊥)
+pub no_expect : (rows : List Row) (name : Text) → name ≡ codes "expect" → ((x : Expect) → AsksExpect rows x → ⊥) → (r : Call) → name ≡ call_name r → IsCall rows r → ⊥
+no_expect rows name is none (call.Explain word) named given = differs (codes "expect") (codes "explain") refl (sym is ∙ named)
+no_expect rows name is none (call.Task c) named given = no_task c.action name (codes "expect") is (λ e. cc) (λ e. cc) named
+no_expect rows name is none (call.Wave w) named given = differs (codes "expect") (codes "wave") refl (sym is ∙ named)
+no_expect rows name is none (call.Expect x) named given = none x given
+no_expect rows name is none (call.Diff d) named given = differs (codes "expect") (codes "diff") refl (sym is ∙ named)
+no_expect rows name is none (call.Draw d) named given = differs (codes "expect") (codes "draw") refl (sym is ∙ named)
+
+pub no_diff : (rows : List Row) (name : Text) → name ≡ codes "diff" → ((d : Diff) → AsksDiff rows d → ⊥) → (r : Call) → name ≡ call_name r → IsCall rows r → ⊥
+no_diff rows name is none (call.Explain word) named given = differs (codes "diff") (codes "explain") refl (sym is ∙ named)
+no_diff rows name is none (call.Task c) named given = no_task c.action name (codes "diff") is (λ e. cc) (λ e. cc) named
+no_diff rows name is none (call.Wave w) named given = differs (codes "diff") (codes "wave") refl (sym is ∙ named)
+no_diff rows name is none (call.Expect x) named given = differs (codes "diff") (codes "expect") refl (sym is ∙ named)
+no_diff rows name is none (call.Diff d) named given = none d given
+no_diff rows name is none (call.Draw d) named given = differs (codes "diff") (codes "draw") refl (sym is ∙ named)
+
+pub no_draw : (rows : List Row) (name : Text) → name ≡ codes "draw" → ((d : Draw) → AsksDraw rows d → ⊥) → (r : Call) → name ≡ call_name r → IsCall rows r → ⊥
+no_draw rows name is none (call.Explain word) named given = differs (codes "draw") (codes "explain") refl (sym is ∙ named)
+no_draw rows name is none (call.Task c) named given = no_task c.action name (codes "draw") is (λ e. cc) (λ e. cc) named
+no_draw rows name is none (call.Wave w) named given = differs (codes "draw") (codes "wave") refl (sym is ∙ named)
+no_draw rows name is none (call.Expect x) named given = differs (codes "draw") (codes "expect") refl (sym is ∙ named)
+no_draw rows name is none (call.Diff d) named given = differs (codes "draw") (codes "diff") refl (sym is ∙ named)
+no_draw rows name is none (call.Draw d) named given = none d given
+
+pub no_other_call :
+    (rows : List Row) (name : Text) → (name ≡ codes "explain" → ⊥) → (name ≡ codes "wave" → ⊥) → (name ≡ codes "expect" → ⊥) → (name ≡ codes "diff" → ⊥) → (name ≡ codes "draw" → ⊥)
     → ((c : Task) → name ≡ command_name c.action → IsTask rows c → ⊥) → (r : Call) → name ≡ call_name r → IsCall rows r → ⊥
-no_other_call rows name other no_wave none (call.Explain word) named given = other named
-no_other_call rows name other no_wave none (call.Task c) named given = none c named given
-no_other_call rows name other no_wave none (call.Wave w) named given = no_wave named
+no_other_call rows name no_explain no_wave no_expect no_diff no_draw none (call.Explain word) named given = no_explain named
+no_other_call rows name no_explain no_wave no_expect no_diff no_draw none (call.Task c) named given = none c named given
+no_other_call rows name no_explain no_wave no_expect no_diff no_draw none (call.Wave w) named given = no_wave named
+no_other_call rows name no_explain no_wave no_expect no_diff no_draw none (call.Expect x) named given = no_expect named
+no_other_call rows name no_explain no_wave no_expect no_diff no_draw none (call.Diff d) named given = no_diff named
+no_other_call rows name no_explain no_wave no_expect no_diff no_draw none (call.Draw d) named given = no_draw named
+
+-- ---- Rules and traces
+
+pub no_rules : (rows : List Row) → first_of (codes "RULES") rows ≡ None → (x : Expect) → AsksExpect rows x → ⊥
+no_rules rows none x is = let given = is.rules in absurd cc
+
+pub no_traces : (rows : List Row) → all_of (codes "TRACE") rows ≡ None → (x : Expect) → AsksExpect rows x → ⊥
+no_traces rows none x is = let given = is.traces in absurd cc
+
+name_none : (o : Option (Bor Text)) → option_map (λ (n : Bor Text). n.now) o ≡ None → o ≡ None
+name_none None e = refl
+name_none (Some n) e = cc
+
+abbrev text : Bor Text → Text
+text n = n.now
+
+-- a deployment of no declaration
+pub deploys_alone :
+    (rows : List Row) (declaration deploy : Option Text) → first_of (codes "decl") rows ≡ declaration → first_of (codes "deploy") rows ≡ deploy → deploys_nothing declaration deploy ≡ true
+    → (x : Expect) → AsksExpect rows x → ⊥
+deploys_alone rows (Some n) deploy is-declared is-deployed on x is = absurd (let bad : false ≡ true = on in cc)
+deploys_alone rows None None is-declared is-deployed on x is = absurd (let bad : false ≡ true = on in cc)
+deploys_alone rows None (Some word) is-declared is-deployed on x is =
+    let alone = name_none x.declaration (sym is.declaration ∙ is-declared) in
+    let bad : Some word ≡ None = sym is-deployed ∙ is.deploy ∙ ap (option_map text) (is.of_a_declaration alone) in
+    cc
+
+-- where a deployment is not named, or a declaration is
+pub is_declared : (declaration deploy : Option (Bor Text)) → deploys_nothing (option_map text declaration) (option_map text deploy) ≡ false → declaration ≡ None → deploy ≡ None
+is_declared declaration None off none = refl
+is_declared (Some n) (Some d) off none = cc
+is_declared None (Some d) off none = absurd (let bad : true ≡ false = off in cc)
+
+pub no_first : (rows : List Row) → first_of (codes "A") rows ≡ None → (d : Diff) → AsksDiff rows d → ⊥
+no_first rows none d is = let given = is.first in absurd cc
+
+pub no_second : (rows : List Row) → first_of (codes "B") rows ≡ None → (d : Diff) → AsksDiff rows d → ⊥
+no_second rows none d is = let given = is.second in absurd cc
 
 -- ---- What a trace is shown of
 
@@ -107,6 +201,11 @@ no_source rows none w is = let given = is.declaration in absurd cc
 
 pub no_trace : (rows : List Row) → first_of (codes "TRACE") rows ≡ None → (w : Wave) → AsksWave rows w → ⊥
 no_trace rows none w is = let given = is.trace in absurd cc
+
+-- ---- What is drawn
+
+pub no_drawing : (rows : List Row) → first_of (codes "DECL") rows ≡ None → (d : Draw) → AsksDraw rows d → ⊥
+no_drawing rows none d is = let given = is.declaration in absurd cc
 
 -- ---- The words, by what the parser says of them
 

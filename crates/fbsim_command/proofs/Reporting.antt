@@ -1,5 +1,5 @@
 -- What is reported of the progress of a run, and then of how a call ends.
-use Rattle.std.proofs.Common.{◌≡◌, ◌∙◌, ◌&&◌, ◌++◌, Bool, true, false, List, [], Option, None, option_map, refl, sym, ap, subst, string_bytes}
+use Rattle.std.proofs.Common.{◌≡◌, ◌∙◌, ◌&&◌, ◌++◌, Bool, true, false, List, [], Option, None, option_map, refl, sym, ap, subst, append-nil, string_bytes}
 use Rattle.std.specs.Prelude.{IsTrue, IfErr, IfOk, OnOk, Result, Ok, Err}
 use Rattle.std.specs.Io.KnownBytes.{Appends}
 use Rattle.std.proofs.KnownBytes.{Appends-nil, Appends-trans}
@@ -10,26 +10,23 @@ use Rattle.fb_sim.specs.declared.options.Options.{Options}
 use Rattle.fb_trace.specs.declared.last.Outcome.{Outcome}
 use Rattle.fb_trace.specs.declared.last.Outcome.TheVariants as sim_end
 use Rattle.fb_sim.specs.declared.outcome.RunError.{RunError}
-use Rattle.fb_sim.specs.Reports.{AreReports, Hears, is_at_end}
+use Rattle.fb_sim.specs.Reports.{AreReports, Hears}
 use Rattle.fb_trace.specs.End.{ending_of}
 use Rattle.fb_sim.specs.Serial.{Writes}
-use Rattle.fbsim_command.specs.Command.{Explains, IsDoneOf, Runs, is_ended}
-use Rattle.fbsim_command.specs.Failures.{WritesPart}
+use Rattle.fbsim_command.specs.Command.{Explains, IsDoneOf, IsEndOf, ReportsOn, Runs}
+use Rattle.fbsim_command.specs.Failures.{WritesPart, failure_of}
+use Rattle.fbsim_command.specs.declared.failure.Failure.{Failure}
 use Rattle.fbsim_command.specs.Outcomes.{End, Held}
 use Rattle.fbsim_command.specs.declared.program.Answer.{Answer}
-use Rattle.fbsim_command.specs.declared.failure.Failure.TheVariants.{Refused, File, Write, Memory, Line, BadOption}
+use Rattle.fbsim_command.specs.declared.failure.Failure.TheVariants.{Refused, RefusedTrace, File, Write, Memory, Line, BadOption}
 use Rattle.fbsim_command.specs.declared.statuses.Done.{Done}
 use Rattle.fbsim_command.specs.declared.statuses.Done.TheVariants.{Helped}
 
 -- where nothing is reported
 pub quiet : (err : Held) → Hears true err err []
-quiet err = record { all = λ t. Appends-nil err; none = λ e. refl }
+quiet err = record { front = []; rest = []; parts = refl; got = Appends-nil err; all = λ t. refl; none = λ e. refl }
 
 -- ---- A run
-
-same_end : (o : Outcome) (d : Done) → IsDoneOf o d → is_at_end (Ok o) ≡ is_ended (Ok d)
-same_end (sim_end.End h) d is = ap (λ (x : Done). is_ended (Ok x)) (sym is)
-same_end (sim_end.Stop mark) d is = ap (λ (x : Done). is_ended (Ok x)) (sym is)
 
 pub ran :
     (serial : Bool) (given : Given) (options : Options) (old new : Held) (o : Outcome) (d : Done) → IsDoneOf o d → Writes given options old new (ending_of o)
@@ -39,9 +36,15 @@ ran serial given options old new (sim_end.Stop mark) d is writes =
     subst (λ (x : Done). Runs serial given options old new (Ok x)) (sym is) (mark.tick, mark.resource, mark.reason, writes)
 
 pub reported :
-    (given : Given) (options : Options) (r : Result Outcome RunError) (o : Outcome) (d : Done) (heard : Bool) (old new : Held) → r ≡ Ok o → IsDoneOf o d
-    → (x : Text) × AreReports given options (is_at_end r) x × Hears heard old new x → (x : Text) × AreReports given options (is_ended (Ok d)) x × Hears heard old new x
-reported given options r o d heard old new is done told = (told.0, subst (λ (b : Bool). AreReports given options b told.0) (ap is_at_end is ∙ same_end o d done) told.1, told.2)
+    (given : Given) (options : Options) (out_old out_new : Held) (r : Result Outcome RunError) (end : End) (heard : Bool) (old new : Held) → IsEndOf r end
+    → (x : Text) × AreReports given options out_old out_new r x × Hears heard old new x → (x : Text) × ReportsOn false true given options out_old out_new end x × Hears heard old new x
+reported given options out_old out_new r end heard old new is told = (told.0, (r, is, told.1), told.2)
+
+pub ends_as : (r : Result Outcome RunError) (o : Outcome) (d : Done) → r ≡ Ok o → IsDoneOf o d → IsEndOf r (Ok d)
+ends_as r o d is done = subst (λ (x : Result Outcome RunError). IsEndOf x (Ok d)) (sym is) (d, done, refl)
+
+pub fails_as : (r : Result Outcome RunError) (e : RunError) (f : Failure) → r ≡ Err e → f ≡ failure_of e → IsEndOf r (Err f)
+fails_as r e f is from = subst (λ (x : Result Outcome RunError). IsEndOf x (Err f)) (sym is) (ap (λ (x : Failure). let y : Result Done Failure = Err x in y) from)
 
 -- ---- A call that is no run
 
@@ -54,6 +57,7 @@ pub helped : (words : List Text) (old new : Held) (help : Text) → AskHelp word
 helped words old new help asked (Ok d) whole part = subst (λ (x : Done). Explains words old new (Ok x)) (sym whole.0) (asked, (help, whole.1))
 helped words old new help asked (Err (Write n)) whole part = (asked, (help, part))
 helped words old new help asked (Err (Refused refusal)) whole bad = absurd bad
+helped words old new help asked (Err (RefusedTrace text)) whole bad = absurd bad
 helped words old new help asked (Err File) whole bad = absurd bad
 helped words old new help asked (Err Memory) whole bad = absurd bad
 helped words old new help asked (Err (Line text)) whole bad = absurd bad
@@ -62,7 +66,10 @@ helped words old new help asked (Err BadOption) whole bad = absurd bad
 -- ---- The end
 
 pub told_all : (h t : Bool) (old mid new : Held) (x y : Text) → Hears h old mid x → (IsTrue t → Appends mid new y) → IsTrue (h && t) → Appends old new (x ++ y)
-told_all true true old mid new x y hears told is = Appends-trans old mid new x y (hears.all refl) (told refl)
+told_all true true old mid new x y hears told is =
+    let e : hears.rest ≡ [] = hears.all refl in
+    let whole : x ≡ hears.front = hears.parts ∙ ap (λ (t : Text). hears.front ++ t) e ∙ append-nil hears.front in
+    Appends-trans old mid new x y (subst (λ (t : Text). Appends old mid t) (sym whole) hears.got) (told refl)
 told_all true false old mid new x y hears told is = absurd (let f : false ≡ true = is in cc)
 told_all false t old mid new x y hears told is = absurd (let f : false ≡ true = is in cc)
 

@@ -12,7 +12,6 @@ use Rattle.fb_sim.specs.declared.outcome.Refusal as sim
 use Rattle.fb_sim.specs.declared.outcome.Refusal.TheVariants as of
 use Rattle.fb_sim.specs.declared.outcome.RunError.{RunError}
 use Rattle.fb_sim.specs.declared.outcome.RunError.TheVariants as run
-use Rattle.fb_wave.specs.Named.{HasNames}
 use Rattle.fb_wave.specs.Refusals.{Blames}
 use Rattle.fb_wave.specs.Waves.{FailsWave}
 use Rattle.fb_wave.specs.declared.error.WaveError.{WaveError}
@@ -54,7 +53,7 @@ dumps_none given trace old run.Failed is = absurd is
 -- a beginning is written where the trace is refused, or where reading it, writing or memory fails
 pub dumps_front :
     (given : Given) (trace old new : Held) (i : Inputs) → Declares given i → (e : WaveError) → FailsWave (system_of i) old new e
-    → (HasNames (system_of i) → Blames (system_of i) trace e) → Dumps given trace old new (Err (failure_of_wave e))
+    → Blames (system_of i) trace e → Dumps given trace old new (Err (failure_of_wave e))
 dumps_front given trace old new i is (wave.Refused line) front blames = inr (line, refl, (i, is, front, blames))
 dumps_front given trace old new i is wave.Memory front blames = inr (i, is, front)
 dumps_front given trace old new i is wave.Read front blames = (i, is, front)

@@ -1,5 +1,5 @@
 -- What a call of the program does (this project's own).
-use Rattle.std.specs.Prelude.{◌≡◌, ◌⊎◌, ℕ, Bool, true, false, List, [], Option, None, Ok, Err, codes, string_bytes}
+use Rattle.std.specs.Prelude.{◌≡◌, ◌⊎◌, ℕ, Bool, true, false, List, [], Option, None, Result, Ok, Err, codes, string_bytes}
 use Rattle.std.specs.Borrow.{Bor}
 use Rattle.std.specs.List.{list_any}
 use Rattle.std.specs.Io.KnownBytes.{Appends}
@@ -14,16 +14,23 @@ use Rattle.fb_sim.specs.Serial.{AreWithin, IsDeclared, Writes}
 use Rattle.fb_sim.specs.declared.options.Options.{Options}
 use Rattle.fb_trace.specs.declared.last.Outcome.{Outcome}
 use Rattle.fb_trace.specs.declared.last.Outcome.TheVariants as sim_end
+use Rattle.fb_sim.specs.declared.outcome.RunError.{RunError}
 use Rattle.fb_sim.specs.Reports.{AreReports}
 use Rattle.fb_why.specs.Explained.{explained}
 use Rattle.fb_why.specs.declared.table.Explanation.{Explanation}
 use Rattle.fbsim_command.specs.Line.{AreCall, AreNoCall, AskHelp, IsTaken}
-use Rattle.fbsim_command.specs.Failures.{IsPartWritten, explained_text, failure_of_source, no_refusal}
+use Rattle.fbsim_command.specs.Failures.{IsPartWritten, explained_text, failure_of, failure_of_source, no_refusal}
 use Rattle.fbsim_command.specs.Notes.{IsFileNote, IsNote, Notes}
 use Rattle.fbsim_command.specs.Outcomes.{End, Held, IsRefused}
 use Rattle.fbsim_command.specs.Reading.{Reading, AreRead, IsUnread}
 use Rattle.fbsim_command.specs.Showing.{Opening, Shows}
-use Rattle.fbsim_command.specs.declared.failure.Failure.TheVariants.{Refused, File, Write, Memory, Line, BadOption}
+use Rattle.fbsim_command.specs.Comparing.{Compares}
+use Rattle.fbsim_command.specs.Drawing.{Draws}
+use Rattle.fbsim_command.specs.Expecting.{Expects}
+use Rattle.fbsim_command.specs.declared.bench_line.Diff.{Diff}
+use Rattle.fbsim_command.specs.declared.bench_line.Expect.{Expect}
+use Rattle.fbsim_command.specs.declared.draw.Draw.{Draw}
+use Rattle.fbsim_command.specs.declared.failure.Failure.TheVariants.{Refused, RefusedTrace, File, Write, Memory, Line, BadOption}
 use Rattle.fbsim_command.specs.declared.line.Task.{Task}
 use Rattle.fbsim_command.specs.declared.line.Action.{Action}
 use Rattle.fbsim_command.specs.declared.line.Action.TheVariants.{Check, Run}
@@ -31,7 +38,7 @@ use Rattle.fbsim_command.specs.declared.line.Call.TheVariants as call
 use Rattle.fbsim_command.specs.declared.line.Wave.{Wave}
 use Rattle.fbsim_command.specs.declared.sources.SourceFault.{SourceFault}
 use Rattle.fbsim_command.specs.declared.statuses.Done.{Done}
-use Rattle.fbsim_command.specs.declared.statuses.Done.TheVariants.{Helped, Explained, Accepted, Shown, Ended, Stopped}
+use Rattle.fbsim_command.specs.declared.statuses.Done.TheVariants.{Helped, Explained, Accepted, Shown, Ended, Stopped, Met, Unmet, Same, Different}
 use Rattle.fbsim_command.specs.declared.texts.Part.{Part}
 
 -- the inputs are checked
@@ -42,12 +49,17 @@ Checks given old new (Ok Explained) = ⊥
 Checks given old new (Ok Ended) = ⊥
 Checks given old new (Ok Shown) = ⊥
 Checks given old new (Ok Stopped) = ⊥
+Checks given old new (Ok Met) = ⊥
+Checks given old new (Ok Unmet) = ⊥
+Checks given old new (Ok Same) = ⊥
+Checks given old new (Ok Different) = ⊥
 Checks given old new (Err (Refused refusal)) = IsRefused given refusal × (new ≡ old)
 Checks given old new (Err (Write n)) = IsDeclared given × IsPartWritten old new (codes "accepted\n") n
 Checks given old new (Err Memory) = new ≡ old
 Checks given old new (Err File) = ⊥
 Checks given old new (Err (Line message)) = ⊥
 Checks given old new (Err BadOption) = ⊥
+Checks given old new (Err (RefusedTrace text)) = ⊥
 
 abbrev pub IsDoneOf : Outcome → Done → Type 0
 IsDoneOf (sim_end.End h) done = done ≡ Ended
@@ -62,6 +74,10 @@ abbrev pub Runs : (serial : Bool) → Given → Options → (old new : Held) →
 Runs serial given o old new (Ok Ended) = (horizon : ℕ) × Writes given o old new (AtHorizon horizon)
 Runs serial given o old new (Ok Stopped) = (tick : ℕ) × (resource : ℕ) × (reason : Reason) × Writes given o old new (AtStop tick resource reason)
 Runs serial given o old new (Ok Shown) = ⊥
+Runs serial given o old new (Ok Met) = ⊥
+Runs serial given o old new (Ok Unmet) = ⊥
+Runs serial given o old new (Ok Same) = ⊥
+Runs serial given o old new (Ok Different) = ⊥
 Runs serial given o old new (Ok Helped) = ⊥
 Runs serial given o old new (Ok Explained) = ⊥
 Runs serial given o old new (Ok Accepted) = ⊥
@@ -70,6 +86,7 @@ Runs serial given o old new (Err (Write n)) = sim.WritesPart given o old new n
 Runs serial given o old new (Err Memory) = Wants given o old new
 Runs serial given o old new (Err BadOption) = (AreWithin o → ⊥) × (new ≡ old)
 Runs serial given o old new (Err File) = ⊥
+Runs serial given o old new (Err (RefusedTrace text)) = ⊥
 Runs serial given o old new (Err (Line message)) = ⊥
 
 -- what a task asks for is done with the inputs
@@ -78,26 +95,21 @@ Meets given Check old new end = Checks given old new end
 Meets given (Run horizon steps workers serial form progress) old new end =
     Runs serial given (record { horizon = horizon; steps = steps; workers = workers; form = form }) old new end
 
--- whether a run has come to its horizon
-abbrev pub is_ended : End → Bool
-is_ended (Ok Ended) = true
-is_ended (Ok Stopped) = false
-is_ended (Ok Helped) = false
-is_ended (Ok Explained) = false
-is_ended (Ok Accepted) = false
-is_ended (Ok Shown) = false
-is_ended (Err failure) = false
+-- a call ends as its run did
+abbrev pub IsEndOf : Result Outcome RunError → End → Type 0
+IsEndOf (Ok outcome) end = (done : Done) × IsDoneOf outcome done × (end ≡ Ok done)
+IsEndOf (Err error) end = end ≡ Err (failure_of error)
 
 -- what is reported meanwhile: of a run with workers, if it is asked for, its progress, and else nothing
-abbrev pub ReportsOn : (serial progress : Bool) → Given → Options → End → (reports : Text) → Type 0
-ReportsOn false true given o end reports = AreReports given o (is_ended end) reports
-ReportsOn true true given o end reports = reports ≡ []
-ReportsOn serial false given o end reports = reports ≡ []
+abbrev pub ReportsOn : (serial progress : Bool) → Given → Options → (old new : Held) → End → (reports : Text) → Type 0
+ReportsOn false true given o old new end reports = (run : Result Outcome RunError) × IsEndOf run end × AreReports given o old new run reports
+ReportsOn true true given o old new end reports = reports ≡ []
+ReportsOn serial false given o old new end reports = reports ≡ []
 
-abbrev pub Reports : Given → Action → End → (reports : Text) → Type 0
-Reports given Check end reports = reports ≡ []
-Reports given (Run horizon steps workers serial form progress) end reports =
-    ReportsOn serial progress given (record { horizon = horizon; steps = steps; workers = workers; form = form }) end reports
+abbrev pub Reports : Given → Action → (old new : Held) → End → (reports : Text) → Type 0
+Reports given Check old new end reports = reports ≡ []
+Reports given (Run horizon steps workers serial form progress) old new end reports =
+    ReportsOn serial progress given (record { horizon = horizon; steps = steps; workers = workers; form = form }) old new end reports
 
 -- ---- The call
 
@@ -111,7 +123,7 @@ pub record AreReadAndDone {S : Type 0} (reads : Reading S) (from to : S) (c : Ta
   pub given : Given
   pub read : AreRead reads c from to given
   pub done : Meets given c.action old new end
-  pub reported : Reports given c.action end reports
+  pub reported : Reports given c.action old new end reports
   pub noted : NotesOf given c.why end note
 
 -- A file is not read.
@@ -140,6 +152,10 @@ ExplainsRefusal name old new (Ok Accepted) = ⊥
 ExplainsRefusal name old new (Ok Ended) = ⊥
 ExplainsRefusal name old new (Ok Shown) = ⊥
 ExplainsRefusal name old new (Ok Stopped) = ⊥
+ExplainsRefusal name old new (Ok Met) = ⊥
+ExplainsRefusal name old new (Ok Unmet) = ⊥
+ExplainsRefusal name old new (Ok Same) = ⊥
+ExplainsRefusal name old new (Ok Different) = ⊥
 ExplainsRefusal name old new (Err (Write n)) =
     IsRefusalName name × (e : Explanation) × (first : Text) × (second : Text) × (e.name.now ≡ name) × IsPartWritten old new (explained_text name e.meaning.now first second e.look.now) n
 ExplainsRefusal name old new (Err (Line message)) =
@@ -148,6 +164,7 @@ ExplainsRefusal name old new (Err Memory) = new ≡ old
 ExplainsRefusal name old new (Err (Refused refusal)) = ⊥
 ExplainsRefusal name old new (Err File) = ⊥
 ExplainsRefusal name old new (Err BadOption) = ⊥
+ExplainsRefusal name old new (Err (RefusedTrace text)) = ⊥
 
 -- the words name no call
 abbrev pub Explains : List Text → (old new : Held) → End → Type 0
@@ -157,21 +174,30 @@ Explains words old new (Ok Accepted) = ⊥
 Explains words old new (Ok Ended) = ⊥
 Explains words old new (Ok Shown) = ⊥
 Explains words old new (Ok Stopped) = ⊥
+Explains words old new (Ok Met) = ⊥
+Explains words old new (Ok Unmet) = ⊥
+Explains words old new (Ok Same) = ⊥
+Explains words old new (Ok Different) = ⊥
 Explains words old new (Err (Write n)) = AskHelp words × ((help : Text) × IsPartWritten old new help n)
 Explains words old new (Err (Line message)) = AreNoCall words × (new ≡ old)
 Explains words old new (Err Memory) = new ≡ old
 Explains words old new (Err (Refused refusal)) = ⊥
 Explains words old new (Err File) = ⊥
 Explains words old new (Err BadOption) = ⊥
+Explains words old new (Err (RefusedTrace text)) = ⊥
 
 -- nothing is read, and only the end is reported
 abbrev pub TellsNoMore : {S : Type 0} → (from to : S) → (reports : Text) → (note : Option Text) → Type 0
 TellsNoMore from to reports note = (to ≡ from) × (reports ≡ []) × (note ≡ None)
 
--- The words are done as the call that they name, or a trace is shown, or a refusal is explained, or the words are.
+-- The words are done as the call that they name: a task, a trace that is shown, a refusal that is explained, rules that are
+-- held against traces, traces that are compared, or what is declared, which is drawn. Or they name none.
 abbrev pub Does : {S : Type 0} → Reading S → Opening S → (from to : S) → List Text → (old new : Held) → End → (reports : Text) → (note : Option Text) → Type 0
 Does reads opens from to words old new end reports note =
     ((c : Task) × AreCall words (call.Task c) × IsTaken words × Performs reads from to c old new end reports note)
     ⊎ ((w : Wave) × AreCall words (call.Wave w) × IsTaken words × Shows reads opens from to w old new end × (reports ≡ []) × (note ≡ None))
     ⊎ ((name : Bor Text) × AreCall words (call.Explain name) × IsTaken words × ExplainsRefusal name.now old new end × TellsNoMore from to reports note)
+    ⊎ ((x : Expect) × AreCall words (call.Expect x) × IsTaken words × Expects reads opens from to x old new end note × (reports ≡ []))
+    ⊎ ((d : Diff) × AreCall words (call.Diff d) × IsTaken words × Compares opens from to d old new end × (reports ≡ []) × (note ≡ None))
+    ⊎ ((d : Draw) × AreCall words (call.Draw d) × IsTaken words × Draws reads from to d old new end × (reports ≡ []) × (note ≡ None))
     ⊎ (Explains words old new end × TellsNoMore from to reports note)

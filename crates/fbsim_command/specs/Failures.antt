@@ -3,6 +3,8 @@ use Rattle.std.specs.Prelude.{◌/◌, ◌%◌, ◌<◌, ℕ, List, [], ◌++◌
 use Rattle.std.specs.Io.KnownBytes.{Appends}
 use Rattle.fb_read.specs.declared.error.ReadError.{ReadError}
 use Rattle.fb_read.specs.declared.error.ReadError.TheVariants as read
+use Rattle.fb_expect.specs.Refusals as rules
+use Rattle.fb_expect.specs.declared.error.RulesError.{RulesError}
 use Rattle.fb_inputs.specs.Refusals as input
 use Rattle.fb_inputs.specs.declared.error.InputError.{InputError}
 use Rattle.fb_check.specs.Refusals as check
@@ -14,13 +16,13 @@ use Rattle.fb_sim.specs.declared.outcome.RunError.TheVariants as run
 use Rattle.fb_wave.specs.declared.error.WaveError.{WaveError}
 use Rattle.fb_wave.specs.declared.error.WaveError.TheVariants as wave
 use Rattle.fbsim_command.specs.declared.failure.Failure.{Failure}
-use Rattle.fbsim_command.specs.declared.failure.Failure.TheVariants.{Refused, File, Write, Memory, Line, BadOption}
+use Rattle.fbsim_command.specs.declared.failure.Failure.TheVariants.{Refused, RefusedTrace, File, Write, Memory, Line, BadOption}
 use Rattle.fbsim_command.specs.declared.failure.RefusalLine.{RefusalLine}
 use Rattle.fbsim_command.specs.declared.failure.RefusalLine.TheVariants.{Numbered, Syntax, Trace}
 use Rattle.fbsim_command.specs.declared.sources.SourceFault.{SourceFault}
 use Rattle.fbsim_command.specs.declared.sources.SourceFault.TheVariants as source
 use Rattle.fbsim_command.specs.declared.statuses.Done.{Done}
-use Rattle.fbsim_command.specs.declared.statuses.Done.TheVariants.{Helped, Explained, Accepted, Shown, Ended, Stopped}
+use Rattle.fbsim_command.specs.declared.statuses.Done.TheVariants.{Helped, Explained, Accepted, Shown, Ended, Stopped, Met, Unmet, Same, Different}
 
 -- ---- Failures
 
@@ -63,6 +65,9 @@ failure_of_wave wave.Read = File
 failure_of_wave (wave.Write n) = Write n
 failure_of_wave wave.Names = Memory
 
+abbrev pub failure_of_rules : RulesError → Failure
+failure_of_rules e = numbered_input (rules.number_of e)
+
 abbrev pub failure_of_source : SourceFault → Failure
 failure_of_source source.File = File
 failure_of_source source.Memory = Memory
@@ -74,8 +79,13 @@ refusal_text (Numbered n) = codes "refused E" ++ decimal (n / 10) ++ decimal (n 
 refusal_text (Syntax line) = codes "refused E03 line " ++ decimal line
 refusal_text (Trace line) = codes "refused trace line " ++ decimal line
 
+-- a trace that is refused, with its name and the line
+abbrev pub refused_trace : (name : List ℕ) → (line : ℕ) → List ℕ
+refused_trace name line = codes "refused trace " ++ (name ++ (codes " line " ++ decimal line))
+
 abbrev pub failure_text : Failure → List ℕ
 failure_text (Refused refusal) = refusal_text refusal
+failure_text (RefusedTrace text) = string_bytes text
 failure_text File = codes "file fault"
 failure_text (Write n) = codes "write fault after " ++ decimal n ++ codes " bytes"
 failure_text Memory = codes "out of memory"
@@ -113,8 +123,13 @@ status_of (Ok Explained) = 0
 status_of (Ok Accepted) = 0
 status_of (Ok Shown) = 0
 status_of (Ok Ended) = 0
+status_of (Ok Met) = 0
+status_of (Ok Same) = 0
 status_of (Ok Stopped) = 1
+status_of (Ok Unmet) = 1
+status_of (Ok Different) = 1
 status_of (Err (Refused refusal)) = 2
+status_of (Err (RefusedTrace text)) = 2
 status_of (Err File) = 3
 status_of (Err (Write n)) = 3
 status_of (Err Memory) = 4
@@ -130,6 +145,7 @@ pub record IsPartWritten (old new : Option (List ℕ)) (text : List ℕ) (writte
 
 abbrev pub WritesPart : (old new : Option (List ℕ)) → List ℕ → Failure → Type 0
 WritesPart old new text (Refused refusal) = ⊥
+WritesPart old new text (RefusedTrace message) = ⊥
 WritesPart old new text File = ⊥
 WritesPart old new text (Write n) = IsPartWritten old new text n
 WritesPart old new text Memory = ⊥

@@ -6,4 +6,8 @@ pub mod Reading
 pub mod Notes
 pub mod Outcomes
 pub mod Showing
+pub mod Known
+pub mod Expecting
+pub mod Comparing
+pub mod Drawing
 pub mod Command

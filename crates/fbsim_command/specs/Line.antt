@@ -1,15 +1,18 @@
 -- The command line (this project's own): the program's commands, and what a parse of the words asks for.
-use Rattle.std.specs.Prelude.{◌≡◌, ◌⊎◌, ◌<◌, ◌^◌, ◌↔◌, ℕ, Bool, true, IsTrue, List, [], ◌∷◌, Option, Some, map, option_map, codes}
+use Rattle.std.specs.Prelude.{◌≡◌, ◌⊎◌, ◌<◌, ◌^◌, ◌↔◌, ℕ, Bool, true, false, IsTrue, List, [], ◌∷◌, Option, Some, None, is_some, map, option_map, codes}
 use Rattle.std.specs.Borrow.{Bor}
 use Rattle.std.specs.Str.Parse.{IsNumeral, digits_value, without_leading_plus}
-use Rattle.clap.specs.Words.{App, Rule, Row, Text, new_app, new_rule, with_rule, with_subcommand, subcommand_of, first_of, one_of, takes, fault_of, IsAmong}
-use Rattle.clap.specs.declared.builder.action.ArgAction.TheVariants.{SetTrue}
+use Rattle.clap.specs.Words.{App, Rule, Row, Text, new_app, new_rule, with_rule, with_subcommand, subcommand_of, all_of, first_of, one_of, takes, fault_of, IsAmong}
+use Rattle.clap.specs.declared.builder.action.ArgAction.TheVariants.{Append, SetTrue}
 use Rattle.clap.specs.declared.error.kind.ErrorKind.{ErrorKind}
 use Rattle.clap.specs.declared.error.kind.ErrorKind.TheVariants.{DisplayHelp, DisplayVersion}
 use Rattle.clap.specs.declared.builder.value_parser.ValueParser.{ValueParser}
 use Rattle.clap.specs.declared.builder.value_parser.ValueParser.TheVariants as parser
 use Rattle.fb_types.specs.declared.run.Form.{Form}
 use Rattle.fb_types.specs.declared.run.Form.TheVariants.{One, Two}
+use Rattle.fbsim_command.specs.declared.bench_line.Diff.{Diff}
+use Rattle.fbsim_command.specs.declared.bench_line.Expect.{Expect}
+use Rattle.fbsim_command.specs.declared.draw.Draw.{Draw}
 use Rattle.fbsim_command.specs.declared.line.Action.{Action}
 use Rattle.fbsim_command.specs.declared.line.Action.TheVariants.{Check, Run}
 use Rattle.fbsim_command.specs.declared.line.Task.{Task}
@@ -53,6 +56,10 @@ limited id values = record (new_rule id) { long = Some id; parser = Some values 
 abbrev pub required : Text → Rule
 required id = record (new_rule id) { required = true }
 
+-- an argument of which there are one or more, by its place
+abbrev pub several : Text → Rule
+several id = record (required id) { action = Some Append }
+
 -- an option that takes the name of a file
 abbrev pub file : Text → Rule
 file id = record (new_rule id) { long = Some id }
@@ -94,17 +101,39 @@ with_run_options values a = with_rule (with_rule (with_rule (with_numbers a)
 abbrev pub wave : App
 wave = with_rule (deployed (codes "wave")) (required (codes "TRACE"))
 
+-- a command with the names of rules and of traces, of a declaration and of its deployment, and how the rules are held
+abbrev pub expect : App
+expect =
+    with_rule (with_rule (with_rule (with_rule (with_rule (with_rule (begun (codes "expect") (codes "RULES"))
+    (several (codes "TRACE")))
+    (file (codes "decl")))
+    (file (codes "deploy")))
+    (flag (codes "strict")))
+    (flag (codes "cut")))
+    (flag (codes "why"))
+
+-- a command with the names of two traces
+abbrev pub diff : App
+diff = with_rule (begun (codes "diff") (codes "A")) (required (codes "B"))
+
+-- a command with the names of a declaration and of its deployment, and of a type
+abbrev pub draw : App
+draw = with_rule (deployed (codes "draw")) (file (codes "type"))
+
 -- a command with the name of a refusal
 abbrev pub explain : App
 explain = begun (codes "explain") (codes "NAME")
 
 -- the program's command, with this parser for the form of the trace
 abbrev pub simulator_with : ValueParser → App
-simulator_with values = with_subcommand (with_subcommand (with_subcommand (with_subcommand
+simulator_with values = with_subcommand (with_subcommand (with_subcommand (with_subcommand (with_subcommand (with_subcommand (with_subcommand
     (record { top = record (new_app (codes "fbsim")).top { has_version = true; subcommand_required = true }; subs = [] })
     (with_run_options values (files (codes "run"))).top)
     (files (codes "check")).top)
     wave.top)
+    expect.top)
+    diff.top)
+    draw.top)
     explain.top
 
 abbrev pub simulator : App
@@ -120,6 +149,9 @@ abbrev pub call_name : Call → Text
 call_name (call.Explain name) = codes "explain"
 call_name (call.Task c) = command_name c.action
 call_name (call.Wave w) = codes "wave"
+call_name (call.Expect x) = codes "expect"
+call_name (call.Diff d) = codes "diff"
+call_name (call.Draw d) = codes "draw"
 
 -- the option has one text, a decimal numeral that may begin with a plus, and this is its number
 pub record IsNumber (rows : List Row) (id : Text) (n : ℕ) : Type 0 where
@@ -163,10 +195,40 @@ pub record AsksWave (rows : List Row) (w : Wave) : Type 0 where
   pub deploy : first_of (codes "deploy") rows ≡ option_map (λ n. n.now) w.deploy
   pub trace : first_of (codes "TRACE") rows ≡ Some w.trace.now
 
+-- a deployment is named, and no declaration
+abbrev pub deploys_nothing : (declaration deploy : Option Text) → Bool
+deploys_nothing (Some n) deploy = false
+deploys_nothing None deploy = is_some deploy
+
+-- Rules are to be held against these traces. A deployment is one of a declaration.
+pub record AsksExpect (rows : List Row) (x : Expect) : Type 0 where
+  pub rules : first_of (codes "RULES") rows ≡ Some x.rules.now
+  pub traces : all_of (codes "TRACE") rows ≡ Some (map (λ t. t.now) x.traces.items)
+  pub declaration : first_of (codes "decl") rows ≡ option_map (λ n. n.now) x.declaration
+  pub deploy : first_of (codes "deploy") rows ≡ option_map (λ n. n.now) x.deploy
+  pub of_a_declaration : x.declaration ≡ None → x.deploy ≡ None
+  pub strict : IsFlag rows (codes "strict") x.is_strict
+  pub cut : IsFlag rows (codes "cut") x.is_cut
+  pub why : IsFlag rows (codes "why") x.why
+
+-- these traces are to be compared
+pub record AsksDiff (rows : List Row) (d : Diff) : Type 0 where
+  pub first : first_of (codes "A") rows ≡ Some d.first.now
+  pub second : first_of (codes "B") rows ≡ Some d.second.now
+
+-- the graph of this is asked for
+pub record AsksDraw (rows : List Row) (d : Draw) : Type 0 where
+  pub declaration : first_of (codes "DECL") rows ≡ Some d.declaration.now
+  pub deploy : first_of (codes "deploy") rows ≡ option_map (λ n. n.now) d.deploy
+  pub block_type : first_of (codes "type") rows ≡ option_map (λ n. n.now) d.block_type
+
 abbrev pub IsCall : List Row → Call → Type 0
 IsCall rows (call.Explain name) = first_of (codes "NAME") rows ≡ Some name.now
 IsCall rows (call.Task c) = IsTask rows c
 IsCall rows (call.Wave w) = AsksWave rows w
+IsCall rows (call.Expect x) = AsksExpect rows x
+IsCall rows (call.Diff d) = AsksDiff rows d
+IsCall rows (call.Draw d) = AsksDraw rows d
 
 -- a command's name and its rows ask for this
 pub record IsCallOf (found : Option (Text × List Row)) (r : Call) : Type 0 where

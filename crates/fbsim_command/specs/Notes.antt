@@ -30,18 +30,18 @@ pub record IsMatter (name matter : List ℕ) : Type 0 where
   pub input : name ≡ codes "-" → matter ≡ codes "standard input can't be read, or was read before"
   pub others : name ≢ codes "-" → matter ≡ codes "no file of this name can be read"
 
--- the note of a file of this name
-pub record IsNoteOfName (part : Part) (name note : List ℕ) : Type 0 where
+-- the note of a file of this name, which is called so
+pub record IsNoteOfName (word name note : List ℕ) : Type 0 where
   pub matter : List ℕ
   pub is_matter : IsMatter name matter
-  pub text : note ≡ file_word part ++ codes " " ++ name ++ codes ": " ++ matter
+  pub text : note ≡ word ++ codes " " ++ name ++ codes ": " ++ matter
 
 -- The note of a file that can't be read.
 pub record IsFileNote (c : Task) (part : Part) (fault : SourceFault) (note : List ℕ) : Type 0 where
   pub unread : fault ≡ File
   pub name : List ℕ
   pub named : name_of c part ≡ Some name
-  pub is : IsNoteOfName part name note
+  pub is : IsNoteOfName (file_word part) name note
 
 -- ---- Refusals
 

@@ -4,7 +4,6 @@ use Rattle.clap.specs.Words.{Text}
 use Rattle.fb_types.specs.Headline.{Inputs, system_of}
 use Rattle.fb_sim.specs.Given.{Given}
 use Rattle.fb_sim.specs.Serial.{Declares}
-use Rattle.fb_wave.specs.Named.{HasNames}
 use Rattle.fb_wave.specs.Refusals.{IsFirstBad}
 use Rattle.fb_wave.specs.Waves.{IsWave, WritesFront, WritesPart}
 use Rattle.fbsim_command.specs.declared.line.Task.{Task}
@@ -13,11 +12,11 @@ use Rattle.fbsim_command.specs.declared.line.Wave.{Wave}
 use Rattle.fbsim_command.specs.Failures.{failure_of_source}
 use Rattle.fbsim_command.specs.Outcomes.{End, Held, IsRefused}
 use Rattle.fbsim_command.specs.Reading.{Reading, AreRead, IsUnread}
-use Rattle.fbsim_command.specs.declared.failure.Failure.TheVariants.{Refused, File, Write, Memory, Line, BadOption}
+use Rattle.fbsim_command.specs.declared.failure.Failure.TheVariants.{Refused, RefusedTrace, File, Write, Memory, Line, BadOption}
 use Rattle.fbsim_command.specs.declared.failure.RefusalLine.{RefusalLine}
 use Rattle.fbsim_command.specs.declared.failure.RefusalLine.TheVariants.{Trace}
 use Rattle.fbsim_command.specs.declared.sources.SourceFault.{SourceFault}
-use Rattle.fbsim_command.specs.declared.statuses.Done.TheVariants.{Helped, Explained, Accepted, Shown, Ended, Stopped}
+use Rattle.fbsim_command.specs.declared.statuses.Done.TheVariants.{Helped, Explained, Accepted, Shown, Ended, Stopped, Met, Unmet, Same, Different}
 use Rattle.fbsim_command.specs.declared.texts.Part.{Part}
 
 -- what opening a named file may give, from one state of the source to the next: its bytes, where they are known
@@ -39,11 +38,10 @@ abbrev pub DumpsPart : Given → (old new : Held) → (written : ℕ) → Type 0
 DumpsPart given old new written = (i : Inputs) × Declares given i × WritesPart (system_of i) old new written
 
 -- The inputs are accepted, the writer got the first bytes of the dump of lines of their system, and the line is the first that
--- no trace of it has after the lines before it. The latter is so where the resources, instances and ports have names, as those
--- of every declaration and deployment that was read.
+-- no trace of it has after the lines before it.
 abbrev pub RefusesTrace : Given → (trace : Held) → (old new : Held) → (line : ℕ) → Type 0
 RefusesTrace given trace old new line =
-    (i : Inputs) × Declares given i × WritesFront (system_of i) old new × (HasNames (system_of i) → IfSome trace (IsFirstBad (system_of i) line))
+    (i : Inputs) × Declares given i × WritesFront (system_of i) old new × IfSome trace (IsFirstBad (system_of i) line)
 
 -- the inputs are refused, as a check refuses them, or the trace is, in this line
 abbrev pub IsRefusedFor : Given → (trace : Held) → (old new : Held) → RefusalLine → Type 0
@@ -58,12 +56,17 @@ Dumps given trace old new (Ok Explained) = ⊥
 Dumps given trace old new (Ok Accepted) = ⊥
 Dumps given trace old new (Ok Ended) = ⊥
 Dumps given trace old new (Ok Stopped) = ⊥
+Dumps given trace old new (Ok Met) = ⊥
+Dumps given trace old new (Ok Unmet) = ⊥
+Dumps given trace old new (Ok Same) = ⊥
+Dumps given trace old new (Ok Different) = ⊥
 Dumps given trace old new (Err (Refused refusal)) = IsRefusedFor given trace old new refusal
 Dumps given trace old new (Err File) = DumpsFront given old new
 Dumps given trace old new (Err (Write n)) = DumpsPart given old new n
 Dumps given trace old new (Err Memory) = (new ≡ old) ⊎ DumpsFront given old new
 Dumps given trace old new (Err (Line message)) = ⊥
 Dumps given trace old new (Err BadOption) = ⊥
+Dumps given trace old new (Err (RefusedTrace text)) = ⊥
 
 -- ---- What is read
 

@@ -1,11 +1,12 @@
 //! Why a call of the program does not do what is asked, and how that is reported.
 
 ghost use Rattle.std.specs.Prelude.{◌≡◌};
-ghost use Rattle.fbsim_command.specs.Failures.{failure_of, failure_of_check, failure_of_read, failure_of_input, failure_of_refusal, failure_of_source, failure_of_wave};
+ghost use Rattle.fbsim_command.specs.Failures.{failure_of, failure_of_check, failure_of_read, failure_of_input, failure_of_refusal, failure_of_rules, failure_of_source, failure_of_wave};
 ghost use Rattle.fbsim_command.specs.declared.failure.Failure.TheVariants.{Memory};
 
 use crate::sources::SourceFault;
 use fb_check::CheckError;
+use fb_expect::RulesError;
 use fb_inputs::InputError;
 use fb_read::ReadError;
 use fb_sim::{Refusal, RunError};
@@ -16,7 +17,7 @@ use std::fmt;
 /// What the line of a refusal says.
 #[derive(Clone, Copy)]
 pub enum RefusalLine {
-    /// The refusal of this number, 1 to 30.
+    /// The refusal of this number, 1 to 45.
     Numbered(u8),
     /// A syntax fault in this line, counted from 1.
     Syntax(u32),
@@ -28,6 +29,8 @@ pub enum RefusalLine {
 #[derive(Drop)]
 pub enum Failure {
     Refused(RefusalLine),
+    /// A trace is none, which shows first at the line that this text names with the trace's file.
+    RefusedTrace(String),
     /// A file could not be read.
     File,
     /// The output failed when it had taken this number of bytes.
@@ -127,6 +130,17 @@ impl From<WaveError> for Failure {
     }
 }
 
+impl From<RulesError> for Failure {
+    ghost from_gives = { λ error failure. failure ≡ failure_of_rules error };
+
+    fn from(error: RulesError) -> Failure {
+        match error.number() {
+            Some(number) => Failure::Refused(RefusalLine::Numbered(number)),
+            None => Failure::Memory,
+        }
+    }
+}
+
 impl From<SourceFault> for Failure {
     ghost from_gives = { λ fault failure. failure ≡ failure_of_source fault };
 
@@ -166,6 +180,7 @@ impl fmt::Display for Failure {
     fn fmt<W: fmt::Write>(&self, f: &mut fmt::Formatter<W>) -> fmt::Result {
         match self {
             Failure::Refused(refusal) => write!(f, "{refusal}"),
+            Failure::RefusedTrace(text) => write!(f, "{text}"),
             Failure::File => write!(f, "file fault"),
             Failure::Write(written) => write!(f, "write fault after {written} bytes"),
             Failure::Memory => write!(f, "out of memory"),

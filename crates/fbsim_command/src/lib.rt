@@ -5,21 +5,29 @@
 //! reported of a failure. `Files` reads the first bytes of a file, at most as many as are asked for, and standard input
 //! once.
 //!
-//! Read it in this order: `line`, the words; `sources`, where files come from; `files`, those of the machine;
-//! `program`, the call; `texts`, what is read; `wave`; `output`; `failure`, `notes` and `status`, how it ends.
+//! Read it in this order: `line` and `bench_line`, the words; `sources`, where files come from; `files`, those of the
+//! machine; `program`, the call; `texts`, what is read; `wave`; `expect` and `known`, rules and traces; `output`; `failure`,
+//! `notes`, `rules_notes` and `statuses`, how it ends.
 #![tactic(auto)]
 
+mod bench_line;
+mod draw;
+mod expect;
 pub mod failure;
 pub mod files;
+mod known;
 pub mod line;
 mod notes;
 pub mod output;
 pub mod program;
+mod rules_notes;
 pub mod sources;
 pub mod statuses;
 mod texts;
 mod wave;
 
+pub use bench_line::{Diff, Expect};
+pub use draw::Draw;
 pub use failure::{Failure, RefusalLine};
 pub use files::{Files, Opened};
 pub use line::{Action, Call, LineFault, Task, Wave, parse};

@@ -13,6 +13,8 @@ ghost use Rattle.clap.specs.Words.{AddsArg, AddsSubcommand, app_of, first_of, ro
 ghost use Rattle.clap.specs.declared.builder.command.Command.{Command as Cmd};
 ghost use Rattle.clap.specs.declared.builder.command.Command.TheViews.{out-Command as fields_of};
 
+use crate::bench_line::{Diff, Expect, diff_command, diff_of, expect_command, expect_of};
+use crate::draw::{Draw, draw_command, draw_of};
 use clap::builder::ValueParser;
 use clap::error::ErrorKind;
 use clap::{Arg, ArgAction, ArgMatches, Command, Error};
@@ -20,7 +22,7 @@ use fb_types::{Form, LATEST_TICK, MOST_STEPS, MOST_WORKERS};
 use std::alloc::{AllocError, Global};
 
 /// One call of the program: its subcommand with the file names, numbers and flags.
-#[derive(Clone, Copy)]
+#[derive(Drop)]
 pub enum Call<'a> {
     /// Explains what the refusal of this name means, as `E21`.
     Explain(&'a str),
@@ -28,6 +30,12 @@ pub enum Call<'a> {
     Task(Task<'a>),
     /// Shows a trace as waveforms.
     Wave(Wave<'a>),
+    /// Holds rules against traces.
+    Expect(Expect<'a>),
+    /// Compares two traces.
+    Diff(Diff<'a>),
+    /// Draws what is declared.
+    Draw(Draw<'a>),
 }
 
 /// A trace to be shown as waveforms, and what it is a trace of.
@@ -129,7 +137,7 @@ const EXPLAIN_ABOUT: &str =
 const EXPLAIN_EXAMPLE: &str = "Example: fbsim explain E21";
 
 const NAME_HELP: &str =
-    "The name of the refusal in its line, E01 to E30; or \"file fault\", as one word.";
+    "The name of the refusal in its line, E01 to E45; or \"file fault\", as one word.";
 
 const DECLARATION_HELP: &str =
     "The file with the declaration of the types and the application, at most 1 MiB; `-` is standard input, here and below.";
@@ -167,7 +175,7 @@ const WHY_HELP: &str =
 const FORM_WORDS: &[&str] = &["1", "2"];
 
 /// An argument that has to be there, by its place among the words.
-fn required<'a>(alloc: Global, id: &'a str, help: &'a str) -> Arg<'a>
+pub(crate) fn required<'a>(alloc: Global, id: &'a str, help: &'a str) -> Arg<'a>
     ensures rule { rule_of result ≡ spec.required id.entry.now }
     ensures local { result.global ≡ false }
 {
@@ -175,7 +183,7 @@ fn required<'a>(alloc: Global, id: &'a str, help: &'a str) -> Arg<'a>
 }
 
 /// An option that takes a value, as the name of a file.
-fn option<'a>(alloc: Global, id: &'a str, help: &'a str) -> Arg<'a>
+pub(crate) fn option<'a>(alloc: Global, id: &'a str, help: &'a str) -> Arg<'a>
     ensures rule { rule_of result ≡ spec.file id.entry.now }
     ensures local { result.global ≡ false }
 {
@@ -191,7 +199,7 @@ fn limited<'a>(alloc: Global, id: &'a str, values: ValueParser<'a>, help: &'a st
 }
 
 /// An option without a value, which is there or is not.
-fn flag<'a>(alloc: Global, id: &'a str, help: &'a str) -> Arg<'a>
+pub(crate) fn flag<'a>(alloc: Global, id: &'a str, help: &'a str) -> Arg<'a>
     ensures rule { rule_of result ≡ spec.flag id.entry.now }
     ensures local { result.global ≡ false }
 {
@@ -199,7 +207,7 @@ fn flag<'a>(alloc: Global, id: &'a str, help: &'a str) -> Arg<'a>
 }
 
 /// The command with one more argument, where it could be made.
-fn with_arg<'a>(
+pub(crate) fn with_arg<'a>(
     command: Result<Command<'a>, AllocError>,
     arg: Arg<'a>,
 ) -> Result<Command<'a>, AllocError>
@@ -216,7 +224,7 @@ fn with_arg<'a>(
 }
 
 /// A command with an argument that has to be there, and what the help says of both.
-fn begun<'a>(
+pub(crate) fn begun<'a>(
     alloc: Global,
     name: &'a str,
     about: &'a str,
@@ -234,7 +242,7 @@ fn begun<'a>(
 }
 
 /// A command with the names of a declaration and of its deployment, and what the help says of it.
-fn deployed<'a>(
+pub(crate) fn deployed<'a>(
     alloc: Global,
     name: &'a str,
     about: &'a str,
@@ -360,6 +368,9 @@ fn simulator<'a>(alloc: Global, forms: ValueParser<'a>) -> Result<Command<'a>, A
     let command = with_subcommand(Ok(command), run(alloc, forms));
     let command = with_subcommand(command, files(alloc, "check", CHECK_ABOUT, CHECK_EXAMPLE));
     let command = with_subcommand(command, wave_command(alloc));
+    let command = with_subcommand(command, expect_command(alloc));
+    let command = with_subcommand(command, diff_command(alloc));
+    let command = with_subcommand(command, draw_command(alloc));
     with_subcommand(command, explain(alloc))
 }
 
@@ -371,7 +382,7 @@ fn number(found: &ArgMatches<'_>, id: &str) -> Option<u64>
 }
 
 /// Whether an option without a value is there.
-fn has_flag(found: &ArgMatches<'_>, id: &str) -> bool
+pub(crate) fn has_flag(found: &ArgMatches<'_>, id: &str) -> bool
     ensures { IsFlag (rows_of (found_of found.now)) id.now result }
 {
     let Some(word) = found.get_str(id) else {
@@ -465,15 +476,22 @@ fn explain_of<'a>(found: &ArgMatches<'a>) -> Option<Call<'a>>
     Some(Call::Explain(found.get_str("NAME")?))
 }
 
-fn call_of<'a>(name: &str, found: &ArgMatches<'a>) -> Option<Call<'a>>
-    ensures name { IfSome result (λ r. name.now ≡ call_name r) }
-    ensures rows { IfSome result (λ r. IsCall (rows_of (found_of found.now)) r) }
-    ensures none { IfNone result ((r : Call) → name.now ≡ call_name r → IsCall (rows_of (found_of found.now)) r → ⊥) }
+fn call_of<'a>(
+    alloc: Global,
+    name: &str,
+    found: &ArgMatches<'a>,
+) -> Result<Option<Call<'a>>, AllocError>
+    ensures name { IfOk result (λ o. IfSome o (λ r. name.now ≡ call_name r)) }
+    ensures rows { IfOk result (λ o. IfSome o (IsCall (rows_of (found_of found.now)))) }
+    ensures none { IfOk result (λ o. IfNone o ((r : Call) → name.now ≡ call_name r → IsCall (rows_of (found_of found.now)) r → ⊥)) }
 {
     match name {
-        "explain" => explain_of(found),
-        "wave" => wave_of(found),
-        _ => task_of(name, found),
+        "explain" => Ok(explain_of(found)),
+        "wave" => Ok(wave_of(found)),
+        "expect" => expect_of(alloc, found),
+        "diff" => Ok(diff_of(found)),
+        "draw" => Ok(draw_of(found)),
+        _ => Ok(task_of(name, found)),
     }
 }
 
@@ -501,7 +519,7 @@ fn call_in<'a>(alloc: Global, matches: &ArgMatches<'a>) -> Result<Call<'a>, Line
     ensures help { IfErr result (λ e. ¬ (IsHelp e)) }
 {
     if let Some((name, found)) = matches.subcommand() {
-        if let Some(call) = call_of(name, found) {
+        if let Some(call) = call_of(alloc, name, found)? {
             return Ok(call);
         }
     }

@@ -47,11 +47,10 @@ fn name_of<'a>(task: &Task<'a>, part: Part) -> Option<&'a str>
     }
 }
 
-/// The note to a file of this name. Without memory for it there is none.
-fn note_of_name(alloc: Global, part: Part, name: &str) -> Option<String>
-    ensures { IfSome result (λ note. IsNoteOfName part name.now (string_bytes note)) }
+/// The note to a file of this name, which is called so. Without memory for it there is none.
+pub(crate) fn note_of_name(alloc: Global, word: &str, name: &str) -> Option<String>
+    ensures { IfSome result (λ note. IsNoteOfName word.now name.now (string_bytes note)) }
 {
-    let word = word_for(part);
     let matter = words_for(name);
     match format!(in alloc; "{word} {name}: {matter}") {
         Ok(note) => Some(note),
@@ -70,11 +69,12 @@ pub fn note_of_file(alloc: Global, task: &Task<'_>, unread: Unread) -> Option<St
         return None;
     }
     let name = name_of(task, unread.part)?;
-    Some(note_of_name(alloc, unread.part, name)?)
+    let word = word_for(unread.part);
+    Some(note_of_name(alloc, word, name)?)
 }
 
 /// The number of a refusal of the inputs.
-fn number_of(failure: &Failure) -> Option<u8>
+pub(crate) fn number_of(failure: &Failure) -> Option<u8>
     ensures { result ≡ number_of failure.now }
 {
     match failure {
@@ -85,7 +85,7 @@ fn number_of(failure: &Failure) -> Option<u8>
 }
 
 /// The place at which the refusal of this number applies. Without memory for it there is none.
-fn note_of_number(alloc: Global, number: u8, texts: &Texts) -> Option<String>
+pub(crate) fn note_of_number(alloc: Global, number: u8, texts: &Texts) -> Option<String>
     ensures { IfSome result (λ note. IsNoteOfNumber (given_of texts.now) number (string_bytes note)) }
 {
     let declaration = texts.declaration.as_slice();

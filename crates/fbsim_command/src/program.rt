@@ -2,14 +2,16 @@
 
 ghost use Rattle.std.specs.Io.KnownBytes.{Appends};
 ghost use Rattle.std.specs.Prelude.{◌≡◌, ◌++◌, ℕ, List, [], Option, None, false, true, map, option_map, Result, IfOk, IfErr, IsTrue, OnOk, string_bytes};
-ghost use Rattle.fb_sim.specs.Reports.{AreReports, Hears};
-ghost use Rattle.fbsim_command.specs.Command.{Checks, Does, ExplainsRefusal, IsDoneOf, Meets, NotesOf, Performs, Reports, Runs, is_ended};
+ghost use Rattle.fb_sim.specs.Reports.{Hears};
+ghost use Rattle.fbsim_command.specs.Command.{Checks, Does, ExplainsRefusal, IsDoneOf, Meets, NotesOf, Performs, Reports, ReportsOn, Runs};
 ghost use Rattle.fbsim_command.specs.Texts.{given_of};
 ghost use Rattle.fbsim_command.specs.Failures.{WritesPart, explained_text, status_of, told, told_of};
 ghost use Rattle.fbsim_command.specs.declared.failure.Failure.{Failure};
 ghost use Rattle.fbsim_command.specs.declared.statuses.Done.{Done};
 ghost use Rattle.fbsim_command.specs.declared.statuses.Done.TheVariants.{Helped};
 
+use crate::draw::show_graph;
+use crate::expect::{diff, expect};
 use crate::failure::Failure;
 use crate::line::{Action, Call, LineFault, Task, parse};
 use crate::notes::{note_of, note_of_file};
@@ -73,7 +75,7 @@ fn run_and_tell<R: Threads + Wait + Sync, W: Write, E: Write>(
     err: &mut E,
 ) -> (Result<Done, Failure>, bool)
     ensures run { Runs false inputs.now options (W.contents out.old) (W.contents out.new) result.0 }
-    ensures told { (reports : List ℕ) × AreReports inputs.now options (is_ended result.0) reports × Hears result.1 (E.contents err.old) (E.contents err.new) reports }
+    ensures told { (reports : List ℕ) × ReportsOn false true inputs.now options (W.contents out.old) (W.contents out.new) result.0 reports × Hears result.1 (E.contents err.old) (E.contents err.new) reports }
 {
     let ReportedRun { end, is_heard } = run_with_progress(rt, alloc, inputs, options, out, err);
     match end {
@@ -114,7 +116,7 @@ fn meet<R: Threads + Wait + Sync, W: Write, E: Write>(
     err: &mut E,
 ) -> (Result<Done, Failure>, bool)
     ensures done { Meets (given_of texts.now) action (W.contents out.old) (W.contents out.new) result.0 }
-    ensures told { (reports : List ℕ) × Reports (given_of texts.now) action result.0 reports × Hears result.1 (E.contents err.old) (E.contents err.new) reports }
+    ensures told { (reports : List ℕ) × Reports (given_of texts.now) action (W.contents out.old) (W.contents out.new) result.0 reports × Hears result.1 (E.contents err.old) (E.contents err.new) reports }
 {
     let inputs = texts.inputs();
     match action {
@@ -242,6 +244,16 @@ fn obey<'w, R: Threads + Wait + Sync, S: Source + Streams, W: Write, E: Write>(
         Ok(Call::Task(task)) => perform(rt, alloc, &task, source, out, err),
         Ok(Call::Explain(name)) => ended(explain_to(alloc, name, out)),
         Ok(Call::Wave(wave)) => ended(show(alloc, &wave, source, out)),
+        Ok(Call::Expect(call)) => {
+            let (end, note) = expect(alloc, &call, source, out);
+            Answer {
+                end,
+                is_heard: true,
+                note,
+            }
+        }
+        Ok(Call::Diff(call)) => ended(diff(alloc, &call, source, out)),
+        Ok(Call::Draw(call)) => ended(show_graph(alloc, &call, source, out)),
         Err(LineFault::Help(text)) => ended(help_to(text.as_str(), out)),
         Err(LineFault::Fault(text)) => ended(Err(Failure::Line(text))),
         Err(LineFault::Memory) => ended(Err(Failure::Memory)),

@@ -14,12 +14,20 @@ pub enum Done {
     Explained,
     /// The declaration is accepted.
     Accepted,
-    /// The waveforms of a trace are written.
+    /// The waveforms of a trace are written, or a graph.
     Shown,
     /// The run came to its horizon.
     Ended,
     /// A resource stopped before.
     Stopped,
+    /// Rules were held against traces, and none breaks.
+    Met,
+    /// A rule breaks.
+    Unmet,
+    /// Two traces are the same.
+    Same,
+    /// Two traces differ.
+    Different,
 }
 
 /// What the program ends with.
@@ -38,8 +46,9 @@ pub fn status(end: &Result<Done, Failure>) -> u8
 {
     match end {
         Ok(Done::Helped | Done::Explained | Done::Accepted | Done::Shown | Done::Ended) => 0,
-        Ok(Done::Stopped) => 1,
-        Err(Failure::Refused(_)) => 2,
+        Ok(Done::Met | Done::Same) => 0,
+        Ok(Done::Stopped | Done::Unmet | Done::Different) => 1,
+        Err(Failure::Refused(_) | Failure::RefusedTrace(_)) => 2,
         Err(Failure::File | Failure::Write(_)) => 3,
         Err(Failure::Memory) => 4,
         Err(Failure::Line(_) | Failure::BadOption) => 5,

@@ -14,4 +14,7 @@ returns c =
     let runs = joined_on _ _ _ _ _ c.with_subcommand-command.ensures top (stands_well _ _ c.run.ensures.app c.run.ensures.globals) in
     let checks = joined_on _ _ _ _ _ c.with_subcommand-command-2.ensures runs (stands_well _ _ c.files.ensures.app c.files.ensures.globals) in
     let shows = joined_on _ _ _ _ _ c.with_subcommand-command-3.ensures checks (stands_well _ _ c.wave_command.ensures.app c.wave_command.ensures.globals) in
-    joined_on _ _ _ _ _ c.with_subcommand.ensures shows (stands_well _ _ c.explain.ensures.app c.explain.ensures.globals)
+    let holds = joined_on _ _ _ _ _ c.with_subcommand-command-4.ensures shows (stands_well _ _ c.expect_command.ensures.app c.expect_command.ensures.globals) in
+    let compares = joined_on _ _ _ _ _ c.with_subcommand-command-5.ensures holds (stands_well _ _ c.diff_command.ensures.app c.diff_command.ensures.globals) in
+    let draws = joined_on _ _ _ _ _ c.with_subcommand-command-6.ensures compares (stands_well _ _ c.draw_command.ensures.app c.draw_command.ensures.globals) in
+    joined_on _ _ _ _ _ c.with_subcommand.ensures draws (stands_well _ _ c.explain.ensures.app c.explain.ensures.globals)

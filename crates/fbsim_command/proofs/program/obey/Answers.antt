@@ -1,4 +1,4 @@
-use Rattle.std.proofs.Common.{Bor, List, ℕ, Option, Err, map, inl, inr, refl, sym, subst}
+use Rattle.std.proofs.Common.{Bor, List, [], ℕ, Option, Err, map, inl, inr, refl, sym, subst}
 use Rattle.clap.specs.Words.{Text}
 use Rattle.fbsim_command.specs.Line.{AreCall, IsFault, IsHelp}
 use Rattle.fbsim_command.specs.declared.line.LineFault.{LineFault}
@@ -6,7 +6,7 @@ use Rattle.fbsim_command.specs.declared.line.Call.{Call}
 use Rattle.fbsim_command.specs.Command.{Does}
 use Rattle.fbsim_command.specs.Outcomes.{End}
 use Rattle.fbsim_command.specs.declared.failure.Failure.TheVariants.{Line, Memory}
-use Rattle.fbsim_command.proofs.Reporting.{ended_so, helped}
+use Rattle.fbsim_command.proofs.Reporting.{ended_so, helped, quiet}
 use Rattle.fbsim_command.proofs.program.obey.Goals as goal
 
 pub returns-in-Ok-Task : goal.returns-in-Ok-Task
@@ -36,6 +36,32 @@ returns-in-Ok-Wave g c =
     (λ (end : End) (reports : Text) (note : Option Text). Does g.S.Source.gives g.S.Streams.opens c.args.source.now c.show.new.source words old new end reports note)
     (inr (inl (c.in-Ok-Wave.wave, asked, c.in-Ok-Wave.ensures.taken, c.show.ensures, refl, refl)))
 
+pub returns-in-Ok-Expect : goal.returns-in-Ok-Expect
+returns-in-Ok-Expect g c =
+    let words = map (λ (w : Bor (List ℕ)). w.now) c.args.words.now in
+    let asked = subst (λ (r : Call). AreCall words r) c.in-Ok-Expect.field-0-is c.in-Ok-Expect.ensures.call in
+    ([], quiet (g.E.Write.contents c.args.err.now), inr (inr (inr (inl (c.in-Ok-Expect.call, asked, c.in-Ok-Expect.ensures.taken, c.expect-end.ensures, refl)))))
+
+pub returns-in-Ok-Diff : goal.returns-in-Ok-Diff
+returns-in-Ok-Diff g c =
+    let words = map (λ (w : Bor (List ℕ)). w.now) c.args.words.now in
+    let old = g.W.Write.contents c.args.out.now in
+    let new = g.W.Write.contents c.diff.new.out in
+    let asked = subst (λ (r : Call). AreCall words r) c.in-Ok-Diff.field-0-is c.in-Ok-Diff.ensures.call in
+    ended_so c.ended-in-Ok-Diff.result c.diff.result c.ended-in-Ok-Diff.ensures (g.E.Write.contents c.args.err.now)
+    (λ (end : End) (reports : Text) (note : Option Text). Does g.S.Source.gives g.S.Streams.opens c.args.source.now c.diff.new.source words old new end reports note)
+    (inr (inr (inr (inr (inl (c.in-Ok-Diff.call, asked, c.in-Ok-Diff.ensures.taken, c.diff.ensures, refl, refl))))))
+
+pub returns-in-Ok-Draw : goal.returns-in-Ok-Draw
+returns-in-Ok-Draw g c =
+    let words = map (λ (w : Bor (List ℕ)). w.now) c.args.words.now in
+    let old = g.W.Write.contents c.args.out.now in
+    let new = g.W.Write.contents c.show_graph.new.out in
+    let asked = subst (λ (r : Call). AreCall words r) c.in-Ok-Draw.field-0-is c.in-Ok-Draw.ensures.call in
+    ended_so c.ended-in-Ok-Draw.result c.show_graph.result c.ended-in-Ok-Draw.ensures (g.E.Write.contents c.args.err.now)
+    (λ (end : End) (reports : Text) (note : Option Text). Does g.S.Source.gives g.S.Streams.opens c.args.source.now c.show_graph.new.source words old new end reports note)
+    (inr (inr (inr (inr (inr (inl (c.in-Ok-Draw.call, asked, c.in-Ok-Draw.ensures.taken, c.show_graph.ensures, refl, refl)))))))
+
 pub returns-in-Err-Help : goal.returns-in-Err-Help
 returns-in-Err-Help g c =
     let words = map (λ (w : Bor (List ℕ)). w.now) c.args.words.now in
@@ -45,7 +71,7 @@ returns-in-Err-Help g c =
     let help : IsHelp c.in-Err-Help.field-0 = subst (λ (x : LineFault). IsHelp x) (sym c.in-Err-Help.field-0-is) tt in
     ended_so c.ended-in-Err-Help.result c.help_to.result c.ended-in-Err-Help.ensures (g.E.Write.contents c.args.err.now)
     (λ (end : End) (reports : Text) (note : Option Text). Does g.S.Source.gives g.S.Streams.opens source source words old new end reports note)
-    (inr (inr (inr (helped words old new c.as_str.result.now (c.in-Err-Help.ensures.help help) c.help_to.result c.help_to.ensures.whole c.help_to.ensures.part, (refl, refl, refl)))))
+    (inr (inr (inr (inr (inr (inr (helped words old new c.as_str.result.now (c.in-Err-Help.ensures.help help) c.help_to.result c.help_to.ensures.whole c.help_to.ensures.part, (refl, refl, refl))))))))
 
 pub returns-in-Err-Fault : goal.returns-in-Err-Fault
 returns-in-Err-Fault g c =
@@ -55,7 +81,7 @@ returns-in-Err-Fault g c =
     let fault : IsFault c.in-Err-Fault.field-0 = subst (λ (x : LineFault). IsFault x) (sym c.in-Err-Fault.field-0-is) tt in
     ended_so c.ended-in-Err-Fault.result (Err (Line _)) c.ended-in-Err-Fault.ensures (g.E.Write.contents c.args.err.now)
     (λ (end : End) (reports : Text) (note : Option Text). Does g.S.Source.gives g.S.Streams.opens source source words old old end reports note)
-    (inr (inr (inr ((c.in-Err-Fault.ensures.none fault, refl), (refl, refl, refl)))))
+    (inr (inr (inr (inr (inr (inr ((c.in-Err-Fault.ensures.none fault, refl), (refl, refl, refl))))))))
 
 pub returns-in-Err-Memory : goal.returns-in-Err-Memory
 returns-in-Err-Memory g c =
@@ -64,4 +90,4 @@ returns-in-Err-Memory g c =
     let old = g.W.Write.contents c.args.out.now in
     ended_so c.ended-in-Err-Memory.result (Err Memory) c.ended-in-Err-Memory.ensures (g.E.Write.contents c.args.err.now)
     (λ (end : End) (reports : Text) (note : Option Text). Does g.S.Source.gives g.S.Streams.opens source source words old old end reports note)
-    (inr (inr (inr (refl, (refl, refl, refl)))))
+    (inr (inr (inr (inr (inr (inr (refl, (refl, refl, refl))))))))

@@ -1,0 +1,166 @@
+-- Rules along the events of a trace.
+use Rattle.std.proofs.Common.{◌≡◌, ℕ, suc, zero, ◌+◌, ◌<◌, ◌≤◌, List, [], ◌∷◌, ◌++◌, length, get_or, set, take, refl, sym, ap, subst, ◌∙◌, arith, inl, inr}
+use Rattle.std.proofs.lemmas.Bool.{cases_eq}
+use Rattle.std.proofs.Math.ListN.{length-set}
+use Rattle.std.proofs.lemmas.List.{get_or-set_other, get_or-set_same, length-map, map-append, take_more}
+use Rattle.std.proofs.lemmas.List.Elements.{All-push}
+use Rattle.fb_expect.specs.Events.{Event}
+use Rattle.fb_expect.specs.Hits.{hit_of, hits_of}
+use Rattle.fb_expect.specs.Passing.{Covers}
+use Rattle.fb_expect.specs.Judging.{AllFollow, AreJudged, Follows, IsJudged, Moves, rules_of}
+use Rattle.fb_expect.specs.Sights.{sights_of}
+use Rattle.fb_expect.specs.Traces.{AreBelow, RiseFrom, last_tick, tick_of}
+use Rattle.fb_expect.specs.Watching.{Concludes, IsBelow, Knows, Steps}
+use Rattle.fb_expect.specs.declared.ending.End.{End}
+use Rattle.fb_expect.specs.declared.hit.Hit.{Hit}
+use Rattle.fb_expect.specs.declared.judging.Judged.{Judged}
+use Rattle.fb_expect.specs.declared.judging.Watcher.{Watcher}
+use Rattle.fb_expect.specs.declared.port_set.PortSet.{PortSet}
+use Rattle.fb_expect.specs.declared.rule.Rule.{Rule}
+use Rattle.fb_expect.specs.declared.verdict.Verdict.{Verdict}
+
+-- no hit is of a later tick where no event is
+pub below-hits : (r : Rule) (es : List Event) (t : ℕ) → AreBelow es t → IsBelow (hits_of r es) t
+below-hits r [] t are i = omega arith
+below-hits r (e ∷ es) t are zero = are 0 e (omega arith)
+below-hits r (e ∷ es) t are (suc i) = below-hits r es t (λ k d lt. are (suc k) d (omega arith)) i
+
+hits-more : (r : Rule) (es : List Event) (e : Event) → hits_of r (es ++ e ∷ []) ≡ hits_of r es ++ hit_of r e ∷ []
+hits-more r [] e = refl
+hits-more r (x ∷ es) e = ap (λ (hs : List Hit). hit_of r x ∷ hs) (hits-more r es e)
+
+-- one more event
+pub moves :
+    (number : ℕ) (e : Event) (old new : Watcher) (hit : Hit) → new.rule ≡ old.rule → new.ports ≡ old.ports → hit ≡ hit_of old.rule.now e
+    → Steps old.rule.now.need old.watch number hit new.watch
+    → ((es : List Event) → old.sights ≡ sights_of old.rule.now es → new.sights ≡ sights_of old.rule.now (es ++ e ∷ []))
+    → Moves number e old new
+moves number e old new hit same ports is steps sees =
+    record {
+      rule = same;
+      follows = λ es counted below f.
+          (let r = old.rule.now in
+          let long : number ≡ length (hits_of r es) + 1 = omega (arith, counted, length-map es (hit_of r)) in
+          let low : IsBelow (hits_of r es) hit.tick = subst (λ (h : Hit). IsBelow (hits_of r es) h.tick) (sym is) (below-hits r es e.tick below) in
+          let knows : Knows r.need (hits_of r es ++ hit ∷ []) new.watch = steps (hits_of r es) long low f.knows in
+          let hits : hits_of r es ++ hit ∷ [] ≡ hits_of r (es ++ e ∷ []) =
+          ap (λ (h : Hit). hits_of r es ++ h ∷ []) is ∙ sym (hits-more r es e)
+          in
+          turned es (record {
+            knows = subst (λ (hs : List Hit). Knows r.need hs new.watch) hits knows;
+            saw = sees es f.saw;
+            covers = subst (λ (s : PortSet). Covers s.marks r) (sym ports) f.covers;
+          }));
+    }
+  where
+    turned : (es : List Event) → Follows (es ++ e ∷ []) (record new { rule = old.rule }) → Follows (es ++ e ∷ []) new
+    turned es f = subst (λ w. Follows (es ++ e ∷ []) (record new { rule = w })) (sym same) f
+
+-- ---- The end
+
+pub concluded :
+    (number : ℕ) (end : End) (w : Watcher) (v : Verdict) → Concludes w.rule.now.need w.watch number end v → (es : List Event) → number ≡ length es + 1
+    → AreBelow es (tick_of end) → Follows es w → IsJudged es end w.rule.now (record { verdict = v; sights = w.sights })
+concluded number end w v ends es counted below f =
+    let r = w.rule.now in
+    record {
+      verdict = ends (hits_of r es) (omega (arith, counted, length-map es (hit_of r))) (below-hits r es (tick_of end) below) f.knows;
+      sights = f.saw;
+    }
+
+-- ---- Ticks
+
+pub all-below : (t : ℕ) (es : List Event) → RiseFrom t es → AreBelow es (last_tick t es)
+all-below t [] rise k d lt = absurd (omega arith)
+all-below t (e ∷ es) rise zero d lt = first-below e.tick es rise.1
+  where
+    first-below : (u : ℕ) (xs : List Event) → RiseFrom u xs → u ≤ last_tick u xs
+    first-below u [] r = omega arith
+    first-below u (x ∷ xs) r = let le = r.0 in let more = first-below x.tick xs r.1 in omega arith
+all-below t (e ∷ es) rise (suc k) d lt = all-below e.tick es rise.1 k d (omega arith)
+
+pub below-later : (es : List Event) (s t : ℕ) → s ≤ t → AreBelow es s → AreBelow es t
+below-later es s t le are k d lt = let low = are k d lt in omega arith
+
+pub rise-one : (t : ℕ) (es : List Event) (e : Event) → RiseFrom t es → last_tick t es ≤ e.tick → RiseFrom t (es ++ e ∷ [])
+rise-one t [] e rise more = (more, tt)
+rise-one t (x ∷ es) e rise more = (rise.0, rise-one x.tick es e rise.1 more)
+
+pub last-one : (t : ℕ) (es : List Event) (e : Event) → last_tick t (es ++ e ∷ []) ≡ e.tick
+last-one t [] e = refl
+last-one t (x ∷ es) e = last-one x.tick es e
+
+-- ---- Rules one after another
+
+pub judged-one : (es : List Event) (end : End) (rs : List Rule) (js : List Judged) (r : Rule) (j : Judged) → AreJudged es end rs js → IsJudged es end r j → AreJudged es end (rs ++ r ∷ []) (js ++ j ∷ [])
+judged-one es end [] [] r j are is = (is, tt)
+judged-one es end [] (k ∷ js) r j are is = absurd are
+judged-one es end (s ∷ rs) [] r j are is = absurd are
+judged-one es end (s ∷ rs) (k ∷ js) r j (one, more) is = (one, judged-one es end rs js r j more is)
+
+-- rules before a place follow the events with one more, and the others those before it
+abbrev pub AreAt : (es fs : List Event) → ℕ → List Watcher → Type 0
+AreAt es fs i ws = (k : ℕ) (d : Watcher) → k < length ws → (k < i → Follows fs (get_or ws k d)) × (i ≤ k → Follows es (get_or ws k d))
+
+pub at-none : (es fs : List Event) (ws : List Watcher) → AllFollow es ws → AreAt es fs 0 ws
+at-none es fs ws all k d lt = (λ less. absurd (omega arith), λ _. all k d lt)
+
+pub at-all : (es fs : List Event) (i : ℕ) (ws : List Watcher) → length ws ≤ i → AreAt es fs i ws → AllFollow fs ws
+at-all es fs i ws le at k d lt = (at k d lt).0 (omega arith)
+
+pub at-one :
+    (number : ℕ) (e : Event) (es : List Event) (ws : List Watcher) (i : ℕ) (d new : Watcher) → i < length ws → Moves number e (get_or ws i d) new
+    → number ≡ length es + 1 → AreBelow es e.tick → AreAt es (es ++ e ∷ []) i ws → AreAt es (es ++ e ∷ []) (i + 1) (set ws i new)
+at-one number e es ws i d new within moves counted below at k d' lt =
+    let long : length (set ws i new) ≡ length ws = length-set ws i new in
+    elim (cases_eq k i) as (λ _. (k < i + 1 → Follows (es ++ e ∷ []) (get_or (set ws i new) k d')) × (i + 1 ≤ k → Follows es (get_or (set ws i new) k d'))) [
+      | inl same ↦
+          (let here : get_or (set ws i new) k d' ≡ new = ap (λ (n : ℕ). get_or (set ws i new) n d') same ∙ get_or-set_same ws i new d' within in
+          let was : Follows es (get_or ws i d) = (at i d within).1 (omega arith) in
+          (λ _. subst (λ (w : Watcher). Follows (es ++ e ∷ []) w) (sym here) (moves.follows es counted below was), λ more. absurd (omega arith)))
+      | inr other ↦
+          (let there : get_or (set ws i new) k d' ≡ get_or ws k d' = get_or-set_other ws i k new d' other in
+          let both = at k d' (omega (arith, long, lt)) in (
+            λ less. subst (λ (w : Watcher). Follows (es ++ e ∷ []) w) (sym there) (both.0 (omega arith)),
+            λ more. subst (λ (w : Watcher). Follows es w) (sym there) (both.1 (omega arith)),
+          ))
+    ]
+
+-- ---- Before the first line
+
+pub begun-one :
+    (ws vs : List Watcher) (rules : List Rule) (i : ℕ) (d : Rule) (w : Watcher) → i < length rules → w.rule.now ≡ get_or rules i d → rules_of ws ≡ take i rules
+    → vs ≡ ws ++ w ∷ [] → rules_of vs ≡ take (i + 1) rules
+begun-one ws vs rules i d w lt is are more =
+    ap rules_of more ∙ map-append (λ (x : Watcher). x.rule.now) ws (w ∷ []) ∙ ap (λ (rs : List Rule). rs ++ w.rule.now ∷ []) are
+    ∙ ap (λ (r : Rule). take i rules ++ r ∷ []) is ∙ sym (take_more rules i d lt)
+
+pub all-one : (es : List Event) (ws vs : List Watcher) (w : Watcher) → vs ≡ ws ++ w ∷ [] → AllFollow es ws → Follows es w → AllFollow es vs
+all-one es ws vs w more all one = subst (λ (xs : List Watcher). AllFollow es xs) (sym more) (All-push (Follows es) ws w all one)
+
+-- ---- Written back
+
+pub front : (new more : List Watcher) (n : ℕ) → length new ≡ n → take n (new ++ more) ≡ new
+front new more n long = subst (λ (k : ℕ). take k (new ++ more) ≡ new) long (seam new)
+  where
+    seam : (ws : List Watcher) → take (length ws) (ws ++ more) ≡ ws
+    seam [] = refl
+    seam (w ∷ ws) = ap (λ (vs : List Watcher). w ∷ vs) (seam ws)
+
+-- the rules are as many as before
+pub as-many : (new old : List Watcher) (n : ℕ) → rules_of new ≡ rules_of old → length old ≡ n → length new ≡ n
+as-many new old n same long =
+    sym (length-map new (λ (w : Watcher). w.rule.now)) ∙ ap length same ∙ length-map old (λ (w : Watcher). w.rule.now) ∙ long
+
+-- ---- At the end
+
+pub concluded-one :
+    (es : List Event) (end : End) (ws : List Watcher) (js new : List Judged) (i : ℕ) (d : Watcher) (j : Judged) → i < length ws → new ≡ js ++ j ∷ []
+    → AreJudged es end (rules_of (take i ws)) js → IsJudged es end (get_or ws i d).rule.now j → AreJudged es end (rules_of (take (i + 1) ws)) new
+concluded-one es end ws js new i d j lt more are is =
+    let rules : rules_of (take (i + 1) ws) ≡ rules_of (take i ws) ++ (get_or ws i d).rule.now ∷ [] =
+    ap rules_of (take_more ws i d lt) ∙ map-append (λ (x : Watcher). x.rule.now) (take i ws) (get_or ws i d ∷ [])
+    in
+    subst (λ (rs : List Rule). AreJudged es end rs new) (sym rules)
+    (subst (λ (xs : List Judged). AreJudged es end (rules_of (take i ws) ++ (get_or ws i d).rule.now ∷ []) xs) (sym more)
+    (judged-one es end (rules_of (take i ws)) js (get_or ws i d).rule.now j are is))

@@ -1,0 +1,33 @@
+use Rattle.std.proofs.Common.{◌≡◌, ◌+◌, List, [], ◌∷◌, ◌++◌, length, map, drop, sym, ap, ◌∙◌, subst, arith}
+use Rattle.std.proofs.lemmas.List.{length-map, length-drop, map-append}
+use Rattle.toml.specs.View.{view}
+use Rattle.fb_expect.specs.Drafts.{RuleText, rule_text, text_of}
+use Rattle.fb_expect.specs.Lists.{each}
+use Rattle.fb_expect.proofs.Each.{done, fails, front_none, more, next_seen, with_front}
+use Rattle.fb_expect.proofs.document.each_draft.Goals as goal
+
+pub loop-value-init : goal.loop-value-init
+loop-value-init c =
+    front_none (each rule_text (map view c.args.values.now))
+    ∙ ap (λ (ds : List RuleText). with_front ds (each rule_text (map view c.args.values.now))) (ap (map text_of) (sym c.in_ok-drafts.ensures.items))
+
+pub loop-value-preserved : goal.loop-value-preserved
+loop-value-preserved c =
+    let vs = c.args.values.now in
+    let i = c.loop-value.value-index in
+    let next = next_seen view vs i c.value-item.result c.loop-value-test.true c.value-item.is in
+    let grown = ap (map text_of) c.in_ok-push-in-Some.ensures.items ∙ map-append text_of c.loop-value.drafts.items (c.in-Some.draft ∷ []) in
+    subst (λ (ds : List RuleText). each rule_text (map view vs) ≡ with_front ds (each rule_text (map view (drop (i + 1) vs)))) (sym grown)
+    (more rule_text (map text_of c.loop-value.drafts.items) (view c.value-item.result) (map view (drop (i + 1) vs)) _ _ _ next (sym c.in-Some.ensures) c.loop-value.invariant)
+
+pub returns-in-None : goal.returns-in-None
+returns-in-None c =
+    let vs = c.args.values.now in
+    let i = c.loop-value.value-index in
+    let next = next_seen view vs i c.value-item.result c.loop-value-test.true c.value-item.is in
+    fails rule_text (map text_of c.loop-value.drafts.items) (view c.value-item.result) (map view (drop (i + 1) vs)) _ _ next (sym c.in-None.ensures) c.loop-value.invariant
+
+pub returns : goal.returns
+returns c =
+    done rule_text (map text_of c.loop-value.drafts.items) (map view (drop c.loop-value.value-index c.args.values.now)) _
+    (omega (arith, length-map (drop c.loop-value.value-index c.args.values.now) view, length-drop c.loop-value.value-index c.args.values.now)) c.loop-value.invariant

@@ -1,0 +1,24 @@
+use Rattle.std.proofs.Common.{[], length, ap, ◌∙◌, arith}
+use Rattle.std.proofs.lemmas.List.{take_all}
+use Rattle.fb_expect.specs.Judging.{rules_of}
+use Rattle.fb_expect.proofs.Following.{all-one, begun-one}
+use Rattle.fb_expect.proofs.judging.begun.Goals as goal
+
+pub loop-rule-init : goal.loop-rule-init
+loop-rule-init c =
+    let none = c.in_ok-watchers.ensures.items in
+    record { rules = ap rules_of none; follow = λ k d lt. (let long = ap length none in absurd (omega (arith, long, lt))) }
+
+pub loop-rule-preserved : goal.loop-rule-preserved
+loop-rule-preserved c =
+    let ws = c.loop-rule.watchers.items in
+    record {
+      rules = begun-one ws _ c.args.rules.now c.loop-rule.rule-index c.rule-item.result _ c.loop-rule-test.true c.rule-item.is c.loop-rule.invariant.rules c.in_ok-push.ensures.items;
+      follow = all-one [] ws _ _ c.in_ok-push.ensures.items c.loop-rule.invariant.follow (record { knows = c.begin.ensures; saw = c.begin_sights.ensures; covers = c.ports_of.ensures });
+    }
+
+pub returns-clause-rules : goal.returns-clause-rules
+returns-clause-rules c = c.loop-rule.invariant.rules ∙ take_all c.loop-rule.rule-index c.args.rules.now c.loop-rule-test.false
+
+pub returns-clause-follow : goal.returns-clause-follow
+returns-clause-follow c = c.loop-rule.invariant.follow

@@ -1,0 +1,9 @@
+use Rattle.std.proofs.Common.{◌≡◌, [], take}
+use Rattle.fb_expect.specs.Judging.{AllFollow, rules_of}
+use Rattle.fb_expect.proofs.judging.begun.Given as goal
+
+abbrev pub invariant-loop-rule : goal.invariant-loop-rule
+invariant-loop-rule l = record {
+  rules : rules_of l.watchers.items ≡ take l.rule-index l.rules;
+  follow : AllFollow [] l.watchers.items;
+}

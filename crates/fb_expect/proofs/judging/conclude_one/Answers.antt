@@ -1,0 +1,5 @@
+use Rattle.fb_expect.proofs.Following.{concluded}
+use Rattle.fb_expect.proofs.judging.conclude_one.Goals as goal
+
+pub returns : goal.returns
+returns c = concluded c.args.number c.args.end c.args.watcher.now c.verdict_of.result c.verdict_of.ensures

@@ -1,0 +1,33 @@
+use Rattle.std.proofs.Common.{◌<◌, Bor, [], ◌∷◌, ◌++◌, length, refl, ap, ◌∙◌, arith}
+use Rattle.std.proofs.Math.Seq.{map-set_same}
+use Rattle.fb_expect.specs.Events.{event_of}
+use Rattle.fb_expect.specs.declared.judging.Watcher.{Watcher}
+use Rattle.fb_expect.specs.declared.rule.Rule.{Rule}
+use Rattle.fb_expect.proofs.Following.{at-all, at-none, at-one}
+use Rattle.fb_expect.proofs.judging.note.Goals as goal
+
+pub loop-watcher-init : goal.loop-watcher-init
+loop-watcher-init c =
+    record { rules = refl; moves = λ es counted below all. at-none es (es ++ event_of c.args.entry.now ∷ []) c.args.watchers.now all }
+
+pub loop-watcher-preserved : goal.loop-watcher-preserved
+loop-watcher-preserved c =
+    let ws = c.loop-watcher.watchers in
+    let i = c.loop-watcher.watcher-index in
+    let lt : i < length ws = omega (arith, c.loop-watcher-test.true, c.loop-watcher.auto.watchers) in
+    record {
+      rules =
+          map-set_same (λ (w : Watcher). w.rule.now) ws i c.next.new.watcher c.watcher-item.result (ap (λ (r : Bor Rule). r.now) c.next.ensures.rule)
+          ∙ c.loop-watcher.invariant.rules;
+      moves = λ es counted below all.
+          at-one c.args.number (event_of c.args.entry.now) es ws i c.watcher-item.result c.next.new.watcher lt c.next.ensures counted below
+          (c.loop-watcher.invariant.moves es counted below all);
+    }
+
+pub returns-clause-rules : goal.returns-clause-rules
+returns-clause-rules c = c.loop-watcher.invariant.rules
+
+pub returns-clause-moves : goal.returns-clause-moves
+returns-clause-moves c = λ es counted below all.
+    at-all es (es ++ event_of c.args.entry.now ∷ []) c.loop-watcher.watcher-index c.loop-watcher.watchers
+    (let long = c.loop-watcher.auto.watchers in let end = c.loop-watcher-test.false in omega (arith, long, end)) (c.loop-watcher.invariant.moves es counted below all)

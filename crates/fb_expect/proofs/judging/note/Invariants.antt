@@ -1,0 +1,14 @@
+use Rattle.std.proofs.Common.{◌≡◌, ◌+◌, List, [], ◌∷◌, ◌++◌, length}
+use Rattle.fb_expect.specs.Events.{Event, event_of}
+use Rattle.fb_expect.specs.Judging.{AllFollow, rules_of}
+use Rattle.fb_expect.specs.Traces.{AreBelow}
+use Rattle.fb_expect.proofs.Following.{AreAt}
+use Rattle.fb_expect.proofs.judging.note.Given as goal
+
+abbrev pub invariant-loop-watcher : goal.invariant-loop-watcher
+invariant-loop-watcher l = record {
+  rules : rules_of l.watchers ≡ rules_of l.fn.watchers;
+  moves :
+      (es : List Event) → l.number ≡ length es + 1 → AreBelow es l.entry.tick → AllFollow es l.fn.watchers
+      → AreAt es (es ++ event_of l.entry ∷ []) l.watcher-index l.watchers;
+}

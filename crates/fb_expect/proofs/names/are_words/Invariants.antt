@@ -1,0 +1,7 @@
+use Rattle.std.proofs.Common.{◌≡◌, drop}
+use Rattle.std.specs.List.{list_all}
+use Rattle.fb_expect.specs.Words.{is_word}
+use Rattle.fb_expect.proofs.names.are_words.Given as goal
+
+abbrev pub invariant-loop-byte : goal.invariant-loop-byte
+invariant-loop-byte l = list_all is_word l.text ≡ list_all is_word (drop l.byte-index l.text)

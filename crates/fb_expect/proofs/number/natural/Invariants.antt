@@ -1,0 +1,12 @@
+use Rattle.std.proofs.Common.{◌≡◌, ◌≤◌, take, drop}
+use Rattle.std.specs.List.{fold, list_all}
+use Rattle.std.specs.Char.{is_ascii_digit}
+use Rattle.fb_expect.specs.Words.{with_digit}
+use Rattle.fb_expect.proofs.number.natural.Given as goal
+
+abbrev pub invariant-loop-byte : goal.invariant-loop-byte
+invariant-loop-byte l = record {
+  sum : l.value ≡ fold with_digit 0 (take l.byte-index l.text);
+  small : l.value ≤ l.most;
+  digits : list_all is_ascii_digit (drop l.byte-index l.text) ≡ list_all is_ascii_digit l.text;
+}

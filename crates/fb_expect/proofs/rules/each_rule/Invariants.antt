@@ -1,0 +1,9 @@
+use Rattle.std.proofs.Common.{◌≡◌, drop, map}
+use Rattle.fb_expect.specs.Drafts.{text_of}
+use Rattle.fb_expect.specs.Lists.{each}
+use Rattle.fb_expect.specs.Needs.{rule_of}
+use Rattle.fb_expect.proofs.Each.{with_front}
+use Rattle.fb_expect.proofs.rules.each_rule.Given as goal
+
+abbrev pub invariant-loop-draft : goal.invariant-loop-draft
+invariant-loop-draft l = each rule_of (map text_of l.drafts) ≡ with_front l.rules (each rule_of (map text_of (drop l.draft-index l.drafts)))

@@ -1,0 +1,79 @@
+-- What comes of rules at a trace (this project's own).
+use Rattle.std.specs.Prelude.{◌≡◌, ℕ, ◌+◌, List, [], ◌∷◌, ◌++◌, length, map, All, Option, IfSome}
+use Rattle.std.specs.Io.KnownBytes.{Consumes}
+use Rattle.fb_types.specs.declared.run.Form.{Form}
+use Rattle.fb_expect.specs.Events.{Event}
+use Rattle.fb_expect.specs.Hits.{hits_of}
+use Rattle.fb_expect.specs.Passing.{Covers}
+use Rattle.fb_expect.specs.Rules.{IsVerdict}
+use Rattle.fb_expect.specs.Sights.{sights_of}
+use Rattle.fb_expect.specs.Lines.{IsOneLine}
+use Rattle.fb_expect.specs.Traces.{AreBelow, AreLines, IsTrace, RiseFrom, last_tick, tick_of}
+use Rattle.fb_expect.specs.Watching.{Knows}
+use Rattle.fb_expect.specs.Words.{Text}
+use Rattle.fb_expect.specs.declared.ending.End.{End}
+use Rattle.fb_expect.specs.declared.judging.Cut.{Cut}
+use Rattle.fb_expect.specs.declared.judging.Judged.{Judged}
+use Rattle.fb_expect.specs.declared.judging.Watcher.{Watcher}
+use Rattle.fb_expect.specs.declared.rule.Rule.{Rule}
+
+-- What came of a rule at the events of a trace with this end.
+pub record IsJudged (es : List Event) (end : End) (r : Rule) (j : Judged) : Type 0 where
+  pub verdict : IsVerdict r.need (hits_of r es) end j.verdict
+  pub sights : j.sights ≡ sights_of r es
+
+-- What came of each rule, in their order.
+abbrev pub AreJudged : List Event → End → List Rule → List Judged → Type 0
+AreJudged es end [] [] = Unit {0}
+AreJudged es end [] (j ∷ js) = ⊥
+AreJudged es end (r ∷ rs) [] = ⊥
+AreJudged es end (r ∷ rs) (j ∷ js) = IsJudged es end r j × AreJudged es end rs js
+
+-- The text is a trace, and this came of each rule.
+pub record Judges (cut : Cut) (text : Text) (rules : List Rule) (js : List Judged) : Type 0 where
+  pub events : List Event
+  pub end : End
+  pub trace : IsTrace cut text events end
+  pub judged : AreJudged events end rules js
+
+-- ---- While a trace is read
+
+-- What is known of a rule when these events were read.
+pub record Follows (es : List Event) (w : Watcher) : Type 0 where
+  pub knows : Knows w.rule.now.need (hits_of w.rule.now es) w.watch
+  pub saw : w.sights ≡ sights_of w.rule.now es
+  pub covers : Covers w.ports.marks w.rule.now
+
+abbrev pub rules_of : List Watcher → List Rule
+rules_of ws = map (λ w. w.rule.now) ws
+
+abbrev pub AllFollow : List Event → List Watcher → Type 0
+AllFollow es ws = All (Follows es) ws
+
+-- One more event follows those so far, in this line, and no tick falls.
+pub record Moves (number : ℕ) (e : Event) (old new : Watcher) : Type 0 where
+  pub rule : new.rule ≡ old.rule
+  pub follows : (es : List Event) → number ≡ length es + 1 → AreBelow es e.tick → Follows es old → Follows (es ++ e ∷ []) new
+
+abbrev pub AllMove : (number : ℕ) → Event → (old new : List Watcher) → Type 0
+AllMove number e old new = (es : List Event) → number ≡ length es + 1 → AreBelow es e.tick → AllFollow es old → AllFollow (es ++ e ∷ []) new
+
+-- All events of a trace were read, and its end stands in the line of this number.
+pub record IsFollowed (cut : Cut) (input : Option Text) (ws : List Watcher) (number : ℕ) (end : End) : Type 0 where
+  pub events : List Event
+  pub counted : number ≡ length events + 1
+  pub follow : AllFollow events ws
+  pub below : AreBelow events (tick_of end)
+  pub trace : IfSome input (λ text. IsTrace cut text events end)
+
+-- Events were read, and then the line of this number. The tick is that of the last event.
+pub record IsRead (form : Form) (input left : Option Text) (line : Text) (tick number : ℕ) (ws : List Watcher) : Type 0 where
+  pub events : List Event
+  pub lines : Text
+  pub counted : number ≡ length events + 1
+  pub follow : AllFollow events ws
+  pub are_lines : AreLines form lines events
+  pub rise : RiseFrom 0 events
+  pub last : tick ≡ last_tick 0 events
+  pub read : Consumes input left (lines ++ line)
+  pub one : IsOneLine line

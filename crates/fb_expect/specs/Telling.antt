@@ -1,0 +1,79 @@
+-- What two lines differ in, as it is reported (docs/FORMATS.md, "Where two traces part"; this project's own).
+use Rattle.std.specs.Prelude.{◌≡◌, ℕ, Bool, true, false, not, ◌&&◌, ◌||◌, ◌==◌, nat_lt, if◌then◌else◌, List, [], ◌∷◌, length, drop, unwrap_or, codes, decimal}
+use Rattle.std.specs.Str.{bytes_eq}
+use Rattle.fb_types.specs.declared.run.Form.{Form}
+use Rattle.fb_expect.specs.Events.{IsLine, event_of}
+use Rattle.fb_expect.specs.Reports.{joined}
+use Rattle.fb_expect.specs.Traces.{IsEndOf, tick_of}
+use Rattle.fb_expect.specs.Words.{Text, before}
+use Rattle.fb_expect.specs.declared.ending.End.{End}
+use Rattle.fb_expect.specs.declared.entry.Entry.{Entry}
+use Rattle.fb_expect.specs.declared.parting.Difference.{Difference}
+use Rattle.fb_expect.specs.declared.telling.LineKind.{LineKind}
+use Rattle.fb_expect.specs.declared.telling.LineKind.TheVariants as kind
+
+-- what a line is: that of an event, a last line of a tick, no line, or another one
+abbrev pub IsKind : Text → LineKind → Type 0
+IsKind line (kind.Event e) = (form : Form) × IsLine form line (event_of e)
+IsKind line (kind.Last t) = (end : End) × IsEndOf line end × (tick_of end ≡ t)
+IsKind line kind.Missing = line ≡ []
+IsKind line kind.Other = Unit {0}
+
+-- ---- What differs
+
+abbrev pub same_truth : Bool → Bool → Bool
+same_truth a b = (a && b) || (not a && not b)
+
+abbrev pub unless : Bool → Text → Text
+unless same word = if same then [] else word
+
+-- the parts of two events that differ, each behind a comma and a blank
+unfoldable pub parts : Entry → Entry → Text
+parts l r =
+    joined (unless (l.tick == r.tick) (codes ", tick") ∷ unless (bytes_eq l.resource.now r.resource.now) (codes ", resource")
+    ∷ unless (bytes_eq l.port.now r.port.now && same_truth l.taken r.taken) (codes ", port")
+    ∷ unless (bytes_eq l.values.now r.values.now) (codes ", value") ∷ [])
+
+-- the same without the first comma; the key, if no other part differs
+abbrev pub listed : Text → Text
+listed z = if nat_lt (length z) 2 then codes "key" else drop 2 z
+
+abbrev pub last_part : ℕ → ℕ → Text
+last_part l r = if l == r then codes "end" else codes "tick"
+
+abbrev pub what : LineKind → LineKind → Text
+what (kind.Event l) (kind.Event r) = listed (parts l r)
+what (kind.Last l) (kind.Last r) = last_part l r
+what kind.Missing r = codes "length"
+what l kind.Missing = codes "length"
+what l r = codes "kind"
+
+-- ---- Lines
+
+-- a line without its line feed
+abbrev pub bare : Text → Text
+bare line = unwrap_or (before (codes "\n") line) line
+
+abbrev pub with_tick : (name line : Text) → ℕ → Text
+with_tick name line t = joined (name ∷ codes ", tick " ∷ decimal t ∷ codes ": " ∷ bare line ∷ codes "\n" ∷ [])
+
+-- a line with the name of its file and its tick
+abbrev pub shown_line : (name line : Text) → LineKind → Text
+shown_line name line (kind.Event e) = with_tick name line e.tick
+shown_line name line (kind.Last t) = with_tick name line t
+shown_line name line kind.Missing = joined (name ∷ codes " has no such line\n" ∷ [])
+shown_line name line kind.Other = joined (name ∷ codes ": " ∷ bare line ∷ codes "\n" ∷ [])
+
+-- The number of the lines and what differs, and then both lines.
+unfoldable pub difference_text : (first second : Text) → Difference → (left right : LineKind) → Text
+difference_text first second d left right =
+    joined (codes "line " ∷ decimal d.number ∷ codes " differs in: " ∷ what left right ∷ codes "\n" ∷ shown_line first d.left.items left
+    ∷ shown_line second d.right.items right ∷ [])
+
+-- The text tells in what two files differ.
+pub record Tells (first second : Text) (d : Difference) (text : Text) : Type 0 where
+  pub left : LineKind
+  pub right : LineKind
+  pub is_left : IsKind d.left.items left
+  pub is_right : IsKind d.right.items right
+  pub is : text ≡ difference_text first second d left right

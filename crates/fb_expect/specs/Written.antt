@@ -1,0 +1,127 @@
+-- Patterns as they are written: `RESOURCE > PATH.EVENT VAR=value ..` (docs/FORMATS.md, "Rules over traces"; this project's own).
+use Rattle.std.specs.Prelude.{ℕ, ◌-◌, Bool, true, false, not, ◌&&◌, ◌||◌, ◌==◌, if◌then◌else◌, nat_le, nat_eq, List, [], ◌∷◌, length, map, filter, take, drop, position, Option, Some, None, option_map, codes}
+use Rattle.std.specs.List.{slice_split}
+use Rattle.std.specs.Option.{option_map_or}
+use Rattle.std.specs.Str.{bytes_eq}
+use Rattle.fb_types.specs.declared.value.Value.{Value}
+use Rattle.fb_types.specs.declared.value.Value.TheVariants as value
+use Rattle.fb_expect.specs.Lists.{◌>>=◌, each}
+use Rattle.fb_expect.specs.Words.{Text, behind, before, is_name, is_path, is_port, value_of}
+use Rattle.fb_expect.specs.declared.pattern.Comparison.{Comparison}
+use Rattle.fb_expect.specs.declared.pattern.Comparison.TheVariants.{Equal, Unequal, Less, AtMost, Greater, AtLeast}
+use Rattle.fb_expect.specs.declared.pattern.Condition.{Condition}
+use Rattle.fb_expect.specs.declared.pattern.Pattern.{Pattern}
+use Rattle.fb_expect.specs.declared.pattern.Way.{Way}
+use Rattle.fb_expect.specs.declared.pattern.Way.TheVariants.{Taken, Emitted, Either}
+
+-- a lower-case letter as the upper-case one
+abbrev pub upper : ℕ → ℕ
+upper b = if nat_le 97 b && nat_le b 122 then b - 32 else b
+
+-- the words that blanks separate
+abbrev pub is_word : Text → Bool
+is_word w = not (length w == 0)
+
+abbrev pub words_of : Text → List Text
+words_of z = filter is_word (slice_split (nat_eq 32) z)
+
+abbrev pub star : Text
+star = codes "*"
+
+-- the sign
+unfoldable pub way_of : Text → Option Way
+way_of w =
+    if bytes_eq w (codes ">") then Some Taken else if bytes_eq w (codes "<") then Some Emitted else if bytes_eq w star then Some Either else None
+
+-- ---- Ports
+
+-- nothing, or names with a full stop behind each
+abbrev pub is_front : Text → Bool
+is_front z = option_map_or is_path (before (codes ".") z) (length z == 0)
+
+-- what stands before a star, or a whole port, and whether it is the former
+abbrev pub port_by : Text → Option Text → Option (Text × Bool)
+port_by w (Some front) = if is_front front then Some (front, true) else None
+port_by w None = if is_port w then Some (w, false) else None
+
+unfoldable pub port_of : Text → Option (Text × Bool)
+port_of w = port_by w (before star w)
+
+-- ---- Resources
+
+abbrev pub is_resource : Text → Bool
+is_resource w = bytes_eq w star || is_name w
+
+abbrev pub resource_of : Text → Option Text
+resource_of w = if bytes_eq w star then None else Some w
+
+-- ---- Conditions
+
+-- a byte that comparisons begin with
+abbrev pub is_sign : ℕ → Bool
+is_sign b = b == 60 || b == 61 || b == 62
+
+-- what stands before the comparison, and the rest from there on
+unfoldable pub at_comparison : Text → Option (Text × Text)
+at_comparison w = option_map (λ i. (take i w, drop i w)) (position is_sign w)
+
+abbrev pub with_rest : Comparison → Option Text → Option (Comparison × Text) → Option (Comparison × Text)
+with_rest c (Some rest) other = Some (c, rest)
+with_rest c None other = other
+
+-- the comparison that a text begins with, and what stands behind it
+unfoldable pub comparison_of : Text → Option (Comparison × Text)
+comparison_of z =
+    with_rest Unequal (behind (codes "<>") z)
+    (with_rest AtMost (behind (codes "<=") z)
+    (with_rest Less (behind (codes "<") z)
+    (with_rest AtLeast (behind (codes ">=") z) (with_rest Greater (behind (codes ">") z) (with_rest Equal (behind (codes "=") z) None)))))
+
+-- truth values have no order
+abbrev pub is_equation : Comparison → Bool
+is_equation Equal = true
+is_equation Unequal = true
+is_equation Less = false
+is_equation AtMost = false
+is_equation Greater = false
+is_equation AtLeast = false
+
+abbrev pub can_compare : Comparison → Value → Bool
+can_compare c (value.Bool b) = is_equation c
+can_compare c (value.Whole n) = true
+
+unfoldable pub condition_parts : Text → Option (Text × Comparison × Value)
+condition_parts w = do
+  p ← at_comparison w
+  q ← comparison_of p.1
+  v ← value_of q.1
+  if is_name p.0 && can_compare q.0 v then Some (p.0, q.0, v) else None
+
+abbrev pub condition : Text × Comparison × Value → Condition
+condition t = record { variable = t.0; comparison = t.1; value = t.2 }
+
+-- the condition that a word is
+abbrev pub condition_of : Text → Option Condition
+condition_of w = option_map condition (condition_parts w)
+
+-- ---- Patterns
+
+-- The pattern of a resource, a sign, a port and conditions. The text is that in which they stand.
+unfoldable pub pattern_with : (resource sign port : Text) → List Text → (text : Text) → Option Pattern
+pattern_with resource sign port conditions text = do
+  way ← way_of sign
+  p ← port_of port
+  if is_resource resource
+      then (each condition_of conditions >>= λ cs.
+      Some (record { resource = resource_of resource; way = way; port = record { text = p.0; is_open = p.1 }; conditions = cs; text = text }))
+      else None
+
+abbrev pub pattern_in : List Text → (text : Text) → Option Pattern
+pattern_in [] text = None
+pattern_in (r ∷ []) text = None
+pattern_in (r ∷ s ∷ []) text = None
+pattern_in (r ∷ s ∷ p ∷ conditions) text = pattern_with r s p conditions text
+
+-- The pattern that a text is, in any letter case.
+unfoldable pub pattern_of : Text → Option Pattern
+pattern_of z = let u = map upper z in pattern_in (words_of u) u

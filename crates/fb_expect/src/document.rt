@@ -1,0 +1,290 @@
+//! What a document says of rules, before its patterns and numbers are judged.
+
+ghost use Rattle.std.specs.Prelude.{◌≡◌, ℕ, List, IfOk, codes, map, option_map};
+ghost use Rattle.toml.specs.Data.{as_integer, as_str, get_member};
+ghost use Rattle.toml.specs.View.{table_view, view};
+ghost use Rattle.fb_expect.specs.Drafts as spec;
+ghost use Rattle.fb_expect.specs.Drafts.{text_of};
+ghost use Rattle.fb_expect.specs.Lists as lists;
+ghost use Rattle.fb_expect.specs.Lists.{may};
+
+use std::alloc::{AllocError, Global};
+use toml::{Table, Value};
+
+/// What a rule asks for, as it is written.
+#[derive(Clone, Copy)]
+pub(crate) enum NeedDraft {
+    See {
+        within: i64,
+    },
+    Not {
+        within: i64,
+    },
+    Before {
+        within: i64,
+    },
+    Never {
+        from_start: bool,
+    },
+    Count {
+        least: Option<i64>,
+        most: Option<i64>,
+        every: Option<i64>,
+    },
+}
+
+/// A rule, as it is written.
+#[derive(Clone, Copy)]
+pub(crate) struct Draft<'a> {
+    pub(crate) name: &'a str,
+    pub(crate) need: NeedDraft,
+    pub(crate) first: &'a str,
+    pub(crate) second: Option<&'a str>,
+    pub(crate) third: Option<&'a str>,
+}
+
+fn value_at<'a>(keys: &'a Table, key: &str) -> Option<&'a Value>
+    ensures { option_map (λ v. view v.now) result ≡ get_member key.now (table_view keys.entry.now) }
+{
+    keys.get(key)
+}
+
+fn count_of_keys(keys: &Table) -> usize
+    ensures { result ≡ spec.count_of (table_view keys.now) }
+{
+    keys.len()
+}
+
+/// The text that a value is.
+fn text_in(value: &Value) -> Option<&str>
+    ensures { option_map (λ t. t.now) result ≡ as_str (view value.now) }
+{
+    value.as_str()
+}
+
+/// The text at a key.
+fn text_at<'a>(keys: &'a Table, key: &str) -> Option<&'a str>
+    ensures { option_map (λ t. t.now) result ≡ spec.text_at key.now (table_view keys.entry.now) }
+{
+    match value_at(keys, key) {
+        Some(value) => text_in(value),
+        None => None,
+    }
+}
+
+/// The whole number at a key.
+fn number_at(keys: &Table, key: &str) -> Option<i64>
+    ensures { result ≡ spec.number_at key.now (table_view keys.now) }
+{
+    match value_at(keys, key) {
+        Some(value) => value.as_integer(),
+        None => None,
+    }
+}
+
+/// The text at a key that may be absent. Nothing if it is no text.
+fn may_text_at<'a>(keys: &'a Table, key: &str) -> Option<Option<&'a str>>
+    ensures { option_map (λ o. option_map (λ t. t.now) o) result ≡ may as_str (get_member key.now (table_view keys.entry.now)) }
+{
+    match value_at(keys, key) {
+        Some(value) => match text_in(value) {
+            Some(text) => Some(Some(text)),
+            None => None,
+        },
+        None => Some(None),
+    }
+}
+
+/// The whole number at a key that may be absent. Nothing if it is no whole number.
+fn may_number_at(keys: &Table, key: &str) -> Option<Option<i64>>
+    ensures { result ≡ may as_integer (get_member key.now (table_view keys.now)) }
+{
+    match value_at(keys, key) {
+        Some(value) => match value.as_integer() {
+            Some(number) => Some(Some(number)),
+            None => None,
+        },
+        None => Some(None),
+    }
+}
+
+/// How many of these are there.
+fn one_if(here: bool) -> usize
+    ensures { result ≡ spec.one_if here }
+{
+    if here { 1 } else { 0 }
+}
+
+/// What a rule `after` asks for, and its second text: that of `see`, or else of `not`.
+fn answer_of(within: i64, keys: &Table) -> Option<(NeedDraft, &str)>
+    ensures { option_map (λ p. (p.0, p.1.now)) result ≡ spec.answer_of within (get_member (codes "see") (table_view keys.now)) (table_view keys.now) }
+{
+    match value_at(keys, "see") {
+        Some(second) => match text_in(second) {
+            Some(second) => Some((NeedDraft::See { within }, second)),
+            None => None,
+        },
+        None => match text_at(keys, "not") {
+            Some(second) => Some((NeedDraft::Not { within }, second)),
+            None => None,
+        },
+    }
+}
+
+/// A rule `after`: with `see`, or with `not`.
+#[tactic(auto, unfolding(crate::specs::Drafts::after))]
+fn after<'a>(keys: &'a Table, name: &'a str, first: &'a str) -> Option<Draft<'a>>
+    ensures { option_map text_of result ≡ spec.after (table_view keys.entry.now) name.entry.now first.entry.now }
+{
+    let within = number_at(keys, "within")?;
+    if count_of_keys(keys) != 4 {
+        return None;
+    }
+    let (need, second) = answer_of(within, keys)?;
+    Some(Draft {
+        name,
+        need,
+        first,
+        second: Some(second),
+        third: None,
+    })
+}
+
+/// A rule `before`.
+#[tactic(auto, unfolding(crate::specs::Drafts::before))]
+fn before<'a>(keys: &'a Table, name: &'a str, first: &'a str) -> Option<Draft<'a>>
+    ensures { option_map text_of result ≡ spec.before (table_view keys.entry.now) name.entry.now first.entry.now }
+{
+    let within = number_at(keys, "within")?;
+    let second = text_at(keys, "see")?;
+    if count_of_keys(keys) != 4 {
+        return None;
+    }
+    Some(Draft {
+        name,
+        need: NeedDraft::Before { within },
+        first,
+        second: Some(second),
+        third: None,
+    })
+}
+
+/// A rule `never`, with `from` and `to` where they are there.
+#[tactic(auto, unfolding(crate::specs::Drafts::never))]
+fn never<'a>(keys: &'a Table, name: &'a str, first: &'a str) -> Option<Draft<'a>>
+    ensures { option_map text_of result ≡ spec.never (table_view keys.entry.now) name.entry.now first.entry.now }
+{
+    let second = may_text_at(keys, "from")?;
+    let third = may_text_at(keys, "to")?;
+    if count_of_keys(keys) != 2 + one_if(second.is_some()) + one_if(third.is_some()) {
+        return None;
+    }
+    Some(Draft {
+        name,
+        need: NeedDraft::Never {
+            from_start: !second.is_some(),
+        },
+        first,
+        second,
+        third,
+    })
+}
+
+/// A rule `count`, with `least`, `most` or both, and with `every` where it is there.
+#[tactic(auto, unfolding(crate::specs::Drafts::count))]
+fn count<'a>(keys: &'a Table, name: &'a str, first: &'a str) -> Option<Draft<'a>>
+    ensures { option_map text_of result ≡ spec.count (table_view keys.entry.now) name.entry.now first.entry.now }
+{
+    let least = may_number_at(keys, "least")?;
+    let most = may_number_at(keys, "most")?;
+    let every = may_number_at(keys, "every")?;
+    let bounds = one_if(least.is_some()) + one_if(most.is_some());
+    if bounds == 0 || count_of_keys(keys) != 2 + bounds + one_if(every.is_some()) {
+        return None;
+    }
+    Some(Draft {
+        name,
+        need: NeedDraft::Count { least, most, every },
+        first,
+        second: None,
+        third: None,
+    })
+}
+
+/// The rule of a table, by the first of the keys of the five forms that it has.
+#[tactic(auto, unfolding(crate::specs::Drafts::form_of))]
+fn form_of<'a>(keys: &'a Table, name: &'a str) -> Option<Draft<'a>>
+    ensures { option_map text_of result ≡ spec.form_of (table_view keys.entry.now) name.entry.now }
+{
+    if let Some(first) = value_at(keys, "after") {
+        return after(keys, name, text_in(first)?);
+    }
+    if let Some(first) = value_at(keys, "before") {
+        return before(keys, name, text_in(first)?);
+    }
+    if let Some(first) = value_at(keys, "never") {
+        return never(keys, name, text_in(first)?);
+    }
+    count(keys, name, text_at(keys, "count")?)
+}
+
+/// The rule of a table, if its shape is right.
+#[tactic(auto, unfolding(crate::specs::Drafts::rule_text))]
+pub(crate) fn draft_of(value: &Value) -> Option<Draft<'_>>
+    ensures { option_map text_of result ≡ spec.rule_text (view value.now) }
+{
+    let keys = value.as_table()?;
+    let name = text_at(keys, "name")?;
+    form_of(keys, name)
+}
+
+/// The items of a value that is an array.
+fn values_of(value: &Value) -> Option<&[Value]>
+    ensures { option_map (λ vs. map view vs.now) result ≡ spec.values_of (view value.now) }
+{
+    match value.as_array() {
+        Some(values) => Some(values.as_slice()),
+        None => None,
+    }
+}
+
+/// The values of the rules of a document, if it has some and nothing else.
+#[tactic(auto, unfolding(crate::specs::Drafts::rules_in))]
+pub(crate) fn rules_in(keys: &Table) -> Option<&[Value]>
+    ensures { option_map (λ vs. map view vs.now) result ≡ spec.rules_in (table_view keys.now) }
+{
+    let values = values_of(value_at(keys, "rule")?)?;
+    if count_of_keys(keys) == 1 && !values.is_empty() {
+        Some(values)
+    } else {
+        None
+    }
+}
+
+/// The rules of these values, if the shape of all is right.
+fn each_draft<'a>(alloc: Global, values: &'a [Value]) -> Result<Option<Vec<Draft<'a>>>, AllocError>
+    ensures { IfOk result (λ o. option_map (λ ds. map text_of ds.items) o ≡ lists.each spec.rule_text (map view values.entry.now)) }
+{
+    let mut drafts = Vec::with_capacity(alloc, values.len())?;
+    for value in values {
+        match draft_of(value) {
+            Some(draft) => drafts.push(draft)?,
+            None => return Ok(None),
+        }
+    }
+    Ok(Some(drafts))
+}
+
+/// The rules of a document, if its shape is right: `[[rule]]`, one or more, and nothing else.
+#[tactic(auto, unfolding(crate::specs::Drafts::texts_of))]
+pub(crate) fn drafts_of<'a>(
+    alloc: Global,
+    keys: &'a Table,
+) -> Result<Option<Vec<Draft<'a>>>, AllocError>
+    ensures { IfOk result (λ o. option_map (λ ds. map text_of ds.items) o ≡ spec.texts_of (table_view keys.entry.now)) }
+{
+    match rules_in(keys) {
+        Some(values) => each_draft(alloc, values),
+        None => Ok(None),
+    }
+}

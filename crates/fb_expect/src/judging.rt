@@ -1,0 +1,224 @@
+//! A trace, line by line, against rules.
+
+ghost use Rattle.std.specs.Prelude.{◌≡◌, ◌+◌, List, [], IfOk, IfSome, OnOk, IsTrue, length};
+ghost use Rattle.std.specs.Io.KnownBytes.{IsAtEnd};
+ghost use Rattle.fb_expect.specs.Events.{Event, event_of};
+ghost use Rattle.fb_expect.specs.Judging.{AllFollow, AllMove, AreJudged, Follows, IsFollowed, IsJudged, Judges, Moves, rules_of};
+ghost use Rattle.fb_expect.specs.Lines.{IsOneLine};
+ghost use Rattle.fb_expect.specs.Traces.{AreBelow, EndsAfter, HasNoEnd, IsLast, tick_of};
+
+use crate::ending::{End, can_end, read_end};
+use crate::entry::Entry;
+use crate::event::read_entry;
+use crate::fault::TraceError;
+use crate::hit::hit_of;
+use crate::lines::{is_over, next_line};
+use crate::port_set::{PortSet, ports_of};
+use crate::rule::Rule;
+use crate::sight::{Sights, begin_sights, see_line};
+use crate::verdict::{Verdict, verdict_of};
+use crate::watch::{Watch, begin, step};
+use crate::words::cut;
+use fb_types::Form;
+use std::alloc::{AllocError, Global};
+use std::io::BufRead;
+
+/// A rule, and what is known of it when a part of the trace was read.
+#[derive(Clone, Copy)]
+pub struct Watcher<'a> {
+    rule: &'a Rule,
+    watch: Watch,
+    sights: Sights,
+    /// The ports whose lines matter to the rule.
+    ports: PortSet,
+}
+
+/// What came of a rule at a trace.
+#[derive(Clone, Copy)]
+pub struct Judged {
+    pub verdict: Verdict,
+    /// What the trace has of its patterns.
+    pub sights: Sights,
+}
+
+/// Whether a trace may be cut off: end without a last line, or within a line, which then does not count.
+#[derive(Clone, Copy, PartialEq, Eq)]
+pub enum Cut {
+    Refused,
+    Allowed,
+}
+
+/// The form of the lines of a trace that begins with this one. In form two the second word is a number, and in form one
+/// it is a name.
+pub(crate) fn form_of(line: &[u8]) -> Form {
+    match cut(line) {
+        Some((_, [_, first, ..])) if first.is_ascii_digit() => Form::Two,
+        _ => Form::One,
+    }
+}
+
+/// What is known of all rules before the first line.
+fn begun<'a>(alloc: Global, rules: &'a [Rule]) -> Result<Vec<Watcher<'a>>, AllocError>
+    ensures rules { IfOk result (λ ws. rules_of ws.items ≡ rules.now) }
+    ensures follow { IfOk result (λ ws. AllFollow [] ws.items) }
+{
+    let mut watchers = Vec::with_capacity(alloc, rules.len())?;
+    for rule in rules {
+        watchers.push(Watcher {
+            rule,
+            watch: begin(rule.need),
+            sights: begin_sights(rule),
+            ports: ports_of(rule),
+        })?;
+    }
+    Ok(watchers)
+}
+
+/// Notes one more line, of this number. Most lines don't matter to a rule: their ports tell.
+#[inline(always)]
+fn next(watcher: &mut Watcher<'_>, number: u64, entry: &Entry<'_>)
+    ensures { Moves number (event_of entry.now) watcher.old watcher.new }
+{
+    if watcher.ports.may_have(entry) {
+        note_one(watcher, number, entry);
+    }
+}
+
+/// Notes one more line, of this number, whatever its port.
+#[inline(never)]
+fn note_one(watcher: &mut Watcher<'_>, number: u64, entry: &Entry<'_>)
+    ensures { Moves number (event_of entry.now) watcher.old watcher.new }
+{
+    let rule = watcher.rule;
+    let hit = hit_of(rule, entry);
+    watcher.watch = step(rule.need, watcher.watch, number, hit);
+    watcher.sights = see_line(rule, watcher.sights, entry);
+}
+
+/// Notes one more line of all rules.
+fn note(watchers: &mut [Watcher<'_>], number: u64, entry: &Entry<'_>)
+    ensures rules { rules_of watchers.new ≡ rules_of watchers.old }
+    ensures moves { AllMove number (event_of entry.now) watchers.old watchers.new }
+{
+    for watcher in watchers.iter_mut() {
+        next(watcher, number, entry);
+    }
+}
+
+/// What came of a rule.
+fn conclude_one(watcher: &Watcher<'_>, number: u64, end: End) -> Judged
+    ensures { (es : List Event) → number ≡ length es + 1 → AreBelow es (tick_of end) → Follows es watcher.now → IsJudged es end watcher.now.rule.now result }
+{
+    Judged {
+        verdict: verdict_of(watcher.rule.need, watcher.watch, number, end),
+        sights: watcher.sights,
+    }
+}
+
+/// What came of all rules.
+fn conclude(
+    alloc: Global,
+    watchers: &[Watcher<'_>],
+    number: u64,
+    end: End,
+) -> Result<Vec<Judged>, AllocError>
+    ensures judged { IfOk result (λ js. (es : List Event) → number ≡ length es + 1 → AreBelow es (tick_of end) → AllFollow es watchers.now → AreJudged es end (rules_of watchers.now) js.items) }
+    ensures counted { IfOk result (λ js. length js.items ≡ length (rules_of watchers.now)) }
+{
+    let mut all = Vec::with_capacity(alloc, watchers.len())?;
+    for watcher in watchers {
+        all.push(conclude_one(watcher, number, end))?;
+    }
+    Ok(all)
+}
+
+/// Whether a trace can be cut off before this line: before none, or before one that has no end.
+fn is_cut(line: &[u8]) -> bool
+    ensures { IsTrue result → IsOneLine line.now → HasNoEnd line.now }
+{
+    match line.last() {
+        Some(last) => *last != b'\n',
+        None => true,
+    }
+}
+
+/// The end that a line tells, or that there is before it where a trace may be cut off.
+fn end_at(line: &[u8], tick: u64, cut: Cut) -> Option<End>
+    ensures { IfSome result (λ end. IsOneLine line.now → IsLast cut line.now end) }
+{
+    match cut {
+        Cut::Allowed if is_cut(line) => Some(End::Cut(tick)),
+        _ => read_end(line),
+    }
+}
+
+/// Reads a trace, in either form, and says what comes of each rule. Ticks are milliseconds. All memory is that of the
+/// rules and of a line.
+///
+/// # Errors
+/// `Refused` with the first line at which it shows that the text is no trace, `Read` where the reader fails, `Memory`.
+pub fn judge<R: BufRead>(
+    alloc: Global,
+    rules: &[Rule],
+    cut: Cut,
+    input: &mut R,
+) -> Result<Vec<Judged>, TraceError>
+    ensures judged { IfOk result (λ js. IfSome (R.remaining input.old) (λ text. Judges cut text rules.now js.items)) }
+    ensures counted { IfOk result (λ js. length js.items ≡ length rules.now) }
+{
+    let mut watchers = begun(alloc, rules)?;
+    let mut line = Vec::new(alloc);
+    let (number, end) = follow(cut, &mut watchers, &mut line, input)?;
+    Ok(conclude(alloc, watchers.as_slice(), number, end)?)
+}
+
+/// Reads the lines of a trace, up to its end, which is told with the number of its line. The buffer is for the line that
+/// was read last.
+fn follow<R: BufRead>(
+    cut: Cut,
+    watchers: &mut Vec<Watcher<'_>>,
+    line: &mut Vec<u8>,
+    input: &mut R,
+) -> Result<(u64, End), TraceError>
+    requires { AllFollow [] watchers.old.items }
+    ensures rules { OnOk result (rules_of watchers.new.items ≡ rules_of watchers.old.items) }
+    ensures followed { IfOk result (λ p. IsFollowed cut (R.remaining input.old) watchers.new.items p.0 p.1) }
+{
+    next_line(input, line)?;
+    let form = form_of(line.as_slice());
+    let mut tick = 0;
+    for number in 1..u64::MAX {
+        if let Some(end) = end_at(line.as_slice(), tick, cut) {
+            finish(tick, end, number, line, input)?;
+            return Ok((number, end));
+        }
+        match read_entry(form, line.as_slice()) {
+            Some(entry) if tick <= entry.tick => {
+                note(watchers.as_mut_slice(), number, &entry);
+                tick = entry.tick;
+            }
+            _ => return Err(TraceError::Refused(number)),
+        }
+        next_line(input, line)?;
+    }
+    Err(TraceError::Read)
+}
+
+/// Refuses an end that can't come behind a line of this tick, or behind which there is more.
+fn finish<R: BufRead>(
+    tick: u64,
+    end: End,
+    number: u64,
+    line: &mut Vec<u8>,
+    input: &mut R,
+) -> Result<(), TraceError>
+    ensures { OnOk result (EndsAfter tick end × IsAtEnd (R.remaining input.old)) }
+{
+    if !can_end(tick, end) {
+        return Err(TraceError::Refused(number));
+    }
+    if !is_over(input, line)? {
+        return Err(TraceError::Refused(number.saturating_add(1)));
+    }
+    Ok(())
+}

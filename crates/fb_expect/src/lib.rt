@@ -1,0 +1,58 @@
+//! Rules over traces, and where two traces part.
+//!
+//! Guarantees to callers: `read_rules` gives the rules that the definitions make of the tree of the TOML reader, or the
+//! number of the refusal. `judge` gives for each rule whether it holds of the lines of a trace, breaks, and at which first
+//! line, or is undecided, as the definitions say of the whole list of lines. `part` says that two texts are the same
+//! exactly where their bytes are, and otherwise gives the first line in which they differ.
+//!
+//! The report and the text of a difference are the texts that the definitions make of these answers.
+//!
+//! Read in this order: `error`; `rule` and `pattern`, what is asked; `words`, `number` and `names`, parts of texts;
+//! `document` and `rules`, how rules are read; `place`, where they are refused; `event` and `ending`, what a line of a
+//! trace says; `meeting`, whether it meets a pattern; `hit`, `watch` and `verdict`, what comes of a rule; `sight`, what a
+//! trace never has; `print` and `port_set`, which lines are passed over; `judging`, a trace line by line; `tap`, what is
+//! reported; `parting` and `telling`, where two texts part.
+#![tactic(auto)]
+
+mod document;
+mod ending;
+pub mod entry;
+pub mod error;
+mod event;
+pub mod fault;
+mod hit;
+pub mod judging;
+pub mod lines;
+pub mod meeting;
+mod names;
+mod number;
+pub mod parting;
+pub mod pattern;
+pub mod place;
+pub mod port_pattern;
+mod port_set;
+mod print;
+pub mod rule;
+pub mod rules;
+pub mod sight;
+pub mod tap;
+pub mod telling;
+pub mod verdict;
+mod watch;
+mod words;
+
+pub use entry::Entry;
+pub use error::RulesError;
+pub use fault::TraceError;
+pub use judging::{Cut, Judged, judge};
+pub use lines::ReadFault;
+pub use meeting::is_at;
+pub use parting::{Difference, part};
+pub use pattern::{Comparison, Condition, Pattern, Way};
+pub use place::{RuleFault, RuleKey, RulesPlace, key_text, pattern_keys, rules_place};
+pub use port_pattern::PortPattern;
+pub use rule::{Need, Rule};
+pub use rules::{MOST_RULES, read_rules};
+pub use tap::{Of, are_well, plan, put_points};
+pub use telling::difference_text;
+pub use verdict::{Breach, Fault, Verdict};

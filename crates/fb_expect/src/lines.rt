@@ -1,0 +1,35 @@
+//! The lines of a text, one after another.
+
+ghost use Rattle.std.specs.Prelude.{◌≡◌, [], IfOk, IfSome, OnOk, IsTrue};
+ghost use Rattle.std.specs.Io.BufRead.{DropsThrough, take_through};
+ghost use Rattle.std.specs.Io.KnownBytes.{Consumes, IsAtEnd};
+ghost use Rattle.fb_expect.specs.Lines.{IsOneLine};
+
+use std::io::BufRead;
+
+/// The reader of a text gave an error.
+#[derive(Debug, Drop)]
+pub struct ReadFault;
+
+/// Reads the next line into a buffer, with its line feed. It is empty where there is none.
+pub(crate) fn next_line<R: BufRead>(input: &mut R, line: &mut Vec<u8>) -> Result<(), ReadFault>
+    ensures read { OnOk result (Consumes (R.remaining input.old) (R.remaining input.new) line.new.items) }
+    ensures one { OnOk result (IsOneLine line.new.items) }
+    ensures line { OnOk result (IfSome (R.remaining input.old) (λ xs. line.new.items ≡ take_through 10 xs)) }
+    ensures rest { OnOk result (DropsThrough (R.remaining input.old) (R.remaining input.new) 10) }
+    ensures end { OnOk result (line.new.items ≡ [] → IsAtEnd (R.remaining input.old)) }
+{
+    line.clear();
+    match input.read_until(b'\n', line) {
+        Ok(_) => Ok(()),
+        Err(_) => Err(ReadFault),
+    }
+}
+
+/// Whether nothing is left to read.
+pub(crate) fn is_over<R: BufRead>(input: &mut R, line: &mut Vec<u8>) -> Result<bool, ReadFault>
+    ensures { IfOk result (λ over. IsTrue over → IsAtEnd (R.remaining input.old)) }
+{
+    next_line(input, line)?;
+    Ok(line.is_empty())
+}

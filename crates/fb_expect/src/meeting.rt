@@ -1,0 +1,180 @@
+//! Whether a line meets a pattern.
+
+ghost use Rattle.std.specs.Prelude.{◌≡◌, ◌≢◌, ◌↔◌, IsTrue, true, false, take, length};
+ghost use Rattle.std.specs.List.{list_all, list_any};
+ghost use Rattle.fb_expect.specs.Events.{event_of};
+ghost use Rattle.fb_expect.specs.Patterns as spec;
+
+use crate::entry::Entry;
+use crate::number::value_of;
+use crate::pattern::{Comparison, Condition, Pattern, Way};
+use crate::port_pattern::PortPattern;
+use crate::words::{behind_blank, parted};
+use fb_types::{Name, Value};
+
+fn compares_truth(comparison: Comparison, found: bool, wanted: bool) -> bool
+    ensures { result ≡ spec.compares_truth comparison found wanted }
+{
+    match comparison {
+        Comparison::Equal => found == wanted,
+        Comparison::Unequal => found != wanted,
+        _ => false,
+    }
+}
+
+fn compares_whole(comparison: Comparison, found: i128, wanted: i128) -> bool
+    ensures { result ≡ spec.compares_whole comparison found wanted }
+{
+    match comparison {
+        Comparison::Equal => found == wanted,
+        Comparison::Unequal => found != wanted,
+        Comparison::Less => found < wanted,
+        Comparison::AtMost => found <= wanted,
+        Comparison::Greater => found > wanted,
+        Comparison::AtLeast => found >= wanted,
+    }
+}
+
+/// Whether a value compares so with the wanted one. Values of two kinds do not.
+#[tactic(auto, unfolding(crate::specs::Patterns::compares))]
+fn compares(comparison: Comparison, found: Value, wanted: Value) -> bool
+    ensures { result ≡ spec.compares comparison found wanted }
+{
+    match (found, wanted) {
+        (Value::Bool(found), Value::Bool(wanted)) => compares_truth(comparison, found, wanted),
+        (Value::Whole(found), Value::Whole(wanted)) => compares_whole(comparison, found, wanted),
+        _ => false,
+    }
+}
+
+/// Whether a word `VAR=value` meets a condition.
+#[tactic(auto, unfolding(crate::specs::Patterns::is_met_by))]
+fn is_met_by(condition: &Condition, word: &[u8]) -> bool
+    ensures { result ≡ spec.is_met_by condition.now word.now }
+{
+    let Some((name, value)) = parted(word, b'=') else {
+        return false;
+    };
+    if name != condition.variable.as_bytes() {
+        return false;
+    }
+    match value_of(value) {
+        Some(value) => compares(condition.comparison, value, condition.value),
+        None => false,
+    }
+}
+
+/// Whether a word `VAR=value` is of the variable of a condition.
+#[tactic(auto, unfolding(crate::specs::Patterns::is_named_by))]
+fn is_named_by(condition: &Condition, word: &[u8]) -> bool
+    ensures { result ≡ spec.is_named_by condition.now word.now }
+{
+    match parted(word, b'=') {
+        Some((name, _)) => name == condition.variable.as_bytes(),
+        None => false,
+    }
+}
+
+/// Whether one of the values of a line meets a condition.
+fn is_met(condition: &Condition, values: &[u8]) -> bool
+    ensures { result ≡ spec.is_met condition.now values.now }
+{
+    match behind_blank(values) {
+        Some(words) => words
+            .split(|byte| *byte == b' ')
+            .any(|word| is_met_by(condition, word)),
+        None => false,
+    }
+}
+
+/// Whether one of the values of a line is of the variable of a condition.
+fn is_named(condition: &Condition, values: &[u8]) -> bool
+    ensures { result ≡ spec.is_named condition.now values.now }
+{
+    match behind_blank(values) {
+        Some(words) => words
+            .split(|byte| *byte == b' ')
+            .any(|word| is_named_by(condition, word)),
+        None => false,
+    }
+}
+
+fn is_way(way: Way, taken: bool) -> bool
+    ensures { result ≡ spec.is_way way taken }
+{
+    match way {
+        Way::Taken => taken,
+        Way::Emitted => !taken,
+        Way::Either => true,
+    }
+}
+
+fn is_of(pattern: &PortPattern, port: &[u8]) -> bool
+    ensures { result ≡ spec.is_of pattern.now port.now }
+{
+    let text = pattern.text.as_slice();
+    if pattern.is_open {
+        port.starts_with(text)
+    } else {
+        port == text
+    }
+}
+
+fn is_in(resource: &Option<Name>, found: &[u8]) -> bool
+    ensures { result ≡ spec.is_in resource.now found.now }
+{
+    match resource {
+        Some(name) => found == name.as_bytes(),
+        None => true,
+    }
+}
+
+/// Whether a line is of the resource, the side and the ports of a pattern, whatever its values.
+#[tactic(auto, unfolding(crate::specs::Patterns::is_at))]
+pub fn is_at(pattern: &Pattern, entry: &Entry<'_>) -> bool
+    ensures { result ≡ spec.is_at pattern.now (event_of entry.now) }
+{
+    is_way(pattern.way, entry.taken)
+        && is_of(&pattern.port, entry.port)
+        && is_in(&pattern.resource, entry.resource)
+}
+
+/// Whether each condition is met by one of the values of a line.
+fn are_met(conditions: &[Condition], values: &[u8]) -> bool
+    ensures { result ≡ list_all (λ c. spec.is_met c values.now) conditions.now }
+{
+    for condition in conditions {
+        if !is_met(condition, values) {
+            return false;
+        }
+    }
+    true
+}
+
+/// Whether one of the values of a line is of the variable of each condition.
+fn are_named(conditions: &[Condition], values: &[u8]) -> bool
+    ensures { result ≡ list_all (λ c. spec.is_named c values.now) conditions.now }
+{
+    for condition in conditions {
+        if !is_named(condition, values) {
+            return false;
+        }
+    }
+    true
+}
+
+/// Whether a line meets a pattern.
+#[tactic(auto, unfolding(crate::specs::Patterns::meets))]
+pub(crate) fn meets(pattern: &Pattern, entry: &Entry<'_>) -> bool
+    ensures { result ≡ spec.meets pattern.now (event_of entry.now) }
+{
+    is_at(pattern, entry) && are_met(pattern.conditions.as_slice(), entry.values)
+}
+
+/// Whether a line is of the ports of a pattern and has all variables of its conditions.
+#[tactic(auto, unfolding(crate::specs::Patterns::has_all))]
+pub(crate) fn has_all(pattern: &Pattern, entry: &Entry<'_>) -> bool
+    ensures { result ≡ spec.has_all pattern.now (event_of entry.now) }
+{
+    is_at(pattern, entry) && are_named(pattern.conditions.as_slice(), entry.values)
+}

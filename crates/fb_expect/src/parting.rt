@@ -1,0 +1,64 @@
+//! Where two texts part.
+
+ghost use Rattle.std.specs.Prelude.{IfOk};
+ghost use Rattle.fb_expect.specs.Parting.{MayFind, MayPart};
+
+use crate::lines::{ReadFault, next_line};
+use std::alloc::Global;
+use std::io::BufRead;
+
+/// Two lines that differ, and stand at the same place in their texts. All before them are the same.
+#[derive(Drop)]
+pub struct Difference {
+    /// Their number, from 1.
+    pub number: u64,
+    /// The lines with their line feeds. One is empty where its text ends before it.
+    pub left: Vec<u8>,
+    pub right: Vec<u8>,
+}
+
+/// Reads two texts line by line, up to the first line in which they differ, where there is one.
+///
+/// # Errors
+/// Where a reader fails.
+pub fn part<R: BufRead, S: BufRead>(
+    alloc: Global,
+    first: &mut R,
+    second: &mut S,
+) -> Result<Option<Difference>, ReadFault>
+    ensures { IfOk result (MayPart (R.remaining first.old) (S.remaining second.old)) }
+{
+    let mut left = Vec::new(alloc);
+    let mut right = Vec::new(alloc);
+    let number = parting(first, second, &mut left, &mut right)?;
+    match number {
+        Some(number) => Ok(Some(Difference {
+            number,
+            left,
+            right,
+        })),
+        None => Ok(None),
+    }
+}
+
+/// The number of the first line in which two texts differ. The lines are in the buffers.
+fn parting<R: BufRead, S: BufRead>(
+    first: &mut R,
+    second: &mut S,
+    left: &mut Vec<u8>,
+    right: &mut Vec<u8>,
+) -> Result<Option<u64>, ReadFault>
+    ensures { IfOk result (MayFind (R.remaining first.old) (S.remaining second.old) left.new.items right.new.items) }
+{
+    for number in 1..u64::MAX {
+        next_line(first, left)?;
+        next_line(second, right)?;
+        if left.as_slice() != right.as_slice() {
+            return Ok(Some(number));
+        }
+        if left.is_empty() {
+            return Ok(None);
+        }
+    }
+    Err(ReadFault)
+}

@@ -1,0 +1,461 @@
+//! Where rules are refused.
+
+ghost use Rattle.std.specs.Prelude.{◌≡◌, IfOk, IfSome, map, option_map};
+ghost use Rattle.toml.specs.View.{table_view, view};
+ghost use Rattle.fb_expect.specs.Drafts.{text_of};
+ghost use Rattle.fb_expect.specs.Places as spec;
+
+use crate::document::{Draft, NeedDraft, draft_of, drafts_of, rules_in};
+use crate::rule::Need;
+use crate::rules::{MOST_RULES, is_pattern, may_within, need_of};
+use fb_types::MOST_BYTES;
+use std::alloc::{AllocError, Global};
+use toml::{Table, Value};
+
+/// A key of a rule.
+#[derive(Clone, Copy)]
+pub enum RuleKey {
+    Name,
+    After,
+    Before,
+    Never,
+    Count,
+    See,
+    Not,
+    Within,
+    From,
+    To,
+    Least,
+    Most,
+    Every,
+}
+
+/// What is wrong with the shape of a rule.
+#[derive(Clone, Copy)]
+pub enum RuleFault {
+    /// It is no table.
+    NoTable,
+    /// It has none of the keys `after`, `before`, `never` and `count`.
+    NoForm,
+    /// A key is missing. Of `see` and `not`, and of `least` and `most`, both are; then it is the latter.
+    Missing(RuleKey),
+    /// The value of a key is not of its kind.
+    Wrong(RuleKey),
+    /// There are unknown keys.
+    Further,
+}
+
+/// Where rules are refused. Rules are counted from 0.
+#[derive(Clone, Copy)]
+pub enum RulesPlace {
+    /// There are too many bytes (E40).
+    Bytes,
+    /// The bytes are not TOML; the reader found this at this byte, or past the last one (E41).
+    Document(usize),
+    /// There is no array of rules with one or more, or there are keys beside it (E42).
+    List,
+    /// The shape of a rule is not right (E42).
+    Rule { rule: usize, fault: RuleFault },
+    /// The text at a key of a rule is no pattern (E43).
+    Pattern { rule: usize, key: RuleKey },
+    /// The number at a key of a rule is out of its range (E44).
+    Number { rule: usize, key: RuleKey },
+    /// There are too many rules (E40).
+    Crowded,
+}
+
+impl RulesPlace {
+    /// The number of the refusal, 40 to 44.
+    pub fn number(self) -> u8
+        ensures { result ≡ spec.number_at self }
+    {
+        match self {
+            RulesPlace::Bytes | RulesPlace::Crowded => 40,
+            RulesPlace::Document(_) => 41,
+            RulesPlace::List | RulesPlace::Rule { .. } => 42,
+            RulesPlace::Pattern { .. } => 43,
+            RulesPlace::Number { .. } => 44,
+        }
+    }
+}
+
+/// The keys of the first text and of the second text of a rule that are patterns; the third is that of `to`.
+pub fn pattern_keys(need: Need) -> (RuleKey, RuleKey)
+    ensures { result ≡ spec.pattern_keys need }
+{
+    match need {
+        Need::See { .. } => (RuleKey::After, RuleKey::See),
+        Need::Not { .. } => (RuleKey::After, RuleKey::Not),
+        Need::Before { .. } => (RuleKey::Before, RuleKey::See),
+        Need::Never { .. } => (RuleKey::Never, RuleKey::From),
+        Need::Count { .. } => (RuleKey::Count, RuleKey::From),
+    }
+}
+
+/// The text of a key.
+pub fn key_text(key: RuleKey) -> &'static str
+    ensures { result.now ≡ spec.name_of key }
+{
+    match key {
+        RuleKey::Name => "name",
+        RuleKey::After => "after",
+        RuleKey::Before => "before",
+        RuleKey::Never => "never",
+        RuleKey::Count => "count",
+        RuleKey::See => "see",
+        RuleKey::Not => "not",
+        RuleKey::Within => "within",
+        RuleKey::From => "from",
+        RuleKey::To => "to",
+        RuleKey::Least => "least",
+        RuleKey::Most => "most",
+        RuleKey::Every => "every",
+    }
+}
+
+/// The value at a key.
+fn value_at<'a>(keys: &'a Table, key: RuleKey) -> Option<&'a Value>
+    ensures { option_map (λ v. view v.now) result ≡ spec.value_at (table_view keys.entry.now) key }
+{
+    keys.get(key_text(key))
+}
+
+/// Whether the value at a key is a whole number.
+fn is_number(key: RuleKey) -> bool
+    ensures { result ≡ spec.is_number key }
+{
+    matches!(
+        key,
+        RuleKey::Within | RuleKey::Least | RuleKey::Most | RuleKey::Every
+    )
+}
+
+/// Whether a value is of the kind of a key.
+fn is_of_kind(key: RuleKey, value: &Value) -> bool
+    ensures { result ≡ spec.is_of_kind key (view value.now) }
+{
+    if is_number(key) {
+        value.as_integer().is_some()
+    } else {
+        value.as_str().is_some()
+    }
+}
+
+/// What is wrong with the value at a key, where there is one.
+fn kind_fault(keys: &Table, key: RuleKey) -> Option<RuleFault>
+    ensures { IfSome result (spec.IsFault (table_view keys.now)) }
+{
+    let value = value_at(keys, key)?;
+    if is_of_kind(key, value) {
+        None
+    } else {
+        Some(RuleFault::Wrong(key))
+    }
+}
+
+/// What is wrong with a key that is to be there.
+fn key_fault(keys: &Table, key: RuleKey) -> Option<RuleFault>
+    ensures { IfSome result (spec.IsFault (table_view keys.now)) }
+{
+    match value_at(keys, key) {
+        Some(_) => kind_fault(keys, key),
+        None => Some(RuleFault::Missing(key)),
+    }
+}
+
+/// What is wrong with keys that are to be there.
+fn keys_fault(keys: &Table, needed: &[RuleKey]) -> Option<RuleFault>
+    ensures { IfSome result (spec.IsFault (table_view keys.now)) }
+{
+    for key in needed {
+        if let Some(fault) = key_fault(keys, *key) {
+            return Some(fault);
+        }
+    }
+    None
+}
+
+/// What is wrong with the values of keys that may be there.
+fn kinds_fault(keys: &Table, allowed: &[RuleKey]) -> Option<RuleFault>
+    ensures { IfSome result (spec.IsFault (table_view keys.now)) }
+{
+    for key in allowed {
+        if let Some(fault) = kind_fault(keys, *key) {
+            return Some(fault);
+        }
+    }
+    None
+}
+
+/// What is wrong where one of two keys is to be there.
+fn either_fault(keys: &Table, first: RuleKey, second: RuleKey) -> Option<RuleFault>
+    ensures { IfSome result (spec.IsFault (table_view keys.now)) }
+{
+    match value_at(keys, first) {
+        Some(_) => kind_fault(keys, first),
+        None => key_fault(keys, second),
+    }
+}
+
+/// What is wrong with a rule `after`.
+fn after_fault(keys: &Table) -> Option<RuleFault>
+    ensures { IfSome result (spec.IsFault (table_view keys.now)) }
+{
+    match key_fault(keys, RuleKey::Within) {
+        Some(fault) => Some(fault),
+        None => either_fault(keys, RuleKey::See, RuleKey::Not),
+    }
+}
+
+/// What is wrong with a rule `count`.
+fn count_fault(keys: &Table) -> Option<RuleFault>
+    ensures { IfSome result (spec.IsFault (table_view keys.now)) }
+{
+    match kinds_fault(keys, &[RuleKey::Most, RuleKey::Every]) {
+        Some(fault) => Some(fault),
+        None => either_fault(keys, RuleKey::Least, RuleKey::Most),
+    }
+}
+
+/// What is wrong with the keys of a rule of a form, besides that of the form.
+fn rest_fault(keys: &Table, form: RuleKey) -> Option<RuleFault>
+    ensures { IfSome result (spec.IsFault (table_view keys.now)) }
+{
+    match form {
+        RuleKey::After => after_fault(keys),
+        RuleKey::Before => keys_fault(keys, &[RuleKey::Within, RuleKey::See]),
+        RuleKey::Never => kinds_fault(keys, &[RuleKey::From, RuleKey::To]),
+        _ => count_fault(keys),
+    }
+}
+
+/// What is wrong with a rule of a form: a key with its value, or else that there are further keys.
+fn form_fault(keys: &Table, form: RuleKey) -> RuleFault
+    ensures { spec.IsFault (table_view keys.now) result }
+{
+    if let Some(fault) = kind_fault(keys, form) {
+        return fault;
+    }
+    match rest_fault(keys, form) {
+        Some(fault) => fault,
+        None => RuleFault::Further,
+    }
+}
+
+/// The first of the keys of the forms that a table has.
+fn form_at(keys: &Table) -> Option<RuleKey>
+    ensures { result ≡ spec.form_at (table_view keys.now) }
+{
+    if value_at(keys, RuleKey::After).is_some() {
+        Some(RuleKey::After)
+    } else if value_at(keys, RuleKey::Before).is_some() {
+        Some(RuleKey::Before)
+    } else if value_at(keys, RuleKey::Never).is_some() {
+        Some(RuleKey::Never)
+    } else if value_at(keys, RuleKey::Count).is_some() {
+        Some(RuleKey::Count)
+    } else {
+        None
+    }
+}
+
+/// What is wrong with a table whose shape is not that of a rule.
+fn table_fault(keys: &Table) -> RuleFault
+    ensures { spec.IsFault (table_view keys.now) result }
+{
+    if let Some(fault) = key_fault(keys, RuleKey::Name) {
+        return fault;
+    }
+    match form_at(keys) {
+        Some(form) => form_fault(keys, form),
+        None => RuleFault::NoForm,
+    }
+}
+
+/// What is wrong with a value whose shape is not that of a rule.
+fn fault_of(value: &Value) -> RuleFault
+    ensures { spec.IsFaultOf (view value.now) result }
+{
+    match value.as_table() {
+        Some(keys) => table_fault(keys),
+        None => RuleFault::NoTable,
+    }
+}
+
+/// What is wrong with the shape of a rule.
+fn rule_fault(value: &Value) -> Option<RuleFault>
+    ensures { IfSome result (spec.IsRuleFault (view value.now)) }
+{
+    match draft_of(value) {
+        Some(_) => None,
+        None => Some(fault_of(value)),
+    }
+}
+
+/// The first rule whose shape is wrong.
+fn shape_place(values: &[Value]) -> Option<RulesPlace>
+    ensures { IfSome result (spec.IsAmongValues (map view values.now)) }
+{
+    for (rule, value) in values.iter().enumerate() {
+        if let Some(fault) = rule_fault(value) {
+            return Some(RulesPlace::Rule { rule, fault });
+        }
+    }
+    None
+}
+
+/// The key of the first text of a rule.
+fn first_key(need: NeedDraft) -> RuleKey
+    ensures { result ≡ spec.first_key need }
+{
+    match need {
+        NeedDraft::See { .. } | NeedDraft::Not { .. } => RuleKey::After,
+        NeedDraft::Before { .. } => RuleKey::Before,
+        NeedDraft::Never { .. } => RuleKey::Never,
+        NeedDraft::Count { .. } => RuleKey::Count,
+    }
+}
+
+/// The key of its second text.
+fn second_key(need: NeedDraft) -> RuleKey
+    ensures { result ≡ spec.second_key need }
+{
+    match need {
+        NeedDraft::See { .. } | NeedDraft::Before { .. } => RuleKey::See,
+        NeedDraft::Not { .. } => RuleKey::Not,
+        NeedDraft::Never { .. } | NeedDraft::Count { .. } => RuleKey::From,
+    }
+}
+
+/// Whether a text is there that is no pattern.
+fn is_bad(alloc: Global, text: Option<&str>) -> Result<bool, AllocError>
+    ensures { IfOk result (λ b. b ≡ spec.is_bad (option_map (λ t. t.now) text.entry)) }
+{
+    match text {
+        Some(text) => Ok(!is_pattern(alloc, text)?),
+        None => Ok(false),
+    }
+}
+
+/// The key of the first text of a rule that is no pattern.
+fn pattern_key(alloc: Global, draft: &Draft<'_>) -> Result<Option<RuleKey>, AllocError>
+    ensures { IfOk result (λ o. IfSome o (spec.IsPatternFault (text_of draft.now))) }
+{
+    if !is_pattern(alloc, draft.first)? {
+        return Ok(Some(first_key(draft.need)));
+    }
+    if is_bad(alloc, draft.second)? {
+        return Ok(Some(second_key(draft.need)));
+    }
+    if is_bad(alloc, draft.third)? {
+        return Ok(Some(RuleKey::To));
+    }
+    Ok(None)
+}
+
+/// The first rule with a text that is no pattern.
+fn pattern_place(alloc: Global, drafts: &[Draft<'_>]) -> Result<Option<RulesPlace>, AllocError>
+    ensures { IfOk result (λ o. IfSome o (spec.IsAmongTexts (map text_of drafts.now))) }
+{
+    for (rule, draft) in drafts.iter().enumerate() {
+        if let Some(key) = pattern_key(alloc, draft)? {
+            return Ok(Some(RulesPlace::Pattern { rule, key }));
+        }
+    }
+    Ok(None)
+}
+
+/// The key of the first number of a rule that counts which is out of its range, or that of the most, which is under the least.
+fn count_key(least: Option<i64>, every: Option<i64>) -> RuleKey
+    ensures { spec.IsCountKey least every result }
+{
+    if may_within(0, least).is_none() {
+        RuleKey::Least
+    } else if may_within(1, every).is_none() {
+        RuleKey::Every
+    } else {
+        RuleKey::Most
+    }
+}
+
+/// The key of a number of a rule, one of which is out of its range.
+fn number_key_of(need: NeedDraft) -> RuleKey
+    ensures { spec.IsNumberKey need result }
+{
+    match need {
+        NeedDraft::Count { least, every, .. } => count_key(least, every),
+        _ => RuleKey::Within,
+    }
+}
+
+/// The key of the number of a rule that is out of its range.
+fn number_key(draft: &Draft<'_>) -> Option<RuleKey>
+    ensures { IfSome result (spec.IsNumberFault (text_of draft.now)) }
+{
+    match need_of(draft.need) {
+        Some(_) => None,
+        None => Some(number_key_of(draft.need)),
+    }
+}
+
+/// The first rule with a number out of its range, or that there are too many rules.
+fn number_place(drafts: &[Draft<'_>]) -> Option<RulesPlace>
+    ensures { IfSome result (spec.IsAmongTexts (map text_of drafts.now)) }
+{
+    for (rule, draft) in drafts.iter().enumerate() {
+        if let Some(key) = number_key(draft) {
+            return Some(RulesPlace::Number { rule, key });
+        }
+    }
+    if MOST_RULES < drafts.len() {
+        Some(RulesPlace::Crowded)
+    } else {
+        None
+    }
+}
+
+/// Where rules with the right shape are refused.
+fn drafts_place(alloc: Global, drafts: &[Draft<'_>]) -> Result<Option<RulesPlace>, AllocError>
+    ensures { IfOk result (λ o. IfSome o (spec.IsAmongTexts (map text_of drafts.now))) }
+{
+    match pattern_place(alloc, drafts)? {
+        Some(place) => Ok(Some(place)),
+        None => Ok(number_place(drafts)),
+    }
+}
+
+/// Where a document is refused.
+fn document_place(alloc: Global, keys: &Table) -> Result<Option<RulesPlace>, AllocError>
+    ensures { IfOk result (λ o. IfSome o (spec.IsDocumentFault (table_view keys.now))) }
+{
+    let Some(values) = rules_in(keys) else {
+        return Ok(Some(RulesPlace::List));
+    };
+    if let Some(place) = shape_place(values) {
+        return Ok(Some(place));
+    }
+    match drafts_of(alloc, keys)? {
+        Some(drafts) => drafts_place(alloc, drafts.as_slice()),
+        None => Ok(None),
+    }
+}
+
+/// Where the rules in these bytes are refused, if they are.
+///
+/// # Errors
+///
+/// When memory runs out.
+pub fn rules_place(alloc: Global, bytes: &[u8]) -> Result<Option<RulesPlace>, AllocError>
+    ensures { IfOk result (λ o. IfSome o (spec.IsPlace bytes.now)) }
+{
+    if bytes.len() > MOST_BYTES {
+        return Ok(Some(RulesPlace::Bytes));
+    }
+    match toml::table_from_slice(alloc, bytes) {
+        Ok(keys) => document_place(alloc, &keys),
+        Err(error) => match error.span() {
+            Some(span) => Ok(Some(RulesPlace::Document(span.start))),
+            None => Err(AllocError),
+        },
+    }
+}

@@ -1,0 +1,327 @@
+//! Reports in the form of the Test Anything Protocol, version 14.
+
+ghost use Rattle.std.specs.Prelude.{◌≡◌, ◌+◌, ◌^◌, ◌<◌, ◌++◌, IfOk, OnOk, decimal, length, map, string_bytes};
+ghost use Rattle.fb_expect.specs.Reports as spec;
+
+use crate::judging::Judged;
+use crate::pattern::Pattern;
+use crate::rule::Rule;
+use crate::sight::Sight;
+use crate::verdict::{Breach, Fault, Verdict};
+use std::alloc::{AllocError, Global};
+
+/// One text behind the other.
+pub(crate) fn join(alloc: Global, parts: &[&[u8]]) -> Result<Vec<u8>, AllocError>
+    ensures { IfOk result (λ t. t.items ≡ spec.joined (map (λ p. p.now) parts.now)) }
+{
+    let mut text = Vec::new(alloc);
+    for part in parts {
+        text.extend_from_slice(part)?;
+    }
+    Ok(text)
+}
+
+/// The decimal digits of a number.
+pub(crate) fn digits_of(alloc: Global, number: u128) -> Result<String, AllocError>
+    ensures { IfOk result (λ t. string_bytes t ≡ decimal number) }
+{
+    format!(in alloc; "{number}")
+}
+
+/// A byte as it is shown: a control character as a question mark.
+fn shown(byte: u8) -> u8
+    ensures { result ≡ spec.shown byte }
+{
+    if 32 <= byte && byte != 127 {
+        byte
+    } else {
+        b'?'
+    }
+}
+
+/// Puts a byte behind a text, with a backslash before a backslash and before a mark.
+fn put_escaped(text: &mut Vec<u8>, byte: u8, mark: u8) -> Result<(), AllocError>
+    ensures { OnOk result (text.new.items ≡ text.old.items ++ spec.escaped_byte mark byte) }
+{
+    if byte == b'\\' || byte == mark {
+        text.push(b'\\')?;
+    }
+    text.push(shown(byte))?;
+    Ok(())
+}
+
+/// A text with a backslash before each backslash and each mark, and a question mark for each control character.
+fn escaped(alloc: Global, part: &[u8], mark: u8) -> Result<Vec<u8>, AllocError>
+    ensures { IfOk result (λ t. t.items ≡ spec.escaped mark part.now) }
+{
+    let mut text = Vec::with_capacity(alloc, part.len())?;
+    for byte in part {
+        put_escaped(&mut text, *byte, mark)?;
+    }
+    Ok(text)
+}
+
+/// A line of a block: its key, and a text in quotes.
+#[tactic(auto, unfolding(crate::specs::Reports::quoted))]
+fn quoted(alloc: Global, key: &[u8], value: &[u8]) -> Result<Vec<u8>, AllocError>
+    ensures { IfOk result (λ t. t.items ≡ spec.quoted key.now value.now) }
+{
+    let value = escaped(alloc, value, b'"')?;
+    join(alloc, &[b"  ", key, b": \"", value.as_slice(), b"\"\n"])
+}
+
+/// A line of a block: its key, and a number.
+#[tactic(auto, unfolding(crate::specs::Reports::numbered))]
+fn numbered(alloc: Global, key: &[u8], value: u64) -> Result<Vec<u8>, AllocError>
+    ensures { IfOk result (λ t. t.items ≡ spec.numbered key.now value) }
+{
+    let digits = digits_of(alloc, u128::from(value))?;
+    join(alloc, &[b"  ", key, b": ", digits.as_bytes(), b"\n"])
+}
+
+/// What is said of a fault.
+fn message_of(fault: Fault) -> &'static [u8]
+    ensures { result.now ≡ spec.message_of fault }
+{
+    match fault {
+        Fault::Unanswered => b"nothing that is to be seen follows in time",
+        Fault::Answered => b"this follows too soon",
+        Fault::Unprepared => b"nothing that is to be seen comes in time before",
+        Fault::Forbidden => b"this may not be here",
+        Fault::Fewer => b"too few up to here",
+        Fault::More => b"too many with this",
+    }
+}
+
+/// Which trace a point is of.
+#[derive(Clone, Copy)]
+pub struct Of<'a> {
+    /// The name of its file.
+    pub trace: &'a str,
+    /// Whether points have its name, as they do where there are several traces.
+    pub is_named: bool,
+}
+
+/// The name of the trace, where points have it.
+#[tactic(auto, unfolding(crate::specs::Reports::trace_mark))]
+fn trace_mark(alloc: Global, of: Of<'_>) -> Result<Vec<u8>, AllocError>
+    ensures { IfOk result (λ t. t.items ≡ spec.trace_mark of.entry) }
+{
+    if !of.is_named {
+        return Ok(Vec::new(alloc));
+    }
+    let trace = escaped(alloc, of.trace.as_bytes(), b'#')?;
+    join(alloc, &[b" (", trace.as_slice(), b")"])
+}
+
+/// What a point begins with.
+fn first_word(is_well: bool) -> &'static [u8]
+    ensures { result.now ≡ spec.first_word is_well }
+{
+    if is_well { b"ok " } else { b"not ok " }
+}
+
+/// The beginning of a point: whether it is well, its number, its rule, and its trace.
+#[tactic(auto, unfolding(crate::specs::Reports::head))]
+fn head(
+    alloc: Global,
+    is_well: bool,
+    number: u128,
+    rule: &Rule,
+    of: Of<'_>,
+) -> Result<Vec<u8>, AllocError>
+    ensures { IfOk result (λ t. t.items ≡ spec.head is_well number rule.now of.entry) }
+{
+    let digits = digits_of(alloc, number)?;
+    let name = escaped(alloc, rule.name.as_slice(), b'#')?;
+    let mark = trace_mark(alloc, of)?;
+    join(
+        alloc,
+        &[
+            first_word(is_well),
+            digits.as_bytes(),
+            b" - ",
+            name.as_slice(),
+            mark.as_slice(),
+        ],
+    )
+}
+
+/// The block of a breach.
+#[tactic(auto, unfolding(crate::specs::Reports::breach_block))]
+fn breach_block(alloc: Global, trace: &str, breach: Breach) -> Result<Vec<u8>, AllocError>
+    ensures { IfOk result (λ t. t.items ≡ spec.breach_block trace.now breach) }
+{
+    let message = quoted(alloc, b"message", message_of(breach.fault))?;
+    let trace = quoted(alloc, b"trace", trace.as_bytes())?;
+    let line = numbered(alloc, b"line", breach.line)?;
+    let tick = numbered(alloc, b"tick", breach.tick)?;
+    join(
+        alloc,
+        &[
+            b"  ---\n",
+            message.as_slice(),
+            trace.as_slice(),
+            line.as_slice(),
+            tick.as_slice(),
+            b"  ...\n",
+        ],
+    )
+}
+
+/// The block of a rule that has to be decided, and is not.
+#[tactic(auto, unfolding(crate::specs::Reports::undecided_block))]
+fn undecided_block(alloc: Global, trace: &str) -> Result<Vec<u8>, AllocError>
+    ensures { IfOk result (λ t. t.items ≡ spec.undecided_block trace.now) }
+{
+    let message = quoted(alloc, b"message", b"undecided: the trace ends before that")?;
+    let trace = quoted(alloc, b"trace", trace.as_bytes())?;
+    join(
+        alloc,
+        &[b"  ---\n", message.as_slice(), trace.as_slice(), b"  ...\n"],
+    )
+}
+
+/// The end of a point's line, and the block behind it.
+fn tail(
+    alloc: Global,
+    is_strict: bool,
+    trace: &str,
+    verdict: Verdict,
+) -> Result<Vec<u8>, AllocError>
+    ensures { IfOk result (λ t. t.items ≡ spec.tail is_strict trace.now verdict) }
+{
+    match verdict {
+        Verdict::Holds => join(alloc, &[b"\n"]),
+        Verdict::Broken(breach) => {
+            let block = breach_block(alloc, trace, breach)?;
+            join(alloc, &[b"\n", block.as_slice()])
+        }
+        Verdict::Undecided => {
+            if is_strict {
+                let block = undecided_block(alloc, trace)?;
+                join(alloc, &[b"\n", block.as_slice()])
+            } else {
+                join(alloc, &[b" # SKIP undecided\n"])
+            }
+        }
+    }
+}
+
+/// A line that says what a trace does not have of a pattern, or nothing.
+fn comment(alloc: Global, pattern: &Pattern, sight: Sight) -> Result<Vec<u8>, AllocError>
+    ensures { IfOk result (λ t. t.items ≡ spec.comment pattern.now sight) }
+{
+    let text = pattern.text.as_slice();
+    match sight {
+        Sight::Nothing => join(alloc, &[b"# no line of the trace is of: ", text, b"\n"]),
+        Sight::Port => join(
+            alloc,
+            &[
+                b"# no such line of the trace has the variables of: ",
+                text,
+                b"\n",
+            ],
+        ),
+        Sight::All => Ok(Vec::new(alloc)),
+    }
+}
+
+/// The same of a pattern that may be absent.
+fn may_comment(
+    alloc: Global,
+    pattern: &Option<Pattern>,
+    sight: Sight,
+) -> Result<Vec<u8>, AllocError>
+    ensures { IfOk result (λ t. t.items ≡ spec.may_comment pattern.now sight) }
+{
+    match pattern {
+        Some(pattern) => comment(alloc, pattern, sight),
+        None => Ok(Vec::new(alloc)),
+    }
+}
+
+/// Whether a verdict is well.
+fn is_well(is_strict: bool, verdict: Verdict) -> bool
+    ensures { result ≡ spec.is_well is_strict verdict }
+{
+    match verdict {
+        Verdict::Holds => true,
+        Verdict::Undecided => !is_strict,
+        Verdict::Broken(_) => false,
+    }
+}
+
+/// Whether all rules are well at a trace.
+pub fn are_well(is_strict: bool, judged: &[Judged]) -> bool
+    ensures { result ≡ spec.are_well is_strict judged.now }
+{
+    for one in judged {
+        if !is_well(is_strict, one.verdict) {
+            return false;
+        }
+    }
+    true
+}
+
+/// The point of a rule at a trace.
+#[tactic(auto, unfolding(crate::specs::Reports::point))]
+fn point(
+    alloc: Global,
+    is_strict: bool,
+    of: Of<'_>,
+    number: u128,
+    rule: &Rule,
+    judged: &Judged,
+) -> Result<Vec<u8>, AllocError>
+    ensures { IfOk result (λ t. t.items ≡ spec.point is_strict of.entry number rule.now judged.now) }
+{
+    let verdict = judged.verdict;
+    let head = head(alloc, is_well(is_strict, verdict), number, rule, of)?;
+    let tail = tail(alloc, is_strict, of.trace, verdict)?;
+    let first = comment(alloc, &rule.first, judged.sights.first)?;
+    let second = may_comment(alloc, &rule.second, judged.sights.second)?;
+    let third = may_comment(alloc, &rule.third, judged.sights.third)?;
+    join(
+        alloc,
+        &[
+            head.as_slice(),
+            tail.as_slice(),
+            first.as_slice(),
+            second.as_slice(),
+            third.as_slice(),
+        ],
+    )
+}
+
+/// The beginning of a report: the version, and how many points follow.
+#[tactic(auto, unfolding(crate::specs::Reports::plan))]
+pub fn plan(alloc: Global, count: u128) -> Result<Vec<u8>, AllocError>
+    ensures { IfOk result (λ t. t.items ≡ spec.plan count) }
+{
+    let digits = digits_of(alloc, count)?;
+    join(alloc, &[b"TAP version 14\n1..", digits.as_bytes(), b"\n"])
+}
+
+/// Puts the points of all rules at a trace behind a text, numbered behind those of other traces. There is what came of
+/// each rule.
+pub fn put_points(
+    alloc: Global,
+    text: &mut Vec<u8>,
+    is_strict: bool,
+    of: Of<'_>,
+    before: u128,
+    rules: &[Rule],
+    judged: &[Judged],
+) -> Result<(), AllocError>
+    requires each { length judged.now ≡ length rules.now }
+    requires room { before + length rules.now < 2 ^ 128 }
+    ensures { OnOk result (text.new.items ≡ text.old.items ++ spec.points is_strict of.entry before rules.now judged.now) }
+{
+    for (index, rule) in rules.iter().enumerate() {
+        let number = before + index as u128 + 1;
+        let point = point(alloc, is_strict, of, number, rule, &judged[index])?;
+        text.extend_from_slice(point.as_slice())?;
+    }
+    Ok(())
+}

@@ -1,0 +1,192 @@
+//! What comes of a rule.
+
+ghost use Rattle.std.specs.Prelude.{◌≡◌, List};
+ghost use Rattle.fb_expect.specs.Rules as spec;
+ghost use Rattle.fb_expect.specs.Rules.{IsVerdict};
+ghost use Rattle.fb_expect.specs.Traces.{tick_of};
+ghost use Rattle.fb_expect.specs.Watching.{Concludes, IsBelow, IsClean, KnowsLast, KnowsSee};
+ghost use Rattle.fb_expect.specs.declared.hit.Hit.{Hit};
+
+use crate::ending::End;
+use crate::rule::Need;
+use crate::watch::{Bounds, Mark, Watch, is_past, lacks, window_of};
+
+/// What is wrong at a line.
+#[derive(Clone, Copy)]
+pub enum Fault {
+    /// No line that is asked for follows in time.
+    Unanswered,
+    /// The line follows another that it must not follow so soon.
+    Answered,
+    /// No line that is asked for stands before it, or too long before.
+    Unprepared,
+    /// The line stands where none may.
+    Forbidden,
+    /// A window is over, and has too few of the lines.
+    Fewer,
+    /// With this line there are too many.
+    More,
+}
+
+/// Where a rule breaks first.
+#[derive(Clone, Copy)]
+pub struct Breach {
+    /// The number of the line, from 1.
+    pub line: u64,
+    pub tick: u64,
+    pub fault: Fault,
+}
+
+/// What comes of a rule at a trace.
+#[derive(Clone, Copy)]
+pub enum Verdict {
+    Holds,
+    /// It breaks, and at this line first.
+    Broken(Breach),
+    /// It does not break, and the trace ends before that is settled.
+    Undecided,
+}
+
+/// What comes of a rule where this waits, or nothing.
+fn conclude_mark(within: u64, mark: Option<Mark>, end: End) -> Verdict
+    ensures { (hs : List Hit) → IsBelow hs (tick_of end) → KnowsSee within hs mark → IsVerdict (Need.See within) hs end result }
+{
+    match mark {
+        Some(mark) => {
+            if is_past(mark.tick, within, end.tick()) {
+                Verdict::Broken(Breach {
+                    line: mark.line,
+                    tick: mark.tick,
+                    fault: Fault::Unanswered,
+                })
+            } else {
+                Verdict::Undecided
+            }
+        }
+        None => Verdict::Holds,
+    }
+}
+
+fn conclude_see(within: u64, watch: Watch, line: u64, end: End) -> Verdict
+    ensures { Concludes (Need.See within) watch line end result }
+{
+    match watch {
+        Watch::Broken(breach) => Verdict::Broken(breach),
+        Watch::See(mark) => conclude_mark(within, mark, end),
+        _ => Verdict::Holds,
+    }
+}
+
+/// What comes of a rule where this is the tick of its last P.
+fn conclude_last(within: u64, last: Option<u64>, end: End) -> Verdict
+    ensures { (hs : List Hit) → KnowsLast (λ h. h.first) hs last → IsClean (Need.Not within) hs → IsVerdict (Need.Not within) hs end result }
+{
+    match last {
+        Some(last) => {
+            if is_past(last, within, end.tick()) {
+                Verdict::Holds
+            } else {
+                Verdict::Undecided
+            }
+        }
+        None => Verdict::Holds,
+    }
+}
+
+fn conclude_not(within: u64, watch: Watch, line: u64, end: End) -> Verdict
+    ensures { Concludes (Need.Not within) watch line end result }
+{
+    match watch {
+        Watch::Broken(breach) => Verdict::Broken(breach),
+        Watch::Not(last) => conclude_last(within, last, end),
+        _ => Verdict::Holds,
+    }
+}
+
+fn conclude_before(within: u64, watch: Watch, line: u64, end: End) -> Verdict
+    ensures { Concludes (Need.Before within) watch line end result }
+{
+    match watch {
+        Watch::Broken(breach) => Verdict::Broken(breach),
+        _ => Verdict::Holds,
+    }
+}
+
+fn conclude_never(from_start: bool, watch: Watch, line: u64, end: End) -> Verdict
+    ensures { Concludes (Need.Never from_start) watch line end result }
+{
+    match watch {
+        Watch::Broken(breach) => Verdict::Broken(breach),
+        _ => Verdict::Holds,
+    }
+}
+
+/// How many windows are over at an end.
+fn windows_over(every: Option<u64>, end: End) -> u64
+    ensures { result ≡ spec.windows_over every end }
+{
+    match every {
+        Some(length) => window_of(Some(length), end.tick()),
+        None => match end {
+            End::Cut(_) => 0,
+            End::Horizon(_) | End::Stop(_) => 1,
+        },
+    }
+}
+
+/// Whether an end is within a window.
+fn is_amid(every: Option<u64>, end: End) -> bool
+    ensures { result ≡ spec.is_amid every end }
+{
+    match end {
+        End::Cut(_) => true,
+        End::Stop(_) => every.is_some(),
+        End::Horizon(horizon) => match every {
+            None | Some(0) => false,
+            Some(length) => horizon % length != 0,
+        },
+    }
+}
+
+/// What comes of counts where this is known of the last window.
+fn conclude_window(bounds: Bounds, window: u64, count: u64, line: u64, end: End) -> Verdict
+    ensures { Concludes (Need.Count bounds.least bounds.most bounds.every) (Watch.Count window count) line end result }
+{
+    if lacks(bounds.least, window, count, windows_over(bounds.every, end)) {
+        return Verdict::Broken(Breach {
+            line,
+            tick: end.tick(),
+            fault: Fault::Fewer,
+        });
+    }
+    if is_amid(bounds.every, end) {
+        Verdict::Undecided
+    } else {
+        Verdict::Holds
+    }
+}
+
+fn conclude_count(bounds: Bounds, watch: Watch, line: u64, end: End) -> Verdict
+    ensures { Concludes (Need.Count bounds.least bounds.most bounds.every) watch line end result }
+{
+    match watch {
+        Watch::Broken(breach) => Verdict::Broken(breach),
+        Watch::Count { window, count } => conclude_window(bounds, window, count, line, end),
+        _ => Verdict::Holds,
+    }
+}
+
+/// What comes of a rule when the whole trace was read, and this is the number of its last line.
+pub(crate) fn verdict_of(need: Need, watch: Watch, line: u64, end: End) -> Verdict
+    ensures { Concludes need watch line end result }
+{
+    match need {
+        Need::See { within } => conclude_see(within, watch, line, end),
+        Need::Not { within } => conclude_not(within, watch, line, end),
+        Need::Before { within } => conclude_before(within, watch, line, end),
+        Need::Never { from_start } => conclude_never(from_start, watch, line, end),
+        Need::Count { least, most, every } => {
+            conclude_count(Bounds { least, most, every }, watch, line, end)
+        }
+    }
+}

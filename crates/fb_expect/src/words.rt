@@ -1,0 +1,63 @@
+//! Words of a text.
+
+ghost use Rattle.std.specs.Prelude.{◌≡◌, ◌++◌, [], IfNone, IfSome, nat_eq, option_map};
+ghost use Rattle.std.specs.List.{slice_split};
+ghost use Rattle.fb_expect.specs.Words as spec;
+
+/// Whether a byte ends a word of a line: a blank or a line feed.
+fn is_end(byte: u8) -> bool {
+    byte == b' ' || byte == b'\n'
+}
+
+/// The bytes before the first that ends a word, and the rest from that one on.
+pub(crate) fn cut(text: &[u8]) -> Option<(&[u8], &[u8])>
+    ensures { IfSome result (λ p. text.now ≡ p.0.now ++ p.1.now) }
+{
+    for (place, byte) in text.iter().enumerate() {
+        if is_end(*byte) {
+            return Some((&text[..place], &text[place..]));
+        }
+    }
+    None
+}
+
+/// What stands behind a front.
+pub(crate) fn behind<'a>(text: &'a [u8], front: &[u8]) -> Option<&'a [u8]>
+    ensures parts { IfSome result (λ rest. text.now ≡ front.now ++ rest.now) }
+    ensures exact { option_map (λ rest. rest.now) result ≡ spec.behind front.now text.now }
+{
+    text.strip_prefix(front)
+}
+
+/// What stands before an end.
+pub(crate) fn before<'a>(text: &'a [u8], end: &[u8]) -> Option<&'a [u8]>
+    ensures parts { IfSome result (λ front. text.now ≡ front.now ++ end.now) }
+    ensures exact { option_map (λ front. front.now) result ≡ spec.before end.now text.now }
+{
+    text.strip_suffix(end)
+}
+
+/// The words behind the blank that a text begins with. None where nothing stands there.
+pub(crate) fn behind_blank(text: &[u8]) -> Option<&[u8]>
+    ensures some { IfSome result (λ words. spec.words_behind text.now ≡ slice_split (nat_eq 32) words.now) }
+    ensures none { IfNone result (spec.words_behind text.now ≡ []) }
+{
+    if text.is_empty() {
+        None
+    } else {
+        Some(&text[1..])
+    }
+}
+
+/// What stands before the first place of a mark, and what stands behind it.
+#[tactic(auto, unfolding(crate::specs::Words::parted))]
+pub(crate) fn parted(text: &[u8], mark: u8) -> Option<(&[u8], &[u8])>
+    ensures { option_map (λ p. (p.0.now, p.1.now)) result ≡ spec.parted mark text.now }
+{
+    for at in 0..text.len() {
+        if text[at] == mark {
+            return Some((&text[..at], &text[at + 1..]));
+        }
+    }
+    None
+}

@@ -1,0 +1,122 @@
+-- How a call for a graph ends.
+use Rattle.std.proofs.Common.{◌≡◌, ℕ, List, Option, Some, None, Result, Ok, Err, refl, sym, ◌∙◌, ap, subst, inl, inr}
+use Rattle.std.specs.Io.KnownBytes.{Appends}
+use Rattle.std.specs.Global.{Vec}
+use Rattle.std.specs.Prelude.{IfErr, IfOk, IsErrAnd, option_and_then, option_map}
+use Rattle.clap.specs.Words.{Text}
+use Rattle.fb_types.specs.Headline.{Inputs}
+use Rattle.fb_types.specs.declared.deploy.Plan.{Plan}
+use Rattle.fb_types.specs.declared.library.Library.{Library}
+use Rattle.fb_draw.specs.Drawings.{graph_text}
+use Rattle.fb_inputs.specs.Words.{name}
+use Rattle.fb_read.specs.declared.error.ReadError.{ReadError}
+use Rattle.fb_read.specs.declared.error.ReadError.TheVariants as read
+use Rattle.fb_check.specs.Refusals as check
+use Rattle.fb_inputs.specs.Refusals as input
+use Rattle.fb_sim.specs.Given.{Given}
+use Rattle.fb_sim.specs.Serial.{Declares, IsRefusal, IsRightly}
+use Rattle.fb_sim.specs.declared.outcome.Refusal as sim
+use Rattle.fb_sim.specs.declared.outcome.Refusal.TheVariants as of
+use Rattle.fb_sim.specs.declared.outcome.RunError.{RunError}
+use Rattle.fb_sim.specs.declared.outcome.RunError.TheVariants as run
+use Rattle.fbsim_command.specs.Drawing.{Draws, IsGraph, IsUndrawn, WritesGraph, files_of, graph_of, type_asked}
+use Rattle.fbsim_command.specs.Failures.{WritesPart, failure_of, failure_of_source, numbered_input}
+use Rattle.fbsim_command.specs.Outcomes.{End, Held, IsRefused}
+use Rattle.fbsim_command.specs.Reading.{Reading, AreRead, IsUnread}
+use Rattle.fbsim_command.specs.declared.draw.Draw.{Draw}
+use Rattle.fbsim_command.specs.declared.failure.Failure.{Failure}
+use Rattle.fbsim_command.specs.declared.failure.Failure.TheVariants.{Refused, RefusedTrace, File, Write, Memory, Line, BadOption}
+use Rattle.fbsim_command.specs.declared.failure.RefusalLine.TheVariants.{Numbered}
+use Rattle.fbsim_command.specs.declared.line.Task.{Task}
+use Rattle.fbsim_command.specs.declared.sources.SourceFault.{SourceFault}
+use Rattle.fbsim_command.specs.declared.texts.Part.{Part}
+
+-- ---- What is drawn
+
+abbrev bytes_of : Option (Vec ℕ) → Option (List ℕ)
+bytes_of o = option_map (λ v. v.items) o
+
+-- the application
+pub whole :
+    {E : Type 0} (r : Result (Option (Vec ℕ)) E) (i : Inputs) (library : Library) (plan : Plan) (asked : Option Text) → library ≡ i.library → plan ≡ i.plan → asked ≡ None
+    → IfOk r (λ g. bytes_of g ≡ graph_text library plan None) → IfOk r (λ g. bytes_of g ≡ graph_of i asked)
+whole (Ok g) i library plan asked same planned none drawn = drawn ∙ (λ k. graph_text (same k) (planned k) None) ∙ ap (graph_of i) (sym none)
+whole (Err e) i library plan asked same planned none drawn = tt
+
+-- the type that a text names
+pub named :
+    {E : Type 0} (r : Result (Option (Vec ℕ)) E) (i : Inputs) (library : Library) (plan : Plan) (asked : Option Text) (text n : Text) → library ≡ i.library → plan ≡ i.plan
+    → asked ≡ Some text → name text ≡ Some n → IfOk r (λ g. bytes_of g ≡ graph_text library plan (Some n)) → IfOk r (λ g. bytes_of g ≡ graph_of i asked)
+named (Ok g) i library plan asked text n same planned is names drawn =
+    drawn ∙ (λ k. graph_text (same k) (planned k) (Some n)) ∙ ap (option_and_then (λ (n : Text). graph_text i.library i.plan (Some n))) (sym names) ∙ ap (graph_of i) (sym is)
+named (Err e) i library plan asked text n same planned is names drawn = tt
+
+-- a text that is no name
+pub unnamed : (i : Inputs) (asked : Option Text) (text : Text) → asked ≡ Some text → name text ≡ None → None ≡ graph_of i asked
+unnamed i asked text is none = ap (option_and_then (λ (n : Text). graph_text i.library i.plan (Some n))) (sym none) ∙ ap (graph_of i) (sym is)
+
+-- what came of accepted inputs is their graph
+pub drawn : (given : Given) (i : Inputs) (asked : Option Text) (o : Option (Vec ℕ)) (v : Vec ℕ) → Declares given i → bytes_of o ≡ graph_of i asked → o ≡ Some v → IsGraph given asked v.items
+drawn given i asked o v declared same is = record { inputs = i; declared = declared; graph = sym same ∙ ap bytes_of is }
+
+-- there is none
+pub undeclared : (given : Given) (i : Inputs) (asked : Option Text) (o : Option (Vec ℕ)) → Declares given i → bytes_of o ≡ graph_of i asked → o ≡ None → IsUndrawn given asked (Refused (Numbered 21))
+undeclared given i asked o declared same none = inr (record { inputs = i; declared = declared; none = sym same ∙ ap bytes_of none }, refl)
+
+-- ---- How a call ends
+
+-- nothing is drawn where the inputs are refused
+pub refused : (given : Given) (asked : Option Text) (error : RunError) → IsRefusal given error → IsUndrawn given asked (failure_of error)
+refused given asked (run.Refused r) is = refusal r is
+  where
+    numbered : (r : sim.Refusal) → IsRightly given r → (o : Option ℕ) → failure_of (run.Refused r) ≡ numbered_input o → IsUndrawn given asked (numbered_input o)
+    numbered r is (Some n) told = inl (record { error = run.Refused r; refused = is; told = told })
+    numbered r is None told = tt
+
+    unread : (e : ReadError) → IsRightly given (of.Declaration e) → IsUndrawn given asked (failure_of (run.Refused (of.Declaration e)))
+    unread read.Memory is = tt
+    unread read.Byte is = inl (record { error = run.Refused (of.Declaration read.Byte); refused = is; told = refl })
+    unread read.Token is = inl (record { error = run.Refused (of.Declaration read.Token); refused = is; told = refl })
+    unread (read.Syntax line) is = inl (record { error = run.Refused (of.Declaration (read.Syntax line)); refused = is; told = refl })
+    unread read.TooLong is = inl (record { error = run.Refused (of.Declaration read.TooLong); refused = is; told = refl })
+    unread read.Nesting is = inl (record { error = run.Refused (of.Declaration read.Nesting); refused = is; told = refl })
+
+    refusal : (r : sim.Refusal) → IsRightly given r → IsUndrawn given asked (failure_of (run.Refused r))
+    refusal (of.Declaration e) is = unread e is
+    refusal (of.Deployment e) is = numbered (of.Deployment e) is (input.number_of e) refl
+    refusal (of.Stimuli e) is = numbered (of.Stimuli e) is (input.number_of e) refl
+    refusal (of.Check e) is = numbered (of.Check e) is (check.number_of e) refl
+refused given asked run.Memory is = tt
+refused given asked (run.Write n) is = absurd is
+refused given asked run.BadOption is = absurd is
+refused given asked run.Failed is = absurd is
+
+-- a failure that is passed on writes nothing
+pub undrawn : (given : Given) (asked : Option Text) (old : Held) (end : End) (f : Failure) → IsErrAnd end (λ g. g ≡ f) → IsUndrawn given asked f → WritesGraph given asked old old end
+undrawn given asked old (Ok d) f bad is = absurd bad
+undrawn given asked old (Err g) f same is = by g (subst (IsUndrawn given asked) (sym same) is)
+  where
+    by : (g : Failure) → IsUndrawn given asked g → WritesGraph given asked old old (Err g)
+    by (Refused refusal) is = (is, refl)
+    by Memory is = refl
+    by (RefusedTrace text) is = absurd is
+    by File is = absurd is
+    by (Write n) is = absurd is
+    by (Line message) is = absurd is
+    by BadOption is = absurd is
+
+-- a graph of which a part is written
+pub unwritten :
+    (given : Given) (asked : Option Text) (old new : Held) (text bytes : Text) (end : End) (f : Failure) → IsGraph given asked text → bytes ≡ text → IsErrAnd end (λ g. g ≡ f)
+    → WritesPart old new bytes f → WritesGraph given asked old new end
+unwritten given asked old new text bytes (Ok d) f is same bad part = absurd bad
+unwritten given asked old new text bytes (Err g) f is same passed part = by g (subst (WritesPart old new bytes) (sym passed) part)
+  where
+    by : (g : Failure) → WritesPart old new bytes g → WritesGraph given asked old new (Err g)
+    by (Write n) part = (bytes, subst (IsGraph given asked) (sym same) is, part)
+    by (Refused refusal) part = absurd part
+    by (RefusedTrace message) part = absurd part
+    by File part = absurd part
+    by Memory part = absurd part
+    by (Line message) part = absurd part
+    by BadOption part = absurd part

@@ -1,0 +1,256 @@
+-- Rules that are held against traces, one after the other.
+use Rattle.std.proofs.Common.{◌≡◌, ℕ, suc, ◌+◌, ◌*◌, ◌^◌, ◌<◌, ◌≤◌, Bool, true, false, Bor, List, [], ◌∷◌, ◌++◌, length, get_or, map, take, drop, Option, Some, None, Result, Ok, Err, refl, sym, ap, ap₂, ◌∙◌, subst, append_assoc, append-nil, inl, inr, arith, mul-le-mul_left}
+use Rattle.std.specs.Prelude.{◌&&◌, IfErr, IfSome, IsErrAnd, nat_lt}
+use Rattle.std.specs.Io.KnownBytes.{Appends}
+use Rattle.std.specs.List.{list_all}
+use Rattle.std.proofs.lemmas.List.{drop_more, length-map, length-take-le, map-append, take-append-drop, take_more}
+use Rattle.std.proofs.lemmas.List.Folds.{list_all-append}
+use Rattle.clap.specs.Words.{Text}
+use Rattle.fb_sim.specs.Given.{Given}
+use Rattle.fb_expect.specs.Judging.{Judges}
+use Rattle.fb_expect.specs.Reports.{are_well, plan, points}
+use Rattle.fb_expect.specs.declared.judging.Cut.{Cut}
+use Rattle.fb_expect.specs.declared.judging.Judged.{Judged}
+use Rattle.fb_expect.specs.declared.rule.Rule.{Rule}
+use Rattle.fbsim_command.specs.Expecting.{AreHeld, AreRules, AreUnheld, ComesTo, Holds, IsHeld, IsRefusedAt, IsUnheld, Puts, PutsOne, Reports, all_well, cut_of, names_of, points_of, report_of}
+use Rattle.fbsim_command.specs.Failures.{IsPartWritten, WritesPart, failure_of_source}
+use Rattle.fbsim_command.specs.Outcomes.{End, Held}
+use Rattle.fbsim_command.specs.Showing.{Opening}
+use Rattle.fbsim_command.specs.declared.bench_line.Expect.{Expect}
+use Rattle.fbsim_command.specs.declared.failure.Failure.{Failure}
+use Rattle.fbsim_command.specs.declared.failure.Failure.TheVariants.{Refused, RefusedTrace, File, Write, Memory, Line, BadOption}
+use Rattle.fbsim_command.specs.declared.sources.SourceFault.{SourceFault}
+use Rattle.fbsim_command.specs.declared.sources.SourceFault.TheVariants as source
+use Rattle.fbsim_command.specs.declared.statuses.Done.TheVariants.{Met, Unmet}
+
+abbrev now : Bor Text → Text
+now t = t.now
+
+-- ---- Numbers of points
+
+pub room : (n i : ℕ) → n < 2 ^ 64 → i < 2 ^ 64 → n * i + n < 2 ^ 128
+room n i few low =
+    let most = mul-le-mul_left n (let le : i + 1 ≤ 2 ^ 64 = omega arith in le) in
+    omega (arith, most)
+
+pub product : (n i : ℕ) → n < 2 ^ 64 → i < 2 ^ 64 → n * i < 2 ^ 128
+product n i few low = let all = room n i few low in omega arith
+
+-- ---- A trace
+
+-- a failure that is passed on
+pub passed-on : {B : Type 0} (r : Result B Failure) (f : Failure) (P : Failure → Type 0) → IsErrAnd r (λ g. g ≡ f) → P f → IfErr r P
+passed-on (Ok b) f P bad p = absurd bad
+passed-on (Err g) f P same p = subst P (sym same) p
+
+-- it is not opened
+pub unopened : {S : Type 0} (opens : Opening S) (old new : S) (name : Text) (fault : SourceFault) → opens old name (Err fault) new → IsUnheld opens old new name (failure_of_source fault)
+unopened opens old new name source.File is = inl is
+unopened opens old new name source.Memory is = tt
+
+-- it is refused
+pub refused-at :
+    {S : Type 0} (opens : Opening S) (old new : S) (name : Text) (line : ℕ) (trace : Held) (f : Failure) → opens old name (Ok trace) new → IsRefusedAt name line f
+    → IsUnheld opens old new name f
+refused-at opens old new name line trace (RefusedTrace text) is told = (trace, is, (line, told))
+refused-at opens old new name line trace Memory is told = tt
+refused-at opens old new name line trace (Refused refusal) is told = absurd told
+refused-at opens old new name line trace File is told = absurd told
+refused-at opens old new name line trace (Write n) is told = absurd told
+refused-at opens old new name line trace (Line message) is told = absurd told
+refused-at opens old new name line trace BadOption is told = absurd told
+
+-- it is held
+pub held-one :
+    {S : Type 0} (opens : Opening S) (x : Expect) (rules : List Rule) (old new : S) (name : Text) (trace : Held) (cut : Cut) (js : List Judged) → cut ≡ cut_of x
+    → opens old name (Ok trace) new → IfSome trace (λ text. Judges cut text rules js) → IsHeld opens x rules old new name js
+held-one opens x rules old new name trace cut js same is judged =
+    record { trace = trace; opened = is; judged = subst (λ (k : Cut). IfSome trace (λ text. Judges k text rules js)) same judged }
+
+-- its points are put behind a text
+pub put-one :
+    {S : Type 0} (opens : Opening S) (x : Expect) (rules : List Rule) (i : ℕ) (t : Bor Text) (old new : S) (before text : Text) (well named : Bool) (count : ℕ) (js ks ls : List Judged)
+    → IsHeld opens x rules old new t.now js → text ≡ before ++ points x.is_strict (record { trace = t; is_named = named }) count rules ks
+    → named ≡ nat_lt 1 (length x.traces.items) → count ≡ length rules * i → ks ≡ js → ls ≡ js → well ≡ are_well x.is_strict ls → PutsOne opens x rules i t old new before text well
+put-one opens x rules i t old new before text well named count js ks ls held is many counted first second fine =
+    record {
+      judged = js;
+      held = held;
+      is =
+          is ∙ ap (λ (b : Bool). before ++ points x.is_strict (record { trace = t; is_named = b }) count rules ks) many
+          ∙ ap (λ (n : ℕ). before ++ points x.is_strict (record { trace = t; is_named = nat_lt 1 (length x.traces.items) }) n rules ks) counted
+          ∙ ap (λ (js : List Judged). before ++ points x.is_strict (record { trace = t; is_named = nat_lt 1 (length x.traces.items) }) (length rules * i) rules js) first;
+      fine = fine ∙ ap (are_well x.is_strict) second;
+    }
+
+-- ---- All traces
+
+held-more :
+    {S : Type 0} (opens : Opening S) (x : Expect) (rules : List Rule) (old mid new : S) (names : List Text) (name : Text) (all : List (List Judged)) (js : List Judged)
+    → AreHeld opens x rules old mid names all → IsHeld opens x rules mid new name js → AreHeld opens x rules old new (names ++ name ∷ []) (all ++ js ∷ [])
+held-more {S} opens x rules old mid new [] name [] js same one = (new, subst (λ (s : S). IsHeld opens x rules s new name js) same one, refl)
+held-more opens x rules old mid new [] name (ks ∷ all) js bad one = absurd bad
+held-more opens x rules old mid new (n ∷ names) name [] js bad one = absurd bad
+held-more opens x rules old mid new (n ∷ names) name (ks ∷ all) js are one = (are.0, are.1, held-more opens x rules are.0 mid new names name all js are.2 one)
+
+held-count : {S : Type 0} (opens : Opening S) (x : Expect) (rules : List Rule) (old new : S) (names : List Text) (all : List (List Judged)) → AreHeld opens x rules old new names all → length all ≡ length names
+held-count opens x rules old new [] [] are = refl
+held-count opens x rules old new [] (ks ∷ all) bad = absurd bad
+held-count opens x rules old new (n ∷ names) [] bad = absurd bad
+held-count opens x rules old new (n ∷ names) (ks ∷ all) are = ap suc (held-count opens x rules are.0 new names all are.2)
+
+points-more :
+    (x : Expect) (rules : List Rule) (before : ℕ) (ts : List (Bor Text)) (t : Bor Text) (all : List (List Judged)) (js : List Judged) → length all ≡ length ts
+    → points_of x rules before (ts ++ t ∷ []) (all ++ js ∷ [])
+    ≡ points_of x rules before ts all ++ points x.is_strict (record { trace = t; is_named = nat_lt 1 (length x.traces.items) }) (before + length rules * length ts) rules js
+points-more x rules before [] t [] js same =
+    append-nil (points x.is_strict (record { trace = t; is_named = nat_lt 1 (length x.traces.items) }) before rules js)
+    ∙ ap (λ (n : ℕ). points x.is_strict (record { trace = t; is_named = nat_lt 1 (length x.traces.items) }) n rules js) (omega arith)
+points-more x rules before [] t (ks ∷ all) js same = absurd (omega arith)
+points-more x rules before (u ∷ ts) t [] js same = absurd (omega arith)
+points-more x rules before (u ∷ ts) t (ks ∷ all) js same =
+    let one = points x.is_strict (record { trace = u; is_named = nat_lt 1 (length x.traces.items) }) before rules ks in
+    let more = points_of x rules (before + length rules) ts all in
+    ap (λ (z : Text). one ++ z)
+    (points-more x rules (before + length rules) ts t all js (omega arith)
+    ∙ ap (λ (n : ℕ). more ++ points x.is_strict (record { trace = t; is_named = nat_lt 1 (length x.traces.items) }) n rules js) (one-more (length rules) before (length ts)))
+    ∙ sym (append_assoc one more (points x.is_strict (record { trace = t; is_named = nat_lt 1 (length x.traces.items) }) (before + length rules * length (u ∷ ts)) rules js))
+  where
+    one-more : (n b k : ℕ) → b + n + n * k ≡ b + n * suc k
+    one-more n b k = omega arith
+
+and-last : (a b : Bool) → (a && (b && true)) ≡ (b && a)
+and-last true true = refl
+and-last true false = refl
+and-last false true = refl
+and-last false false = refl
+
+-- before the first trace
+pub puts-none :
+    {S : Type 0} (opens : Opening S) (x : Expect) (rules : List Rule) (ts : List (Bor Text)) (old : S) (before : Text) → Puts opens x rules (take 0 ts) old old before before true
+puts-none opens x rules ts old before = record { all = []; held = refl; are_well = refl; is = sym (append-nil before) }
+
+-- one more trace
+pub puts-more :
+    {S : Type 0} (opens : Opening S) (x : Expect) (rules : List Rule) (ts : List (Bor Text)) (i : ℕ) (d : Bor Text) (old mid new : S) (before text more : Text) (well ok : Bool)
+    (both : Bool) → i < length ts → Puts opens x rules (take i ts) old mid before text well → PutsOne opens x rules i (get_or ts i d) mid new text more ok
+    → both ≡ (ok && well) → Puts opens x rules (take (i + 1) ts) old new before more both
+puts-more opens x rules ts i d old mid new before text more well ok both lt puts one all =
+    let t = get_or ts i d in
+    let js = one.judged in
+    let split : take (i + 1) ts ≡ take i ts ++ t ∷ [] = take_more ts i d lt in
+    let count : length puts.all ≡ length (take i ts) = held-count opens x rules old mid (map now (take i ts)) puts.all puts.held ∙ length-map (take i ts) now in
+    let long : length (take i ts) ≡ i = length-take-le i ts (omega arith) in
+    let of = λ (n : ℕ). points x.is_strict (record { trace = t; is_named = nat_lt 1 (length x.traces.items) }) n rules js in
+    let said = points_of x rules 0 (take i ts) puts.all in
+    record {
+      all = puts.all ++ js ∷ [];
+      held =
+          subst (λ (names : List Text). AreHeld opens x rules old new names (puts.all ++ js ∷ [])) (sym (ap (map now) split ∙ map-append now (take i ts) (t ∷ [])))
+          (held-more opens x rules old mid new (map now (take i ts)) t.now puts.all js puts.held one.held);
+      are_well =
+          list_all-append (are_well x.is_strict) puts.all (js ∷ []) ∙ and-last (all_well x puts.all) (are_well x.is_strict js)
+          ∙ ap (λ (b : Bool). are_well x.is_strict js && b) puts.are_well ∙ ap (λ (b : Bool). b && well) (sym one.fine) ∙ sym all;
+      is =
+          one.is ∙ ap (λ (z : Text). z ++ of (length rules * i)) puts.is ∙ append_assoc before said (of (length rules * i))
+          ∙ ap (λ (z : Text). before ++ z)
+          (ap (λ (n : ℕ). said ++ of (length rules * n)) (sym long) ∙ ap (λ (n : ℕ). said ++ of n) (sym (zero-on (length rules * length (take i ts))))
+          ∙ sym (points-more x rules 0 (take i ts) t puts.all js count) ∙ ap (λ (us : List (Bor Text)). points_of x rules 0 us (puts.all ++ js ∷ [])) (sym split));
+    }
+  where
+    zero-on : (n : ℕ) → 0 + n ≡ n
+    zero-on n = omega arith
+
+-- the same of a list that is these traces
+pub puts-more-of :
+    {S : Type 0} (opens : Opening S) (x : Expect) (rules : List Rule) (ts us : List (Bor Text)) (i : ℕ) (d : Bor Text) (old mid new : S) (before text more : Text) (well ok both : Bool) → us ≡ ts
+    → i < length us → Puts opens x rules (take i ts) old mid before text well → PutsOne opens x rules i (get_or us i d) mid new text more ok → both ≡ (ok && well)
+    → Puts opens x rules (take (i + 1) ts) old new before more both
+puts-more-of opens x rules ts us i d old mid new before text more well ok both same lt puts one all =
+    puts-more opens x rules ts i d old mid new before text more well ok both (subst (λ (vs : List (Bor Text)). i < length vs) same lt) puts
+    (subst (λ (vs : List (Bor Text)). PutsOne opens x rules i (get_or vs i d) mid new text more ok) same one) all
+
+-- after the last
+pub puts-all :
+    {S : Type 0} (opens : Opening S) (x : Expect) (rules : List Rule) (ts us : List (Bor Text)) (old new : S) (before text : Text) (well : Bool) → us ≡ ts
+    → Puts opens x rules us old new before text well → Puts opens x rules ts old new before text well
+puts-all opens x rules ts us old new before text well same puts = subst (λ (vs : List (Bor Text)). Puts opens x rules vs old new before text well) same puts
+
+-- a trace that is not held
+pub comes-to :
+    {S : Type 0} (opens : Opening S) (x : Expect) (rules : List Rule) (i : ℕ) (d : Bor Text) (old mid : S) (before text : Text) (well : Bool) → i < length x.traces.items
+    → Puts opens x rules (take i x.traces.items) old mid before text well → ComesTo opens x rules old mid (get_or x.traces.items i d).now
+comes-to opens x rules i d old mid before text well lt puts =
+    let ts = x.traces.items in
+    record {
+      before = map now (take i ts);
+      behind = map now (drop (i + 1) ts);
+      all = puts.all;
+      parts =
+          sym (ap (map now) (take-append-drop i ts)) ∙ map-append now (take i ts) (drop i ts)
+          ∙ ap (λ (zs : List Text). map now (take i ts) ++ zs) (ap (map now) (drop_more ts i d lt));
+      held = puts.held;
+    }
+
+pub unheld-at :
+    {S : Type 0} (opens : Opening S) (x : Expect) (rules : List Rule) (name : Text) (old mid new : S) (f : Failure) → ComesTo opens x rules old mid name
+    → IsUnheld opens mid new name f → AreUnheld opens x rules old new f
+unheld-at opens x rules name old mid new (RefusedTrace text) comes is =
+    record { name = name; between = mid; comes = comes; trace = is.0; opened = is.1; line = is.2.0; told = is.2.1 }
+unheld-at opens x rules name old mid new File comes is = record { name = name; between = mid; comes = comes; lacks = is }
+unheld-at opens x rules name old mid new Memory comes is = tt
+unheld-at opens x rules name old mid new (Refused refusal) comes is = absurd is
+unheld-at opens x rules name old mid new (Write n) comes is = absurd is
+unheld-at opens x rules name old mid new (Line message) comes is = absurd is
+unheld-at opens x rules name old mid new BadOption comes is = absurd is
+
+-- the whole report
+pub reported :
+    {S : Type 0} (opens : Opening S) (x : Expect) (rules : List Rule) (old new : S) (first text : Text) (well : Bool) → first ≡ plan (length rules * length x.traces.items)
+    → Puts opens x rules x.traces.items old new first text well → Reports opens x rules old new well text
+reported opens x rules old new first text well is puts =
+    record {
+      all = puts.all;
+      held = puts.held;
+      are_well = puts.are_well;
+      report = puts.is ∙ ap (λ (z : Text). z ++ points_of x rules 0 x.traces.items puts.all) is;
+    }
+
+-- ---- Ends
+
+module _ {S : Type 0} (opens : Opening S) (x : Expect) (bytes-of : Text) (declared : Option Given) (rules : List Rule) (are : AreRules bytes-of declared rules) (old new : S) (a : Held) where
+  pub unheld : (f : Failure) → AreUnheld opens x rules old new f → Holds opens x old new bytes-of declared a a (Err f)
+  unheld (RefusedTrace text) is = (rules, are, is, refl)
+  unheld File is = (rules, are, is, refl)
+  unheld Memory is = refl
+  unheld (Refused refusal) is = absurd is
+  unheld (Write n) is = absurd is
+  unheld (Line message) is = absurd is
+  unheld BadOption is = absurd is
+
+  pub unwritten :
+      (b : Held) (well : Bool) (text bytes : Text) → bytes ≡ text → Reports opens x rules old new well text → (f : Failure) → WritesPart a b bytes f
+      → Holds opens x old new bytes-of declared a b (Err f)
+  unwritten b well text bytes same reports (Write n) part = (rules, are, (well, text, reports, subst (λ (z : Text). IsPartWritten a b z n) same part))
+  unwritten b well text bytes same reports (RefusedTrace message) part = absurd part
+  unwritten b well text bytes same reports File part = absurd part
+  unwritten b well text bytes same reports Memory part = absurd part
+  unwritten b well text bytes same reports (Refused refusal) part = absurd part
+  unwritten b well text bytes same reports (Line message) part = absurd part
+  unwritten b well text bytes same reports BadOption part = absurd part
+
+  -- all are well, or not
+  pub met : (b : Held) (well : Bool) (text bytes : Text) → well ≡ true → Reports opens x rules old new well text → bytes ≡ text → Appends a b bytes → Holds opens x old new bytes-of declared a b (Ok Met)
+  met b well text bytes is reports same got =
+      (rules, are, (text, subst (λ (w : Bool). Reports opens x rules old new w text) is reports, subst (λ (z : Text). Appends a b z) same got))
+
+  pub unmet : (b : Held) (well : Bool) (text bytes : Text) → well ≡ false → Reports opens x rules old new well text → bytes ≡ text → Appends a b bytes → Holds opens x old new bytes-of declared a b (Ok Unmet)
+  unmet b well text bytes is reports same got =
+      (rules, are, (text, subst (λ (w : Bool). Reports opens x rules old new w text) is reports, subst (λ (z : Text). Appends a b z) same got))
+
+-- a failure that is passed on
+pub held-passed :
+    {S : Type 0} (opens : Opening S) (x : Expect) (old new : S) (bytes : Text) (declared : Option Given) (a b : Held) (r : End) (f : Failure) → IsErrAnd r (λ g. g ≡ f)
+    → Holds opens x old new bytes declared a b (Err f) → Holds opens x old new bytes declared a b r
+held-passed opens x old new bytes declared a b (Ok d) f bad is = absurd bad
+held-passed opens x old new bytes declared a b (Err g) f same is = subst (λ (h : Failure). Holds opens x old new bytes declared a b (Err h)) (sym same) is

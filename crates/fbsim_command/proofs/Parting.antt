@@ -1,0 +1,49 @@
+-- Two traces that are compared.
+use Rattle.std.proofs.Common.{◌≡◌, List, ℕ, Option, Some, None, Result, Ok, Err, refl, sym, ap, subst, inl, inr}
+use Rattle.std.specs.Prelude.{IsErrAnd}
+use Rattle.std.specs.Io.KnownBytes.{Appends}
+use Rattle.clap.specs.Words.{Text}
+use Rattle.fb_expect.specs.Parting.{MayPart}
+use Rattle.fb_expect.specs.Telling.{Tells}
+use Rattle.fb_expect.specs.declared.parting.Difference.{Difference}
+use Rattle.fbsim_command.specs.declared.statuses.Done.TheVariants.{Different}
+use Rattle.fbsim_command.specs.Comparing.{AreUnopened, Compares, Differs, IsTold}
+use Rattle.fbsim_command.specs.Failures.{WritesPart, failure_of_source}
+use Rattle.fbsim_command.specs.Outcomes.{End, Held}
+use Rattle.fbsim_command.specs.Showing.{Opening}
+use Rattle.fbsim_command.specs.declared.bench_line.Diff.{Diff}
+use Rattle.fbsim_command.specs.declared.failure.Failure.{Failure}
+use Rattle.fbsim_command.specs.declared.failure.Failure.TheVariants.{Refused, RefusedTrace, File, Write, Memory, Line, BadOption}
+use Rattle.fbsim_command.specs.declared.sources.SourceFault.{SourceFault}
+
+-- a failure that is passed on
+pub parted : (d : Diff) (first second a b : Held) (r : End) (f : Failure) → IsErrAnd r (λ g. g ≡ f) → Differs d first second a b (Err f) → Differs d first second a b r
+parted d first second a b (Ok x) f bad is = absurd bad
+parted d first second a b (Err g) f same is = subst (λ (h : Failure). Differs d first second a b (Err h)) (sym same) is
+
+-- what is reported of two lines
+pub told-of :
+    (d : Diff) (first second : Held) (o : Option Difference) (x : Difference) (text : Text) → o ≡ Some x → MayPart first second o → Tells d.first.now d.second.now x text
+    → IsTold d first second text
+told-of d first second o x text is part tells = record { difference = x; part = subst (λ (p : Option Difference). MayPart first second p) is part; tells = tells }
+
+-- it is written
+pub wrote : (d : Diff) (first second a b : Held) (text bytes : Text) → bytes ≡ text → IsTold d first second text → Appends a b bytes → Differs d first second a b (Ok Different)
+wrote d first second a b text bytes same told got = (text, told, subst (λ (z : Text). Appends a b z) same got)
+
+-- the writer fails
+pub untold : (d : Diff) (first second a b : Held) (text bytes : Text) → bytes ≡ text → IsTold d first second text → (f : Failure) → WritesPart a b bytes f → Differs d first second a b (Err f)
+untold d first second a b text bytes same told (Write n) part = (bytes, subst (λ (z : Text). IsTold d first second z) (sym same) told, part)
+untold d first second a b text bytes same told (Refused refusal) part = absurd part
+untold d first second a b text bytes same told (RefusedTrace message) part = absurd part
+untold d first second a b text bytes same told File part = absurd part
+untold d first second a b text bytes same told Memory part = absurd part
+untold d first second a b text bytes same told (Line message) part = absurd part
+untold d first second a b text bytes same told BadOption part = absurd part
+
+-- a file is not opened
+pub unopened :
+    {S : Type 0} (opens : Opening S) (from to : S) (d : Diff) (a : Held) (fault : SourceFault) (r : End) → AreUnopened opens from to d fault → IsErrAnd r (λ g. g ≡ failure_of_source fault)
+    → Compares opens from to d a a r
+unopened opens from to d a fault (Ok x) is bad = absurd bad
+unopened opens from to d a fault (Err g) is same = inr (fault, is, ap (λ (f : Failure). Err f) same, refl)

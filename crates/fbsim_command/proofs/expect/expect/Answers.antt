@@ -1,0 +1,33 @@
+use Rattle.std.proofs.Common.{Option, option_map, inl, inr, string_bytes, subst}
+use Rattle.clap.specs.Words.{Text}
+use Rattle.fbsim_command.specs.Expecting.{Holds, NotesRules}
+use Rattle.fbsim_command.specs.Texts.{given_of}
+use Rattle.fbsim_command.proofs.Declaring.{read-and-held, unread}
+use Rattle.fbsim_command.proofs.expect.expect.Goals as goal
+
+pub returns-in-Err : goal.returns-in-Err
+returns-in-Err g c =
+    unread g.S.Source.gives g.S.Streams.opens c.args.expect.now (g.W.Write.contents c.args.out.now) c.args.source.now c.read.new.self c.in-Err.fault c.from.result
+    (option_map string_bytes c.note_of_rules-note.result) (inl (c.in-Err.ensures.gives, c.note_of_rules-note.ensures)) c.from.ensures
+
+pub returns-in-Err-read_declared : goal.returns-in-Err-read_declared
+returns-in-Err-read_declared g c =
+    unread g.S.Source.gives g.S.Streams.opens c.args.expect.now (g.W.Write.contents c.args.out.now) c.args.source.now c.read_declared.new.source c.in-Err-read_declared.unread.fault c.from-in-Err-read_declared.result
+    (option_map string_bytes c.note_of_names-note.result)
+    (inr (
+      c.in-Err-read_declared.unread.part,
+      record { between = c.read.new.self; bytes = c.in-Ok.bytes.items; rules = c.in-Ok.ensures.gives; declaration = c.in-Err-read_declared.ensures.unread },
+      c.note_of_names-note.ensures,
+    ))
+    c.from-in-Err-read_declared.ensures
+
+pub returns : goal.returns
+returns g c =
+    let declared = option_map given_of c.in-Ok-read_declared.declared in
+    let note = option_map string_bytes c.note_to_rules-note.result in
+    let end = c.hold_rules-end.result in
+    read-and-held g.S.Source.gives g.S.Streams.opens c.args.expect.now (g.W.Write.contents c.args.out.now) c.args.source.now c.read.new.self c.read_declared.new.source c.hold_rules-end.new.source _
+    c.in-Ok.bytes.items declared end note c.in-Ok.ensures.gives c.in-Ok-read_declared.ensures.read
+    (subst (λ (bytes : Text). Holds g.S.Streams.opens c.args.expect.now c.read_declared.new.source c.hold_rules-end.new.source bytes declared
+    (g.W.Write.contents c.args.out.now) (g.W.Write.contents c.hold_rules-end.new.out) end) c.as_slice-bytes.ensures.value c.hold_rules-end.ensures)
+    (subst (λ (bytes : Text). NotesRules bytes declared c.args.expect.now.why end note) c.as_slice-bytes.ensures.value c.note_to_rules-note.ensures)

@@ -1,0 +1,8 @@
+use Rattle.fbsim_command.proofs.Holding.{product, room}
+use Rattle.fbsim_command.proofs.expect.product.Goals as goal
+
+pub overflow_mul-result : goal.overflow_mul-result
+overflow_mul-result c = record { fits = product c.args.rules c.args.traces c.ranges.rules.fits c.ranges.traces.fits }
+
+pub returns-clause-room : goal.returns-clause-room
+returns-clause-room c = room c.args.rules c.args.traces c.ranges.rules.fits c.ranges.traces.fits

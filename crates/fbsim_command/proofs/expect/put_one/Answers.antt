@@ -1,0 +1,27 @@
+use Rattle.std.proofs.Common.{◌≡◌, ◌++◌, ◌*◌, Bool, List, ℕ, length, sym, ap, ◌∙◌, subst, arith}
+use Rattle.fb_expect.specs.Reports.{are_well, points}
+use Rattle.fb_expect.specs.declared.judging.Judged.{Judged}
+use Rattle.fbsim_command.specs.Expecting.{IsUnheld}
+use Rattle.fbsim_command.specs.declared.failure.Failure.TheVariants.{Memory}
+use Rattle.fbsim_command.proofs.Holding.{passed-on, put-one}
+use Rattle.fbsim_command.proofs.expect.put_one.Goals as goal
+
+pub returns-in_err-judged-clause-unheld : goal.returns-in_err-judged-clause-unheld
+returns-in_err-judged-clause-unheld g c =
+    passed-on c.from_residual.result _ (IsUnheld g.S.Streams.opens c.args.source.now c.hold.new.source c.args.trace.now) c.from_residual.ensures.1 c.in_err-judged.ensures.unheld
+
+pub put_points-requires : goal.put_points-requires
+put_points-requires g c = record {
+  each = ap length c.as_slice.ensures.value ∙ c.in_ok-judged.ensures.counted;
+  room = c.points_before-before.ensures.room;
+}
+
+pub returns-in_err-put_points-clause-unheld : goal.returns-in_err-put_points-clause-unheld
+returns-in_err-put_points-clause-unheld g c =
+    passed-on c.from_residual-in_err-put_points.result Memory (IsUnheld g.S.Streams.opens c.args.source.now c.hold.new.source c.args.trace.now) c.from_residual-in_err-put_points.ensures.1 tt
+
+pub returns-clause-put : goal.returns-clause-put
+returns-clause-put g c =
+    put-one g.S.Streams.opens c.args.expect.now c.args.rules.now c.args.index c.args.trace c.args.source.now c.hold.new.source c.args.text.now.items c.put_points.new.text.items
+    c.are_well.result c.are_named.result c.points_before-before.result c.in_ok-judged.judged.items c.as_slice.result.now c.as_slice-2.result.now c.in_ok-judged.ensures.held
+    c.in_ok-put_points.ensures c.are_named.ensures c.points_before-before.ensures.count c.as_slice.ensures.value c.as_slice-2.ensures.value c.are_well.ensures

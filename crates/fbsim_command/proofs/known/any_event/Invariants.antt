@@ -1,0 +1,7 @@
+use Rattle.std.proofs.Common.{◌≡◌, false}
+use Rattle.fb_types.specs.Headline.{system_of}
+use Rattle.fbsim_command.specs.Known.{any_below, is_of}
+use Rattle.fbsim_command.proofs.known.any_event.Given as goal
+
+abbrev pub invariant-loop-event : goal.invariant-loop-event
+invariant-loop-event l = any_below (is_of (system_of l.system) l.pattern l.instance l.taken) l.event ≡ false

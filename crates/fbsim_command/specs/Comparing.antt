@@ -1,0 +1,64 @@
+-- What a call that compares two traces does (docs/FORMATS.md, "Where two traces part"; this project's own).
+use Rattle.std.specs.Prelude.{◌≡◌, ◌⊎◌, ℕ, Some, None, Ok, Err}
+use Rattle.std.specs.Io.KnownBytes.{Appends}
+use Rattle.clap.specs.Words.{Text}
+use Rattle.fb_expect.specs.Parting.{MayPart}
+use Rattle.fb_expect.specs.Telling.{Tells}
+use Rattle.fb_expect.specs.declared.parting.Difference.{Difference}
+use Rattle.fbsim_command.specs.Failures.{IsPartWritten, failure_of_source}
+use Rattle.fbsim_command.specs.Outcomes.{End, Held}
+use Rattle.fbsim_command.specs.Showing.{Opening}
+use Rattle.fbsim_command.specs.declared.bench_line.Diff.{Diff}
+use Rattle.fbsim_command.specs.declared.failure.Failure.TheVariants.{Refused, RefusedTrace, File, Write, Memory, Line, BadOption}
+use Rattle.fbsim_command.specs.declared.sources.SourceFault.{SourceFault}
+use Rattle.fbsim_command.specs.declared.statuses.Done.TheVariants.{Helped, Explained, Accepted, Shown, Ended, Stopped, Met, Unmet, Same, Different}
+
+-- Two texts part first at two lines, and the text tells in what these differ.
+pub record IsTold (d : Diff) (first second : Held) (text : Text) : Type 0 where
+  pub difference : Difference
+  pub part : MayPart first second (Some difference)
+  pub tells : Tells d.first.now d.second.now difference text
+
+-- two files, of which these bytes are known, are compared
+abbrev pub Differs : Diff → (first second : Held) → (old new : Held) → End → Type 0
+Differs d first second old new (Ok Same) = MayPart first second None × (new ≡ old)
+Differs d first second old new (Ok Different) = (text : Text) × IsTold d first second text × Appends old new text
+Differs d first second old new (Ok Helped) = ⊥
+Differs d first second old new (Ok Explained) = ⊥
+Differs d first second old new (Ok Accepted) = ⊥
+Differs d first second old new (Ok Shown) = ⊥
+Differs d first second old new (Ok Ended) = ⊥
+Differs d first second old new (Ok Stopped) = ⊥
+Differs d first second old new (Ok Met) = ⊥
+Differs d first second old new (Ok Unmet) = ⊥
+Differs d first second old new (Err (Refused refusal)) = ⊥
+Differs d first second old new (Err (RefusedTrace text)) = ⊥
+Differs d first second old new (Err File) = new ≡ old
+Differs d first second old new (Err (Write n)) = (text : Text) × IsTold d first second text × IsPartWritten old new text n
+Differs d first second old new (Err Memory) = new ≡ old
+Differs d first second old new (Err (Line message)) = ⊥
+Differs d first second old new (Err BadOption) = ⊥
+
+-- Both files are opened, and compared.
+pub record AreCompared {S : Type 0} (opens : Opening S) (from to : S) (d : Diff) (old new : Held) (end : End) : Type 0 where
+  pub between : S
+  pub first : Held
+  pub second : Held
+  pub first_opened : opens from d.first.now (Ok first) between
+  pub second_opened : opens between d.second.now (Ok second) to
+  pub done : Differs d first second old new end
+
+-- The first is opened, and the second is not.
+pub record IsSecondUnopened {S : Type 0} (opens : Opening S) (from to : S) (d : Diff) (fault : SourceFault) : Type 0 where
+  pub between : S
+  pub first : Held
+  pub first_opened : opens from d.first.now (Ok first) between
+  pub unopened : opens between d.second.now (Err fault) to
+
+abbrev pub AreUnopened : {S : Type 0} → Opening S → (from to : S) → Diff → SourceFault → Type 0
+AreUnopened opens from to d fault = opens from d.first.now (Err fault) to ⊎ IsSecondUnopened opens from to d fault
+
+-- What a call that compares two traces does, from one state of the source to the next.
+abbrev pub Compares : {S : Type 0} → Opening S → (from to : S) → Diff → (old new : Held) → End → Type 0
+Compares opens from to d old new end =
+    AreCompared opens from to d old new end ⊎ ((fault : SourceFault) × AreUnopened opens from to d fault × (end ≡ Err (failure_of_source fault)) × (new ≡ old))

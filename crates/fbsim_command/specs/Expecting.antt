@@ -1,0 +1,338 @@
+-- What a call that holds rules against traces does (docs/FORMATS.md, "Rules over traces"; this project's own).
+use Rattle.std.specs.Prelude.{◌≡◌, ◌⊎◌, ℕ, ◌+◌, ◌*◌, Bool, true, false, if◌then◌else◌, nat_lt, List, [], ◌∷◌, ◌++◌, length, map, Option, Some, None, IfSome, Ok, Err, codes, decimal, string_bytes}
+use Rattle.std.specs.Borrow.{Bor}
+use Rattle.std.specs.List.{list_all}
+use Rattle.std.specs.Io.KnownBytes.{Appends}
+use Rattle.clap.specs.Words.{Text}
+use Rattle.fb_types.specs.Headline.{Inputs, system_of}
+use Rattle.fb_sim.specs.Given.{Given}
+use Rattle.fb_sim.specs.Serial.{Declares}
+use Rattle.fb_expect.specs.Judging.{Judges}
+use Rattle.fb_expect.specs.Places.{IsPlace, number_at}
+use Rattle.fb_expect.specs.Reading.{most_bytes, rules_of}
+use Rattle.fb_expect.specs.Reports.{are_well, plan, points}
+use Rattle.fb_expect.specs.declared.judging.Cut.{Cut}
+use Rattle.fb_expect.specs.declared.judging.Cut.TheVariants as cut
+use Rattle.fb_expect.specs.declared.judging.Judged.{Judged}
+use Rattle.fb_expect.specs.declared.place.RuleKey.{RuleKey}
+use Rattle.fb_expect.specs.declared.place.RulesPlace.{RulesPlace}
+use Rattle.fb_expect.specs.declared.rule.Rule.{Rule}
+use Rattle.fbsim_command.specs.Failures.{IsPartWritten, failure_of_source, refused_trace}
+use Rattle.fbsim_command.specs.Known.{IsUnknownAt, has_names}
+use Rattle.fbsim_command.specs.Notes.{IsFileNote, IsNoteOfName, IsNoteOfNumber, Notes, number_of}
+use Rattle.fbsim_command.specs.Outcomes.{End, Held, IsRefused}
+use Rattle.fbsim_command.specs.Reading.{Reading, AreRead, IsUnread}
+use Rattle.fbsim_command.specs.Showing.{Opening}
+use Rattle.fbsim_command.specs.declared.bench_line.Expect.{Expect}
+use Rattle.fbsim_command.specs.declared.failure.Failure.{Failure}
+use Rattle.fbsim_command.specs.declared.failure.Failure.TheVariants.{Refused, RefusedTrace, File, Write, Memory, Line, BadOption}
+use Rattle.fbsim_command.specs.declared.failure.RefusalLine.{RefusalLine}
+use Rattle.fbsim_command.specs.declared.failure.RefusalLine.TheVariants.{Numbered}
+use Rattle.fbsim_command.specs.declared.line.Action.TheVariants.{Check}
+use Rattle.fbsim_command.specs.declared.line.Task.{Task}
+use Rattle.fbsim_command.specs.declared.sources.SourceFault.{SourceFault}
+use Rattle.fbsim_command.specs.declared.sources.SourceFault.TheVariants as source
+use Rattle.fbsim_command.specs.declared.statuses.Done.TheVariants.{Helped, Explained, Accepted, Shown, Ended, Stopped, Met, Unmet, Same, Different}
+use Rattle.fbsim_command.specs.declared.texts.Part.{Part}
+
+-- ---- What is read before the traces
+
+-- the call that checks the declaration in which the names of the rules are to be
+abbrev pub files_of : Expect → Bor Text → Task
+files_of x declaration = record { action = Check; declaration = declaration; deploy = x.deploy; stimuli = None; why = x.why }
+
+-- one byte more than rules may have
+abbrev pub asked_rules : ℕ
+asked_rules = most_bytes + 1
+
+-- the declaration and the deployment are read, where a declaration is named
+abbrev pub MayDeclare : {S : Type 0} → Reading S → Expect → Option (Bor Text) → (old new : S) → Option Given → Type 0
+MayDeclare reads x None old new None = new ≡ old
+MayDeclare reads x None old new (Some given) = ⊥
+MayDeclare reads x (Some name) old new None = ⊥
+MayDeclare reads x (Some name) old new (Some given) = AreRead reads (files_of x name) old new given
+
+-- The rules are read, and then what their names are to be in.
+pub record AreRulesRead {S : Type 0} (reads : Reading S) (x : Expect) (old new : S) (bytes : Text) (declared : Option Given) : Type 0 where
+  pub between : S
+  pub rules : reads old x.rules.now asked_rules (Ok bytes) between
+  pub declaration : MayDeclare reads x x.declaration between new declared
+
+-- this file is the first of them that is not read, for this fault
+abbrev pub IsUndeclared : {S : Type 0} → Reading S → Expect → Option (Bor Text) → (old new : S) → Part → SourceFault → Type 0
+IsUndeclared reads x None old new part fault = ⊥
+IsUndeclared reads x (Some name) old new part fault = IsUnread reads (files_of x name) old new part fault
+
+-- The rules are read, and then this file is not, for this fault.
+pub record AreNamesUnread {S : Type 0} (reads : Reading S) (x : Expect) (old new : S) (part : Part) (fault : SourceFault) : Type 0 where
+  pub between : S
+  pub bytes : Text
+  pub rules : reads old x.rules.now asked_rules (Ok bytes) between
+  pub declaration : IsUndeclared reads x x.declaration between new part fault
+
+-- The note to the file of the rules, which is not read.
+pub record IsRulesFileNote (x : Expect) (fault : SourceFault) (note : Text) : Type 0 where
+  pub unread : fault ≡ source.File
+  pub is : IsNoteOfName (codes "rules") x.rules.now note
+
+-- the note to this file of the declaration, which is not read
+abbrev pub IsNamesFileNote : Expect → Option (Bor Text) → Part → SourceFault → Text → Type 0
+IsNamesFileNote x None part fault note = ⊥
+IsNamesFileNote x (Some name) part fault note = IsFileNote (files_of x name) part fault note
+
+-- a file is not read, for this fault, and such a note is given
+abbrev pub AreUnread : {S : Type 0} → Reading S → Expect → (old new : S) → SourceFault → Option Text → Type 0
+AreUnread reads x old new fault note =
+    (reads old x.rules.now asked_rules (Err fault) new × Notes x.why (IsRulesFileNote x fault) note)
+    ⊎ ((part : Part) × AreNamesUnread reads x old new part fault × Notes x.why (IsNamesFileNote x x.declaration part fault) note)
+
+-- ---- Rules
+
+-- the inputs are accepted, and their system has a port for each pattern, or not
+abbrev pub Names : Given → List Rule → (known : Bool) → Type 0
+Names given rules known = (i : Inputs) × Declares given i × (has_names (system_of i) rules ≡ known)
+
+abbrev pub AreNamed : Option Given → List Rule → Type 0
+AreNamed None rules = Unit {0}
+AreNamed (Some given) rules = Names given rules true
+
+-- These are the rules of the bytes, and what is declared has their names.
+pub record AreRules (bytes : Text) (declared : Option Given) (rules : List Rule) : Type 0 where
+  pub are : rules_of bytes ≡ Ok rules
+  pub named : AreNamed declared rules
+
+-- The bytes are refused.
+pub record AreRefused (bytes : Text) (refusal : RefusalLine) : Type 0 where
+  pub number : ℕ
+  pub are : rules_of bytes ≡ Err number
+  pub told : refusal ≡ Numbered number
+
+-- The bytes are rules, and what is declared is refused, as a check refuses it.
+pub record IsPlanRefused (bytes : Text) (declared : Option Given) (refusal : RefusalLine) : Type 0 where
+  pub rules : List Rule
+  pub are : rules_of bytes ≡ Ok rules
+  pub given : Given
+  pub is : declared ≡ Some given
+  pub refused : IsRefused given refusal
+
+-- The bytes are rules, and what is declared does not have their names.
+pub record AreUnnamed (bytes : Text) (declared : Option Given) (refusal : RefusalLine) : Type 0 where
+  pub rules : List Rule
+  pub are : rules_of bytes ≡ Ok rules
+  pub given : Given
+  pub is : declared ≡ Some given
+  pub unknown : Names given rules false
+  pub told : refusal ≡ Numbered 45
+
+abbrev pub RefusesRules : Text → Option Given → RefusalLine → Type 0
+RefusesRules bytes declared refusal = AreRefused bytes refusal ⊎ IsPlanRefused bytes declared refusal ⊎ AreUnnamed bytes declared refusal
+
+-- what keeps rules from being held, by its failure
+abbrev pub IsUnnamed : Given → List Rule → Failure → Type 0
+IsUnnamed given rules (Refused refusal) = IsRefused given refusal ⊎ (Names given rules false × (refusal ≡ Numbered 45))
+IsUnnamed given rules Memory = Unit {0}
+IsUnnamed given rules (RefusedTrace text) = ⊥
+IsUnnamed given rules File = ⊥
+IsUnnamed given rules (Write n) = ⊥
+IsUnnamed given rules (Line message) = ⊥
+IsUnnamed given rules BadOption = ⊥
+
+abbrev pub RefusesFor : Text → Option Given → Failure → Type 0
+RefusesFor bytes declared (Refused refusal) = RefusesRules bytes declared refusal
+RefusesFor bytes declared Memory = Unit {0}
+RefusesFor bytes declared (RefusedTrace text) = ⊥
+RefusesFor bytes declared File = ⊥
+RefusesFor bytes declared (Write n) = ⊥
+RefusesFor bytes declared (Line message) = ⊥
+RefusesFor bytes declared BadOption = ⊥
+
+-- ---- Traces
+
+abbrev pub cut_of : Expect → Cut
+cut_of x = if x.is_cut then cut.Allowed else cut.Refused
+
+-- A trace is opened, and this came of each rule.
+pub record IsHeld {S : Type 0} (opens : Opening S) (x : Expect) (rules : List Rule) (old new : S) (name : Text) (js : List Judged) : Type 0 where
+  pub trace : Held
+  pub opened : opens old name (Ok trace) new
+  pub judged : IfSome trace (λ text. Judges (cut_of x) text rules js)
+
+-- the same of traces, one after the other
+abbrev pub AreHeld : {S : Type 0} → Opening S → Expect → List Rule → (old new : S) → List Text → List (List Judged) → Type 0
+AreHeld opens x rules old new [] [] = new ≡ old
+AreHeld opens x rules old new [] (js ∷ all) = ⊥
+AreHeld opens x rules old new (name ∷ names) [] = ⊥
+AreHeld {S} opens x rules old new (name ∷ names) (js ∷ all) = (between : S) × IsHeld opens x rules old between name js × AreHeld opens x rules between new names all
+
+abbrev pub names_of : Expect → List Text
+names_of x = map (λ t. t.now) x.traces.items
+
+-- the points of all traces, numbered behind those before
+abbrev pub points_of : Expect → List Rule → (before : ℕ) → List (Bor Text) → List (List Judged) → Text
+points_of x rules before [] all = []
+points_of x rules before (t ∷ ts) [] = []
+points_of x rules before (t ∷ ts) (js ∷ all) =
+    points x.is_strict (record { trace = t; is_named = nat_lt 1 (length x.traces.items) }) before rules js ++ points_of x rules (before + length rules) ts all
+
+-- The report: how many points there are, and the points trace by trace.
+abbrev pub report_of : Expect → List Rule → List (List Judged) → Text
+report_of x rules all = plan (length rules * length x.traces.items) ++ points_of x rules 0 x.traces.items all
+
+abbrev pub all_well : Expect → List (List Judged) → Bool
+all_well x all = list_all (are_well x.is_strict) all
+
+-- All traces were held against the rules, and this is the report. It says whether the rules are well at all of them.
+pub record Reports {S : Type 0} (opens : Opening S) (x : Expect) (rules : List Rule) (old new : S) (well : Bool) (text : Text) : Type 0 where
+  pub all : List (List Judged)
+  pub held : AreHeld opens x rules old new (names_of x) all
+  pub are_well : all_well x all ≡ well
+  pub report : text ≡ report_of x rules all
+
+-- Those before this trace were held against the rules.
+pub record ComesTo {S : Type 0} (opens : Opening S) (x : Expect) (rules : List Rule) (old new : S) (name : Text) : Type 0 where
+  pub before : List Text
+  pub behind : List Text
+  pub all : List (List Judged)
+  pub parts : names_of x ≡ before ++ name ∷ behind
+  pub held : AreHeld opens x rules old new before all
+
+-- A trace is refused, at the line that the text tells with the trace's name.
+pub record RefusesTrace {S : Type 0} (opens : Opening S) (x : Expect) (rules : List Rule) (old new : S) (text : Text) : Type 0 where
+  pub name : Text
+  pub between : S
+  pub comes : ComesTo opens x rules old between name
+  pub trace : Held
+  pub opened : opens between name (Ok trace) new
+  pub line : ℕ
+  pub told : text ≡ refused_trace name line
+
+-- A trace is not opened, or can't be read to its end.
+abbrev pub IsNoTrace : {S : Type 0} → Opening S → (old new : S) → (name : Text) → Type 0
+IsNoTrace opens old new name = opens old name (Err source.File) new ⊎ ((trace : Held) × opens old name (Ok trace) new)
+
+pub record LacksTrace {S : Type 0} (opens : Opening S) (x : Expect) (rules : List Rule) (old new : S) : Type 0 where
+  pub name : Text
+  pub between : S
+  pub comes : ComesTo opens x rules old between name
+  pub lacks : IsNoTrace opens between new name
+
+-- A trace is not held against the rules, by its failure.
+abbrev pub IsRefusedAt : (name : Text) → (line : ℕ) → Failure → Type 0
+IsRefusedAt name line (RefusedTrace text) = string_bytes text ≡ refused_trace name line
+IsRefusedAt name line Memory = Unit {0}
+IsRefusedAt name line (Refused refusal) = ⊥
+IsRefusedAt name line File = ⊥
+IsRefusedAt name line (Write n) = ⊥
+IsRefusedAt name line (Line message) = ⊥
+IsRefusedAt name line BadOption = ⊥
+
+abbrev pub IsUnheld : {S : Type 0} → Opening S → (old new : S) → (name : Text) → Failure → Type 0
+IsUnheld opens old new name (RefusedTrace text) = (trace : Held) × opens old name (Ok trace) new × ((line : ℕ) × (string_bytes text ≡ refused_trace name line))
+IsUnheld opens old new name File = IsNoTrace opens old new name
+IsUnheld opens old new name Memory = Unit {0}
+IsUnheld opens old new name (Refused refusal) = ⊥
+IsUnheld opens old new name (Write n) = ⊥
+IsUnheld opens old new name (Line message) = ⊥
+IsUnheld opens old new name BadOption = ⊥
+
+-- one of the traces is not, and those before it are
+abbrev pub AreUnheld : {S : Type 0} → Opening S → Expect → List Rule → (old new : S) → Failure → Type 0
+AreUnheld opens x rules old new (RefusedTrace text) = RefusesTrace opens x rules old new (string_bytes text)
+AreUnheld opens x rules old new File = LacksTrace opens x rules old new
+AreUnheld opens x rules old new Memory = Unit {0}
+AreUnheld opens x rules old new (Refused refusal) = ⊥
+AreUnheld opens x rules old new (Write n) = ⊥
+AreUnheld opens x rules old new (Line message) = ⊥
+AreUnheld opens x rules old new BadOption = ⊥
+
+-- The trace at this place was held against the rules, and its points stand behind a text. It says whether all rules are well.
+pub record PutsOne {S : Type 0} (opens : Opening S) (x : Expect) (rules : List Rule) (index : ℕ) (trace : Bor Text) (old new : S) (before text : Text) (well : Bool) : Type 0 where
+  pub judged : List Judged
+  pub held : IsHeld opens x rules old new trace.now judged
+  pub is : text ≡ before ++ points x.is_strict (record { trace = trace; is_named = nat_lt 1 (length x.traces.items) }) (length rules * index) rules judged
+  pub fine : well ≡ are_well x.is_strict judged
+
+-- These traces were held against the rules, and their points stand behind a text.
+pub record Puts {S : Type 0} (opens : Opening S) (x : Expect) (rules : List Rule) (traces : List (Bor Text)) (old new : S) (before text : Text) (well : Bool) : Type 0 where
+  pub all : List (List Judged)
+  pub held : AreHeld opens x rules old new (map (λ t. t.now) traces) all
+  pub are_well : all_well x all ≡ well
+  pub is : text ≡ before ++ points_of x rules 0 traces all
+
+abbrev pub PutsAll : {S : Type 0} → Opening S → Expect → List Rule → (old new : S) → (before text : Text) → (well : Bool) → Type 0
+PutsAll opens x rules old new before text well = Puts opens x rules x.traces.items old new before text well
+
+-- ---- Ends
+
+-- The rules and what is declared were read, and all traces are held against the rules.
+abbrev pub Holds : {S : Type 0} → Opening S → Expect → (old new : S) → Text → Option Given → (out-old out-new : Held) → End → Type 0
+Holds opens x old new bytes declared a b (Ok Met) =
+    (rules : List Rule) × AreRules bytes declared rules × ((text : Text) × Reports opens x rules old new true text × Appends a b text)
+Holds opens x old new bytes declared a b (Ok Unmet) =
+    (rules : List Rule) × AreRules bytes declared rules × ((text : Text) × Reports opens x rules old new false text × Appends a b text)
+Holds opens x old new bytes declared a b (Ok Helped) = ⊥
+Holds opens x old new bytes declared a b (Ok Explained) = ⊥
+Holds opens x old new bytes declared a b (Ok Accepted) = ⊥
+Holds opens x old new bytes declared a b (Ok Shown) = ⊥
+Holds opens x old new bytes declared a b (Ok Ended) = ⊥
+Holds opens x old new bytes declared a b (Ok Stopped) = ⊥
+Holds opens x old new bytes declared a b (Ok Same) = ⊥
+Holds opens x old new bytes declared a b (Ok Different) = ⊥
+Holds opens x old new bytes declared a b (Err (Refused refusal)) = RefusesRules bytes declared refusal × (new ≡ old) × (b ≡ a)
+Holds opens x old new bytes declared a b (Err (RefusedTrace text)) =
+    (rules : List Rule) × AreRules bytes declared rules × RefusesTrace opens x rules old new (string_bytes text) × (b ≡ a)
+Holds opens x old new bytes declared a b (Err File) = (rules : List Rule) × AreRules bytes declared rules × LacksTrace opens x rules old new × (b ≡ a)
+Holds opens x old new bytes declared a b (Err (Write n)) =
+    (rules : List Rule) × AreRules bytes declared rules × ((well : Bool) × (text : Text) × Reports opens x rules old new well text × IsPartWritten a b text n)
+Holds opens x old new bytes declared a b (Err Memory) = b ≡ a
+Holds opens x old new bytes declared a b (Err (Line message)) = ⊥
+Holds opens x old new bytes declared a b (Err BadOption) = ⊥
+
+-- ---- Notes
+
+-- The bytes are refused with this number at a place that is known.
+pub record IsPlaceOf (bytes : Text) (number : ℕ) : Type 0 where
+  pub place : RulesPlace
+  pub is : IsPlace bytes place
+  pub number_is : number_at place ≡ number
+
+-- The bytes are rules, and what is declared is refused with this number, as the note of a check says.
+pub record IsPlanNote (declared : Option Given) (number : ℕ) (note : Text) : Type 0 where
+  pub given : Given
+  pub is : declared ≡ Some given
+  pub noted : IsNoteOfNumber given number note
+
+-- The bytes are rules, and what is declared does not have the pattern at a key of a rule.
+pub record IsUnknownPlace (bytes : Text) (declared : Option Given) (rule : ℕ) (key : RuleKey) : Type 0 where
+  pub rules : List Rule
+  pub are : rules_of bytes ≡ Ok rules
+  pub given : Given
+  pub is : declared ≡ Some given
+  pub inputs : Inputs
+  pub declares : Declares given inputs
+  pub unknown : IsUnknownAt (system_of inputs) rules rule key
+
+-- The note is that of a place at which the refusal of this number applies.
+abbrev pub IsNoteAt : Text → Option Given → (number : ℕ) → Text → Type 0
+IsNoteAt bytes declared number note =
+    IsPlaceOf bytes number ⊎ IsPlanNote declared number note ⊎ ((number ≡ 45) × ((rule : ℕ) × (key : RuleKey) × IsUnknownPlace bytes declared rule key))
+
+-- where a call that has read these files fails, such a note
+abbrev pub NotesRules : Text → Option Given → (why : Bool) → End → Option Text → Type 0
+NotesRules bytes declared why (Ok d) note = note ≡ None
+NotesRules bytes declared why (Err failure) note = Notes why (λ t. (number : ℕ) × (number_of failure ≡ Some number) × IsNoteAt bytes declared number t) note
+
+-- All is read, and all traces are held against the rules.
+pub record IsReadAndHeld {S : Type 0} (reads : Reading S) (opens : Opening S) (old new : S) (x : Expect) (a b : Held) (end : End) (note : Option Text) : Type 0 where
+  pub between : S
+  pub bytes : Text
+  pub declared : Option Given
+  pub read : AreRulesRead reads x old between bytes declared
+  pub done : Holds opens x between new bytes declared a b end
+  pub noted : NotesRules bytes declared x.why end note
+
+-- What a call that holds rules against traces does, from one state of the source to the next, and its note.
+abbrev pub Expects : {S : Type 0} → Reading S → Opening S → (old new : S) → Expect → (a b : Held) → End → Option Text → Type 0
+Expects reads opens old new x a b end note =
+    IsReadAndHeld reads opens old new x a b end note
+    ⊎ ((fault : SourceFault) × AreUnread reads x old new fault note × (end ≡ Err (failure_of_source fault)) × (b ≡ a))

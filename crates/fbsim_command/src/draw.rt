@@ -1,0 +1,149 @@
+//! Pictures of what is declared.
+
+ghost use Rattle.std.specs.Prelude.{◌≡◌, IfErr, IfNone, IfOk, IfSome, codes, false, option_map};
+ghost use Rattle.clap.specs.Words.{app_of, found_of, rows_of};
+ghost use Rattle.clap.specs.declared.builder.command.Command.TheViews.{out-Command as fields_of};
+ghost use Rattle.fb_types.specs.Headline.{inputs};
+ghost use Rattle.fbsim_command.specs.Line as spec;
+ghost use Rattle.fbsim_command.specs.Line.{AsksDraw, IsCall, call_name};
+ghost use Rattle.fbsim_command.specs.Drawing.{Draws, IsGraph, IsUndrawn, WritesGraph, files_of, graph_of};
+ghost use Rattle.fbsim_command.specs.declared.draw.Draw.{Draw};
+
+use crate::failure::{Failure, RefusalLine};
+use crate::line::{Action, Call, Task, deployed, option, with_arg};
+use crate::output::write_text;
+use crate::sources::Source;
+use crate::statuses::Done;
+use crate::texts::read_files;
+use clap::{ArgMatches, Command};
+use fb_inputs::name;
+use fb_sim::{Inputs, discard, open};
+use fb_system::System;
+use std::alloc::{AllocError, Global};
+use std::io::Write;
+
+/// What is to be drawn, and the files that it is in.
+#[derive(Clone, Copy)]
+pub struct Draw<'a> {
+    /// The name of the declaration's file; `-` is standard input, here and below.
+    pub declaration: &'a str,
+    /// The name of the deployment's file, where one is given.
+    pub deploy: Option<&'a str>,
+    /// The name of the type of which the chart or the network is drawn, in any letter case. Without it the application is.
+    pub block_type: Option<&'a str>,
+}
+
+const ABOUT: &str =
+    "Writes the application or a type to standard output as a graph that graphviz draws.";
+
+const EXAMPLE: &str = "Example: fbsim draw cell.iec --deploy cell.toml | dot -Tsvg > cell.svg";
+
+const TYPE_HELP: &str =
+    "The name of the type to draw, in any letter case: the chart of a basic type, the network of a composite type; without it the application is drawn.";
+
+/// The number of the refusal of a name that stands for nothing.
+const UNKNOWN: u8 = 21;
+
+/// The command that draws what is declared.
+pub(crate) fn draw_command<'a>(alloc: Global) -> Result<Command<'a>, AllocError>
+    ensures app { IfOk result (λ c. app_of c ≡ spec.draw) }
+    ensures globals { IfOk result (λ c. (fields_of c).has_globals ≡ false) }
+{
+    let command = deployed(alloc, "draw", ABOUT, EXAMPLE);
+    with_arg(command, option(alloc, "type", TYPE_HELP))
+}
+
+/// The call that draws what is declared, with what was found.
+pub(crate) fn draw_of<'a>(found: &ArgMatches<'a>) -> Option<Call<'a>>
+    ensures name { IfSome result (λ r. codes "draw" ≡ call_name r) }
+    ensures rows { IfSome result (IsCall (rows_of (found_of found.now))) }
+    ensures none { IfNone result ((d : Draw) → AsksDraw (rows_of (found_of found.now)) d → ⊥) }
+{
+    let declaration = found.get_str("DECL")?;
+    let deploy = found.get_str("deploy");
+    let block_type = found.get_str("type");
+    Some(Call::Draw(Draw {
+        declaration,
+        deploy,
+        block_type,
+    }))
+}
+
+/// The call that checks what is drawn.
+fn files_of<'a>(draw: &Draw<'a>) -> Task<'a>
+    ensures { result ≡ files_of draw.now }
+{
+    Task {
+        action: Action::Check,
+        declaration: draw.declaration,
+        deploy: draw.deploy,
+        stimuli: None,
+        why: false,
+    }
+}
+
+/// The graph of the application, or of the declared type that a text names, if there is one.
+fn graph(
+    alloc: Global,
+    system: &System,
+    block_type: Option<&str>,
+) -> Result<Option<Vec<u8>>, AllocError>
+    ensures { IfOk result (λ graph. option_map (λ v. v.items) graph ≡ graph_of system.now (option_map (λ t. t.now) block_type.entry)) }
+{
+    let Some(text) = block_type else {
+        return fb_draw::draw(alloc, system.library(), system.plan(), None);
+    };
+    match name(alloc, text.as_bytes())? {
+        Some(name) => fb_draw::draw(alloc, system.library(), system.plan(), Some(&name)),
+        None => Ok(None),
+    }
+}
+
+/// The graph of what the inputs declare.
+fn declared_graph(
+    alloc: Global,
+    inputs: &Inputs<'_>,
+    block_type: Option<&str>,
+) -> Result<Vec<u8>, Failure>
+    ensures graph { IfOk result (λ v. IsGraph inputs.now (option_map (λ t. t.now) block_type.entry) v.items) }
+    ensures none { IfErr result (IsUndrawn inputs.now (option_map (λ t. t.now) block_type.entry)) }
+{
+    let system = open(alloc, inputs)?;
+    let drawn = graph(alloc, &system, block_type);
+    // Dropped by one call: the end of its scope would prove the drop part by part.
+    discard(system);
+    match drawn? {
+        Some(text) => Ok(text),
+        None => Err(Failure::Refused(RefusalLine::Numbered(UNKNOWN))),
+    }
+}
+
+/// Writes the graph of what the inputs declare.
+fn write_graph<W: Write>(
+    alloc: Global,
+    inputs: &Inputs<'_>,
+    block_type: Option<&str>,
+    out: &mut W,
+) -> Result<Done, Failure>
+    ensures { WritesGraph inputs.now (option_map (λ t. t.now) block_type.entry) (W.contents out.old) (W.contents out.new) result }
+{
+    let text = declared_graph(alloc, inputs, block_type)?;
+    write_text(out, text.as_slice())?;
+    Ok(Done::Shown)
+}
+
+/// Reads the files of a call, and writes the graph that it asks for.
+pub(crate) fn show_graph<S: Source, W: Write>(
+    alloc: Global,
+    draw: &Draw<'_>,
+    source: &mut S,
+    out: &mut W,
+) -> Result<Done, Failure>
+    ensures { Draws S.gives source.old source.new draw.now (W.contents out.old) (W.contents out.new) result }
+{
+    let texts = match read_files(alloc, &files_of(draw), source) {
+        Ok(texts) => texts,
+        Err(unread) => return Err(Failure::from(unread.fault)),
+    };
+    write_graph(alloc, &texts.inputs(), draw.block_type, out)
+}

@@ -1,0 +1,320 @@
+//! Traces against rules, and against one another.
+
+ghost use Rattle.std.specs.Prelude.{◌≡◌, ◌&&◌, ◌+◌, ◌*◌, ◌^◌, ◌<◌, IfErr, IfOk, OnOk, length, nat_lt, option_map, string_bytes, true};
+ghost use Rattle.fbsim_command.specs.Comparing.{Compares, Differs};
+ghost use Rattle.fbsim_command.specs.Expecting.{AreRules, AreUnheld, Expects, Holds, IsHeld, IsRefusedAt, IsUndeclared, IsUnheld, IsUnnamed, MayDeclare, Names, PutsAll, PutsOne, RefusesFor, Reports, cut_of, files_of};
+ghost use Rattle.fbsim_command.specs.Texts.{given_of};
+
+use crate::bench_line::{Diff, Expect};
+use crate::failure::{Failure, RefusalLine};
+use crate::known::has_names;
+use crate::line::{Action, Task};
+use crate::output::write_text;
+use crate::rules_notes::{note_of_names, note_of_rules, note_to_rules};
+use crate::sources::{Source, Streams};
+use crate::statuses::Done;
+use crate::texts::{Texts, Unread, read_files};
+use fb_expect::{
+    Cut, Judged, Of, Rule, TraceError, are_well, difference_text, judge, part, plan, put_points,
+    read_rules,
+};
+use fb_sim::{Inputs, discard, open};
+use fb_types::Items;
+use std::alloc::Global;
+use std::io::{BufRead, Write};
+
+/// One byte more than rules may have, so that some that are too long show.
+const RULES_BYTES: usize = 1_048_577;
+
+/// The number of the refusal of rules that name what a declaration does not have.
+pub(crate) const UNKNOWN: u8 = 45;
+
+/// The call that checks the declaration in which the names of the rules are to be.
+pub(crate) fn files_of<'a>(expect: &Expect<'a>, declaration: &'a str) -> Task<'a>
+    ensures { result ≡ files_of expect.now declaration.entry }
+{
+    Task {
+        action: Action::Check,
+        declaration,
+        deploy: expect.deploy,
+        stimuli: None,
+        why: expect.why,
+    }
+}
+
+/// Whether traces may be cut off.
+fn cut_of(expect: &Expect<'_>) -> Cut
+    ensures { result ≡ cut_of expect.now }
+{
+    if expect.is_cut {
+        Cut::Allowed
+    } else {
+        Cut::Refused
+    }
+}
+
+/// Opens a trace, and holds all rules against it.
+fn hold<S: Streams>(
+    alloc: Global,
+    expect: &Expect<'_>,
+    rules: &[Rule],
+    name: &str,
+    source: &mut S,
+) -> Result<Vec<Judged>, Failure>
+    ensures held { IfOk result (λ js. IsHeld S.opens expect.now rules.now source.old source.new name.now js.items) }
+    ensures counted { IfOk result (λ js. length js.items ≡ length rules.now) }
+    ensures unheld { IfErr result (IsUnheld S.opens source.old source.new name.now) }
+{
+    let mut trace = source.open(alloc, name)?;
+    match judge(alloc, rules, cut_of(expect), &mut trace) {
+        Ok(judged) => Ok(judged),
+        Err(TraceError::Memory) => Err(Failure::Memory),
+        Err(TraceError::Read) => Err(Failure::File),
+        Err(TraceError::Refused(line)) => Err(refused_trace(alloc, name, line)),
+    }
+}
+
+/// The failure for a trace that is refused at this line.
+fn refused_trace(alloc: Global, name: &str, line: u64) -> Failure
+    ensures { IsRefusedAt name.now line result }
+{
+    match format!(in alloc; "refused trace {name} line {line}") {
+        Ok(text) => Failure::RefusedTrace(text),
+        Err(_) => Failure::Memory,
+    }
+}
+
+/// Both of two.
+fn both(first: bool, second: bool) -> bool
+    ensures { result ≡ (first && second) }
+{
+    first && second
+}
+
+/// Whether points have the name of their trace: there are several.
+fn are_named(expect: &Expect<'_>) -> bool
+    ensures { result ≡ nat_lt 1 (length expect.now.traces.items) }
+{
+    expect.traces.len() > 1
+}
+
+/// How many points so many rules have at so many traces.
+fn product(rules: usize, traces: usize) -> u128
+    ensures count { result ≡ rules * traces }
+    ensures room { result + rules < 2 ^ 128 }
+{
+    rules as u128 * traces as u128
+}
+
+/// How many points all rules have at so many traces.
+fn points_before(rules: &[Rule], traces: usize) -> u128
+    ensures count { result ≡ length rules.now * traces }
+    ensures room { result + length rules.now < 2 ^ 128 }
+{
+    product(rules.len(), traces)
+}
+
+/// Holds all rules against the trace at this place of a call, and puts their points behind a text. It says whether all
+/// are well.
+fn put_one<S: Streams>(
+    alloc: Global,
+    expect: &Expect<'_>,
+    rules: &[Rule],
+    index: usize,
+    trace: &str,
+    text: &mut Vec<u8>,
+    source: &mut S,
+) -> Result<bool, Failure>
+    ensures put { IfOk result (PutsOne S.opens expect.now rules.now index trace.entry source.old source.new text.old.items text.new.items) }
+    ensures unheld { IfErr result (IsUnheld S.opens source.old source.new trace.now) }
+{
+    let judged = hold(alloc, expect, rules, trace, source)?;
+    let of = Of {
+        trace,
+        is_named: are_named(expect),
+    };
+    let before = points_before(rules, index);
+    put_points(
+        alloc,
+        text,
+        expect.is_strict,
+        of,
+        before,
+        rules,
+        judged.as_slice(),
+    )?;
+    Ok(are_well(expect.is_strict, judged.as_slice()))
+}
+
+/// Holds all rules against each trace of a call, and puts their points behind a text. It says whether all are well.
+fn put_all<S: Streams>(
+    alloc: Global,
+    expect: &Expect<'_>,
+    rules: &[Rule],
+    text: &mut Vec<u8>,
+    source: &mut S,
+) -> Result<bool, Failure>
+    ensures put { IfOk result (PutsAll S.opens expect.now rules.now source.old source.new text.old.items text.new.items) }
+    ensures unheld { IfErr result (AreUnheld S.opens expect.now rules.now source.old source.new) }
+{
+    let mut is_well = true;
+    for (index, trace) in expect.traces.iter().enumerate() {
+        let ok = put_one(alloc, expect, rules, index, trace, text, source)?;
+        is_well = both(ok, is_well);
+    }
+    Ok(is_well)
+}
+
+/// The report of all rules at all traces of a call. It says whether all are well.
+fn report<S: Streams>(
+    alloc: Global,
+    expect: &Expect<'_>,
+    rules: &[Rule],
+    source: &mut S,
+) -> Result<(Vec<u8>, bool), Failure>
+    ensures reported { IfOk result (λ p. Reports S.opens expect.now rules.now source.old source.new p.1 p.0.items) }
+    ensures unheld { IfErr result (AreUnheld S.opens expect.now rules.now source.old source.new) }
+{
+    let count = points_before(rules, expect.traces.len());
+    let mut text = plan(alloc, count)?;
+    let is_well = put_all(alloc, expect, rules, &mut text, source)?;
+    Ok((text, is_well))
+}
+
+/// Reads the declaration and the deployment of a call, where it names some.
+fn read_declared<S: Source>(
+    alloc: Global,
+    expect: &Expect<'_>,
+    source: &mut S,
+) -> Result<Option<Texts>, Unread>
+    ensures read { IfOk result (λ t. MayDeclare S.gives expect.now expect.now.declaration source.old source.new (option_map given_of t)) }
+    ensures unread { IfErr result (λ unread. IsUndeclared S.gives expect.now expect.now.declaration source.old source.new unread.part unread.fault) }
+{
+    let Some(declaration) = expect.declaration else {
+        return Ok(None);
+    };
+    match read_files(alloc, &files_of(expect, declaration), source) {
+        Ok(texts) => Ok(Some(texts)),
+        Err(unread) => Err(unread),
+    }
+}
+
+/// Refuses rules that name what a declaration does not have.
+fn check_names(alloc: Global, inputs: &Inputs<'_>, rules: &[Rule]) -> Result<(), Failure>
+    ensures named { OnOk result (Names inputs.now rules.now true) }
+    ensures unnamed { IfErr result (IsUnnamed inputs.now rules.now) }
+{
+    let system = open(alloc, inputs)?;
+    let known = has_names(alloc, &system, rules);
+    // Dropped by one call: the end of its scope would prove the drop part by part.
+    discard(system);
+    if !known? {
+        return Err(Failure::Refused(RefusalLine::Numbered(UNKNOWN)));
+    }
+    Ok(())
+}
+
+/// The rules of bytes, whose names what is declared has, if something is.
+fn checked_rules(
+    alloc: Global,
+    bytes: &[u8],
+    declared: &Option<Texts>,
+) -> Result<Items<Rule>, Failure>
+    ensures rules { IfOk result (AreRules bytes.now (option_map given_of declared.now)) }
+    ensures refused { IfErr result (RefusesFor bytes.now (option_map given_of declared.now)) }
+{
+    let rules = read_rules(alloc, bytes)?;
+    match declared {
+        Some(texts) => {
+            check_names(alloc, &texts.inputs(), rules.as_slice())?;
+            Ok(rules)
+        }
+        None => Ok(rules),
+    }
+}
+
+/// Holds the rules of bytes against the traces of a call, and writes the report.
+fn hold_rules<S: Streams, W: Write>(
+    alloc: Global,
+    expect: &Expect<'_>,
+    bytes: &[u8],
+    declared: &Option<Texts>,
+    source: &mut S,
+    out: &mut W,
+) -> Result<Done, Failure>
+    ensures { Holds S.opens expect.now source.old source.new bytes.now (option_map given_of declared.now) (W.contents out.old) (W.contents out.new) result }
+{
+    let rules = checked_rules(alloc, bytes, declared)?;
+    let (text, is_well) = report(alloc, expect, rules.as_slice(), source)?;
+    write_text(out, text.as_slice())?;
+    if is_well {
+        Ok(Done::Met)
+    } else {
+        Ok(Done::Unmet)
+    }
+}
+
+/// Reads rules, and holds them against traces. It writes a point for each trace and each rule once all were read. It says
+/// how that ends, and what is reported after the line of a failure.
+pub(crate) fn expect<S: Source + Streams, W: Write>(
+    alloc: Global,
+    expect: &Expect<'_>,
+    source: &mut S,
+    out: &mut W,
+) -> (Result<Done, Failure>, Option<String>)
+    ensures { Expects S.gives S.opens source.old source.new expect.now (W.contents out.old) (W.contents out.new) result.0 (option_map string_bytes result.1) }
+{
+    let bytes = match source.read(alloc, expect.rules, RULES_BYTES) {
+        Ok(bytes) => bytes,
+        Err(fault) => {
+            let note = note_of_rules(alloc, expect, fault);
+            return (Err(Failure::from(fault)), note);
+        }
+    };
+    let declared = match read_declared(alloc, expect, source) {
+        Ok(declared) => declared,
+        Err(unread) => {
+            let note = note_of_names(alloc, expect, unread);
+            return (Err(Failure::from(unread.fault)), note);
+        }
+    };
+    let bytes = bytes.as_slice();
+    let end = hold_rules(alloc, expect, bytes, &declared, source, out);
+    let note = note_to_rules(alloc, expect.why, &end, bytes, &declared);
+    (end, note)
+}
+
+/// Compares two traces, and writes where they part first, if they do.
+fn compare<R: BufRead, T: BufRead, W: Write>(
+    alloc: Global,
+    diff: &Diff<'_>,
+    first: &mut R,
+    second: &mut T,
+    out: &mut W,
+) -> Result<Done, Failure>
+    ensures { Differs diff.now (R.remaining first.old) (T.remaining second.old) (W.contents out.old) (W.contents out.new) result }
+{
+    let Ok(found) = part(alloc, first, second) else {
+        return Err(Failure::File);
+    };
+    let Some(difference) = found else {
+        return Ok(Done::Same);
+    };
+    let text = difference_text(alloc, diff.first, diff.second, &difference)?;
+    write_text(out, text.as_slice())?;
+    Ok(Done::Different)
+}
+
+/// Reads two traces, and writes where they part first, if they do.
+pub(crate) fn diff<S: Streams, W: Write>(
+    alloc: Global,
+    diff: &Diff<'_>,
+    source: &mut S,
+    out: &mut W,
+) -> Result<Done, Failure>
+    ensures { Compares S.opens source.old source.new diff.now (W.contents out.old) (W.contents out.new) result }
+{
+    let mut first = source.open(alloc, diff.first)?;
+    let mut second = source.open(alloc, diff.second)?;
+    compare(alloc, diff, &mut first, &mut second, out)
+}

@@ -1,0 +1,268 @@
+//! Whether a declared system has the names of rules.
+
+ghost use Rattle.std.specs.Prelude.{◌≡◌, ◌<◌, ◌+◌, ◌++◌, ◌^◌, [], All, IfOk, IfSome, codes, length, map, slice_index_or};
+ghost use Rattle.std.specs.List.{list_any};
+ghost use Rattle.fb_system.specs.Stands.{AreIndexes, variable_at};
+ghost use Rattle.fb_types.specs.Headline.{system_of};
+ghost use Rattle.fb_types.specs.Names.{same_name};
+ghost use Rattle.fb_types.specs.Numbers.{event_at, path_at, ports_at};
+ghost use Rattle.fb_types.specs.Text.{path_text};
+ghost use Rattle.fb_expect.specs.Patterns as patterns;
+ghost use Rattle.fbsim_command.specs.Known as spec;
+
+use fb_expect::{Condition, Entry, Pattern, Rule, RuleKey, is_at, pattern_keys};
+use fb_system::System;
+use fb_types::{EventPort, Ports, Variable};
+use std::alloc::{AllocError, Global};
+
+/// How many events of one interface have numbers.
+const MOST_EVENTS: usize = 1 << 32;
+
+/// The event inputs of an interface, or its event outputs.
+fn events_of(ports: &Ports, taken: bool) -> &[EventPort]
+    ensures { result.now ≡ spec.events_of ports.now taken }
+{
+    if taken {
+        ports.event_inputs.as_slice()
+    } else {
+        ports.event_outputs.as_slice()
+    }
+}
+
+/// The data inputs of an interface, or its data outputs.
+fn variables_of(ports: &Ports, taken: bool) -> &[Variable]
+    ensures { result.now ≡ spec.variables_of ports.now taken }
+{
+    if taken {
+        ports.inputs.as_slice()
+    } else {
+        ports.outputs.as_slice()
+    }
+}
+
+/// The name of one of these events.
+fn event_name(ports: &Ports, taken: bool, event: u32) -> &[u8]
+    requires { event < length (spec.events_of ports.now taken) }
+    ensures { result.now ≡ event_at (spec.events_of ports.now taken) event }
+{
+    events_of(ports, taken)[event as usize].name.as_bytes()
+}
+
+/// The indexes of the variables WITH an event of an instance.
+fn indexes_with(system: &System, instance: u32, taken: bool, event: u32) -> &[u32]
+    requires instance { instance < length (system_of system.now).paths }
+    requires event { event < length (spec.events_of (spec.ports_of (system_of system.now) instance) taken) }
+    ensures { let its = spec.ports_of (system_of system.now) instance in AreIndexes (spec.variables_of its taken) (spec.names_with its taken event) result.now }
+{
+    if taken {
+        system.inputs_with(instance, event)
+    } else {
+        system.outputs_with(instance, event)
+    }
+}
+
+/// Whether the variable of a condition is among those at some indexes.
+fn is_named(condition: &Condition, variables: &[Variable], indexes: &[u32]) -> bool
+    requires { All (λ k. k < length variables.now) indexes.now }
+    ensures { result ≡ list_any (λ n. same_name n condition.now.variable) (map (variable_at variables.now) indexes.now) }
+{
+    for index in indexes {
+        if variables[*index as usize].name.is(&condition.variable) {
+            return true;
+        }
+    }
+    false
+}
+
+/// Whether the variables of all conditions are.
+fn are_named(conditions: &[Condition], variables: &[Variable], indexes: &[u32]) -> bool
+    requires { All (λ k. k < length variables.now) indexes.now }
+    ensures { result ≡ spec.are_named conditions.now (map (variable_at variables.now) indexes.now) }
+{
+    for condition in conditions {
+        if !is_named(condition, variables, indexes) {
+            return false;
+        }
+    }
+    true
+}
+
+/// The path of an instance, a full stop, and the name of an event.
+fn port_text(alloc: Global, path: &[u8], event: &[u8]) -> Result<Vec<u8>, AllocError>
+    ensures { IfOk result (λ t. t.items ≡ path.now ++ codes "." ++ event.now) }
+{
+    let mut text = Vec::new(alloc);
+    text.extend_from_slice(path)?;
+    text.extend_from_slice(b".")?;
+    text.extend_from_slice(event)?;
+    Ok(text)
+}
+
+/// The name of the resource that holds an instance.
+fn resource_name(system: &System, instance: u32) -> &[u8]
+    requires { instance < length (system_of system.now).paths }
+    ensures { result.now ≡ slice_index_or (system_of system.now).resource_names ((system_of system.now).resource (path_at (system_of system.now) instance)) [] }
+{
+    system.facts();
+    system.resource_name(system.resource(instance))
+}
+
+/// Whether a port is of the resource, the side and the name of a pattern.
+fn is_there(
+    alloc: Global,
+    system: &System,
+    pattern: &Pattern,
+    instance: u32,
+    taken: bool,
+    event: u32,
+) -> Result<bool, AllocError>
+    requires instance { instance < length (system_of system.now).paths }
+    requires event { event < length (spec.events_of (spec.ports_of (system_of system.now) instance) taken) }
+    ensures { IfOk result (λ b. b ≡ patterns.is_at pattern.now (spec.event_there (system_of system.now) instance taken event)) }
+{
+    let name = event_name(system.ports(instance), taken, event);
+    let port = port_text(alloc, system.path(instance), name)?;
+    let resource = resource_name(system, instance);
+    Ok(is_at(
+        pattern,
+        &Entry::of(0, resource, taken, port.as_slice(), b""),
+    ))
+}
+
+/// Whether a port is of a pattern, and has all variables of its conditions.
+#[tactic(auto, unfolding(crate::specs::Known::is_of))]
+fn is_of(
+    alloc: Global,
+    system: &System,
+    pattern: &Pattern,
+    instance: u32,
+    taken: bool,
+    event: u32,
+) -> Result<bool, AllocError>
+    requires instance { instance < length (system_of system.now).paths }
+    requires event { event < length (spec.events_of (spec.ports_of (system_of system.now) instance) taken) }
+    ensures { IfOk result (λ b. b ≡ spec.is_of (system_of system.now) pattern.now instance taken event) }
+{
+    let is_there = is_there(alloc, system, pattern, instance, taken, event)?;
+    let variables = variables_of(system.ports(instance), taken);
+    let indexes = indexes_with(system, instance, taken, event);
+    Ok(is_there && are_named(pattern.conditions.as_slice(), variables, indexes))
+}
+
+/// Whether one of the event inputs of an instance, or of its event outputs, is of a pattern.
+fn any_event(
+    alloc: Global,
+    system: &System,
+    pattern: &Pattern,
+    instance: u32,
+    taken: bool,
+) -> Result<bool, AllocError>
+    requires { instance < length (system_of system.now).paths }
+    ensures { IfOk result (λ b. b ≡ spec.any_event (system_of system.now) pattern.now instance taken) }
+{
+    let count = events_of(system.ports(instance), taken).len();
+    for event in 0..count.min(MOST_EVENTS) {
+        if is_of(alloc, system, pattern, instance, taken, event as u32)? {
+            return Ok(true);
+        }
+    }
+    Ok(false)
+}
+
+/// Whether one of the ports of an instance is of a pattern.
+fn any_port(
+    alloc: Global,
+    system: &System,
+    pattern: &Pattern,
+    instance: u32,
+) -> Result<bool, AllocError>
+    requires { instance < length (system_of system.now).paths }
+    ensures { IfOk result (λ b. b ≡ spec.any_port (system_of system.now) pattern.now instance) }
+{
+    let is_taken = any_event(alloc, system, pattern, instance, true)?;
+    let is_emitted = any_event(alloc, system, pattern, instance, false)?;
+    Ok(is_taken || is_emitted)
+}
+
+/// Whether a system has a port for a pattern.
+#[tactic(auto, unfolding(crate::specs::Known::has_port))]
+fn has_port(alloc: Global, system: &System, pattern: &Pattern) -> Result<bool, AllocError>
+    ensures { IfOk result (λ b. b ≡ spec.has_port (system_of system.now) pattern.now) }
+{
+    system.facts();
+    for instance in 0..system.count() {
+        if any_port(alloc, system, pattern, instance as u32)? {
+            return Ok(true);
+        }
+    }
+    Ok(false)
+}
+
+/// The same for a pattern that may be absent.
+fn may_have_port(
+    alloc: Global,
+    system: &System,
+    pattern: &Option<Pattern>,
+) -> Result<bool, AllocError>
+    ensures { IfOk result (λ b. b ≡ spec.may_have_port (system_of system.now) pattern.now) }
+{
+    match pattern {
+        Some(pattern) => has_port(alloc, system, pattern),
+        None => Ok(true),
+    }
+}
+
+/// Whether a system has a port for each pattern of a rule.
+fn has_rule(alloc: Global, system: &System, rule: &Rule) -> Result<bool, AllocError>
+    ensures { IfOk result (λ b. b ≡ spec.has_rule (system_of system.now) rule.now) }
+{
+    let first = has_port(alloc, system, &rule.first)?;
+    let second = may_have_port(alloc, system, &rule.second)?;
+    let third = may_have_port(alloc, system, &rule.third)?;
+    Ok(first && second && third)
+}
+
+/// Whether a system has a port with all variables for each pattern of the rules.
+pub(crate) fn has_names(alloc: Global, system: &System, rules: &[Rule]) -> Result<bool, AllocError>
+    ensures { IfOk result (λ b. b ≡ spec.has_names (system_of system.now) rules.now) }
+{
+    for rule in rules {
+        if !has_rule(alloc, system, rule)? {
+            return Ok(false);
+        }
+    }
+    Ok(true)
+}
+
+/// The key of the first pattern of a rule that no port has.
+fn unknown_key(alloc: Global, system: &System, rule: &Rule) -> Result<Option<RuleKey>, AllocError>
+    ensures { IfOk result (λ o. IfSome o (spec.IsUnknownKey (system_of system.now) rule.now)) }
+{
+    let (first, second) = pattern_keys(rule.need);
+    if !has_port(alloc, system, &rule.first)? {
+        return Ok(Some(first));
+    }
+    if !may_have_port(alloc, system, &rule.second)? {
+        return Ok(Some(second));
+    }
+    if !may_have_port(alloc, system, &rule.third)? {
+        return Ok(Some(RuleKey::To));
+    }
+    Ok(None)
+}
+
+/// The first rule with a pattern that no port has, counted from 0, and its key.
+pub(crate) fn unknown_place(
+    alloc: Global,
+    system: &System,
+    rules: &[Rule],
+) -> Result<Option<(usize, RuleKey)>, AllocError>
+    ensures { IfOk result (λ o. IfSome o (λ p. spec.IsUnknownAt (system_of system.now) rules.now p.0 p.1)) }
+{
+    for (index, rule) in rules.iter().enumerate() {
+        if let Some(key) = unknown_key(alloc, system, rule)? {
+            return Ok(Some((index, key)));
+        }
+    }
+    Ok(None)
+}

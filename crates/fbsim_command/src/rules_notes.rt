@@ -1,0 +1,135 @@
+//! What is reported after the line of a call that holds rules against traces and fails: its place.
+
+ghost use Rattle.std.specs.Prelude.{◌≡◌, ℕ, IfOk, IfSome, Some, option_map, string_bytes};
+ghost use Rattle.fb_types.specs.Headline.{Inputs, system_of};
+ghost use Rattle.fb_expect.specs.declared.place.RuleKey.{RuleKey};
+ghost use Rattle.fb_sim.specs.Serial.{Declares};
+ghost use Rattle.fbsim_command.specs.Expecting.{IsNamesFileNote, IsNoteAt, IsPlaceOf, IsRulesFileNote, IsUnknownPlace, NotesRules};
+ghost use Rattle.fbsim_command.specs.Known.{IsUnknownAt};
+ghost use Rattle.fbsim_command.specs.Notes.{Notes};
+ghost use Rattle.fbsim_command.specs.Texts.{given_of};
+
+use crate::bench_line::Expect;
+use crate::expect::{UNKNOWN, files_of};
+use crate::failure::Failure;
+use crate::known::unknown_place;
+use crate::notes::{note_of_file, note_of_name, note_of_number, number_of};
+use crate::sources::SourceFault;
+use crate::statuses::Done;
+use crate::texts::{Texts, Unread};
+use fb_expect::{Rule, RuleKey, read_rules, rules_place};
+use fb_sim::{discard, open};
+use fb_why_bytes::{tell_rules, tell_unknown};
+use std::alloc::Global;
+
+/// The first number of a refusal of rules. Those below are of declarations, deployments and stimuli.
+const FIRST_OF_RULES: u8 = 40;
+
+/// The note to the file of the rules, which is not read, where one is asked for.
+pub(crate) fn note_of_rules(
+    alloc: Global,
+    expect: &Expect<'_>,
+    fault: SourceFault,
+) -> Option<String>
+    ensures { Notes expect.now.why (IsRulesFileNote expect.now fault) (option_map string_bytes result) }
+{
+    if !expect.why {
+        return None;
+    }
+    if let SourceFault::Memory = fault {
+        return None;
+    }
+    Some(note_of_name(alloc, "rules", expect.rules)?)
+}
+
+/// The note to a file of the declaration, which is not read, where one is asked for.
+pub(crate) fn note_of_names(alloc: Global, expect: &Expect<'_>, unread: Unread) -> Option<String>
+    ensures { Notes expect.now.why (IsNamesFileNote expect.now expect.now.declaration unread.part unread.fault) (option_map string_bytes result) }
+{
+    match expect.declaration {
+        Some(declaration) => note_of_file(alloc, &files_of(expect, declaration), unread),
+        None => None,
+    }
+}
+
+/// Where rules are refused with this number.
+fn note_of_place(alloc: Global, number: u8, bytes: &[u8]) -> Option<String>
+    ensures { IfSome result (λ note. IsPlaceOf bytes.now number) }
+{
+    let Ok(Some(place)) = rules_place(alloc, bytes) else {
+        return None;
+    };
+    if place.number() != number {
+        return None;
+    }
+    match tell_rules(alloc, bytes, place) {
+        Ok(note) => Some(note),
+        Err(_) => None,
+    }
+}
+
+/// The first rule with a pattern for which what is declared has no port, and its key.
+fn unknown_of(
+    alloc: Global,
+    texts: &Texts,
+    rules: &[Rule],
+) -> Result<Option<(usize, RuleKey)>, Failure>
+    ensures { IfOk result (λ o. IfSome o (λ p. (i : Inputs) × Declares (given_of texts.now) i × IsUnknownAt (system_of i) rules.now p.0 p.1)) }
+{
+    let system = open(alloc, &texts.inputs())?;
+    let place = unknown_place(alloc, &system, rules);
+    // Dropped by one call: the end of its scope would prove the drop part by part.
+    discard(system);
+    Ok(place?)
+}
+
+/// Which pattern of the rules is unknown to what is declared.
+fn note_of_unknown(alloc: Global, bytes: &[u8], texts: &Texts) -> Option<String>
+    ensures { IfSome result (λ note. (rule : ℕ) × (key : RuleKey) × IsUnknownPlace bytes.now (Some (given_of texts.now)) rule key) }
+{
+    let Ok(rules) = read_rules(alloc, bytes) else {
+        return None;
+    };
+    let Ok(Some((rule, key))) = unknown_of(alloc, texts, rules.as_slice()) else {
+        return None;
+    };
+    match tell_unknown(alloc, rule, key) {
+        Ok(note) => Some(note),
+        Err(_) => None,
+    }
+}
+
+/// Where a call that has read these files is refused with this number.
+fn note_at(alloc: Global, number: u8, bytes: &[u8], declared: &Option<Texts>) -> Option<String>
+    ensures { IfSome result (λ note. IsNoteAt bytes.now (option_map given_of declared.now) number (string_bytes note)) }
+{
+    if let Some(texts) = declared {
+        if number == UNKNOWN {
+            return note_of_unknown(alloc, bytes, texts);
+        }
+        if number < FIRST_OF_RULES {
+            return note_of_number(alloc, number, texts);
+        }
+    }
+    note_of_place(alloc, number, bytes)
+}
+
+/// The note to a call that has read these files and ends so, where one is asked for.
+pub(crate) fn note_to_rules(
+    alloc: Global,
+    why: bool,
+    end: &Result<Done, Failure>,
+    bytes: &[u8],
+    declared: &Option<Texts>,
+) -> Option<String>
+    ensures { NotesRules bytes.now (option_map given_of declared.now) why end.now (option_map string_bytes result) }
+{
+    let Err(failure) = end else {
+        return None;
+    };
+    if !why {
+        return None;
+    }
+    let number = number_of(failure)?;
+    note_at(alloc, number, bytes, declared)
+}
