@@ -1,0 +1,8 @@
+use Rattle.std.proofs.Common.{◌≡◌, ◌++◌, drop, map}
+use Rattle.fb_draw.specs.Pieces as spec
+use Rattle.fb_draw.proofs.pieces.put_all.Given as goal
+
+-- with what the rest adds, all is there
+abbrev pub invariant-loop-piece : goal.invariant-loop-piece
+invariant-loop-piece l =
+    l.text.items ++ spec.joined (map (λ p. p.now) (drop l.piece-index l.pieces)) ≡ l.fn.text.items ++ spec.joined (map (λ p. p.now) l.pieces)
