@@ -1,26 +1,31 @@
 #!/usr/bin/env python3
 """./gate [--jobs N] [CRATE..]: the test command and merge gate of this repository.
 
-Without a crate it is the whole gate: each example's page explains its trace, docs/FORMATS.md shows the explanations of the
-refusals, what the documents name is there (tools/documents.py), the traces of the examples are those of a second simulator
-(tools/interpreter.py) and follow the rules of their page (tools/bottling.py), the syntax files of editors/ colour declarations right
-(tools/editors.py), and what tries stored cases and wrong bodies tells right ones from wrong ones (tools/cases_test.py, tools/wrong_bodies_test.py); then, from nothing, every crate and its tests are
-proved, every wrong body in crates/*/must-fail is shown to be refused, tests and programs are run, and the program is
-called at least once for each status (tools/calls.py), as docs/FIRST_APPLICATION.md has it (tools/first_application.py), by ./simulate (tools/launcher.py),
-for the waveforms of the examples, which are compared with their traces (tools/waves.py), and of what is no trace
-(tools/traces.py), on the stored cases of cases/ (tools/cases.py), on rings of resources (tools/rings.py), on systems that
-are random (tools/drawn.py), with random types too (tools/drawn_types.py), and on types with more events than 16 bits can number (tools/wide.py), with outputs that take little and readers that fail (tools/narrow.py), on texts that are cut or changed in one byte (tools/hostile.py), and with each
-of its requests for memory refused (tools/refuse.py). Then it prints the processor seconds and the memory of each crate. The last
-line is 'N passed, M failed', and the status 0 where none failed.
+Without a crate it is the whole gate. In order:
 
-With crates it does the same for these and those below them alone, on a copy of their files.
---jobs N uses N processors, and not all.
+- pages: each example's page explains its trace, docs/FORMATS.md shows the explanations of the refusals, and what the documents name
+  exists (tools/documents.py); the traces of the examples are those of a second simulator (tools/interpreter.py) and keep the rules of
+  their page (tools/bottling.py); the syntax files of editors/ colour declarations right (tools/editors.py)
+- tools: those that try stored cases and wrong implementations distinguish right from wrong (tools/cases_test.py,
+  tools/wrong_bodies_test.py)
+- proofs, from scratch: every crate and its tests are proved, and every wrong implementation in crates/*/must-fail is refused
+- tests and programs
+- calls of the program: each status (tools/calls.py), the commands of docs/FIRST_APPLICATION.md (tools/first_application.py),
+  ./simulate (tools/launcher.py), waveforms of the examples (tools/waves.py), graphs of declarations (tools/graphs.py), texts that are no traces
+  (tools/traces.py), the stored
+  cases of cases/ (tools/cases.py), rings of resources (tools/rings.py), random systems (tools/drawn.py), random types
+  (tools/drawn_types.py), types with more events than 16 bits can number (tools/wide.py), outputs that take little and readers that
+  fail (tools/narrow.py), texts that are cut or changed in one byte (tools/hostile.py), and each request for memory refused
+  (tools/refuse.py)
 
-It runs the kit's own `rt ci`, so it proves and judges as that does. Some kits keep on the machine what passed, by the checksums
-of all that it stands on: with such a one a later run here, in a clone too, proves and tries only what changed and what stands
-on that. With others each run is from nothing. Four things are done another way: a crate that is nothing but tests is proved with them
-alone; all wrong bodies of a crate stand in one check, each in a function of its own (tools/wrong_bodies.py); the processors are shared so
-that a check has a second job only where all else waits for it (tools/lanes.py); and both compilers make the program side by side."""
+Then it prints the processor seconds and the memory of each crate. The last line is 'N passed, M failed', and the status is 0 if none
+failed. With crates it does the same only for these and those below them, on a copy of their files. --jobs N uses N processors.
+
+It runs the kit's own `rt ci`, so it proves and judges like that. Some kits cache on the machine what passed, by the checksums of
+everything that it depends on. With such a kit a later run, in another clone too, proves and tries only what changed and what depends
+on that. With others each run is from scratch. Four things differ: a crate that has only tests is proved only with them; all wrong
+implementations of a crate are in one check, each in its own function (tools/wrong_bodies.py); a check gets a second job only if
+a processor would be idle (tools/lanes.py); and both compilers build the program at the same time."""
 
 import os
 import re
@@ -42,6 +47,7 @@ import drawn_types
 import editors
 import explained
 import first_application
+import graphs
 import hostile
 import interpreter
 import launcher
@@ -73,17 +79,16 @@ if os.WIFSIGNALED(status):
 sys.exit(os.WEXITSTATUS(status))
 """
 TASKS = ("proof", "tests", "edits", "runs")
-# The folder of a copy of a crate in which a wrong body is tried.
+# The folder of a copy of a crate in which a wrong implementation is tried.
 OF_EDITS = re.compile(r"/(rt-edit|gate-edits)-")
 # The lines of a library whose proof takes as long as both compilers take for the program.
 LINES_OF_COMPILERS = 2000
-# What src/lib.rt of a crate says that is nothing but tests.
+# The line in src/lib.rt of a crate that has only tests.
 TESTS_ALONE = re.compile(r"(//.*\n)*#!\[tactic\(auto\)\]\n(\s*#\[cfg\(test\)\]\nmod \w+;\n)+")
 
 
 class Crate(rt.Crate):
-    """A crate as `rt ci` sees it. One that is nothing but tests is proved with them, and not once more without: then nothing is
-    left of it."""
+    """A crate as `rt ci` sees it. One that has only tests is proved with them, and not again without: then it has no code."""
 
     def ci(self, flags, tests):
         if not tests and self.has_tests_alone():
@@ -92,8 +97,8 @@ class Crate(rt.Crate):
         return super().ci(flags, tests)
 
     def compile_by(self, backend, words, to):
-        """Compiles and links a proved program. The kit asks for LLVM's, and then for that of Rattle's own compiler, when nothing else
-        goes on any more: here both work side by side."""
+        """Compiles and links a proved program. The kit asks for LLVM's program, and then for that of Rattle's own compiler, when
+        nothing else runs any more. Here both are built at the same time."""
         if backend == "llvm":
             with ThreadPoolExecutor(1) as beside:
                 self.own = beside.submit(super().compile_by, "rattle", words, to)
@@ -108,7 +113,7 @@ rt.Crate = Crate
 if KEEPS:
 
     class Kept(rt.Kept):
-        """What runs on this machine passed. Of a crate that is nothing but tests there is nothing to keep but these."""
+        """The runs that passed on this machine. For a crate that has only tests nothing else is cached."""
 
         def keep(self, crate, tests, key):
             if tests or not crate.has_tests_alone():
@@ -118,7 +123,7 @@ if KEEPS:
 
 
 class Times:
-    """The processor seconds of each crate's tasks. What the kit starts tells its own as it ends."""
+    """The processor seconds of each crate's tasks. Each command that the kit starts reports its own when it ends."""
 
     def __init__(self, room):
         self.log, self.runs, self.start = f"{room}/times", {}, time.time()
@@ -128,7 +133,7 @@ class Times:
         self.run, rt.run = rt.run, self.timed_run
 
     def timed_run(self, crate, *given):
-        """Runs a program or tests. Nothing else runs beside it."""
+        """Runs a program or tests. Nothing else runs at the same time."""
         before = used_by_children()
         is_well = self.run(crate, *given)
         self.runs[crate.name] = self.runs.get(crate.name, 0) + used_by_children() - before
@@ -171,14 +176,15 @@ def used_by_children():
 
 
 def call_after_each_run():
-    """Has the gate make the calls of calls.py each time it has run the program, as each compiler builds it, and with the first of
-    the two what is made of texts and of memory. What is made of memory is done to tests too, when they have passed."""
+    """Has the gate make the calls of calls.py each time it has run the program, for both compilers, and with the first compiler also
+    the calls with changed texts and with refused memory. Tests are also run with refused memory when they have passed."""
     run = rt.run
 
     def tries(made):
         yield first_application.main(made) == 0
         yield launcher.main(made) == 0
         yield waves.make_all(made)
+        yield graphs.make_all(made)
         yield traces.try_all(made)
         yield cases.run_all(made)
         yield rings.try_all(made)
@@ -202,8 +208,8 @@ def call_after_each_run():
 
 
 def share_processors():
-    """Has the tasks share the processors by lanes.py, and reckons with what both compilers take for the program. By its own few lines
-    it is begun after all else that can go on beside it, and then alone."""
+    """Has the tasks share the processors by lanes.py, with an estimate of what both compilers take for the program. By its own few
+    lines the program would begin after everything that can run at the same time, and then alone."""
 
     def with_compilers(tasks):
         proof = calls.PROGRAM, "proof"
@@ -216,7 +222,7 @@ def share_processors():
 
 
 class Beside:
-    """A look that goes beside the rest of the gate, and what it said."""
+    """A check that runs next to the rest of the gate, and its output."""
 
     def __init__(self, *words):
         self.said = tempfile.TemporaryFile("w+")
@@ -224,7 +230,7 @@ class Beside:
         self.command = subprocess.Popen(words, stdout=self.said, **how)
 
     def has_failed(self):
-        """Waits for its end, tells what it said, and returns whether it found a fault."""
+        """Waits for its end, prints its output, and returns whether it found a fault."""
         status = self.command.wait()
         self.said.seek(0)
         print(self.said.read(), end="", flush=True)
@@ -232,8 +238,8 @@ class Beside:
 
 
 def tell_before_the_last_line(times, look):
-    """Has the kit's script print the times before its last line, which says how many passed and failed. A look that has failed
-    counts there, and is what this returns a call for."""
+    """Has the kit's script print the times before its last line, which says how many passed and failed. Returns a call that counts a
+    check that has failed there."""
     failed = []
 
     def tell(*texts, **how):
@@ -266,8 +272,8 @@ def copy_of(names, room):
 
 
 def ci(names, room):
-    """Runs the kit's `rt ci` with the one task for all wrong bodies of a crate, and returns its status. A kit that keeps nothing
-    takes no names, so that it gets a copy of these crates."""
+    """Runs the kit's `rt ci` with one task for all wrong implementations of a crate, and returns its status. A kit that caches nothing
+    takes no names of crates, so it gets a copy of these crates."""
     if KEEPS:
         rt.add_edits = add_edits
         return rt.ci(False, names)

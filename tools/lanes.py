@@ -1,11 +1,11 @@
 """Shares the processors among the gate's tasks: the proof of each crate, that of its tests, and the tries of its wrong bodies.
 
 The kit gives a proof all processors that no other proof waits for. A check by four jobs takes up to twice the processor time of one by
-a single job, since each job loads the libraries, and the tries of wrong bodies wait meanwhile. Here each task has one job, first those
-with the longest chain of others behind them, and three things more. On three processors and more the proof at the head of the longest
-chain of all has a second job, since everything waits for that chain, even where one processor alone is free as it begins; so has each proof
-that begins when fewer tasks are left than there are processors, since those that run beside it end soon. (Two processors are busy for longer
-than any chain takes.) And where fewer tasks are ready than processors are free, the proofs among them share the rest. A check of few lines has one job always: most of its time is the loading of libraries, which each job does."""
+a single job, since each job loads the libraries, and the tries of wrong implementations wait meanwhile. Here each task has one job, and
+those with the longest chain of others behind them begin first. Only where fewer tasks are ready than processors are free do the proofs
+among them share the rest. (By a model of these tasks, a second job for each proof at the head of the longest chain takes four minutes off the gate
+on four processors, and adds four minutes of processor time.) A check of few lines always has one job: most of its time is the loading of libraries,
+which each job does."""
 
 from concurrent.futures import FIRST_COMPLETED, ThreadPoolExecutor, wait
 
@@ -32,12 +32,11 @@ def chains(tasks):
     return behind
 
 
-def jobs_of(key, lines, is_urgent, idle, ready):
-    """Returns how many jobs a task gets that may begin, of so many processors that are idle, while so many tasks are ready, this one among them."""
+def jobs_of(key, lines, idle, ready):
+    """Returns how many jobs a task gets that may begin, while `idle` processors are free and `ready` tasks are ready, this one among them."""
     if key[1] not in PROOFS or lines < FEW_LINES:
         return 1
-    least = 2 if is_urgent else 1
-    return min(max(least, 1 + max(idle - ready, 0)), max(least, idle), MOST_JOBS)
+    return min(1 + max(idle - ready, 0), MOST_JOBS)
 
 
 def in_lanes(tasks):
@@ -48,7 +47,6 @@ def in_lanes(tasks):
     with rt.ending(), ThreadPoolExecutor(lanes) as pool:
         while left or running:
             ready = [it for it in left if all(below in given for below in tasks[it][0])]
-            longest = max((behind[it] for it in [*ready, *(it for it, _, _ in running.values())]), default=0)
             lacks = False
             for number, key in enumerate(ready):
                 _, lines, needs, call = tasks[key]
@@ -60,8 +58,7 @@ def in_lanes(tasks):
                 if running and needs > room:
                     lacks = True
                     continue
-                is_urgent = lanes > 2 and (behind[key] == longest or len(left) < lanes)
-                jobs = jobs_of(key, lines, is_urgent, idle, len(ready) - number)
+                jobs = jobs_of(key, lines, idle, len(ready) - number)
                 jobs = max(1, min(jobs, 1 + int((room / needs - 1) / MORE_MEMORY)))
                 left.remove(key)
                 running[pool.submit(call, given, jobs)] = key, needs * (1 + MORE_MEMORY * (jobs - 1)), jobs

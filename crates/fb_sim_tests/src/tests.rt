@@ -1,15 +1,19 @@
-//! What the program does not show of a run: pieces, rounds, their bounds, gates, what follows a failure; and of what it stands on,
-//! a board and a phase. Its traces stand in cases/, where the program is called for them. Each test ends the process where a call
-//! fails that is not to, so that little is dropped on the way.
+//! What the program does not show of a run: pieces, rounds, their bounds, gates, what follows a failure; of what it depends on, a
+//! board and a phase; and how its calls end with files in memory. Traces of runs are in cases/, where the program is called for
+//! them. Each test ends the process where a call fails that must not, so that little is dropped on the way.
 
 mod advances;
 mod board;
+mod calls;
 mod examples;
+mod files;
 mod gates;
 mod hand;
 mod later_rounds;
+mod memory;
 mod options;
 mod phase;
+mod progress;
 mod rounds;
 mod rows;
 mod serial;

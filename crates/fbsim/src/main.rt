@@ -3,9 +3,6 @@
 //! The calls are those of `fbsim_command`, which is a library, since no crate can use a program.
 #![tactic(auto)]
 
-#[cfg(test)]
-mod tests;
-
 use fbsim_command::{Failure, Files};
 pub use fbsim_command::{Call, LineFault, Source, SourceFault, Streams, command, parse};
 use std::process::ExitCode;

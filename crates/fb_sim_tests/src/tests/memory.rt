@@ -1,9 +1,7 @@
-//! Files in memory, and a writer that fails.
+//! Files in memory.
 
-use crate::{Source, SourceFault, Streams};
+use fbsim_command::{Source, SourceFault, Streams};
 use std::alloc::Global;
-use std::io;
-use std::io::Write;
 
 /// The name of a file for which there is no memory.
 const FULL: &str = "full";
@@ -63,43 +61,5 @@ impl Streams for Memory {
 
     fn open(&mut self, _alloc: Global, name: &str) -> Result<&'static [u8], SourceFault> {
         self.find(name)
-    }
-}
-
-/// Takes at most `room` bytes in all, and then gives an error.
-#[derive(Drop)]
-pub struct Narrow {
-    /// The bytes that were taken.
-    pub got: Vec<u8>,
-    room: usize,
-}
-
-impl Narrow {
-    /// A writer with room for this number of bytes.
-    pub fn new(alloc: Global, room: usize) -> Narrow {
-        Narrow {
-            got: Vec::new(alloc),
-            room,
-        }
-    }
-}
-
-impl Write for Narrow {
-    ghost use Rattle.std.specs.Prelude.{Some};
-
-    ghost contents = { λ w. Some w.got.items };
-
-    fn write(&mut self, bytes: &[u8]) -> io::Result<usize> {
-        if self.room == 0 {
-            return Err(io::Error::from(io::ErrorKind::BrokenPipe));
-        }
-        let count = bytes.len().min(self.room);
-        self.got.extend_from_slice(&bytes[..count])?;
-        self.room -= count;
-        Ok(count)
-    }
-
-    fn flush(&mut self) -> io::Result<()> {
-        Ok(())
     }
 }

@@ -1,19 +1,14 @@
-//! How calls end with files and outputs in memory, for each status. Expected bytes were worked out by hand, or are the
-//! texts of clap, the parser of command lines.
+//! How calls of the program end with files and outputs in memory, for each status. Expected bytes were worked out by hand, or are
+//! the texts of clap, the parser of command lines.
 
-mod files;
-mod memory;
-
-use crate::command;
-use files::FILES;
-use memory::{Memory, Narrow};
+use super::files::FILES;
+use super::memory::Memory;
+use super::writers::{ANY, Narrow, with_room};
+use fbsim_command::command;
 use std::alloc::Global;
 use std::process::Abort;
 use std::sync::Wait;
 use std::thread::Threads;
-
-/// More bytes than any of the outputs has.
-const ENOUGH: usize = 1_000_000;
 
 const CYCLE_TRACE: &str =
     "0 MAIN < S.COLD\n0 MAIN > C.START DT=3\n3 MAIN < C.EO\n6 MAIN < C.EO\nend 8\n";
@@ -32,6 +27,9 @@ const HELP: &str =
     \x20 run      Runs an application and writes the trace of its events to standard output.\n\
     \x20 check    Says whether a run would take these files, or which fault comes first.\n\
     \x20 wave     Writes a trace to standard output as a value change dump, which viewers of waveforms show.\n\
+    \x20 expect   Says whether rules hold of traces, in the form of the Test Anything Protocol.\n\
+    \x20 diff     Says whether two traces are the same bytes, or where they part first.\n\
+    \x20 draw     Writes the application or a type to standard output as a graph that graphviz draws.\n\
     \x20 explain  Says what a refusal means, with two examples of it and what to look at.\n\
     \x20 help     Print this message or the help of the given subcommand(s)\n\n\
     Options:\n\
@@ -40,7 +38,7 @@ const HELP: &str =
     Example: fbsim run cell.iec --deploy cell.toml --stim cell.csv --horizon 1000\n";
 
 const NO_COMMAND: &str = "error: 'fbsim' requires a subcommand but one was not provided\n\
-    \x20 [subcommands: run, check, wave, explain, help]\n\n\
+    \x20 [subcommands: run, check, wave, expect, diff, draw, explain, help]\n\n\
     Usage: fbsim <COMMAND>\n\nFor more information, try '--help'.\n";
 
 const NO_HORIZON: &str = "error: the following required arguments were not provided:\n\
@@ -152,9 +150,9 @@ fn expect_end<R: Abort + Threads + Wait + Sync>(
     text: &str,
     line: &str,
 ) {
-    for room in [ENOUGH, 0] {
-        let mut out = Narrow::new(alloc, ENOUGH);
-        let mut err = Narrow::new(alloc, room);
+    for room in [ANY, 0] {
+        let mut out = with_room(alloc, ANY, ANY);
+        let mut err = with_room(alloc, ANY, room);
         let status = called(rt, alloc, words, &mut out, &mut err);
         assert_eq!(rt; status, end, "{words}");
         assert!(rt; out.got.as_slice() == text.as_bytes(), "{words}");
@@ -186,8 +184,8 @@ fn expect_write_faults<R: Abort + Threads + Wait + Sync>(
     text: &str,
 ) {
     for room in 0..text.len() {
-        let mut out = Narrow::new(alloc, room);
-        let mut err = Narrow::new(alloc, ENOUGH);
+        let mut out = with_room(alloc, ANY, room);
+        let mut err = with_room(alloc, ANY, ANY);
         let status = called(rt, alloc, words, &mut out, &mut err);
         let line = format!(in alloc; "write fault after {room} bytes\n").expect(
             rt,
