@@ -1,10 +1,10 @@
 #!/usr/bin/env python3
-"""tools/bottling.py: whether the traces of examples/bottling do what its README.md says that the line must do.
+"""tools/bottling.py: checks that the traces of examples/bottling do what its README.md says that the line must do.
 
-The page has a section for each scenario, with lines of its trace: they have to stand there in that order. The rules of the page are
-checked over all lines of each trace, and each rule has to find the fault in a trace with one line changed. The expected values come
-from the page, not from the program. ./gate does this before anything is built; tools/calls.py compares what the program writes with
-the traces."""
+The page has a section for each scenario, with lines of its trace, which must be in the trace in that order. The rules of the page
+are checked over all lines of each trace, and each rule must find the fault in a trace with one line changed. The expected values
+come from the page, not from the program. ./gate runs this before anything is built; tools/calls.py compares what the program
+writes with the traces."""
 
 import re
 import sys
@@ -184,7 +184,7 @@ def recipes_wait(lines):
 
 
 def pallet_is_packed(lines):
-    """Bottles are put in rows of two, layer by layer, and wait on the table while a full pallet stands there."""
+    """Bottles are put in rows of two, layer by layer, and wait on the table while a full pallet is there."""
     on, capacity, waiting, placed = 0, 0, 0, []
     for it in at(lines, ">PALLET.BOTTLE", ">PALLET.REMOVED"):
         stands = capacity and on == capacity
@@ -209,7 +209,7 @@ def no_bottle_is_lost(lines):
         yield lines[-1].tick
 
 
-# Each rule with a line of a trace, and what stands in its place in one that breaks the rule. Nothing in its place is a line less.
+# Each rule with a line of a trace, and the line that replaces it in a trace that breaks the rule, or nothing to leave the line out.
 RULES = {
     nothing_moves: ("emergency", "3025 CLOSING > CAP.HEAD.MODE RUN=TRUE\n", ""),
     valve_closes: ("emergency", "1740 INFEED < FILL.DOSE.CLOSED VALVE=FALSE LEVEL=0", "1741 INFEED < FILL.DOSE.CLOSED VALVE=FALSE LEVEL=0"),
@@ -232,13 +232,13 @@ def content(path):
 
 
 def out_of_order(shown, trace):
-    """Returns the first of these lines that does not stand in the trace, behind those before it; or None."""
+    """Returns the first of these lines that is not in the trace, after those before it, or None."""
     rest = iter(trace.splitlines())
     return next((it for it in shown if it not in rest), None)
 
 
 def main():
-    """Looks at the traces and returns the status."""
+    """Checks the traces and returns the status."""
     sections = dict(SECTION.findall(content(f"{FOLDER}/README.md")))
     traces = {name: content(f"{FOLDER}/{name}/trace") for name in sections}
     faults = [f"{name}: the trace has no such line there: {it}" for name, text in sections.items() if (it := out_of_order(SHOWN.findall(text), traces[name]))]

@@ -1,8 +1,8 @@
 #!/usr/bin/env python3
-"""Builds the program and what it stands on, side by side: `./simulate` calls it where the program is missing or old.
+"""Builds the program and its libraries, several at a time. `./simulate` calls it if the program is missing or old.
 
-A library that has not changed is not built again, so a build that was interrupted goes on where it was. Where the kit keeps on the
-machine what the gate proved, that is taken, in another clone too. Standard error tells how far it is. The crates of tests are left out."""
+A library that has not changed is not built again, so you can interrupt a build. If the kit caches on the machine what the gate
+proved, that is used, in other clones too. Progress goes to standard error. The crates of tests are left out."""
 
 import copy
 import os
@@ -20,7 +20,7 @@ PROGRAM = "fbsim"
 
 
 class Progress:
-    """Tells how many of the crates are built."""
+    """Prints how many of the crates are built."""
 
     def __init__(self, count):
         self.count, self.done, self.start, self.lock = count, 0, time.time(), threading.Lock()
@@ -33,7 +33,7 @@ class Progress:
 
 
 class Proved:
-    """What the gate proved on this machine, for kits that keep that: by the sums of a crate's files, of the kit, and of the libraries below it."""
+    """What the gate proved on this machine, for kits that cache it, by the sums of a crate's files, of the kit, and of the libraries below it."""
 
     def __init__(self, crates, built):
         self.kept = rt.Kept(crates) if KEEPS else None
@@ -41,16 +41,16 @@ class Proved:
             self.note(it)
 
     def note(self, crate):
-        """Notes a library that stands in the crate's out/: the sums of those above rest on it."""
+        """Records a library of the crate's out/: the sums of those above depend on it."""
         if self.kept:
             self.kept.is_built(crate)
 
     def take(self, crate):
-        """Takes what the gate made of the crate, and returns whether there is such a thing."""
+        """Takes the crate's library from the gate's cache, and returns whether it is there."""
         if not self.kept:
             return False
         if not crate.is_program:
-            # (an older library's files beside those that are given would count as damage)
+            # (an older library's files among those that are given would count as damage)
             shutil.rmtree(os.path.dirname(crate.rlib), ignore_errors=True)
         if not self.kept.give(crate, False, self.kept.key(crate)):
             return False
@@ -64,13 +64,13 @@ def say(text):
 
 
 def mark(crate, stamp):
-    """Notes beside a library what it was made of."""
+    """Records next to a library what it was made of."""
     with open(f"{os.path.dirname(crate.rlib)}/stamp", "w", encoding="utf-8") as file:
         file.write(stamp)
 
 
 def build_library(crate, flags):
-    """Proves a library and keeps of it what the crates above read: its code and the statements of what is proved. (The kit's own
+    """Proves a library and keeps what the crates above read: its code and the statements of what is proved. (The kit's own
     command keeps the proofs too, which each crate above would load again.) Returns the status."""
     stamp, kept = crate.stamp(), os.path.dirname(crate.rlib)
     shutil.rmtree(kept, ignore_errors=True)
@@ -82,7 +82,7 @@ def build_library(crate, flags):
 
 
 def build(crate, jobs, progress, proved):
-    """Proves and builds a library or the program, and returns whether that went well. What the prover said is told where it did not."""
+    """Proves and builds a library or the program, and returns whether it succeeded. If it failed, this prints what the prover said."""
     crate = copy.copy(crate)
     os.makedirs(f"{crate.folder}/out", exist_ok=True)
     if proved.take(crate):
@@ -108,7 +108,7 @@ def build(crate, jobs, progress, proved):
 
 
 def lines_of(crate):
-    """Returns how many lines a check of the crate reads, which tells its work."""
+    """Returns the number of lines that a check of the crate reads, a measure of its work."""
     return sum(rtlib.text_of(it).count("\n") for it in rtlib.files_of(crate.folder))
 
 

@@ -1,8 +1,8 @@
 #!/usr/bin/env python3
-"""tools/cases_test.py: says whether tools/cases.py tells a right answer from a wrong one, and reads the form of its files as it says.
+"""tools/cases_test.py: checks that tools/cases.py distinguishes right answers from wrong ones, and reads its files as it says.
 
-The program here is a stub: it writes the declaration that it is given, or refuses it where it begins with E or with `trace`. ./gate
-does this."""
+The program here is a stub. It writes the declaration that it is given, or refuses it if it begins with E or with `trace`. ./gate
+runs this."""
 
 import contextlib
 import io
@@ -66,7 +66,7 @@ declaration = "\u00FF\n"
 answer = "\u00FF\n"
 '''
 COUNT = 13
-# Groups whose answer is not what the stub makes of them.
+# Groups whose answer is not that of the stub.
 WRONG = [
     'declaration = "accepted\\n"\nanswer = "E20"',
     'declaration = "E20"\nanswer = "accepted"',
@@ -79,7 +79,7 @@ WRONG = [
     'declaration = "E20"\nanswer = "E20"\nwhy = "a place\\n"',
     'bytes = true\ncommand = "run"\ndeclaration = "\\u00FF\\n"\nanswer = "\\u00FE\\n"',
 ]
-# Groups that are none.
+# Groups that are not valid.
 FAULTY = [
     'declaration = "accepted\\n"',
     'answer = "accepted"',
@@ -91,7 +91,7 @@ FAULTY = [
 
 
 def try_text(folder, text):
-    """Returns whether the cases of this text come to their answers, and what is told of them."""
+    """Returns whether the cases of this text have their answers, and what is printed about them."""
     path, told = f"{folder}/cases.toml", io.StringIO()
     with open(path, "w", encoding="utf-8") as it:
         it.write(text)
@@ -117,7 +117,7 @@ def main():
             faults.append(f"right answers: {said}")
         faults += [f"a wrong answer passes: {it}" for it in WRONG if try_text(folder, f'[[group]]\nname = "A"\n{it}\n')[0]]
         faults += [f"a group passes that is none: {it}" for it in FAULTY if not is_none(folder, f'[[group]]\nname = "A"\n{it}\n')]
-    print("\n".join(faults) or "cases: right answers are told from wrong ones")
+    print("\n".join(faults) or "cases: right and wrong answers are distinguished")
     return bool(faults)
 
 

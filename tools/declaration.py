@@ -1,7 +1,7 @@
-"""Reads declarations as docs/FORMATS.md has them, apart from the program: for tools/interpreter.py and tools/editors.py.
+"""Reads declarations by docs/FORMATS.md, independently of the program, for tools/interpreter.py and tools/editors.py.
 
-Numbers and times are numbers, names and keywords are in upper case. A statement or an expression is a tuple that begins with what it
-is; a name stands for itself. What the check of the program refuses is not looked for."""
+Numbers and times are numbers, names and keywords are in upper case. A statement or an expression is a tuple that begins with its
+kind; a name is itself. This does not look for the faults that the program's check refuses."""
 
 import re
 from types import SimpleNamespace
@@ -40,7 +40,7 @@ def tokens_of(text):
 
 
 class Reader:
-    """Reads a declaration that is in order."""
+    """Reads an accepted declaration."""
 
     def __init__(self, text):
         self.tokens, self.at = tokens_of(text.removeprefix("\ufeff")), 0

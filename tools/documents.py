@@ -1,12 +1,15 @@
 #!/usr/bin/env python3
-"""tools/documents.py: says whether the documents speak of what there is.
+"""tools/documents.py: checks that everything that the documents name exists.
 
-docs/ARCHITECTURE.md has each crate of crates.txt in one table row, with all its modules; docs/PROOFS.md each but those of
-tests, with functions, clauses and definitions that there are; the blocks of docs/READING.md stand word for word in the file
-that is named before each; docs/DEFINITIONS.md has every file of definitions; the example in the comment of a public
-item is the body of the test that it names; and a function as `fb_sim::run::run` or a file as
-`docs/FORMATS.md`, wherever a page names one, is there. Where something is not so, this says it and ends with status 1. ./gate
-does it."""
+- docs/ARCHITECTURE.md has each crate of crates.txt in one table row, with all its modules.
+- docs/PROOFS.md has each crate, except those of tests, and names only functions, clauses and definitions that exist.
+- Each block of docs/READING.md is word for word in the file named before it.
+- docs/DEFINITIONS.md has every file of definitions.
+- The example in the comment of a public item is the body of the test that it names.
+- Every function like `fb_sim::run::run` and every file like `docs/FORMATS.md` that a page names exists.
+- README.md has at most 1,800 words, each entry of docs/DECISIONS.md at most 80.
+
+It prints what is wrong and then ends with status 1. ./gate runs it."""
 
 import glob
 import os
@@ -18,8 +21,10 @@ from kit import TOP
 
 ROW = re.compile(r"\| `(fb\w+)` \|.*\|")
 TEXTS = re.compile(r"`([^`\n]+)`")
+MOST_WORDS = 1800
+MOST_WORDS_OF_AN_ENTRY = 80
 # A file or a folder of the repository, as a page names it.
-PLACE = re.compile(r"(?:docs|crates|cases|tools|examples|bench)/[\w./+]*\w")
+MENTION = re.compile(r"(?:docs|crates|cases|tools|examples|bench)/[\w./+]*\w")
 
 
 def text_of(place):
@@ -28,7 +33,7 @@ def text_of(place):
 
 
 def sources(crate, kind):
-    """Returns the texts of a crate's files of a kind, `src/*.rt` or `specs/*.antt`, one behind the other."""
+    """Returns the text of all files of a kind in a crate: `src/*.rt` or `specs/*.antt`."""
     folder, ending = {"src": ("src", "rt"), "specs": ("specs", "antt")}[kind]
     found = glob.glob(f"{TOP}/crates/{crate}/{folder}/**/*.{ending}", recursive=True)
     return "\n".join([os.path.basename(it).removesuffix(f".{ending}") + "\n" + text_of(os.path.relpath(it, TOP)) for it in sorted(found)])
@@ -39,25 +44,26 @@ def crates():
 
 
 def rows(page):
-    """Returns the rows of a page's tables that begin with a crate, as the crate and the cells behind it."""
+    """Returns the rows of a page's tables that begin with a crate, as the crate and the cells after it."""
     lines = [it for it in text_of(page).splitlines() if ROW.fullmatch(it)]
     return [(ROW.fullmatch(it)[1], it.strip("| ").split(" | ")[1:]) for it in lines]
 
 
 def has_all(page, wanted):
-    """What is to be said of a page that is to have each of these crates in one row."""
+    """Returns the faults of a page that must have each of these crates in one row."""
     named = [crate for crate, _ in rows(page)]
-    return [f"{page}: {it} stands in {named.count(it)} rows" for it in sorted({*wanted, *named}) if named.count(it) != (it in wanted)]
+    return [f"{page}: {it} is in {named.count(it)} rows" for it in sorted({*wanted, *named}) if named.count(it) != (it in wanted)]
 
 
-def modules_told():
-    """What is to be said of the modules that docs/ARCHITECTURE.md names for each crate, in the last of three cells."""
+def module_faults():
+    """Returns the faults of the modules that docs/ARCHITECTURE.md names for each crate, in the last of three cells."""
     page, faults = "docs/ARCHITECTURE.md", []
     for crate, cells in rows(page):
         found = {os.path.basename(it)[:-3] for it in glob.glob(f"{TOP}/crates/{crate}/src/*.rt")} - {"lib", "tests"}
         # (a definition's file is named with its folder)
-        told = {it for it in TEXTS.findall(cells[-1]) if "/" not in it} if len(cells) == 3 else found
-        faults += [f"{page}: {crate}: {it} is told and not there, or there and not told" for it in sorted(found ^ told)]
+        named = {it for it in TEXTS.findall(cells[-1]) if "/" not in it} if len(cells) == 3 else found
+        faults += [f"{page}: {crate}: {it} is named and does not exist" for it in sorted(named - found)]
+        faults += [f"{page}: {crate}: {it} exists and is not named" for it in sorted(found - named)]
     return faults
 
 
@@ -68,8 +74,8 @@ def is_item(crate, path):
     return bool(re.search(items, sources(crate, "src")))
 
 
-def proofs_told():
-    """What is to be said of the functions, clauses and definitions that docs/PROOFS.md names."""
+def proof_faults():
+    """Returns the functions, clauses and definitions that docs/PROOFS.md names and that do not exist."""
     page, faults = "docs/PROOFS.md", []
     for crate, cells in rows(page):
         code, specs = sources(crate, "src"), sources(crate, "specs") + sources("fb_types", "specs") + sources("fb_check_names", "specs")
@@ -88,37 +94,37 @@ def proofs_told():
     return faults
 
 
-def definitions_told():
-    """What is to be said of docs/DEFINITIONS.md, which is to name each file of definitions beside its crate, or the crate's folder alone."""
+def definition_faults():
+    """Returns the faults of docs/DEFINITIONS.md, which names each file of definitions with its crate, or only the crate's folder."""
     page, faults = "docs/DEFINITIONS.md", []
     whole, words = text_of(page), set(re.findall(r"\w+", text_of(page)))
     for crate in crates():
-        told = re.findall(rf"^\| `{crate}/specs(?:/(\w+))?`([^|]*)\|", whole, re.M)
-        names = {it for first, rest in told for it in [first, *TEXTS.findall(rest)]}
+        found = re.findall(rf"^\| `{crate}/specs(?:/(\w+))?`([^|]*)\|", whole, re.M)
+        names = {it for first, rest in found for it in [first, *TEXTS.findall(rest)]}
         for it in sorted(glob.glob(f"{TOP}/crates/{crate}/specs/*.antt")):
             name = os.path.basename(it).removesuffix(".antt")
-            # (those of the model and of the text stand in tables of their own)
+            # (those of the model and of the text have their own tables)
             known = words if crate in ("fb_types", "fb_read") else names
             if name not in ("Lib", "formers") and "" not in names and name not in known:
-                faults.append(f"{page}: {crate}/specs/{name} is not told")
+                faults.append(f"{page}: {crate}/specs/{name} is not named")
         faults += [f"{page}: there is no {crate}/specs/{it}" for it in sorted(names - {""}) if not os.path.exists(f"{TOP}/crates/{crate}/specs/{it}.antt")]
     return faults
 
 
-def names_told(page):
-    """What is to be said of the functions and files that a page names."""
+def name_faults(page):
+    """Returns the functions and files that a page names and that do not exist."""
     faults = []
     for it in TEXTS.findall(text_of(page)):
         found = re.fullmatch(r"(fb\w+)((?:::\w+)+)(\(.*\))?", it)
         if found and (not os.path.isdir(f"{TOP}/crates/{found[1]}") or not is_item(found[1], found[2])):
             faults.append(f"{page}: there is no {it}")
-    places = [it for it in PLACE.findall(re.sub(r"```.*?```", "", text_of(page), flags=re.S)) if "*" not in it]
-    faults += [f"{page}: there is no {it}" for it in places if not os.path.exists(f"{TOP}/{it}") and not glob.glob(f"{TOP}/crates/{it}*")]
+    paths = [it for it in MENTION.findall(re.sub(r"```.*?```", "", text_of(page), flags=re.S)) if "*" not in it]
+    faults += [f"{page}: there is no {it}" for it in paths if not os.path.exists(f"{TOP}/{it}") and not glob.glob(f"{TOP}/crates/{it}*")]
     return faults
 
 
-def blocks_stand():
-    """What is to be said of the blocks of docs/READING.md, each of which stands in the file of crates/ that was named last."""
+def block_faults():
+    """Returns the blocks of docs/READING.md that are not in the file of crates/ that was named last."""
     page, named, faults = "docs/READING.md", None, []
     for place, part in enumerate(text_of(page).split("```\n")):
         if place % 2 == 0:
@@ -137,8 +143,8 @@ def tests():
     return found
 
 
-def examples_are_tests():
-    """What is to be said of the examples in the comments of public items: each is the body of the test that it names, and
+def example_faults():
+    """Returns the faults of the examples in the comments of public items. Each is the body of the test that it names, and
     each test of a file examples.rt is the example of an item."""
     faults, bodies, shown = [], tests(), set()
     for place in sorted(glob.glob(f"{TOP}/crates/*/src/**/*.rt", recursive=True)):
@@ -155,17 +161,26 @@ def examples_are_tests():
     return faults
 
 
+def length_faults():
+    """Returns the faults of README.md and docs/DECISIONS.md if they have more words than they may."""
+    page, entries = "docs/DECISIONS.md", re.split(r"\n(?=- \*\*|## )", text_of("docs/DECISIONS.md"))
+    words = len(text_of("README.md").split())
+    faults = [f"README.md: {words} words are more than {MOST_WORDS}"] if words > MOST_WORDS else []
+    long = [it for it in entries if it.startswith("- **") and len(it.split()) > MOST_WORDS_OF_AN_ENTRY]
+    return faults + [f"{page}: {len(it.split())} words are more than {MOST_WORDS_OF_AN_ENTRY}: {it.splitlines()[0]}" for it in long]
+
+
 def main():
-    """Looks at the documents and returns the status."""
+    """Checks the documents and returns the status."""
     pages = ["README.md", "CONTRIBUTING.md", "CHANGELOG.md", *[f"docs/{it}" for it in sorted(os.listdir(f"{TOP}/docs")) if it.endswith(".md")], "bench/README.md", "examples/README.md"]
     proved = [it for it in crates() if it != "fbsim" and not it.endswith("_tests")]
     faults = has_all("docs/ARCHITECTURE.md", crates()) + has_all("docs/PROOFS.md", proved)
-    faults += modules_told() + proofs_told() + definitions_told() + blocks_stand() + examples_are_tests()
+    faults += module_faults() + proof_faults() + definition_faults() + block_faults() + example_faults() + length_faults()
     for page in pages:
-        faults += names_told(page)
+        faults += name_faults(page)
     for it in faults:
         print(it, file=sys.stderr)
-    print(f"documents: {len(faults)} faults" if faults else "documents: all that they name is there")
+    print(f"documents: {len(faults)} faults" if faults else "documents: everything that they name exists")
     return 1 if faults else 0
 
 

@@ -1,12 +1,12 @@
 #!/usr/bin/env python3
-"""tools/drawn.py [PROGRAM]: the built program on random systems, each of which has one trace.
+"""tools/drawn.py [PROGRAM]: runs the built program on random systems.
 
-A system is drawn by a seed: two to five resources, instances in them, connections and links, some of which carry nothing, latencies
-by which a message may overtake another, stimuli of which several come at one tick, and where the run ends. Some of the systems stop,
-by their steps, a range or a divisor, and some come to their horizon. What --serial and any number of workers write is to be what the
-second simulator of tools/interpreter.py works out.
+A seed determines a system: two to five resources, instances in them, connections and links (some carry nothing), latencies with
+which a message may overtake another, stimuli of which several come at one tick, and the horizon. Some of the systems stop, because
+of their steps, a range or a divisor; others reach their horizon. With --serial and with any number of workers the program must write
+the trace that the second simulator, tools/interpreter.py, works out.
 
-./gate makes these runs each time it has run the program. Without ./gate they are made of the program as ./simulate built it."""
+./gate makes these runs each time it has run the program. Without ./gate they use the program that ./simulate built."""
 
 import sys
 import tomllib
@@ -20,11 +20,11 @@ from program import Room, side_by_side
 PROGRAM = "fbsim"
 SHOWN = 10
 
-# Each of these gives ten systems: by itself, and by the numbers behind it.
+# Each of these seeds gives ten systems: by itself, and by the numbers after it.
 SEEDS = (*range(0, 100, 10), 1_000, 2_000, 3_000, 4_000, 5_000, 60_000, 70_000, 80_000, 90_000, 100_000)
 
-# `LOOPER` runs without end once it has begun, so that it stops by its steps. `PUMP` stops by its range at the third event, and hands
-# what it counted to `TALLY`, which divides by it, and so stops at once where it is 0.
+# `LOOPER` never ends once it has begun, so it stops by its steps. `PUMP` stops by its range at the third event, and gives its count
+# to `TALLY`, which divides by it and so stops at once if it is 0.
 TYPES = """FUNCTION_BLOCK LOOPER
 EVENT_INPUT GO; END_EVENT
 EVENT_OUTPUT TICKED; END_EVENT
@@ -64,7 +64,7 @@ FIRST = (
     (Kind("E_SR", ("S", "R"), ()), Kind("E_SWITCH", ("EI",), ("EO0", "EO1"))),
     (Kind("PUMP", ("GO",), ()), Kind("TALLY", ("GO",), ("DONE",))),
 )
-# What the other instances may be.
+# The kinds of the other instances.
 OTHERS = (
     Kind("E_RESTART", (), ("COLD",)),
     Kind("E_MERGE", ("EI1", "EI2"), ("EO",)),
@@ -77,7 +77,7 @@ OTHERS = (
     Kind("E_SPLIT", ("EI",), ("EO1", "EO2")),
     Kind("LOOPER", ("GO",), ("TICKED",)),
 )
-# The latencies that a link may have. By a table a message may overtake one that was sent before it, and two may arrive at one tick.
+# The latencies of links. With a table a message may overtake one that was sent before it, and two may arrive at one tick.
 LATENCIES = (
     "latency = 1",
     "latency = 2",
@@ -89,7 +89,7 @@ LATENCIES = (
 )
 # The ticks at which stimuli may come: few, so that several come at one tick.
 TICKS = (0, 1, 3, 6, 7, 12, 18, 30)
-# The ticks at which a run may end, and the limits that there may be on the steps of one tick.
+# The horizons, and the limits on the steps of one tick.
 HORIZONS = (1, 13, 40, 64)
 STEPS = (4, 12, 60)
 
@@ -105,14 +105,14 @@ class Dice:
         return (self.state >> 33) % count if count else 0
 
     def one_of(self, all_of_them):
-        """One of these, or None where there is none."""
+        """One of these, or None if there is none."""
         number = self.below(len(all_of_them))
         return all_of_them[number] if all_of_them else None
 
 
 class Sketch:
-    """What a system is drawn by: how many resources there are, the instances, each as its kind and the number of its resource, and
-    the links, each as the numbers of two resources. The name of an instance is `I` with its number."""
+    """A random system: the number of resources, the instances, each as its kind and the number of its resource, and the links, each
+    as the numbers of two resources. The name of an instance is `I` with its number."""
 
     def __init__(self, dice):
         self.dice, self.resources = dice, dice.below(4) + 2
@@ -131,7 +131,7 @@ class Sketch:
                 self.links.append(way)
 
     def connection(self, number, home, output):
-        """An event connection to an input that is drawn, where a link leads there, else nothing."""
+        """An event connection to a random input, if a link leads there, else nothing."""
         to = self.dice.below(len(self.parts))
         kind, other = self.parts[to]
         event = self.dice.one_of(kind.inputs)
@@ -166,8 +166,8 @@ class Sketch:
 
 
 def run_of(room, seed, ways):
-    """Returns what is to come of the system of a seed, and what comes of it by each of these ways: the status, what is written and what
-    is reported."""
+    """Returns the expected result of the system of a seed, and its result in each of these ways: the status, standard output and
+    standard error."""
     sketch = Sketch(Dice(seed))
     declaration, deployment, stimuli = sketch.declaration(), sketch.deployment(), sketch.stimuli()
     horizon, steps = sketch.dice.one_of(HORIZONS), sketch.dice.one_of(STEPS)
@@ -184,7 +184,7 @@ def run_of(room, seed, ways):
 
 
 def try_all(program):
-    """Returns whether each system has the one trace that it is to have, and some of them stop."""
+    """Returns whether each system has the expected trace, and some of them stop."""
     ways = WAYS["run"]
     seeds = [first + more for first in SEEDS for more in range(10)]
     with Room(program) as room:

@@ -1,12 +1,12 @@
 #!/usr/bin/env python3
-"""tools/drawn_types.py [PROGRAM [FIRST LAST]]: the built program on random systems with random block types.
+"""tools/drawn_types.py [PROGRAM [FIRST LAST]]: runs the built program on random systems with random block types.
 
-A seed gives up to three basic types, with charts, guards and algorithms of all statements, up to two composite types that hold these
-and event blocks, an application of up to six instances in up to three resources, and stimuli. What the program writes, by --serial or
-by three workers, is to be the trace in form 2 that tools/interpreter.py works out. About half of the systems stop, by their steps, a
-divisor or a range.
+A seed gives up to three basic types, with charts, guards and algorithms of all statements, up to two composite types that contain
+these and event blocks, an application of up to six instances in up to three resources, and stimuli. With --serial or three workers
+the program must write the trace in form 2 that tools/interpreter.py works out. About half of the systems stop, because of their
+steps, a divisor or a range.
 
-./gate makes these runs each time it has run the program. With FIRST and LAST the seeds are others than those of the gate."""
+./gate makes these runs each time it has run the program. FIRST and LAST choose other seeds than those of the gate."""
 
 import random
 import sys
@@ -53,7 +53,7 @@ def fits(kind, to):
 
 
 class Writer:
-    """Draws the texts of a system. A basic type has the variables X and B, which it reads, Y and C, which it gives, and Z and K of its own:
+    """Makes the texts of a random system. A basic type has the inputs X and B, the outputs Y and C, and the internal variables Z and K.
     X, Y and Z are numbers."""
 
     def __init__(self, seed):
@@ -65,13 +65,13 @@ class Writer:
         return self.lot.choice(of)
 
     def some(self, of, most):
-        """A random number of results of a call, at most this many."""
+        """The results of 1 to this many calls."""
         return [of() for _ in range(self.lot.randint(1, most))]
 
     # -- Expressions and statements
 
     def number(self, depth):
-        """Draws an expression that is a number, at most this many levels deep."""
+        """Makes a random expression of a number, at most this many levels deep."""
         if depth == 0 or self.lot.random() < 0.25:
             return self.one("X", "Y", "Z", self.one(*LITERALS))
         form = self.one("({0} {op} {1})", "({0} {op} {1})", "(-{0})", "ABS({0})", "MIN({0}, {1})", "MAX({0}, {1})", "LIMIT({0}, {1}, {2})", "SEL({test}, {0}, {1})")
@@ -88,7 +88,7 @@ class Writer:
         return form.format(self.truth(depth - 1), self.truth(depth - 1), op=self.one("AND", "&", "OR", "XOR", "="))
 
     def body(self, depth, in_loop):
-        """Draws statements that nest so deep at most."""
+        """Makes random statements that nest at most this deep."""
         return " ".join(self.some(lambda: self.statement(depth, in_loop), 3))
 
     def statement(self, depth, in_loop):
@@ -121,7 +121,7 @@ class Writer:
         return self.one("0", "3", "9", "9" if kind in interpreter.UNSIGNED else "-7")
 
     def ports(self):
-        """Draws the ports of a type, and returns them with their text."""
+        """Makes random ports of a type, and returns them with their text."""
         reads, gives = {"X": self.one(*NUMBERS), "B": "BOOL"}, {"Y": self.one(*NUMBERS), "C": "BOOL"}
         text, events = "", []
         for letter, head, names in (("I", "EVENT_INPUT", reads), ("O", "EVENT_OUTPUT", gives)):
@@ -167,7 +167,7 @@ class Writer:
     # -- Networks
 
     def parts(self, most):
-        """Draws instances, each with its type: most are of the system's own types."""
+        """Makes random instances, each with its type. Most are of the system's own types."""
         return {f"N{at}": self.one(*self.own * 9, *interpreter.BLOCKS) for at in range(self.lot.randint(1, most))}
 
     def parameters(self, kind):
@@ -175,8 +175,8 @@ class Writer:
         return f"({', '.join(rows)})" if rows else ""
 
     def network(self, parts, ports, homes=None):
-        """Draws connections and returns the text of a network. The boundary of a composite is called None, and its ports are turned
-        round. Instances are in these resources."""
+        """Makes random connections and returns the text of a network. The boundary of a composite is called None, and its ports change
+        their direction. Instances are in these resources."""
         text = f"FBS {' '.join(f'{it} : {kind}{self.parameters(kind)};' for it, kind in parts.items())} END_FBS\n"
         ends = [(it, event) for it, them in ports.items() for event in them.ins]
         events = {(start, self.one(*ends)) for start in [(it, event) for it, them in ports.items() for event in them.outs] for _ in range(self.one(0, 1, 1, 1, 2)) if ends}
@@ -231,7 +231,7 @@ class Writer:
 
 
 def fault_of(room, seed):
-    """Returns the reason by which the system of a seed stops, or `end`, and what is wrong with what comes of it, or None."""
+    """Returns the reason why the system of a seed stops, or `end`, and what is wrong with its trace, or None."""
     declaration, deployment, stimuli, horizon, steps = Writer(seed).system()
     trace = interpreter.System(declaration, tomllib.loads(deployment), interpreter.stimuli_in(stimuli), steps).run(horizon, form=2)
     kind, *_, reason = trace.splitlines()[-1].split(" ")
@@ -246,7 +246,7 @@ def fault_of(room, seed):
 
 
 def try_all(program, first=SEEDS[0], last=SEEDS[1]):
-    """Returns whether each system has the trace that it is to have, and there are ends of all sorts."""
+    """Returns whether each system has the expected trace, and there are ends of all kinds."""
     with Room(program) as room:
         came = side_by_side(lambda seed: fault_of(room, seed), range(int(first), int(last)))
     faults = [it for _, it in came if it]

@@ -1,9 +1,9 @@
 #!/usr/bin/env python3
-"""tools/editors.py: whether the syntax files of editors/ colour declarations as docs/FORMATS.md says what each token is.
+"""tools/editors.py: checks that the syntax files of editors/ colour declarations by the tokens of docs/FORMATS.md.
 
-The tokens of all examples, and of texts with literals and comments at their edges, are coloured by Vim itself (`vim -es`) and by the
-TextMate grammar. For that grammar this has a reader of its own, which matches by Python's `re`, and by Oniguruma too, as VS Code does:
-the grammar keeps to what both know. Vim and Oniguruma are left out where they are not on the machine. ./gate does this before anything
+The tokens of all examples, and of texts with literals and comments at their limits, are coloured by Vim itself (`vim -es`) and by the
+TextMate grammar. For that grammar this has its own reader, which matches with Python's `re`, and also with Oniguruma, as VS Code does:
+the grammar uses only what both know. Vim and Oniguruma are left out if they are not on the machine. ./gate runs this before anything
 is built."""
 
 import ctypes
@@ -24,7 +24,7 @@ GRAMMAR = f"{TOP}/editors/vscode/syntaxes/fbsim.tmLanguage.json"
 VIM = f"{TOP}/editors/vim"
 TYPES = "BOOL SINT INT DINT LINT USINT UINT UDINT ULINT TIME".split()
 FUNCTIONS = "MIN MAX ABS LIMIT SEL".split()
-# What each colour of an editor stands for: by the beginning of a TextMate scope, and by a group of Vim.
+# The meaning of each colour of an editor: by the beginning of a TextMate scope, and by a group of Vim.
 SCOPES = {
     "comment.": "comment", "keyword.operator.fbsim": None, "keyword.": "keyword", "constant.language": "truth", "constant.numeric.integer": "whole",
     "constant.numeric.time": "time", "support.type": "type", "support.class": "block", "support.function": "function", "entity.": None, "invalid.": "wrong",
@@ -33,7 +33,7 @@ GROUPS = {
     "Comment": "comment", "Todo": "comment", "Structure": "keyword", "Statement": "keyword", "Operator": "keyword", "Boolean": "truth", "Number": "whole",
     "Time": "time", "Type": "type", "Block": "block", "Function": "function", "Error": "wrong",
 }
-# Texts in which each `|` ends a piece, and what the pieces are; a piece that is a name, a sign or a blank has no colour.
+# Texts in which each `|` ends a piece, and the kinds of the pieces. A name, a sign and a blank have no colour.
 EDGES = [
     ("t#5ms|;|Time#-1s|;|T#1d_2h3m4s_5ms|;|16#fF|;|2#1_0|;|1_000|..|8#17", "time,,time,,time,,whole,,whole,,whole,,whole"),
     ("T#|;|T#5|;|T#5s5m|;|T#5s_|;|1__0|;|2#2|;|5x|;|10#1|;|T#1m2m", "wrong,,wrong,,wrong,,wrong,,wrong,,wrong,,wrong,,wrong,,wrong"),
@@ -60,7 +60,7 @@ def keywords():
 
 
 def expected(text):
-    """Returns the colour of each character of a text, by the tokens that it has."""
+    """Returns the colour of each character of a text, by its tokens."""
     words, found, at = {*keywords()} - {*TYPES, "TRUE", "FALSE"}, [None] * len(text), 0
     tokens = []
     while at < len(text):
@@ -80,7 +80,7 @@ def expected(text):
 
 
 def texts():
-    """Returns each text with its name and the colours that are wanted, a character each."""
+    """Returns each text with its name and the expected colours, a character each."""
     for path in sorted(glob.glob(f"{TOP}/examples/*/*.iec")):
         yield os.path.relpath(path, TOP), content(path), expected(content(path))
     every = "".join(f"{it};\n{it.lower()};\n" for it in [*keywords(), *BLOCKS])
@@ -95,7 +95,7 @@ def texts():
 
 
 class Oniguruma:
-    """The library by which VS Code matches."""
+    """The library with which VS Code matches."""
 
     class Region(ctypes.Structure):
         _fields_ = [("allocated", ctypes.c_int), ("count", ctypes.c_int), ("start", ctypes.POINTER(ctypes.c_int)), ("end", ctypes.POINTER(ctypes.c_int))]
@@ -116,7 +116,7 @@ class Oniguruma:
         return found
 
     def search(self, expression, text, at):
-        """Returns the places of the first match and of its groups, or None. The text is ASCII."""
+        """Returns the offsets of the first match and of its groups, or None. The text is ASCII."""
         held = ctypes.create_string_buffer(text.encode(), len(text) + 1)
         start, how = ctypes.addressof(held), ctypes.c_void_p
         last = how(start + len(text))
@@ -127,7 +127,7 @@ class Oniguruma:
 
 
 class Expressions:
-    """Python's own, with the same two methods."""
+    """Python's `re`, with the same two methods."""
 
     compile = staticmethod(re.compile)
 
@@ -188,7 +188,7 @@ def vim(text):
 
 
 def differences(name, editor, text, wanted, colours):
-    """What is to be said of the first character that has another colour; that of blanks is not looked at."""
+    """Returns a line about the first character that has another colour. Blanks are ignored."""
     for place, (letter, want, have) in enumerate(zip(text, wanted, colours, strict=True)):
         if want != have and not letter.isspace():
             return [f"{name}: {editor}, line {text.count(chr(10), 0, place) + 1}: {text[place:place + 20]!r} is {have}, and not {want}"]
@@ -196,7 +196,7 @@ def differences(name, editor, text, wanted, colours):
 
 
 def main():
-    """Looks at all texts and returns the status."""
+    """Checks all texts and returns the status."""
     grammar, given = json.loads(content(GRAMMAR)), [*texts()]
     ways = {"TextMate by Python's re": lambda text: textmate(Expressions, grammar, text)}
     if name := ctypes.util.find_library("onig"):

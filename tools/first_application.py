@@ -1,10 +1,10 @@
 #!/usr/bin/env python3
 """tools/first_application.py [PROGRAM]: follows docs/FIRST_APPLICATION.md as its reader does, and compares what is printed.
 
-It goes through the page from top to bottom. A line that is a file's name in backquotes and a colon, and the block below it, is a file
-to be written, in place of an earlier one of that name. A block `console` has commands behind `$ ` and below each what it prints:
-`./simulate WORD..`, with `| tail -n N` or `> FILE` behind it or not, and `echo $?`. Each is called of the built program, or of PROGRAM,
-and where it prints anything else, this says so and ends with status 1."""
+It goes through the page from top to bottom. A line with only a file's name in backquotes and a colon, and the block below it, is a
+file to write, which replaces an earlier one of that name. A block `console` has commands after `$ `, each with its output below it:
+`./simulate WORD..`, optionally with `| tail -n N` or `> FILE`, and `echo $?`. Each command is run with the built program, or with
+PROGRAM. If it prints anything else, this reports it and ends with status 1."""
 
 import os
 import re
@@ -16,13 +16,13 @@ from program import Room
 
 PAGE = f"{TOP}/docs/FIRST_APPLICATION.md"
 PROGRAM = f"{TOP}/crates/fbsim/out/fbsim"
-# Where the page has its files. Here they stand in a room of their own.
+# The folder of the page's files. Here they are in a temporary folder.
 FOLDER = "/tmp/"
 FILE = re.compile(r"`" + FOLDER + r"([\w.]+)`:")
 
 
 def blocks(page):
-    """Returns the page's blocks in their order: the line above, what stands behind the opening fence, the first line's number, the lines."""
+    """Returns the page's blocks in their order: the line above, the word after the opening fence, the first line's number, the lines."""
     found, above, opened = [], "", None
     for number, line in enumerate(page.splitlines(), 1):
         if opened:
@@ -41,7 +41,7 @@ def blocks(page):
 
 
 def commands(number, lines):
-    """Returns the commands of a block, each with its line's number and what it is to print."""
+    """Returns the commands of a block, each with its line's number and its expected output."""
     found = []
     for at, line in enumerate(lines, number):
         if line.startswith("$ "):
@@ -54,7 +54,7 @@ def commands(number, lines):
 
 
 class Reader:
-    """Who follows the page: calls the program, and remembers the status of the last call."""
+    """A reader of the page: calls the program, and remembers the status of the last call."""
 
     def __init__(self, room):
         self.room, self.status = room, None
@@ -86,7 +86,7 @@ class Reader:
 
 
 def follow(page, reader):
-    """Returns how many commands there are, and what is to be said of those that print another thing."""
+    """Returns the number of commands, and a line for each that prints something else."""
     count, faults = 0, []
     for above, how, number, lines in blocks(page):
         if how == "console":
@@ -103,7 +103,7 @@ def follow(page, reader):
 
 
 def main(program=PROGRAM):
-    """Follows the page and returns the status: 0 where all is printed as it stands there."""
+    """Follows the page and returns the status: 0 if everything is printed as the page shows it."""
     if not os.path.exists(program):
         sys.exit(f"{program} is not built: ./simulate builds it")
     with open(PAGE) as it:

@@ -1,12 +1,11 @@
 #!/usr/bin/env python3
-"""tools/hostile.py: the built program on texts that are cut off, or changed in one byte.
+"""tools/hostile.py: runs the built program on texts that are cut off, or changed in one byte.
 
 A declaration, a deployment and stimuli that are accepted are cut at each byte, and each of their bytes is replaced in turn
-by each of five others. Whatever comes of it has a name: the program accepts the text and its run ends, or it refuses it by
-a number, and then it has written nothing. A declaration that lacks a part of its last word is refused for its tokens or for
-its grammar.
+by each of five others. The program must accept the text and its run must end, or refuse it with a number and write nothing.
+A declaration that lacks a part of its last word is refused for its tokens or for its grammar.
 
-./gate makes these calls each time it has run the program. Without ./gate they are made of the program as ./simulate built it."""
+./gate makes these calls each time it has run the program. Without ./gate they use the program that ./simulate built."""
 
 import re
 import sys
@@ -110,7 +109,7 @@ def has_a_name(ran, refused):
 
 
 def faults_of(room, it):
-    """Returns what is wrong with what comes of this text, a line each, and how many calls were made."""
+    """Returns what is wrong with the results for this text, a line each, and the number of calls."""
     whole = room.call(it.words, it.text)
     if (whole.returncode, whole.stdout) != (0, it.trace):
         return [f"{it.name}: status {whole.returncode}, {whole.stdout!r}"], 1
@@ -124,7 +123,7 @@ def faults_of(room, it):
 
 
 def try_all(program):
-    """Returns whether each call came to what has a name."""
+    """Returns whether each text was accepted or refused with a number."""
     made, faults = 0, []
     with Room(program, FILES) as room:
         for it in TEXTS:

@@ -1,8 +1,8 @@
-// Stands before open, close, read, write, malloc and realloc. tools/narrow.py loads it into the built program, and says by the environment
-// - NARROW_OUTPUT, NARROW_STEP, NARROW_ROOM: the output of this number takes at most so many bytes at a call and so many in all, and then fails,
-// - NARROW_ONCE: it fails once, and then has room for all; where this is `0`, it fails by taking no byte,
-// - NARROW_PIECE, NARROW_GIVEN: a reader gives at most so many bytes at a call, with a pause before each, and so many in all, and then fails.
-// While a file is open whose name is `full`, each request for memory is refused. (What it calls it declares itself, so that the kit's
+// Replaces open, close, read, write, malloc and realloc. tools/narrow.py loads it into the built program, with these settings:
+// - NARROW_OUTPUT, NARROW_STEP, NARROW_ROOM: the output with this number takes at most STEP bytes at a call and ROOM bytes in all, and then fails
+// - NARROW_ONCE: it fails once, and then has room for all; if this is `0`, it fails by taking no byte
+// - NARROW_PIECE, NARROW_GIVEN: a reader gives at most PIECE bytes at a call, with a pause before each, and GIVEN bytes in all, and then fails
+// While a file is open whose name is `full`, each request for memory is refused. (It declares what it calls itself, so that the kit's
 // compiler needs no headers.)
 typedef unsigned long size;
 

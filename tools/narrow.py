@@ -1,11 +1,14 @@
 #!/usr/bin/env python3
-"""tools/narrow.py: the built program with outputs that take few bytes at a time and then fail, with readers that pause and then fail,
-and with files for which there is no memory (tools/narrow.c stands before its calls of the system).
+"""tools/narrow.py: runs the built program with outputs that take few bytes at a time and then fail, with readers that pause and then
+fail, and with files for which there is no memory. tools/narrow.c is loaded before the program's system calls.
 
-So it shows what no contract says: that whatever a writer takes at a time, it gets all bytes or those for which it has room, and their
-number is told; that a failing standard error changes neither status nor trace; that a pause of a reader is no fault and a fault of it
-is one, unless all that is asked for was read before; and that want of memory for a file is told as that.
-./gate does this when it has run the program. Without ./gate it is done to the program as ./simulate built it."""
+This shows what no contract says:
+- a writer gets all bytes, however few it takes at a time, or those for which it has room, and their number is reported;
+- a failing standard error changes neither status nor trace;
+- a pause of a reader is no fault, and a failure is one, unless everything that was needed has been read;
+- out of memory for a file is reported as that.
+
+./gate runs this when it has run the program. Without ./gate it uses the program that ./simulate built."""
 
 import os
 import subprocess
@@ -20,12 +23,12 @@ from program import Room, side_by_side
 HERE = os.path.dirname(os.path.realpath(__file__))
 PROGRAM = "fbsim"
 STEPS = (1, 2, 3, 7, 1000)
-# How many bytes of a text are gathered before they are written, and more than any text has.
+# The number of bytes that are gathered before they are written, and a number greater than any text's length.
 PAGE = 8192
 LARGE = 1_000_000
 ROOMS_OF_A_PAGE = (0, 8, 9, 10, PAGE - 1, PAGE, PAGE + 1, PAGE + 8, PAGE + 9, PAGE + 10)
-# Lengths of a name with which a text is a page long, and one byte less or more: a trace, a line, a name with what stands before it, and
-# a name alone. The last is longer than a page by far.
+# Lengths of a name with which a text is a page long, and one byte less or more: a trace, a line, a name with the text before it, and
+# a name alone. The last is much longer than a page.
 LETTERS = (8170, 8171, 8172, 8176, 8177, 8178, 8182, 8183, 8184, 8191, 8192, 8193, 10_000)
 WAYS = [["--serial"], *(["--workers", count] for count in ("1", "2", "7"))]
 NARROW_FILES = {name: FILES[name] for name in ("far_too_long", "twice")} | {
@@ -40,7 +43,7 @@ NARROW_FILES = {name: FILES[name] for name in ("far_too_long", "twice")} | {
 }
 RUN = ["run", "cycle", "--horizon", "8"]
 WRITTEN = [(["check", "cycle"], b"accepted\n"), (RUN, TO_8), ([*RUN, "--serial"], TO_8), ([*RUN, "--trace", "2"], KEYED_TO_8)]
-# Calls that fail, their statuses, and how the lines that they tell begin.
+# Calls that fail, their statuses, and how the lines that they print begin.
 FAILING = [
     (["check", "part"], 2, b"refused E03"),
     (["run", "part", "--horizon", "1"], 2, b"refused E03"),
@@ -60,7 +63,7 @@ FOR_THE_FULL = [
 
 
 class Call(NamedTuple):
-    """Words, with what stands before the calls of the system, and what comes of it. Where `err` is a number, so many bytes are told."""
+    """A call, its settings of narrow.c, and its result. If `err` is a number, that many bytes are reported."""
 
     words: list
     settings: dict
@@ -78,7 +81,8 @@ def reader(piece, given):
 
 
 def with_room(words, text, steps, status=0):
-    """The calls by these words, which write the text and end so: by each of these steps, with room for each number of its bytes."""
+    """The calls with these arguments, which write the text and end with this status: with each of these steps, and room for each number
+    of its bytes."""
     for room in range(len(text) + 1):
         is_whole = room == len(text)
         told = b"" if is_whole else b"write fault after %d bytes\n" % room
@@ -96,14 +100,14 @@ def of_resources(it, ways):
 
 
 def at_room(words, text, room, step, **how):
-    """A call by these words, which write the text, with so much room: the text, or its beginning and how many bytes that is."""
+    """A call with these arguments, which writes the text, with this much room: the text, or its beginning and the number of its bytes."""
     is_whole = room >= len(text)
     told = b"" if is_whole else b"write fault after %d bytes\n" % room
     return Call(words, output(1, step, room, **how), 0 if is_whole else 3, text[:room], told)
 
 
 def of_one_failure():
-    """Calls whose output fails once, by an error or by taking no byte, and then has room again: nothing is written behind a failure."""
+    """Calls whose output fails once, with an error or by taking no byte, and then has room again: nothing is written after a failure."""
     for room in range(len(TO_8) + 1):
         for step in (1, 3, LARGE):
             for once in (0, 1):
@@ -111,7 +115,7 @@ def of_one_failure():
 
 
 def of_long_names(letters):
-    """The calls of a text with a name so long, around the ends of the pages on which a text is gathered before it is written."""
+    """The calls of a text with a name of this length, around the ends of the pages on which a text is gathered before it is written."""
     text = b"0 MAIN < %s.COLD\nend 8\n" % (b"X" * letters)
     for room in (*ROOMS_OF_A_PAGE, *range(letters + 8, letters + 23)):
         for step in (1000, PAGE, LARGE):
@@ -181,7 +185,7 @@ def all_calls(help_text):
 
 
 def built(room):
-    """Compiles what stands before the calls of the system."""
+    """Compiles narrow.c."""
     before = f"{room.folder}/narrow.so"
     words = [f"{rtlib.KIT}/toolchain/bin/clang", "-shared", "-fPIC", "-O1", "-nostdlib", "-fuse-ld=lld", "-o", before]
     subprocess.run([*words, f"{HERE}/narrow.c"], check=True)
@@ -190,7 +194,7 @@ def built(room):
 
 
 def made_in(program, files, calls_of):
-    """Makes the calls of the program with these files, and returns how many came to what they should, and how many there are."""
+    """Makes the calls of the program with these files, and returns how many had the expected result, and how many there are."""
     with Room(program, files) as room:
         before = built(room)
         made = [*calls_of(room)]
@@ -206,7 +210,7 @@ def made_in(program, files, calls_of):
 
 
 def try_all(program):
-    """Makes all calls of the program, and returns whether each came to what it should."""
+    """Makes all calls of the program, and returns whether each had the expected result."""
     counts = [made_in(program, NARROW_FILES, lambda room: all_calls(room.call(["--help"]).stdout))]
     for it, ways in ((refuse.stopped(), WAYS), (refuse.ring(), WAYS[::2])):
         texts = {name: text.encode() for name, text in it.texts.items()}

@@ -1,14 +1,14 @@
-"""Tries in a crate the wrong bodies that the kit's `rt plant` tries, and tells which of them its contracts let through.
+"""Tries in a crate the wrong implementations that the kit's `rt plant` tries, and prints which of them its contracts let through.
 
     python3 tools/planted.py CRATE [--private] [--all]
 
-The kit's own scripts choose the functions, write the bodies and judge them. They check the whole crate first, which takes minutes
-in a crate that stands on many, and then prove each body in a check that proves what it calls once more. Here each function of the
-crate but the planted ones is taken by its statement (a hole, as in wrong_bodies.py): that they are proved is shown apart, by the
-gate. So a body costs a second or two, and ten to thirty for the libraries below.
+The kit's own scripts choose the functions, write the implementations and judge them. They check the whole crate first, which takes
+minutes in a crate with many libraries, and then prove each implementation in a check that proves its callees again. Here each other
+function of the crate is taken by its statement (a hole, as in wrong_bodies.py), since the gate proves it. So an implementation costs a
+second or two, and ten to thirty for the libraries below.
 
-Functions of modules' own take a turn with --private, the public ones and the methods of traits without it. The libraries below the
-crate have to be built. The lines are those of `rt plant --help`; with --all also those of bodies that are refused."""
+With --private this tries the private functions, without it the public ones and the methods of traits. The libraries below the crate
+must be built. The lines are those of `rt plant --help`, with --all also those of implementations that are refused."""
 
 import importlib.machinery
 import os
@@ -24,9 +24,9 @@ from functions import Sources
 from kit import rtlib
 from wrong_bodies import Trial
 
-# What a check says of a body that meets its contract, given the statements of what it calls.
+# What a check says of an implementation that meets its contract, given the statements of its callees.
 MEETS = re.compile(r"(?m)^(fn \S+: )(?:no holes|depends on a hole in )")
-# The seconds that a check may take, and how many bodies stand in one. On a loaded machine a check takes minutes.
+# The seconds that a check may take, and the implementations of one check. On a loaded machine a check takes minutes.
 SECONDS, BATCH = 1500, 40
 
 

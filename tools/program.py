@@ -1,4 +1,4 @@
-"""A built program, copied out of the repository and called as nobody where this is root."""
+"""A built program, copied out of the repository and called as nobody if this is root."""
 
 import os
 import shutil
@@ -12,7 +12,7 @@ SECONDS = 60
 
 
 class Room:
-    """A folder with a copy of a program and files for it to read. It goes away with the `with` that it stands in."""
+    """A folder with a copy of a program and files for it to read. It is removed at the end of its `with`."""
 
     def __init__(self, program, files=()):
         self.drop = rt.drop_to_nobody()
@@ -23,7 +23,7 @@ class Room:
         self.program, self.folder = f"{self.kept.name}/{os.path.basename(program)}", f"{self.kept.name}/files"
         shutil.copyfile(program, self.program)
         os.chmod(self.program, 0o755)
-        # (what the program or what stands before its requests for memory writes, it writes here)
+        # (the program, and the code that is loaded before its requests for memory, may write here)
         os.mkdir(self.folder)
         os.chmod(self.folder, 0o777)
         for name, text in dict(files).items():
@@ -37,12 +37,12 @@ class Room:
         self.kept.cleanup()
 
     def call(self, words, given=b"", settings=(), seconds=SECONDS):
-        """Calls the program by these words, with settings NAME=VALUE in its environment, and returns the process that has ended."""
+        """Calls the program with these arguments, with settings NAME=VALUE in its environment, and returns the process that has ended."""
         settings = ["env", *settings] if settings else []
         return subprocess.run([*self.drop, *settings, self.program, *words], input=given, capture_output=True, cwd=self.folder, timeout=seconds)
 
 
 def side_by_side(work, given):
-    """Returns what the work answers for each of what is given, in order, with several done at once."""
+    """Returns the results of the work for each of the items, in order, with several done at once."""
     with ThreadPoolExecutor(rt.processors()) as lanes:
         return list(lanes.map(work, given))

@@ -1,6 +1,6 @@
-// Stands before malloc and realloc: the request whose number, from 1, stands in REFUSE is refused, and then the file that
-// REFUSE_TELL names is made. tools/refuse.py loads it into a built program. (What it calls it declares itself, so that the
-// kit's compiler needs no headers.)
+// Replaces malloc and realloc: the request with the number in REFUSE, from 1, is refused, and then the file that REFUSE_TELL
+// names is made. tools/refuse.py loads it into a built program. (It declares what it calls itself, so that the kit's compiler
+// needs no headers.)
 typedef unsigned long size;
 
 extern void *dlsym(void *, const char *);

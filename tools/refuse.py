@@ -1,24 +1,23 @@
 #!/usr/bin/env python3
-"""tools/refuse.py [[--memory STATUS] PROGRAM [WORD..]]: a built program with each request for memory refused in turn.
+"""tools/refuse.py [[--memory STATUS] PROGRAM [WORD..]]: runs a built program with each request for memory refused in turn.
 
-The program runs once with all the memory that it asks for, and then once for each request, that one being refused and
-those behind it not, until a run makes fewer requests. Each run is to end as the first did, with its output, or with the
-status for want of memory, 4 unless it is given, and then its output is a beginning of the first one's that ends at the end
-of a line. Where one does not, this says so, and ends with status 1.
+The program runs once with all the memory that it asks for, and then once for each request, with only that one refused, until a run
+makes fewer requests. Each run must end like the first one, with its output, or with the status for out of memory (4 by default). Then
+its output must be a beginning of the first one's that ends at the end of a line. Otherwise this reports it and ends with status 1.
 
-So it shows what no proof says: that want of memory is answered, wherever it comes, and that a call which is to leave all as
-it was does so. It also shows that within a round, or within what a run over one agenda writes at once, no request comes after the first byte: where the
-lines of each round are known and memory is wanted, the output ends where a round ends.
+This shows what no proof says: out of memory is answered wherever it occurs, and a call that promises to change nothing then changes
+nothing. It also shows that no request comes after the first byte of a round, or of what a run on one agenda writes at once: if the
+lines of each round are known and memory runs out, the output ends where a round ends.
 
-./gate does this when it has run the program, for the runs in RUNS by --serial, one worker and two; without ./gate and without words
-it is done to the program as ./simulate built it. A test that the kit built is a program too: its name is the word, and its status
-for want of memory is 101 where it answers that as a failure, or where it ends itself and says so (GAVE_UP), which an assertion that
-fails does not. ./gate does this to the tests in TESTS, for calls by themselves; by hand:
+./gate runs this when it has run the program, for the runs in RUNS with --serial, one worker and two. Without ./gate and without words
+it uses the program that ./simulate built. A test that the kit built is a program too: its name is the word. Its status for out of
+memory is 101 if it answers that as a failure, or if it ends itself and says so (GAVE_UP), which an assertion that fails does not.
+./gate runs this for the tests in TESTS, for single calls; by hand:
 
     (cd crates/fb_parts_tests && ../../tools/rt test)
     tools/refuse.py --memory 101 crates/fb_parts_tests/out/fb_parts_tests_tests tests::messages::messages_come_after_a_want_of_memory
 
-(The kit's `rt try --fail-alloc N` does the same for one N, to a program that is not proved, and builds it anew for each.)"""
+(The kit's `rt try --fail-alloc N` does the same for one N, with an unproved program that it builds again each time.)"""
 
 import os
 import re
@@ -36,21 +35,21 @@ PROGRAM = "fbsim"
 WANT_OF_MEMORY = 4
 # The status of a test that answers a failure.
 FAILED_TEST = 101
-# What a test says that ends itself because a call wanted memory, and what the kit writes then. An assertion that fails says another thing.
+# The output of a test that ends itself because a call ran out of memory, and that of the kit. An assertion that fails has another one.
 GAVE_UP = re.compile(rb"(memory|written|no (library|deployment|stimuli|system))\b.*\n")
 STOPPED = re.compile(rb"\ntest stopped at \S+\n")
-# The tests that are written for this, by their crates: each looks, where a call wanted memory, at what the calls behind it do.
+# The tests that are written for this, by their crates: each checks what the calls after one that ran out of memory do.
 TESTS = {
     "fb_parts_tests": ["tests::messages::messages_come_after_a_want_of_memory"],
     "fb_sim_tests": ["tests::advances::after_a_want_of_memory_nothing_is_written", "tests::rounds::rounds_write_what_has_become_final"],
 }
-# How many requests are refused side by side before it is looked at whether there were so many.
+# The number of requests that are refused at once before this checks whether the run made that many.
 AT_ONCE = 64
 WAYS = [["--serial"], ["--workers", "1"], ["--workers", "2"]]
 
 
 class Run(NamedTuple):
-    """A run of the program. Where the lines of each round are known, `rounds` has them, and the last line behind them."""
+    """A run of the program. If the lines of each round are known, `rounds` has them, and the last line after them."""
 
     name: str
     texts: dict
@@ -87,8 +86,8 @@ def ring():
 
 
 def relay():
-    """A merge of the first resource takes some stimuli at tick 0, and hands each on to a merge of the second, over a link of two ticks. So
-    the second resource waits in the first round. By their long names each round has more bytes than the program hands out at a time."""
+    """A merge of the first resource takes some stimuli at tick 0, and sends each to a merge of the second, over a link of two ticks. So
+    the second resource waits in the first round. With the long names each round has more bytes than the program writes at a time."""
     count, first, second = 20, "A" * 250, "M" * 250
     texts = {
         "d.iec": application(f"{first} : E_MERGE; {second} : E_MERGE;", f"{first}.EO TO {second}.EI1;"),
@@ -131,7 +130,7 @@ def composite():
 
 
 def cycle():
-    """A cycle of one tick, over so many ticks that one worker writes its lines in several pieces."""
+    """A cycle of one tick, with a horizon so late that one worker writes its lines in several pieces."""
     ticks = 400
     texts = {"d.iec": application("S : E_RESTART; C : E_CYCLE(DT := T#1ms); M : E_MERGE;", "S.COLD TO C.START; C.EO TO M.EI1;")}
     lines = ["0 MAIN < S.COLD\n0 MAIN > C.START DT=1\n"]
@@ -143,7 +142,7 @@ RUNS = [delayed(), stopped(), composite(), ring(), relay(), cycle()]
 
 
 def ends_of(rounds):
-    """How many bytes are written before the first round, and after each but the last line, which ends the whole."""
+    """The number of bytes that are written before the first round, and after each round. The last line, which ends the run, is left out."""
     ends, written = {0}, 0
     for lines in rounds[:-1]:
         written += len(lines)
@@ -152,7 +151,7 @@ def ends_of(rounds):
 
 
 class Refusals:
-    """Runs of one program by some words, with a request refused."""
+    """Runs of one program with these arguments, with a request refused."""
 
     def __init__(self, room, words, memory, ends=None):
         self.room, self.words, self.memory, self.ends = room, words, memory, ends
@@ -163,7 +162,7 @@ class Refusals:
             os.chmod(self.before, 0o755)
 
     def run(self, number):
-        """Runs it with the request of this number refused, if it comes to that. Returns its status, its output, and whether one was refused."""
+        """Runs it with the request of this number refused, if there is one. Returns its status, its output, and whether one was refused."""
         told = f"{self.room.folder}/refused-{number}"
         ran = self.room.call(self.words, settings=[f"LD_PRELOAD={self.before}", f"REFUSE={number}", f"REFUSE_TELL={told}"])
         refused = os.path.exists(told)
@@ -174,12 +173,12 @@ class Refusals:
         return ran.returncode, ran.stdout, refused
 
     def is_beginning(self, part, whole):
-        """Whether it is a beginning that ends with a line, and, where the ends of rounds are known, at one of them."""
+        """Whether it is a beginning that ends with a line, and at the end of a round if these are known."""
         is_end = len(part) in self.ends if self.ends is not None else not part or part.endswith(b"\n")
         return is_end and whole.startswith(part)
 
     def faults(self, status, output):
-        """Refuses each request once. Returns what is not as it should be, a line each, and how many were refused."""
+        """Refuses each request once. Returns the faults, a line each, and the number of refused requests."""
         faults, first = [], 1
         while True:
             numbers = range(first, first + AT_ONCE)
@@ -188,7 +187,7 @@ class Refusals:
                     return faults, number - 1
                 is_whole = (ended, wrote) == (status, output)
                 if not is_whole and not (ended == self.memory and self.is_beginning(wrote, output)):
-                    faults.append(f"request {number} refused: status {ended}, {len(wrote)} bytes that are not as they should be")
+                    faults.append(f"request {number} refused: status {ended}, {len(wrote)} wrong bytes")
             first += AT_ONCE
 
 
@@ -200,7 +199,7 @@ def tell(name, faults, made):
 
 
 def try_run(program, it, way):
-    """Refuses each request of this run, and returns whether all was as it should be."""
+    """Refuses each request of this run, and returns whether there were no faults."""
     name, wanted = f"{PROGRAM}, {it.name}, {' '.join(way)}", "".join(it.rounds).encode()
     ends = ends_of(it.rounds) if it.is_known_by_rounds else None
     with Room(program, {name: text.encode() for name, text in it.texts.items()}) as room:
@@ -212,12 +211,12 @@ def try_run(program, it, way):
 
 
 def try_all(program):
-    """Does this to all of RUNS in each way, and returns whether all was as it should be."""
+    """Does this for all of RUNS in each way, and returns whether there were no faults."""
     return all([try_run(program, it, way) for it in RUNS for way in WAYS])
 
 
 def try_alone(program, words, memory):
-    """Refuses each request of a program by these words."""
+    """Refuses each request of a program with these arguments."""
     with Room(program) as room:
         refusals = Refusals(room, words, memory)
         status, output, _ = refusals.run(0)

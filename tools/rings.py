@@ -1,12 +1,12 @@
 #!/usr/bin/env python3
-"""tools/rings.py [PROGRAM]: the built program on rings of resources, each of which leads to the next over a link of its own.
+"""tools/rings.py [PROGRAM]: runs the built program on rings of resources, each of which leads to the next over its own link.
 
-A restart begins with the first of some merges, each of which leads to the next, and the last to the first. Each lies in a resource of
-its own. The link that leads from the first has a latency of one tick, and each other one a tick more than the one before it. So the
-ticks of the trace are sums of numbers in turn: it is worked out here from that alone.
+A restart starts the first of some merges. Each merge leads to the next, and the last to the first; each is in its own resource. The
+link from the first merge has a latency of one tick, and each other link one tick more than the one before it. So the ticks of the
+trace are sums of consecutive numbers, from which this works out the trace.
 
-./gate makes these runs each time it has run the program, by --serial and by several numbers of workers, in both forms. Without ./gate
-they are made of the program as ./simulate built it."""
+./gate makes these runs each time it has run the program, with --serial and with several numbers of workers, in both forms. Without
+./gate they use the program that ./simulate built."""
 
 import sys
 
@@ -16,7 +16,7 @@ from kit import TOP
 PROGRAM = "fbsim"
 HORIZON = 10_000
 COUNTS = (4, 64, 256)
-# How many lines the trace of a ring has, and how it ends in form one: worked out apart from what is below.
+# The number of lines of a ring's trace, and its end in form one, worked out independently of the code below.
 WORKED_OUT = {
     64: (630, "9973 R57 > M57.EI1\n9973 R57 < M57.EO\nend 10000\n"),
     256: (284, "9870 R140 > M140.EI1\n9870 R140 < M140.EO\nend 10000\n"),
@@ -62,7 +62,7 @@ def rings():
 
 
 def are_as_worked_out():
-    """Returns whether the traces of this file have the count of lines and the end that were worked out apart from it."""
+    """Returns whether the traces of this file have the number of lines and the end that were worked out independently."""
     traces = [(trace(count, 1), *of) for count, of in WORKED_OUT.items()]
     return all(text.count("\n") == lines and text.endswith("\n" + last) for text, lines, last in traces)
 

@@ -1,11 +1,11 @@
 #!/usr/bin/env python3
-"""tools/traces.py: the waveforms of traces that are cut off, or changed in a byte or a line.
+"""tools/traces.py: makes waveforms of traces that are cut off, or changed in a byte or a line.
 
-What is to come of each text is worked out here by docs/FORMATS.md, "What is no trace", and by nothing of the program: a text that is
-still a trace has the dump of its lines (tools/waves.py), and any other is refused by the number of the line at which that shows first.
-No contract says that what is refused is no trace; these calls show it of some thousands of texts.
+The expected result of each text is worked out here from docs/FORMATS.md, "What is no trace", without the program. A text that is
+still a trace has the dump of its lines (tools/waves.py). Any other is refused with the number of the line at which that shows first.
+These calls show it for some thousands of texts.
 
-./gate makes them each time it has run the program. Without ./gate they are made of the program as ./simulate built it."""
+./gate makes them each time it has run the program. Without ./gate they use the program that ./simulate built."""
 
 import re
 import sys
@@ -24,10 +24,10 @@ UNSIGNED = {"USINT": 8, "UINT": 16, "UDINT": 32, "ULINT": 64}
 NUMBER = re.compile("0|[1-9][0-9]*")
 WHOLE = re.compile("0|-?[1-9][0-9]*")
 REASONS = ("steps", "divide", "range")
-# In form two a line begins with the class and the parts of its key, of so many bits.
+# In form two a line begins with the class and the parts of its key, which have these numbers of bits.
 KEY = (8, 128, 128)
 
-# What the declarations of tools/waves.py have, by what lines have of it: each event port with its variables, and their types.
+# The event ports of the declarations of tools/waves.py, as lines have them, with their variables and types.
 SWITCH_PORTS = {
     "R1 > F.S": [], "R1 > F.R": [], "R1 < F.EO": [("Q", "BOOL")],
     "R2 > W.EI": [("G", "BOOL")], "R2 < W.EO0": [], "R2 < W.EO1": [],
@@ -73,7 +73,7 @@ def is_value(word, kind):
 
 
 def tick_of(line, form, ports):
-    """The tick of a line in a form, or None where it is no line."""
+    """The tick of a line in a form, or None if it is no line."""
     words = line.split(" ")
     if form == 2:
         if len(words) < len(KEY) or any(number(word, bits) is None for word, bits in zip(words, KEY)):
@@ -89,7 +89,7 @@ def tick_of(line, form, ports):
 
 
 def least_end(line, ports):
-    """The tick of a last line, below which all lines are, or None where it is no last line."""
+    """The tick of a last line, below which all lines are, or None if it is no last line."""
     kind, *words = line.split(" ")
     tick = number(words[0], 64) if words else None
     if kind == "end" and len(words) == 1:
@@ -101,7 +101,7 @@ def least_end(line, ports):
 
 
 def refused_at(text, ports):
-    """The number of the line at which a text shows first that it is no trace, or None where it is one."""
+    """The number of the line at which a text shows first that it is no trace, or None if it is one."""
     *lines, cut = text.split("\n")
     second = (lines + [cut])[0].split(" ")[1:2]
     form = 2 if re.match("[0-9]", "".join(second)) else 1
@@ -121,7 +121,8 @@ def refused_at(text, ports):
 
 
 def changed(text):
-    """The text cut at each byte; with each byte gone, doubled, or replaced by others; with each line gone, doubled, or put before the last."""
+    """The text cut at each byte; with each byte removed, doubled, or replaced by others; with each line removed, doubled, or moved before
+    the last."""
     lines = text.splitlines(keepends=True)
     for at in range(len(text)):
         yield text[:at]
@@ -133,7 +134,7 @@ def changed(text):
 
 
 def fault(it, text, ran):
-    """What is wrong with what comes of a text, or None."""
+    """What is wrong with the result of a text, or None."""
     refused: Optional[int] = refused_at(text.decode("latin-1"), it.ports)
     if refused is not None:
         is_well = (ran.returncode, ran.stdout, ran.stderr) == (2, b"", b"refused trace line %d\n" % refused)
@@ -145,7 +146,7 @@ def fault(it, text, ran):
 
 
 def try_all(program):
-    """Returns whether each text comes to what it should."""
+    """Returns whether each text has the expected result."""
     made, faults = 0, []
     with Room(program, FILES) as room:
         for it in TEXTS:

@@ -1,31 +1,31 @@
-"""Reads value change dumps as IEEE 1364-2005, section 18, has them, strictly, and by nothing that this repository says of its own."""
+"""Reads value change dumps strictly by IEEE 1364-2005, section 18, and by nothing else."""
 
 from typing import NamedTuple
 
 # The bits that each kind of signal of a program may have in one value change without a vector.
 SCALARS = "01xXzZ"
-# Commands that stand before the changes, and those that may stand among them.
+# Commands that come before the changes, and those that may be among them.
 HEADINGS = ("$date", "$version", "$timescale", "$comment", "$scope", "$upscope", "$var", "$enddefinitions")
 KINDS = ("event", "wire", "reg")
 
 
 class Fault(Exception):
-    """What of a text is no dump."""
+    """The fault of a text that is no dump."""
 
 
 class Signal(NamedTuple):
-    """A signal as it is declared."""
+    """A declared signal."""
 
     kind: str
     size: int
 
 
 class Dump:
-    """What a dump says: signals by their names with all scopes, when each event fired, and what values there were."""
+    """The contents of a dump: signals by their names with all scopes, when each event fired, and the values."""
 
     def __init__(self):
         self.scale, self.signals, self.scopes, self.comments = None, {}, [], []
-        # What stands in $dumpvars, by name: the bits, or None of an event that fires there.
+        # The contents of $dumpvars, by name: the bits, or None for an event that fires there.
         self.begun = {}
         # The times of each event, and of each other signal the times at which it has another value than before, with the value.
         self.fired, self.values = {}, {}
@@ -57,7 +57,7 @@ class Reader:
             if word.startswith("$"):
                 self.command(word)
             elif not self.is_declared:
-                raise Fault(f"{word} stands before $enddefinitions")
+                raise Fault(f"{word} comes before $enddefinitions")
             elif word.startswith("#"):
                 self.time(word[1:])
             else:
@@ -77,7 +77,7 @@ class Reader:
         elif word in HEADINGS and not self.is_declared:
             self.heading(word, self.to_end(word))
         else:
-            raise Fault(f"{word} stands where it may not")
+            raise Fault(f"{word} is not allowed there")
 
     def heading(self, command, words):
         dump = self.dump
@@ -109,15 +109,15 @@ class Reader:
 
     def time(self, digits):
         if not digits.isdigit() or self.begins:
-            raise Fault(f"#{digits} is no time, or stands in $dumpvars")
+            raise Fault(f"#{digits} is no time, or is in $dumpvars")
         if self.dump.end is not None and int(digits) <= self.dump.end:
-            raise Fault(f"the time {digits} comes behind {self.dump.end}")
+            raise Fault(f"the time {digits} comes after {self.dump.end}")
         self.settle()
         self.dump.end = int(digits)
 
     def change(self, word):
         if self.dump.end is None:
-            raise Fault(f"{word} stands before the first time")
+            raise Fault(f"{word} comes before the first time")
         if word[0] in "bB":
             bits, code = word[1:], self.next("a code")
         elif word[0] in SCALARS:
@@ -153,10 +153,10 @@ class Reader:
 
 
 def extended(bits, size):
-    """The bits of a value in its whole size: to the left of a 1 stand zeros, else what is leftmost."""
+    """The bits of a value in its whole size: a value that begins with 1 is extended by zeros, others by their leftmost bit."""
     return bits.rjust(size, "0" if bits[0] == "1" else bits[0])
 
 
 def read(text):
-    """Returns what a dump says, or raises a Fault."""
+    """Returns the contents of a dump, or raises a Fault."""
     return Reader(text).read()

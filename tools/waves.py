@@ -1,17 +1,18 @@
 #!/usr/bin/env python3
-"""tools/waves.py [PROGRAM]: the dumps that `wave` makes, as GTKWave reads them, beside the traces that they are made of.
+"""tools/waves.py [PROGRAM]: compares the dumps that `wave` makes, as GTKWave reads them, with their traces.
 
-Of each example, and of inputs of its own with a stop, with events of one port that come twice in a tick and with values at the
-ends of types, the program makes the value change dump of the trace, in both forms, which are to be the same bytes. The dump is
-read by tools/vcd.py, which knows the standard alone, and by GTKWave's own reader: vcd2fst makes GTKWave's database of it,
-and fst2vcd tells what the database has. Both are compared with what the trace says, which is computed here from the lines
-of the trace and from nothing else: in each tick the ports that had an event fire, and no others; the register beside a port counts
-its events; a variable has the last value that a line told, and is unknown before its first; the last time is that of the last
-line, and a stop has its comment.
+The program makes the value change dump of the trace of each example, and of other inputs: with a stop, with events of one port that
+come twice in a tick, and with values at the limits of types. It does so for both forms of the trace, which must give the same bytes.
+The dump is read by tools/vcd.py, which knows only the standard, and by GTKWave's own reader: vcd2fst makes GTKWave's database of it,
+and fst2vcd prints the contents of the database. Both are compared with the trace, of which only the lines are used:
+- in each tick the ports that had an event fire, and no others;
+- the register of a port counts its events;
+- a variable has the last value of a line, and is unknown before its first;
+- the last time is that of the last line, and a stop has its comment.
 
-Where vcd2fst is missing, this installs the package gtkwave of the system by its name. Where that fails, for want of a network
-say, it says so, and the dumps are read by tools/vcd.py alone: status 0 says then that these comparisons came out, and the last
-line says that GTKWave's reader read nothing. ./gate installs nothing."""
+If vcd2fst is missing, this installs the system's package gtkwave. If that fails, for example without a network, it says so, and only
+tools/vcd.py reads the dumps. Then status 0 means that these comparisons succeeded, and the last line says that GTKWave's reader read
+nothing. ./gate installs nothing."""
 
 import glob
 import os
@@ -62,7 +63,7 @@ end 1000000000000
 
 
 class Case(NamedTuple):
-    """A declaration, a deployment where there is one, and a trace in both forms."""
+    """A declaration, a deployment if there is one, and a trace in both forms."""
 
     name: str
     declaration: bytes
@@ -83,7 +84,7 @@ class Told(NamedTuple):
 
 
 def form_one(trace):
-    """A trace of form two in form one: its lines but the last have three words less."""
+    """A trace of form two in form one: each line except the last has three words fewer."""
     *lines, last = trace.splitlines(keepends=True)
     return b"".join([it.split(b" ", 3)[3] for it in lines] + [last])
 
@@ -113,11 +114,11 @@ def told_by(trace):
     return Told({name: [*ticks] for name, ticks in fired.items()}, values, int(tick), comments)
 
 
-# ---- What a dump says beside it
+# ---- What a dump says
 
 
 def begins(name, size):
-    """The bits with which a signal begins: a count with 0, a variable unknown."""
+    """The initial bits of a signal: a count is 0, a variable unknown."""
     return ("0" if name.endswith(COUNT) else "x") * size
 
 
@@ -133,7 +134,7 @@ def steps_of(values, name, size):
 
 
 def kind_of(told, name):
-    """How a signal of which a trace tells is to be declared."""
+    """The declaration of a signal of a trace."""
     if name in told.fired:
         return vcd.Signal("event", 1)
     size = len(next(iter(told.values[name].values())))
@@ -141,7 +142,7 @@ def kind_of(told, name):
 
 
 def differences(told, dump):
-    """What a dump says otherwise than the trace, line by line."""
+    """The differences between a dump and the trace, a line each."""
     for name in sorted({*told.fired, *told.values} - {*dump.signals}):
         yield f"{name} is no signal"
     for name, signal in dump.signals.items():
@@ -159,7 +160,7 @@ def differences(told, dump):
 
 
 def faults_of_form(told, dump):
-    """What a dump as the program writes it has otherwise than docs/FORMATS.md says."""
+    """The differences between the program's dump and docs/FORMATS.md."""
     if dump.scale != "1ms":
         yield f"the time scale is {dump.scale}"
     if dump.comments != told.comments:
@@ -168,11 +169,11 @@ def faults_of_form(told, dump):
         if signal.kind != "event" and dump.begun.get(name) != begins(name, signal.size):
             yield f"{name} begins with {dump.begun.get(name)}"
         if signal.kind == "event" and (name in dump.begun or dump.signals.get(name + COUNT) != vcd.Signal("reg", BITS)):
-            yield f"{name} fires in $dumpvars, or has no count beside it"
+            yield f"{name} fires in $dumpvars, or has no count"
 
 
 def by_gtkwave(dump):
-    """What GTKWave's database has of a dump, as the text of a dump."""
+    """GTKWave's database of a dump, as the text of a dump."""
     with tempfile.TemporaryDirectory(prefix="waves-") as room:
         text, base = f"{room}/it.vcd", f"{room}/it.fst"
         with open(text, "wb") as it:
@@ -181,12 +182,12 @@ def by_gtkwave(dump):
         if made.returncode or not os.path.exists(base):
             raise vcd.Fault(f"vcd2fst says {(made.stdout + made.stderr).decode(errors='replace').strip()}")
         told = subprocess.run(["fst2vcd", base], check=True, capture_output=True).stdout.decode("ascii")
-    # (it closes $dumpvars at the next time, and so not where there is none)
+    # (it closes $dumpvars at the next time, and so not if there is none)
     return told if "$end" in told.partition("$dumpvars")[2] else told + "$end\n"
 
 
 def faults_by(text_of, told, look):
-    """What these looks find in a text, or that it is no dump."""
+    """The faults that these checks find in a text, or that it is no dump."""
     try:
         read = vcd.read(text_of())
         return [it for one in look for it in one(told, read)]
@@ -216,7 +217,7 @@ def runs():
     yield "stop", {"stop.iec": calls.RING, "trace": calls.STOPPED}, ["run", "stop.iec", "--horizon", "1", "--steps", "3"]
     for args in sorted(glob.glob(f"{TOP}/examples/**/args", recursive=True)):
         folder = os.path.dirname(args)
-        # (the declaration and the deployment of a scenario stand in the folder above it)
+        # (the declaration and the deployment of a scenario are in the folder above it)
         near = [it for at in (os.path.dirname(folder), folder) for it in glob.glob(f"{at}/*") if os.path.isfile(it)]
         words = [it.removeprefix("../") for it in content(args).decode().splitlines()]
         yield os.path.relpath(folder, f"{TOP}/examples"), {os.path.basename(it): content(it) for it in near}, words
@@ -231,7 +232,7 @@ def cases(room):
                 it.write(text)
         second = room.call([*words, "--trace", "2"]).stdout
         if form_one(second) != files["trace"]:
-            wrong.append(f"{name}: the trace of form two tells of other lines")
+            wrong.append(f"{name}: the trace of form two has other lines")
         found.append(Case(name, files[words[1]], files.get("deploy.toml"), (files["trace"], second)))
     own = [("switch", SWITCH, TWO_RESOURCES, SWITCHED), ("ends", SINK, None, ENDS)]
     found += [Case(name, text, deployed, (form_one(trace), trace)) for name, text, deployed, trace in own]
@@ -239,7 +240,7 @@ def cases(room):
 
 
 def dump_of(room, case, trace):
-    """What the program makes of a trace, or what is to be said of its call."""
+    """The program's dump of a trace, or the fault of its call."""
     files = {"it.iec": case.declaration, "it.trace": trace}
     words = ["wave", "it.iec"]
     if case.deployment is not None:
@@ -265,7 +266,7 @@ def faults_of(room, case, with_gtkwave):
 
 
 def unseen(room, case, with_gtkwave):
-    """The changes of a dump that can go, or be put twice as far, without being seen here. There are to be none."""
+    """The changes of a dump that can be removed, or moved to twice their time, without a fault here. There must be none."""
     lines = dump_of(room, case, case.forms[0]).splitlines(keepends=True)
     for place in range(lines.index(b"$end\n") + 1, len(lines)):
         if not faults(case.forms[0], b"".join(lines[:place] + lines[place + 1 :]), False):
@@ -281,7 +282,7 @@ def have_readers():
 
 
 def make_all(program, says=print):
-    """Compares the dumps of all cases, by GTKWave's reader too where it is on this machine. Returns whether all are as the traces say."""
+    """Compares the dumps of all cases, with GTKWave's reader too if it is on this machine. Returns whether all agree with the traces."""
     with_gtkwave = have_readers()
     with Room(program) as room:
         made, wrong = cases(room)

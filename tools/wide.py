@@ -2,7 +2,7 @@
 """Runs declarations in which one type has 70,000 events and 70,000 variables, more than 16 bits can number, and compares their
 traces, which follow from the rules: tools/wide.py [PROGRAM]
 
-./gate does it each time that it has run the program."""
+./gate runs it each time it has run the program."""
 
 import os
 import string
@@ -16,7 +16,7 @@ DIGITS = string.digits + string.ascii_uppercase
 
 
 def names(letter):
-    """As many names of a letter and four digits of base 36."""
+    """This many names of a letter and four digits of base 36."""
     return [letter + "".join(DIGITS[k // 36**p % 36] for p in (3, 2, 1, 0)) for k in range(COUNT)]
 
 
@@ -59,7 +59,7 @@ def outputs():
 
 
 def fails(name, text, stimuli, trace, program, words):
-    """Whether a run gives another trace, which is then told."""
+    """Whether a run gives another trace, which is then printed."""
     with tempfile.TemporaryDirectory() as folder:
         for file, content in (("declaration", text), ("stimuli", stimuli)):
             with open(os.path.join(folder, file), "w", encoding="ascii") as out:
@@ -78,7 +78,7 @@ def main(words):
     failed = fails("inputs", *inputs(), program, ["--serial"])
     failed |= fails("outputs", *outputs(), program, ["--workers", "2"])
     if not failed:
-        print("wide: all as they should be")
+        print("wide: 0 faults")
     return int(failed)
 
 

@@ -1,9 +1,10 @@
 #!/usr/bin/env python3
 """Tests wrong_bodies.py on a small crate that is made for it: tools/wrong_bodies_test.py.
 
-Wrong bodies must be told as refused, also two of one function; a body that the contract allows must be told as not refused; and one
-that does not parse, or names what is not there, as no try at all. What the prover says of a function in a cycle of calls must
-not be laid at another's door. A minute of processor time, most of it for the body that is not refused, which is tried twice."""
+Wrong implementations must be reported as refused, also two of one function. One that the contract allows must be reported as not
+refused. One that does not parse, or names what does not exist, must be reported as no try. What the prover says of one function in a
+cycle of calls must not count for another. This takes a minute of processor time, most of it for the implementation that is not
+refused, which is tried twice."""
 
 import os
 import sys
@@ -59,7 +60,7 @@ use Rattle.sample.proofs.next.Goals as goal
 pub returns : goal.returns
 returns c = refl
 """
-# Each edit's change, and the words by which it is told.
+# Each edit's change, and the words with which it is reported.
 EDITS = {
     "a_step_of_two": ("let step = 1;", "let step = 2;", "refused, as it must be"),
     "no_step": ("number + step", "number", "refused, as it must be"),
@@ -78,7 +79,7 @@ def write(path, text):
 
 
 def test_on_a_crate():
-    """Tries all edits in the prover, and returns what is told otherwise than it must be."""
+    """Tries all edits in the prover, and returns those that are reported wrongly."""
     with tempfile.TemporaryDirectory(prefix="wrong-bodies-test-") as top:
         write(f"{top}/crates.txt", "sample:\n")
         write(f"{top}/crates/sample/src/lib.rt", SOURCE)
@@ -107,35 +108,36 @@ LOST = [
     "./proofs/exec/exec/Answers.antt:5:3: error: `returns-clause-run`: `goal.returns-clause-run`: module `Rattle.machine.proofs.exec.exec.Goals` has no `returns-clause-run` that can be named",
 ]
 CASES = [
-    # A goal of run is that function's alone, whichever function of the cycle is told as not proved.
+    # A goal of run counts only for run, whichever function of the cycle is reported as not proved.
     ("run", [NOT_PROVED.format("run")], True),
     ("turn", [NOT_PROVED.format("turn")], False),
     ("run", [NOT_PROVED.format("turn")], False),
-    # The same where its written answer fails.
+    # The same if its written answer fails.
     ("run", ["fn machine::exec::run: not proved", "./proofs/exec/+exec/Answers.antt:5:3: error: `run-returns`: expected type `A`"], True),
     ("turn", ["fn machine::exec::turn: not proved", "./proofs/exec/+exec/Answers.antt:5:3: error: `run-returns`: expected type `A`"], False),
     ("exec", ["fn machine::exec::exec: not proved", "./proofs/exec/+exec/Answers.antt:5:3: error: `run-returns`: expected type `A`"], False),
-    # A place in its own source counts, and one in another's does not.
+    # A location in its own source counts, and one in another's does not.
     ("run", ["fn machine::exec::run: not proved", "note: src/exec.rt:12:1: it is not proved that `a` holds (`run-returns`)"], True),
     ("turn", ["fn machine::exec::turn: not proved", "note: src/exec.rt:12:1: it is not proved that `a` holds (`run-returns`)"], False),
-    # A name that is gone does not count, nor a warning, nor what is not proved for want of invariants.
+    # A missing name does not count, nor a warning, nor what is not proved because invariants are missing.
     ("run", ["fn machine::exec::run: not proved", "./proofs/exec/+exec/Answers.antt:5:3: error: `run-returns`: `x` is not in scope"], False),
     ("run", ["fn machine::exec::run: not proved", "note: src/exec.rt:12:1: this `use` brings nothing"], False),
     ("run", [NOT_PROVED.format("run"), "./proofs/exec/+exec/Invariants.antt:5:3: error: `turn-loop`: record has no field `x`"], False),
-    # A goal that has another name now may lack its answer alone. One of another kind counts, and an answer that fails under its old name.
+    # A goal that has another name now may only lack its answer. One of another kind counts, and so does an answer that fails under its old
+    # name.
     ("exec", [*LOST, "note: src/exec.rt:4:1: it is not proved that `a` holds (`returns-then-clause-run`)"], False),
     ("exec", [*LOST, "note: src/exec.rt:4:1: it is not proved that `a` holds (`returns-then-clause-fewer`)"], True),
     ("exec", [*LOST, "note: src/exec.rt:4:1: it is not proved that what `step` requires holds at this call (`step-requires`)"], True),
     ("exec", [*LOST, "./proofs/exec/exec/Answers.antt:9:3: error: `returns-in-Some`: expected type `A`"], True),
     # Nor does a file of answers that cannot be read.
     ("exec", [LOST[0], "./proofs/exec/exec/Answers.antt:4:5: error: module `Rattle.machine.proofs.exec.run.Goals`: is private"], False),
-    # What is proved but for a hole is not refused.
+    # A function that is proved except for a hole is not refused.
     ("run", ["fn machine::exec::run: depends on a hole in `Rattle.machine.proofs.exec.step.Proof.step_spec`"], False),
 ]
 
 
 def test_on_what_is_said():
-    """Has `refusal` judge sentences of the prover, and returns those that it judges otherwise than it must."""
+    """Has `refusal` judge sentences of the prover, and returns those that it judges wrongly."""
     outside = Function("src/exec.rt", "exec", "", "free", (1, 3, 8))
     functions = {"run": in_cycle("run", (10, 11, 20)), "turn": in_cycle("turn", (22, 23, 30)), "exec": outside}
     return [f"{name}: {lines}" for name, lines, wanted in CASES if bool(refusal("machine", functions[name], lines)) != wanted]
