@@ -7,6 +7,7 @@ mod Ending
 pub mod Fronts
 pub mod Joined
 pub mod OneAgendaIs
+mod OnePhase
 mod Onward
 pub mod OpenIs
 pub mod Outcomes

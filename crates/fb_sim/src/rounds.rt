@@ -16,6 +16,7 @@ ghost use Rattle.fb_system.specs.Lines.{BelongsTo};
 ghost use Rattle.fb_trace.specs.Progress.{bounded};
 ghost use Rattle.fb_laws.specs.Finality.{core_of};
 ghost use Rattle.fb_window.specs.Jobs.{Does};
+ghost use Rattle.fb_window.specs.Reached.{KeepHorizon};
 ghost use Rattle.fb_sim.specs.Serial.{AreWithin};
 ghost use Rattle.fb_sim.specs.Rounds as spec;
 ghost use Rattle.fb_sim.specs.Rounds.{CountedRounds, HasCome, HasWalked, IsHomeAgain, IsHomeOnce, IsOnItsWay, Rounds, WritesPartOf, lines_out};
@@ -233,12 +234,16 @@ fn one_phase<R: Threads + Wait + Sync, P: Gate>(
     gate: &P,
 ) -> Result<Settled, RunError>
     requires options { AreWithin options }
-    requires come { (ls : List model.Line) × IsOnItsWay system.now options.steps options.horizon core ls }
+    requires system { core.system ≡ system.now }
+    requires steps { core.steps ≡ options.steps }
+    requires clocks { KeepHorizon options.horizon core.resources.items }
     ensures home { (ls : List model.Line) (way : IsOnItsWay system.now options.steps options.horizon core ls)
         → IfOk result (IsHomeOnce system.now options.steps options.horizon 1024 way.steps ls) }
+    ensures belong { IfOk result (λ s. All (BelongsTo (system_of system.now)) (lines_out s)) }
     ensures memory { IfErr result (λ e. e ≡ Memory) }
 {
     system.facts();
+    core.facts();
     let bounds = core.bounds(options.horizon, LONGEST_WINDOW);
     let (away, jobs) = core.jobs(alloc, system, bounds)?;
     let workers = options.workers as usize;
@@ -266,7 +271,9 @@ pub fn round<R: Threads + Wait + Sync, W: Write, P: Gate>(
     gate: &P,
 ) -> Result<Round, RunError>
     requires options { AreWithin options }
-    requires come { (ls : List model.Line) × HasCome system.now options.steps options.horizon core ls }
+    requires system { core.system ≡ system.now }
+    requires steps { core.steps ≡ options.steps }
+    requires clocks { KeepHorizon options.horizon core.resources.items }
     ensures { (ls : List model.Line) (come : HasCome system.now options.steps options.horizon core ls)
         → Rounds system.now options come.steps ls (W.contents out.old) (W.contents out.new) result }
 {

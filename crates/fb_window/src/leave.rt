@@ -5,7 +5,7 @@ ghost use Rattle.fb_resource.specs.Resources.{IsOf};
 ghost use Rattle.fb_resource.specs.declared.resource.Resource.{Resource};
 ghost use Rattle.fb_window.specs.Jobs.{AreOf, MayLeave, job_of, jobs_of, resting_of};
 ghost use Rattle.fb_window.specs.Leaving.{AreLegal, HasLeft};
-ghost use Rattle.fb_window.specs.Reached.{KeepHorizon};
+ghost use Rattle.fb_window.specs.Reached.{IsReached, KeepHorizon};
 ghost use Rattle.fb_window.specs.Reaching.{OfEachCore};
 
 use crate::cores::{Away, AwayState, Bounds, Core, CoreState, Failed};
@@ -108,6 +108,13 @@ impl CoreState {
 }
 
 impl Core {
+    /// For proofs: some schedule has led to its resources, and the lines that it keeps are lines of the system.
+    pub fn facts(&self)
+        ensures { IsReached self.now }
+    {
+        let _state = &self.state;
+    }
+
     /// Takes the core apart: one job for each resource that has not stopped, with the bound at its index, and what
     /// stays behind.
     ///

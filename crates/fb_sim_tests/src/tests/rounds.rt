@@ -111,6 +111,7 @@ fn expect_rounds<R: Abort + Threads + Wait + Sync>(
     ) else {
         panic!(rt; "no system");
     };
+    system.facts();
     let mut core = opened(rt, alloc, &system, case.steps);
     for (number, lines) in rounds.iter().enumerate() {
         let is_last = number.saturating_add(1) == rounds.len();

@@ -4,16 +4,8 @@ use Rattle.fb_sim.specs.declared.progress.Round.{Round}
 use Rattle.fb_sim.proofs.WindowIs.{on_its_way, round_failed, round_passed, round_wanting, round_whole}
 use Rattle.fb_sim.proofs.rounds.round.Goals as goal
 
-pub one_phase-requires-clause-come : goal.one_phase-requires-clause-come
-one_phase-requires-clause-come g c κs w =
-    let o = c.args.options in
-    (c.requires.come.0, on_its_way c.args.system.now o.steps o.horizon c.args.core c.requires.come.0 c.requires.come.1)
-
 pub hand_out-requires : goal.hand_out-requires
-hand_out-requires g c =
-    let o = c.args.options in
-    let home = c.in_ok-settled.ensures.home c.requires.come.0 (on_its_way c.args.system.now o.steps o.horizon c.args.core c.requires.come.0 c.requires.come.1) in
-    rw c.lines_of.ensures home.belong
+hand_out-requires g c = rw c.lines_of.ensures c.in_ok-settled.ensures.belong
 
 pub returns-in_err-settled : goal.returns-in_err-settled
 returns-in_err-settled g c ls h =

@@ -1,5 +1,6 @@
 use Rattle.std.proofs.Common.{[], Some}
 use Rattle.fb_types.specs.declared.run.Form.TheVariants.{One}
+use Rattle.fb_sim.proofs.WindowIs.{walk_keeps}
 use Rattle.fb_sim_tests.proofs.Coming.{goes_on}
 use Rattle.fb_sim_tests.proofs.tests.rounds.expect_rounds.Goals as goal
 
@@ -11,3 +12,15 @@ loop-number-preserved g c =
     let case = c.args.arg4.case in
     goes_on c.in-Ok.system (record { horizon = case.horizon; steps = case.steps; workers = c.args.arg3.workers; form = One }) c.loop-number.core c.in-Ok-Going.next
     c.in-Ok-Going.field-0 (Some c.loop-number.out.got.items) (Some c.round.new.out.got.items) c.loop-number.invariant c.in-Ok-Going.field-0-is c.in-Ok-Going.ensures
+
+pub round-requires-clause-system : goal.round-requires-clause-system
+round-requires-clause-system g c κs w = c.loop-number.invariant.1.of.inputs
+
+pub round-requires-clause-steps : goal.round-requires-clause-steps
+round-requires-clause-steps g c κs w = c.loop-number.invariant.1.of.steps
+
+pub round-requires-clause-clocks : goal.round-requires-clause-clocks
+round-requires-clause-clocks g c κs w =
+    let case = c.args.arg4.case in
+    walk_keeps c.in-Ok.system case.steps case.horizon c.loop-number.core c.loop-number.invariant.0 c.loop-number.invariant.1
+    (record { accepted = c.facts.ensures.accepted; limits = c.facts.ensures.limits })

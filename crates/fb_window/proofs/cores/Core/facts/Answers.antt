@@ -1,0 +1,7 @@
+use Rattle.std.proofs.Common.{subst}
+use Rattle.fb_window.specs.Reached.{IsReached}
+use Rattle.fb_window.specs.declared.cores.CoreState.{CoreState}
+use Rattle.fb_window.proofs.cores.Core.facts.Goals as goal
+
+pub returns : goal.returns
+returns c = subst (λ (s : CoreState). IsReached s) c.self.view_is c.self.invariant
