@@ -1,8 +1,7 @@
 -- How a call for a graph ends.
 use Rattle.std.proofs.Common.{◌≡◌, ℕ, List, Option, Some, None, Result, Ok, Err, refl, sym, ◌∙◌, ap, subst, inl, inr}
-use Rattle.std.specs.Io.KnownBytes.{Appends}
 use Rattle.std.specs.Global.{Vec}
-use Rattle.std.specs.Prelude.{IfErr, IfOk, IsErrAnd, option_and_then, option_map}
+use Rattle.std.specs.Prelude.{IfOk, IsErrAnd, option_and_then, option_map}
 use Rattle.clap.specs.Words.{Text}
 use Rattle.fb_types.specs.Headline.{Inputs}
 use Rattle.fb_types.specs.declared.deploy.Plan.{Plan}
@@ -19,17 +18,12 @@ use Rattle.fb_sim.specs.declared.outcome.Refusal as sim
 use Rattle.fb_sim.specs.declared.outcome.Refusal.TheVariants as of
 use Rattle.fb_sim.specs.declared.outcome.RunError.{RunError}
 use Rattle.fb_sim.specs.declared.outcome.RunError.TheVariants as run
-use Rattle.fbsim_command.specs.Drawing.{Draws, IsGraph, IsUndrawn, WritesGraph, files_of, graph_of, type_asked}
-use Rattle.fbsim_command.specs.Failures.{WritesPart, failure_of, failure_of_source, numbered_input}
-use Rattle.fbsim_command.specs.Outcomes.{End, Held, IsRefused}
-use Rattle.fbsim_command.specs.Reading.{Reading, AreRead, IsUnread}
-use Rattle.fbsim_command.specs.declared.draw.Draw.{Draw}
+use Rattle.fbsim_command.specs.Drawing.{IsGraph, IsUndrawn, WritesGraph, graph_of}
+use Rattle.fbsim_command.specs.Failures.{WritesPart, failure_of, numbered_input}
+use Rattle.fbsim_command.specs.Outcomes.{End, Held}
 use Rattle.fbsim_command.specs.declared.failure.Failure.{Failure}
 use Rattle.fbsim_command.specs.declared.failure.Failure.TheVariants.{Refused, RefusedTrace, File, Write, Memory, Line, BadOption}
 use Rattle.fbsim_command.specs.declared.failure.RefusalLine.TheVariants.{Numbered}
-use Rattle.fbsim_command.specs.declared.line.Task.{Task}
-use Rattle.fbsim_command.specs.declared.sources.SourceFault.{SourceFault}
-use Rattle.fbsim_command.specs.declared.texts.Part.{Part}
 
 -- ---- What is drawn
 

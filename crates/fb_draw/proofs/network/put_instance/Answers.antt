@@ -1,4 +1,4 @@
-use Rattle.std.proofs.Common.{◌≡◌, Option, Some, None, sym, ◌∙◌, ap}
+use Rattle.std.proofs.Common.{Option, sym, ◌∙◌, ap}
 use Rattle.fb_types.specs.Blocks.{Kind, event_block_named}
 use Rattle.fb_draw.specs.Networks.{block_node, node_of}
 use Rattle.fb_draw.proofs.Adding.{put_as}
