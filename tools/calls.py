@@ -385,7 +385,7 @@ REFUSED = [
 # All refusals, and a name that is none. The line of the fault has the name as it was given.
 EXPLAINED = (*(f"E{at:02}" for at in (*range(1, 6), *range(10, 17), *range(20, 31), *range(40, 46))), "file fault")
 NOT_EXPLAINED = ("", "E", "E00", "E06", "E17", "E31", "E46", "E021", "e21", "E21 ", "file")
-SLIP_EXPLAINED = b"""E21: A name stands for nothing of the required kind.
+SLIP_EXPLAINED = b"""E21: Nothing of the required kind has this name.
 For example:
 - `F.EO TO W.EJ;` where `W` is an E_SWITCH: it has no event input `EJ`.
 - `S.COLD TO C;` in an application: only composites have ports that are named without an instance.

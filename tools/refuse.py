@@ -15,7 +15,7 @@ memory is 101 if it answers that as a failure, or if it ends itself and says so 
 ./gate runs this for the tests in TESTS, for single calls; by hand:
 
     (cd crates/fb_parts_tests && ../../tools/rt test)
-    tools/refuse.py --memory 101 crates/fb_parts_tests/out/fb_parts_tests_tests tests::messages::messages_come_after_a_want_of_memory
+    tools/refuse.py --memory 101 crates/fb_parts_tests/out/fb_parts_tests_tests tests::messages::messages_come_after_out_of_memory
 
 (The kit's `rt try --fail-alloc N` does the same for one N, with an unproved program that it builds again each time.)"""
 
@@ -40,8 +40,8 @@ GAVE_UP = re.compile(rb"(memory|written|no (library|deployment|stimuli|system))\
 STOPPED = re.compile(rb"\ntest stopped at \S+\n")
 # The tests that are written for this, by their crates: each checks what the calls after one that ran out of memory do.
 TESTS = {
-    "fb_parts_tests": ["tests::messages::messages_come_after_a_want_of_memory"],
-    "fb_sim_tests": ["tests::advances::after_a_want_of_memory_nothing_is_written", "tests::rounds::rounds_write_what_has_become_final"],
+    "fb_parts_tests": ["tests::messages::messages_come_after_out_of_memory"],
+    "fb_sim_tests": ["tests::advances::after_out_of_memory_nothing_is_written", "tests::rounds::rounds_write_what_has_become_final"],
 }
 # The number of requests that are refused at once before this checks whether the run made that many.
 AT_ONCE = 64

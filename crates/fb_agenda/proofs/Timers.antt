@@ -9,7 +9,7 @@ use Rattle.fb_types.specs.declared.key.Key.{Key}
 use Rattle.fb_types.specs.declared.run.TimerAsk.{TimerAsk}
 use Rattle.fb_types.specs.declared.run.TimerAsk.TheVariants.{Keep, Clear, At}
 use Rattle.fb_types.proofs.KeyLaws.{same_key_is}
-use Rattle.fb_agenda.specs.Agendas.{Contents, waiting, IsTimed, LiesIn, timer_set}
+use Rattle.fb_agenda.specs.Agendas.{Contents, waiting, IsTimed, IsInResource, timer_set}
 use Rattle.fb_types.specs.declared.run.Event.{Event}
 use Rattle.fb_types.specs.declared.run.Event.TheVariants.{Timer}
 
@@ -59,7 +59,7 @@ timed_without old new r i timed left same j s n e found is = go (is_timer_of r i
         subst (λ (d : List ℕ). same_key (timer_key (slice_index d n) s n) j ≡ true) (sym same) (timed j s n e kept is)
 
 -- a timer that is set is the one of its instance that waits
-pub timed_after : (old : Contents) (mid : Key → Option Event) (new : Contents) (r i tick : ℕ) → IsTimed old → LiesIn r i old → i < length old.due
+pub timed_after : (old : Contents) (mid : Key → Option Event) (new : Contents) (r i tick : ℕ) → IsTimed old → IsInResource r i old → i < length old.due
     → ((j : Key) → mid j ≡ cond (is_timer_of r i j) None (waiting old j))
     → ((j : Key) → waiting new j ≡ cond (same_key (timer_key tick r i) j) (Some (Timer i)) (mid j))
     → new.due ≡ slice_set old.due i tick
@@ -106,8 +106,8 @@ on_ok_both (Ok a) f h k = f h k
 on_ok_both (Err e) f h k = tt
 
 -- a timer that is in a resource is still there after a request, if an instance has one resource
-pub lies_after : (old new : Contents) (r i : ℕ) (ask : TimerAsk) (s n : ℕ) → LiesIn s n old → (i ≡ n → r ≡ s)
-    → ((j : Key) → waiting new j ≡ changed_to (timer_set r i ask j) (waiting old j)) → LiesIn s n new
+pub lies_after : (old new : Contents) (r i : ℕ) (ask : TimerAsk) (s n : ℕ) → IsInResource s n old → (i ≡ n → r ≡ s)
+    → ((j : Key) → waiting new j ≡ changed_to (timer_set r i ask j) (waiting old j)) → IsInResource s n new
 lies_after old new r i Keep s n lies home changed j q e found is = lies j q e (sym (changed j) ∙ found) is
 lies_after old new r i Clear s n lies home changed j q e found is = go (is_timer_of r i j) refl
   where
@@ -160,5 +160,5 @@ pub timed_kept : (old new : Contents) → NoneNew old new → new.due ≡ old.du
 timed_kept old new none same timed j r i e found is =
     subst (λ (d : List ℕ). same_key (timer_key (slice_index d i) r i) j ≡ true) (sym same) (timed j r i e (none j e (timer_class r i j is) found) is)
 
-pub lies_kept : (old new : Contents) → NoneNew old new → (r i : ℕ) → LiesIn r i old → LiesIn r i new
+pub lies_kept : (old new : Contents) → NoneNew old new → (r i : ℕ) → IsInResource r i old → IsInResource r i new
 lies_kept old new none r i lies j s e found is = lies j s e (none j e (timer_class s i j is) found) is

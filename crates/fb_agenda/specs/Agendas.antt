@@ -77,8 +77,8 @@ IsTimed c =
     → same_key (timer_key (slice_index c.due i) r i) j ≡ true
 
 -- A timer of the instance that waits is of this resource.
-abbrev pub LiesIn : (resource instance : ℕ) → Contents → Type 0
-LiesIn r i c = (j : Key) (s : ℕ) (e : Event) → waiting c j ≡ Some e → is_timer_of s i j ≡ true → s ≡ r
+abbrev pub IsInResource : (resource instance : ℕ) → Contents → Type 0
+IsInResource r i c = (j : Key) (s : ℕ) (e : Event) → waiting c j ≡ Some e → is_timer_of s i j ≡ true → s ≡ r
 
 -- what a request to a timer changes on the agenda
 abbrev pub timer_set : (resource instance : ℕ) → TimerAsk → Key → Option (Option Event)

@@ -1,4 +1,4 @@
--- What the fields of an agenda stand for (this project's profile).
+-- What the fields of an agenda represent (this project's profile).
 use Rattle.fb_agenda.specs.Agendas.{Contents, local_events}
 use Rattle.fb_agenda.specs.declared.agenda.Agenda.TheInside.{Inside}
 

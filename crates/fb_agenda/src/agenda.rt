@@ -6,7 +6,7 @@ ghost use Rattle.std.specs.Map.{lookup};
 ghost use Rattle.fb_types.specs.Keys.{Precedes, changed_to, found, local_key, or_else, same_key, timer_key};
 ghost use Rattle.fb_types.specs.Takes.{is_timer_of};
 ghost use Rattle.fb_types.specs.declared.run.Event.TheVariants.{Local, Timer};
-ghost use Rattle.fb_agenda.specs.Agendas.{waiting, AreRising, IsNext, IsTimed, LiesIn, MayFollow, local_events, timer_set};
+ghost use Rattle.fb_agenda.specs.Agendas.{waiting, AreRising, IsNext, IsTimed, IsInResource, MayFollow, local_events, timer_set};
 ghost use Rattle.fb_agenda.specs.Arrivals.{AreNew, arrivals_at};
 ghost use Rattle.fb_agenda.specs.Calendars.{BeginsAt, Leads, Sets};
 ghost use Rattle.fb_agenda.specs.Indexes.{taken};
@@ -271,7 +271,7 @@ impl Agenda {
     ) -> Result<(), AllocError>
         requires instance { instance < length self.old.due }
         requires timed { IsTimed self.old }
-        requires home { LiesIn resource instance self.old }
+        requires home { IsInResource resource instance self.old }
         ensures changed { OnOk result ((j : Key) → waiting self.new j ≡ changed_to (timer_set resource instance ask j) (waiting self.old j)) }
         ensures timed { OnOk result (IsTimed self.new) }
         ensures counted { length self.new.due ≡ length self.old.due }

@@ -71,7 +71,7 @@ fn is_few_first(few: &VecDeque<(Key, Event)>, many: &BTreeMap<Key, Event>) -> bo
     }
 }
 
-/// Whether an event goes to the row while the map is empty: one behind all others does, however long the row is.
+/// Whether an event goes to the row while the map is empty: one after all others does, however long the row is.
 #[inline(always)]
 fn fits_in(few: &VecDeque<(Key, Event)>, key: &Key) -> bool
     requires { AreRising few.now.items }

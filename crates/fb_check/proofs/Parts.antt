@@ -6,11 +6,11 @@ use Rattle.std.proofs.lemmas.Bool.{true≢false}
 use Rattle.std.proofs.lemmas.List.Elements.{Contains-append_left, Contains-append_right, Contains-append_cases}
 use Rattle.fb_types.specs.Blocks.{among}
 use Rattle.fb_types.specs.Repeated.{networks, interfaces, basics}
-use Rattle.fb_types.specs.Unknown.{Wanted, wanted, types_wanted, withs_wanted, chart_wanted, parameters_wanted, deployment_wanted, mentioned, is_known, NameUnknown}
+use Rattle.fb_types.specs.Unknown.{Wanted, wanted, required_types, required_withs, required_chart, required_parameters, required_deployment, mentioned, is_known, NameUnknown}
 use Rattle.fb_types.specs.declared.library.Library.{Library}
 use Rattle.fb_types.specs.declared.library.BasicType.{BasicType}
 use Rattle.fb_types.specs.declared.deploy.Plan.{Plan}
-use Rattle.fb_check_names.specs.Parts.{ArePartsKnown, parts_wanted}
+use Rattle.fb_check_names.specs.Parts.{ArePartsKnown, required_parts}
 use Rattle.fb_types.proofs.ListTests.{fails_at, passes_at}
 use Rattle.fb_types.proofs.NameLaws.{contains_from_any, any_from_contains}
 
@@ -21,32 +21,32 @@ abbrev are_mentions_known : BasicType → Bool
 are_mentions_known t = list_all (is_known t) (mentioned t)
 
 -- the required names of parts are among all
-part_wanted : (lib : Library) (plan : Plan) (w : Wanted) → Contains (parts_wanted lib) w → Contains (wanted lib plan) w
+part_wanted : (lib : Library) (plan : Plan) (w : Wanted) → Contains (required_parts lib) w → Contains (wanted lib plan) w
 part_wanted lib plan w c =
-    let types = flat_map (λ n. types_wanted lib n.1) (networks lib) in
-    let withs = flat_map withs_wanted (interfaces lib) in
-    let charts = flat_map chart_wanted (basics lib) in
-    let parameters = flat_map (λ n. flat_map (parameters_wanted lib) n.1.instances) (networks lib) in
+    let types = flat_map (λ n. required_types lib n.1) (networks lib) in
+    let withs = flat_map required_withs (interfaces lib) in
+    let charts = flat_map required_chart (basics lib) in
+    let parameters = flat_map (λ n. flat_map (required_parameters lib) n.1.instances) (networks lib) in
     let front = types ++ withs in
     ⊎_elim
-    (λ d. Contains-append_left (front ++ charts ++ parameters) (deployment_wanted lib plan) w
+    (λ d. Contains-append_left (front ++ charts ++ parameters) (required_deployment lib plan) w
     (Contains-append_left (front ++ charts) parameters w (Contains-append_left front charts w (Contains-append_right types withs w d))))
-    (λ d. Contains-append_left (front ++ charts ++ parameters) (deployment_wanted lib plan) w
+    (λ d. Contains-append_left (front ++ charts ++ parameters) (required_deployment lib plan) w
     (Contains-append_left (front ++ charts) parameters w (Contains-append_right front charts w d)))
     (Contains-append_cases withs charts w c)
 
 pub unknown_part : (lib : Library) (plan : Plan) → ¬ (ArePartsKnown lib) → NameUnknown lib plan
-unknown_part lib plan unknown = names (list_all is_there (parts_wanted lib)) (list_all are_mentions_known (basics lib)) refl refl
+unknown_part lib plan unknown = names (list_all is_there (required_parts lib)) (list_all are_mentions_known (basics lib)) refl refl
   where
-    names : (a b : Bool) → list_all is_there (parts_wanted lib) ≡ a → list_all are_mentions_known (basics lib) ≡ b → NameUnknown lib plan
+    names : (a b : Bool) → list_all is_there (required_parts lib) ≡ a → list_all are_mentions_known (basics lib) ≡ b → NameUnknown lib plan
     names false b e f =
-        let w = fails_at is_there (parts_wanted lib) e in
+        let w = fails_at is_there (required_parts lib) e in
         inl (w.0, part_wanted lib plan w.0 w.1, λ c. true≢false (sym (any_from_contains w.0.0 w.0.1 c) ∙ w.2))
     names true false e f =
         let t = fails_at are_mentions_known (basics lib) f in
         let m = fails_at (is_known t.0) (mentioned t.0) t.2 in
         inr (inl (t.0, m.0, t.1, m.1, m.2))
     names true true e f = absurd (unknown (record {
-      names = λ w c. contains_from_any w.0 w.1 (passes_at is_there (parts_wanted lib) w e c);
+      names = λ w c. contains_from_any w.0 w.1 (passes_at is_there (required_parts lib) w e c);
       mentions = λ t m c d. passes_at (is_known t) (mentioned t) m (passes_at are_mentions_known (basics lib) t f c) d;
     }))

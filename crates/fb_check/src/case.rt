@@ -20,7 +20,7 @@ pub struct Case<'a> {
 pub struct Judged<'a> {
     /// The indices of all names.
     pub catalog: Catalog<'a>,
-    /// What the names stand for, by numbers.
+    /// The meaning of the names, by numbers.
     pub numbers: Resolved,
     /// For each instance of the application, the resource that holds it.
     pub holders: Items<usize>,

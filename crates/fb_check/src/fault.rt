@@ -10,7 +10,7 @@ use thiserror::Error;
 pub enum Fault {
     #[error("E20: a name or a connection is given twice")]
     NameTwice,
-    #[error("E21: a name stands for nothing of the required kind")]
+    #[error("E21: nothing of the required kind has a name")]
     NameUnknown,
     #[error("E22: an expression, a statement or a value has the wrong kind")]
     KindWrong,

@@ -32,7 +32,7 @@ fn catalog<'a>(alloc: Global, case: &Case<'a>) -> Result<Catalog<'a>, CheckError
     }
 }
 
-/// E21: the numbers of all names, if each stands for something.
+/// E21: the numbers of all names, if each is known.
 fn numbers(alloc: Global, case: &Case, catalog: &Catalog) -> Result<Resolved, CheckError>
     requires { IsCatalog case.now.library.now case.now.plan.now catalog.now }
     ensures ok { IfOk result (IsResolved case.now.library.now case.now.plan.now) }

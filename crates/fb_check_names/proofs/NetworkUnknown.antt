@@ -8,7 +8,7 @@ use Rattle.fb_types.specs.Names.{Name, same_name}
 use Rattle.fb_types.specs.Blocks.{Kind, event_blocks, named, among, variable_names, ports_of}
 use Rattle.fb_types.specs.Flat.{type_name, kind_of_instance, instance_in}
 use Rattle.fb_types.specs.Repeated.{Placed, block_type_names, instance_names}
-use Rattle.fb_types.specs.Unknown.{Wanted, all_of, types_wanted, parameters_wanted, ends_known, is_end, event_ins, event_outs, data_ins, data_outs}
+use Rattle.fb_types.specs.Unknown.{Wanted, all_of, required_types, required_parameters, ends_known, is_end, event_ins, event_outs, data_ins, data_outs}
 use Rattle.fb_types.specs.declared.library.CompositeType.{CompositeType}
 use Rattle.fb_types.specs.declared.library.Connection.{Connection}
 use Rattle.fb_types.specs.declared.library.Instance.{Instance}
@@ -20,7 +20,7 @@ use Rattle.fb_types.specs.declared.library.Ports.{Ports}
 use Rattle.fb_types.proofs.Positions.{named-position, is_some-position}
 use Rattle.fb_types.proofs.NameLaws.{any_from_contains, contains_from_any, any-named}
 use Rattle.fb_check_names.specs.Numbers.{IsNetwork, each_or_none, index_of, type_number, end_at, end_number, both_ends, event_wire, data_wire, parameter_numbers, ports_at_index}
-use Rattle.fb_check_names.specs.Unknown.{NetworkUnknown, network_wanted}
+use Rattle.fb_check_names.specs.Unknown.{NetworkUnknown, required_network}
 use Rattle.fb_check_names.specs.declared.numbers.ConnectionEnd.{ConnectionEnd}
 use Rattle.fb_check_names.specs.declared.numbers.NetworkNumbers.{NetworkNumbers}
 use Rattle.fb_check_names.specs.declared.numbers.TypeNumber.{TypeNumber}
@@ -73,7 +73,7 @@ type_met lib n =
 abbrev is_typed : Library → Instance → Bool
 is_typed lib i = is_some (type_number lib i.block_type)
 
-types_met : (lib : Library) (net : Network) → list_all met (types_wanted lib net) ≡ list_all (is_typed lib) net.instances
+types_met : (lib : Library) (net : Network) → list_all met (required_types lib net) ≡ list_all (is_typed lib) net.instances
 types_met lib net =
     list_all-all_of (map (λ i. i.block_type) net.instances) (block_type_names lib)
     ∙ list_all-map (λ n. list_any (same_name n) (block_type_names lib)) (λ i. i.block_type) net.instances
@@ -96,10 +96,10 @@ known_met i k =
     (λ x. sym (is_some-position (same_name x.name) sort)) i.parameters
     ∙ sym (is_some-each (λ (x : Parameter). index_of sort x.name) i.parameters)
 
-instance_met : (lib : Library) (i : Instance) → (is_typed lib i && list_all met (parameters_wanted lib i)) ≡ is_some (parameter_numbers lib i)
+instance_met : (lib : Library) (i : Instance) → (is_typed lib i && list_all met (required_parameters lib i)) ≡ is_some (parameter_numbers lib i)
 instance_met lib i =
     elim (type_number lib i.block_type) as
-    (λ o. type_number lib i.block_type ≡ o → (is_some o && list_all met (parameters_wanted lib i)) ≡ is_some (parameter_numbers lib i)) [
+    (λ o. type_number lib i.block_type ≡ o → (is_some o && list_all met (required_parameters lib i)) ≡ is_some (parameter_numbers lib i)) [
       | None ↦ λ e.
           let none : kind_of_instance lib i ≡ None = type_named-number lib i.block_type ∙ ap (option_and_then _) e in
           ap (λ o. is_some (numbers_of i o)) (sym none)
@@ -110,20 +110,20 @@ instance_met lib i =
     ] refl
 
 parameters_met : (lib : Library) (n : Placed)
-    → (list_all (is_typed lib) n.1.instances && list_all met (flat_map (parameters_wanted lib) n.1.instances))
+    → (list_all (is_typed lib) n.1.instances && list_all met (flat_map (required_parameters lib) n.1.instances))
     ≡ is_some (each_or_none (parameter_numbers lib) n.1.instances)
 parameters_met lib n =
     let is = n.1.instances in
-    ap (λ b. list_all (is_typed lib) is && b) (list_all-flat_map met (parameters_wanted lib) is)
-    ∙ sym (list_all-both (is_typed lib) (λ (i : Instance). list_all met (parameters_wanted lib i)) is)
-    ∙ list_all-agree (λ (i : Instance). is_typed lib i && list_all met (parameters_wanted lib i)) (λ i. is_some (parameter_numbers lib i)) (instance_met lib) is
+    ap (λ b. list_all (is_typed lib) is && b) (list_all-flat_map met (required_parameters lib) is)
+    ∙ sym (list_all-both (is_typed lib) (λ (i : Instance). list_all met (required_parameters lib i)) is)
+    ∙ list_all-agree (λ (i : Instance). is_typed lib i && list_all met (required_parameters lib i)) (λ i. is_some (parameter_numbers lib i)) (instance_met lib) is
     ∙ sym (is_some-each (parameter_numbers lib) is)
 
-wanted_met : (lib : Library) (n : Placed) → list_all met (network_wanted lib n)
-    ≡ (list_all (is_typed lib) n.1.instances && list_all met (flat_map (parameters_wanted lib) n.1.instances))
+wanted_met : (lib : Library) (n : Placed) → list_all met (required_network lib n)
+    ≡ (list_all (is_typed lib) n.1.instances && list_all met (flat_map (required_parameters lib) n.1.instances))
 wanted_met lib n =
-    list_all-append met (types_wanted lib n.1) (flat_map (parameters_wanted lib) n.1.instances)
-    ∙ ap (λ b. b && list_all met (flat_map (parameters_wanted lib) n.1.instances)) (types_met lib n.1)
+    list_all-append met (required_types lib n.1) (flat_map (required_parameters lib) n.1.instances)
+    ∙ ap (λ b. b && list_all met (flat_map (required_parameters lib) n.1.instances)) (types_met lib n.1)
 
 -- ---- Ends of connections
 
@@ -210,11 +210,11 @@ pub unknown_type :
     (lib : Library) (n : Placed) → each_or_none (λ i. type_number lib i.block_type) n.1.instances ≡ None → NetworkUnknown lib n
 unknown_type lib n h =
     let typed : list_all (is_typed lib) n.1.instances ≡ false = sym (is_some-each (λ (i : Instance). type_number lib i.block_type) n.1.instances) ∙ ap is_some h in
-    inl (unmet_wanted (network_wanted lib n) (wanted_met lib n ∙ ap (λ b. b && list_all met (flat_map (parameters_wanted lib) n.1.instances)) typed))
+    inl (unmet_wanted (required_network lib n) (wanted_met lib n ∙ ap (λ b. b && list_all met (flat_map (required_parameters lib) n.1.instances)) typed))
 
 unknown_parameter : (lib : Library) (n : Placed) → each_or_none (parameter_numbers lib) n.1.instances ≡ None → NetworkUnknown lib n
 unknown_parameter lib n h =
-    inl (unmet_wanted (network_wanted lib n) (wanted_met lib n ∙ parameters_met lib n ∙ ap is_some h))
+    inl (unmet_wanted (required_network lib n) (wanted_met lib n ∙ parameters_met lib n ∙ ap is_some h))
 
 unknown_event : (lib : Library) (n : Placed) → each_or_none (event_wire lib n) n.1.event_connections ≡ None → NetworkUnknown lib n
 unknown_event lib n h =
@@ -234,7 +234,7 @@ unknown_data lib n h =
 pub network_known : (lib : Library) (n : Placed) (x : NetworkNumbers) → IsNetwork lib n x → ¬ (NetworkUnknown lib n)
 network_known lib n x is unknown =
     elim unknown [
-      | inl w ↦ met_wanted (network_wanted lib n) (wanted_met lib n ∙ parameters_met lib n ∙ ap is_some is.parameters) w.0 w.1 w.2
+      | inl w ↦ met_wanted (required_network lib n) (wanted_met lib n ∙ parameters_met lib n ∙ ap is_some is.parameters) w.0 w.1 w.2
       | inr f ↦ true≢false (sym (ends_met lib n ∙ (λ i. is_some (is.event_wires i) && is_some (is.data_wires i))) ∙ f)
     ]
 

@@ -9,7 +9,7 @@ use Rattle.std.proofs.lemmas.List.Elements.{Contains-append_left, Contains-appen
 use Rattle.fb_types.specs.Names.{Name, same_name}
 use Rattle.fb_types.specs.Flat.{resource_names_of}
 use Rattle.fb_types.specs.Repeated.{Placed, networks, networks_in, interfaces, basics, instance_names}
-use Rattle.fb_types.specs.Unknown.{Wanted, all_of, wanted, types_wanted, withs_wanted, chart_wanted, parameters_wanted, deployment_wanted, NameUnknown}
+use Rattle.fb_types.specs.Unknown.{Wanted, all_of, wanted, required_types, required_withs, required_chart, required_parameters, required_deployment, NameUnknown}
 use Rattle.fb_types.specs.declared.library.BlockType.{BlockType}
 use Rattle.fb_types.specs.declared.library.BlockType.TheVariants as block
 use Rattle.fb_types.specs.declared.library.Library.{Library}
@@ -34,16 +34,16 @@ use Rattle.fb_check_names.proofs.NetworkUnknown.{met, indexes_met, unmet_wanted,
 -- ---- The names of a declaration and a deployment, by their parts
 
 abbrev types_part : Library → List Wanted
-types_part lib = flat_map (λ n. types_wanted lib n.1) (networks lib)
+types_part lib = flat_map (λ n. required_types lib n.1) (networks lib)
 
 abbrev withs_part : Library → List Wanted
-withs_part lib = flat_map withs_wanted (interfaces lib)
+withs_part lib = flat_map required_withs (interfaces lib)
 
 abbrev charts_part : Library → List Wanted
-charts_part lib = flat_map chart_wanted (basics lib)
+charts_part lib = flat_map required_chart (basics lib)
 
 abbrev parameters_part : Library → List Wanted
-parameters_part lib = flat_map (λ n. flat_map (parameters_wanted lib) n.1.instances) (networks lib)
+parameters_part lib = flat_map (λ n. flat_map (required_parameters lib) n.1.instances) (networks lib)
 
 abbrev before_parameters : Library → List Wanted
 before_parameters lib = types_part lib ++ withs_part lib ++ charts_part lib
@@ -51,21 +51,21 @@ before_parameters lib = types_part lib ++ withs_part lib ++ charts_part lib
 abbrev before_deployment : Library → List Wanted
 before_deployment lib = before_parameters lib ++ parameters_part lib
 
-type_wanted : (lib : Library) (plan : Plan) (n : Placed) (w : Wanted) → Contains (networks lib) n → Contains (types_wanted lib n.1) w → Contains (wanted lib plan) w
+type_wanted : (lib : Library) (plan : Plan) (n : Placed) (w : Wanted) → Contains (networks lib) n → Contains (required_types lib n.1) w → Contains (wanted lib plan) w
 type_wanted lib plan n w c d =
-    Contains-append_left (before_deployment lib) (deployment_wanted lib plan) w
+    Contains-append_left (before_deployment lib) (required_deployment lib plan) w
     (Contains-append_left (before_parameters lib) (parameters_part lib) w
     (Contains-append_left (types_part lib ++ withs_part lib) (charts_part lib) w
     (Contains-append_left (types_part lib) (withs_part lib) w
-    (Contains-flat_map (λ (n : Placed). types_wanted lib n.1) (networks lib) n w c d))))
+    (Contains-flat_map (λ (n : Placed). required_types lib n.1) (networks lib) n w c d))))
 
 parameter_wanted :
-    (lib : Library) (plan : Plan) (n : Placed) (w : Wanted) → Contains (networks lib) n → Contains (flat_map (parameters_wanted lib) n.1.instances) w
+    (lib : Library) (plan : Plan) (n : Placed) (w : Wanted) → Contains (networks lib) n → Contains (flat_map (required_parameters lib) n.1.instances) w
     → Contains (wanted lib plan) w
 parameter_wanted lib plan n w c d =
-    Contains-append_left (before_deployment lib) (deployment_wanted lib plan) w
+    Contains-append_left (before_deployment lib) (required_deployment lib plan) w
     (Contains-append_right (before_parameters lib) (parameters_part lib) w
-    (Contains-flat_map (λ (n : Placed). flat_map (parameters_wanted lib) n.1.instances) (networks lib) n w c d))
+    (Contains-flat_map (λ (n : Placed). flat_map (required_parameters lib) n.1.instances) (networks lib) n w c d))
 
 -- ---- A part is unknown
 
@@ -74,7 +74,7 @@ of_network lib plan n c unknown =
     elim unknown [
       | inl w ↦ inl (
         w.0,
-        elim (Contains-append_cases (types_wanted lib n.1) (flat_map (parameters_wanted lib) n.1.instances) w.0 w.1) [
+        elim (Contains-append_cases (required_types lib n.1) (flat_map (required_parameters lib) n.1.instances) w.0 w.1) [
           | inl t ↦ type_wanted lib plan n w.0 c t
           | inr p ↦ parameter_wanted lib plan n w.0 c p
         ],
@@ -96,7 +96,7 @@ of_block lib plan unknown =
 
 pub of_deployment : (lib : Library) (plan : Plan) → DeploymentUnknown lib plan → NameUnknown lib plan
 of_deployment lib plan unknown =
-    inl (unknown.0, Contains-append_right (before_deployment lib) (deployment_wanted lib plan) unknown.0 unknown.1, unknown.2)
+    inl (unknown.0, Contains-append_right (before_deployment lib) (required_deployment lib plan) unknown.0 unknown.1, unknown.2)
 
 -- ---- No part is unknown
 
@@ -104,19 +104,19 @@ wanted_known :
     (lib : Library) (plan : Plan) (w : Wanted) → ArePartsKnown lib → ((n : Placed) → Contains (networks lib) n → ¬ (NetworkUnknown lib n))
     → ¬ (DeploymentUnknown lib plan) → Contains (wanted lib plan) w → ¬ ¬ (Contains w.1 w.0)
 wanted_known lib plan w parts nets deployment c out =
-    elim (Contains-append_cases (before_deployment lib) (deployment_wanted lib plan) w c) [
+    elim (Contains-append_cases (before_deployment lib) (required_deployment lib plan) w c) [
       | inr d ↦ deployment (w, d, out)
       | inl c ↦ elim (Contains-append_cases (before_parameters lib) (parameters_part lib) w c) [
         | inr p ↦
-            let r = flat_map-Contains (λ (n : Placed). flat_map (parameters_wanted lib) n.1.instances) (networks lib) w p in
-            nets r.0 r.1 (inl (w, Contains-append_right (types_wanted lib r.0.1) (flat_map (parameters_wanted lib) r.0.1.instances) w r.2, out))
+            let r = flat_map-Contains (λ (n : Placed). flat_map (required_parameters lib) n.1.instances) (networks lib) w p in
+            nets r.0 r.1 (inl (w, Contains-append_right (required_types lib r.0.1) (flat_map (required_parameters lib) r.0.1.instances) w r.2, out))
         | inl c ↦ elim (Contains-append_cases (types_part lib ++ withs_part lib) (charts_part lib) w c) [
           | inr p ↦ out (parts.names w (Contains-append_right (withs_part lib) (charts_part lib) w p))
           | inl c ↦ elim (Contains-append_cases (types_part lib) (withs_part lib) w c) [
             | inr p ↦ out (parts.names w (Contains-append_left (withs_part lib) (charts_part lib) w p))
             | inl t ↦
-                let r = flat_map-Contains (λ (n : Placed). types_wanted lib n.1) (networks lib) w t in
-                nets r.0 r.1 (inl (w, Contains-append_left (types_wanted lib r.0.1) (flat_map (parameters_wanted lib) r.0.1.instances) w r.2, out))
+                let r = flat_map-Contains (λ (n : Placed). required_types lib n.1) (networks lib) w t in
+                nets r.0 r.1 (inl (w, Contains-append_left (required_types lib r.0.1) (flat_map (required_parameters lib) r.0.1.instances) w r.2, out))
           ]
         ]
       ]
@@ -169,7 +169,7 @@ links_met plan =
     ∙ list_all-agree (λ (l : Link). list_all met (all_of (l.from ∷ l.to ∷ []) (resource_names_of plan))) (λ l. is_some (link_ends plan l)) (link_met plan) plan.links
     ∙ sym (is_some-each (link_ends plan) plan.links)
 
-deployment_met : (lib : Library) (plan : Plan) → list_all met (deployment_wanted lib plan)
+deployment_met : (lib : Library) (plan : Plan) → list_all met (required_deployment lib plan)
     ≡ (is_some (each_or_none (held_numbers lib) plan.resources) && is_some (each_or_none (link_ends plan) plan.links))
 deployment_met lib plan = list_all-append met (of_lists lib plan) (of_links plan) ∙ (λ i. lists_met lib plan i && links_met plan i)
 
@@ -180,13 +180,13 @@ and-false false = refl
 unknown_instance : (lib : Library) (plan : Plan) → each_or_none (held_numbers lib) plan.resources ≡ None → NameUnknown lib plan
 unknown_instance lib plan h =
     of_deployment lib plan
-    (unmet_wanted (deployment_wanted lib plan)
+    (unmet_wanted (required_deployment lib plan)
     (deployment_met lib plan ∙ ap (λ (o : Option (List (List ℕ))). is_some o && is_some (each_or_none (link_ends plan) plan.links)) h))
 
 unknown_resource : (lib : Library) (plan : Plan) → each_or_none (link_ends plan) plan.links ≡ None → NameUnknown lib plan
 unknown_resource lib plan h =
     of_deployment lib plan
-    (unmet_wanted (deployment_wanted lib plan)
+    (unmet_wanted (required_deployment lib plan)
     (deployment_met lib plan ∙ ap (λ (o : Option (List LinkEnds)). is_some (each_or_none (held_numbers lib) plan.resources) && is_some o) h
     ∙ and-false (is_some (each_or_none (held_numbers lib) plan.resources))))
 
@@ -194,7 +194,7 @@ deployment_known :
     (lib : Library) (plan : Plan) (hs : List (List ℕ)) (ls : List LinkEnds) → each_or_none (held_numbers lib) plan.resources ≡ Some hs
     → each_or_none (link_ends plan) plan.links ≡ Some ls → ¬ (DeploymentUnknown lib plan)
 deployment_known lib plan hs ls h g unknown =
-    met_wanted (deployment_wanted lib plan) (deployment_met lib plan ∙ (λ i. is_some (h i) && is_some (g i))) unknown.0 unknown.1 unknown.2
+    met_wanted (required_deployment lib plan) (deployment_met lib plan ∙ (λ i. is_some (h i) && is_some (g i))) unknown.0 unknown.1 unknown.2
 
 -- the numbers by the maps of indices
 held_are :

@@ -8,7 +8,7 @@ use Rattle.fb_types.specs.declared.deploy.Link.{Link}
 abbrev pub End : Type 0
 End = Option (Bor Name) × Bor Name
 
--- the port that they stand for in a network
+-- the port that they represent in a network
 abbrev pub end_port : End → Port
 end_port e = elim e.0 [ None ↦ record { at = []; name = e.1.now } | Some c ↦ record { at = c.now ∷ []; name = e.1.now } ]
 

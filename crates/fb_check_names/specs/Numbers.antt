@@ -97,7 +97,7 @@ link_ends plan l =
 
 -- ---- All numbers
 
--- Each name stands for something, and these are the numbers.
+-- Each name is known, and these are the numbers.
 pub record IsResolved (lib : Library) (plan : Plan) (r : Resolved) : Type 0 where
   pub known : ¬ (NameUnknown lib plan)
   pub application : IsNetwork lib (None, lib.application.network) r.application

@@ -1,9 +1,9 @@
-//! Names: their indices in a declaration and a deployment, and the numbers of what they stand for. This finds names that
-//! are given twice (E20), and names of networks and deployments that stand for nothing (E21).
+//! Names: their indices in a declaration and a deployment, and the numbers of their meaning. This finds names that
+//! are given twice (E20), and names of networks and deployments that are unknown (E21).
 //!
 //! Guarantees to callers: `catalog::catalog_of` returns the index of every name, or `None` exactly if E20 applies.
 //! `resolution::resolve` returns types, ports, instances, resources and links by their indices, or `None` exactly if such
-//! a name stands for nothing of the required kind.
+//! nothing of the required kind has a name.
 //!
 //! Read in this order: `both`; `named` and `placing`, the names of one list; `spaces`, those of a type, a network or a
 //! deployment; `repeats`; `catalog`. Then `numbers`, the results; `types`, `ports` and `ends`; `networks`, `blocks` and

@@ -1,4 +1,4 @@
-//! Ports of a type by their indices among the ports of their sort.
+//! Ports of a type by their indices among the ports of their kind.
 
 ghost use Rattle.std.specs.Prelude.{◌≡◌, ◌<◌, ◌≤◌, ◌-◌, None, MatchOption, SomeIff, map};
 ghost use Rattle.fb_check_names.specs.Numbers as spec;

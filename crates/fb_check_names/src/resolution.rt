@@ -1,4 +1,4 @@
-//! E21: names that stand for nothing of the required kind.
+//! E21: names that nothing of the required kind has.
 
 ghost use Rattle.std.specs.Prelude.{◌≡◌, IfOk, MatchOption};
 ghost use Rattle.fb_types.specs.Unknown.{NameUnknown};
@@ -57,7 +57,7 @@ fn resolve_by(alloc: Global, plan: &Plan, types: &Types) -> Result<Option<Resolv
     }
 }
 
-/// The declaration and the deployment by number, or `None` if a name stands for nothing of the required kind.
+/// The declaration and the deployment by number, or `None` if nothing of the required kind has a name.
 pub fn resolve(
     alloc: Global,
     library: &Library,

@@ -44,7 +44,7 @@ impl<'a, 'b> Types<'a, 'b> {
         })
     }
 
-    /// The type that a name stands for.
+    /// The type that a name represents.
     pub fn number_of(&self, name: &Name) -> Option<TypeNumber>
         requires { AreTypes self.now }
         ensures { result ≡ spec.type_number self.now.library.now name.now }

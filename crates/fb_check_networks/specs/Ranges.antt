@@ -1,4 +1,4 @@
--- Ranges of whole numbers by their ends, and which lie within which (IEC 61131-3, 6.4.2; TIME with the range of LINT is this project's profile).
+-- Ranges of whole numbers by their ends, and which are within which (IEC 61131-3, 6.4.2; TIME with the range of LINT is this project's profile).
 use Rattle.std.specs.Prelude.{ℕ, ℤ, pos, neg_ℤ, ◌^◌, int_le, Bool, true, false, ◌&&◌, Option, Some, None}
 use Rattle.fb_types.specs.declared.value.Ty.{Ty}
 use Rattle.fb_types.specs.declared.value.Ty.TheVariants.{Sint, Int, Dint, Lint, Usint, Uint, Udint, Ulint, Time, Bool as Boolean}

@@ -53,7 +53,7 @@ lead_cmp a b = ordering_then (ordering_then (option_cmp name_cmp a.0 b.0) (name_
 abbrev pub path_of : Option (Bor Name) → Path
 path_of o = elim o [ None ↦ [] | Some c ↦ c.now ∷ [] ]
 
--- the port that the names stand for
+-- the port that the names represent
 abbrev pub lead_port : Lead → Port
 lead_port k = record { at = path_of k.0; name = k.1.now }
 

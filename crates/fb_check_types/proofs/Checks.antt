@@ -9,7 +9,7 @@ use Rattle.fb_types.specs.Syntax.{Expr, Stmts, expr_of, body_of}
 use Rattle.fb_types.specs.Blocks.{among, variable_names, ports_of}
 use Rattle.fb_types.specs.Flat.{kind_of, variables_in}
 use Rattle.fb_types.specs.Repeated.{basics, basics_in, interfaces}
-use Rattle.fb_types.specs.Unknown.{all_of, withs_wanted, transition_wanted, actions_wanted, chart_wanted, Mention, mentions, mentions_body, mentioned, is_known, guards_of}
+use Rattle.fb_types.specs.Unknown.{all_of, required_withs, required_transition, required_actions, required_chart, Mention, mentions, mentions_body, mentioned, is_known, guards_of}
 use Rattle.fb_types.specs.Kinds.{context_in, is_condition, body_right, declared_right, ChartWrong}
 use Rattle.fb_types.specs.declared.library.Library.{Library}
 use Rattle.fb_types.specs.declared.library.BlockType.{BlockType}
@@ -18,10 +18,10 @@ use Rattle.fb_types.specs.declared.library.BasicType.{BasicType}
 use Rattle.fb_types.specs.declared.library.EventPort.{EventPort}
 use Rattle.fb_types.specs.declared.library.Ports.{Ports}
 use Rattle.fb_types.specs.declared.library.Transition.{Transition}
-use Rattle.fb_check_names.specs.Parts.{parts_wanted, ArePartsKnown, PartWrong}
+use Rattle.fb_check_names.specs.Parts.{required_parts, ArePartsKnown, PartWrong}
 use Rattle.fb_types.proofs.NameLaws.{contains_from_any, any_from_contains}
 use Rattle.fb_types.proofs.ListTests.{list_all-flat_map, list_all-agree, fails_at, passes_at, passes_from}
-use Rattle.fb_check_types.specs.Checks.{is_met, all_met, with_inputs, with_outputs, transition_met, actions_met, body_known, guard_known, algorithm_right, action_wanted, all_known, guard_mentions, is_known_block, is_guard_right, chart_right, is_right_block}
+use Rattle.fb_check_types.specs.Checks.{is_met, all_met, with_inputs, with_outputs, transition_met, actions_met, body_known, guard_known, algorithm_right, required_action, all_known, guard_mentions, is_known_block, is_guard_right, chart_right, is_right_block}
 
 -- ---- Truth values
 
@@ -79,7 +79,7 @@ withs_in es sort =
     ∙ list_all-agree (λ e. all_met (all_of e.with sort)) (λ e. list_all (among sort) e.with) (λ e. all_of_met e.with sort) es
 
 pub withs_met :
-    (p : Ports) → all_met (withs_wanted p) ≡ (list_all (with_inputs p) p.event_inputs && list_all (with_outputs p) p.event_outputs)
+    (p : Ports) → all_met (required_withs p) ≡ (list_all (with_inputs p) p.event_inputs && list_all (with_outputs p) p.event_outputs)
 withs_met p =
     let ins : List Name = variable_names p.inputs in
     let outs : List Name = variable_names p.outputs in
@@ -87,12 +87,12 @@ withs_met p =
     ∙ and_both (withs_in p.event_inputs ins) (withs_in p.event_outputs outs)
 
 pub chart_met :
-    (t : BasicType) → all_met (chart_wanted t) ≡ (list_all (transition_met t) t.transitions && list_all (actions_met t) t.states)
+    (t : BasicType) → all_met (required_chart t) ≡ (list_all (transition_met t) t.transitions && list_all (actions_met t) t.states)
 chart_met t =
-    let transitions = list_all-flat_map is_met (transition_wanted t) t.transitions in
-    let states = list_all-flat_map is_met (actions_wanted t) t.states
-    ∙ list_all-agree (λ s. all_met (actions_wanted t s)) (actions_met t) (λ s. list_all-flat_map is_met (action_wanted t) s.actions) t.states in
-    list_all-append is_met (flat_map (transition_wanted t) t.transitions) (flat_map (actions_wanted t) t.states) ∙ and_both transitions states
+    let transitions = list_all-flat_map is_met (required_transition t) t.transitions in
+    let states = list_all-flat_map is_met (required_actions t) t.states
+    ∙ list_all-agree (λ s. all_met (required_actions t s)) (actions_met t) (λ s. list_all-flat_map is_met (required_action t) s.actions) t.states in
+    list_all-append is_met (flat_map (required_transition t) t.transitions) (flat_map (required_actions t) t.states) ∙ and_both transitions states
 
 -- ---- Guards
 
@@ -134,17 +134,17 @@ chart_right_met t =
 -- ---- Names of a declaration
 
 abbrev withs_of : BlockType → Bool
-withs_of b = all_met (withs_wanted (ports_of (kind_of b)))
+withs_of b = all_met (required_withs (ports_of (kind_of b)))
 
 abbrev charts_of : BlockType → Bool
-charts_of b = list_all (λ t. all_met (chart_wanted t)) (basics_in b)
+charts_of b = list_all (λ t. all_met (required_chart t)) (basics_in b)
 
 abbrev mentions_of : BlockType → Bool
 mentions_of b = list_all (λ t. all_known t (mentioned t)) (basics_in b)
 
 known_block : (b : BlockType) → (withs_of b && (charts_of b && mentions_of b)) ≡ is_known_block b
 known_block (block.Basic t) =
-    λ k. all_met (withs_wanted t.ports) && (and_true (all_met (chart_wanted t)) k && and_true (all_known t (mentioned t)) k)
+    λ k. all_met (required_withs t.ports) && (and_true (all_met (required_chart t)) k && and_true (all_known t (mentioned t)) k)
 known_block (block.Composite t) = refl
 
 known_blocks : (bs : List BlockType) → ((list_all withs_of bs && list_all charts_of bs) && list_all mentions_of bs) ≡ list_all is_known_block bs
@@ -153,16 +153,16 @@ known_blocks (b ∷ bs) =
     shuffle_three (withs_of b) (charts_of b) (mentions_of b) (list_all withs_of bs) (list_all charts_of bs) (list_all mentions_of bs)
     ∙ (λ k. known_block b k && known_blocks bs k)
 
-names_by_blocks : (lib : Library) → all_met (parts_wanted lib) ≡ (list_all withs_of lib.blocks && list_all charts_of lib.blocks)
+names_by_blocks : (lib : Library) → all_met (required_parts lib) ≡ (list_all withs_of lib.blocks && list_all charts_of lib.blocks)
 names_by_blocks lib =
-    let withs = list_all-flat_map is_met withs_wanted (interfaces lib) ∙ list_all-map (λ p. all_met (withs_wanted p)) (λ t. ports_of (kind_of t)) lib.blocks in
-    let charts = list_all-flat_map is_met chart_wanted (basics lib) ∙ list_all-flat_map (λ t. all_met (chart_wanted t)) basics_in lib.blocks in
-    list_all-append is_met (flat_map withs_wanted (interfaces lib)) (flat_map chart_wanted (basics lib)) ∙ and_both withs charts
+    let withs = list_all-flat_map is_met required_withs (interfaces lib) ∙ list_all-map (λ p. all_met (required_withs p)) (λ t. ports_of (kind_of t)) lib.blocks in
+    let charts = list_all-flat_map is_met required_chart (basics lib) ∙ list_all-flat_map (λ t. all_met (required_chart t)) basics_in lib.blocks in
+    list_all-append is_met (flat_map required_withs (interfaces lib)) (flat_map required_chart (basics lib)) ∙ and_both withs charts
 
 abbrev mentions_known : Library → Bool
 mentions_known lib = list_all (λ t. all_known t (mentioned t)) (basics lib)
 
-known_is : (lib : Library) → (all_met (parts_wanted lib) && mentions_known lib) ≡ list_all is_known_block lib.blocks
+known_is : (lib : Library) → (all_met (required_parts lib) && mentions_known lib) ≡ list_all is_known_block lib.blocks
 known_is lib =
     (λ k. names_by_blocks lib k && list_all-flat_map (λ t. all_known t (mentioned t)) basics_in lib.blocks k) ∙ known_blocks lib.blocks
 
@@ -171,15 +171,15 @@ known_answer lib b says = (there, back)
   where
     there : b ≡ true → ArePartsKnown lib
     there h =
-        let r = both (all_met (parts_wanted lib)) (mentions_known lib) (known_is lib ∙ sym says ∙ h) in
+        let r = both (all_met (required_parts lib)) (mentions_known lib) (known_is lib ∙ sym says ∙ h) in
         record {
-          names = λ w c. contains_from_any w.0 w.1 (passes_at is_met (parts_wanted lib) w r.0 c);
+          names = λ w c. contains_from_any w.0 w.1 (passes_at is_met (required_parts lib) w r.0 c);
           mentions = λ t m c d. passes_at (is_known t) (mentioned t) m (passes_at (λ t. all_known t (mentioned t)) (basics lib) t r.1 c) d;
         }
 
     back : ArePartsKnown lib → b ≡ true
     back known =
-        let names = passes_from is_met (parts_wanted lib) (λ w c. any_from_contains w.0 w.1 (known.names w c)) in
+        let names = passes_from is_met (required_parts lib) (λ w c. any_from_contains w.0 w.1 (known.names w c)) in
         let mentioned_known = passes_from (λ t. all_known t (mentioned t)) (basics lib) (λ t c. passes_from (is_known t) (mentioned t) (λ m d. known.mentions t m c d)) in
         says ∙ sym (known_is lib) ∙ and_both names mentioned_known
 

@@ -5,7 +5,7 @@ use Rattle.fb_types.specs.Syntax.{body_of, expr_of}
 use Rattle.fb_types.specs.Blocks.{among, event_names, variable_names, ports_of}
 use Rattle.fb_types.specs.Flat.{kind_of, variables_in}
 use Rattle.fb_types.specs.Repeated.{algorithm_names}
-use Rattle.fb_types.specs.Unknown.{Wanted, all_of, optional, transition_wanted, withs_wanted, chart_wanted, Mention, mentions, mentions_body, mentioned, is_known, guards_of}
+use Rattle.fb_types.specs.Unknown.{Wanted, all_of, optional, required_transition, required_withs, required_chart, Mention, mentions, mentions_body, mentioned, is_known, guards_of}
 use Rattle.fb_types.specs.Kinds.{Context, context_in, is_condition, body_right, declared_right}
 use Rattle.fb_types.specs.declared.library.BlockType.{BlockType}
 use Rattle.fb_types.specs.declared.library.BlockType.TheVariants as block
@@ -35,8 +35,8 @@ is_met w = among w.1 w.0
 abbrev pub all_met : List Wanted → Bool
 all_met ws = list_all is_met ws
 
-abbrev pub action_wanted : BasicType → Action → List Wanted
-action_wanted t a = all_of (optional a.algorithm) (algorithm_names t) ++ all_of (optional a.output) (event_names t.ports.event_outputs)
+abbrev pub required_action : BasicType → Action → List Wanted
+required_action t a = all_of (optional a.algorithm) (algorithm_names t) ++ all_of (optional a.output) (event_names t.ports.event_outputs)
 
 -- only ports of a kind are WITH an event
 abbrev pub with_ports : PortSort → Ports → EventPort → Bool
@@ -51,10 +51,10 @@ abbrev pub with_outputs : Ports → EventPort → Bool
 with_outputs p e = list_all (among (variable_names p.outputs)) e.with
 
 abbrev pub transition_met : BasicType → Transition → Bool
-transition_met t x = all_met (transition_wanted t x)
+transition_met t x = all_met (required_transition t x)
 
 abbrev pub action_met : BasicType → Action → Bool
-action_met t a = all_met (action_wanted t a)
+action_met t a = all_met (required_action t a)
 
 abbrev pub actions_met : BasicType → State → Bool
 actions_met t s = list_all (action_met t) s.actions
@@ -72,11 +72,11 @@ abbrev pub guard_known : BasicType → Transition → Bool
 guard_known t x = all_known t (guard_mentions x)
 
 abbrev pub is_known_chart : BlockType → Bool
-is_known_chart (block.Basic t) = all_met (chart_wanted t) && all_known t (mentioned t)
+is_known_chart (block.Basic t) = all_met (required_chart t) && all_known t (mentioned t)
 is_known_chart (block.Composite t) = true
 
 abbrev pub is_known_block : BlockType → Bool
-is_known_block b = all_met (withs_wanted (ports_of (kind_of b))) && is_known_chart b
+is_known_block b = all_met (required_withs (ports_of (kind_of b))) && is_known_chart b
 
 -- ---- Kinds
 

@@ -1,4 +1,4 @@
--- What the names of a block type's interface stand for (IEC 61499-1, 5.1 and 5.2).
+-- The meaning of the names of a block type's interface (IEC 61499-1, 5.1 and 5.2).
 use Rattle.std.specs.Prelude.{List, ◌++◌, map, Bool, true, false, Option, Some, None, option_map}
 use Rattle.fb_types.specs.Names.{Name}
 use Rattle.fb_types.specs.Blocks.{named, event_names, variable_names}
@@ -28,7 +28,7 @@ events_as r es = map (λ e. (e.name, r)) es
 abbrev pub variables_as : (Ty → Role) → List Variable → List (Name × Role)
 variables_as r vs = map (λ v. (v.name, r v.ty)) vs
 
--- the same names, each with what it stands for
+-- the same names, each with what it represents
 abbrev pub with_roles : Declared → List (Name × Role)
 with_roles d =
     events_as EventInput d.ports.event_inputs ++ (events_as EventOutput d.ports.event_outputs ++ (variables_as (λ t. Input t) d.ports.inputs

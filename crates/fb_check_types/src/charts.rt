@@ -3,7 +3,7 @@
 ghost use Rattle.std.specs.Prelude.{◌≡◌};
 ghost use Rattle.std.specs.List.{list_all};
 ghost use Rattle.fb_types.specs.Blocks.{among};
-ghost use Rattle.fb_types.specs.Unknown.{chart_wanted, withs_wanted};
+ghost use Rattle.fb_types.specs.Unknown.{required_chart, required_withs};
 ghost use Rattle.fb_check_names.specs.Sorts.{names_of_sort};
 ghost use Rattle.fb_check_types.specs.Checks.{action_met, actions_met, all_met, transition_met, with_ports};
 
@@ -38,7 +38,7 @@ fn have_ports(events: &[EventPort], sort: PortSort, interface: &Interface) -> bo
 
 /// Whether inputs are WITH event inputs and outputs WITH event outputs.
 pub fn are_withs_known(interface: &Interface) -> bool
-    ensures { result ≡ all_met (withs_wanted interface.now.ports) }
+    ensures { result ≡ all_met (required_withs interface.now.ports) }
 {
     let ports = interface.ports();
     have_ports(ports.event_inputs.as_slice(), PortSort::Input, interface)
@@ -104,7 +104,7 @@ fn are_states_known(states: &[State], scope: &Scope) -> bool
 
 /// Whether each state, event and algorithm that a chart names is one.
 pub fn is_chart_known(scope: &Scope) -> bool
-    ensures { result ≡ all_met (chart_wanted scope.now) }
+    ensures { result ≡ all_met (required_chart scope.now) }
 {
     let block = scope.block();
     are_transitions_known(block.transitions.as_slice(), scope)

@@ -1,4 +1,4 @@
-//! What the names of a block type's interface stand for, by their indices.
+//! The meaning of the names of a block type's interface, by their indices.
 
 ghost use Rattle.std.specs.Prelude.{◌≡◌, List, option_map, slice_get};
 ghost use Rattle.fb_types.specs.Blocks.{among, named};
@@ -11,7 +11,7 @@ use fb_check_names::{Indexes, PortSort, index_of};
 use fb_types::{Name, Ports, Ty, Variable};
 use std::marker::Model;
 
-/// What a name stands for. A variable has its type.
+/// The meaning of a name. A variable has its type.
 #[derive(Clone, Copy)]
 pub enum Role {
     EventInput,
@@ -114,7 +114,7 @@ impl<'a, 'n> Interface<'a, 'n> {
         }
     }
 
-    /// What a name stands for, if it is one of the interface's.
+    /// The meaning of a name, if it is one of the interface's.
     fn role_of(&self, name: &Name) -> Option<Role>
         ensures role { result ≡ role_of self.now name.now }
         ensures once { ¬ (Twice (names_of self.now)) }

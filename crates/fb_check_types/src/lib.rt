@@ -4,7 +4,8 @@
 //! the two applies. `sorts` has the kinds of expressions, and `variables` the types of variables if no index of names is
 //! at hand.
 //!
-//! Read in this order: `parts`, the entry; `interface` and `scope`, what names stand for; `charts` and `mentions`, names;
+//! Read in this order: `parts`, the entry; `interface` and `scope`, the meaning of names; `charts` and `mentions`,
+//! names;
 //! `sorts`, `values` and `bodies`, kinds; `variables`.
 #![tactic(auto)]
 

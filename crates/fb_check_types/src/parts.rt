@@ -19,7 +19,7 @@ use crate::values::are_declared_right;
 use fb_check_names::{BlockIndexes, Catalog};
 use fb_types::{Algorithm, BlockType, Library, Ports, Transition, Variable};
 
-/// Whether each name in a WITH list, a chart, a guard or a body stands for something of the kind that is required there
+/// Whether each name in a WITH list, a chart, a guard or a body names something of the kind that is required there
 /// (E21).
 pub fn are_parts_known(library: &Library, catalog: &Catalog) -> bool
     requires { (plan : Plan) × IsCatalog library.now plan catalog.now }
@@ -29,7 +29,7 @@ pub fn are_parts_known(library: &Library, catalog: &Catalog) -> bool
 }
 
 /// Whether a guard, a body or a declared value has the wrong kind, an input is assigned, or EXIT is outside of loops
-/// (E22). A name that stands for no variable counts as a truth value here.
+/// (E22). A name that is the name of no variable counts as a truth value here.
 pub fn has_wrong_part(library: &Library, catalog: &Catalog) -> bool
     requires { (plan : Plan) × IsCatalog library.now plan catalog.now }
     ensures { IsTrue result ↔ PartWrong library.now }

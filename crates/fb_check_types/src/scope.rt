@@ -1,4 +1,4 @@
-//! What the names in the chart and the bodies of a basic type stand for.
+//! The meaning of the names in the chart and the bodies of a basic type.
 
 ghost use Rattle.std.specs.Prelude.{◌≡◌, is_some};
 ghost use Rattle.fb_types.specs.Blocks.{among, is_input, variable_names, variables_of};

@@ -29,7 +29,7 @@ binary_text binary.Multiply = codes " * "
 binary_text binary.Divide = codes " / "
 binary_text binary.Modulo = codes " MOD "
 
--- what stands before an argument: nothing before the first
+-- what comes before an argument: nothing before the first
 abbrev pub separator : (first : Bool) → List ℕ
 separator true = []
 separator false = codes ", "

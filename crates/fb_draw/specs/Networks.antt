@@ -64,7 +64,7 @@ instance_node lib i = node_of i (type_named lib i.block_type)
 
 -- ---- Connections
 
--- the end of an edge: a port of an instance, or of the node that stands for a side of the composite
+-- the end of an edge: a port of an instance, or of the node that represents a side of the composite
 abbrev pub edge_end : (side : List ℕ) → PortName → List ℕ
 edge_end side p = joined (codes "\"" ∷ unwrap_or p.component side ∷ codes "\":\"" ∷ p.port ∷ codes "\"" ∷ [])
 

@@ -8,7 +8,7 @@ use crate::pieces::{put_all, put_value};
 use fb_types::{EventPort, Instance, Name, Parameter, Ports, Variable};
 use std::alloc::{AllocError, Global};
 
-/// Adds a field with a name, which edges name too. A separator stands before it.
+/// Adds a field with a name, which edges name too. A separator comes before it.
 fn put_field(text: &mut Vec<u8>, separator: &[u8], name: &Name) -> Result<(), AllocError>
     ensures { OnOk result (text.new.items ≡ text.old.items ++ (separator.now ++ spec.field name.now)) }
 {

@@ -8,7 +8,7 @@ use crate::pieces::put_all;
 use fb_types::{Connection, PortName};
 use std::alloc::AllocError;
 
-/// The node that has a port: an instance, or the one that stands for a side of the composite.
+/// The node that has a port: an instance, or the one that represents a side of the composite.
 fn node_of<'a>(port: &'a PortName, side: &'a [u8]) -> &'a [u8]
     ensures { result.now ≡ unwrap_or port.now.component side.now }
 {

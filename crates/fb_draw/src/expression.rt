@@ -75,7 +75,7 @@ pub(crate) fn put_expression(
     }
 }
 
-/// Adds what stands before an argument: nothing before the first.
+/// Adds what comes before an argument: nothing before the first.
 fn put_separator(text: &mut Vec<u8>, is_first: bool) -> Result<(), AllocError>
     ensures { OnOk result (text.new.items ≡ text.old.items ++ spec.separator is_first) }
 {

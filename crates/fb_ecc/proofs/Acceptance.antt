@@ -9,7 +9,7 @@ use Rattle.fb_types.specs.Syntax.{Stmt, Empty, Exit, Return, Assign, If, Case, F
 use Rattle.fb_types.specs.Blocks.{among, event_names, variable_names, variables_of}
 use Rattle.fb_types.specs.Flat.{resource_names_of}
 use Rattle.fb_types.specs.Repeated.{Twice, Placed, NameTwice, networks, basics, basics_in, interfaces, port_names, name_spaces, block_type_names, algorithm_names, state_names, instance_names, with_lists, parameter_lists}
-use Rattle.fb_types.specs.Unknown.{Wanted, wanted, all_of, optional, types_wanted, withs_wanted, chart_wanted, transition_wanted, actions_wanted, parameters_wanted, deployment_wanted, Mention, OfVariable, OfFunction, mentions, mentions_in, mentions_body, mentions_choices, mentions_branches, mentioned, is_known, guards_of, NameUnknown}
+use Rattle.fb_types.specs.Unknown.{Wanted, wanted, all_of, optional, required_types, required_withs, required_chart, required_transition, required_actions, required_parameters, required_deployment, Mention, OfVariable, OfFunction, mentions, mentions_in, mentions_body, mentions_choices, mentions_branches, mentioned, is_known, guards_of, NameUnknown}
 use Rattle.fb_types.specs.declared.library.Action.{Action}
 use Rattle.fb_types.specs.declared.library.Algorithm.{Algorithm}
 use Rattle.fb_types.specs.declared.library.BasicType.{BasicType}
@@ -26,7 +26,7 @@ use Rattle.fb_st.specs.Frames.{Declared, is_declared}
 use Rattle.fb_st.specs.Known.{AssignsKnown, AllKnown, ChoicesKnown, BranchesKnown}
 use Rattle.fb_st.proofs.Indexes.{index_of_once}
 use Rattle.fb_ecc.specs.Opened.{IsOfDeclaration}
-use Rattle.fb_ecc.specs.Sound.{Each, IsSound, StandFirst, action_known, actions_known, declared_by, is_named}
+use Rattle.fb_ecc.specs.Sound.{Each, IsSound, AreFirst, action_known, actions_known, declared_by, is_named}
 use Rattle.fb_types.proofs.ListTests.{passes_from}
 use Rattle.fb_types.proofs.ByIndex.{element_of_index}
 use Rattle.fb_types.proofs.TwiceLaws.{Twice-append_left, Twice-append_right}
@@ -50,7 +50,7 @@ contains-among (m ∷ ms) n h =
     ]
 
 -- names that differ stand first
-first_from_once : {A : Type 0} (f : A → Name) (xs : List A) → ¬ (Twice (map f xs)) → StandFirst f xs
+first_from_once : {A : Type 0} (f : A → Name) (xs : List A) → ¬ (Twice (map f xs)) → AreFirst f xs
 first_from_once f xs once i x at = index_of_once f (f x) xs i x once at (same_name-itself (f x))
 
 -- ---- Algorithms
@@ -204,16 +204,16 @@ module _ (lib : Library) (plan : Plan) (t : BasicType) (once : ¬ (NameTwice lib
       ports_once (subst P all (Twice-append_right events ((inputs ++ outputs) ++ internals) (subst P names twice)))
 
   -- what the chart names is there
-  chart_named : (w : Wanted) → Contains (chart_wanted t) w → among w.1 w.0 ≡ true
+  chart_named : (w : Wanted) → Contains (required_chart t) w → among w.1 w.0 ≡ true
   chart_named w among_chart =
-      let networked : List Wanted = flat_map (λ (n : Placed). types_wanted lib n.1) (networks lib) in
-      let withs : List Wanted = flat_map withs_wanted (interfaces lib) in
-      let charts : List Wanted = flat_map chart_wanted (basics lib) in
-      let parameters : List Wanted = flat_map (λ (n : Placed). flat_map (parameters_wanted lib) n.1.instances) (networks lib) in
+      let networked : List Wanted = flat_map (λ (n : Placed). required_types lib n.1) (networks lib) in
+      let withs : List Wanted = flat_map required_withs (interfaces lib) in
+      let charts : List Wanted = flat_map required_chart (basics lib) in
+      let parameters : List Wanted = flat_map (λ (n : Placed). flat_map (required_parameters lib) n.1.instances) (networks lib) in
       let among_all : Contains (wanted lib plan) w =
-      Contains-append_left (networked ++ withs ++ charts ++ parameters) (deployment_wanted lib plan) w
+      Contains-append_left (networked ++ withs ++ charts ++ parameters) (required_deployment lib plan) w
       (Contains-append_left (networked ++ withs ++ charts) parameters w
-      (Contains-append_right (networked ++ withs) charts w (Contains-flat_map chart_wanted (basics lib) t w declared among_chart))) in
+      (Contains-append_right (networked ++ withs) charts w (Contains-flat_map required_chart (basics lib) t w declared among_chart))) in
       elim (among w.1 w.0) as (λ b. among w.1 w.0 ≡ b → b ≡ true) [
         | true ↦ λ e. refl
         | false ↦ λ e. absurd (unknown (inl (w, among_all, λ c. true≢false (sym (contains-among w.1 w.0 c) ∙ e))))
@@ -224,16 +224,16 @@ module _ (lib : Library) (plan : Plan) (t : BasicType) (once : ¬ (NameTwice lib
       let w : Wanted = (x.from, state_names t) in
       let others : List Wanted = (x.to, state_names t) ∷ all_of (optional x.condition.event) (event_names t.ports.event_inputs) in
       chart_named w
-      (Contains-append_left (flat_map (transition_wanted t) t.transitions) (flat_map (actions_wanted t) t.states) w
-      (Contains-flat_map (transition_wanted t) t.transitions x w at (Contains-here w others)))
+      (Contains-append_left (flat_map (required_transition t) t.transitions) (flat_map (required_actions t) t.states) w
+      (Contains-flat_map (required_transition t) t.transitions x w at (Contains-here w others)))
 
   target_named : (x : Transition) → Contains t.transitions x → among (state_names t) x.to ≡ true
   target_named x at =
       let w : Wanted = (x.to, state_names t) in
       let events : List Wanted = all_of (optional x.condition.event) (event_names t.ports.event_inputs) in
       chart_named w
-      (Contains-append_left (flat_map (transition_wanted t) t.transitions) (flat_map (actions_wanted t) t.states) w
-      (Contains-flat_map (transition_wanted t) t.transitions x w at (Contains-there (x.from, state_names t) (w ∷ events) w (Contains-here w events))))
+      (Contains-append_left (flat_map (required_transition t) t.transitions) (flat_map (required_actions t) t.states) w
+      (Contains-flat_map (required_transition t) t.transitions x w at (Contains-there (x.from, state_names t) (w ∷ events) w (Contains-here w events))))
 
   optional_named :
       (names : List Name) (n : Option Name) → ((m : Name) → Contains (all_of (optional n) names) (m, names) → among names m ≡ true) → is_named names n ≡ true
@@ -248,8 +248,8 @@ module _ (lib : Library) (plan : Plan) (t : BasicType) (once : ¬ (NameTwice lib
       all_of (optional b.algorithm) (algorithm_names t) ++ all_of (optional b.output) (event_names t.ports.event_outputs) in
       let named : (w : Wanted) → Contains (algorithms ++ outputs) w → among w.1 w.0 ≡ true = λ w c.
       chart_named w
-      (Contains-append_right (flat_map (transition_wanted t) t.transitions) (flat_map (actions_wanted t) t.states) w
-      (Contains-flat_map (actions_wanted t) t.states s w at (Contains-flat_map wants s.actions a w in_actions c))) in
+      (Contains-append_right (flat_map (required_transition t) t.transitions) (flat_map (required_actions t) t.states) w
+      (Contains-flat_map (required_actions t) t.states s w at (Contains-flat_map wants s.actions a w in_actions c))) in
       both (is_named (algorithm_names t) a.algorithm) (is_named (event_names t.ports.event_outputs) a.output)
       (optional_named (algorithm_names t) a.algorithm (λ m c. named (m, algorithm_names t) (Contains-append_left algorithms outputs (m, algorithm_names t) c)))
       (optional_named (event_names t.ports.event_outputs) a.output

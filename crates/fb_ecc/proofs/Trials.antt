@@ -25,7 +25,7 @@ use Rattle.fb_types.specs.declared.library.Transition.{Transition}
 use Rattle.fb_types.proofs.NameLaws.{same_from_same_name}
 use Rattle.fb_types.specs.declared.value.Reason.{Reason}
 use Rattle.fb_ecc.specs.Numbered.{number_in}
-use Rattle.fb_ecc.specs.Sound.{Each, IsSound, StandFirst}
+use Rattle.fb_ecc.specs.Sound.{Each, IsSound, AreFirst}
 use Rattle.fb_types.proofs.ByIndex.{element_at}
 use Rattle.fb_ecc.specs.Trials.{nowhere, transition_at, transitions_at, IsExit, is_number_present}
 use Rattle.fb_ecc.specs.declared.chart.Exit.{Exit}
@@ -63,7 +63,7 @@ number_at None most m h e = absurd (omega arith)
 number_at (Some k) most m h e = ap (λ n. Some n) e
 
 pub same_event :
-    (events : List EventPort) (f : Name) (m : ℕ) (p : EventPort) → StandFirst (λ e. e.name) events → slice_get events m ≡ Some p
+    (events : List EventPort) (f : Name) (m : ℕ) (p : EventPort) → AreFirst (λ e. e.name) events → slice_get events m ≡ Some p
     → same_name f p.name ≡ nat_eq (number_in (λ e. e.name) events f) m
 same_event events f m p first at =
     elim (same_name f p.name) as (λ b. same_name f p.name ≡ b → b ≡ nat_eq (number_in (λ e. e.name) events f) m) [
@@ -82,7 +82,7 @@ same_event events f m p first at =
 
 -- whether the event of a condition is present, by its index
 pub present_by_index :
-    (events : List EventPort) (present : Option ℕ) (n : Option Name) → StandFirst (λ e. e.name) events → IfSome present (λ m. m < length events)
+    (events : List EventPort) (present : Option ℕ) (n : Option Name) → AreFirst (λ e. e.name) events → IfSome present (λ m. m < length events)
     → is_present n (option_map (event_at events) present) ≡ is_number_present (option_map (number_in (λ e. e.name) events) n) present
 present_by_index events None None first within = refl
 present_by_index events (Some m) None first within = refl

@@ -1,4 +1,4 @@
--- Actions by the indexes of what they name, and how they end (IEC 61499-1, 5.2; that they go by indexes is this project's profile).
+-- Actions by the indexes of what they name, and how they end (IEC 61499-1, 5.2; their indexes are this project's profile).
 use Rattle.std.specs.Prelude.{◌≡◌, ℕ, List, [], ◌∷◌, option_map, Option, Some, None, Result, Ok, Err, true}
 use Rattle.fb_types.specs.Names.{Name}
 use Rattle.fb_types.specs.Blocks.{event_names}

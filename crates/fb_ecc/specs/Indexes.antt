@@ -37,7 +37,7 @@ pub record IsBlockOf (t : BasicType) (s : BasicState) : Type 0 where
   pub chart : s.chart ≡ chart_of t
   pub declared : declared_in s.frame ≡ declared_by t
 
--- How a reaction ended. After want of memory nothing is said.
+-- How a reaction ended. If memory ran out, nothing is said.
 abbrev pub Ended : Result (Unit {0}) Halt → Moving → Position → Position → Type 0
 Ended (Ok _) moves p q = moves p None q
 Ended (Err (halt.Stop r)) moves p q = moves p (Some r) q

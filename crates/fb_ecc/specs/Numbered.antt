@@ -1,4 +1,4 @@
--- A chart with indexes in place of names (IEC 61499-1, 5.2; that names stand for indexes is this project's profile).
+-- A chart with indexes in place of names (IEC 61499-1, 5.2; that names represent indexes is this project's profile).
 use Rattle.std.specs.Prelude.{ℕ, suc, List, [], ◌∷◌, map, length, position, option_map, unwrap_or, slice_get, is_some, Some, None, if◌then◌else◌}
 use Rattle.fb_types.specs.Names.{Name, same_name}
 use Rattle.fb_types.specs.Blocks.{variables_with}
@@ -27,7 +27,7 @@ exit_of t index x =
       target = number_in (λ s. s.name) t.states x.to;
     }
 
--- the transitions that leave a state, where the first of the list stands at that index
+-- the transitions that leave a state, where the first of the list is at that index
 abbrev pub exits_from : BasicType → Name → ℕ → List Transition → List Exit
 exits_from t state index [] = []
 exits_from t state index (x ∷ xs) =

@@ -22,7 +22,7 @@ pub record IsOpened (t : BasicType) (s : BasicState) : Type 0 where
   pub first : s.state ≡ 0
   pub variables : s.frame ≡ map slot_of (variables_of t)
 
--- The type stands in a declaration whose names are known, each given once, as in an accepted one.
+-- The type is in a declaration whose names are known, each given once, as in an accepted one.
 pub record IsOfDeclaration (t : BasicType) : Type 0 where
   pub library : Library
   pub plan : Plan

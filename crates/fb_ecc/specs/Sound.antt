@@ -12,9 +12,9 @@ use Rattle.fb_types.specs.declared.library.Variable.{Variable}
 use Rattle.fb_st.specs.Frames.{Declared}
 use Rattle.fb_st.specs.Known.{AllKnown}
 
--- each name stands first at its own index, so it stands once
-abbrev pub StandFirst : {A : Type 0} → (A → Name) → List A → Type 0
-StandFirst {A} name_of xs =
+-- each name is first at its own index, so it is once
+abbrev pub AreFirst : {A : Type 0} → (A → Name) → List A → Type 0
+AreFirst {A} name_of xs =
     (i : ℕ) (x : A) → slice_get xs i ≡ Some x → position (λ y. same_name (name_of x) (name_of y)) xs ≡ Some i
 
 -- what holds of each element
@@ -41,8 +41,8 @@ actions_known t s = list_all (action_known t) s.actions
 
 -- States, event inputs and variables have names of their own; transitions, actions and algorithms name what there is.
 pub record IsSound (t : BasicType) : Type 0 where
-  pub states : StandFirst (λ s. s.name) t.states
-  pub events : StandFirst (λ p. p.name) t.ports.event_inputs
+  pub states : AreFirst (λ s. s.name) t.states
+  pub events : AreFirst (λ p. p.name) t.ports.event_inputs
   pub variables : ¬ (Twice (variable_names (variables_of t)))
   pub sources : list_all (λ x. among (state_names t) x.from) t.transitions ≡ true
   pub targets : list_all (λ x. among (state_names t) x.to) t.transitions ≡ true

@@ -1,4 +1,4 @@
--- Transitions and events by their indexes (IEC 61499-1, 5.2; that they are told apart by indexes is this project's profile).
+-- Transitions and events by their indexes (IEC 61499-1, 5.2; that they are distinguished by indexes is this project's profile).
 use Rattle.std.specs.Prelude.{◌≡◌, ℕ, List, [], map, unwrap_or, slice_get, nat_eq, Option, Some, None, Bool, true, false, Result, Ok, Err}
 use Rattle.fb_types.specs.Charts.{Trial, Clears, NoneClears, Fails}
 use Rattle.fb_types.specs.declared.library.BasicType.{BasicType}

@@ -20,7 +20,7 @@ use std::alloc::{AllocError, Global};
 fn shown_values(alloc: Global, variables: &[Reference], frame: &Frame) -> Result<Values, AllocError>
     ensures { IfOk result (λ values. values ≡ map (values_of frame.now) variables.now) }
 {
-    // Mostly there is one variable, and nothing is to be walked over.
+    // Mostly there is one variable, and there is nothing to walk over.
     if let [variable] = variables {
         return Values::from_slice(alloc, &[frame.value(variable)]);
     }

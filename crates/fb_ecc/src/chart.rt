@@ -21,7 +21,7 @@ use std::collections::BTreeMap;
 /// A transition, with the indexes of what it names.
 #[derive(Clone, Copy)]
 pub struct Exit {
-    /// Its own index among the transitions, where its guard stands.
+    /// Its own index among the transitions, where its guard is.
     pub transition: usize,
     /// The index of its event among the event inputs.
     pub event: Option<usize>,
@@ -118,7 +118,7 @@ fn rows_begun(
     Ok(rows)
 }
 
-/// Puts a transition behind the others that leave a state.
+/// Puts a transition after the others that leave a state.
 fn add_exit(row: &mut ChartState, exit: Exit) -> Result<(), AllocError>
     ensures exits { OnOk result (row.new.exits ≡ row.old.exits ++ exit ∷ []) }
     ensures acts { OnOk result (row.new.acts ≡ row.old.acts) }
@@ -126,7 +126,7 @@ fn add_exit(row: &mut ChartState, exit: Exit) -> Result<(), AllocError>
     row.exits.push(exit)
 }
 
-/// The states. The transitions are gone through once, each in its turn put to the state that it leaves.
+/// The states. The transitions are visited once, and each is added to the state that it leaves.
 fn rows(
     alloc: Global,
     block: &BasicType,
@@ -145,7 +145,7 @@ fn rows(
     Ok(Items::from_vec(rows))
 }
 
-/// The names that stand among others, by their indexes among these. Those that do not are skipped; an accepted type has
+/// The names that are among others, by their indexes among these. The others are skipped; an accepted type has
 /// none.
 fn found_among<'a>(
     alloc: Global,

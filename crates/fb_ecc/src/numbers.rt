@@ -10,7 +10,7 @@ use fb_check_names::{Indexes, Named, index_of, indexes};
 use fb_types::{BasicType, Name};
 use std::alloc::{AllocError, Global};
 
-/// The indexes of the names of a basic type, each among those of its sort.
+/// The indexes of the names of a basic type, each among those of its kind.
 pub(crate) struct Numbers<'a> {
     pub states: Indexes<'a>,
     pub algorithms: Indexes<'a>,

@@ -85,11 +85,11 @@ fn link(
 /// The reaction of a basic block to the event input at an index of its event inputs. `values` are the sampled
 /// values of the variables WITH the event, in the order of the declaration. The event is present in the first
 /// trial of the transitions only. Each transition that is tried and each action that is performed costs a
-/// step, beside the steps of the statements. What is emitted is put behind the other emissions, by the
+/// step, in addition to the steps of the statements. What is emitted is put after the other emissions, by the
 /// allocator that these keep.
 ///
 /// # Errors
-/// `Halt::Stop` where a reason ends the chain: the emissions before it stand. `Halt::Memory` where memory ran
+/// `Halt::Stop` where a reason ends the chain: the emissions before it are kept. `Halt::Memory` where memory ran
 /// out: the block is one of its type still, and no more is said.
 pub fn react(
     state: &mut BasicState,

@@ -31,7 +31,7 @@ impl Drop for BasicState {
     }
 }
 
-/// Puts variables behind the others, each with its initial value.
+/// Puts variables after the others, each with its initial value.
 fn add_all(alloc: Global, variables: &[Variable], slots: &mut Vec<Slot>) -> Result<(), AllocError>
     ensures { OnOk result (slots.new.items ≡ slots.old.items ++ map slot_of variables.now) }
 {

@@ -39,7 +39,7 @@ fn is_guard_true(block: &BasicType, exit: &Exit, frame: &Frame) -> Result<bool, 
     }
 }
 
-/// Whether the condition of a transition is true. A guard behind an event is evaluated only when that event is present.
+/// Whether the condition of a transition is true. A guard after an event is evaluated only when that event is present.
 #[inline(always)]
 fn is_true(
     block: &BasicType,

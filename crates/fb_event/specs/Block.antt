@@ -1,4 +1,4 @@
--- What the program's own form of an event block stands for (this project's profile).
+-- What the program's own form of an event block represents (this project's profile).
 use Rattle.std.specs.Prelude.{◌<◌, ◌^◌, pos, ◌<ℤ◌}
 use Rattle.fb_types.specs.Values.{whole}
 use Rattle.fb_types.specs.declared.value.Value.{Value}
@@ -20,7 +20,7 @@ abbrev pub memory_of_timer : Timer → Memory
 memory_of_timer timer.Idle = Idle
 memory_of_timer (timer.Running time) = Running time
 
--- what a block of the program stands for
+-- what a block of the program represents
 abbrev pub state_of : KindState → State
 state_of Restart = state kind.Restart Idle
 state_of Split = state kind.Split Idle

@@ -36,7 +36,7 @@ expiry_of s tick = expiry s.kind s.memory tick
 abbrev pub emissions_of : EventKind → Reaction → List Emission
 emissions_of k r = emissions (ports_of_event_block k) (output_of r.memory) r.emits
 
--- what emissions by number stand for
+-- what emissions by number represent
 abbrev pub meanings : EventKind → List run.Emission → List Emission
 meanings k es = map (emission_of (ports_of_event_block k)) es
 
@@ -50,11 +50,11 @@ IsWellFormed k e =
     let p = ports_of_event_block k in
     IsEventOutput k e.event × (length e.values ≡ length (outputs_with p (event_at p.event_outputs e.event)))
 
--- The list is that one, and others behind it.
+-- The list is that one, and others after it.
 abbrev pub BeginsWith : (old new : List run.Emission) → Type 0
 BeginsWith old new = (news : List run.Emission) × (new ≡ old ++ news)
 
--- Behind a list of emissions stand those of a reaction, and nothing else.
+-- After a list of emissions are those of a reaction, and nothing else.
 pub record EmitsBehind (k : EventKind) (r : Reaction) (old new : List run.Emission) : Type 0 where
   pub news : List run.Emission
   pub behind : new ≡ old ++ news

@@ -1,4 +1,4 @@
--- What a step of the program stands for (this project's profile).
+-- What a step of the program represents (this project's profile).
 use Rattle.std.specs.Prelude.{◌≡◌, ℕ, [], map, All}
 use Rattle.fb_types.specs.Blocks.{ports_of_event_block}
 use Rattle.fb_types.specs.EventBlocks.{Reaction, reaction, timed}

@@ -13,7 +13,7 @@ use fb_types::{Emits, Halt, TimerAsk, Value};
 
 /// The reaction of an event block to the event input at an index of its event inputs, in a tick that is at most
 /// 10^12. `inputs` are the values of all its data inputs, in the order of the declaration, as they are
-/// after the sampling. What it emits is put behind the other emissions, which stay as they are, by the allocator that
+/// after the sampling. What it emits is put after the other emissions, which stay as they are, by the allocator that
 /// they keep.
 ///
 /// # Errors
@@ -55,7 +55,7 @@ pub fn react(
 }
 
 /// The reaction of an event block to its timer, which goes off in a tick that is at most 10^12. It reads no
-/// input. What it emits is put behind the other emissions, which stay as they are, by the allocator that they keep.
+/// input. What it emits is put after the other emissions, which stay as they are, by the allocator that they keep.
 ///
 /// # Errors
 /// `Halt::Memory` where memory ran out, and never a stop. Nothing is said of what the block remembers then.

@@ -10,7 +10,7 @@ use std::marker::Model;
 #[derive(Clone, Copy, Debug, PartialEq, Eq)]
 pub(crate) enum Timer {
     Idle,
-    /// It runs, for so many ticks at a time.
+    /// It runs, for this many ticks at a time.
     Running(u64),
 }
 

@@ -1,4 +1,4 @@
-//! What a reaction comes to.
+//! The result of a reaction.
 
 ghost use Rattle.std.specs.Prelude.{false, ◌≡◌, ◌≤◌, ◌<◌, ◌^◌, [], ◌∷◌, pos, if◌then◌else◌, ◌<ℤ◌};
 ghost use Rattle.fb_types.specs.Values.{truth, whole as whole_of};
@@ -25,8 +25,8 @@ const S_OF_SET_RESET: u32 = 0;
 
 const R_OF_COUNT_UP: u32 = 1;
 
-/// What a reaction of an event block comes to, apart from what the block is then: what it emits, and what it asks of its
-/// timer.
+/// The result of a reaction of an event block, apart from what the block is then: what it emits, and what it asks of
+/// its timer.
 #[derive(Clone, Copy)]
 pub(crate) struct Step {
     /// The indexes of the event outputs that are emitted, in order. The same values go with each.

@@ -4,7 +4,7 @@ use Rattle.std.proofs.lemmas.List.{take_all, length-drop}
 use Rattle.std.proofs.lemmas.Bool.{lt-ltb}
 use Rattle.std.proofs.lemmas.List.Sums.{position_or_len_is}
 use Rattle.std.specs.List.{position_or_len, slice_split}
-use Rattle.fb_expect.specs.Words.{Text, parted, words_behind}
+use Rattle.fb_expect.specs.Words.{Text, parted, words_after}
 use Rattle.fb_expect.specs.Written.{at_comparison, is_sign}
 
 pub parted_at : (mark : ℕ) (z : Text) (i : ℕ) → i < length z → ((k : ℕ) → k < i → nat_eq mark (get_or z k 0) ≡ false) → nat_eq mark (get_or z i 0) ≡ true
@@ -39,6 +39,6 @@ sign_none z before =
     rw (e, never) refl
 
 -- the words behind the first byte of a text
-pub words_from : (z : Text) → 0 < length z → words_behind z ≡ slice_split (nat_eq 32) (drop 1 z)
+pub words_from : (z : Text) → 0 < length z → words_after z ≡ slice_split (nat_eq 32) (drop 1 z)
 words_from [] some = absurd (omega arith)
 words_from (b ∷ z) some = refl

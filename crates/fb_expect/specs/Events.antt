@@ -3,10 +3,10 @@ use Rattle.std.specs.Prelude.{◌≡◌, ℕ, ◌^◌, ◌-◌, Bool, true, [], 
 use Rattle.std.specs.List.{list_all}
 use Rattle.fb_types.specs.declared.run.Form.{Form}
 use Rattle.fb_types.specs.declared.run.Form.TheVariants.{One, Two}
-use Rattle.fb_expect.specs.Words.{Text, is_binding, is_name, is_port, magnitude, natural, words_behind}
+use Rattle.fb_expect.specs.Words.{Text, is_binding, is_name, is_port, magnitude, natural, words_after}
 use Rattle.fb_expect.specs.declared.entry.Entry.{Entry}
 
--- What a line says: the tick, the resource, whether the event is taken, its port, and what stands behind the port.
+-- What a line says: the tick, the resource, whether the event is taken, its port, and what comes after the port.
 pub record Event : Type 0 where
   pub tick : ℕ
   pub resource : Text
@@ -22,7 +22,7 @@ event_of e = record { tick = e.tick; resource = e.resource.now; taken = e.taken;
 abbrev pub side_text : Bool → Text
 side_text taken = if taken then codes " > " else codes " < "
 
--- nothing but what stands behind the tick, for a tick that is written so
+-- nothing but what comes after the tick, for a tick that is written so
 abbrev pub event_text : (digits : Text) → Event → Text
 event_text digits e = digits ++ (codes " " ++ (e.resource ++ (side_text e.taken ++ (e.port ++ (e.values ++ codes "\n")))))
 
@@ -53,5 +53,5 @@ pub record IsLine (form : Form) (text : Text) (e : Event) : Type 0 where
   pub tick_is : magnitude digits ≡ Some e.tick
   pub resource_is : is_name e.resource ≡ true
   pub port_is : is_port e.port ≡ true
-  pub values_are : list_all is_binding (words_behind e.values) ≡ true
+  pub values_are : list_all is_binding (words_after e.values) ≡ true
   pub parts : text ≡ head ++ event_text digits e

@@ -58,7 +58,7 @@ pub record Moves (number : ℕ) (e : Event) (old new : Watcher) : Type 0 where
 abbrev pub AllMove : (number : ℕ) → Event → (old new : List Watcher) → Type 0
 AllMove number e old new = (es : List Event) → number ≡ length es + 1 → AreBelow es e.tick → AllFollow es old → AllFollow (es ++ e ∷ []) new
 
--- All events of a trace were read, and its end stands in the line of this number.
+-- All events of a trace were read, and its end is in the line of this number.
 pub record IsFollowed (cut : Cut) (input : Option Text) (ws : List Watcher) (number : ℕ) (end : End) : Type 0 where
   pub events : List Event
   pub counted : number ≡ length events + 1

@@ -35,7 +35,7 @@ need_of (draft.Before n) = within 0 n >>= λ k. Some (need.Before k)
 need_of (draft.Never from_start) = Some (need.Never from_start)
 need_of (draft.Count least most every) = count_of least most every
 
--- whether all texts of a rule that are to be patterns are some
+-- whether all texts of a rule that must be patterns are patterns
 unfoldable pub has_patterns : RuleText → Bool
 has_patterns t = is_some (pattern_of t.first) && (is_some (may pattern_of t.second) && is_some (may pattern_of t.third))
 

@@ -8,16 +8,16 @@ use Rattle.fb_expect.specs.declared.parting.Difference.{Difference}
 abbrev pub line_of : Text → Text
 line_of text = take_through 10 text
 
--- what stands behind so many lines of a text
+-- what comes after this many lines of a text
 abbrev pub rest_at : ℕ → Text → Text
 rest_at zero text = text
 rest_at (suc n) text = rest_at n (drop_through 10 text)
 
--- the line behind so many
+-- the line after this many
 abbrev pub line_at : ℕ → Text → Text
 line_at n text = line_of (rest_at n text)
 
--- so many lines of two texts are the same
+-- this many lines of two texts are the same
 abbrev pub AreSame : ℕ → Text → Text → Type 0
 AreSame n a b = (k : ℕ) → k < n → line_at k a ≡ line_at k b
 
@@ -46,7 +46,7 @@ Finds a b left right (Some number) = PartAt a b number left right
 abbrev pub MayFind : (a b : Option Text) → (left right : Text) → Option ℕ → Type 0
 MayFind a b left right found = IfSome a (λ x. IfSome b (λ y. Finds x y left right found))
 
--- a reader stands behind so many lines of a text
+-- a reader comes after this many lines of a text
 abbrev pub StandsAt : ℕ → (old now : Option Text) → Type 0
 StandsAt n old now = IfSome old (λ x. now ≡ Some (rest_at n x))
 

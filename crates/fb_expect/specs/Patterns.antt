@@ -6,7 +6,7 @@ use Rattle.std.specs.Str.{bytes_eq}
 use Rattle.fb_types.specs.Values.{same_whole}
 use Rattle.fb_types.specs.declared.value.Value.{Value}
 use Rattle.fb_types.specs.declared.value.Value.TheVariants as value
-use Rattle.fb_expect.specs.Words.{Text, parted, value_of, words_behind}
+use Rattle.fb_expect.specs.Words.{Text, parted, value_of, words_after}
 use Rattle.fb_expect.specs.Events.{Event}
 use Rattle.fb_expect.specs.declared.pattern.Comparison.{Comparison}
 use Rattle.fb_expect.specs.declared.pattern.Comparison.TheVariants.{Equal, Unequal, Less, AtMost, Greater, AtLeast}
@@ -50,12 +50,12 @@ unfoldable pub is_met_by : Condition → (word : Text) → Bool
 is_met_by c w =
     option_map_or (λ p. bytes_eq p.0 c.variable && option_map_or (λ v. compares c.comparison v c.value) (value_of p.1) false) (parted 61 w) false
 
--- whether one of the values behind a port is of the variable, or says what is asked for
+-- whether one of the values after a port is of the variable, or says what is asked for
 abbrev pub is_named : Condition → (values : Text) → Bool
-is_named c values = list_any (is_named_by c) (words_behind values)
+is_named c values = list_any (is_named_by c) (words_after values)
 
 abbrev pub is_met : Condition → (values : Text) → Bool
-is_met c values = list_any (is_met_by c) (words_behind values)
+is_met c values = list_any (is_met_by c) (words_after values)
 
 abbrev pub is_way : Way → (taken : Bool) → Bool
 is_way Taken taken = taken

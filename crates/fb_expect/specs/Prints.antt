@@ -1,4 +1,4 @@
--- Prints of texts, by which most are told apart (this project's own).
+-- Prints of texts, by which most are distinguished (this project's own).
 use Rattle.std.specs.Prelude.{ℕ, ◌+◌, ◌*◌, ◌%◌, ◌^◌, fold}
 use Rattle.fb_expect.specs.Words.{Text}
 

@@ -41,7 +41,7 @@ abbrev pub or_refuse : {A : Type 0} → ℕ → Option A → Outcome A
 or_refuse n (Some x) = Ok x
 or_refuse n None = Err n
 
--- A function answers this outcome, of which contracts see so much, unless memory is wanting.
+-- A function answers this outcome, of which contracts see so much, unless memory runs out.
 abbrev pub Answers : {X Y : Type 0} → (X → Y) → Outcome Y → Result X RulesError → Type 0
 Answers seen outcome (Ok x) = outcome ≡ Ok (seen x)
 Answers seen outcome (Err e) = IfSome (number_of e) (λ n. outcome ≡ Err n)

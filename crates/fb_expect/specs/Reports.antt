@@ -16,7 +16,7 @@ use Rattle.fb_expect.specs.declared.verdict.Verdict.TheVariants.{Holds, Broken, 
 
 -- ---- Texts
 
--- one text behind the other
+-- One text after the other
 abbrev pub joined : List Text → Text
 joined [] = []
 joined (t ∷ ts) = t ++ joined ts
@@ -86,7 +86,7 @@ unfoldable pub head : (well : Bool) → (number : ℕ) → Rule → Of → Text
 head well number r of =
     joined (first_word well ∷ decimal number ∷ codes " - " ∷ escaped 35 r.name ∷ trace_mark of ∷ [])
 
--- the end of the line, and the block behind it
+-- the end of the line, and the block after it
 abbrev pub tail : (strict : Bool) → (trace : Text) → Verdict → Text
 tail strict trace Holds = codes "\n"
 tail strict trace (Broken b) = joined (codes "\n" ∷ breach_block trace b ∷ [])
@@ -109,7 +109,7 @@ point strict of number r j =
     joined (head (is_well strict j.verdict) number r of ∷ tail strict of.trace.now j.verdict ∷ comment r.first j.sights.first
     ∷ may_comment r.second j.sights.second ∷ may_comment r.third j.sights.third ∷ [])
 
--- The points of all rules at a trace, numbered behind those before.
+-- The points of all rules at a trace, numbered after those before.
 abbrev pub points : (strict : Bool) → Of → (before : ℕ) → List Rule → List Judged → Text
 points strict of before [] js = []
 points strict of before (r ∷ rs) [] = []

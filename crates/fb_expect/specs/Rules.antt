@@ -1,4 +1,4 @@
--- What rules ask of the lines of a trace (this project's own). "Before" and "behind" go by the places of lines, and ticks by their ticks.
+-- What rules ask of the lines of a trace (this project's own). "Before" and "after" mean the order of lines; "later" and "earlier" compare ticks.
 use Rattle.std.specs.Prelude.{◌≡◌, ◌⊎◌, ℕ, ◌+◌, ◌/◌, ◌%◌, ◌<◌, ◌≤◌, Bool, true, false, not, ◌&&◌, ◌==◌, if◌then◌else◌, nat_lt, List, length, take, count_by, Option, Some, None}
 use Rattle.fb_expect.specs.Hits.{IsFirst, IsSecond, IsThird, tick_at}
 use Rattle.fb_expect.specs.Traces.{tick_of}
@@ -13,9 +13,9 @@ use Rattle.fb_expect.specs.declared.verdict.Fault.TheVariants.{Unanswered, Answe
 use Rattle.fb_expect.specs.declared.verdict.Verdict.{Verdict}
 use Rattle.fb_expect.specs.declared.verdict.Verdict.TheVariants.{Holds, Broken, Undecided}
 
--- ---- Each P is followed by a Q at most so many ticks later
+-- ---- Each P is followed by a Q at most this many ticks later
 
--- no Q behind a place comes in time
+-- no Q after a place comes in time
 abbrev pub HasNoAnswer : (within : ℕ) → List Hit → ℕ → Type 0
 HasNoAnswer within hs i = (j : ℕ) → i < j → IsSecond hs j → tick_at hs i + within < tick_at hs j
 
@@ -34,7 +34,7 @@ pub record IsPending (within : ℕ) (hs : List Hit) (end : End) (i : ℕ) : Type
   pub unmet : IsUnmet within hs i
   pub amid : tick_of end ≤ tick_at hs i + within
 
--- ---- No P is followed by a Q at most so many ticks later
+-- ---- No P is followed by a Q at most this many ticks later
 
 -- a Q that follows a P too soon
 pub record IsAnswered (within : ℕ) (hs : List Hit) (j : ℕ) : Type 0 where
@@ -49,7 +49,7 @@ pub record IsWatched (within : ℕ) (hs : List Hit) (end : End) (i : ℕ) : Type
   pub first : IsFirst hs i
   pub amid : tick_of end ≤ tick_at hs i + within
 
--- ---- Each P has a Q at most so many ticks before
+-- ---- Each P has a Q at most this many ticks before
 
 -- a P with no Q before it, or with all too long before
 pub record IsUnprepared (within : ℕ) (hs : List Hit) (i : ℕ) : Type 0 where
@@ -58,7 +58,7 @@ pub record IsUnprepared (within : ℕ) (hs : List Hit) (i : ℕ) : Type 0 where
 
 -- ---- No P between a Q and the next R
 
--- no R stands behind a place and up to another
+-- no R comes after a place and up to another
 abbrev pub HasNoThird : List Hit → ℕ → ℕ → Type 0
 HasNoThird hs i k = (j : ℕ) → i < j → j ≤ k → IsThird hs j → ⊥
 
@@ -79,9 +79,9 @@ pub record IsForbidden (from_start : Bool) (hs : List Hit) (k : ℕ) : Type 0 wh
   pub first : IsFirst hs k
   pub within : IsFromStart from_start hs k ⊎ IsSince hs k
 
--- ---- So many P in the whole trace, or in each window
+-- ---- This many P in the whole trace, or in each window
 
--- The window in which a tick lies, counted from 0: with windows of T ticks those from kT up to (k + 1)T. Without them the trace is one.
+-- The window in which a tick is, counted from 0: with windows of T ticks those from kT up to (k + 1)T. Without them the trace is one.
 abbrev pub window_of : (every : Option ℕ) → ℕ → ℕ
 window_of None t = 0
 window_of (Some length) t = if length == 0 then 0 else t / length
@@ -132,7 +132,7 @@ pub record IsMore (every most : Option ℕ) (hs : List Hit) (k : ℕ) : Type 0 w
 
 -- ---- Rules
 
--- What breaks a rule at a place, whatever comes behind it.
+-- What breaks a rule at a place, whatever comes after it.
 abbrev pub BreaksHere : Need → List Hit → ℕ → Fault → Type 0
 BreaksHere (See within) hs k fault = ⊥
 BreaksHere (Not within) hs k fault = (fault ≡ Answered) × IsAnswered within hs k
@@ -140,7 +140,7 @@ BreaksHere (Before within) hs k fault = (fault ≡ Unprepared) × IsUnprepared w
 BreaksHere (Never from_start) hs k fault = (fault ≡ Forbidden) × IsForbidden from_start hs k
 BreaksHere (Count least most every) hs k fault = ((fault ≡ Fewer) × IsFewerAtLine every least hs k) ⊎ ((fault ≡ More) × IsMore every most hs k)
 
--- What breaks a rule at a place only with what comes behind it, or with the end.
+-- What breaks a rule at a place only with what comes after it, or with the end.
 abbrev pub BreaksLater : Need → List Hit → End → ℕ → Fault → Type 0
 BreaksLater (See within) hs end k fault = (fault ≡ Unanswered) × IsUnanswered within hs end k
 BreaksLater (Not within) hs end k fault = ⊥
@@ -148,7 +148,7 @@ BreaksLater (Before within) hs end k fault = ⊥
 BreaksLater (Never from_start) hs end k fault = ⊥
 BreaksLater (Count least most every) hs end k fault = (fault ≡ Fewer) × IsFewerAtEnd every least hs end k
 
--- What breaks a rule at a place. The last line stands behind all others.
+-- What breaks a rule at a place. The last line comes after all others.
 abbrev pub Breaks : Need → List Hit → End → ℕ → Fault → Type 0
 Breaks need hs end k fault = BreaksHere need hs k fault ⊎ BreaksLater need hs end k fault
 

@@ -27,7 +27,7 @@ same_truth a b = (a && b) || (not a && not b)
 abbrev pub unless : Bool → Text → Text
 unless same word = if same then [] else word
 
--- the parts of two events that differ, each behind a comma and a blank
+-- the parts of two events that differ, each after a comma and a blank
 unfoldable pub parts : Entry → Entry → Text
 parts l r =
     joined (unless (l.tick == r.tick) (codes ", tick") ∷ unless (bytes_eq l.resource.now r.resource.now) (codes ", resource")
@@ -70,7 +70,7 @@ difference_text first second d left right =
     joined (codes "line " ∷ decimal d.number ∷ codes " differs in: " ∷ what left right ∷ codes "\n" ∷ shown_line first d.left.items left
     ∷ shown_line second d.right.items right ∷ [])
 
--- The text tells in what two files differ.
+-- The text says in what two files differ.
 pub record Tells (first second : Text) (d : Difference) (text : Text) : Type 0 where
   pub left : LineKind
   pub right : LineKind

@@ -28,7 +28,7 @@ RiseFrom t (e ∷ es) = (t ≤ e.tick) × RiseFrom e.tick es
 abbrev pub AreBelow : List Event → ℕ → Type 0
 AreBelow es t = All (λ e. e.tick ≤ t) es
 
--- The text is the lines of these events, one behind the other.
+-- The text is the lines of these events, one after the other.
 abbrev pub AreLines : Form → Text → List Event → Type 0
 AreLines form text [] = text ≡ []
 AreLines form text (e ∷ es) = (line : Text) × (rest : Text) × IsLine form line e × AreLines form rest es × (text ≡ line ++ rest)
@@ -37,7 +37,7 @@ AreLines form text (e ∷ es) = (line : Text) × (rest : Text) × IsLine form li
 abbrev pub IsReason : Text → Type 0
 IsReason text = (text ≡ codes "steps") ⊎ (text ≡ codes "divide") ⊎ (text ≡ codes "range")
 
--- The text tells a stop in this tick.
+-- The text has a stop in this tick.
 pub record IsStopText (text : Text) (tick : ℕ) : Type 0 where
   pub digits : Text
   pub resource : Text
@@ -57,14 +57,14 @@ IsEndOf text (Cut t) = ⊥
 abbrev pub HasNoEnd : Text → Type 0
 HasNoEnd text = All (λ b. b ≢ 10) text
 
--- The text stands behind the lines of a trace with this end. Where a trace may be cut off, that may be nothing, or a line without its end.
+-- The text comes after the lines of a trace with this end. Where a trace may be cut off, that may be nothing, or a line without its end.
 abbrev pub IsLast : MayCut → Text → End → Type 0
 IsLast cut text (Horizon h) = IsEndOf text (Horizon h)
 IsLast cut text (Stop t) = IsEndOf text (Stop t)
 IsLast Refused text (Cut t) = ⊥
 IsLast Allowed text (Cut t) = HasNoEnd text
 
--- what may come behind a line of this tick
+-- what may come after a line of this tick
 abbrev pub EndsAfter : ℕ → End → Type 0
 EndsAfter t (Horizon h) = t < h
 EndsAfter t (Stop k) = t ≤ k

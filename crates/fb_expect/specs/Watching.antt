@@ -79,9 +79,9 @@ pub record IsLate (within : ℕ) (hs : List Hit) (b : Breach) : Type 0 where
   pub later : ℕ
   pub over : tick_at hs place + within < tick_at hs later
 
--- ---- The last line of a sort
+-- ---- The last line of a kind
 
--- a tick is more than so many ticks after another, where there is one to count from
+-- a tick is more than this many ticks after another, where there is one to count from
 abbrev pub IsPast : (from : Option ℕ) → (within tick : ℕ) → Type 0
 IsPast None within tick = Unit {0}
 IsPast (Some from) within tick = from + within < tick
@@ -101,7 +101,7 @@ KnowsLast test hs (Some t) = IsLastTick test hs t
 abbrev pub IsWithin : (from_start : Bool) → List Hit → ℕ → Type 0
 IsWithin from_start hs k = IsFromStart from_start hs k ⊎ IsSince hs k
 
--- the next line lies in a stretch, unless an R is in it
+-- the next line is in a stretch, unless an R is in it
 abbrev pub KnowsStretch : (from_start : Bool) → List Hit → Bool → Type 0
 KnowsStretch from_start hs true = IsWithin from_start hs (length hs)
 KnowsStretch from_start hs false = IsWithin from_start hs (length hs) → ⊥
@@ -114,7 +114,7 @@ pub record KnowsCount (every : Option ℕ) (least : ℕ) (hs : List Hit) (window
   pub most : (i : ℕ) → window_of every (tick_at hs i) ≤ window
   pub enough : (w : ℕ) → w < window → least ≤ count_in every w hs
 
--- a window before that of this number has too few, where the last with a line has so many
+-- a window before that of this number has too few, where the last with a line has this many
 abbrev pub Lacks : (least window count next : ℕ) → Type 0
 Lacks least window count next = (window < next) × ((count < least) ⊎ ((window + 1 < next) × (0 < least)))
 
@@ -148,7 +148,7 @@ abbrev pub Steps : Need → Watch → ℕ → Hit → Watch → Type 0
 Steps n old line hit new =
     (hs : List Hit) → line ≡ length hs + 1 → IsBelow hs hit.tick → Knows n hs old → Knows n (hs ++ hit ∷ []) new
 
--- What counts of the window of one more line come to, where no window before it has too few, and so many P of its own stand before it.
+-- The counts of the window of one more line, where no window before it has too few, and this many P of its own come before it.
 abbrev pub CountsOn : (most : Option ℕ) → (window before line : ℕ) → Hit → Watch → Type 0
 CountsOn most window before line hit new =
     (least : ℕ) (every : Option ℕ) (hs : List Hit) → line ≡ length hs + 1 → window ≡ window_of every hit.tick → before ≡ count_in every window hs

@@ -13,14 +13,14 @@ infixl 10 ◌>>=◌
 abbrev pub ◌>>=◌ : {A B : Type 0} → Option A → (A → Option B) → Option B
 o >>= f = option_and_then f o
 
--- what stands behind a front, and what stands before an end
+-- what comes after a front, and what comes before an end
 abbrev pub behind : (front : Text) → Text → Option Text
 behind front z = if bytes_eq (take (length front) z) front then Some (drop (length front) z) else None
 
 abbrev pub before : (end : Text) → Text → Option Text
 before end z = if bytes_eq (drop (length z - length end) z) end then Some (take (length z - length end) z) else None
 
--- what stands before the first place of a mark, and what stands behind it
+-- what comes before the first place of a mark, and what comes after it
 unfoldable pub parted : ℕ → Text → Option (Text × Text)
 parted mark z = option_map (λ i. (take i z, drop (i + 1) z)) (position (nat_eq mark) z)
 
@@ -34,7 +34,7 @@ is_letter b = (nat_le 65 b && nat_le b 90) || b == 95
 abbrev pub is_word : ℕ → Bool
 is_word b = is_letter b || is_ascii_digit b
 
--- a letter, and letters, digits and underscores behind it
+-- a letter, and letters, digits and underscores after it
 abbrev pub is_name : Text → Bool
 is_name [] = false
 is_name (b ∷ z) = is_letter b && list_all is_word z
@@ -92,7 +92,7 @@ value_of z =
 unfoldable pub is_binding : Text → Bool
 is_binding w = is_some (parted 61 w >>= λ p. if is_name p.0 then value_of p.1 else None)
 
--- the words behind the blank that a text begins with
-abbrev pub words_behind : Text → List Text
-words_behind [] = []
-words_behind (b ∷ z) = slice_split (nat_eq 32) z
+-- the words after the blank that a text begins with
+abbrev pub words_after : Text → List Text
+words_after [] = []
+words_after (b ∷ z) = slice_split (nat_eq 32) z

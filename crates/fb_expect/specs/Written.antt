@@ -35,11 +35,11 @@ way_of w =
 
 -- ---- Ports
 
--- nothing, or names with a full stop behind each
+-- nothing, or names with a full stop after each
 abbrev pub is_front : Text → Bool
 is_front z = option_map_or is_path (before (codes ".") z) (length z == 0)
 
--- what stands before a star, or a whole port, and whether it is the former
+-- what comes before a star, or a whole port, and whether it is the former
 abbrev pub port_by : Text → Option Text → Option (Text × Bool)
 port_by w (Some front) = if is_front front then Some (front, true) else None
 port_by w None = if is_port w then Some (w, false) else None
@@ -61,7 +61,7 @@ resource_of w = if bytes_eq w star then None else Some w
 abbrev pub is_sign : ℕ → Bool
 is_sign b = b == 60 || b == 61 || b == 62
 
--- what stands before the comparison, and the rest from there on
+-- what comes before the comparison, and the rest from there on
 unfoldable pub at_comparison : Text → Option (Text × Text)
 at_comparison w = option_map (λ i. (take i w, drop i w)) (position is_sign w)
 
@@ -69,7 +69,7 @@ abbrev pub with_rest : Comparison → Option Text → Option (Comparison × Text
 with_rest c (Some rest) other = Some (c, rest)
 with_rest c None other = other
 
--- the comparison that a text begins with, and what stands behind it
+-- the comparison that a text begins with, and what comes after it
 unfoldable pub comparison_of : Text → Option (Comparison × Text)
 comparison_of z =
     with_rest Unequal (behind (codes "<>") z)
@@ -106,7 +106,7 @@ condition_of w = option_map condition (condition_parts w)
 
 -- ---- Patterns
 
--- The pattern of a resource, a sign, a port and conditions. The text is that in which they stand.
+-- The pattern of a resource, a sign, a port and conditions. The text is that in which they are.
 unfoldable pub pattern_with : (resource sign port : Text) → List Text → (text : Text) → Option Pattern
 pattern_with resource sign port conditions text = do
   way ← way_of sign

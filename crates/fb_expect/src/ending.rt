@@ -14,7 +14,7 @@ pub enum End {
     Horizon(u64),
     /// A resource stopped in this tick.
     Stop(u64),
-    /// The trace is cut off behind a line of this tick, or before its first line.
+    /// The trace is cut off after a line of this tick, or before its first line.
     Cut(u64),
 }
 
@@ -36,7 +36,7 @@ fn is_reason(text: &[u8]) -> bool
     text == b"steps".as_slice() || text == b"divide".as_slice() || text == b"range".as_slice()
 }
 
-/// The tick of a stop that a text tells, without the line feed.
+/// The tick of a stop in a text, without the line feed.
 fn stop_of(text: &[u8]) -> Option<u64>
     ensures { IfSome result (IsStopText text.now) }
 {
@@ -50,7 +50,7 @@ fn stop_of(text: &[u8]) -> Option<u64>
     Some(tick)
 }
 
-/// The end that a line tells, with its line feed.
+/// The end in a line, with its line feed.
 pub(crate) fn read_end(text: &[u8]) -> Option<End>
     ensures { IfSome result (IsEndOf text.now) }
 {

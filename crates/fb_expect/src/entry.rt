@@ -15,7 +15,7 @@ pub struct Entry<'a> {
     pub taken: bool,
     /// The path of the instance, a full stop, and the event.
     pub port: &'a [u8],
-    /// What stands behind the port: a blank and `VAR=value` for each value.
+    /// What comes after the port: a blank and `VAR=value` for each value.
     pub values: &'a [u8],
     /// The print of the port.
     print: u64,

@@ -8,14 +8,14 @@ ghost use Rattle.fb_expect.specs.Words as spec;
 use crate::entry::Entry;
 use crate::names::{is_name, is_port};
 use crate::number::{is_number, magnitude, value_of};
-use crate::words::{before, behind, behind_blank, cut, parted};
+use crate::words::{after_blank, before, behind, cut, parted};
 use fb_types::Form;
 
 /// The greatest class of a key that 8 bits have.
 const MOST_CLASS: u128 = 255;
 
-/// What stands behind a number that is at most `most`, and a blank.
-fn behind_number(text: &[u8], most: u128) -> Option<&[u8]>
+/// What comes after a number that is at most `most`, and a blank.
+fn after_number(text: &[u8], most: u128) -> Option<&[u8]>
     requires { 9 ≤ most }
     ensures { IfSome result (λ rest. (head : List ℕ) × IsNumberText most head × (text.now ≡ head ++ rest.now)) }
 {
@@ -28,26 +28,26 @@ fn behind_number(text: &[u8], most: u128) -> Option<&[u8]>
     }
 }
 
-/// What stands behind the key that a line in form two begins with.
-fn behind_key(text: &[u8]) -> Option<&[u8]>
+/// What comes after the key that a line in form two begins with.
+fn after_key(text: &[u8]) -> Option<&[u8]>
     ensures { IfSome result (λ rest. (head : List ℕ) × IsKeyText head × (text.now ≡ head ++ rest.now)) }
 {
-    let behind_class = behind_number(text, MOST_CLASS)?;
-    let behind_first = behind_number(behind_class, u128::MAX)?;
-    behind_number(behind_first, u128::MAX)
+    let after_class = after_number(text, MOST_CLASS)?;
+    let after_first = after_number(after_class, u128::MAX)?;
+    after_number(after_first, u128::MAX)
 }
 
-/// What stands behind that with which a line begins in a form.
-fn behind_head(form: Form, text: &[u8]) -> Option<&[u8]>
+/// What comes after that with which a line begins in a form.
+fn after_head(form: Form, text: &[u8]) -> Option<&[u8]>
     ensures { IfSome result (λ rest. (head : List ℕ) × IsHead form head × (text.now ≡ head ++ rest.now)) }
 {
     match form {
         Form::One => Some(text),
-        Form::Two => behind_key(text),
+        Form::Two => after_key(text),
     }
 }
 
-/// The side that a text begins with, and what stands behind it.
+/// The side that a text begins with, and what comes after it.
 fn side_of(text: &[u8]) -> Option<(bool, &[u8])>
     ensures { IfSome result (λ p. text.now ≡ side_text p.0 ++ p.1.now) }
 {
@@ -68,11 +68,11 @@ fn is_binding(word: &[u8]) -> bool
     }
 }
 
-/// Whether what stands behind a port is a blank and a binding for each value.
+/// Whether what comes after a port is a blank and a binding for each value.
 fn are_values(text: &[u8]) -> bool
-    ensures { result ≡ list_all spec.is_binding (spec.words_behind text.now) }
+    ensures { result ≡ list_all spec.is_binding (spec.words_after text.now) }
 {
-    match behind_blank(text) {
+    match after_blank(text) {
         Some(words) => words
             .split(|byte| *byte == b' ')
             .all(|word| is_binding(word)),
@@ -84,7 +84,7 @@ fn are_values(text: &[u8]) -> bool
 pub(crate) fn read_entry(form: Form, text: &[u8]) -> Option<Entry<'_>>
     ensures { IfSome result (λ e. IsLine form text.now (event_of e)) }
 {
-    let (digits, text) = cut(behind_head(form, text)?)?;
+    let (digits, text) = cut(after_head(form, text)?)?;
     let tick = magnitude(digits)?;
     let (resource, text) = cut(behind(text, b" ")?)?;
     let (taken, text) = side_of(text)?;

@@ -74,7 +74,7 @@ fn begun<'a>(alloc: Global, rules: &'a [Rule]) -> Result<Vec<Watcher<'a>>, Alloc
     Ok(watchers)
 }
 
-/// Notes one more line, of this number. Most lines don't matter to a rule: their ports tell.
+/// Takes one more line, of this number. Most lines don't matter to a rule, as their ports show.
 #[inline(always)]
 fn next(watcher: &mut Watcher<'_>, number: u64, entry: &Entry<'_>)
     ensures { Moves number (event_of entry.now) watcher.old watcher.new }
@@ -142,7 +142,7 @@ fn is_cut(line: &[u8]) -> bool
     }
 }
 
-/// The end that a line tells, or that there is before it where a trace may be cut off.
+/// The end in a line, or that there is before it where a trace may be cut off.
 fn end_at(line: &[u8], tick: u64, cut: Cut) -> Option<End>
     ensures { IfSome result (λ end. IsOneLine line.now → IsLast cut line.now end) }
 {
@@ -172,8 +172,8 @@ pub fn judge<R: BufRead>(
     Ok(conclude(alloc, watchers.as_slice(), number, end)?)
 }
 
-/// Reads the lines of a trace, up to its end, which is told with the number of its line. The buffer is for the line that
-/// was read last.
+/// Reads the lines of a trace, up to its end, which is reported with the number of its line. The buffer is for the line
+/// that was read last.
 fn follow<R: BufRead>(
     cut: Cut,
     watchers: &mut Vec<Watcher<'_>>,
@@ -204,7 +204,7 @@ fn follow<R: BufRead>(
     Err(TraceError::Read)
 }
 
-/// Refuses an end that can't come behind a line of this tick, or behind which there is more.
+/// Refuses an end that can't come after a line of this tick, or after which there is more.
 fn finish<R: BufRead>(
     tick: u64,
     end: End,

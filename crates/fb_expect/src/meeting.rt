@@ -9,7 +9,7 @@ use crate::entry::Entry;
 use crate::number::value_of;
 use crate::pattern::{Comparison, Condition, Pattern, Way};
 use crate::port_pattern::PortPattern;
-use crate::words::{behind_blank, parted};
+use crate::words::{after_blank, parted};
 use fb_types::{Name, Value};
 
 fn compares_truth(comparison: Comparison, found: bool, wanted: bool) -> bool
@@ -79,7 +79,7 @@ fn is_named_by(condition: &Condition, word: &[u8]) -> bool
 fn is_met(condition: &Condition, values: &[u8]) -> bool
     ensures { result ≡ spec.is_met condition.now values.now }
 {
-    match behind_blank(values) {
+    match after_blank(values) {
         Some(words) => words
             .split(|byte| *byte == b' ')
             .any(|word| is_met_by(condition, word)),
@@ -91,7 +91,7 @@ fn is_met(condition: &Condition, values: &[u8]) -> bool
 fn is_named(condition: &Condition, values: &[u8]) -> bool
     ensures { result ≡ spec.is_named condition.now values.now }
 {
-    match behind_blank(values) {
+    match after_blank(values) {
         Some(words) => words
             .split(|byte| *byte == b' ')
             .any(|word| is_named_by(condition, word)),

@@ -11,7 +11,7 @@ fn is_letter(byte: u8) -> bool
     byte.is_ascii_uppercase() || byte == b'_'
 }
 
-/// Whether a byte can stand in a name: an upper-case letter, an underscore or a digit.
+/// Whether a byte can be in a name: an upper-case letter, an underscore or a digit.
 fn is_word(byte: u8) -> bool
     ensures { result ≡ spec.is_word byte }
 {

@@ -44,7 +44,7 @@ pub(crate) fn magnitude(text: &[u8]) -> Option<u64>
     Some(natural(text, u128::from(u64::MAX))? as u64)
 }
 
-/// The number below 0 of which a text has the digits behind the sign.
+/// The number below 0 of which a text has the digits after the sign.
 fn below_zero(digits: &[u8]) -> Option<i128>
     ensures { result ≡ spec.below_zero digits.now }
 {

@@ -7,7 +7,7 @@ use crate::lines::{ReadFault, next_line};
 use std::alloc::Global;
 use std::io::BufRead;
 
-/// Two lines that differ, and stand at the same place in their texts. All before them are the same.
+/// Two lines that differ, and are at the same place in their texts. All before them are the same.
 #[derive(Drop)]
 pub struct Difference {
     /// Their number, from 1.

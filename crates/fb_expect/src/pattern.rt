@@ -71,7 +71,7 @@ fn way_of(word: &[u8]) -> Option<Way>
     None
 }
 
-/// Whether a text can stand before the star of a port: nothing, or names with a full stop behind each.
+/// Whether a text can come before the star of a port: nothing, or names with a full stop after each.
 fn is_front(text: &[u8]) -> bool
     ensures { result ≡ spec.is_front text.now }
 {
@@ -111,7 +111,7 @@ fn is_sign(byte: u8) -> bool
     byte == b'<' || byte == b'=' || byte == b'>'
 }
 
-/// What stands before the comparison of a condition, and the rest from there on.
+/// What comes before the comparison of a condition, and the rest from there on.
 fn at_comparison(word: &[u8]) -> Option<(&[u8], &[u8])>
     ensures { option_map (λ p. (p.0.now, p.1.now)) result ≡ spec.at_comparison word.now }
 {
@@ -123,7 +123,7 @@ fn at_comparison(word: &[u8]) -> Option<(&[u8], &[u8])>
     None
 }
 
-/// The comparison that a text begins with, and what stands behind it.
+/// The comparison that a text begins with, and what comes after it.
 #[tactic(auto, unfolding(crate::specs::Written::comparison_of))]
 fn comparison_of(text: &[u8]) -> Option<(Comparison, &[u8])>
     ensures { option_map (λ p. (p.0, p.1.now)) result ≡ spec.comparison_of text.now }
@@ -163,7 +163,7 @@ fn can_compare(comparison: Comparison, value: Value) -> bool
     }
 }
 
-/// The condition that a word `VAR=value` is, with its variable as it stands there.
+/// The condition that a word `VAR=value` is, with its variable as it is there.
 #[tactic(auto, unfolding(crate::specs::Written::condition_parts))]
 fn condition_parts(word: &[u8]) -> Option<(&[u8], Comparison, Value)>
     ensures { option_map (λ p. (p.0.now, p.1, p.2)) result ≡ spec.condition_parts word.now }
@@ -217,14 +217,14 @@ fn resource_of(alloc: Global, word: &[u8]) -> Result<Option<Name>, AllocError>
     Ok(Some(Name::from_slice(alloc, word)?))
 }
 
-/// Whether a word can stand for a resource.
+/// Whether a word can represent a resource.
 fn is_resource(word: &[u8]) -> bool
     ensures { result ≡ spec.is_resource word.now }
 {
     word == b"*".as_slice() || is_name(word)
 }
 
-/// The pattern of a resource, a sign, a port and conditions, where they make one. The text is that in which they stand.
+/// The pattern of a resource, a sign, a port and conditions, where they make one. The text is that in which they are.
 #[tactic(auto, unfolding(crate::specs::Written::pattern_with))]
 fn pattern_with(
     alloc: Global,
@@ -260,7 +260,7 @@ fn pattern_with(
     }))
 }
 
-/// The pattern of words, where they are one. The text is that in which they stand.
+/// The pattern of words, where they are one. The text is that in which they are.
 fn pattern_in(alloc: Global, words: &[&[u8]], text: &[u8]) -> Result<Option<Pattern>, AllocError>
     ensures { IfOk result (λ p. p ≡ spec.pattern_in (map (λ w. w.now) words.now) text.now) }
 {

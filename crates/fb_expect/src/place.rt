@@ -52,7 +52,7 @@ pub enum RulesPlace {
     Bytes,
     /// The bytes are not TOML; the reader found this at this byte, or past the last one (E41).
     Document(usize),
-    /// There is no array of rules with one or more, or there are keys beside it (E42).
+    /// There is no array of rules with one or more, or there are keys next to it (E42).
     List,
     /// The shape of a rule is not right (E42).
     Rule { rule: usize, fault: RuleFault },
@@ -153,7 +153,7 @@ fn kind_fault(keys: &Table, key: RuleKey) -> Option<RuleFault>
     }
 }
 
-/// What is wrong with a key that is to be there.
+/// What is wrong with a key that must be there.
 fn key_fault(keys: &Table, key: RuleKey) -> Option<RuleFault>
     ensures { IfSome result (spec.IsFault (table_view keys.now)) }
 {
@@ -163,7 +163,7 @@ fn key_fault(keys: &Table, key: RuleKey) -> Option<RuleFault>
     }
 }
 
-/// What is wrong with keys that are to be there.
+/// What is wrong with keys that must be there.
 fn keys_fault(keys: &Table, needed: &[RuleKey]) -> Option<RuleFault>
     ensures { IfSome result (spec.IsFault (table_view keys.now)) }
 {
@@ -187,7 +187,7 @@ fn kinds_fault(keys: &Table, allowed: &[RuleKey]) -> Option<RuleFault>
     None
 }
 
-/// What is wrong where one of two keys is to be there.
+/// What is wrong where one of two keys must be there.
 fn either_fault(keys: &Table, first: RuleKey, second: RuleKey) -> Option<RuleFault>
     ensures { IfSome result (spec.IsFault (table_view keys.now)) }
 {
@@ -217,7 +217,7 @@ fn count_fault(keys: &Table) -> Option<RuleFault>
     }
 }
 
-/// What is wrong with the keys of a rule of a form, besides that of the form.
+/// What is wrong with the keys of a rule of a form, also that of the form.
 fn rest_fault(keys: &Table, form: RuleKey) -> Option<RuleFault>
     ensures { IfSome result (spec.IsFault (table_view keys.now)) }
 {

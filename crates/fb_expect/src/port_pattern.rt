@@ -6,6 +6,6 @@ use fb_types::Items;
 #[derive(Drop)]
 pub struct PortPattern {
     pub text: Items<u8>,
-    /// Whether further names may stand behind the text, which is empty or ends in a full stop then.
+    /// Whether further names may come after the text, which is empty or ends in a full stop then.
     pub is_open: bool,
 }

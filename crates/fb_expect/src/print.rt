@@ -1,4 +1,4 @@
-//! Prints of texts: numbers by which most texts are told apart without a look at their bytes.
+//! Prints of texts: numbers by which most texts are distinguished without reading their bytes.
 
 ghost use Rattle.std.specs.Prelude.{◌≡◌};
 ghost use Rattle.fb_expect.specs.Prints.{print};

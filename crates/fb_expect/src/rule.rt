@@ -6,15 +6,15 @@ use fb_types::Items;
 /// What a rule asks for. P is the first pattern of its rule, Q the second and R the third. Ticks are milliseconds.
 #[derive(Clone, Copy)]
 pub enum Need {
-    /// Each P is followed by a Q at most so many ticks later.
+    /// Each P is followed by a Q at most this many ticks later.
     See {
         within: u64,
     },
-    /// No P is followed by a Q at most so many ticks later.
+    /// No P is followed by a Q at most this many ticks later.
     Not {
         within: u64,
     },
-    /// Each P has a Q at most so many ticks before it.
+    /// Each P has a Q at most this many ticks before it.
     Before {
         within: u64,
     },
@@ -22,7 +22,7 @@ pub enum Need {
     Never {
         from_start: bool,
     },
-    /// So many P in the whole trace, or in each window of so many ticks.
+    /// This many P in the whole trace, or in each window of this many ticks.
     Count {
         least: u64,
         most: Option<u64>,

@@ -145,7 +145,7 @@ fn may_be_pattern(alloc: Global, text: Option<&str>) -> Result<bool, AllocError>
     }
 }
 
-/// Whether all texts of a rule that are to be patterns are some.
+/// Whether all texts of a rule that must be patterns are patterns.
 #[tactic(auto, unfolding(crate::specs::Needs::has_patterns))]
 fn has_patterns(alloc: Global, draft: &Draft<'_>) -> Result<bool, AllocError>
     ensures { IfOk result (λ b. b ≡ needs.has_patterns (text_of draft.now)) }

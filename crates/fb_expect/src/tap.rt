@@ -10,7 +10,7 @@ use crate::sight::Sight;
 use crate::verdict::{Breach, Fault, Verdict};
 use std::alloc::{AllocError, Global};
 
-/// One text behind the other.
+/// One text after the other.
 pub(crate) fn join(alloc: Global, parts: &[&[u8]]) -> Result<Vec<u8>, AllocError>
     ensures { IfOk result (λ t. t.items ≡ spec.joined (map (λ p. p.now) parts.now)) }
 {
@@ -39,7 +39,7 @@ fn shown(byte: u8) -> u8
     }
 }
 
-/// Puts a byte behind a text, with a backslash before a backslash and before a mark.
+/// Puts a byte after a text, with a backslash before a backslash and before a mark.
 fn put_escaped(text: &mut Vec<u8>, byte: u8, mark: u8) -> Result<(), AllocError>
     ensures { OnOk result (text.new.items ≡ text.old.items ++ spec.escaped_byte mark byte) }
 {
@@ -182,7 +182,7 @@ fn undecided_block(alloc: Global, trace: &str) -> Result<Vec<u8>, AllocError>
     )
 }
 
-/// The end of a point's line, and the block behind it.
+/// The end of a point's line, and the block after it.
 fn tail(
     alloc: Global,
     is_strict: bool,
@@ -303,7 +303,7 @@ pub fn plan(alloc: Global, count: u128) -> Result<Vec<u8>, AllocError>
     join(alloc, &[b"TAP version 14\n1..", digits.as_bytes(), b"\n"])
 }
 
-/// Puts the points of all rules at a trace behind a text, numbered behind those of other traces. There is what came of
+/// Puts the points of all rules at a trace after a text, numbered after those of other traces. There is what came of
 /// each rule.
 pub fn put_points(
     alloc: Global,

@@ -47,7 +47,7 @@ fn unless(same: bool, word: &'static [u8]) -> &'static [u8]
     if same { b"" } else { word }
 }
 
-/// The parts in which two events differ, each behind a comma and a blank: their ticks, resources, ports and values.
+/// The parts in which two events differ, each after a comma and a blank: their ticks, resources, ports and values.
 #[tactic(auto, unfolding(crate::specs::Telling::parts))]
 fn parts(alloc: Global, left: &Entry<'_>, right: &Entry<'_>) -> Result<Vec<u8>, AllocError>
     ensures { IfOk result (λ t. t.items ≡ spec.parts left.now right.now) }

@@ -18,9 +18,9 @@ pub enum Fault {
     Unanswered,
     /// The line follows another that it must not follow so soon.
     Answered,
-    /// No line that is asked for stands before it, or too long before.
+    /// No line that is asked for comes before it, or too long before.
     Unprepared,
-    /// The line stands where none may.
+    /// The line is where none may.
     Forbidden,
     /// A window is over, and has too few of the lines.
     Fewer,

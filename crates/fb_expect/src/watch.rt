@@ -19,13 +19,13 @@ pub struct Mark {
 /// What is known of a rule when a part of the trace was read. P is its first pattern, Q the second and R the third.
 #[derive(Clone, Copy)]
 pub enum Watch {
-    /// The first P that no Q followed yet, where there is one. A Q that comes in time for it does for all behind it.
+    /// The first P that no Q followed yet, where there is one. A Q that comes in time for it does for all after it.
     See(Option<Mark>),
     /// The tick of the last P.
     Not(Option<u64>),
     /// The tick of the last Q.
     Before(Option<u64>),
-    /// Whether the next line lies behind a Q, or the beginning, with no R since.
+    /// Whether the next line is after a Q, or the beginning, with no R since.
     Never(bool),
     /// The window of the last line, and how many P are in it.
     Count { window: u64, count: u64 },
@@ -49,7 +49,7 @@ pub(crate) fn begin(need: Need) -> Watch
     }
 }
 
-/// Whether a tick is more than so many ticks after another.
+/// Whether a tick is more than this many ticks after another.
 pub(crate) fn is_past(from: u64, within: u64, tick: u64) -> bool
     ensures { IsTrue result ↔ (from + within < tick) }
 {
@@ -72,7 +72,7 @@ fn broken(line: u64, tick: u64, fault: Fault) -> Watch
     Watch::Broken(Breach { line, tick, fault })
 }
 
-/// What waits behind a line, where this waited before it.
+/// What waits after a line, where this waited before it.
 fn waiting(mark: Option<Mark>, line: u64, hit: Hit) -> Option<Mark>
     ensures { WaitsNext mark line hit result }
 {
@@ -175,7 +175,7 @@ fn never(from_start: bool, is_on: bool, line: u64, hit: Hit) -> Watch
     Watch::Never(either(stays_on, hit.second))
 }
 
-/// The number of the window in which a tick lies. Without windows all ticks lie in the first.
+/// The number of the window in which a tick is. Without windows all ticks are in the first.
 pub(crate) fn window_of(every: Option<u64>, tick: u64) -> u64
     ensures { result ≡ spec.window_of every tick }
 {
@@ -185,7 +185,7 @@ pub(crate) fn window_of(every: Option<u64>, tick: u64) -> u64
     }
 }
 
-/// Whether a window before that of this number has too few P, where the last with a line is `window` and has so many.
+/// Whether a window before that of this number has too few P, where the last with a line is `window` and has this many.
 pub(crate) fn lacks(least: u64, window: u64, count: u64, next: u64) -> bool
     ensures { IsTrue result ↔ Lacks least window count next }
 {
@@ -204,7 +204,8 @@ fn is_over(most: Option<u64>, count: u64) -> bool
     }
 }
 
-/// What is known of counts with one more line, where windows before its own have enough. So many P of its own are before it.
+/// What is known of counts with one more line, where windows before its own have enough. This many P of its own are
+/// before it.
 fn count_on(most: Option<u64>, window: u64, before: u64, line: u64, hit: Hit) -> Watch
     ensures { CountsOn most window before line hit result }
 {

@@ -21,7 +21,7 @@ pub(crate) fn cut(text: &[u8]) -> Option<(&[u8], &[u8])>
     None
 }
 
-/// What stands behind a front.
+/// What comes after a front.
 pub(crate) fn behind<'a>(text: &'a [u8], front: &[u8]) -> Option<&'a [u8]>
     ensures parts { IfSome result (λ rest. text.now ≡ front.now ++ rest.now) }
     ensures exact { option_map (λ rest. rest.now) result ≡ spec.behind front.now text.now }
@@ -29,7 +29,7 @@ pub(crate) fn behind<'a>(text: &'a [u8], front: &[u8]) -> Option<&'a [u8]>
     text.strip_prefix(front)
 }
 
-/// What stands before an end.
+/// What comes before an end.
 pub(crate) fn before<'a>(text: &'a [u8], end: &[u8]) -> Option<&'a [u8]>
     ensures parts { IfSome result (λ front. text.now ≡ front.now ++ end.now) }
     ensures exact { option_map (λ front. front.now) result ≡ spec.before end.now text.now }
@@ -37,10 +37,10 @@ pub(crate) fn before<'a>(text: &'a [u8], end: &[u8]) -> Option<&'a [u8]>
     text.strip_suffix(end)
 }
 
-/// The words behind the blank that a text begins with. None where nothing stands there.
-pub(crate) fn behind_blank(text: &[u8]) -> Option<&[u8]>
-    ensures some { IfSome result (λ words. spec.words_behind text.now ≡ slice_split (nat_eq 32) words.now) }
-    ensures none { IfNone result (spec.words_behind text.now ≡ []) }
+/// The words after the blank that a text begins with. None where nothing is there.
+pub(crate) fn after_blank(text: &[u8]) -> Option<&[u8]>
+    ensures some { IfSome result (λ words. spec.words_after text.now ≡ slice_split (nat_eq 32) words.now) }
+    ensures none { IfNone result (spec.words_after text.now ≡ []) }
 {
     if text.is_empty() {
         None
@@ -49,7 +49,7 @@ pub(crate) fn behind_blank(text: &[u8]) -> Option<&[u8]>
     }
 }
 
-/// What stands before the first place of a mark, and what stands behind it.
+/// What comes before the first place of a mark, and what comes after it.
 #[tactic(auto, unfolding(crate::specs::Words::parted))]
 pub(crate) fn parted(text: &[u8], mark: u8) -> Option<(&[u8], &[u8])>
     ensures { option_map (λ p. (p.0.now, p.1.now)) result ≡ spec.parted mark text.now }

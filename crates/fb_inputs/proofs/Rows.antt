@@ -11,37 +11,37 @@ use Rattle.fb_inputs.specs.declared.error.InputError.{InputError}
 use Rattle.fb_inputs.specs.Refusals.{Outcome, ◌>>=◌, number_of, bad_row}
 use Rattle.fb_inputs.specs.Rows.{Row}
 use Rattle.fb_inputs.specs.Words.{Text}
-pub use Rattle.fb_inputs.specs.Stimuli.{all_behind}
+pub use Rattle.fb_inputs.specs.Stimuli.{all_after}
 use Rattle.fb_inputs.specs.Stimuli.{stimulus, stimuli_from, stimuli, stimuli_of, is_head, most_bytes}
 use Rattle.fb_inputs.specs.Readers.{HasOtherHead, Opens, rows_from}
 
 abbrev found_all : List Stimulus → Outcome (List Stimulus)
 found_all all = Ok all
 
-regroup : (front : List Stimulus) (s : Stimulus) (o : Outcome (List Stimulus)) → all_behind front (o >>= λ more. Ok (s ∷ more)) ≡ all_behind (front ++ s ∷ []) o
+regroup : (front : List Stimulus) (s : Stimulus) (o : Outcome (List Stimulus)) → all_after front (o >>= λ more. Ok (s ∷ more)) ≡ all_after (front ++ s ∷ []) o
 regroup front s (Ok more) = ap found_all (sym (append_assoc front (s ∷ []) more))
 regroup front s (Err n) = refl
 
 pub next_found : (front : List Stimulus) (row : Row) (rows rest : List Row) (s : Stimulus) (total : Outcome (List Stimulus)) → rest ≡ row ∷ rows → stimulus (length front) row ≡ Ok s
-    → total ≡ all_behind front (stimuli_from (length front) rest) → total ≡ all_behind (front ++ s ∷ []) (stimuli_from (length (front ++ s ∷ [])) rows)
+    → total ≡ all_after front (stimuli_from (length front) rest) → total ≡ all_after (front ++ s ∷ []) (stimuli_from (length (front ++ s ∷ [])) rows)
 unfolding stimuli_from
 next_found front row rows rest s total split found so_far =
     rw split at so_far ∙ (rw (found, length_push front s) (regroup front s (stimuli_from (length front + 1) rows)))
 
 refused_by : (front : List Stimulus) (row : Row) (rows rest : List Row) (n : ℕ) (total : Outcome (List Stimulus)) → rest ≡ row ∷ rows → stimulus (length front) row ≡ Err n
-    → total ≡ all_behind front (stimuli_from (length front) rest) → total ≡ Err n
+    → total ≡ all_after front (stimuli_from (length front) rest) → total ≡ Err n
 unfolding stimuli_from
 refused_by front row rows rest n total split refused so_far = rw split at so_far ∙ rw refused refl
 
 pub next_refused : (e : InputError) (front : List Stimulus) (row : Row) (rows rest : List Row) (total : Outcome (List Stimulus)) → rest ≡ row ∷ rows
-    → IfSome (number_of e) (λ n. stimulus (length front) row ≡ Err n) → total ≡ all_behind front (stimuli_from (length front) rest) → IfSome (number_of e) (λ n. total ≡ Err n)
+    → IfSome (number_of e) (λ n. stimulus (length front) row ≡ Err n) → total ≡ all_after front (stimuli_from (length front) rest) → IfSome (number_of e) (λ n. total ≡ Err n)
 next_refused e front row rows rest total split refused so_far = by (number_of e) refused
   where
     by : (o : Option ℕ) → IfSome o (λ n. stimulus (length front) row ≡ Err n) → IfSome o (λ n. total ≡ Err n)
     by None h = tt
     by (Some n) h = refused_by front row rows rest n total split h so_far
 
-pub none_left : (front : List Stimulus) (rest : List Row) (total : Outcome (List Stimulus)) → rest ≡ [] → total ≡ all_behind front (stimuli_from (length front) rest) → total ≡ Ok front
+pub none_left : (front : List Stimulus) (rest : List Row) (total : Outcome (List Stimulus)) → rest ≡ [] → total ≡ all_after front (stimuli_from (length front) rest) → total ≡ Ok front
 unfolding stimuli_from
 none_left front rest total split so_far = rw split at so_far ∙ ap found_all (append-nil front)
 
@@ -55,11 +55,11 @@ unfolding stimuli_of
 opened bytes rows le all = rw (le-leb (length bytes) most_bytes le) (ap stimuli all)
 
 pub headed : (bytes : Text) (head : Row) (rows : List Row) → length bytes ≤ most_bytes → records default_config (strip_bom bytes) ≡ head ∷ rows → is_head head ≡ true
-    → stimuli_of bytes ≡ all_behind [] (stimuli_from 0 rows)
+    → stimuli_of bytes ≡ all_after [] (stimuli_from 0 rows)
 unfolding stimuli
 headed bytes head rows le all yes_head = opened bytes (head ∷ rows) le all ∙ rw yes_head (nothing_before (stimuli_from 0 rows))
   where
-    nothing_before : (o : Outcome (List Stimulus)) → o ≡ all_behind [] o
+    nothing_before : (o : Outcome (List Stimulus)) → o ≡ all_after [] o
     nothing_before (Ok more) = refl
     nothing_before (Err n) = refl
 

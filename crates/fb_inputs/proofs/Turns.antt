@@ -12,8 +12,8 @@ use Rattle.fb_inputs.specs.declared.error.InputError.{InputError}
 use Rattle.fb_inputs.specs.declared.error.InputError.TheVariants.{Memory, Row}
 use Rattle.fb_inputs.specs.Refusals.{number_of}
 use Rattle.fb_inputs.specs.Words.{Text}
-use Rattle.fb_inputs.specs.Stimuli.{all_behind, is_head, stimuli_from}
-use Rattle.fb_inputs.specs.Readers.{IsAdded, IsAt, IsOpened, IsTold, Opens, kept_of, known, rows_from}
+use Rattle.fb_inputs.specs.Stimuli.{all_after, is_head, stimuli_from}
+use Rattle.fb_inputs.specs.Readers.{IsAdded, IsAt, IsOpened, IsRead, Opens, kept_of, known, rows_from}
 use Rattle.fb_inputs.proofs.Records.{at_more}
 use Rattle.fb_inputs.proofs.Rows.{next_found, next_refused, start_read}
 
@@ -27,7 +27,7 @@ one_left a z y here there = same_Some z y (sym here.source ∙ there.source)
 pub turn_more :
     (a b : Rest) (z : Text) (front behind : List Stimulus) (r : Result ByteRecord Error) (u : Unit {0}) → IsAt a z → RowStep known a.rdr b.rdr b.left (Some r) → FlexibleStep a.rdr b.rdr (Some r)
     → IsAdded r front behind (Ok u)
-    → (y : Text) × IsAt b y × (all_behind front (stimuli_from (length front) (rows_from a.rdr.state z)) ≡ all_behind behind (stimuli_from (length behind) (rows_from b.rdr.state y)))
+    → (y : Text) × IsAt b y × (all_after front (stimuli_from (length front) (rows_from a.rdr.state z)) ≡ all_after behind (stimuli_from (length behind) (rows_from b.rdr.state y)))
 turn_more a b z front behind (Ok row) u here step flexible added =
     let (y, there, rows) = at_more a b z (fields_of row) here step.0 step.1 step.2 flexible in
     let (s, found, is) = added in
@@ -36,7 +36,7 @@ turn_more a b z front behind (Err e) u here step flexible added = absurd cc
 
 pub turn_refused :
     (a b : Rest) (z : Text) (front behind : List Stimulus) (r : Result ByteRecord Error) (e : InputError) → IsAt a z → RowStep known a.rdr b.rdr b.left (Some r) → FlexibleStep a.rdr b.rdr (Some r)
-    → IsAdded r front behind (Err e) → IfSome (number_of e) (λ n. all_behind front (stimuli_from (length front) (rows_from a.rdr.state z)) ≡ Err n)
+    → IsAdded r front behind (Err e) → IfSome (number_of e) (λ n. all_after front (stimuli_from (length front) (rows_from a.rdr.state z)) ≡ Err n)
 turn_refused a b z front behind (Ok row) e here step flexible added =
     let (y, there, rows) = at_more a b z (fields_of row) here step.0 step.1 step.2 flexible in
     next_refused e front (fields_of row) (rows_from b.rdr.state y) _ _ rows added refl
@@ -52,7 +52,7 @@ heading_of (Err e) = Err e
 
 pub heading_found :
     (bytes : Text) (a b : Rest) (r : Result ByteRecord Error) (told : Result Bool InputError) → IsOpened a (strip_bom bytes) → RowStep known a.rdr b.rdr b.left (Some r)
-    → FlexibleStep a.rdr b.rdr (Some r) → IsTold r told → Opens bytes (kept_of b (heading_of told))
+    → FlexibleStep a.rdr b.rdr (Some r) → IsRead r told → Opens bytes (kept_of b (heading_of told))
 heading_found bytes a b (Ok row) told opened step flexible is =
     let (here, start) = opened in
     let (y, there, rows) = at_more a b (strip_bom bytes) (fields_of row) here step.0 step.1 step.2 flexible in

@@ -61,9 +61,9 @@ Opens bytes (Ok (Some it)) = IsHeaded bytes it
 Opens bytes (Err e) = IfSome (number_of e) (λ n. (n ≡ bad_row) × HasOtherHead bytes)
 
 -- whether what was read is a heading: the only error is out of memory
-abbrev pub IsTold : Result ByteRecord Error → Result Bool InputError → Type 0
-IsTold (Ok row) told = told ≡ Ok (is_head (fields_of row))
-IsTold (Err e) told = told ≡ Err Memory
+abbrev pub IsRead : Result ByteRecord Error → Result Bool InputError → Type 0
+IsRead (Ok row) told = told ≡ Ok (is_head (fields_of row))
+IsRead (Err e) told = told ≡ Err Memory
 
 -- a value, if a test was passed
 abbrev pub kept_of : {A : Type 0} → A → Result Bool InputError → Result (Option A) InputError

@@ -52,9 +52,9 @@ stimuli_from before (row ∷ rows) = do
   Ok (s ∷ more)
 
 -- what was found before, and what is still found
-abbrev pub all_behind : List Stimulus → Outcome (List Stimulus) → Outcome (List Stimulus)
-all_behind front (Ok more) = Ok (front ++ more)
-all_behind front (Err n) = Err n
+abbrev pub all_after : List Stimulus → Outcome (List Stimulus) → Outcome (List Stimulus)
+all_after front (Ok more) = Ok (front ++ more)
+all_after front (Err n) = Err n
 
 -- the record `tick,event,values`
 abbrev pub is_head : Row → Bool

@@ -41,7 +41,7 @@ pub struct PlanDraft {
     pub links: Items<LinkDraft>,
 }
 
-/// What a value of a document stands for, if it is of that kind.
+/// The meaning of a value of a document, if it is of that kind.
 trait Piece: Drop {
     ghost use Rattle.std.specs.Prelude.{Option};
     ghost use Rattle.toml.specs.Data.{Data};
@@ -52,7 +52,7 @@ trait Piece: Drop {
         ensures { IfOk result (λ r. r ≡ meaning (view value.now)) };
 }
 
-/// What the values stand for, if all of them are of that kind.
+/// The meaning of the values, if all of them are of that kind.
 fn each<T: Piece>(alloc: Global, values: &[Value]) -> Result<Option<Items<T>>, AllocError>
     ensures { IfOk result (λ r. r ≡ lists.each T.meaning (map view values.now)) }
 {
@@ -66,7 +66,7 @@ fn each<T: Piece>(alloc: Global, values: &[Value]) -> Result<Option<Items<T>>, A
     Ok(Some(found))
 }
 
-/// What the items of an array stand for, if all of them are of that kind.
+/// The meaning of the items of an array, if all of them are of that kind.
 fn array<T: Piece>(alloc: Global, value: &Value) -> Result<Option<Items<T>>, AllocError>
     ensures { IfOk result (λ r. r ≡ spec.array_of T.meaning (view value.now)) }
 {
@@ -109,7 +109,7 @@ fn name_at(alloc: Global, keys: &Table, key: &str) -> Result<Option<Name>, Alloc
     }
 }
 
-/// What the array at a key stands for.
+/// The meaning of the array at a key.
 fn array_at<T: Piece>(
     alloc: Global,
     keys: &Table,

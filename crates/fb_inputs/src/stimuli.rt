@@ -3,7 +3,7 @@
 ghost use Rattle.std.specs.Prelude.{◌≡◌, [], ◌∷◌, length, IfErr, option_map};
 ghost use Rattle.csv.specs.Reading.{error_kind, strip_bom};
 ghost use Rattle.csv.specs.Records.{fields_of};
-ghost use Rattle.fb_inputs.specs.Readers.{IsAdded, IsAt, IsOpened, IsTold, Opens, kept_of, rows_from};
+ghost use Rattle.fb_inputs.specs.Readers.{IsAdded, IsAt, IsOpened, IsRead, Opens, kept_of, rows_from};
 ghost use Rattle.fb_inputs.specs.Refusals.{Answers, number_of};
 ghost use Rattle.fb_inputs.specs.Stimuli as spec;
 ghost use Rattle.fb_inputs.specs.Words.{Text};
@@ -130,7 +130,7 @@ pub fn records_of(alloc: Global, bytes: &[u8]) -> ByteRecordsIntoIter<&[u8]>
 /// Whether the record is the heading.
 fn is_headed(read: Result<ByteRecord, Error>) -> Result<bool, InputError>
     requires { IfErr read (λ e. spec.IsOfReading (error_kind e)) }
-    ensures { IsTold read result }
+    ensures { IsRead read result }
 {
     match read {
         Ok(row) => Ok(is_heading(row)),
@@ -198,7 +198,7 @@ fn add_all(
     found: &mut Items<Stimulus>,
 ) -> Result<(), InputError>
     requires { (left : Text) × IsAt rows.old left }
-    ensures { (left : Text) → IsAt rows.old left → Answers (λ u. found.new) (spec.all_behind found.old (spec.stimuli_from (length found.old) (rows_from rows.old.rdr.state left))) result }
+    ensures { (left : Text) → IsAt rows.old left → Answers (λ u. found.new) (spec.all_after found.old (spec.stimuli_from (length found.old) (rows_from rows.old.rdr.state left))) result }
 {
     for read in rows {
         add(alloc, read, found)?;

@@ -33,7 +33,7 @@ pub fn is_after(last: u64, start: i64) -> bool
 }
 
 /// Whether the ticks rise, each from the one before it.
-fn rises_behind_zero(table: &[LatencyDraft]) -> bool
+fn rises_after_zero(table: &[LatencyDraft]) -> bool
     ensures { result ≡ spec.rises_from 0 table.now }
 {
     let mut last = 0;
@@ -57,7 +57,7 @@ fn rises(table: &[LatencyDraft]) -> bool
     ensures { result ≡ spec.rises table.now }
 {
     match table {
-        [first, rest @ ..] => is_zero(first.start) && rises_behind_zero(rest),
+        [first, rest @ ..] => is_zero(first.start) && rises_after_zero(rest),
         [] => false,
     }
 }

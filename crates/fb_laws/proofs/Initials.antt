@@ -11,7 +11,7 @@ use Rattle.fb_types.specs.Flat.{flat, instance_in, kind_of_instance, network_at,
 use Rattle.fb_types.specs.Accepted.{IsGood, is_held, BadStimulus}
 use Rattle.fb_types.specs.Kinds.{KindWrong, declared_right, parameter_right, parameters_right}
 use Rattle.fb_types.specs.Repeated.{Placed, networks, basics, interfaces}
-use Rattle.fb_types.specs.Unknown.{Wanted, wanted, all_of, types_wanted, withs_wanted, chart_wanted, parameters_wanted, deployment_wanted, NameUnknown}
+use Rattle.fb_types.specs.Unknown.{Wanted, wanted, all_of, required_types, required_withs, required_chart, required_parameters, required_deployment, NameUnknown}
 use Rattle.fb_types.specs.Simulation.{stimulus_of}
 use Rattle.fb_types.specs.declared.event_kind.EventKind.{EventKind}
 use Rattle.fb_types.specs.declared.event_kind.EventKind.TheVariants.{Restart}
@@ -81,10 +81,10 @@ module _ (lib : Library) (plan : Plan) (known : NameUnknown lib plan → ⊥) (r
   parameter-wanted : (n : Placed) → Contains (networks lib) n → (i : Instance) → Contains n.1.instances i → (k : Kind) → kind_of_instance lib i ≡ Some k
       → (x : Parameter) → Contains i.parameters x → Contains (wanted lib plan) (x.name, variable_names (ports_of k).inputs)
   parameter-wanted n cn i ci k is x c =
-      Contains-append_left (types ++ withs ++ charts ++ parameters) (deployment_wanted lib plan) w
+      Contains-append_left (types ++ withs ++ charts ++ parameters) (required_deployment lib plan) w
       (Contains-append_right (types ++ withs ++ charts) parameters w
-      (Contains-flat_map (λ (n : Placed). flat_map (parameters_wanted lib) n.1.instances) (networks lib) n w cn
-      (Contains-flat_map (parameters_wanted lib) n.1.instances i w ci
+      (Contains-flat_map (λ (n : Placed). flat_map (required_parameters lib) n.1.instances) (networks lib) n w cn
+      (Contains-flat_map (required_parameters lib) n.1.instances i w ci
       (subst
       (λ (o : Option Kind). Contains (elim o [ None ↦ [] | Some l ↦ all_of (map (λ y. y.name) i.parameters) (variable_names (ports_of l).inputs) ]) w)
       (sym is)
@@ -95,16 +95,16 @@ module _ (lib : Library) (plan : Plan) (known : NameUnknown lib plan → ⊥) (r
       w = (x.name, variable_names (ports_of k).inputs)
 
       types : List Wanted
-      types = flat_map (λ (n : Placed). types_wanted lib n.1) (networks lib)
+      types = flat_map (λ (n : Placed). required_types lib n.1) (networks lib)
 
       withs : List Wanted
-      withs = flat_map withs_wanted (interfaces lib)
+      withs = flat_map required_withs (interfaces lib)
 
       charts : List Wanted
-      charts = flat_map chart_wanted (basics lib)
+      charts = flat_map required_chart (basics lib)
 
       parameters : List Wanted
-      parameters = flat_map (λ (n : Placed). flat_map (parameters_wanted lib) n.1.instances) (networks lib)
+      parameters = flat_map (λ (n : Placed). flat_map (required_parameters lib) n.1.instances) (networks lib)
 
   -- a parameter sets an input
   parameter-input : (n : Placed) → Contains (networks lib) n → (i : Instance) → Contains n.1.instances i → (k : Kind) → kind_of_instance lib i ≡ Some k

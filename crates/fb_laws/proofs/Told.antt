@@ -9,7 +9,7 @@ use Rattle.fb_types.specs.Simulation as sim
 use Rattle.fb_types.specs.Simulation.{Stimulus, Taken, IsSimulation, opening, Ending, AtHorizon, AtStop, ending_of, RestsAt}
 use Rattle.fb_types.specs.Machines.{Machine, Item, Local, Each, cut, lines_of}
 use Rattle.fb_types.specs.Parts.{machine, items_of, count_of}
-use Rattle.fb_types.specs.Histories.{told_to, IsTold, takings_below, stop_of, history, taken, IsSameAt, IsNotBefore}
+use Rattle.fb_types.specs.Histories.{history_to, HasHistory, takings_below, stop_of, history, taken, IsSameAt, IsNotBefore}
 use Rattle.fb_types.specs.Merges.{IsMerge, lines_before}
 use Rattle.fb_types.specs.declared.key.Key.{Key}
 use Rattle.fb_types.specs.declared.value.Reason.{Reason}
@@ -92,23 +92,23 @@ module _ (sys : System) (sound : IsSound sys) (stimuli : List Stimulus) (horizon
   stop_below : (s : StopsAt M is) → s.item.key.tick < horizon
   stop_below s = has_each M (λ (k : Key). k.tick < horizon) is s.item.key s.reason is_simulation.below (stop_has M is s)
 
-  told_most : (m s r : ℕ) → told_to m s r ≤ m + 1
+  told_most : (m s r : ℕ) → history_to m s r ≤ m + 1
   told_most m s r =
-      ⊎_elim (λ b. let e : told_to m s r ≡ m + 1 = cond-true (nat_lt r s) (m + 1) m (lt-ltb r s b) in omega arith)
-      (λ b. let e : told_to m s r ≡ m = cond-false (nat_lt r s) (m + 1) m (le-ltb r s b) in omega arith) (cases_lt r s)
+      ⊎_elim (λ b. let e : history_to m s r ≡ m + 1 = cond-true (nat_lt r s) (m + 1) m (lt-ltb r s b) in omega arith)
+      (λ b. let e : history_to m s r ≡ m = cond-false (nat_lt r s) (m + 1) m (le-ltb r s b) in omega arith) (cases_lt r s)
 
-  pub told : (r t : ℕ) → IsTold (ending_of horizon ts) r t → HasTold M horizon is r t
+  pub told : (r t : ℕ) → HasHistory (ending_of horizon ts) r t → HasTold M horizon is r t
   told r t h =
       ⊎_elim
       (λ y. record {
-        in_range = let b : IsTold (AtHorizon horizon) r t = subst (λ (e : Ending). IsTold e r t) y.0 h in b;
+        in_range = let b : HasHistory (AtHorizon horizon) r t = subst (λ (e : Ending). HasHistory e r t) y.0 h in b;
         before_stop = λ s. absurd (never y.1 s);
       })
-      (λ y. let s = y.0 in let b : IsTold (AtStop s.item.key.tick s.item.key.resource s.reason) r t = subst (λ (e : Ending). IsTold e r t) y.1 h in
+      (λ y. let s = y.0 in let b : HasHistory (AtStop s.item.key.tick s.item.key.resource s.reason) r t = subst (λ (e : Ending). HasHistory e r t) y.1 h in
       let most = told_most s.item.key.tick s.item.key.resource r in
       let below = stop_below s in
       record {
-        in_range = reached t (told_to s.item.key.tick s.item.key.resource r) s.item.key.tick b most below;
+        in_range = reached t (history_to s.item.key.tick s.item.key.resource r) s.item.key.tick b most below;
         before_stop = λ u. subst (λ (k : Key). t ≤ far M k r) (same_stop s u).0 b;
       })
       ends_as

@@ -1,4 +1,4 @@
--- The facts of the taking of one event on which the law of one resource rests (this project's profile).
+-- The facts of taking one event on which the law of one resource rests (this project's profile).
 use Rattle.std.specs.Prelude.{◌≡◌, ◌≤◌, ◌<◌, ◌==◌, ℕ, Option, Some, true, false}
 use Rattle.fb_types.specs.Keys.{found}
 use Rattle.fb_types.specs.Machines.{Machine, Outcome, Each}

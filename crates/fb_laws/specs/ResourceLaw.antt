@@ -7,7 +7,7 @@ use Rattle.fb_types.specs.States.{Event, Line}
 use Rattle.fb_types.specs.Simulation.{Stimulus, Taken, IsSimulation, lines_of, AtStop, ending_of}
 use Rattle.fb_types.specs.Machines.{Item, Local, Each, Run, end, lines_of as lines_of_items}
 use Rattle.fb_types.specs.Parts.{machine, count_of}
-use Rattle.fb_types.specs.Histories.{IsTold, history, taken, alone, IsSameAt, IsNotBefore}
+use Rattle.fb_types.specs.Histories.{HasHistory, history, taken, alone, IsSameAt, IsNotBefore}
 use Rattle.fb_types.specs.Merges.{IsMerge, lines_before}
 use Rattle.fb_types.specs.declared.key.Key.{Key}
 use Rattle.fb_types.specs.declared.value.Reason.{Reason}
@@ -27,7 +27,7 @@ pub record LeavesHistory (sys : System) (stimuli : List Stimulus) (limit : ℕ) 
   pub leaves : IsSameAt (machine sys limit) r (end (machine sys limit) (alone sys stimuli limit ts r t) (taken sys limit ts r t)) (history sys stimuli limit ts r t)
 
 abbrev pub HasHistories : (sys : System) → List Stimulus → (horizon limit : ℕ) → List Taken → Type 0
-HasHistories sys stimuli horizon limit ts = (r t : ℕ) → IsTold (ending_of horizon ts) r t → LeavesHistory sys stimuli limit ts r t
+HasHistories sys stimuli horizon limit ts = (r t : ℕ) → HasHistory (ending_of horizon ts) r t → LeavesHistory sys stimuli limit ts r t
 
 -- What a resource alone takes below a tick is one thing.
 abbrev pub OneRun : (sys : System) → List Stimulus → (horizon limit : ℕ) → List Taken → Type 0

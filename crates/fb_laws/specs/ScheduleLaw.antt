@@ -7,7 +7,7 @@ use Rattle.fb_types.specs.Headline.{Inputs, system_of, stimuli_of}
 use Rattle.fb_types.specs.Simulation.{Stimulus, Taken, IsSimulation, lines_of, AtHorizon, AtStop, ending_of}
 use Rattle.fb_types.specs.Machines.{Machine, Item, Each, sent_by, lines_of as lines_of_items}
 use Rattle.fb_types.specs.Parts.{machine, count_of}
-use Rattle.fb_types.specs.Histories.{IsTold, history, taken, IsSameAt}
+use Rattle.fb_types.specs.Histories.{HasHistory, history, taken, IsSameAt}
 use Rattle.fb_types.specs.Merges.{IsMerge, lines_before}
 use Rattle.fb_types.specs.Cores.{Core, CoreStep, IsFloor, opening_core}
 use Rattle.fb_types.specs.Schedules.{IsSchedule, core_after, taken_after, IsAtHorizon, IsLeastStop, IsFinal}
@@ -41,7 +41,7 @@ pub record IsAtHistory (sys : System) (stimuli : List Stimulus) (limit : ℕ) (t
 abbrev pub HasStates : (sys : System) → List Stimulus → (horizon limit : ℕ) → Core (machine sys limit) → (ℕ → List (Item (machine sys limit))) → Type 0
 HasStates sys stimuli horizon limit c runs =
     (ts : List Taken) → IsSimulation sys stimuli horizon limit ts
-    → (r : ℕ) → (c r).state.stop ≡ None → IsTold (ending_of horizon ts) r (c r).clock → IsAtHistory sys stimuli limit ts c runs r
+    → (r : ℕ) → (c r).state.stop ≡ None → HasHistory (ending_of horizon ts) r (c r).clock → IsAtHistory sys stimuli limit ts c runs r
 
 -- A message that was sent and not taken is in its sender's outbox or on its receiver's agenda, and nothing else arrives.
 abbrev pub HasMessages : (sys : System) → List Stimulus → (horizon limit : ℕ) → Core (machine sys limit) → (ℕ → List (Item (machine sys limit))) → Type 0

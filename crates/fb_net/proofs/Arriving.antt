@@ -33,7 +33,7 @@ use Rattle.fb_net.specs.Worlds.{InForest, IsForest}
 use Rattle.fb_net.specs.declared.resource.Forest.{Forest}
 use Rattle.fb_laws.specs.Typed.{AllFit, AreTyped, IsTypedSystem, variable_named}
 use Rattle.fb_laws.proofs.Kept.{taking_typed}
-use Rattle.fb_net.specs.Arrivals.{ComesTo, IsReady, StandTyped, Tells, entering, leaving, reacting, sampling}
+use Rattle.fb_net.specs.Arrivals.{ComesTo, IsReady, AreTypedAt, Tells, entering, leaving, reacting, sampling}
 use Rattle.fb_net.proofs.Sampling.{bound-paired, input_port, output_port, port_named, ports-of_kind}
 
 -- ---- Values of their types
@@ -122,7 +122,7 @@ module _ (i : Inputs) (k : Key) (kind : EventKind) (at : Target) (is : (system_o
   begun-stands old mid x y taken w left h = subst (λ (o : Outcome). Stands i (gathered i x) mid y o) (begun-is w left) (taken w left h)
 
   -- .. and hold values of their types
-  pub event-typed : (old mid : Forest) (x y : Outbox) → ComesTo i (sampling i k at) old x mid y → IsTypedSystem sys → StandTyped i old → InForest i mid at.instance
+  pub event-typed : (old mid : Forest) (x y : Outbox) → ComesTo i (sampling i k at) old x mid y → IsTypedSystem sys → AreTypedAt i old → InForest i mid at.instance
       → (w : World) × IsForest i mid w × InForest i mid at.instance × HasTypedInputs i kind at.instance w
   event-typed old mid x y taken sound typed lies =
       let w : World = typed.0 in (

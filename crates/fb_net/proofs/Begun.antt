@@ -25,7 +25,7 @@ use Rattle.fb_ecc.specs.Opened.{IsOfDeclaration, IsOpened, slot_of}
 use Rattle.fb_ecc.specs.Indexes.{state_at}
 use Rattle.fb_ecc.specs.declared.state.BasicState.{BasicState}
 use Rattle.fb_system.specs.Stimuli.{initial_inputs, initial_outputs}
-use Rattle.fb_net.specs.Worlds.{BasicStands, NodeStands, ShellStands, StandsFor, ValuesStand, begins}
+use Rattle.fb_net.specs.Worlds.{BasicStands, NodeRepresents, ShellStands, StandsFor, ValuesStand, begins}
 use Rattle.fb_net.specs.Blocks.{composite_with, own_of}
 use Rattle.fb_net.specs.declared.block.Block.{Block}
 use Rattle.fb_net.specs.declared.block.Block.TheOpen.{Block-F}
@@ -67,34 +67,34 @@ shell_begins sys p s slots published inputs = record {
 
 -- ---- Blocks by kind
 
-stands_rolled : (sys : System) (p : Path) (x : Block-F Block) (m : model.Block) → NodeStands (sys.kind p) x m.memory m.variables → StandsFor sys p (roll-Block x) m
-stands_rolled sys p x m stands = subst (λ (y : Block-F Block). NodeStands (sys.kind p) y m.memory m.variables) (sym (out_roll x)) stands
+stands_rolled : (sys : System) (p : Path) (x : Block-F Block) (m : model.Block) → NodeRepresents (sys.kind p) x m.memory m.variables → StandsFor sys p (roll-Block x) m
+stands_rolled sys p x m stands = subst (λ (y : Block-F Block). NodeRepresents (sys.kind p) y m.memory m.variables) (sym (out_roll x)) stands
 
 -- what a block without its components is
-own_stands : (sys : System) (p : Path) (b : Block) (x : Block-F Block) (m : model.Block) → out-Block b ≡ x → NodeStands (sys.kind p) (composite_with [] x) m.memory m.variables → StandsFor sys p (own_of b) m
+own_stands : (sys : System) (p : Path) (b : Block) (x : Block-F Block) (m : model.Block) → out-Block b ≡ x → NodeRepresents (sys.kind p) (composite_with [] x) m.memory m.variables → StandsFor sys p (own_of b) m
 own_stands sys p b x m is stands =
-    stands_rolled sys p (composite_with [] (out-Block b)) m (subst (λ (y : Block-F Block). NodeStands (sys.kind p) (composite_with [] y) m.memory m.variables) (sym is) stands)
+    stands_rolled sys p (composite_with [] (out-Block b)) m (subst (λ (y : Block-F Block). NodeRepresents (sys.kind p) (composite_with [] y) m.memory m.variables) (sym is) stands)
 
 pub basic_begins :
     (sys : System) (p : Path) (t : BasicType) (b : Block) (s : BasicState) → sys.kind p ≡ Some (Basic t) → out-Block b ≡ Block-F.Basic s
     → BasicStands t s (opening_block sys p).memory (opening_block sys p).variables → StandsFor sys p (own_of b) (opening_block sys p)
 basic_begins sys p t b s kind is stands =
     let m = opening_block sys p in
-    own_stands sys p b (Block-F.Basic s) m is (subst (λ (k : Option Kind). NodeStands k (Block-F.Basic s) m.memory m.variables) (sym kind) stands)
+    own_stands sys p b (Block-F.Basic s) m is (subst (λ (k : Option Kind). NodeRepresents k (Block-F.Basic s) m.memory m.variables) (sym kind) stands)
 
 pub event_begins :
     (sys : System) (p : Path) (k : EventKind) (b : Block) (s : memories.State) → sys.kind p ≡ Some (Event k) → out-Block b ≡ Block-F.Event s
     → s.kind ≡ k → model.Remembers s.memory ≡ opening_memory (Some (Event k)) → StandsFor sys p (own_of b) (opening_block sys p)
 event_begins sys p k b s kind is of_kind memory =
     let m = opening_block sys p in
-    own_stands sys p b (Block-F.Event s) m is (subst (λ (k : Option Kind). NodeStands k (Block-F.Event s) m.memory m.variables) (sym kind)
+    own_stands sys p b (Block-F.Event s) m is (subst (λ (k : Option Kind). NodeRepresents k (Block-F.Event s) m.memory m.variables) (sym kind)
     (record { is_kind = of_kind; memory = ap opening_memory kind ∙ sym memory }))
 
 pub composite_begins :
     (sys : System) (p : Path) (t : CompositeType) (b : Block) (bs : List Block) → sys.kind p ≡ Some (Composite t) → out-Block b ≡ Block-F.Composite bs → StandsFor sys p (own_of b) (opening_block sys p)
 composite_begins sys p t b bs kind is =
     let m = opening_block sys p in
-    own_stands sys p b (Block-F.Composite bs) m is (subst (λ (k : Option Kind). NodeStands k (Block-F.Composite []) m.memory m.variables) (sym kind) (ap opening_memory kind))
+    own_stands sys p b (Block-F.Composite bs) m is (subst (λ (k : Option Kind). NodeRepresents k (Block-F.Composite []) m.memory m.variables) (sym kind) (ap opening_memory kind))
 
 -- ---- Basic blocks
 

@@ -39,7 +39,7 @@ use Rattle.fb_net.specs.Worlds.{InForest, IsForest}
 use Rattle.fb_net.specs.declared.resource.Forest.{Forest}
 use Rattle.fb_laws.specs.Typed.{AreTyped, IsTypedEvent}
 use Rattle.fb_laws.proofs.Kept.{held_typed, slots_typed}
-use Rattle.fb_net.specs.Arrivals.{Arrives, ComesTo, HasReacted, ReactedIn, StandTyped, expiring}
+use Rattle.fb_net.specs.Arrivals.{Arrives, ComesTo, HasReacted, ReactedIn, AreTypedAt, expiring}
 use Rattle.fb_net.specs.Events.{Came, HasTaken, event_of, stimulated}
 use Rattle.fb_net.specs.Steps.{AreKept}
 use Rattle.fb_net.proofs.Crossing.{answered-left, answered-stop}
@@ -88,7 +88,7 @@ module _ (i : Inputs) (k : Key) (m : Message) (old mid : Forest) (holds : HoldsA
   abbrev carried : List (Port × Value)
   carried = map (carried_of (system_of i)) m.values
 
-  pub arrival-typed : StandTyped i old → IsTypedEvent (system_of i) (event_of i (waits.Arrival m)) → StandTyped i mid
+  pub arrival-typed : AreTypedAt i old → IsTypedEvent (system_of i) (event_of i (waits.Arrival m)) → AreTypedAt i mid
   arrival-typed typed event =
       let w : World = typed.0 in
       (record w { held = hold_all carried w.held }, holds.stands w typed.1, held_typed (system_of i) w typed.2 carried event)
@@ -130,7 +130,7 @@ module _ (i : Inputs) (k : Key) (row : ℕ) (s : StimulusAt) (is : IsStimulusAt 
   pub stimulus-kept : AreKept i old mid
   stimulus-kept = record { resource = changes.resource; whole = λ w h. (with_slots p sets w, brought w h) }
 
-  pub stimulus-typed : StandTyped i old → IsTypedEvent sys (event_of i (waits.Stimulus row)) → StandTyped i mid
+  pub stimulus-typed : AreTypedAt i old → IsTypedEvent sys (event_of i (waits.Stimulus row)) → AreTypedAt i mid
   stimulus-typed typed fits =
       let w : World = typed.0 in (
         with_slots p sets w,

@@ -10,7 +10,7 @@ use Rattle.fb_types.specs.Flat.{inside, instance_at, instance_in, kind_at, kind_
 use Rattle.fb_types.specs.Headline.{AreAccepted, Inputs, system_of}
 use Rattle.fb_types.specs.Numbers.{path_at}
 use Rattle.fb_types.specs.Repeated.{NameTwice, Placed, Twice, algorithm_names, basics, basics_in, block_type_names, instance_names, interfaces, internals_of, networks, networks_in, parameter_lists, port_names, state_names, with_lists}
-use Rattle.fb_types.specs.Unknown.{NameUnknown, Wanted, all_of, chart_wanted, deployment_wanted, parameters_wanted, types_wanted, wanted, withs_wanted}
+use Rattle.fb_types.specs.Unknown.{NameUnknown, Wanted, all_of, required_chart, required_deployment, required_parameters, required_types, wanted, required_withs}
 use Rattle.fb_types.specs.declared.deploy.Plan.{Plan}
 use Rattle.fb_types.specs.declared.event_kind.EventKind.{EventKind}
 use Rattle.fb_types.specs.declared.event_kind.EventKind.TheVariants as kind
@@ -131,19 +131,19 @@ in_network lib (n ∷ p) i h =
 
 module _ (lib : Library) (plan : Plan) (known : ¬ (NameUnknown lib plan)) where
   abbrev types : List Wanted
-  types = flat_map (λ (n : Placed). types_wanted lib n.1) (networks lib)
+  types = flat_map (λ (n : Placed). required_types lib n.1) (networks lib)
 
   abbrev withs : List Wanted
-  withs = flat_map withs_wanted (interfaces lib)
+  withs = flat_map required_withs (interfaces lib)
 
   abbrev charts : List Wanted
-  charts = flat_map chart_wanted (basics lib)
+  charts = flat_map required_chart (basics lib)
 
   abbrev parameters : List Wanted
-  parameters = flat_map (λ (n : Placed). flat_map (parameters_wanted lib) n.1.instances) (networks lib)
+  parameters = flat_map (λ (n : Placed). flat_map (required_parameters lib) n.1.instances) (networks lib)
 
   abbrev deployment : List Wanted
-  deployment = deployment_wanted lib plan
+  deployment = required_deployment lib plan
 
   sure : (n : Name) (sort : List Name) → Contains (wanted lib plan) (n, sort) → among sort n ≡ true
   sure n sort c =
@@ -155,7 +155,7 @@ module _ (lib : Library) (plan : Plan) (known : ¬ (NameUnknown lib plan)) where
   type_among : (net : Network) (i : Instance) → IsNet lib net → Contains net.instances i → among (block_type_names lib) i.block_type ≡ true
   type_among net i is c =
       let w : Wanted = (i.block_type, block_type_names lib) in
-      let here : Contains (types_wanted lib net) w =
+      let here : Contains (required_types lib net) w =
       Contains-map (λ (n : Name). (n, block_type_names lib)) (map (λ (i : Instance). i.block_type) net.instances) i.block_type
       (Contains-map (λ (i : Instance). i.block_type) net.instances i c) in
       sure i.block_type (block_type_names lib)
@@ -163,7 +163,7 @@ module _ (lib : Library) (plan : Plan) (known : ¬ (NameUnknown lib plan)) where
       (Contains-append_left (types ++ withs ++ charts) parameters w
       (Contains-append_left (types ++ withs) charts w
       (Contains-append_left types withs w
-      (Contains-flat_map (λ (n : Placed). types_wanted lib n.1) (networks lib) (is.outer, net) w is.among here)))))
+      (Contains-flat_map (λ (n : Placed). required_types lib n.1) (networks lib) (is.outer, net) w is.among here)))))
 
   parameter_among :
       (net : Network) (i : Instance) (k : Kind) (n : Name) → IsNet lib net → Contains net.instances i → kind_of_instance lib i ≡ Some k
@@ -171,14 +171,14 @@ module _ (lib : Library) (plan : Plan) (known : ¬ (NameUnknown lib plan)) where
   parameter_among net i k n is c of c' =
       let ins = variable_names (ports_of k).inputs in
       let w : Wanted = (n, ins) in
-      let here : Contains (parameters_wanted lib i) w =
+      let here : Contains (required_parameters lib i) w =
       subst (λ (o : Option Kind). Contains (elim o [ None ↦ [] | Some k ↦ all_of (map (λ (x : Parameter). x.name) i.parameters) (variable_names (ports_of k).inputs) ]) w) (sym of)
       (Contains-map (λ (n : Name). (n, ins)) (map (λ (x : Parameter). x.name) i.parameters) n c') in
       sure n ins
       (Contains-append_left (types ++ withs ++ charts ++ parameters) deployment w
       (Contains-append_right (types ++ withs ++ charts) parameters w
-      (Contains-flat_map (λ (n : Placed). flat_map (parameters_wanted lib) n.1.instances) (networks lib) (is.outer, net) w is.among
-      (Contains-flat_map (parameters_wanted lib) net.instances i w c here))))
+      (Contains-flat_map (λ (n : Placed). flat_map (required_parameters lib) n.1.instances) (networks lib) (is.outer, net) w is.among
+      (Contains-flat_map (required_parameters lib) net.instances i w c here))))
 
   named_type : (n : Name) → among (block_type_names lib) n ≡ true → (k : Kind) × (type_named lib n ≡ Some k)
   named_type n h =

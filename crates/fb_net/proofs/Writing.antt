@@ -23,7 +23,7 @@ use Rattle.fb_net.specs.Blocks.{components_of, own_of, with_input, with_publishe
 use Rattle.fb_net.specs.Changes.{Changes}
 use Rattle.fb_net.specs.Changes as specs
 use Rattle.fb_net.specs.Trees.{PutAlone, block_at, put_at}
-use Rattle.fb_net.specs.Worlds.{InForest, IsForest, NodeStands, SeatedAt, ShellStands, StandsAt, StandsFor, TakesSamples, ValuesStand, input_names, output_names, seat_in, way_in, with_seated}
+use Rattle.fb_net.specs.Worlds.{InForest, IsForest, NodeRepresents, SeatedAt, ShellStands, StandsAt, StandsFor, TakesSamples, ValuesStand, input_names, output_names, seat_in, way_in, with_seated}
 use Rattle.fb_net.specs.declared.block.Block.{Block}
 use Rattle.fb_net.specs.declared.block.Block.TheOpen.{Block-F}
 use Rattle.fb_net.specs.declared.block.Block.TheViews.{out-Block}
@@ -112,7 +112,7 @@ module _ (sys : System) (p : Path) (s : Shell) (m : model.Block) (stands : Shell
 
 -- what a block that is no basic one remembers is not its data inputs
 pub node_kept :
-    (k : Option Kind) (x : Block-F Block) (m : model.Memory) (old new : Values) → ((t : BasicType) → k ≢ Some (Basic t)) → NodeStands k x m old → NodeStands k x m new
+    (k : Option Kind) (x : Block-F Block) (m : model.Memory) (old new : Values) → ((t : BasicType) → k ≢ Some (Basic t)) → NodeRepresents k x m old → NodeRepresents k x m new
 node_kept None (Block-F.Basic s) m old new never stands = absurd stands
 node_kept None (Block-F.Event s) m old new never stands = absurd stands
 node_kept None (Block-F.Composite bs) m old new never stands = absurd stands

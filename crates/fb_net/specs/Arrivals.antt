@@ -1,4 +1,4 @@
--- What the arrival of an event at a port of an instance comes to (IEC 61499-1, 5.2.2 and 5.3.2; crossings and timers are this project's profile).
+-- The result of the arrival of an event at a port of an instance (IEC 61499-1, 5.2.2 and 5.3.2; crossings and timers are this project's profile).
 use Rattle.std.specs.Prelude.{◌≡◌, ℕ, List, [], ◌∷◌, Option, Some, None, Result, Ok, Err}
 use Rattle.fb_types.specs.Blocks.{Emission, Event, ports_of}
 use Rattle.fb_types.specs.EventBlocks as blocks
@@ -26,17 +26,17 @@ pub record IsReady (i : Inputs) (k : Key) (f : Forest) (x : Outbox) : Type 0 whe
   pub resource : k.resource ≡ f.resource
   pub outs : AreOuts (system_of i) f.resource x
 
--- The blocks stand for a world in which each variable holds a value of its type.
-abbrev pub StandTyped : Inputs → Forest → Type 0
-StandTyped i f = (w : World) × IsForest i f w × AreTyped (system_of i) w
+-- The blocks represent a world in which each variable holds a value of its type.
+abbrev pub AreTypedAt : Inputs → Forest → Type 0
+AreTypedAt i f = (w : World) × IsForest i f w × AreTyped (system_of i) w
 
--- ---- What a step comes to
+-- ---- The result of a step
 
--- In each world for which the blocks stood, blocks and outbox have come to what the step makes of it, however many steps are left.
+-- In each world that the blocks represented, blocks and outbox represent what the step makes of it, however many steps are left.
 abbrev pub ComesTo : Inputs → (World → ℕ → Outcome) → Forest → Outbox → Forest → Outbox → Type 0
 ComesTo i step old before new x = (w : World) (left : ℕ) → IsForest i old w → Stands i (gathered i before) new x (step w left)
 
--- an event input of the instance takes an event: its variables are sampled, and its line is told
+-- an event input of the instance takes an event: its variables are sampled, and its line is written
 abbrev pub sampling : Inputs → Key → Target → World → ℕ → Outcome
 sampling i k at w left = let sys = system_of i in taking sys k w (port_of sys at) (ports_at sys (path_at sys at.instance)) left
 
@@ -68,14 +68,14 @@ pub record IsBegun (i : Inputs) (f : Forest) (line : Line) (o : Outcome) : Type 
   pub outs : o.outs ≡ []
   pub timer : o.timer ≡ Keep
 
--- Line and emissions of a leaf were told, wherever its reaction has begun so.
+-- Line and emissions of a leaf were written, wherever its reaction has begun so.
 abbrev pub Tells : Inputs → Key → (instance : ℕ) → Line → List Emission → Forest → Outbox → Forest → Outbox → Type 0
 Tells i k at line emits old before new x =
     (o : Outcome) → IsBegun i old line o → Stands i (gathered i before) new x (emitted_all (system_of i) k (path_at (system_of i) at) emits o)
 
--- ---- What a reaction comes to
+-- ---- The result of a reaction
 
--- A reaction of the model from one world, for whose outcome blocks and outbox stand.
+-- A reaction of the model from one world, whose outcome blocks and outbox represent.
 pub record Reacted (i : Inputs) (Comes : Outcome → Type 0) (before : Gathered) (stop : Option Reason) (new : Forest) (after : ℕ) (x : Outbox) : Type 0 where
   pub outcome : Outcome
   pub reacts : Comes outcome
@@ -83,12 +83,12 @@ pub record Reacted (i : Inputs) (Comes : Outcome → Type 0) (before : Gathered)
   pub leaves : outcome.left ≡ after
   pub stands : Stands i before new x outcome
 
--- .. in each world for which the blocks stood
+-- .. in each world that the blocks represented
 abbrev pub ReactedIn : Inputs → (World → Outcome → Type 0) → Forest → Outbox → Option Reason → Forest → (after : ℕ) → Outbox → Type 0
 ReactedIn i Comes old before stop new after x =
     (w : World) → IsForest i old w → Reacted i (Comes w) (gathered i before) stop new after x
 
--- How a reaction ended. After want of memory nothing is said.
+-- How a reaction ended. If memory ran out, nothing is said.
 abbrev pub HasReacted : Inputs → (World → Outcome → Type 0) → Forest → Outbox → Result (Unit {0}) Halt → Forest → (after : ℕ) → Outbox → Type 0
 HasReacted i Comes old before (Ok _) new after x = ReactedIn i Comes old before None new after x
 HasReacted i Comes old before (Err (halt.Stop r)) new after x = ReactedIn i Comes old before (Some r) new after x

@@ -1,4 +1,4 @@
--- A function block with what stands inside it (IEC 61499-1, 5.1 to 5.3).
+-- A function block with what is inside it (IEC 61499-1, 5.1 to 5.3).
 use Rattle.std.specs.Prelude.{ℕ, List, [], slice_set}
 use Rattle.fb_types.specs.declared.value.Value.{Value}
 use Rattle.fb_net.specs.declared.block.Block.{Block}

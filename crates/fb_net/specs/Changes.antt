@@ -20,7 +20,7 @@ block_in i w k = w.blocks (path_at (system_of i) k)
 abbrev pub with_instance : Inputs → (instance : ℕ) → model.Block → World → World
 with_instance i k b w = with_block (path_at (system_of i) k) b w
 
--- An instance has changed so, and all else stays: in each world for which the blocks stood, they stand for what that makes of it.
+-- An instance has changed so, and all else stays: in each world that the blocks represented, they represent what that makes of it.
 pub record Changes (i : Inputs) (old : Forest) (k : ℕ) (change : model.Block → model.Block) (new : Forest) : Type 0 where
   pub resource : new.resource ≡ old.resource
   pub stands : (w : World) → IsForest i old w → InForest i old k → IsForest i new (with_instance i k (change (block_in i w k)) w)

@@ -19,7 +19,7 @@ use Rattle.fb_net.specs.Outs.{AreOuts, Gathered, IsOut, Stands, out_of}
 use Rattle.fb_net.specs.declared.outbox.Out.{Out}
 use Rattle.fb_net.specs.declared.outbox.Outbox.{Outbox}
 
--- what goes out to a target: a local event, or a message where the target lies in another resource
+-- what goes out to a target: a local event, or a message where the target is in another resource
 abbrev pub out_at : System → (resource : ℕ) → List (Port × Value) → Port → reactions.Out
 out_at sys r carried q = if sys.resource q.at == r then reactions.Local q else reactions.Sends q carried
 
@@ -28,11 +28,11 @@ pub record GoesTo (sys : System) (r : ℕ) (carried : List (Port × Value)) (q :
   pub is : out_of sys out ≡ out_at sys r carried q
   pub belongs : IsOut sys r out
 
--- It goes out to a target, behind what went out before.
+-- It goes out to a target, after what went out before.
 abbrev pub PutsOut : System → (resource : ℕ) → List (Port × Value) → Port → (before outs : List Out) → Type 0
 PutsOut sys r carried q before outs = (out : Out) × GoesTo sys r carried q out × (outs ≡ before ++ out ∷ [])
 
--- the targets behind the first
+-- the targets after the first
 abbrev pub others : List Port → List Port
 others [] = []
 others (q ∷ qs) = qs
@@ -53,7 +53,7 @@ outputs_shown bs b = record b { published = with_values bs b.published }
 abbrev pub carried_by : (instance : ℕ) → (indexes : List ℕ) → List Value → List Carried
 carried_by k indexes values = map (λ x. record { instance = k; variable = x.0; value = x.1 }) (zip indexes values)
 
--- The blocks and what was put out stand for what the emissions of an instance make of what they stood for.
+-- The blocks and what was put out represents what the emissions of an instance make of what they represented.
 abbrev pub EmitsSo : Inputs → Key → (instance : ℕ) → Forest → Outbox → List run.Emission → Forest → Outbox → Type 0
 EmitsSo i key k f x es g y =
     (before : Gathered) (o : Outcome) → Stands i before f x o →

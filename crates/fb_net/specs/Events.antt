@@ -1,4 +1,4 @@
--- Events by number, and what the taking of one comes to in its resource (IEC 61499-1, 5.2.2 and 5.3.2; keys, links and the count of steps are this project's profile).
+-- Events by number, and the result of the taking of one in its resource (IEC 61499-1, 5.2.2 and 5.3.2; keys, links and the count of steps are this project's profile).
 use Rattle.std.specs.Prelude.{◌≡◌, ◌<◌, ℕ, [], map, length, All, Option, Some, None, Result, Ok, Err, slice_get}
 use Rattle.fb_types.specs.Headline.{Inputs, system_of, stimuli_of}
 use Rattle.fb_types.specs.Numbers.{path_at, port_of, carried_of, line_of}
@@ -34,7 +34,7 @@ event_of i (waits.Timer k) = Expired (path_at (system_of i) k)
 event_of i (waits.Arrival m) = Arrived (port_of (system_of i) m.target) (map (carried_of (system_of i)) m.values)
 event_of i (waits.Local t) = Raised (port_of (system_of i) t)
 
--- the numbers of an event stand for something in the system
+-- the numbers of an event represent something in the system
 abbrev pub IsNumbered : Inputs → Event → Type 0
 IsNumbered i (waits.Stimulus row) = row < length i.stimuli
 IsNumbered i (waits.Timer k) = k < length (system_of i).paths
@@ -83,23 +83,23 @@ pub record CameTo (i : Inputs) (k : Key) (e : Event) (before : Gathered) (left :
   pub leaves : outcome.left ≡ after
   pub stands : Stands i before new x outcome
 
--- .. in each world for which the blocks stood, behind what the outbox had before
+-- .. in each world that the blocks represented, after what the outbox had before
 abbrev pub Came : Inputs → Key → Event → Forest → Outbox → (left : ℕ) → Option Reason → Forest → (after : ℕ) → Outbox → Type 0
 Came i k e old before left stop new after x =
     (w : World) → IsForest i old w → CameTo i k e (gathered i before) left stop new after x w
 
--- .. and behind lines alone, where nothing was to go out and nothing was asked of the timer
+-- .. and after lines alone, where nothing was to go out and nothing was asked of the timer
 abbrev pub CameAlone : Inputs → Key → Event → Forest → Outbox → (left : ℕ) → Option Reason → Forest → (after : ℕ) → Outbox → Type 0
 CameAlone i k e old before left stop new after x =
     (w : World) → IsForest i old w → CameTo i k e (only_lines (map (line_of (system_of i)) before.lines.items)) left stop new after x w
 
--- How a taking ended. After want of memory nothing is said.
+-- How a taking ended. If memory ran out, nothing is said.
 abbrev pub HasTaken : Inputs → Key → Event → Forest → Outbox → (left : ℕ) → Result (Unit {0}) Halt → Forest → (after : ℕ) → Outbox → Type 0
 HasTaken i k e old before left (Ok _) new after x = Came i k e old before left None new after x
 HasTaken i k e old before left (Err (halt.Stop r)) new after x = Came i k e old before left (Some r) new after x
 HasTaken i k e old before left (Err halt.Memory) new after x = Unit {0}
 
--- said of all that does not end with want of memory
+-- said of all that does not end with out of memory
 abbrev pub Remembered : Result (Unit {0}) Halt → Type 0 → Type 0
 Remembered (Ok _) holds = holds
 Remembered (Err (halt.Stop r)) holds = holds

@@ -29,7 +29,7 @@ use Rattle.fb_net.specs.declared.block.Block.{Block}
 use Rattle.fb_net.specs.declared.block.Block.TheVariants as block
 use Rattle.fb_net.specs.declared.resource.Forest.{Forest}
 
--- The blocks stand for a world, in which the instance lies in the resource.
+-- The blocks represent a world, in which the instance is in the resource.
 abbrev pub IsOne : Inputs → Forest → (instance : ℕ) → Type 0
 IsOne i f k = (w : World) × IsForest i f w × InForest i f k
 
@@ -45,7 +45,7 @@ chart_start t b e values left =
       emitted = [];
     }
 
--- the block where its chart has come to a position
+-- the block where its chart is at a position
 abbrev pub charted_block : Position → model.Block → model.Block
 charted_block c b = record b { memory = InState c.state; variables = c.vars }
 
@@ -60,13 +60,13 @@ pub record ChartCame (i : Inputs) (old : Forest) (at : Target) (t : BasicType) (
 abbrev pub EachWorld : Inputs → Forest → Target → (World → Type 0) → Type 0
 EachWorld i f at holds = (w : World) → IsForest i f w → InForest i f at.instance → holds w
 
--- How the reaction of a basic block ended. After want of memory nothing is said.
+-- How the reaction of a basic block ended. If memory ran out, nothing is said.
 abbrev pub ChartEnded : Inputs → Forest → Target → BasicType → List Value → (before : ℕ) → Result (Unit {0}) Halt → Forest → (after : ℕ) → List run.Emission → Type 0
 ChartEnded i old at t values before (Ok _) new after emits = EachWorld i old at (ChartCame i old at t values before None new after emits)
 ChartEnded i old at t values before (Err (halt.Stop r)) new after emits = EachWorld i old at (ChartCame i old at t values before (Some r) new after emits)
 ChartEnded i old at t values before (Err halt.Memory) new after emits = Unit {0}
 
--- A basic block of a type stands on a way, in a state from which its chart can go on.
+-- A basic block of a type rests on a way, in a state from which its chart can go on.
 pub record IsReadyAt (t : BasicType) (blocks : List Block) (way : List ℕ) : Type 0 where
   pub basic : BasicState
   pub stood : block_at blocks way ≡ Some (block.Basic basic)
@@ -84,7 +84,7 @@ pub record HasCharted (t : BasicType) (event : ℕ) (values : List Value) (befor
 
 -- ---- Event blocks
 
--- An event block stands on a way.
+-- An event block rests on a way.
 abbrev pub IsEventAt : List Block → (way : List ℕ) → Type 0
 IsEventAt blocks way = (s : State) × (block_at blocks way ≡ Some (block.Event s))
 

@@ -1,4 +1,4 @@
--- The blocks of a resource before the first event (IEC 61499-1, 5.2 and 5.3; that they stand as trees, with held copies, is this project's profile).
+-- The blocks of a resource before the first event (IEC 61499-1, 5.2 and 5.3; that they are as trees, with held copies, is this project's profile).
 use Rattle.std.specs.Prelude.{◌≡◌, ◌≢◌, ◌<◌, ◌≤◌, ◌+◌, ◌⊎◌, ℕ, zero, suc, Bool, true, List, [], ◌∷◌, length, Some, slice_get}
 use Rattle.std.specs.BTreeMap.{BTreeMap, get}
 use Rattle.std.specs.Ordering.{nat_cmp}
@@ -51,7 +51,7 @@ ChartsGrow old index t new = (q : ℕ) (c : Chart) → get nat_cmp new q ≡ Som
 
 -- ---- Trees
 
--- What is known of an instance whose block is made: how deep it stands, and how many names deeper one may go, make 18.
+-- What is known of an instance whose block is made: how deep it is, and how many names deeper one may go, make 18.
 pub record IsDeep (i : Inputs) (depth : ℕ) (k : ℕ) : Type 0 where
   pub number : k < length (system_of i).paths
   pub deep : length (path_at (system_of i) k) + depth ≡ 18
@@ -59,7 +59,7 @@ pub record IsDeep (i : Inputs) (depth : ℕ) (k : ℕ) : Type 0 where
 abbrev pub AreDeep : Inputs → (depth : ℕ) → List ℕ → Type 0
 AreDeep i depth numbers = (index k : ℕ) → slice_get numbers index ≡ Some k → IsDeep i depth k
 
--- The block stands for an instance before the first event, and its components do so, at most so many names deep.
+-- The block represents an instance before the first event, and its components do so, at most this many names deep.
 abbrev pub Grown : Inputs → (depth : ℕ) → Path → Block → Type 0
 Grown i zero p b = ⊥
 Grown i (suc d) p b =
@@ -74,7 +74,7 @@ pub record AreGrown (i : Inputs) (depth : ℕ) (numbers : List ℕ) (blocks : Li
 
 -- ---- Roots
 
--- Those of some instances of the application that lie in a resource, in their order, and for each the index that it has among them.
+-- Those of some instances of the application that are in a resource, in their order, and for each the index that it has among them.
 pub record AreRoots (i : Inputs) (r : ℕ) (top roots numbers : List ℕ) : Type 0 where
   pub each : length roots ≡ length top
   pub there : (index k : ℕ) → slice_get top index ≡ Some k → (system_of i).resource (path_at (system_of i) k) ≡ r → slice_get numbers (seat_in roots index) ≡ Some k
@@ -88,7 +88,7 @@ pub record AreRooted (i : Inputs) (r : ℕ) (roots numbers : List ℕ) : Type 0 
 
 -- ---- Seats
 
--- The shells of the instances of a resource below a number have their seats, and stand for what they are before the first event.
+-- The shells of the instances of a resource below a number have their seats, and represent what they are before the first event.
 pub record AreSeated (i : Inputs) (n : ℕ) (t : Forest) : Type 0 where
   pub each : length t.seats ≡ n
   pub few : length t.shells ≤ n
@@ -107,7 +107,7 @@ pub record IsSeatedAlone (old new : Forest) : Type 0 where
 abbrev pub Held : Type 0
 Held = BTreeMap (ℕ × ℕ × Bool) Value
 
--- What the variable is connected to has its held copy, where it lies in another resource.
+-- What the variable is connected to has its held copy, where it is in another resource.
 abbrev pub Covers : Inputs → (resource : ℕ) → Held → InstanceVariable → Type 0
 Covers i r held to =
     (x : InstanceVariable) → IsVariable (system_of i) x → (system_of i).source (variable_of (system_of i) to) ≡ Some (variable_of (system_of i) x) →

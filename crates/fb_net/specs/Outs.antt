@@ -1,4 +1,4 @@
--- What the taking of an event puts out, by numbers (IEC 61499-1, 5.2.2 and 5.3.2; messages are this project's profile).
+-- What taking an event puts out, by numbers (IEC 61499-1, 5.2.2 and 5.3.2; messages are this project's profile).
 use Rattle.std.specs.Prelude.{◌≡◌, ◌≢◌, ℕ, List, [], ◌++◌, map, All}
 use Rattle.fb_types.specs.Headline.{Inputs, system_of}
 use Rattle.fb_types.specs.Numbers.{path_at, port_of, carried_of, line_of}
@@ -65,7 +65,7 @@ asked before Keep = before
 asked before Clear = Clear
 asked before (At tick) = At tick
 
--- The blocks stand for what a reaction comes to, and so does what was put out behind what the outbox had before.
+-- The blocks represent the result of a reaction, and so does what was put out after what the outbox had before.
 pub record Stands (i : Inputs) (before : Gathered) (f : Forest) (x : Outbox) (o : Outcome) : Type 0 where
   pub world : IsForest i f o.world
   pub lines : map (line_of (system_of i)) x.lines.items ≡ before.lines ++ o.lines

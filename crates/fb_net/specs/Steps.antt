@@ -1,4 +1,4 @@
--- What each step of the taking of an event stands on, and what it leaves.
+-- What each step of taking an event rests on, and what it leaves.
 use Rattle.std.specs.Prelude.{◌≡◌, ◌<◌, ◌≤◌, ℕ, List, true, Result, length, map}
 use Rattle.fb_types.specs.Headline.{Inputs, system_of}
 use Rattle.fb_types.specs.Numbers.{emission_of, line_of, path_at, ports_at}
@@ -11,7 +11,7 @@ use Rattle.fb_types.specs.declared.run.Halt.{Halt}
 use Rattle.fb_types.specs.declared.run.Target.{Target}
 use Rattle.fb_types.specs.declared.value.Value.{Value}
 use Rattle.fb_laws.specs.Typed.{IsTypedEvent}
-use Rattle.fb_net.specs.Arrivals.{Arrives, ComesTo, HasReacted, IsReady, StandTyped, Tells}
+use Rattle.fb_net.specs.Arrivals.{Arrives, ComesTo, HasReacted, IsReady, AreTypedAt, Tells}
 use Rattle.fb_net.specs.Emitting.{EmitsSo, HasEmitted}
 use Rattle.fb_net.specs.Events.{HasTaken, IsEventIn, Remembered, event_of}
 use Rattle.fb_net.specs.Outs.{AreOuts}
@@ -50,7 +50,7 @@ pub record MayArrive (t : Taking) (at : Target) : Type 0 where
 pub record MayTake (t : Taking) (e : Event) : Type 0 where
   pub event : IsEventIn t.system.now t.forest.now.resource e
   pub ready : MayBegin t
-  pub belongs : StandTyped t.system.now t.forest.now
+  pub belongs : AreTypedAt t.system.now t.forest.now
   pub typed : IsTypedEvent (system_in t) (event_of t.system.now e)
 
 -- ---- After
@@ -59,7 +59,7 @@ pub record MayTake (t : Taking) (e : Event) : Type 0 where
 abbrev pub ArePutOut : Taking → Taking → Type 0
 ArePutOut old new = AreOuts (system_in old) new.forest.now.resource new.outbox.now
 
--- A step has come to what the model makes of it.
+-- A step has the result that the model gives it.
 abbrev pub HasDone : (World → ℕ → Outcome) → Taking → Taking → Type 0
 HasDone step old new = ComesTo old.system.now step old.forest.now old.outbox.now new.forest.now new.outbox.now
 
@@ -76,9 +76,9 @@ EmitsAll old k es new = EmitsSo old.system.now old.key.now k old.forest.now old.
 abbrev pub EmitsWell : Taking → (instance : ℕ) → List Emission → Taking → Type 0
 EmitsWell old k es new = HasEmitted old.system.now old.key.now k old.forest.now old.outbox.now es new.forest.now new.outbox.now
 
--- A basic block has told the event that it took, with the values that it sampled, and what it emits.
-abbrev pub HasTold : Taking → Target → List Value → List Emission → Taking → Type 0
-HasTold old at values es new =
+-- A basic block has written the event that it took, with the values that it sampled, and what it emits.
+abbrev pub HasWritten : Taking → Target → List Value → List Emission → Taking → Type 0
+HasWritten old at values es new =
     Tells old.system.now old.key.now at.instance
     (line_of (system_in old) (record { key = old.key.now; taken = true; instance = at.instance; event = at.event; values = values }))
     (map (emission_of (ports_in old at.instance)) es) old.forest.now old.outbox.now new.forest.now new.outbox.now

@@ -32,7 +32,7 @@ pub record Changed {R : Type 0} (Ends : Block → R → Block → Type 0) (old :
   pub ends : Ends before r after
   pub stands : new ≡ put_at old way after
 
--- An own part stands on a way, and all others stay as they were.
+-- An own part rests on a way, and all others stay as they were.
 pub record PutAlone (old : List Block) (way : List ℕ) (own : Block) (new : List Block) : Type 0 where
   pub here : own_at new way ≡ Some own
   pub elsewhere : (other : List ℕ) → other ≢ way → own_at new other ≡ own_at old other

@@ -1,4 +1,4 @@
--- What the blocks of one resource stand for in the model (IEC 61499-1, 5.2 and 5.3; that a resource has trees of its own instances, and held copies, is this project's profile).
+-- What the blocks of one resource represent in the model (IEC 61499-1, 5.2 and 5.3; that a resource has trees of its own instances, and held copies, is this project's profile).
 use Rattle.std.specs.Prelude.{◌≡◌, ◌<◌, ◌≢◌, ℕ, Bool, false, List, [], ◌∷◌, length, Option, Some, unwrap_or, slice_get, slice_set}
 use Rattle.std.specs.BTreeMap.{get}
 use Rattle.std.specs.Ordering.{nat_cmp, bool_cmp, ordering_then}
@@ -32,7 +32,7 @@ use Rattle.fb_net.specs.declared.shell.Shell.{Shell}
 
 -- ---- Values by index
 
--- the value at an index, or 0 behind the end
+-- the value at an index, or 0 after the end
 abbrev pub value_in : List Value → ℕ → Value
 value_in values index = unwrap_or (slice_get values index) zero_value
 
@@ -46,7 +46,7 @@ input_names sys p = variable_names (ports_at sys p).inputs
 abbrev pub output_names : System → Path → List Name
 output_names sys p = variable_names (ports_at sys p).outputs
 
--- The values stand at the indexes of the names of some variables of an instance. Another name has what it begins with.
+-- The values are at the indexes of the names of some variables of an instance. Another name has what it begins with.
 pub record ValuesStand (sys : System) (p : Path) (names : List Name) (values : List Value) (all : Values) : Type 0 where
   pub each : length values ≡ length names
   pub at_index : (index : ℕ) (n : Name) (v : Value) → slice_get names index ≡ Some n → slice_get values index ≡ Some v → all n ≡ v
@@ -72,15 +72,15 @@ pub record EventStands (kind : EventKind) (s : State) (m : model.Memory) : Type 
   pub memory : m ≡ model.Remembers s.memory
 
 -- What a block of that kind remembers, and the variables of a basic block. A composite remembers nothing.
-abbrev pub NodeStands : Option Kind → Block-F Block → model.Memory → Values → Type 0
-NodeStands (Some (Basic t)) (Block-F.Basic s) m all = BasicStands t s m all
-NodeStands (Some (Event k)) (Block-F.Event s) m all = EventStands k s m
-NodeStands (Some (Composite t)) (Block-F.Composite bs) m all = m ≡ model.Nothing
-NodeStands k x m all = ⊥
+abbrev pub NodeRepresents : Option Kind → Block-F Block → model.Memory → Values → Type 0
+NodeRepresents (Some (Basic t)) (Block-F.Basic s) m all = BasicStands t s m all
+NodeRepresents (Some (Event k)) (Block-F.Event s) m all = EventStands k s m
+NodeRepresents (Some (Composite t)) (Block-F.Composite bs) m all = m ≡ model.Nothing
+NodeRepresents k x m all = ⊥
 
--- The block stands for that one at a path. Its components stand for others.
+-- The block represents that one at a path. Its components represent others.
 abbrev pub StandsFor : System → Path → Block → model.Block → Type 0
-StandsFor sys p x b = NodeStands (sys.kind p) (out-Block x) b.memory b.variables
+StandsFor sys p x b = NodeRepresents (sys.kind p) (out-Block x) b.memory b.variables
 
 -- ---- The shells of one resource
 
@@ -92,19 +92,19 @@ seat_in seats k = unwrap_or (slice_get seats k) 0
 abbrev pub with_seated : Forest → (instance : ℕ) → Shell → Forest
 with_seated t k s = record t { shells = slice_set t.shells (seat_in t.seats k) s }
 
--- The shell at the seat of an instance stands for it.
+-- The shell at the seat of an instance represents it.
 pub record SeatedAt (i : Inputs) (seats : List ℕ) (shells : List Shell) (k : ℕ) (b : model.Block) : Type 0 where
   pub shell : Shell
   pub stood : slice_get shells (seat_in seats k) ≡ Some shell
   pub stands : ShellStands (system_of i) (path_at (system_of i) k) shell b
 
--- A shell was found that stands for an instance.
+-- A shell was found that represents an instance.
 pub record Found (i : Inputs) (k : ℕ) (b : model.Block) (found : Option Shell) : Type 0 where
   pub shell : Shell
   pub is : found ≡ Some shell
   pub stands : ShellStands (system_of i) (path_at (system_of i) k) shell b
 
--- No two of the first instances of a resource, of which there are so many, have one seat.
+-- No two of the first instances of a resource, of which there are this many, have one seat.
 unfoldable pub AreApart : Inputs → (resource count : ℕ) → List ℕ → Type 0
 AreApart i r n seats =
     (j k : ℕ) → j < n → k < n → (system_of i).resource (path_at (system_of i) j) ≡ r → (system_of i).resource (path_at (system_of i) k) ≡ r →
@@ -121,7 +121,7 @@ rooted roots (index ∷ rest) = seat_in roots index ∷ rest
 abbrev pub way_in : Inputs → (roots : List ℕ) → (instance : ℕ) → List ℕ
 way_in i roots k = rooted roots (route_to i.library (path_at (system_of i) k))
 
--- The own part of the block on its way stands for an instance.
+-- The own part of the block on its way represents an instance.
 pub record StandsAt (i : Inputs) (roots : List ℕ) (blocks : List Block) (k : ℕ) (b : model.Block) : Type 0 where
   pub own : Block
   pub stood : own_at blocks (way_in i roots k) ≡ Some own
@@ -169,17 +169,17 @@ InForest i t k = (system_of i).resource (path_at (system_of i) k) ≡ t.resource
 abbrev pub IsComposite : System → InstanceVariable → Type 0
 IsComposite sys x = IsCompositeAt sys x.instance
 
--- The value is what a part of the instance's block holds for a variable, in each world that the blocks stand for.
+-- The value is what a part of the instance's block holds for a variable, in each world that the blocks represent.
 abbrev pub Reads : Inputs → Forest → InstanceVariable → (model.Block → Values) → Value → Type 0
 Reads i t x part v =
     let sys = system_of i in
     (w : World) → IsForest i t w → InForest i t x.instance → v ≡ part (w.blocks (variable_of sys x).at) (variable_of sys x).name
 
--- The value is what a source in the resource shows, in each world that the blocks stand for.
+-- The value is what a source in the resource shows, in each world that the blocks represents.
 abbrev pub Sees : Inputs → Forest → InstanceVariable → Value → Type 0
 Sees i t x v = (w : World) → IsForest i t w → InForest i t x.instance → IsSource (system_of i) x → v ≡ seen (system_of i) w (variable_of (system_of i) x)
 
--- .. what a source shows in the resource, wherever it lies
+-- .. what a source shows in the resource, wherever it is
 abbrev pub Shows : Inputs → Forest → InstanceVariable → Value → Type 0
 Shows i t x v =
     (w : World) → IsForest i t w → IsRead (system_of i) t.resource x → IsSource (system_of i) x →

@@ -1,4 +1,4 @@
-//! An event that comes to the blocks of a resource.
+//! An event that arrives at the blocks of a resource.
 
 ghost use Rattle.std.specs.Prelude.{◌≡◌};
 ghost use Rattle.fb_net.specs.Events.{key_at};

@@ -4,11 +4,11 @@ ghost use Rattle.std.specs.Prelude.{◌≡◌, ◌≢◌, ◌∷◌, [], ◌≤�
 ghost use Rattle.fb_types.specs.Blocks.{Basic, Event};
 ghost use Rattle.fb_types.specs.Numbers.{path_at};
 ghost use Rattle.fb_types.specs.declared.library.BasicType.{BasicType};
-ghost use Rattle.fb_net.specs.Arrivals.{StandTyped, entering, leaving, reacting, sampling};
+ghost use Rattle.fb_net.specs.Arrivals.{AreTypedAt, entering, leaving, reacting, sampling};
 ghost use Rattle.fb_net.specs.Events.{Remembered};
 ghost use Rattle.fb_net.specs.Leaves.{IsOne};
 ghost use Rattle.fb_net.specs.Samples.{names_in};
-ghost use Rattle.fb_net.specs.Steps.{ArePutOut, HasArrived, HasDone, HasTold, IsKept, IsSame, MayArrive, MayBegin, ports_in, system_in};
+ghost use Rattle.fb_net.specs.Steps.{ArePutOut, HasArrived, HasDone, HasWritten, IsKept, IsSame, MayArrive, MayBegin, ports_in, system_in};
 ghost use Rattle.fb_system.specs.Lines.{IsEmission};
 ghost use Rattle.fb_system.specs.Ports.{IsCompositeAt, IsTarget};
 ghost use Rattle.fb_system.specs.Stands.{AreIndexes};
@@ -31,7 +31,7 @@ use std::alloc::AllocError;
 
 impl Taking<'_> {
     /// An event block or a composite takes an event at an event input: it keeps what the variables WITH the event
-    /// sample, and the line of the event tells their values.
+    /// sample, and the line of the event says their values.
     #[inline(always)]
     fn take_samples(&mut self, at: Target) -> Result<(), AllocError>
         requires index { MayArrive self.old at }
@@ -54,7 +54,7 @@ impl Taking<'_> {
         self.take_values(at, indexes)
     }
 
-    /// .. where the variables WITH the event stand at `indexes`.
+    /// .. where the variables WITH the event are at `indexes`.
     fn take_values(&mut self, at: Target, indexes: &[u32]) -> Result<(), AllocError>
         requires index { MayArrive self.old at }
         requires input { at.is_output ≡ false }
@@ -67,7 +67,7 @@ impl Taking<'_> {
         ensures kept { IsKept self.old self.new }
         ensures same { IsSame self.old self.new }
     {
-        // Mostly there is one variable, and nothing is to be walked over.
+        // Mostly there is one variable, and there is nothing to walk over.
         if let [variable] = indexes {
             return self.take_value(at, *variable);
         }
@@ -112,7 +112,7 @@ impl Taking<'_> {
         requires input { at.is_output ≡ false }
         requires kind { (system_in self.old).kind (path_at (system_in self.old) at.instance) ≡ Some (Event kind) }
         requires sound { IsTypedSystem (system_in self.old) }
-        requires typed { StandTyped self.old.system.now self.old.forest.now }
+        requires typed { AreTypedAt self.old.system.now self.old.forest.now }
         ensures reacted { OnOk result (HasDone (reacting self.old.system.now self.old.key.now kind at) self.old self.new) }
         ensures outs { OnOk result (ArePutOut self.old self.new) }
 
@@ -181,7 +181,7 @@ impl Taking<'_> {
         requires input { at.is_output ≡ false }
         requires counted { length values ≡ length (names_in (system_in self.old) at) }
         requires emissions { All (IsEmission (ports_in self.old at.instance)) emits.old }
-        ensures told { OnOk result (HasTold self.old at values emits.old self.new) }
+        ensures told { OnOk result (HasWritten self.old at values emits.old self.new) }
         ensures outs { OnOk result (ArePutOut self.old self.new) }
 
         // Also where memory runs out.
@@ -195,7 +195,7 @@ impl Taking<'_> {
     /// An event arrives at an event input of a basic block. `emits` is room for what it emits.
     ///
     /// # Errors
-    /// `Halt::Stop` where a reason ends the reaction: what was emitted before it stands.
+    /// `Halt::Stop` where a reason ends the reaction: what was emitted before it is kept.
     fn arrive_basic(
         &mut self,
         block: &BasicType,
@@ -235,13 +235,13 @@ impl Taking<'_> {
     /// An event arrives at a port of an instance. `emits` is room for what a leaf emits.
     ///
     /// # Errors
-    /// `Halt::Stop` where a reason ends the reaction: what was put out before it stands.
+    /// `Halt::Stop` where a reason ends the reaction: what was put out before it is kept.
     #[inline(always)]
     pub fn arrive(&mut self, at: Target, meter: &mut Meter, emits: &mut Emits) -> Result<(), Halt>
         requires target { IsTarget (system_in self.old) at }
         requires here { InForest self.old.system.now self.old.forest.now at.instance }
         requires ready { MayBegin self.old }
-        requires typed { StandTyped self.old.system.now self.old.forest.now }
+        requires typed { AreTypedAt self.old.system.now self.old.forest.now }
         ensures reacted { HasArrived self.old at meter.old.left result self.new meter.new.left }
         ensures outs { Remembered result (ArePutOut self.old self.new) }
         ensures fewer { meter.new.left ≤ meter.old.left }

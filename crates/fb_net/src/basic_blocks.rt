@@ -20,11 +20,11 @@ use fb_st::Meter;
 use fb_system::System;
 use fb_types::{BasicType, Emits, Halt, Items, Target, Value};
 
-/// The reaction of a basic block, which lies in the resource, to one of its event inputs. `values` are the sampled
+/// The reaction of a basic block, which is in the resource, to one of its event inputs. `values` are the sampled
 /// values of the variables WITH the event. What it emits is put into `emits`, which is empty before.
 ///
 /// # Errors
-/// `Halt::Stop` where a reason ends the reaction: the emissions before it stand. `Halt::Memory`, after which each
+/// `Halt::Stop` where a reason ends the reaction: the emissions before it are kept. `Halt::Memory`, after which each
 /// instance has its block still, and no more is said.
 pub fn react_basic(
     forest: &mut Forest,
@@ -55,7 +55,7 @@ pub fn react_basic(
     react_at(blocks, first, below, block, at.event, values, meter, emits)
 }
 
-/// The reaction of the basic block on a way, where it stands: goes down by the first index, and on by those below.
+/// The reaction of the basic block on a way, where it is: goes down by the first index, and on by those below.
 ///
 /// # Errors
 /// As of `react_basic`.

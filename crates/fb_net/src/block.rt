@@ -1,4 +1,4 @@
-//! A function block with what stands inside it.
+//! A function block with what is inside it.
 
 ghost use Rattle.std.specs.Prelude.{◌≡◌, [], IfSome, IfNone};
 
@@ -6,8 +6,8 @@ use fb_ecc::BasicState;
 use fb_event::EventState;
 use fb_types::Items;
 
-/// A function block with what stands inside it: what only a reaction reads and changes. What connections and stimuli set
-/// of an instance stands apart from its block (`shell::Shell`).
+/// A function block with what is inside it: what only a reaction reads and changes. What connections and stimuli set
+/// of an instance is apart from its block (`shell::Shell`).
 #[derive(Drop)]
 pub enum Block {
     /// A basic block: where its chart is, and its variables.

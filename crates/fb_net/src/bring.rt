@@ -14,8 +14,8 @@ use crate::resource::Forest;
 use fb_system::{SlotValue, System};
 use fb_types::{Carried, InstanceVariable, Target, Value};
 
-/// Gives the variables WITH an event input, which stand at `indexes`, the values that they sampled. The instance is an
-/// event block or a composite, and lies in the resource.
+/// Gives the variables WITH an event input, which are at `indexes`, the values that they sampled. The instance is an
+/// event block or a composite, and is in the resource.
 pub fn keep_samples(
     forest: &mut Forest,
     system: &System,
@@ -40,7 +40,7 @@ pub fn keep_samples(
     }
 }
 
-/// Sets the slots of a stimulus, at an instance that lies in the resource.
+/// Sets the slots of a stimulus, at an instance that is in the resource.
 pub fn set_slots(forest: &mut Forest, system: &System, instance: u32, sets: &[SlotValue])
     requires instance { instance < length (system_of system.now).paths }
     requires within { All (λ s. s.index < length (ports_at (system_of system.now) (path_at (system_of system.now) instance)).inputs) sets.now }

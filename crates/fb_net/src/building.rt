@@ -16,7 +16,7 @@ use fb_types::Items;
 use std::alloc::{AllocError, Global};
 use std::collections::BTreeMap;
 
-/// How many names deep an instance stands at most: the components of the highest composite's lowest one.
+/// How many names deep an instance is at most: the components of the highest composite's lowest one.
 const DEPTH: usize = 17;
 
 /// The blocks of a resource, each with what it begins with, and the held copies of the variables of other resources

@@ -22,7 +22,7 @@ use fb_types::{
 };
 use std::alloc::{AllocError, Global};
 
-/// Puts out an event that goes to a target: a local event where the target lies in the same resource, as most do, else a
+/// Puts out an event that goes to a target: a local event where the target is in the same resource, as most do, else a
 /// message.
 #[inline(always)]
 fn put_out(
@@ -120,7 +120,7 @@ pub fn send_out(
     send_others(outs, resource, system, from, indexes, values)
 }
 
-/// .. to where its connections behind the first lead.
+/// .. to where its connections after the first lead.
 #[inline(never)]
 fn send_others(
     outs: &mut Vec<Out>,
@@ -251,7 +251,7 @@ impl Taking<'_> {
         self.emit_at(instance, emission, indexes)
     }
 
-    /// Emits one output event, whose variables stand at `indexes`. Errors are as of `emit_one`.
+    /// Emits one output event, whose variables are at `indexes`. Errors are as of `emit_one`.
     #[inline(always)]
     pub fn emit_at(
         &mut self,
@@ -362,7 +362,7 @@ impl Taking<'_> {
         self.emit_others(instance, emits)
     }
 
-    /// .. those behind the first.
+    /// .. those after the first.
     #[inline(never)]
     fn emit_others(&mut self, instance: u32, emits: &mut Emits) -> Result<(), AllocError>
         requires index { MayEmit self.old instance }

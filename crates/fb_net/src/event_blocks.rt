@@ -18,7 +18,7 @@ use fb_event::{expire, react};
 use fb_system::System;
 use fb_types::{Emits, EventKind, Halt, Items, Target, TimerAsk, Value};
 
-/// The reaction of an event block, which lies in the resource and has sampled its inputs, to one of its event inputs,
+/// The reaction of an event block, which is in the resource and has sampled its inputs, to one of its event inputs,
 /// in a tick that is at most 10^12. What it emits is put into `emits`, which is empty before.
 ///
 /// # Errors
@@ -81,13 +81,13 @@ fn react_at(
     ensures only_memory { IfErr result (λ halt. halt ≡ Halt.Memory) }
 {
     match below {
-        // Most event blocks stand in no composite.
+        // Most event blocks are in no composite.
         [] => react_here(blocks, first, event, tick, inputs, emits, ask),
         [_, ..] => react_below(blocks, first, below, event, tick, inputs, emits, ask),
     }
 }
 
-/// .. of one that may stand in a composite.
+/// .. of one that may be in a composite.
 fn react_below(
     blocks: &mut Items<Block>,
     first: usize,
@@ -147,7 +147,7 @@ fn react_here(
     }
 }
 
-/// The reaction of an event block, which lies in the resource, to its timer, in a tick that is at most 10^12. What it
+/// The reaction of an event block, which is in the resource, to its timer, in a tick that is at most 10^12. What it
 /// emits is put into `emits`, which is empty before.
 ///
 /// # Errors
@@ -181,7 +181,7 @@ pub fn expire_event(
     expire_at(blocks, first, below, tick, emits, ask)
 }
 
-/// The reaction of the event block on a way to its timer, where it stands: goes down by the first index, and on by those
+/// The reaction of the event block on a way to its timer, where it is: goes down by the first index, and on by those
 /// below.
 ///
 /// # Errors

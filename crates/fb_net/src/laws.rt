@@ -3,7 +3,7 @@
 ghost use Rattle.fb_net.specs.Trees.{OthersStay};
 
 /// A block that becomes one with the same components changes alone: what belongs to any other block of the trees,
-/// above it, below it or beside it, stays as it was.
+/// above it, below it or next to it, stays as it was.
 pub fn others_stay()
     ensures { OthersStay }
 {}

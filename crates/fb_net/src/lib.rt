@@ -1,14 +1,14 @@
-//! The blocks of one resource, with its held copies, and the taking of one event by them.
+//! The blocks of one resource, with its held copies, and taking one event by them.
 //!
-//! Guarantees to callers: `Tree::build` gives blocks and held copies that stand for the opening state of the definitions.
-//! After `Tree::take`, blocks, held copies, lines, what goes out, timer, steps and the reason to stop are those of the
-//! definitions, at a leaf or at a composite, also where the resource stops (`HasTaken`).
+//! Guarantees to callers: `Tree::build` gives blocks and held copies that represent the opening state of the
+//! definitions. After `Tree::take`, blocks, held copies, lines, what goes out, timer, steps and the reason to stop are
+//! those of the definitions, at a leaf or at a composite, also where the resource stops (`HasTaken`).
 //!
 //! Read in this order: `block`, the recursive type, and `shell`, what connections and stimuli set of an instance; `resource`, the
 //! ways to the blocks and the seats of the shells, what is asked and changed; `laws`, what the change of one block leaves as it
 //! was; `building`, how they are made before the first event, with `opening_charts`, `opening_blocks`, `opening_trees`,
 //! `opening_roots`, `opening_shells`, `opening_seats` and `opening_copies`. Then the taking: `arrival` and `tree`; `taking`,
-//! what its steps share; `take`, by what the event is; `arrive`, by what it comes to; `samples`, what an event samples and
+//! what its steps share; `take`, by what the event is; `arrive`, by its result; `samples`, what an event samples and
 //! what composites show from inside; `bring`, slots and held copies that are set; `event_blocks` and `basic_blocks`, the
 //! reactions of leaves; `outbox` and `emit`, emissions with their lines, local events and messages. What goes out has no
 //! keys.

@@ -86,8 +86,8 @@ fn basic_of(
     opened_of(alloc, system, instance, block, chart)
 }
 
-/// The block of an instance. Where it is a composite, the components stand inside it; for others there are none. The charts
-/// are those of the types of the basic blocks that were made before.
+/// The block of an instance. Where it is a composite, the components are inside it; for others there are none. The
+/// charts are those of the types of the basic blocks that were made before.
 pub(crate) fn block_of(
     alloc: Global,
     system: &System,

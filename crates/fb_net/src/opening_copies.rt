@@ -24,7 +24,7 @@ fn initial(alloc: Global, system: &System, variable: InstanceVariable) -> Result
     Ok(values.as_slice()[variable.variable as usize])
 }
 
-/// Holds a copy of what a variable is connected to, where that lies in another resource.
+/// Holds a copy of what a variable is connected to, where that is in another resource.
 fn hold(
     alloc: Global,
     system: &System,

@@ -1,4 +1,4 @@
-//! The roots of the trees of a resource: the instances of the application that lie in it.
+//! The roots of the trees of a resource: the instances of the application that are in it.
 
 ghost use Rattle.std.specs.Prelude.{IfOk};
 ghost use Rattle.fb_net.specs.Opening.{AreRooted};
@@ -13,7 +13,7 @@ pub(crate) struct Roots {
     /// For each instance of the application, in the order of the text, its index among the roots. That of an instance of
     /// another resource means nothing.
     pub indexes: Items<usize>,
-    /// The instances of the application that lie in the resource, in the order of the text.
+    /// The instances of the application that are in the resource, in the order of the text.
     pub instances: Items<u32>,
 }
 

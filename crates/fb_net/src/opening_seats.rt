@@ -9,7 +9,7 @@ use crate::resource::Forest;
 use fb_system::System;
 use std::alloc::{AllocError, Global};
 
-/// Gives an instance its seat, and makes its shell where it lies in the resource. All before it have theirs.
+/// Gives an instance its seat, and makes its shell where it is in the resource. All before it have theirs.
 fn seat_one(
     alloc: Global,
     system: &System,
@@ -32,7 +32,7 @@ fn seat_one(
     forest.shells.push(shell)
 }
 
-/// Makes the shells of the instances that lie in the resource, in the order of their numbers.
+/// Makes the shells of the instances that are in the resource, in the order of their numbers.
 pub(crate) fn seat_all(
     alloc: Global,
     system: &System,

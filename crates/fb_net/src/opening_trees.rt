@@ -1,4 +1,4 @@
-//! Blocks with all that stands inside them, before the first event.
+//! Blocks with all that is inside them, before the first event.
 
 ghost use Rattle.std.specs.Prelude.{IfOk, OnOk};
 ghost use Rattle.fb_net.specs.Opening.{AreCharts, AreDeep, AreGrown};

@@ -1,4 +1,4 @@
-//! What the taking of an event puts out.
+//! What taking an event puts out.
 
 ghost use Rattle.std.specs.Prelude.{◌≡◌};
 ghost use Rattle.fb_net.specs.Outs.{asked};

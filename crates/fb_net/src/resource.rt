@@ -29,13 +29,13 @@ pub struct Forest {
     /// For each instance of the application, in the order of the text, the index of its block among `blocks`. That of an
     /// instance of another resource means nothing.
     pub roots: Items<usize>,
-    /// The blocks of the instances of the application that lie in the resource, in the order of the text. All others stand
-    /// inside these.
+    /// The blocks of the instances of the application that are in the resource, in the order of the text. All others
+    /// are inside these.
     pub blocks: Items<Block>,
     /// For each instance of the system, the index of its shell among `shells`. That of an instance of another resource
     /// means nothing.
     pub seats: Items<u32>,
-    /// The shells of the instances that lie in the resource, in the order of their numbers. They stand side by side, and
+    /// The shells of the instances that are in the resource, in the order of their numbers. They are side by side, and
     /// so each is found at once, however deep its block is.
     pub shells: Items<Shell>,
     pub held: HeldCopies,
@@ -55,7 +55,7 @@ impl Drop for Forest {
     }
 }
 
-/// What stands for a value that is not there.
+/// What represents a value that is not there.
 const NOTHING: Value = Value::Whole(0);
 
 impl Forest {
@@ -63,7 +63,7 @@ impl Forest {
     ghost use Rattle.fb_net.specs.contracts.shell.Shell.{the_row as shell_row};
     ghost use Rattle.fb_net.specs.contracts.resource.Forest.{the_row};
 
-    /// The index of an application's instance among the blocks of the resource, in which the instance lies.
+    /// The index of an application's instance among the blocks of the resource, in which the instance is.
     #[inline(always)]
     fn root(&self, index: u32) -> usize
         ensures { result ≡ seat_in self.now.roots index }
@@ -74,8 +74,8 @@ impl Forest {
         }
     }
 
-    /// The way to the block of an instance that lies in the resource: an index among `blocks`, and the indexes below, each
-    /// among the components of the block before.
+    /// The way to the block of an instance that is in the resource: an index among `blocks`, and the indexes below,
+    /// each among the components of the block before.
     #[inline(always)]
     pub fn way<'a>(&self, system: &'a System, instance: u32) -> (usize, &'a [u32])
         requires { instance < length (system_of system.now).paths }
@@ -88,7 +88,7 @@ impl Forest {
         }
     }
 
-    /// The index of an instance's shell among those of the resource, in which the instance lies.
+    /// The index of an instance's shell among those of the resource, in which the instance is.
     #[inline(always)]
     pub fn seat(&self, instance: u32) -> usize
         ensures { result ≡ seat_in self.now.seats instance }
@@ -99,7 +99,7 @@ impl Forest {
         }
     }
 
-    /// The shell of an instance that lies in the resource.
+    /// The shell of an instance that is in the resource.
     #[inline(always)]
     pub fn shell(&self, system: &System, instance: u32) -> Option<&Shell>
         requires { instance < length (system_of system.now).paths }
@@ -110,7 +110,7 @@ impl Forest {
         self.shells.get(self.seat(instance))
     }
 
-    /// The shell of an instance that lies in the resource, to be changed.
+    /// The shell of an instance that is in the resource, to be changed.
     #[inline(always)]
     fn shell_mut(&mut self, instance: u32) -> Option<&mut Shell>
         ensures* writes_back { sem 𝓛 (LendsIf the_row shell_row self.entry result (with_seated self.old instance) self.old) }
@@ -120,7 +120,7 @@ impl Forest {
         self.shells.get_mut(seat)
     }
 
-    /// What a connection or a stimulus has set at a data input of an instance that lies in the resource.
+    /// What a connection or a stimulus has set at a data input of an instance that is in the resource.
     #[inline(always)]
     pub fn slot(&self, system: &System, input: InstanceVariable) -> Value
         requires variable { IsVariable (system_of system.now) input }
@@ -133,7 +133,7 @@ impl Forest {
         }
     }
 
-    /// What connections see at a data output of an instance that lies in the resource.
+    /// What connections see at a data output of an instance that is in the resource.
     #[inline(always)]
     pub fn published(&self, system: &System, output: InstanceVariable) -> Value
         requires variable { IsVariable (system_of system.now) output }
@@ -159,7 +159,7 @@ impl Forest {
         }
     }
 
-    /// What connections see at a source that lies in the resource.
+    /// What connections see at a source that is in the resource.
     #[inline(always)]
     fn seen(&self, system: &System, source: InstanceVariable) -> Value
         requires { IsVariable (system_of system.now) source }
@@ -182,7 +182,7 @@ impl Forest {
         self.held.get(&key).copied().unwrap_or(NOTHING)
     }
 
-    /// What a source shows in the resource: what connections see at it, or the held copy where it lies in another
+    /// What a source shows in the resource: what connections see at it, or the held copy where it is in another
     /// resource.
     #[inline(always)]
     pub fn shown(&self, system: &System, source: InstanceVariable) -> Value
@@ -196,7 +196,7 @@ impl Forest {
         }
     }
 
-    /// What a data input of an instance that lies in the resource samples: what its source shows, or else what a
+    /// What a data input of an instance that is in the resource samples: what its source shows, or else what a
     /// stimulus has set.
     #[inline(always)]
     pub fn sampled(&self, system: &System, input: InstanceVariable) -> Value
@@ -210,7 +210,7 @@ impl Forest {
         }
     }
 
-    /// What a data output of a composite that lies in the resource shows from inside: what its inner source shows, or
+    /// What a data output of a composite that is in the resource shows from inside: what its inner source shows, or
     /// else what it showed before.
     #[inline(always)]
     pub fn shown_inside(&self, system: &System, output: InstanceVariable) -> Value
@@ -225,7 +225,7 @@ impl Forest {
         }
     }
 
-    /// A stimulus brings a value to a data input of an instance that lies in the resource.
+    /// A stimulus brings a value to a data input of an instance that is in the resource.
     pub fn set_slot(&mut self, system: &System, input: InstanceVariable, value: Value)
         requires variable { IsVariable (system_of system.now) input }
         requires input { input.is_output ≡ false }
@@ -237,7 +237,7 @@ impl Forest {
         }
     }
 
-    /// A data output of an instance that lies in the resource shows another value to connections.
+    /// A data output of an instance that is in the resource shows another value to connections.
     #[inline(always)]
     pub fn publish(&mut self, system: &System, output: InstanceVariable, value: Value)
         requires variable { IsVariable (system_of system.now) output }
@@ -250,7 +250,7 @@ impl Forest {
         }
     }
 
-    /// An event block or a composite that lies in the resource samples a data input.
+    /// An event block or a composite that is in the resource samples a data input.
     #[inline(always)]
     pub fn set_input(&mut self, system: &System, input: InstanceVariable, value: Value)
         requires variable { IsVariable (system_of system.now) input }

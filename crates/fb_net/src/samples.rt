@@ -12,8 +12,8 @@ use fb_system::System;
 use fb_types::{InstanceVariable, Target, Values};
 use std::alloc::{AllocError, Global};
 
-/// What the data inputs WITH an event input sample, in the order in which they are declared. They stand at `indexes`, and
-/// the instance lies in the resource.
+/// What the data inputs WITH an event input sample, in the order in which they are declared. They are at `indexes`, and
+/// the instance is in the resource.
 pub fn sampled_values(
     alloc: Global,
     forest: &Forest,
@@ -27,7 +27,7 @@ pub fn sampled_values(
     ensures sampled { IfOk result (AreSampled system.now forest.now at) }
     ensures counted { IfOk result (λ vs. length vs ≡ length (names_in (system_of system.now) at)) }
 {
-    // Mostly there is one value, and nothing is to be walked over.
+    // Mostly there is one value, and there is nothing to walk over.
     if let [index] = indexes {
         let input = InstanceVariable {
             instance: at.instance,
@@ -49,8 +49,8 @@ pub fn sampled_values(
     Ok(values)
 }
 
-/// What a composite, which lies in the resource, shows from inside of the data outputs WITH an event output, in the
-/// order in which they are declared. They stand at `indexes`.
+/// What a composite, which is in the resource, shows from inside of the data outputs WITH an event output, in the
+/// order in which they are declared. They are at `indexes`.
 pub fn shown_values(
     alloc: Global,
     forest: &Forest,

@@ -1,4 +1,4 @@
-//! The taking of an event, by what it is.
+//! Taking an event, by what it is.
 
 ghost use Rattle.std.specs.Prelude.{◌≡◌, ◌<◌, ◌≤◌, ◌^◌, ℕ, None, IfErr, OnOk, Some, length};
 ghost use Rattle.fb_types.specs.Blocks as model;

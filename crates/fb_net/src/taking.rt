@@ -8,8 +8,8 @@ use crate::resource::Forest;
 use fb_system::System;
 use fb_types::Key;
 
-/// The taking of one event: the system and the key of the event, which stay, the blocks of the resource, and what is
-/// put out. Its methods are the steps of the taking, by what the event is, what it comes to, and what is emitted.
+/// Taking one event: the system and the key of the event, which stay, the blocks of the resource, and what is
+/// put out. Its methods are the steps of the taking, by what the event is, its result, and what is emitted.
 #[derive(Drop)]
 pub(crate) struct Taking<'a> {
     pub system: &'a System,

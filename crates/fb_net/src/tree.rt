@@ -20,7 +20,7 @@ use fb_types::{Emits, Halt};
 use std::alloc::{AllocError, Global};
 use std::marker::Model;
 
-/// The blocks and held copies of one resource of a system. Contracts see what the blocks stand for in the model.
+/// The blocks and held copies of one resource of a system. Contracts see what the blocks represent in the model.
 pub struct Tree {
     forest: Forest,
     /// Room for what a leaf emits in one taking. It is kept from taking to taking.
@@ -78,13 +78,34 @@ impl Tree {
         self.forest.resource as u32
     }
 
-    /// Takes an event of the resource at a tick, which is at most 10^12 milliseconds. `meter` has the steps that are left in
-    /// the tick behind that of the event itself. Lines and events that go out are put behind those in the outbox. What was
-    /// asked of the timer before stays where the reaction asks nothing.
+    /// Takes an event of the resource at a tick, which is at most 10^12 milliseconds. `meter` has the steps that are
+    /// left in the tick after that of the event itself. Lines and events that go out are put after those in the outbox.
+    /// What was asked of the timer before stays where the reaction asks nothing.
     ///
     /// # Errors
-    /// `Halt::Stop` where a reason stops the resource: the lines before it stand. `Halt::Memory`, after which each
+    /// `Halt::Stop` where a reason stops the resource: the lines before it are kept. `Halt::Memory`, after which each
     /// instance of the resource has its block still, and no more is said of the blocks.
+    ///
+    /// # Example
+    ///
+    /// The test `a_tree_takes_a_timer` of `fb_parts_tests`, whose function `built` gives the blocks of a resource:
+    ///
+    /// ```
+    /// let declaration = "APPLICATION A FBS S : E_RESTART; END_FBS END_APPLICATION";
+    /// let system = accepted(&rt, rt.alloc(), declaration, "", "tick,event,values\n");
+    /// let mut tree = built(&rt, rt.alloc(), &system, 0);
+    /// let mut outbox = Outbox {
+    ///     lines: Vec::new(rt.alloc()),
+    ///     outs: Vec::new(rt.alloc()),
+    ///     timer: TimerAsk::Keep,
+    /// };
+    /// let mut meter = Meter { left: 100 };
+    /// assert!(rt; system.count() == 1 && system.resource(0) == 0);
+    /// tree.take(&system, Arrival::Timer(0), 0, &mut meter, &mut outbox).expect(&rt, "taken");
+    /// assert!(rt; outbox.lines.len() == 1 && outbox.outs.is_empty());
+    /// forget((tree, outbox));
+    /// discard_system(system);
+    /// ```
     pub fn take(
         &mut self,
         system: &System,

@@ -10,7 +10,7 @@ use Rattle.fb_read.specs.declared.time.Unit.{Unit}
 use Rattle.fb_read.specs.Blank.{Text, at}
 use Rattle.fb_read.specs.Words.{is_letter, is_word, upper, in_upper, word_len, word_of}
 use Rattle.fb_read.specs.Numbers.{digit_of, are_digits, value_of, small, number}
-use Rattle.fb_read.specs.Durations.{digits_at, behind_digits, unit_at, behind_unit, letters_len, name_of, ticks_of, next_part, small_product, small_sum, ended, parts, duration, falling_units}
+use Rattle.fb_read.specs.Durations.{digits_at, after_digits, unit_at, after_unit, letters_len, name_of, ticks_of, next_part, small_product, small_sum, ended, parts, duration, falling_units}
 use Rattle.fb_read.specs.Longest.{AreWord}
 
 upper_letter : (b : ℕ) → 65 ≤ b → b ≤ 90 → is_word b ≡ true
@@ -139,17 +139,17 @@ parts-word [] z n h = absurd cc
 parts-word (u ∷ less) z n h = go (parts-word less) (bytes_eq (unit_at z) (name_of u)) h
   where
     all : Option ℕ
-    all = small_sum (small_product (number 10 (digits_at z)) (ticks_of u)) (ended (behind_unit z) (parts less (next_part (behind_unit z))))
+    all = small_sum (small_product (number 10 (digits_at z)) (ticks_of u)) (ended (after_unit z) (parts less (next_part (after_unit z))))
 
-    go : ((z : Text) (n : ℕ) → parts less z ≡ Some n → AreWord z) → (t : Bool) → cond t (small_sum (small_product (number 10 (digits_at z)) (ticks_of u)) (ended (behind_unit z) (parts less (next_part (behind_unit z))))) (parts less z) ≡ Some n → AreWord z
+    go : ((z : Text) (n : ℕ) → parts less z ≡ Some n → AreWord z) → (t : Bool) → cond t (small_sum (small_product (number 10 (digits_at z)) (ticks_of u)) (ended (after_unit z) (parts less (next_part (after_unit z))))) (parts less z) ≡ Some n → AreWord z
     go again true h =
         let s = sum-parts _ _ n h in
         let p = product-part (number 10 (digits_at z)) (ticks_of u) s.0 s.2 in
         let digits = number-word 10 (digits_at z) p.0 (omega arith) p.1 in
-        let unit = letters-word (behind_digits z) in
-        let rest = behind-word less again (behind_unit z) s.1 s.3 in
-        let tail : AreWord (behind_digits z) = subst AreWord (take-append-drop _ (behind_digits z)) (AreWord-append (unit_at z) (behind_unit z) unit rest) in
-        subst AreWord (take-append-drop _ z) (AreWord-append (digits_at z) (behind_digits z) digits tail)
+        let unit = letters-word (after_digits z) in
+        let rest = behind-word less again (after_unit z) s.1 s.3 in
+        let tail : AreWord (after_digits z) = subst AreWord (take-append-drop _ (after_digits z)) (AreWord-append (unit_at z) (after_unit z) unit rest) in
+        subst AreWord (take-append-drop _ z) (AreWord-append (digits_at z) (after_digits z) digits tail)
     go again false h = again z n h
 
 pub duration-word : (z : Text) (n : ℕ) → duration (in_upper z) ≡ Some n → AreWord z

@@ -10,7 +10,7 @@ use Rattle.fb_read.specs.declared.time.Unit.TheVariants as unit
 use Rattle.fb_read.specs.Limits.{most}
 use Rattle.fb_read.specs.Blank.{Text, at}
 use Rattle.fb_read.specs.Numbers.{digit_of, are_digits, small, number}
-use Rattle.fb_read.specs.Durations.{name_of, ticks_of, falling_units, digits_len, letters_len, digits_at, behind_digits, unit_at, behind_unit, next_part, small_product, small_sum, ended, parts}
+use Rattle.fb_read.specs.Durations.{name_of, ticks_of, falling_units, digits_len, letters_len, digits_at, after_digits, unit_at, after_unit, next_part, small_product, small_sum, ended, parts}
 use Rattle.fb_read.specs.TimeParts.{IsPart, a_part, AreParts, a_last, a_further, apart, DurationsExactly}
 use Rattle.fb_read.proofs.ByteLaws.{digit-not-letter, digit-decimal, number-digits, decimal-first, bytes_same}
 
@@ -80,12 +80,12 @@ drop_at (x ∷ a) b n e = rw e (drop_at a b (length a) refl)
 record Front (d name y z : Text) : Type 0 where
   digits : digits_at z ≡ d
   unit : unit_at z ≡ name
-  behind : behind_unit z ≡ y
+  behind : after_unit z ≡ y
 
 front-of : (d : Text) (u : Unit) (y : Text) → NoLetters d → is_ascii_alphabetic (at y 0) ≡ false → Front d (name_of u) y (d ++ (name_of u ++ y))
 front-of d u y h e =
     let n = digits-of d u y h in
-    let rest : behind_digits (d ++ (name_of u ++ y)) ≡ name_of u ++ y = drop_at d (name_of u ++ y) _ n in
+    let rest : after_digits (d ++ (name_of u ++ y)) ≡ name_of u ++ y = drop_at d (name_of u ++ y) _ n in
     let m = letters-end (name_of u) y (name-letters u) e in
     record {
       digits = take_at d (name_of u ++ y) _ (sym n);
@@ -187,7 +187,7 @@ Reads us k = (z : Text) (n : ℕ) → parts us z ≡ Some n → Sound k z n
 
 -- a first part, and the sum of its ticks and those after it
 abbrev first_and_rest : Unit → List Unit → Text → Option ℕ
-first_and_rest u less z = small_sum (small_product (number 10 (digits_at z)) (ticks_of u)) (ended (behind_unit z) (parts less (next_part (behind_unit z))))
+first_and_rest u less z = small_sum (small_product (number 10 (digits_at z)) (ticks_of u)) (ended (after_unit z) (parts less (next_part (after_unit z))))
 
 product-is : (a : Option ℕ) (k n : ℕ) → small_product a k ≡ Some n → (m : ℕ) × (a ≡ Some m) × (m * k ≡ n)
 product-is None k n h = absurd cc
@@ -207,8 +207,8 @@ sum-is (Some x) None n h = absurd cc
 sum-is (Some x) (Some y) n h = let w = within (x + y) n h in record { x = x; y = y; x_is = refl; y_is = refl; sum_is = w.0; bounded = w.1 }
 
 -- the text is cut into digits, a unit and the rest
-split : (z : Text) → digits_at z ++ (unit_at z ++ behind_unit z) ≡ z
-split z = ap (λ (y : Text). digits_at z ++ y) (take-append-drop (letters_len (behind_digits z)) (behind_digits z)) ∙ take-append-drop (digits_len z) z
+split : (z : Text) → digits_at z ++ (unit_at z ++ after_unit z) ≡ z
+split z = ap (λ (y : Text). digits_at z ++ y) (take-append-drop (letters_len (after_digits z)) (after_digits z)) ∙ take-append-drop (digits_len z) z
 
 is-part : (u : Unit) (z : Text) (x : ℕ) → bytes_eq (unit_at z) (name_of u) ≡ true → small_product (number 10 (digits_at z)) (ticks_of u) ≡ Some x
     → IsPart u (digits_at z ++ unit_at z) x
@@ -239,9 +239,9 @@ sound (u ∷ less) k f z n h = go (sound less (ticks_of u) f.1) (bytes_eq (unit_
   where
     go : Reads less (ticks_of u) → (t : Bool) → bytes_eq (unit_at z) (name_of u) ≡ t → cond t (first_and_rest u less z) (parts less z) ≡ Some n → Sound k z n
     go again true e h =
-        let s = sum-is (small_product (number 10 (digits_at z)) (ticks_of u)) (ended (behind_unit z) (parts less (next_part (behind_unit z)))) n h in
-        let all = join u less (digits_at z ++ unit_at z) (behind_unit z) s.x s.y again (is-part u z s.x e s.x_is) s.y_is in
-        let whole : AreParts u z (s.x + s.y) = subst (λ (w : Text). AreParts u w (s.x + s.y)) (append_assoc (digits_at z) (unit_at z) (behind_unit z) ∙ split z) all in
+        let s = sum-is (small_product (number 10 (digits_at z)) (ticks_of u)) (ended (after_unit z) (parts less (next_part (after_unit z)))) n h in
+        let all = join u less (digits_at z ++ unit_at z) (after_unit z) s.x s.y again (is-part u z s.x e s.x_is) s.y_is in
+        let whole : AreParts u z (s.x + s.y) = subst (λ (w : Text). AreParts u w (s.x + s.y)) (append_assoc (digits_at z) (unit_at z) (after_unit z) ∙ split z) all in
         record { first = u; smaller = f.0; are_parts = subst (λ (m : ℕ). AreParts u z m) s.sum_is whole; bounded = s.bounded }
     go again false e h =
         let s = again z n h in
@@ -265,7 +265,7 @@ parts-first u z n (apart v w a y m k p lt q) = part-first v a (95 ∷ y) m p
 
 -- a part, with what follows it
 part-front : (u : Unit) (a y : Text) (n : ℕ) → IsPart u a n → is_ascii_alphabetic (at y 0) ≡ false
-    → (m : ℕ) × (unit_at (a ++ y) ≡ name_of u) × (number 10 (digits_at (a ++ y)) ≡ Some m) × (m * ticks_of u ≡ n) × (behind_unit (a ++ y) ≡ y)
+    → (m : ℕ) × (unit_at (a ++ y) ≡ name_of u) × (number 10 (digits_at (a ++ y)) ≡ Some m) × (m * ticks_of u ≡ n) × (after_unit (a ++ y) ≡ y)
 part-front u a y n (a_part v d m e) h =
     let f = front-of d v y (no-letters true d (number-digits 10 d m e)) h in
     rw append_assoc (m, f.unit, rw f.digits e, refl, f.behind)

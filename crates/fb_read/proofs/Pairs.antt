@@ -19,12 +19,12 @@ behind_then : {A B C : Type 0} (x : A) (k : Mark) (q : Parser B) (go : A → B �
 unfolding behind
 behind_then {A = A} {B = B} {C = C} x k q go ts = behind_none (expect k ts)
   where
-    behind_mark : (o : Outcome B) → and_then o (go x) ≡ and_then {A = A × B} (and_then o (λ y. pure (x, y))) (λ both. go both.0 both.1)
-    behind_mark (Ok y) = refl
-    behind_mark (Err e) = refl
+    after_mark : (o : Outcome B) → and_then o (go x) ≡ and_then {A = A × B} (and_then o (λ y. pure (x, y))) (λ both. go both.0 both.1)
+    after_mark (Ok y) = refl
+    after_mark (Err e) = refl
 
     behind_none : (o : Outcome (Unit {0})) → and_then o (λ u. q >>= go x) ≡ and_then {A = A × B} (and_then o (λ u. q >>= (λ y. pure (x, y)))) (λ both. go both.0 both.1)
-    behind_none (Ok u) = behind_mark (q u.1)
+    behind_none (Ok u) = after_mark (q u.1)
     behind_none (Err e) = refl
 
 -- two rules and a mark between them, and what continues with both

@@ -7,7 +7,7 @@ use Rattle.fb_read.specs.declared.error.ReadError.{ReadError}
 use Rattle.fb_read.specs.declared.error.ReadError.TheVariants as error
 use Rattle.fb_read.specs.Blank.{Text, skip, start}
 use Rattle.fb_read.specs.Front.{TokenFault, bad_byte, Found, front}
-use Rattle.fb_read.specs.Tokens.{Tokens, behind_mark, AreTokens, no_more, then_token, IsFirstFault, open_comment, is_here, is_later}
+use Rattle.fb_read.specs.Tokens.{Tokens, after_mark, AreTokens, no_more, then_token, IsFirstFault, open_comment, is_here, is_later}
 use Rattle.fb_read.specs.Parser.{Outcome, RuleFault, syntax, too_deep}
 use Rattle.fb_read.specs.Blocks.{library}
 use Rattle.fb_read.specs.BlocksGrammar.{IsLibrary}
@@ -145,24 +145,24 @@ Nothing text = (x : Library) → IsLibraryText text x → ⊥
 abbrev Barren : Text → Type 0
 Barren text = (x : Library) → IsDerived text x → ⊥
 
-at-tokens : (text : Text) (ts : Tokens) (x : Library) → AreTokens ts (behind_mark text) → IsDerived text x → IsLibrary x ts []
+at-tokens : (text : Text) (ts : Tokens) (x : Library) → AreTokens ts (after_mark text) → IsDerived text x → IsLibrary x ts []
 at-tokens text ts x a l = subst (λ (us : Tokens). IsLibrary x us []) (tokens-unique l.read a) l.derived
 
-nothing-parsed : (text : Text) (ts : Tokens) (f : RuleFault) → AreTokens ts (behind_mark text) → ended (library ts) ≡ Err f → Nothing text
+nothing-parsed : (text : Text) (ts : Tokens) (f : RuleFault) → AreTokens ts (after_mark text) → ended (library ts) ≡ Err f → Nothing text
 nothing-parsed text ts f a h x l = not_fitting ts f x h (at-tokens text ts x a l.derived) l.fits
 
-too-deep : (text : Text) (ts : Tokens) (f : RuleFault) (x : Library) → AreTokens ts (behind_mark text) → ended (library ts) ≡ Err f → IsDerived text x → f ≡ too_deep
+too-deep : (text : Text) (ts : Tokens) (f : RuleFault) (x : Library) → AreTokens ts (after_mark text) → ended (library ts) ≡ Err f → IsDerived text x → f ≡ too_deep
 too-deep text ts f x a h l = not_parsed ts f x h (at-tokens text ts x a l)
 
-pub barren-faulty : (text : Text) (f : TokenFault) → IsFirstFault f (behind_mark text) → Barren text
+pub barren-faulty : (text : Text) (f : TokenFault) → IsFirstFault f (after_mark text) → Barren text
 barren-faulty text f h x l = no-fault l.read h
 
-pub nothing-faulty : (text : Text) (f : TokenFault) → IsFirstFault f (behind_mark text) → Nothing text
+pub nothing-faulty : (text : Text) (f : TokenFault) → IsFirstFault f (after_mark text) → Nothing text
 nothing-faulty text f h x l = no-fault l.derived.read h
 
 -- ---- the result, if the text has tokens
 
-module _ (text : Text) (ts : Tokens) (short : length text ≤ most_bytes) (a : AreTokens ts (behind_mark text)) where
+module _ (text : Text) (ts : Tokens) (short : length text ≤ most_bytes) (a : AreTokens ts (after_mark text)) where
   pub is-declared : (r : Result Library ReadError) → Parses r (ended (library ts)) → IfOk r (λ x. IsLibraryText text x)
   is-declared (Ok x) h = record { derived = record { short = short; tokens = ts; read = a; derived = parsed-derived ts x h }; fits = parsed-fits ts x h }
   is-declared (Err e) h = tt
@@ -222,5 +222,5 @@ module _ (text : Text) (ts : Tokens) (short : length text ≤ most_bytes) (a : A
 -- ---- the result, if it has a fault
 
 -- another fault than the first one
-pub other-fault : (text : Text) (e : ReadError) (r : Result Library ReadError) (f g : TokenFault) → IsFirstFault f (behind_mark text) → (f ≡ g → ⊥) → (r ≡ Err e → ⊥) → RefusesWhere r e (HasTokenFault g text)
+pub other-fault : (text : Text) (e : ReadError) (r : Result Library ReadError) (f g : TokenFault) → IsFirstFault f (after_mark text) → (f ≡ g → ⊥) → (r ≡ Err e → ⊥) → RefusesWhere r e (HasTokenFault g text)
 other-fault text e r f g h apart other = record { only = λ k. absurd (other k); always = λ k. absurd (apart (fault-unique h k.first)) }

@@ -37,14 +37,14 @@ letters_len = prefix_len is_ascii_alphabetic
 abbrev pub digits_at : Text → Text
 digits_at z = take (digits_len z) z
 
-abbrev pub behind_digits : Text → Text
-behind_digits z = drop (digits_len z) z
+abbrev pub after_digits : Text → Text
+after_digits z = drop (digits_len z) z
 
 abbrev pub unit_at : Text → Text
-unit_at z = take (letters_len (behind_digits z)) (behind_digits z)
+unit_at z = take (letters_len (after_digits z)) (after_digits z)
 
-abbrev pub behind_unit : Text → Text
-behind_unit z = drop (letters_len (behind_digits z)) (behind_digits z)
+abbrev pub after_unit : Text → Text
+after_unit z = drop (letters_len (after_digits z)) (after_digits z)
 
 -- what follows an underscore between two parts
 abbrev pub next_part : Text → Text
@@ -71,7 +71,7 @@ unfoldable pub parts : List Unit → Text → Option ℕ
 parts [] z = None
 parts (u ∷ less) z =
     if bytes_eq (unit_at z) (name_of u)
-    then small_sum (small_product (number 10 (digits_at z)) (ticks_of u)) (ended (behind_unit z) (parts less (next_part (behind_unit z))))
+    then small_sum (small_product (number 10 (digits_at z)) (ticks_of u)) (ended (after_unit z) (parts less (next_part (after_unit z))))
     else parts less z
 
 abbrev pub duration : Text → Option ℕ

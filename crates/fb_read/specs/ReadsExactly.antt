@@ -9,7 +9,7 @@ use Rattle.fb_read.specs.ExpressionGrammar.{IsExpression}
 use Rattle.fb_read.specs.Statements.{body}
 use Rattle.fb_read.specs.StatementGrammar.{IsBody}
 
--- Behind: what may follow what is read; Fits: it keeps the limit
+-- After: what may follow what is read; Fits: it keeps the limit
 pub record ReadsExactly {A : Type 0} (parser : Parser A) (Derives : A → Tokens → Tokens → Type 0) (Behind : Tokens → Type 0) (Fits : A → Type 0) : Type 0 where
   -- what is read is derived, and keeps the limit
   pub derived : (x : A) (ts rest : Tokens) → parser ts ≡ Ok (x, rest) → Derives x ts rest

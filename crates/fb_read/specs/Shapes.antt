@@ -1,4 +1,4 @@
--- The shape of numbers and signs: what definitions that go from one byte to the next come to.
+-- The shape of numbers and signs: the result of definitions that go from one byte to the next.
 use Rattle.std.specs.Prelude.{◌≡◌, ◌<◌, ◌≤◌, ◌↔◌, ℕ, List, [], ◌∷◌, ◌++◌, length, take, slice_get, codes, All, Option, None, Some, true}
 use Rattle.fb_read.specs.Blank.{Text}
 use Rattle.fb_read.specs.Numbers.{are_digits, digit_of}
@@ -40,7 +40,7 @@ signs =
     ∷ ((codes ">", mark.Greater) ∷ ((codes ">=", mark.GreaterOrEqual) ∷ ((codes "+", mark.Plus) ∷ ((codes "*", mark.Star)
     ∷ ((codes "/", mark.Slash) ∷ ((codes "&", mark.Ampersand) ∷ [])))))))))))))))))))))
 
--- A sign of the list, of so many bytes, is what two bytes begin with.
+-- A sign of the list, of this many bytes, is what two bytes begin with.
 pub record Stands (all : List (Text × Mark)) (b next : ℕ) (k : Mark) (n : ℕ) : Type 0 where
   pub index : ℕ
   pub written : Text
@@ -48,7 +48,7 @@ pub record Stands (all : List (Text × Mark)) (b next : ℕ) (k : Mark) (n : ℕ
   pub front : take (length written) (b ∷ (next ∷ [])) ≡ written
   pub long : n ≡ length written
 
--- the longest of the signs that stand there, or none where none does
+-- the longest of the signs that are there, or none where none does
 abbrev pub IsLongest : List (Text × Mark) → (b next : ℕ) → Option (Mark × ℕ) → Type 0
 IsLongest all b next None = (k : Mark) (n : ℕ) → Stands all b next k n → ⊥
 IsLongest all b next (Some (k, n)) = Stands all b next k n × ((j : Mark) (m : ℕ) → Stands all b next j m → m ≤ n)

@@ -14,8 +14,8 @@ abbrev pub tokens_of : List Placed → Tokens
 tokens_of = map (λ p. p.token)
 
 -- what follows one leading byte order mark
-abbrev pub behind_mark : Text → Text
-behind_mark z = if at z 0 == 239 && (at z 1 == 187 && at z 2 == 191) then drop 3 z else z
+abbrev pub after_mark : Text → Text
+after_mark z = if at z 0 == 239 && (at z 1 == 187 && at z 2 == 191) then drop 3 z else z
 
 pub data AreTokens : Tokens → Text → Type 0 where
   no_more : {z : Text} → skip start z ≡ Some [] → AreTokens [] z

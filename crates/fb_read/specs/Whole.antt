@@ -5,7 +5,7 @@ use Rattle.fb_read.specs.declared.error.ReadError.{ReadError}
 use Rattle.fb_read.specs.declared.error.ReadError.TheVariants as error
 use Rattle.fb_read.specs.Blank.{Text}
 use Rattle.fb_read.specs.Front.{TokenFault}
-use Rattle.fb_read.specs.Tokens.{Tokens, behind_mark, AreTokens, IsFirstFault}
+use Rattle.fb_read.specs.Tokens.{Tokens, after_mark, AreTokens, IsFirstFault}
 use Rattle.fb_read.specs.Parser.{Outcome, RuleFault, syntax, too_deep}
 use Rattle.fb_read.specs.BlocksGrammar.{IsLibrary}
 use Rattle.fb_read.specs.Fits.{fits_library}
@@ -18,7 +18,7 @@ most_bytes = 1048576
 pub record IsDerived (text : Text) (library : Library) : Type 0 where
   pub short : length text ≤ most_bytes
   pub tokens : Tokens
-  pub read : AreTokens tokens (behind_mark text)
+  pub read : AreTokens tokens (after_mark text)
   pub derived : IsLibrary library tokens []
 
 -- This text declares this library: it is derived, and nothing in it nests too deep.
@@ -52,13 +52,13 @@ IsNesting error.Nesting = Unit {0}
 -- the text is short, and a byte or a token is the first that is at fault
 pub record HasTokenFault (fault : TokenFault) (text : Text) : Type 0 where
   pub short : length text ≤ most_bytes
-  pub first : IsFirstFault fault (behind_mark text)
+  pub first : IsFirstFault fault (after_mark text)
 
 -- the text is short, and has tokens
 pub record HasTokens (text : Text) : Type 0 where
   pub short : length text ≤ most_bytes
   pub tokens : Tokens
-  pub read : AreTokens tokens (behind_mark text)
+  pub read : AreTokens tokens (after_mark text)
 
 -- A result is this refusal exactly if the fact holds, unless memory runs out.
 pub record RefusesWhere (result : Result Library ReadError) (e : ReadError) (P : Type 0) : Type 0 where

@@ -69,7 +69,7 @@ impl<'a> Cursor<'a> {
         self.alloc
     }
 
-    /// An empty list for what is to be read.
+    /// An empty list for what must be read.
     pub fn no_items<T>(&self) -> Items<T>
         ensures { result ≡ [] }
     {

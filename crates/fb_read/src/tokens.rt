@@ -11,8 +11,8 @@ use fb_types::Items;
 use std::alloc::Global;
 
 /// What follows one leading byte order mark.
-fn behind_mark(text: &[u8]) -> &[u8]
-    ensures value { result.now ≡ spec.behind_mark text.now }
+fn after_mark(text: &[u8]) -> &[u8]
+    ensures value { result.now ≡ spec.after_mark text.now }
     ensures shorter { length result.now ≤ length text.now }
 {
     if at(text, 0) == 0xEF && at(text, 1) == 0xBB && at(text, 2) == 0xBF {
@@ -24,13 +24,13 @@ fn behind_mark(text: &[u8]) -> &[u8]
 
 /// The tokens of a text, each with its offset.
 pub fn lex(alloc: Global, text: &[u8]) -> Result<Items<Placed>, LexFault>
-    ensures found { IfOk result (λ found. AreTokens (spec.tokens_of found) (spec.behind_mark text.now)) }
+    ensures found { IfOk result (λ found. AreTokens (spec.tokens_of found) (spec.after_mark text.now)) }
     // A token takes a byte.
     ensures few { IfOk result (λ found. length found ≤ length text.now) }
-    ensures fault { IfErr result (λ e. Tells e (spec.behind_mark text.now)) }
+    ensures fault { IfErr result (λ e. Tells e (spec.after_mark text.now)) }
 {
     let mut found = Items::new(alloc);
-    let mut rest = behind_mark(text);
+    let mut rest = after_mark(text);
     'tokens: loop {
         let Some(here) = skip(rest) else {
             return Err(LexFault::Token);

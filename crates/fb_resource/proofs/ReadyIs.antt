@@ -20,7 +20,7 @@ use Rattle.fb_laws.specs.Sound.{IsSound}
 use Rattle.fb_laws.proofs.Accepting.{sound_of}
 use Rattle.fb_laws.proofs.Outs.{GoodOutcome, IsGood, reacts_good}
 use Rattle.fb_laws.proofs.Timers as timers
-use Rattle.fb_agenda.specs.Agendas.{Contents, IsTimed, LiesIn, timer_set, waiting}
+use Rattle.fb_agenda.specs.Agendas.{Contents, IsTimed, IsInResource, timer_set, waiting}
 use Rattle.fb_types.specs.declared.run.Event.{Event}
 use Rattle.fb_types.specs.declared.run.Event.TheVariants.{Timer}
 use Rattle.fb_net.specs.Outs.{IsOut, only_lines, out_of}
@@ -42,7 +42,7 @@ use Rattle.fb_resource.proofs.PostLaws.{port_path, timer_class, timer_instance, 
 
 -- ---- Timers
 
-pub lies_in : (i : Inputs) (tick r n : ℕ) (a : Contents) → IsInOrder i tick a → (system_of i).resource (path_at (system_of i) n) ≡ r → LiesIn r n a
+pub lies_in : (i : Inputs) (tick r n : ℕ) (a : Contents) → IsInOrder i tick a → (system_of i).resource (path_at (system_of i) n) ≡ r → IsInResource r n a
 lies_in i tick r n a order here j s e waits timer =
     let home = order.home j e waits (timer_class s n j timer) in
     let same : home.0 ≡ n = sym (timer_instance j.resource home.0 j home.2) ∙ timer_instance s n j timer in

@@ -23,7 +23,7 @@ BeginAlike from a b = (limit t : ℕ) → from ≤ t → begun limit t a ≡ beg
 abbrev pub IsUnused : (from : ℕ) → Meter → Type 0
 IsUnused from m = (t : ℕ) → from ≤ t → is_tick m.tick t ≡ false
 
--- In one tick there are at most so many local events for each step that was used.
+-- In one tick there are at most this many local events for each step that was used.
 pub record IsMetered (limit : ℕ) (m : counted.TickCounts) : Type 0 where
   pub left : m.left ≤ limit
   pub locals : m.locals ≤ (limit - m.left) * 2 ^ 64

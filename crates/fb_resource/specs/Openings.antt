@@ -14,7 +14,7 @@ abbrev pub is_of : Option ℕ → (resource : ℕ) → Bool
 is_of None r = true
 is_of (Some q) r = r == q
 
--- what stands under a key of such a resource
+-- what is under a key of such a resource
 abbrev pub only : {X : Type 0} → Option ℕ → Key → Option X → Option X
 only of j o = if is_of of j.resource then o else None
 
@@ -52,7 +52,7 @@ pub record HasStimuli (i : Inputs) (of : Option ℕ) (rows : ℕ) (a : Contents)
   pub timers : HasTimersBelow 0 a
   pub due : length a.due ≡ length (system_of i).paths
 
--- Besides all stimuli that are asked for, so do the timers that start by themselves of instances below a number.
+-- All stimuli that are asked for do so, and the timers that start by themselves of instances below a number.
 pub record HasRestarts (i : Inputs) (of : Option ℕ) (instances : ℕ) (a : Contents) : Type 0 where
   pub agenda : (j : Key) → meaning i a j ≡ only of j (or_else (found j (flat_map (restart_of (system_of i)) (take instances (system_of i).paths))) (found j (stimuli_from (system_of i) 0 (stimuli_of i))))
   pub order : IsInOrder i 0 a

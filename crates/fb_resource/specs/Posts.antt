@@ -59,7 +59,7 @@ IsPostable sys r (Send s) = IsSendable sys r s
 abbrev pub CountsAre : List ℕ → (ℕ → ℕ) → Type 0
 CountsAre counts sent = (l n : ℕ) → slice_get counts l ≡ Some n → sent l ≡ n
 
--- The agenda has the local events that were posted besides what it had, the messages stand behind those before, and the counts are those of the posts.
+-- The agenda has the local events that were posted in addition to what it had, the messages come after those before, and the counts are those of the posts.
 pub record ArePosted (i : Inputs) (x : Posts) (old new : Contents) (before after : List Message) (locals : ℕ) (sent : List ℕ) : Type 0 where
   pub agenda : (j : Key) → meaning i new j ≡ or_else (found j x.raised) (meaning i old j)
   pub mail : map (arriving i) after ≡ map (arriving i) before ++ x.messages

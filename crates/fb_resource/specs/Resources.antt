@@ -1,4 +1,4 @@
--- One resource by itself, in code: what it stands for, and what becomes of it (this project's profile).
+-- One resource by itself, in code: what it represents, and what becomes of it (this project's profile).
 use Rattle.std.specs.Prelude.{◌≡◌, ◌<◌, ◌≤◌, ℕ, true, false, List, length, map, All, Option, Some, None, IsSome, ◌==◌, slice_get}
 use Rattle.fb_types.specs.Cores.{clock_after}
 use Rattle.fb_types.specs.Headline.{Inputs, system_of, stimuli_of}
@@ -27,9 +27,9 @@ use Rattle.fb_resource.specs.declared.resource.Resource.{Resource}
 use Rattle.fb_resource.specs.declared.resource.WindowDone.{WindowDone}
 use Rattle.fb_resource.specs.declared.resource.WindowDone.TheVariants.{NoMemory, Ran}
 
--- ---- What it stands for
+-- ---- What it represents
 
--- A resource stands for one by itself. What that one has of other resources' keys does not matter. Until it stops, it has used no step of a tick from its clock on.
+-- A resource represents one by itself. What that one has of other resources' keys does not matter. Until it stops, it has used no step of a tick from its clock on.
 pub record StandsFor (i : Inputs) (limit : ℕ) (l : Local (machine (system_of i) limit)) (x : Resource) : Type 0 where
   pub state : State
   pub part : l.part ≡ part_of (system_of i) x.tree.resource state
@@ -117,7 +117,7 @@ pub record IsFor (i : Inputs) (x : Resource) (m : Message) : Type 0 where
 abbrev pub with_messages : (i : Inputs) (limit : ℕ) → List Message → Local (machine (system_of i) limit) → Local (machine (system_of i) limit)
 with_messages i limit ms l = record l { inbox = λ k. or_else (found k (map (arriving i) ms)) (l.inbox k) }
 
--- Messages for it have come: it is still one of the system, and stands for what it stood for, with the messages in its inbox.
+-- Messages for it have come: it is still one of the system, and represents what it represented, with the messages in its inbox.
 pub record HasReceived (ms : List Message) (old new : Resource) : Type 0 where
   pub besides : IsSameBesides old new
   pub of : (i : Inputs) → IsOf i old → All (IsFor i old) ms → IsOf i new

@@ -59,7 +59,7 @@ in_run x m g = record { tree = x.tree; clock = x.clock; meter = m; queues = queu
 abbrev pub at_rest : Running → Resource
 at_rest x = record { tree = x.tree; clock = x.clock; agenda = x.queues.agenda; sent = x.queues.sent; stopped = x.stopped }
 
--- In a run it stands for one by itself, as at rest, and from its clock on its counts are those of the state.
+-- In a run it represents one by itself, as at rest, and from its clock on its counts are those of the state.
 pub record Stands (i : Inputs) (limit : ℕ) (l : Local (machine (system_of i) limit)) (x : Running) : Type 0 where
   pub state : State
   pub part : l.part ≡ part_of (system_of i) x.tree.resource state
@@ -78,7 +78,7 @@ pub record IsRunning (i : Inputs) (limit : ℕ) (x : Running) : Type 0 where
   pub ready : AreReady i x.clock x.queues
   pub home : (j : Key) (e : Event) → waiting x.queues.agenda j ≡ Some e → j.resource ≡ x.tree.resource
 
--- It stands for what its takings below a tick have made of what stood for it. Their lines and messages are in its queues.
+-- It represents what its takings below a tick have made of what represented it. Their lines and messages are in its queues.
 pub record ComesTo (i : Inputs) (limit r t : ℕ) (from : Local (machine (system_of i) limit)) (x : Running) : Type 0 where
   pub at : Local (machine (system_of i) limit)
   pub stands : Stands i limit at x

@@ -1,4 +1,4 @@
--- The taking of one event in its resource (this project's profile).
+-- Taking one event in its resource (this project's profile).
 use Rattle.std.specs.Global.{Vec}
 use Rattle.std.specs.Prelude.{◌≡◌, ◌≤◌, ◌++◌, ℕ, [], All, length, map, Option}
 use Rattle.fb_types.specs.Headline.{Inputs, system_of}

@@ -2,7 +2,7 @@
 
 ghost use Rattle.fb_laws.specs.ResourceLaw.{OfEach, HasHistories, OneRun, HasLines, HasStops};
 
-/// A resource alone comes to its history.
+/// A resource that runs alone has its history.
 ///
 /// What the one-thread simulation has of a resource at a tick is what the events of that resource alone, taken one
 /// after another below the tick, leave, where the simulation's messages to it wait under the keys of their arrivals.

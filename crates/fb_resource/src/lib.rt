@@ -1,15 +1,15 @@
-//! One resource by itself: the taking of one event in it, its run below a tick, and what the simulation of all resources
+//! One resource by itself: taking one event in it, its run below a tick, and what the simulation of all resources
 //! has of it.
 //!
 //! Guarantees to callers: `take` takes an event as the definitions say (`IsTakenHere`), from every state that blocks and
-//! counts may stand for, also where the resource stops. `open_agenda` and `open_agendas` put exactly the events of the
+//! counts may represent, also where the resource stops. `open_agenda` and `open_agendas` put exactly the events of the
 //! opening on the agendas (`IsOpened`). A `Resource` runs by itself below a tick, takes messages in between, and answers
 //! when its next event is. What it does is what the resource of the definitions does, so the laws here hold of it.
 //!
 //! Read in this order: `tick_counts`, what is counted in a tick; `given`, what takings give; `one_taking`, the taking;
 //! `post`, what a taking puts out; `opening`, the agendas before the first event. Then `laws` and `determined`, what holds
 //! of the definitions; `resource`, what a resource holds, with `open`, how it begins, `run`, its run below a tick, and
-//! `receive`, how messages come to it.
+//! `receive`, how it gets messages.
 #![tactic(auto)]
 
 pub mod determined;

@@ -1,4 +1,4 @@
-//! The taking of one event in its resource.
+//! Taking one event in its resource.
 
 ghost use Rattle.std.specs.Prelude.{◌≡◌, ◌+◌, ◌^◌, ◌≤◌, ◌<◌, ℕ, [], map, suc, max, length, unwrap_or, All, IfOk, OnOk, Some, None};
 ghost use Rattle.fb_types.specs.Headline.{system_of};
@@ -61,7 +61,7 @@ fn arrival_of<'a>(key: &Key, event: &'a Event) -> Arrival<'a>
     }
 }
 
-/// Takes an event in the tree of its resource, which has so many steps left behind that of the event. `Some` is
+/// Takes an event in the tree of its resource, which has this many steps left after that of the event. `Some` is
 /// the reason for which the resource stops.
 #[inline(always)]
 fn take_in(
@@ -174,8 +174,8 @@ fn settle(
 }
 
 /// Takes an event that has left the agenda, at most `limit` steps in each tick of its resource. `Some` is the reason
-/// for which the resource stops; what was put out before the stop is posted and stands. Messages are put behind the
-/// mail, and lines behind those in the outbox.
+/// for which the resource stops; what was put out before the stop is posted and kept. Messages are put after the
+/// mail, and lines after those in the outbox.
 ///
 /// The counts may also be those of a meter that is older than the tick: then the resource counts afresh.
 ///

@@ -1,4 +1,4 @@
-//! What the taking of an event puts out: local events onto the agenda, messages behind the mail.
+//! What taking an event puts out: local events onto the agenda, messages after the mail.
 
 ghost use Rattle.std.specs.Prelude.{◌≡◌, ◌+◌, ◌<◌, ◌≤◌, ◌^◌, ◌++◌, ◌∷◌, ℕ, List, [], map, length, All, OnOk, slice_index, slice_set};
 ghost use Rattle.fb_types.specs.Headline.{system_of};
@@ -36,7 +36,7 @@ fn post_local(
     Ok(())
 }
 
-/// Puts a message behind the mail, with the tick of its arrival and its number on the link.
+/// Puts a message after the mail, with the tick of its arrival and its number on the link.
 ///
 /// # Errors
 /// When memory runs out, or a link has carried 2^128 messages.
@@ -70,7 +70,7 @@ fn post_message(
     Ok(())
 }
 
-/// Posts one event that was put out, behind all that were posted before.
+/// Posts one event that was put out, after all that were posted before.
 ///
 /// # Errors
 /// When memory runs out, or a link has carried 2^128 messages.
@@ -181,7 +181,7 @@ pub(crate) fn post_all(
     let Some(last) = outs.pop() else {
         return Ok(());
     };
-    // Mostly one event was put out, and nothing is to be walked over before it.
+    // Mostly one event was put out, and there is nothing to walk over before it.
     post_each(agenda, mail, sent, outs, locals, system, key)?;
     post_out(agenda, mail, sent, locals, system, key, last)
 }

@@ -17,7 +17,7 @@ use Rattle.fb_window.specs.Settling.{IsUnderWay, lists_of}
 use Rattle.fb_window.specs.declared.cores.CoreState.{CoreState}
 use Rattle.fb_sim.specs.Given.{Given}
 use Rattle.fb_sim.specs.Serial.{AreTrace, AreWithin, Declares, IsRefusal, Writes, WritesPart}
-use Rattle.fb_sim.specs.Rounds.{AreAll, Begin, CountedRounds, FailsRun, HasCome, IsFinished, IsShort, RunsOn, WritesFront, behind, text_of}
+use Rattle.fb_sim.specs.Rounds.{AreAll, Begin, RoundsWithCounts, FailsRun, HasCome, IsFinished, IsShort, RunsOn, WritesFront, behind, text_of}
 use Rattle.fb_sim.specs.declared.drive.Finish.{Finish}
 use Rattle.fb_sim.specs.declared.drive.Finish.TheVariants.{AtEnd, AtMark}
 use Rattle.fb_sim.specs.declared.options.Options.{Options}
@@ -80,10 +80,10 @@ module _ (i : Inputs) (o : Options) (ls : List Line) where
     with m = record { bytes = bounded (n.bytes + m.bytes); lines = bounded (n.lines + m.final_lines) }
 
     -- There are no more rounds than ticks.
-    pub came_early : (next : CoreState) (m : Tally) → CountedRounds i o (core_of i o.steps c.come.steps) (ls ++ c.out) mid new (Ok (Going next, m)) → rounds < o.horizon
+    pub came_early : (next : CoreState) (m : Tally) → RoundsWithCounts i o (core_of i o.steps c.come.steps) (ls ++ c.out) mid new (Ok (Going next, m)) → rounds < o.horizon
     came_early next m r = let risen = r.1.3 rounds c.floor in risen.0
 
-    pub came_more : (next : CoreState) (m : Tally) → CountedRounds i o (core_of i o.steps c.come.steps) (ls ++ c.out) mid new (Ok (Going next, m)) → Came i o ls next old new (with m) (rounds + 1)
+    pub came_more : (next : CoreState) (m : Tally) → RoundsWithCounts i o (core_of i o.steps c.come.steps) (ls ++ c.out) mid new (Ok (Going next, m)) → Came i o ls next old new (with m) (rounds + 1)
     came_more next m r = record {
       out = c.out ++ r.0;
       come = come_as i o.steps o.horizon next ((ls ++ c.out) ++ r.0) (ls ++ (c.out ++ r.0)) (append_assoc ls c.out r.0) r.1.0;
@@ -93,7 +93,7 @@ module _ (i : Inputs) (o : Options) (ls : List Line) where
       lined = both_lined c.out r.0 n.lines m.final_lines c.lined r.4;
     }
 
-    pub came_end : (last : CoreState) (m : Tally) → CountedRounds i o (core_of i o.steps c.come.steps) (ls ++ c.out) mid new (Ok (Ended last, m)) → RunsOn i o ls old new (Ok (AtEnd last, with m))
+    pub came_end : (last : CoreState) (m : Tally) → RoundsWithCounts i o (core_of i o.steps c.come.steps) (ls ++ c.out) mid new (Ok (Ended last, m)) → RunsOn i o ls old new (Ok (AtEnd last, with m))
     came_end last m r = (
       c.out ++ r.0,
       subst (λ (ks : List Line). IsFinished i o.steps o.horizon (AtEnd last) ks) (append_assoc ls c.out r.0) r.1,
@@ -102,7 +102,7 @@ module _ (i : Inputs) (o : Options) (ls : List Line) where
       both_lined c.out r.0 n.lines m.final_lines c.lined r.4,
     )
 
-    pub came_stop : (mark : StopMark) (m : Tally) → CountedRounds i o (core_of i o.steps c.come.steps) (ls ++ c.out) mid new (Ok (Stopped mark, m)) → RunsOn i o ls old new (Ok (AtMark mark, with m))
+    pub came_stop : (mark : StopMark) (m : Tally) → RoundsWithCounts i o (core_of i o.steps c.come.steps) (ls ++ c.out) mid new (Ok (Stopped mark, m)) → RunsOn i o ls old new (Ok (AtMark mark, with m))
     came_stop mark m r = (
       c.out ++ r.0,
       subst (λ (ks : List Line). IsFinished i o.steps o.horizon (AtMark mark) ks) (append_assoc ls c.out r.0) r.1,
@@ -111,14 +111,14 @@ module _ (i : Inputs) (o : Options) (ls : List Line) where
       both_lined c.out r.0 n.lines m.final_lines c.lined r.4,
     )
 
-    pub came_short : (m : ℕ) → CountedRounds i o (core_of i o.steps c.come.steps) (ls ++ c.out) mid new (Err (Write m)) → RunsOn i o ls old new (Err (Write (bounded (n.bytes + m))))
+    pub came_short : (m : ℕ) → RoundsWithCounts i o (core_of i o.steps c.come.steps) (ls ++ c.out) mid new (Err (Write m)) → RunsOn i o ls old new (Err (Write (bounded (n.bytes + m))))
     came_short m r = (
       c.out ++ r.0,
       subst (λ (ks : List Line). Begin i o.steps o.horizon ks) (append_assoc ls c.out r.0) r.1,
       subst (λ (t : List ℕ). IsPartWritten old new t (bounded (n.bytes + m))) (joined c.out r.0) (part-after (text_of i o.form c.out) c.got c.counted r.2),
     )
 
-    pub came_wanting : AreGood i → CountedRounds i o (core_of i o.steps c.come.steps) (ls ++ c.out) mid new (Err Memory) → RunsOn i o ls old new (Err Memory)
+    pub came_wanting : AreGood i → RoundsWithCounts i o (core_of i o.steps c.come.steps) (ls ++ c.out) mid new (Err Memory) → RunsOn i o ls old new (Err Memory)
     came_wanting good same = (
       c.out,
       come_begins i good o.steps o.horizon core (ls ++ c.out) c.come,
@@ -126,7 +126,7 @@ module _ (i : Inputs) (o : Options) (ls : List Line) where
     )
 
     -- the options of a round may name other workers
-    pub came_failed : AreGood i → (w : ℕ) (e : RunError) → CountedRounds i (record { horizon = o.horizon; steps = o.steps; workers = w; form = o.form }) (core_of i o.steps c.come.steps) (ls ++ c.out) mid new (Err e) → RunsOn i o ls old new (Err (behind n.bytes e))
+    pub came_failed : AreGood i → (w : ℕ) (e : RunError) → RoundsWithCounts i (record { horizon = o.horizon; steps = o.steps; workers = w; form = o.form }) (core_of i o.steps c.come.steps) (ls ++ c.out) mid new (Err e) → RunsOn i o ls old new (Err (behind n.bytes e))
     came_failed good w (Write m) r = came_short m r
     came_failed good w Memory same = came_wanting good same
     came_failed good w (Refused r) bad = absurd bad

@@ -32,7 +32,7 @@ use Rattle.fb_window.specs.declared.cores.AwayState.{AwayState}
 use Rattle.fb_window.specs.declared.cores.CoreState.{CoreState}
 use Rattle.fb_window.specs.declared.cores.Settled.{Settled}
 use Rattle.fb_window.specs.declared.cores.Settled.TheVariants as settled
-use Rattle.fb_sim.specs.Rounds.{Begin, CountedRounds, HasCome, HasWalked, IsAfter, IsHomeAgain, IsHomeOnce, IsOnItsWay, Rounds, WritesPartOf, lines_out, round_of, text_of}
+use Rattle.fb_sim.specs.Rounds.{Begin, RoundsWithCounts, HasCome, HasWalked, IsAfter, IsHomeAgain, IsHomeOnce, IsOnItsWay, Rounds, WritesPartOf, lines_out, round_of, text_of}
 use Rattle.fb_sim.specs.declared.options.Options.{Options}
 use Rattle.fb_sim.specs.declared.outcome.RunError.{RunError}
 use Rattle.fb_sim.specs.declared.outcome.RunError.TheVariants.{Refused, Memory, Write, BadOption, Failed}
@@ -158,7 +158,7 @@ home_since i limit horizon c ls core h s home = record { belong = home.belong; a
 module _ (i : Inputs) (o : Options) (c : model_cores.Core (machine (system_of i) o.steps)) (ls : List Line) (old new : Option (List ℕ)) where
   pub counted_whole : (s : Settled) (n : Tally) → IsHomeAgain i o.steps o.horizon c ls s → Appends old new (text_of i o.form (map (line_of (system_of i)) (lines_out s)))
       → n.bytes ≡ bounded (length (text_of i o.form (map (line_of (system_of i)) (lines_out s)))) → n.final_lines ≡ length (lines_out s)
-      → CountedRounds i o c ls old new (Ok (round_of s, n))
+      → RoundsWithCounts i o c ls old new (Ok (round_of s, n))
   counted_whole s n h got counted lined = (map (line_of (system_of i)) (lines_out s), h.after, got, counted, lined ∙ sym (length-map (lines_out s) (line_of (system_of i))))
 
   home_begins : AreGood i → (s : Settled) → IsHomeAgain i o.steps o.horizon c ls s → Begin i o.steps o.horizon (ls ++ map (line_of (system_of i)) (lines_out s))
@@ -167,12 +167,12 @@ module _ (i : Inputs) (o : Options) (c : model_cores.Core (machine (system_of i)
   home_begins good (settled.Stopped out mark) h = all_begin i good o.steps o.horizon (ls ++ map (line_of (system_of i)) out.items) _ h.after.1
 
   pub counted_part : AreGood i → (s : Settled) (n : ℕ) → IsHomeAgain i o.steps o.horizon c ls s → IsPartWritten old new (text_of i o.form (map (line_of (system_of i)) (lines_out s))) n
-      → CountedRounds i o c ls old new (Err (Write n))
+      → RoundsWithCounts i o c ls old new (Err (Write n))
   counted_part good s n h part = (map (line_of (system_of i)) (lines_out s), home_begins good s h, part)
 
   -- a writer that failed
   pub counted_failed : AreGood i → (s : Settled) (e : RunError) → IsHomeAgain i o.steps o.horizon c ls s → WritesPartOf old new (text_of i o.form (map (line_of (system_of i)) (lines_out s))) e
-      → CountedRounds i o c ls old new (Err e)
+      → RoundsWithCounts i o c ls old new (Err e)
   counted_failed good s (Write n) h part = counted_part good s n h part
   counted_failed good s (Refused r) h part = absurd part
   counted_failed good s Memory h part = absurd part
@@ -180,13 +180,13 @@ module _ (i : Inputs) (o : Options) (c : model_cores.Core (machine (system_of i)
   counted_failed good s Failed h part = absurd part
 
   -- memory that ran out before anything was written
-  pub counted_wanting : (e : RunError) → e ≡ Memory → new ≡ old → CountedRounds i o c ls old new (Err e)
-  counted_wanting e is same = subst (λ (f : RunError). CountedRounds i o c ls old new (Err f)) (sym is) same
+  pub counted_wanting : (e : RunError) → e ≡ Memory → new ≡ old → RoundsWithCounts i o c ls old new (Err e)
+  counted_wanting e is same = subst (λ (f : RunError). RoundsWithCounts i o c ls old new (Err f)) (sym is) same
 
   -- the error that `?` passes on
-  pub counted_passed : (r : Result (Round × Tally) RunError) (e : RunError) → IsErrAnd r (λ f. f ≡ e) → CountedRounds i o c ls old new (Err e) → CountedRounds i o c ls old new r
+  pub counted_passed : (r : Result (Round × Tally) RunError) (e : RunError) → IsErrAnd r (λ f. f ≡ e) → RoundsWithCounts i o c ls old new (Err e) → RoundsWithCounts i o c ls old new r
   counted_passed (Ok x) e bad h = absurd bad
-  counted_passed (Err f) e is h = subst (λ (x : RunError). CountedRounds i o c ls old new (Err x)) (sym is) h
+  counted_passed (Err f) e is h = subst (λ (x : RunError). RoundsWithCounts i o c ls old new (Err x)) (sym is) h
 
 -- What one round has written: the text of its lines, or a part of it.
 module _ (i : Inputs) (o : Options) (es : List (CoreStep (machine (system_of i) o.steps))) (ls : List Line) (old new : Option (List ℕ)) where

@@ -28,7 +28,7 @@ pub record AreOptions (steps workers : ℕ) : Type 0 where
   pub workers_least : 1 ≤ workers
   pub workers_most : workers ≤ 64
 
--- It stands for what the text declares, before the first event.
+-- It represents what the text declares, before the first event.
 pub record IsOpened (given : Given) (steps workers : ℕ) (form : Form) (s : Session) : Type 0 where
   pub within : AreOptions steps workers
   pub declared : Declares given s.inputs
@@ -48,7 +48,7 @@ abbrev pub stop_line : System → Ending → List ℕ
 stop_line sys (AtHorizon h) = []
 stop_line sys (AtStop tick r reason) = last_line sys (AtStop tick r reason)
 
--- What the simulation to the later tick writes behind that to the earlier one, but for the line of the horizon.
+-- What the simulation to the later tick writes after that to the earlier one, but for the line of the horizon.
 pub record IsNext (s : Session) (to : ℕ) (bytes : List ℕ) (end : Ending) : Type 0 where
   pub before : List Taken
   pub takings : List Taken
@@ -101,7 +101,7 @@ AdvancesOn s t to old new (Err (Refused r)) = ⊥
 AdvancesOn s t to old new (Err BadOption) = ⊥
 AdvancesOn s t to old new (Err Failed) = ⊥
 
--- To a later tick: what was written, but for the line of a stop, has so many bytes and so many lines.
+-- To a later tick: what was written, but for the line of a stop, has this many bytes and this many lines.
 abbrev pub RunsTo : (s t : Session) (to : ℕ) → (old new : Option (List ℕ)) → Result (Outcome × Written) RunError → Type 0
 RunsTo s t to old new (Ok (o, w)) =
     (gone : HasAdvanced s t to old new o)

@@ -13,7 +13,7 @@ abbrev pub ending_at : (horizon : ℕ) → Option StopMark → Ending
 ending_at horizon None = AtHorizon horizon
 ending_at horizon (Some m) = AtStop m.tick m.resource m.reason
 
--- From here on all is taken below the horizon, or up to the first stop, and the lines are put behind those that were there.
+-- From here on all is taken below the horizon, or up to the first stop, and the lines are put after those that were there.
 pub record Completes (i : Inputs) (horizon limit : ℕ) (c : Config) (before after : List Line) (stop : Option StopMark) : Type 0 where
   pub taken : List Taken
   pub chain : Chain (system_of i) limit c taken

@@ -1,4 +1,4 @@
--- What the state of a run of all resources stands for (this project's profile).
+-- What the state of a run of all resources represents (this project's profile).
 use Rattle.std.specs.Prelude.{◌≡◌, ◌≤◌, ◌++◌, ℕ, [], length, map, Option, Some, slice_get, unwrap_or}
 use Rattle.fb_types.specs.Headline.{Inputs, system_of}
 use Rattle.fb_types.specs.Numbers.{line_of}

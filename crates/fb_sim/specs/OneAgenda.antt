@@ -8,7 +8,7 @@ use Rattle.fb_trace.specs.Progress.{bounded}
 use Rattle.fb_sim.specs.Rounds.{AreAll, text_of}
 use Rattle.fb_sim.specs.declared.options.Options.{Options}
 
--- The writer got the text of all lines of the simulation, of so many bytes, and the simulation ends so.
+-- The writer got the text of all lines of the simulation, of this many bytes, and the simulation ends so.
 pub record RunsThrough (i : Inputs) (o : Options) (old new : Option (List ℕ)) (end : Ending) (written : ℕ) : Type 0 where
   pub out : List Line
   pub all : AreAll i o.steps o.horizon out end

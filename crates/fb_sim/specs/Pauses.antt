@@ -11,7 +11,7 @@ use Rattle.fb_sim.specs.declared.one_agenda.machine.Machine.{Machine}
 use Rattle.fb_sim.specs.declared.one_agenda.pause.Pause.{Pause}
 use Rattle.fb_sim.specs.declared.one_agenda.pause.Pause.TheVariants.{Lines, Horizon, Stop}
 
--- The run has gone on from a configuration to one where the machine is now; or it is complete.
+-- The run has continued from a configuration to one where the machine is now; or it is complete.
 abbrev pub Pauses : (i : Inputs) (horizon limit : ℕ) (c : Config) (old new : Machine) → Pause → Type 0
 Pauses i horizon limit c old new Lines =
     (d : Config) × (taken : List Taken)

@@ -22,7 +22,7 @@ use Rattle.fb_sim.specs.declared.with_progress.ReportTally.{ReportTally}
 
 -- ---- What standard error hears
 
--- A writer holds a beginning of this text behind what it held, and all of it where it took all. Where there is no text, it holds what it held.
+-- A writer holds a beginning of this text after what it held, and all of it where it took all. Where there is no text, it holds what it held.
 pub record Hears (heard : Bool) (old new : Option (List ℕ)) (text : List ℕ) : Type 0 where
   pub front : List ℕ
   pub rest : List ℕ
@@ -31,7 +31,7 @@ pub record Hears (heard : Bool) (old new : Option (List ℕ)) (text : List ℕ) 
   pub all : IsTrue heard → rest ≡ []
   pub none : text ≡ [] → new ≡ old
 
--- the tick of so many hundredths of the horizon
+-- the tick of this many hundredths of the horizon
 abbrev pub hundredth : (horizon count : ℕ) → ℕ
 hundredth horizon count = horizon * count / 100
 
@@ -46,21 +46,21 @@ pub record HasCome (i : Inputs) (o : Options) (to : ℕ) (text : List ℕ) : Typ
   pub goes_on : ending_of to takings ≡ AtHorizon to
   pub text_is : text ≡ lines_text o.form (system_of i) (lines_of takings)
 
--- The report says that the simulation has come to this tick, and how many lines it has so far.
+-- The report says that the simulation has reached this tick, and how many lines it has so far.
 pub record IsReport (i : Inputs) (o : Options) (to : ℕ) (report : List ℕ) : Type 0 where
   pub text : List ℕ
   pub come : HasCome i o to text
   pub is : report ≡ report_text o.horizon to (bounded (length (lines_of come.takings)))
 
 -- at a hundredth nothing is reported where its tick is that of the one before
-abbrev pub TellsAt : Inputs → Options → (before now : ℕ) → List ℕ → Type 0
-TellsAt i o before now report = ((now ≤ before) × (report ≡ [])) ⊎ ((before < now) × IsReport i o now report)
+abbrev pub ReportsAt : Inputs → Options → (before now : ℕ) → List ℕ → Type 0
+ReportsAt i o before now report = ((now ≤ before) × (report ≡ [])) ⊎ ((before < now) × IsReport i o now report)
 
 -- what is reported at the first hundredths
-abbrev pub TellsTo : Inputs → Options → (count : ℕ) → List ℕ → Type 0
-TellsTo i o zero reports = reports ≡ []
-TellsTo i o (suc n) reports =
-    (first : List ℕ) × (next : List ℕ) × TellsTo i o n first × TellsAt i o (hundredth o.horizon n) (hundredth o.horizon (suc n)) next × (reports ≡ first ++ next)
+abbrev pub ReportsTo : Inputs → Options → (count : ℕ) → List ℕ → Type 0
+ReportsTo i o zero reports = reports ≡ []
+ReportsTo i o (suc n) reports =
+    (first : List ℕ) × (next : List ℕ) × ReportsTo i o n first × ReportsAt i o (hundredth o.horizon n) (hundredth o.horizon (suc n)) next × (reports ≡ first ++ next)
 
 -- the simulation of the inputs, at a tick
 abbrev pub session : Inputs → Options → ℕ → Session
@@ -74,7 +74,7 @@ HasMissing (Refused r) rest = ⊥
 HasMissing BadOption rest = ⊥
 HasMissing Failed rest = ⊥
 
--- Of what is to be written from one hundredth to the next, this was written when the run failed.
+-- Of what must be written from one hundredth to the next, this was written when the run failed.
 pub record HasPart (i : Inputs) (o : Options) (count : ℕ) (e : RunError) (part : List ℕ) : Type 0 where
   pub rest : List ℕ
   pub end : Ending
@@ -89,20 +89,20 @@ pub record HasBroken (i : Inputs) (o : Options) (old new : Option (List ℕ)) (c
   pub got : Appends old new (text ++ part)
   pub left : count < 100 → HasPart i o count e part
 
--- A run ends when it has come so many hundredths far, and no more.
+-- A run ends when it has come this many hundredths far, and no more.
 abbrev pub IsAsFar : Inputs → Options → (old new : Option (List ℕ)) → (count : ℕ) → Result Outcome RunError → Type 0
 IsAsFar i o old new count (Ok (End h)) = count ≡ 100
 IsAsFar i o old new count (Ok (Stop mark)) = mark.tick < hundredth o.horizon (suc count)
 IsAsFar i o old new count (Err e) = HasBroken i o old new count e
 
--- A run of these inputs begins, and each hundredth is reported that it comes to.
+-- A run of these inputs begins, and each hundredth that it reaches is reported.
 pub record Reports (given : Given) (o : Options) (old new : Option (List ℕ)) (end : Result Outcome RunError) (reports : List ℕ) : Type 0 where
   pub inputs : Inputs
   pub declared : Declares given inputs
   pub count : ℕ
   pub few : count ≤ 100
   pub far : IsAsFar inputs o old new count end
-  pub told : TellsTo inputs o count reports
+  pub told : ReportsTo inputs o count reports
 
 -- where no run begins, nothing is reported
 abbrev pub AreReports : Given → Options → (old new : Option (List ℕ)) → (end : Result Outcome RunError) → List ℕ → Type 0
@@ -115,7 +115,7 @@ AreReports given o old new (Err Failed) reports = ⊥
 
 -- ---- From one tick to a later one
 
--- the counts of bytes and of lines, with more lines behind
+-- the counts of bytes and of lines, with more lines after
 abbrev pub Counted : (n m : ReportTally) → (text : List ℕ) (lines : List Line) → Type 0
 Counted n m text lines = (m.bytes ≡ bounded (n.bytes + length text)) × (m.lines ≡ bounded (n.lines + length lines)) × (m.is_heard ≡ n.is_heard)
 
@@ -147,10 +147,10 @@ pub record HasTold (i : Inputs) (o : Options) (old new quiet err : Option (List 
   pub few : count ≤ 100
   pub far : IsAsFar i o old new count end
   pub reports : List ℕ
-  pub told : TellsTo i o count reports
+  pub told : ReportsTo i o count reports
   pub hears : Hears heard quiet err reports
 
--- The run has come to the tick of so many hundredths and goes on; so much was written and reported.
+-- The run has reached the tick of this many hundredths and goes on; this was written and reported.
 pub record Came (i : Inputs) (o : Options) (first out quiet err : Option (List ℕ)) (count : ℕ) (n : ReportTally) : Type 0 where
   pub text : List ℕ
   pub come : HasCome i o (hundredth o.horizon count) text
@@ -158,7 +158,7 @@ pub record Came (i : Inputs) (o : Options) (first out quiet err : Option (List �
   pub bytes_are : n.bytes ≡ bounded (length text)
   pub lines_are : n.lines ≡ bounded (length (lines_of come.takings))
   pub reports : List ℕ
-  pub told : TellsTo i o count reports
+  pub told : ReportsTo i o count reports
   pub hears : Hears n.is_heard quiet err reports
 
 -- The writer got the whole trace.
@@ -175,7 +175,7 @@ pub record HasBegun (i : Inputs) (o : Options) (old new : Option (List ℕ)) : T
   pub got : Appends old new (lines_text o.form (system_of i) lines)
   pub trace : IsTrace i o.form o.horizon o.steps (lines_text o.form (system_of i) lines ++ rest) end
 
--- The writer failed when it had got so many bytes of the trace.
+-- The writer failed when it had got this many bytes of the trace.
 pub record HasFailed (i : Inputs) (o : Options) (old new : Option (List ℕ)) (written : ℕ) : Type 0 where
   pub bytes : List ℕ
   pub end : Ending
@@ -190,7 +190,7 @@ Fails i o old new (Refused r) = ⊥
 Fails i o old new BadOption = ⊥
 Fails i o old new Failed = ⊥
 
--- The run has come so many hundredths far, or has stopped or failed on the way.
+-- The run has come this many hundredths far, or has stopped or failed on the way.
 abbrev pub Comes : (i : Inputs) (o : Options) (t : Session) (first out quiet err : Option (List ℕ)) (count : ℕ) (m : ReportTally) → Result Outcome RunError → Type 0
 Comes i o t first out quiet err count m (Ok (End h)) = Came i o first out quiet err count m × (t ≡ session i o (hundredth o.horizon count))
 Comes i o t first out quiet err count m (Ok (Stop mark)) =

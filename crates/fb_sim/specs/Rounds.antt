@@ -59,7 +59,7 @@ pub record IsCoreOf (i : Inputs) (limit : ℕ) (core : CoreState) : Type 0 where
   pub steps : core.steps ≡ limit
   pub kept : All (λ p. All (BelongsTo (system_of i)) p.items) core.pending.items
 
--- The core has come to where it stands by some steps, each in its turn, and these lines were handed out of it.
+-- Some steps, each in its turn, led to the core, and these lines were handed out of it.
 pub record HasCome (i : Inputs) (limit horizon : ℕ) (core : CoreState) (ls : List Line) : Type 0 where
   pub of : IsCoreOf i limit core
   pub steps : List (CoreStep (machine (system_of i) limit))
@@ -94,7 +94,7 @@ WritesPartOf old new text Memory = ⊥
 WritesPartOf old new text BadOption = ⊥
 WritesPartOf old new text Failed = ⊥
 
--- the error of a later call, behind so many bytes
+-- the error of a later call, after this many bytes
 abbrev pub behind : (before : ℕ) → RunError → RunError
 behind n (Write m) = Write (bounded (n + m))
 behind n (Refused r) = Refused r
@@ -102,7 +102,7 @@ behind n Memory = Memory
 behind n BadOption = BadOption
 behind n Failed = Failed
 
--- a writer failed and got the first bytes of a text, behind so many bytes that were written before
+-- a writer failed and got the first bytes of a text, after this many bytes that were written before
 abbrev pub IsShort : (old new : Option (List ℕ)) → (text : List ℕ) → (before : ℕ) → RunError → Type 0
 IsShort old new text before (Write n) = (m : ℕ) × IsPartWritten old new text m × (n ≡ bounded (before + m))
 IsShort old new text before (Refused r) = ⊥
@@ -119,7 +119,7 @@ pub record IsPhaseAt (i : Inputs) (limit horizon cap : ℕ) (es fs : List (CoreS
   pub are_turns : AreTurns i limit horizon (core_of i limit es) bounds workers turns
   pub phase : IsPhase (machine (system_of i) limit) turns fs
 
--- The core of the round stands where these steps have led; or they have led to its stop.
+-- The core of the round is where these steps have led; or they have led to its stop.
 abbrev pub IsBy : (i : Inputs) (limit horizon : ℕ) (c : model_cores.Core (machine (system_of i) limit)) (ls : List Line) (ds : List (CoreStep (machine (system_of i) limit))) (round : Round)
     → IsAfter i limit horizon c ls round → Type 0
 IsBy i limit horizon c ls ds (Going core) after = after.0.steps ≡ ds
@@ -152,19 +152,19 @@ FailsRound i o ls old new (Refused r) = ⊥
 FailsRound i o ls old new BadOption = ⊥
 FailsRound i o ls old new Failed = ⊥
 
--- Where these lines were handed out of the core c, some turns of single resources and a round hand out the next ones, and the writer gets their text, of so many bytes and so many lines.
-abbrev pub CountedRounds : (i : Inputs) (o : Options) (c : model_cores.Core (machine (system_of i) o.steps)) (ls : List Line) → (old new : Option (List ℕ)) → Result (Round × Tally) RunError → Type 0
-CountedRounds i o c ls old new (Ok (round, tally)) =
+-- Where these lines were handed out of the core c, some turns of single resources and a round hand out the next ones, and the writer gets their text, of this many bytes and this many lines.
+abbrev pub RoundsWithCounts : (i : Inputs) (o : Options) (c : model_cores.Core (machine (system_of i) o.steps)) (ls : List Line) → (old new : Option (List ℕ)) → Result (Round × Tally) RunError → Type 0
+RoundsWithCounts i o c ls old new (Ok (round, tally)) =
     (out : List Line)
     × IsAfter i o.steps o.horizon c (ls ++ out) round
     × Appends old new (text_of i o.form out)
     × (tally.bytes ≡ bounded (length (text_of i o.form out)))
     × (tally.final_lines ≡ length out)
-CountedRounds i o c ls old new (Err e) = FailsRound i o ls old new e
+RoundsWithCounts i o c ls old new (Err e) = FailsRound i o ls old new e
 
 -- ---- A run
 
--- how a run comes to its end, all lines of which are written, but no last line
+-- how a run ends, all lines of which are written, but no last line
 abbrev pub IsFinished : (i : Inputs) (limit horizon : ℕ) → Finish → (ls : List Line) → Type 0
 IsFinished i limit horizon (AtEnd core) ls =
     (come : HasCome i limit horizon core ls)
@@ -227,7 +227,7 @@ pub record IsHomeOnce (i : Inputs) (limit horizon cap : ℕ) (es : List (CoreSte
   pub belong : All (BelongsTo (system_of i)) (lines_out s)
   pub round : IsOneRound i limit horizon cap es (ls ++ map (line_of (system_of i)) (lines_out s)) (round_of s)
 
--- The core has come to where it stands by some steps, each in its turn, and these lines were handed out of it: but of those that it keeps some may be final by now.
+-- Some steps, each in its turn, led to the core, and these lines were handed out of it: but of those that it keeps some may be final by now.
 pub record IsOnItsWay (i : Inputs) (limit horizon : ℕ) (core : CoreState) (ls : List Line) : Type 0 where
   pub of : IsCoreOf i limit core
   pub steps : List (CoreStep (machine (system_of i) limit))

@@ -1,4 +1,4 @@
--- The taking of one event in the run of all resources (this project's profile).
+-- Taking one event in the run of all resources (this project's profile).
 use Rattle.std.specs.Prelude.{◌≡◌, ◌≤◌, ℕ, suc, List, Some, slice_get, slice_set}
 use Rattle.fb_types.specs.Takes.{begun}
 use Rattle.fb_types.specs.declared.key.Key.{Key}

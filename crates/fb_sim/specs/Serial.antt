@@ -52,19 +52,19 @@ abbrev pub Refuses : {A : Type 0} → (List ℕ → Result A ℕ) → Option (Li
 Refuses read None n = ⊥
 Refuses read (Some bytes) n = read bytes ≡ Err n
 
--- The bytes that are given stand for inputs.
+-- The bytes that are given represent inputs.
 pub record Reads (given : Given) (i : Inputs) : Type 0 where
   pub library : IsLibraryText given.declaration i.library
   pub plan : IsPlan given.deploy i.plan
   pub limits : IsWithinLimits i.plan
   pub stimuli : AreStimuli given.stimuli i.stimuli
 
--- The bytes that are given stand for inputs that are accepted.
+-- The bytes that are given represent inputs that are accepted.
 pub record Declares (given : Given) (i : Inputs) : Type 0 where
   pub read : Reads given i
   pub accepted : AreAccepted i
 
--- They stand for some inputs that are accepted.
+-- They represent some inputs that are accepted.
 abbrev pub IsDeclared : Given → Type 0
 IsDeclared given = (i : Inputs) × Declares given i
 
@@ -138,7 +138,7 @@ pub record Writes (given : Given) (o : Options) (old new : Option (List ℕ)) (e
   pub got : Appends old new bytes
   pub trace : AreTrace given o bytes end
 
--- A writer got the first bytes of the trace, and so many.
+-- A writer got the first bytes of the trace, and this many.
 pub record WritesPart (given : Given) (o : Options) (old new : Option (List ℕ)) (written : ℕ) : Type 0 where
   pub bytes : List ℕ
   pub end : Ending

@@ -48,7 +48,7 @@ core_in (state.Open core) = Some core
 core_in (state.Stopped mark) = None
 core_in state.Failed = None
 
--- The core has come to the tick, with every clock there, and all lines below it were handed out.
+-- The core has reached the tick, with every clock there, and all lines below it were handed out.
 pub record IsAhead (i : Inputs) (limit to : ℕ) (core : CoreState) : Type 0 where
   pub lines : List Line
   pub come : HasCome i limit to core lines

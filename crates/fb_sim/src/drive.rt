@@ -8,7 +8,7 @@ ghost use Rattle.fb_sim.specs.Rounds.{HasCome, RunsOn, behind};
 use crate::options::Options;
 use crate::outcome::RunError;
 use crate::progress::Round;
-use crate::rounds::counted_round;
+use crate::rounds::round_with_counts;
 use crate::tally::{RoundPlan, Written, first_window};
 use fb_phase::Gate;
 use fb_system::System;
@@ -19,7 +19,7 @@ use std::io::Write;
 use std::sync::Wait;
 use std::thread::Threads;
 
-/// How a run comes to its end.
+/// How a run ends.
 #[derive(Drop)]
 pub enum Finish {
     /// Every clock is at the horizon.
@@ -28,7 +28,7 @@ pub enum Finish {
     AtMark(StopMark),
 }
 
-/// The error of a round, where so many bytes were written before it.
+/// The error of a round, where this many bytes were written before it.
 pub(crate) fn later(written: u128, error: RunError) -> RunError
     ensures { result ≡ behind written error }
 {
@@ -60,14 +60,14 @@ pub(crate) fn run_on<R: Threads + Wait + Sync, W: Write, P: Gate>(
     let mut workers = options.workers;
     let mut turns = 0;
     let mut ticks = first_window(system.count());
-    // Each round that the run goes on after has left a tick behind: none is left after as many.
+    // Each round that the run goes on after has passed a tick: none is left after as many.
     for _ in 0..options.horizon + 1 {
         let plan = RoundPlan {
             options: Options { workers, ..options },
             turns,
             ticks,
         };
-        match counted_round(rt, alloc, system, core, plan, out, gate) {
+        match round_with_counts(rt, alloc, system, core, plan, out, gate) {
             Ok((round, tally)) => {
                 written = written.with(&tally);
                 workers = tally.workers(options.workers);

@@ -2,7 +2,7 @@
 //!
 //! What this crate guarantees to its callers is the headline: `run`, with workers, and `run_serial`, on one thread, write
 //! the trace of the one-thread simulation of accepted inputs, and so does a `Simulation` that its caller advances.
-//! `run_with_progress` reports the progress of a run besides. There is no rule about simulation here.
+//! `run_with_progress` reports the progress of a run also. There is no rule about simulation here.
 //!
 //! Read in this order: `options` and `outcome`; `reading`, what comes before a run; `serial` with `one_agenda`, a
 //! run on one thread; `runs` with `drive` and `rounds`, a run with workers, with `progress`, `tally` and `work`;

@@ -33,7 +33,7 @@ pub struct Options {
     pub horizon: u64,
     /// The most steps that a resource makes in one tick, 1 to 10,000,000.
     pub steps: u64,
-    /// How many workers there are, 1 to 64. A run on one thread has one, whatever stands here.
+    /// How many workers there are, 1 to 64. A run on one thread has one, whatever is here.
     pub workers: u64,
     /// The form of the trace: with `Two`, each line but the last begins with the class and the parts of its key.
     pub form: Form,

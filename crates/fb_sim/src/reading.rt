@@ -71,7 +71,7 @@ fn stimuli_of(
     }
 }
 
-/// What was found, beside what is read next.
+/// What was found, next to what is read next.
 ///
 /// A value of a type parameter is dropped by one call, so what was found is dropped here where the next reading fails, and no
 /// reading is followed by the drop of all that was read before.
@@ -129,7 +129,8 @@ pub(crate) fn judge_inputs(alloc: Global, inputs: &Inputs<'_>) -> Result<(), Run
     judge_reading(alloc, inputs, &read)
 }
 
-/// Reads what is given, and makes the system that stands for it: that of the simulation, and of a trace that is looked at.
+/// Reads what is given, and makes the system that represents it: that of the simulation, and of a trace that is looked
+/// at.
 ///
 /// # Errors
 ///

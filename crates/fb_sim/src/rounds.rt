@@ -1,7 +1,7 @@
 //! One round: each resource runs to its bound, the messages are exchanged, and the lines that have become final are
 //! written.
 //!
-//! `round` is the round that callers make themselves. A run and a simulation that is advanced use `counted_round`: turns of
+//! `round` is the round that callers make themselves. A run and a simulation that is advanced use `round_with_counts`: turns of
 //! single resources before the window, a cap and a number of workers that depend on the round before, and no board with
 //! one worker. Both write the same lines.
 
@@ -19,7 +19,7 @@ ghost use Rattle.fb_window.specs.Jobs.{Does};
 ghost use Rattle.fb_window.specs.Reached.{KeepHorizon};
 ghost use Rattle.fb_sim.specs.Serial.{AreWithin};
 ghost use Rattle.fb_sim.specs.Rounds as spec;
-ghost use Rattle.fb_sim.specs.Rounds.{CountedRounds, HasCome, HasWalked, IsHomeAgain, IsHomeOnce, IsOnItsWay, Rounds, WritesPartOf, lines_out};
+ghost use Rattle.fb_sim.specs.Rounds.{RoundsWithCounts, HasCome, HasWalked, IsHomeAgain, IsHomeOnce, IsOnItsWay, Rounds, WritesPartOf, lines_out};
 ghost use Rattle.fb_sim.specs.declared.outcome.RunError.TheVariants.{Memory};
 
 use crate::options::Options;
@@ -30,7 +30,7 @@ use crate::work::Windows;
 use fb_phase::{Gate, run_all};
 use fb_resource::WindowDone;
 use fb_system::System;
-use fb_trace::write_counted;
+use fb_trace::write_lines_with_count;
 use fb_types::{Form, Line};
 use fb_window::{Core, Job, Settled};
 use std::alloc::{AllocError, Global};
@@ -151,7 +151,7 @@ fn window<R: Threads + Wait + Sync, P: Gate>(
     Ok((settled, busy, lines))
 }
 
-/// The lines that are to be written.
+/// The lines that must be written.
 fn lines_of(settled: &Settled) -> &[Line]
     ensures { result.now ≡ lines_out settled.now }
 {
@@ -186,14 +186,14 @@ pub(crate) fn hand_out<W: Write>(
     ensures part { IfErr result (λ e. let sys = system_of system.now in
         WritesPartOf (W.contents out.old) (W.contents out.new) (lines_text form sys (map (line_of sys) lines.now)) e) }
 {
-    match write_counted(out, system, form, lines) {
+    match write_lines_with_count(out, system, form, lines) {
         Ok(count) => Ok(count),
         Err(fault) => Err(RunError::Write(fault.written)),
     }
 }
 
 /// A round of a run, as planned, with what it has done.
-pub(crate) fn counted_round<R: Threads + Wait + Sync, W: Write, P: Gate>(
+pub(crate) fn round_with_counts<R: Threads + Wait + Sync, W: Write, P: Gate>(
     rt: &R,
     alloc: Global,
     system: &System,
@@ -206,7 +206,7 @@ pub(crate) fn counted_round<R: Threads + Wait + Sync, W: Write, P: Gate>(
     requires ticks { 1 ≤ plan.ticks }
     requires come { (ls : List model.Line) × HasCome system.now plan.options.steps plan.options.horizon core ls }
     ensures { (ls : List model.Line) (come : HasCome system.now plan.options.steps plan.options.horizon core ls)
-        → CountedRounds system.now plan.options (core_of system.now plan.options.steps come.steps) ls (W.contents out.old) (W.contents out.new) result }
+        → RoundsWithCounts system.now plan.options (core_of system.now plan.options.steps come.steps) ls (W.contents out.old) (W.contents out.new) result }
 {
     system.facts();
     let core = walked(alloc, system, core, plan)?;

@@ -49,7 +49,7 @@ impl Model for Simulation {
 }
 
 impl Simulation {
-    /// The simulation before the first event, at tick 0. A resource makes at most so many steps in a tick, 1 to
+    /// The simulation before the first event, at tick 0. A resource makes at most this many steps in a tick, 1 to
     /// 10,000,000, and there are 1 to 64 workers.
     ///
     /// # Errors

@@ -17,14 +17,14 @@ const TURNS: u64 = 256;
 /// processor's cache holds them.
 const FULL: usize = 32_768;
 
-/// How many ticks past the least event a bound may lie at most, so that a round does not gather lines without end.
+/// How many ticks past the least event a bound may be at most, so that a round does not gather lines without end.
 pub(crate) const LONGEST_WINDOW: u64 = 1024;
 
-/// How many at most in the round behind one whose window gave too many lines. From there on a window grows or shrinks by
+/// How many at most in the round after one whose window gave too many lines. From there on a window grows or shrinks by
 /// twos.
 const SHORT_WINDOW: u64 = 16;
 
-/// How many ticks past the least event a bound of the first round may lie. Nobody knows yet how many lines a tick gives:
+/// How many ticks past the least event a bound of the first round may be. Nobody knows yet how many lines a tick gives:
 /// these are few enough where each instance gives one.
 pub(crate) fn first_window(instances: usize) -> u64
     ensures some { 1 ≤ result }
@@ -75,7 +75,7 @@ pub(crate) struct RoundPlan {
     pub options: Options,
     /// How many turns of single resources go before its window, at most.
     pub turns: u64,
-    /// How many ticks past the least event a bound of its window may lie.
+    /// How many ticks past the least event a bound of its window may be.
     pub ticks: u64,
 }
 
@@ -102,7 +102,7 @@ impl Tally {
         if self.is_thin() { TURNS } else { 0 }
     }
 
-    /// How many ticks past the least event a bound of the next round may lie, where it was so many in this one.
+    /// How many ticks past the least event a bound of the next round may be, where it was this many in this one.
     pub(crate) fn ticks(&self, last: u64) -> u64
         requires some { 1 ≤ last }
         requires few { last ≤ 1024 }

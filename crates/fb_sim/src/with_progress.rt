@@ -74,7 +74,7 @@ fn go_on<R: Threads + Wait + Sync, W: Write>(
     }
 }
 
-/// The report that there are so many lines below a tick.
+/// The report that there are this many lines below a tick.
 fn report_text(alloc: Global, horizon: u64, tick: u64, lines: u128) -> Result<String, AllocError>
     ensures { IfOk result (λ text. string_bytes text ≡ report_text horizon tick lines) }
 {

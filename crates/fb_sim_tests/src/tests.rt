@@ -34,7 +34,7 @@ fn given(text: &str) -> Option<&[u8]> {
     }
 }
 
-/// An empty text stands for no deployment, or for no stimuli.
+/// An empty text means no deployment, or no stimuli.
 fn inputs_of<'a>(declaration: &'a str, deploy: &'a str, stimuli: &'a str) -> Inputs<'a> {
     Inputs {
         declaration: declaration.as_bytes(),

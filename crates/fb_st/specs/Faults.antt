@@ -1,4 +1,4 @@
--- What an expression comes to, where the first reason that is met is kept aside.
+-- The result of an expression, where the first reason that is met is kept aside.
 use Rattle.std.specs.Prelude.{ℤ, pos, Bool, Option, Some, None, Result, Ok, Err}
 use Rattle.fb_types.specs.Values.{and_then}
 use Rattle.fb_types.specs.declared.value.Reason.{Reason}

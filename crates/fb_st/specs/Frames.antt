@@ -1,4 +1,4 @@
--- What a frame stands for: the values and the types of its variables, by their names (this project's profile).
+-- What a frame represents: the values and the types of its variables, by their names (this project's profile).
 use Rattle.std.specs.Prelude.{ℕ, List, map, position, Option, Some, None, Bool}
 use Rattle.fb_types.specs.Names.{Name, same_name}
 use Rattle.fb_types.specs.Values.{Values, Types}

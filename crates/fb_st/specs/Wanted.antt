@@ -1,4 +1,4 @@
--- What a value is where a whole number, or a truth value, is wanted.
+-- What a value is where a whole number, or a truth value, is required.
 use Rattle.std.specs.Prelude.{ℤ, Bool, true, false, not, ◌&&◌, ◌||◌, Result, Ok}
 use Rattle.fb_types.specs.Values.{and_then, whole, truth, same_truth, same_value}
 use Rattle.fb_types.specs.declared.text.BinaryOperator.{BinaryOperator}

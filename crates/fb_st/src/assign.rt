@@ -28,7 +28,7 @@ pub fn run_assignment(variable: &Reference, expr: &Expr, frame: &mut Frame) -> R
     }
 }
 
-/// The same, whatever the expression comes to and wherever the variable stands.
+/// The same, whatever the value of the expression is and wherever the variable is.
 #[inline(never)]
 fn assign_any(variable: &Reference, expr: &Expr, frame: &mut Frame) -> Result<Flow, Reason>
     requires known { is_declared (declared_in frame.old) variable.now ≡ true }
@@ -123,7 +123,7 @@ pub fn advance(variable: &Reference, count: Count, frame: &mut Frame) -> Result<
     }
 }
 
-/// The same, whatever the numbers are and wherever the variable stands.
+/// The same, whatever the numbers are and wherever the variable is.
 // Written into `advance`: a call would have the end and the step put together in memory in each turn.
 #[inline(always)]
 fn advance_any(variable: &Reference, count: Count, frame: &mut Frame) -> Result<Flow, Reason>

@@ -18,7 +18,7 @@ use crate::small::{small_number, small_truth};
 use fb_types::{BinaryOperator, Expr, Function, Name, Reason, UnaryOperator, Value};
 
 /// The value of an expression, or the first reason that is met. All operands and arguments are evaluated,
-/// from left to right. What is computed is mostly a number, and goes to where it is wanted without a call between.
+/// from left to right. What is computed is mostly a number, and goes to where it is required without a call between.
 #[cycle(eval)]
 #[inline(always)]
 pub fn eval(expr: &Expr, frame: &Frame) -> Result<Value, Reason>
@@ -48,8 +48,8 @@ fn value(expr: &Expr, frame: &Frame) -> Result<Value, Reason>
     }
 }
 
-/// The whole number that an expression comes to, or the first reason that is met. A truth value, which no accepted text
-/// has where a number is wanted, counts as 0.
+/// The whole number of an expression, or the first reason. A truth value, which no accepted text
+/// has where a number is required, counts as 0.
 #[cycle(eval)]
 #[inline(always)]
 fn number(expr: &Expr, frame: &Frame) -> Result<Value, Reason>
@@ -63,7 +63,7 @@ fn number(expr: &Expr, frame: &Frame) -> Result<Value, Reason>
     }
 }
 
-/// The truth value that an expression comes to, as a value.
+/// The truth value of an expression, as a value.
 #[cycle(eval)]
 #[inline(always)]
 fn bool_value(expr: &Expr, frame: &Frame) -> Result<Value, Reason>
@@ -72,8 +72,8 @@ fn bool_value(expr: &Expr, frame: &Frame) -> Result<Value, Reason>
     Ok(Value::Bool(truth(expr, frame)?))
 }
 
-/// The whole number that an expression comes to. The first reason that is met is kept in `fault`, so that a number is
-/// handed from call to call in registers; behind a reason it is of no use.
+/// The whole number of an expression. The first reason that is met is kept in `fault`, so that a number is
+/// handed from call to call in registers; after a reason it is of no use.
 #[cycle(eval)]
 fn number_with_fault(expr: &Expr, frame: &Frame, fault: &mut Option<Reason>) -> i128
     ensures { met fault.new result ≡ after fault.old (wholes (value_of (expr_of expr.now) (values_of frame.now))) }
@@ -115,7 +115,7 @@ fn operand(expr: &Expr, frame: &Frame, fault: &mut Option<Reason>) -> i128
     }
 }
 
-/// The truth value that an expression comes to. A whole number, which no accepted text has where a truth value is
+/// The truth value of an expression. A whole number, which no accepted text has where a truth value is
 /// wanted, counts as FALSE.
 #[cycle(eval)]
 fn truth(expr: &Expr, frame: &Frame) -> Result<bool, Reason>
@@ -158,7 +158,7 @@ fn truth(expr: &Expr, frame: &Frame) -> Result<bool, Reason>
     }
 }
 
-/// FALSE for an expression that comes to a number, or the reason why it comes to none.
+/// FALSE for an expression of a number, or the reason why it has no value.
 #[cycle(eval)]
 fn untrue(expr: &Expr, frame: &Frame) -> Result<bool, Reason>
     ensures { result ≡ false_if_known (wholes (value_of (expr_of expr.now) (values_of frame.now))) }
@@ -192,7 +192,7 @@ fn both_values(left: &Expr, right: &Expr, frame: &Frame) -> Result<(Value, Value
     Ok((first, eval(right, frame)?))
 }
 
-/// Whether two operands have the same value, where that is wanted, or else whether they have not.
+/// Whether two operands have the same value, where that is required, or else whether they have not.
 #[cycle(eval)]
 #[inline(always)]
 fn are_equal(left: &Expr, right: &Expr, wanted: bool, frame: &Frame) -> Result<bool, Reason>

@@ -134,7 +134,7 @@ fn run_each(statements: &[Stmt], frame: &mut Frame, meter: &mut Meter) -> Result
     Ok(Flow::Went)
 }
 
-/// A run of the statements behind the first condition that is true, else of those of ELSE.
+/// A run of the statements after the first condition that is true, else of those of ELSE.
 #[cycle(exec)]
 #[inline(always)]
 fn run_choice(
@@ -157,7 +157,7 @@ fn run_choice(
     run_all(others, frame, meter)
 }
 
-/// A run of the statements behind the first label that fits, else of those of ELSE.
+/// A run of the statements after the first label that fits, else of those of ELSE.
 #[cycle(exec)]
 fn run_branch(
     branches: &[Branch],
@@ -274,7 +274,7 @@ fn run_for(
 
 /// A turn of FOR, which ends by the next value of the variable. Where it went on, that value has not passed the end.
 #[cycle(exec)]
-fn counted_turn(
+fn turn_of_for(
     body: &[Stmt],
     variable: &Reference,
     count: Count,
@@ -316,7 +316,7 @@ fn run_counts(
         return Ok(Flow::Went);
     }
     loop {
-        match counted_turn(body, variable, count, frame, meter)? {
+        match turn_of_for(body, variable, count, frame, meter)? {
             Flow::Went => {}
             Flow::Left => return Ok(Flow::Went),
             Flow::Returned => return Ok(Flow::Returned),

@@ -1,4 +1,4 @@
-//! The first reason that is met while an expression is evaluated, kept aside from what it comes to.
+//! The first reason that is met while an expression is evaluated, kept aside from its result.
 
 ghost use Rattle.std.specs.Prelude.{◌≡◌, Err, false};
 ghost use Rattle.fb_types.specs.Values.{binary_value};

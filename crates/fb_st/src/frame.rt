@@ -23,9 +23,9 @@ pub struct Slot {
     least: i64,
     most: i64,
     /// The number of the name (`Name::word`), where the name is short and the value a number of 64 bits, as most are: then
-    /// one comparison tells both. `APART` where they are not.
+    /// one comparison decides both. `APART` where they are not.
     key: u64,
-    /// The value, where the key tells that it is such a number.
+    /// The value, where the key says that it is such a number.
     small: i64,
     /// Any other value.
     value: Value,
@@ -247,7 +247,7 @@ impl Frame {
         has_name(self.slots.as_slice(), name)
     }
 
-    /// Adds a variable behind the others, and says whether its name is new. Else the frame stays as it is.
+    /// Adds a variable after the others, and says whether its name is new. Else the frame stays as it is.
     pub fn declare(&mut self, name: Name, ty: Ty, value: Value) -> Result<bool, AllocError>
         ensures new { IfOk result (λ b. b ≡ not (is_declared (declared_in self.old) name)) }
         ensures ok { IfOk result (λ b. self.new ≡ (if b then self.old ++ record { name = name; ty = ty; value = value } ∷ [] else self.old)) }
@@ -260,7 +260,7 @@ impl Frame {
         Ok(true)
     }
 
-    /// The whole number that a variable holds. Where the variable stands as expected there is no call on the way.
+    /// The whole number that a variable holds. Where the variable is as expected there is no call on the way.
     #[inline(always)]
     pub fn whole(&self, variable: &Reference) -> i128
         ensures { result ≡ whole (values_of self.now variable.now) }
@@ -303,7 +303,7 @@ impl Frame {
         }
     }
 
-    /// The number of 64 bits that a variable holds which stands where it is expected and has a short name: there is no
+    /// The number of 64 bits that a variable holds which is where it is expected and has a short name: there is no
     /// call on the way. `None` says nothing of it.
     #[inline(always)]
     pub fn small_at_once(&self, variable: &Reference) -> Option<i64>
@@ -323,7 +323,7 @@ impl Frame {
         self.standing(variable, variable.index())?.small()
     }
 
-    /// The truth value that a variable holds which stands where it is expected. `None` says nothing of it.
+    /// The truth value that a variable holds which is where it is expected. `None` says nothing of it.
     #[inline(always)]
     pub(crate) fn small_truth(&self, variable: &Reference) -> Option<bool>
         ensures { IfSome result (λ b. values_of self.now variable.now ≡ Value.Bool b) }
@@ -357,7 +357,7 @@ impl Frame {
         }
     }
 
-    /// Looks for a variable among all, and notes its index beside the name, so that it is found at once from then on.
+    /// Looks for a variable among all, and notes its index next to the name, so that it is found at once from then on.
     #[inline(never)]
     fn search(&self, variable: &Reference) -> Option<usize>
         ensures { result ≡ index_of variable.now self.now }
@@ -384,7 +384,7 @@ impl Frame {
         }
     }
 
-    /// The same, whatever the value is and wherever the variable stands.
+    /// The same, whatever the value is and wherever the variable is.
     // Written into `put`: a call would have the value put together in memory each time.
     #[inline(always)]
     fn put_any(&mut self, variable: &Reference, value: Value)
@@ -400,7 +400,7 @@ impl Frame {
         found.put(value);
     }
 
-    /// Gives a variable a number where it stands as expected, has a short name and holds such a number, and says whether
+    /// Gives a variable a number where it is as expected, has a short name and holds such a number, and says whether
     /// it did. Else the frame stays as it is.
     #[inline(always)]
     fn puts(&mut self, variable: &Reference, number: i64) -> bool
@@ -417,7 +417,7 @@ impl Frame {
         true
     }
 
-    /// Whether a variable stands at an index, has a short name and holds a number of 64 bits.
+    /// Whether a variable is at an index, has a short name and holds a number of 64 bits.
     #[inline(always)]
     fn has_small(&self, variable: &Reference, index: usize) -> bool
         ensures { result ≡ true → index_of variable.now self.now ≡ Some index }
@@ -428,7 +428,7 @@ impl Frame {
         }
     }
 
-    /// Gives a variable a number where it stands as expected, has a short name and a type that holds the number, and says
+    /// Gives a variable a number where it is as expected, has a short name and a type that holds the number, and says
     /// whether it did. Else the frame stays as it is.
     #[inline(always)]
     pub(crate) fn takes(&mut self, variable: &Reference, number: i64) -> bool
@@ -445,7 +445,7 @@ impl Frame {
         true
     }
 
-    /// Whether a variable stands at an index and its type holds a number.
+    /// Whether a variable is at an index and its type holds a number.
     #[inline(always)]
     fn may_take(&self, variable: &Reference, index: usize, number: i64) -> bool
         ensures { result ≡ true → (index_of variable.now self.now ≡ Some index) × (fits (types_in (declared_in self.now) variable.now) (Value.Whole number) ≡ true) }

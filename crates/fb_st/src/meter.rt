@@ -7,7 +7,7 @@ use fb_types::Reason;
 /// How a statement ends where no reason stops the run.
 #[derive(Clone, Copy, PartialEq, Eq)]
 pub enum Flow {
-    /// The run goes on behind it.
+    /// The run goes on after it.
     Went,
     /// It left the loop around it.
     Left,

@@ -1,5 +1,5 @@
 //! Values of expressions whose numbers all fit 64 bits, as most do. They are handed on in registers, and an operator is
-//! an instruction or two. Where a number does not fit, a variable does not stand where it is expected, or there is a
+//! an instruction or two. Where a number does not fit, a variable is not where it is expected, or there is a
 //! reason, nothing is said: then `eval` evaluates the expression anew, which it may, since expressions have no effects.
 
 ghost use Rattle.std.specs.Prelude.{◌≡◌, Ok, IfSome};
@@ -10,7 +10,7 @@ ghost use Rattle.fb_st.specs.Frames.{values_of};
 use crate::frame::Frame;
 use fb_types::{BinaryOperator, Expr, Value};
 
-/// The number that an expression comes to, where it and all numbers on the way to it fit. `None` says nothing of it.
+/// The number of an expression, where it and all numbers on the way to it fit. `None` says nothing of it.
 /// Most have one operator or two, at numbers and variables: there is no call on the way, and no register to be kept for
 /// one.
 #[cycle(small)]
@@ -115,18 +115,18 @@ fn number_at_once(expr: &Expr, frame: &Frame) -> Option<i64>
     None
 }
 
-/// The truth value that an expression comes to, where all numbers on the way to it fit. `None` says nothing of it. Most
+/// The truth value of an expression, where all numbers on the way to it fit. `None` says nothing of it. Most
 /// compare numbers and variables, or join two such by AND, with no call on the way.
 #[cycle(small_truth)]
 pub fn small_truth(expr: &Expr, frame: &Frame) -> Option<bool>
     ensures { IfSome result (λ b. value_of (expr_of expr.now) (values_of frame.now) ≡ bool_result b) }
 {
-    if let Some(is_true) = told_at_once(expr, frame) {
+    if let Some(is_true) = comparison_at_once(expr, frame) {
         return Some(is_true);
     }
     if let Expr::Binary(BinaryOperator::And, left, right) = expr {
-        if let Some(a) = told_at_once(left.get(), frame) {
-            if let Some(b) = told_at_once(right.get(), frame) {
+        if let Some(a) = comparison_at_once(left.get(), frame) {
+            if let Some(b) = comparison_at_once(right.get(), frame) {
                 return Some(a && b);
             }
         }
@@ -134,15 +134,16 @@ pub fn small_truth(expr: &Expr, frame: &Frame) -> Option<bool>
     any_small_truth(expr, frame)
 }
 
-/// What a comparison of numbers and variables tells, where these are found without a call. `None` says nothing of it.
+/// The result of a comparison of numbers and variables, where these are found without a call. `None` says nothing of
+/// it.
 #[inline(always)]
-fn told_at_once(expr: &Expr, frame: &Frame) -> Option<bool>
+fn comparison_at_once(expr: &Expr, frame: &Frame) -> Option<bool>
     ensures { IfSome result (λ b. value_of (expr_of expr.now) (values_of frame.now) ≡ bool_result b) }
 {
     if let Expr::Binary(operator, left, right) = expr {
         if let Some(x) = number_at_once(left.get(), frame) {
             if let Some(y) = number_at_once(right.get(), frame) {
-                return small_told(*operator, x, y);
+                return small_comparison(*operator, x, y);
             }
         }
     }
@@ -163,7 +164,7 @@ fn any_small_truth(expr: &Expr, frame: &Frame) -> Option<bool>
         }
         let x = small_operand(left.get(), frame)?;
         let y = small_operand(right.get(), frame)?;
-        return small_told(*operator, x, y);
+        return small_comparison(*operator, x, y);
     }
     match expr {
         Expr::Group(inner) => small_truth(inner.get(), frame),
@@ -205,7 +206,7 @@ fn small_remainder(x: i64, y: i64) -> Option<i64>
 
 /// The truth value that an operator gives at two numbers, where it compares them.
 #[inline(always)]
-fn small_told(operator: BinaryOperator, x: i64, y: i64) -> Option<bool>
+fn small_comparison(operator: BinaryOperator, x: i64, y: i64) -> Option<bool>
     ensures { IfSome result (λ b. binary_value operator (Value.Whole x) (Value.Whole y) ≡ bool_result b) }
 {
     match operator {

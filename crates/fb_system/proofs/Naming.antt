@@ -9,7 +9,7 @@ use Rattle.fb_types.specs.Names.{Name, Path}
 use Rattle.fb_types.specs.Blocks.{Kind, Event, among, named, event_blocks, event_names, ports_of, ports_of_event_block, variable_names}
 use Rattle.fb_types.specs.Flat.{kind_of, type_name, type_named, network_of, instance_in, kind_of_instance, inside, network_at, instance_at}
 use Rattle.fb_types.specs.Repeated.{Twice, Placed, NameTwice, networks, networks_in, internals_of, port_names, parameter_lists}
-use Rattle.fb_types.specs.Unknown.{NameUnknown, Wanted, all_of, data_ins, parameters_wanted, types_wanted}
+use Rattle.fb_types.specs.Unknown.{NameUnknown, Wanted, all_of, data_ins, required_parameters, required_types}
 use Rattle.fb_types.specs.declared.event_kind.EventKind.{EventKind}
 use Rattle.fb_types.specs.declared.event_kind.EventKind.TheVariants.{Restart, Split, Merge, Rendezvous, Permit, Select, Switch, Delay, Cycle, SetReset, DataLatch, RisingEdge, FallingEdge, CountUp}
 use Rattle.fb_types.specs.declared.deploy.Plan.{Plan}
@@ -216,11 +216,11 @@ parameter_unknown lib plan p i k n known h of other c =
     let ins = variable_names (ports_of k).inputs in
     let w : Wanted = (n, ins) in
     let here : Contains (all_of (parameter_names i.parameters) ins) w = Contains-map (λ (n : Name). (n, ins)) (parameter_names i.parameters) n c in
-    let wanted : Contains (parameters_wanted lib i) w =
+    let wanted : Contains (required_parameters lib i) w =
     subst (λ (o : Option Kind). Contains (elim o as (λ _. List Wanted) [ None ↦ [] | Some k ↦ all_of (parameter_names i.parameters) (variable_names (ports_of k).inputs) ]) w)
     (sym of) here in
-    let inside_net = Contains-flat_map (parameters_wanted lib) at.network.instances i w at.there wanted in
-    let all : Contains (flat_map (parameters_wanted lib) at.member.placed.1.instances) w =
-    subst (λ (net : Network). Contains (flat_map (parameters_wanted lib) net.instances) w) (sym at.member.is) inside_net in
+    let inside_net = Contains-flat_map (required_parameters lib) at.network.instances i w at.there wanted in
+    let all : Contains (flat_map (required_parameters lib) at.member.placed.1.instances) w =
+    subst (λ (net : Network). Contains (flat_map (required_parameters lib) net.instances) w) (sym at.member.is) inside_net in
     known (of_network lib plan at.member.placed at.member.there
-    (inl (w, Contains-append_right (types_wanted lib at.member.placed.1) (flat_map (parameters_wanted lib) at.member.placed.1.instances) w all, other)))
+    (inl (w, Contains-append_right (required_types lib at.member.placed.1) (flat_map (required_parameters lib) at.member.placed.1.instances) w all, other)))

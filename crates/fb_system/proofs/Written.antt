@@ -11,7 +11,7 @@ use Rattle.fb_types.specs.Names.{Name, same_name}
 use Rattle.fb_types.specs.Blocks.{event_names, variable_names, ports_of}
 use Rattle.fb_types.specs.Flat.{kind_of}
 use Rattle.fb_types.specs.Repeated.{Twice, NameTwice, networks, basics, interfaces, internals_of, with_lists}
-use Rattle.fb_types.specs.Unknown.{NameUnknown, Wanted, all_of, wanted, types_wanted, withs_wanted, chart_wanted, parameters_wanted, deployment_wanted}
+use Rattle.fb_types.specs.Unknown.{NameUnknown, Wanted, all_of, wanted, required_types, required_withs, required_chart, required_parameters, required_deployment}
 use Rattle.fb_types.specs.declared.library.Library.{Library}
 use Rattle.fb_types.specs.declared.library.BlockType.{BlockType}
 use Rattle.fb_types.specs.declared.library.BlockType.TheVariants as block
@@ -82,22 +82,22 @@ known_from_wanted lib plan n ns known c =
       | false ↦ λ e. absurd (known (inl ((n, ns), c, λ there. true≢false (sym (any_from_contains n ns there) ∙ e))))
     ] refl
 
-withs_in_wanted : (lib : Library) (plan : Plan) (t : BlockType) (w : Wanted) → Contains lib.blocks t → Contains (withs_wanted (ports_of (kind_of t))) w → Contains (wanted lib plan) w
+withs_in_wanted : (lib : Library) (plan : Plan) (t : BlockType) (w : Wanted) → Contains lib.blocks t → Contains (required_withs (ports_of (kind_of t))) w → Contains (wanted lib plan) w
 withs_in_wanted lib plan t w there c =
     let p = ports_of (kind_of t) in
-    let types = flat_map (λ n. types_wanted lib n.1) (networks lib) in
-    let withs = flat_map withs_wanted (interfaces lib) in
-    let charts = flat_map chart_wanted (basics lib) in
-    let parameters = flat_map (λ n. flat_map (parameters_wanted lib) n.1.instances) (networks lib) in
-    let here : Contains withs w = Contains-flat_map withs_wanted (interfaces lib) p w (Contains-map (λ t. ports_of (kind_of t)) lib.blocks t there) c in
-    Contains-append_left (((types ++ withs) ++ charts) ++ parameters) (deployment_wanted lib plan) w
+    let types = flat_map (λ n. required_types lib n.1) (networks lib) in
+    let withs = flat_map required_withs (interfaces lib) in
+    let charts = flat_map required_chart (basics lib) in
+    let parameters = flat_map (λ n. flat_map (required_parameters lib) n.1.instances) (networks lib) in
+    let here : Contains withs w = Contains-flat_map required_withs (interfaces lib) p w (Contains-map (λ t. ports_of (kind_of t)) lib.blocks t there) c in
+    Contains-append_left (((types ++ withs) ++ charts) ++ parameters) (required_deployment lib plan) w
     (Contains-append_left ((types ++ withs) ++ charts) parameters w (Contains-append_left (types ++ withs) charts w (Contains-append_right types withs w here)))
 
 events_are :
     (lib : Library) (plan : Plan) (t : BlockType) (vs : List Variable) (events : List EventPort) → ¬ (NameTwice lib plan) → ¬ (NameUnknown lib plan) → Contains lib.blocks t
     → ¬ (Twice (event_names events))
     → ((e : EventPort) → Contains events e → Contains (ports_of (kind_of t)).event_inputs e ⊎ Contains (ports_of (kind_of t)).event_outputs e)
-    → ((w : Wanted) → Contains (flat_map (λ e. all_of e.with (variable_names vs)) events) w → Contains (withs_wanted (ports_of (kind_of t))) w)
+    → ((w : Wanted) → Contains (flat_map (λ e. all_of e.with (variable_names vs)) events) w → Contains (required_withs (ports_of (kind_of t))) w)
     → AreEvents vs events
 events_are lib plan t vs events once known there differ among lists = record {
   once = differ;

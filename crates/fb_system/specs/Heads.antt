@@ -13,7 +13,7 @@ use Rattle.fb_system.specs.declared.heads.HeadOf.{HeadOf}
 abbrev pub head_events : System → HeadOf → List EventPort
 head_events sys x = let its = ports_at sys (path_at sys x.instance) in if x.taken then its.event_inputs else its.event_outputs
 
--- the numbers of a head stand for something in the system
+-- the numbers of a head represent something in the system
 pub record IsOfHead (sys : System) (x : HeadOf) : Type 0 where
   pub instance : x.instance < length sys.paths
   pub resource : x.resource < length sys.resource_names

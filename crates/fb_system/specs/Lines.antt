@@ -20,7 +20,7 @@ line_variables sys l =
     let n = (line_of sys l).event in
     if l.taken then inputs_with its n else outputs_with its n
 
--- The numbers of a line stand for something in the system, and there is a value for each variable WITH the event.
+-- The numbers of a line represent something in the system, and there is a value for each variable WITH the event.
 pub record BelongsTo (sys : System) (l : Line) : Type 0 where
   pub instance : l.instance < length sys.paths
   pub resource : l.key.resource < length sys.resource_names

@@ -26,7 +26,7 @@ event_input lib i e = record { at = path_of lib i; name = event_at (ports_here l
 abbrev pub event_output : Library → (instance event : ℕ) → Port
 event_output lib i e = record { at = path_of lib i; name = event_at (ports_here lib i).event_outputs e }
 
--- the port that an event's numbers stand for, as in a flat system of the declaration
+-- the port that an event's numbers represent, as in a flat system of the declaration
 abbrev pub port_of : Library → Target → Port
 port_of lib t = if t.is_output then event_output lib t.instance t.event else event_input lib t.instance t.event
 
@@ -50,7 +50,7 @@ data_input lib i v = record { at = path_of lib i; name = variable_at (ports_here
 abbrev pub data_output : Library → (instance variable : ℕ) → Port
 data_output lib i v = record { at = path_of lib i; name = variable_at (ports_here lib i).outputs v }
 
--- the port that a variable's numbers stand for
+-- the port that a variable's numbers represent
 abbrev pub variable_of : Library → InstanceVariable → Port
 variable_of lib x = if x.is_output then data_output lib x.instance x.variable else data_input lib x.instance x.variable
 

@@ -14,12 +14,12 @@ abbrev pub ends_in : List (List ConnectionEnd) → ℕ → List ConnectionEnd
 ends_in first port = slice_index_or first port []
 
 -- the ends at a port, of those of the later ports that have any
-abbrev pub ends_behind : List (ℕ × List ConnectionEnd) → ℕ → List ConnectionEnd
-ends_behind behind port = unwrap_or (lookup (is_at (nat_cmp port)) behind) []
+abbrev pub further_ends : List (ℕ × List ConnectionEnd) → ℕ → List ConnectionEnd
+further_ends behind port = unwrap_or (lookup (is_at (nat_cmp port)) behind) []
 
 -- the ends at a port
 abbrev pub ends_of : List (List ConnectionEnd) × List (ℕ × List ConnectionEnd) → ℕ → List ConnectionEnd
-ends_of row port = if nat_lt port 16 then ends_in row.0 port else ends_behind row.1 port
+ends_of row port = if nat_lt port 16 then ends_in row.0 port else further_ends row.1 port
 
 -- the ports of a component
 abbrev pub row_of : List (List (List ConnectionEnd) × List (ℕ × List ConnectionEnd)) → ℕ → List (List ConnectionEnd) × List (ℕ × List ConnectionEnd)

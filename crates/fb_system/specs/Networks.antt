@@ -1,4 +1,4 @@
--- The networks of an application by number, and what the ends of their connections stand for (IEC 61499-1, 5.3).
+-- The networks of an application by number, and what the ends of their connections represent (IEC 61499-1, 5.3).
 use Rattle.std.specs.Prelude.{⊤, ◌≡◌, ◌≤◌, ◌<◌, ℕ, List, [], ◌∷◌, map, length, Option, Some, None, All, slice_get}
 use Rattle.std.specs.List.{filter}
 use Rattle.fb_types.specs.Names.{Name, Path, Port, same_port}
@@ -76,7 +76,7 @@ abbrev pub side : Option ℕ → (component boundary : Ports → List Name) → 
 side None component boundary = boundary
 side (Some j) component boundary = component
 
--- In the network at a path, an end stands for a port.
+-- In the network at a path, an end represents a port.
 pub record IsEndOf (lib : Library) (p : Path) (component boundary : Ports → List Name) (e : ConnectionEnd) (q : Port) : Type 0 where
   pub there : IsThere lib p e.component q.at
   pub kind : Kind

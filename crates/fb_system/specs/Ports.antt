@@ -37,7 +37,7 @@ abbrev pub data_output : System → (instance variable : ℕ) → Port
 data_output sys i v =
     let p = path_at sys i in record { at = p; name = unwrap_or (slice_get (variable_names (ports_at sys p).outputs) v) [] }
 
--- the port that a variable's numbers stand for
+-- the port that a variable's numbers represent
 abbrev pub variable_of : System → InstanceVariable → Port
 variable_of sys x = if x.is_output then data_output sys x.instance x.variable else data_input sys x.instance x.variable
 

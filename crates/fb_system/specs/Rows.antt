@@ -32,7 +32,7 @@ pub record AreSets (vs : List Variable) (ss : List Setting) (xs : List SlotValue
 
 -- ---- Stimuli
 
--- The row stands for the stimulus: its instance among those of the application, and the ports of the instance's type.
+-- The row represents the stimulus: its instance among those of the application, and the ports of the instance's type.
 pub record IsRow (lib : Library) (s : Stimulus) (row : StimulusRow) : Type 0 where
   pub tick : row.tick ≡ s.tick
   pub instance : Instance

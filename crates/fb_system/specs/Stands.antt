@@ -1,4 +1,4 @@
--- Indices that stand for variables, and those of the variables WITH each event (IEC 61499-1, 5.1; indices from 0 are this
+-- Indices that represent variables, and those of the variables WITH each event (IEC 61499-1, 5.1; indices from 0 are this
 -- project's profile).
 use Rattle.std.specs.Prelude.{◌≡◌, ◌<◌, ℕ, List, [], map, length, All, Some, slice_get, unwrap_or}
 use Rattle.fb_types.specs.Names.{Name}
@@ -13,7 +13,7 @@ use Rattle.fb_system.specs.declared.with_indexes.WithIndexes.{WithIndexes}
 abbrev pub variable_at : List Variable → ℕ → Name
 variable_at vs k = unwrap_or (slice_get (variable_names vs) k) []
 
--- indices that stand for these names
+-- indices that represent these names
 pub record AreIndexes (vs : List Variable) (names : List Name) (indexes : List ℕ) : Type 0 where
   pub named : map (variable_at vs) indexes ≡ names
   pub within : All (λ k. k < length vs) indexes

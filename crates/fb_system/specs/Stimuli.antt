@@ -15,7 +15,7 @@ use Rattle.fb_system.specs.declared.stimulus.StimulusAt.{StimulusAt}
 abbrev pub set_of : System → (instance : ℕ) → SlotValue → Bound
 set_of sys k x = record { variable = (data_input sys k x.index).name; value = x.value }
 
--- The numbers stand for the stimulus at a row.
+-- The numbers represent the stimulus at a row.
 pub record IsStimulusAt (i : Inputs) (row : ℕ) (x : StimulusAt) : Type 0 where
   pub stimulus : Stimulus
   pub is : slice_get (stimuli_of i) row ≡ Some stimulus

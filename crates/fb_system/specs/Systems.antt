@@ -1,4 +1,4 @@
--- What the tables of a system stand for (the numbers are this project's profile).
+-- What the tables of a system represent (the numbers are this project's profile).
 use Rattle.std.specs.Prelude.{◌≡◌, []}
 use Rattle.fb_types.specs.EventPorts.{ArePortsOfKinds}
 use Rattle.fb_types.specs.Headline.{Inputs, AreAccepted, system_of}

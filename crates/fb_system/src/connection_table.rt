@@ -2,7 +2,7 @@
 
 ghost use Rattle.std.specs.Prelude.{◌≡◌, ℕ, [], ◌∷◌, ◌++◌, ◌&&◌, cond, nat_eq, IfOk, OnOk};
 ghost use Rattle.fb_check_names.specs.declared.numbers.ConnectionEnd.{ConnectionEnd};
-ghost use Rattle.fb_system.specs.NetworkTables.{ends_in, ends_behind, ends_of, row_of, ends_at};
+ghost use Rattle.fb_system.specs.NetworkTables.{ends_in, further_ends, ends_of, row_of, ends_at};
 ghost use Rattle.fb_system.specs.Wirings.{same_end};
 
 use fb_check_names::ConnectionEnd;
@@ -54,13 +54,13 @@ fn push_first(
 }
 
 /// Adds an end to a later port.
-fn push_behind(
+fn push_further(
     behind: &mut PortMap,
     alloc: Global,
     port: usize,
     end: ConnectionEnd,
 ) -> Result<(), AllocError>
-    ensures { OnOk result ((p : ℕ) → ends_behind behind.new.entries p ≡ cond (nat_eq port p) (ends_behind behind.old.entries p ++ end ∷ []) (ends_behind behind.old.entries p)) }
+    ensures { OnOk result ((p : ℕ) → further_ends behind.new.entries p ≡ cond (nat_eq port p) (further_ends behind.old.entries p ++ end ∷ []) (further_ends behind.old.entries p)) }
 {
     if let Some(ends) = behind.get_mut(&port) {
         ends.push(end)?;
@@ -93,14 +93,14 @@ impl PortEnds {
                 None => &[],
             }
         } else {
-            self.get_behind(port)
+            self.get_further(port)
         }
     }
 
     /// The ends at a later port.
     #[inline(never)]
-    fn get_behind(&self, port: usize) -> &[ConnectionEnd]
-        ensures { result.now ≡ ends_behind self.now.1 port }
+    fn get_further(&self, port: usize) -> &[ConnectionEnd]
+        ensures { result.now ≡ further_ends self.now.1 port }
     {
         match self.behind.get(&port) {
             Some(ends) => ends.as_slice(),
@@ -115,7 +115,7 @@ impl PortEnds {
         if port < FIRST_PORTS {
             push_first(&mut self.first, alloc, port, end)
         } else {
-            push_behind(&mut self.behind, alloc, port, end)
+            push_further(&mut self.behind, alloc, port, end)
         }
     }
 }

@@ -96,8 +96,8 @@ fn add_sources(
     Ok(())
 }
 
-/// The number of the row behind these, of those that are kept.
-fn row_behind(rows: usize) -> u32 {
+/// The number of the row after these, of those that are kept.
+fn row_after(rows: usize) -> u32 {
     rows.min(MOST_ENDS) as u32
 }
 
@@ -109,13 +109,13 @@ fn add_instance(ends: &mut Ends, system: &System, instance: u32) -> Result<(), A
     ensures targets { OnOk result (AreTargets (system_of system.now) ends.new.targets) }
     ensures sources { OnOk result (AreSources (system_of system.now) ends.new.sources) }
 {
-    let event_inputs = row_behind(ends.targets.len());
+    let event_inputs = row_after(ends.targets.len());
     add_targets(&mut ends.targets, system, instance, false)?;
-    let event_outputs = row_behind(ends.targets.len());
+    let event_outputs = row_after(ends.targets.len());
     add_targets(&mut ends.targets, system, instance, true)?;
-    let inputs = row_behind(ends.sources.len());
+    let inputs = row_after(ends.sources.len());
     add_sources(&mut ends.sources, system, instance, false)?;
-    let outputs = row_behind(ends.sources.len());
+    let outputs = row_after(ends.sources.len());
     add_sources(&mut ends.sources, system, instance, true)?;
     ends.firsts.push(FirstRows {
         event_inputs,

@@ -8,7 +8,7 @@ use fb_types::Items;
 /// Accepted inputs by number.
 #[derive(Drop)]
 pub struct Given {
-    /// What the names stand for.
+    /// The meaning of the names.
     pub numbers: Resolved,
     /// For each instance of the application, the resource that holds it.
     pub holders: Items<usize>,

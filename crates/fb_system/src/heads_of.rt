@@ -169,8 +169,8 @@ fn add_rows(
     Ok(())
 }
 
-/// The number of the row behind these, of those that are kept.
-fn row_behind(rows: usize) -> u32 {
+/// The number of the row after these, of those that are kept.
+fn row_after(rows: usize) -> u32 {
     rows.min(MOST_ROWS) as u32
 }
 
@@ -191,9 +191,9 @@ fn add_instance(
         return Ok(());
     }
     let resource = resource as u32;
-    let inputs = row_behind(heads.rows.len());
+    let inputs = row_after(heads.rows.len());
     add_rows(&mut heads.rows, system, text, resource, instance, true)?;
-    let outputs = row_behind(heads.rows.len());
+    let outputs = row_after(heads.rows.len());
     add_rows(&mut heads.rows, system, text, resource, instance, false)?;
     heads.firsts.push(Firsts { inputs, outputs })
 }

@@ -67,7 +67,7 @@ fn of_blocks(
 }
 
 /// The indices of the variables WITH each event of each type of a declaration, and of each event block, in near linear
-/// time. In the declaration no name is given twice, and each stands for something.
+/// time. In the declaration no name is given twice, and each is known.
 ///
 /// # Errors
 ///

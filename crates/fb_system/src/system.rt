@@ -40,8 +40,8 @@ use std::alloc::{AllocError, Global};
 use std::marker::Model;
 use std::sync::Arc;
 
-/// An accepted system. Contracts see the inputs that it stands for, and through them the flat system of the definitions.
-/// Instances, events, variables, resources and links are numbers here, each from 0.
+/// An accepted system. Contracts see the inputs that it represents, and through them the flat system of the
+/// definitions. Instances, events, variables, resources and links are numbers here, each from 0.
 pub struct System {
     whole: Arc<Whole, Global>,
 }

@@ -5,7 +5,7 @@ use Rattle.fb_types.specs.Simulation.{Ending, AtHorizon, AtStop}
 use Rattle.fb_trace.specs.declared.last.Outcome.{Outcome}
 use Rattle.fb_trace.specs.declared.last.Outcome.TheVariants.{End, Stop}
 
--- the ending that it stands for
+-- the ending that it represents
 abbrev pub ending_of : Outcome → Ending
 ending_of (End h) = AtHorizon h
 ending_of (Stop m) = AtStop m.tick m.resource m.reason

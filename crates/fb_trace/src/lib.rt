@@ -22,5 +22,5 @@ mod start;
 pub use fault::WriteFault;
 pub use front::write_front;
 pub use last::{Outcome, write_last};
-pub use lines::{write_counted, write_lines};
+pub use lines::{write_lines, write_lines_with_count};
 pub use merging::merge;

@@ -94,7 +94,7 @@ fn put_bindings<W: Write>(
     )
 }
 
-/// Puts a line of form one with the names that its numbers stand for. The tick is kept as digits.
+/// Puts a line of form one with the names of its numbers. The tick is kept as digits.
 #[inline(never)]
 fn put_by_names<W: Write>(
     page: &mut Page,
@@ -243,7 +243,7 @@ fn put_lines<W: Write>(
 /// # Errors
 /// If the writer returns an error or takes no byte. It then has a beginning of the text, but not all of it. The fault
 /// says how many bytes.
-pub fn write_counted<W: Write>(
+pub fn write_lines_with_count<W: Write>(
     out: &mut W,
     system: &System,
     form: Form,
@@ -279,6 +279,6 @@ pub fn write_lines<W: Write>(
     ensures part { IfErr result (λ fault. let sys = system_of system.now in
         IsPartWritten (W.contents out.old) (W.contents out.new) (lines_text form sys (map (line_of sys) lines.now)) fault.written) }
 {
-    write_counted(out, system, form, lines)?;
+    write_lines_with_count(out, system, form, lines)?;
     Ok(())
 }

@@ -33,7 +33,7 @@ pub(crate) fn write_digits(number: u128, digits: &mut [u8; MOST_DIGITS]) -> usiz
 }
 
 /// The size in bytes of a kept number. The digits of a `u64` and a blank take no more.
-pub(crate) const NOTED: usize = 24;
+pub(crate) const LAST_TICK: usize = 24;
 
 /// The last number as digits and a blank. Usually a line has the tick of the line before.
 #[derive(Drop)]
@@ -41,19 +41,19 @@ pub(crate) struct Noted {
     number: u64,
     /// The number without its last digit.
     tens: u64,
-    text: [u8; NOTED],
+    text: [u8; LAST_TICK],
     width: usize,
 }
 
 impl Model for Noted {
     ghost use Rattle.std.specs.Prelude.{◌≡◌, ◌≤◌, ◌/◌, ◌++◌, ℕ, codes, decimal, take};
-    ghost use Rattle.fb_trace.specs.declared.number.TheConstants.{NOTED};
+    ghost use Rattle.fb_trace.specs.declared.number.TheConstants.{LAST_TICK};
 
     ghost Value = { ℕ };
 
     ghost view = { λ n. n.number };
 
-    ghost invariant = { λ n. (n.width ≤ NOTED) × (take n.width n.text ≡ decimal n.number ++ codes " ") × (n.tens ≡ n.number / 10) };
+    ghost invariant = { λ n. (n.width ≤ LAST_TICK) × (take n.width n.text ≡ decimal n.number ++ codes " ") × (n.tens ≡ n.number / 10) };
 }
 
 impl Noted {
@@ -64,7 +64,7 @@ impl Noted {
         let mut digits = [0; MOST_DIGITS];
         let start = write_digits(number as u128, &mut digits);
         let count = MOST_DIGITS - start;
-        let mut text = [0; NOTED];
+        let mut text = [0; LAST_TICK];
         copy_text(&mut text[..count], &digits[start..]);
         text[count] = b' ';
         Noted {
@@ -101,8 +101,8 @@ impl Noted {
 
     /// The bytes that begin with the digits of the number and a blank, and the number of these.
     #[inline(always)]
-    pub(crate) fn text(&self) -> (&[u8; NOTED], usize)
-        ensures within { result.1 ≤ NOTED }
+    pub(crate) fn text(&self) -> (&[u8; LAST_TICK], usize)
+        ensures within { result.1 ≤ LAST_TICK }
         ensures text { take result.1 result.0.now ≡ decimal self.now ++ codes " " }
     {
         (&self.text, self.width)

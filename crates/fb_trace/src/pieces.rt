@@ -8,7 +8,7 @@ ghost use Rattle.fb_system.specs.Stands.{variable_at};
 ghost use Rattle.fb_trace.specs.Progress.{Gathers, Puts};
 
 use crate::fault::WriteFault;
-use crate::number::{NOTED, Noted};
+use crate::number::{LAST_TICK, Noted};
 use crate::page::{Page, SHORT, SIZE};
 use fb_system::System;
 use fb_types::{Form, Key, Value, Variable};
@@ -58,7 +58,7 @@ pub(crate) fn put_tick_and_resource<W: Write>(
 }
 
 /// The most bytes of the row with the tick and of what is between the texts of a head.
-const HEAD: usize = NOTED + SIGN + 1;
+const HEAD: usize = LAST_TICK + SIGN + 1;
 
 /// The length of the sign of an event.
 const SIGN: usize = 3;

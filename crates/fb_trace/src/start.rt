@@ -3,14 +3,14 @@
 ghost use Rattle.std.specs.Prelude.{◌≡◌, ◌≤◌, ◌+◌, ◌++◌, codes, decimal, length, take};
 ghost use Rattle.fb_trace.specs.Starts.{first_value};
 
-use crate::number::{NOTED, Noted};
+use crate::number::{LAST_TICK, Noted};
 use crate::page::{Page, SIZE};
 use crate::pieces::{VALUE, append_value};
 use fb_system::{Head, ROW};
 use fb_types::Value;
 
 /// The most bytes of the rows of a tick and of a head, and a value.
-pub(crate) const START: usize = NOTED + ROW + VALUE;
+pub(crate) const START: usize = LAST_TICK + ROW + VALUE;
 
 /// Puts the first value, if there is one. It fits.
 #[inline(always)]

@@ -8,6 +8,6 @@ in_order None others = []
 in_order (Some first) others = first ∷ others
 
 -- Without a first emission there are no others.
-abbrev pub AreBehind : Option Emission → List Emission → Type 0
-AreBehind None others = others ≡ []
-AreBehind (Some first) others = Unit {0}
+abbrev pub AreAfter : Option Emission → List Emission → Type 0
+AreAfter None others = others ≡ []
+AreAfter (Some first) others = Unit {0}

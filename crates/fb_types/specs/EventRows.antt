@@ -1,4 +1,4 @@
--- What the rows of the event blocks stand for.
+-- What the rows of the event blocks represent.
 use Rattle.std.specs.Prelude.{List, map, Option, option_map}
 use Rattle.std.specs.Borrow.{Bor}
 use Rattle.fb_types.specs.Blocks.{named, event_with, variable, ports}

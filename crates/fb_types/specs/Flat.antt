@@ -39,7 +39,7 @@ abbrev pub type_name : BlockType → Name
 type_name (block.Basic t) = t.name
 type_name (block.Composite t) = t.name
 
--- an event block's name stands for it, and any other for the block type of the declaration
+-- an event block's name represents it, and any other for the block type of the declaration
 abbrev pub type_named : Library → Name → Option Kind
 type_named lib n =
     elim (named (λ e. e.0) n event_blocks) [ Some e ↦ Some (Event e.1) | None ↦ option_map kind_of (named type_name n lib.blocks) ]
@@ -91,7 +91,7 @@ abbrev pub parent : Path → Path
 parent [] = []
 parent (n ∷ p) = p
 
--- the port that a name stands for in the network at a path
+-- the port that a name represents in the network at a path
 abbrev pub port_in : Path → PortName → Port
 port_in p n = elim n.component [ None ↦ record { at = p; name = n.port } | Some c ↦ record { at = c ∷ p; name = n.port } ]
 

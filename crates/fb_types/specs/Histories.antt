@@ -12,14 +12,14 @@ use Rattle.fb_types.specs.declared.value.Reason.{Reason}
 
 -- Up to which tick the simulation has taken a resource whole if it stops: a tick more for the resources below that of the
 -- stop.
-abbrev pub told_to : (stop_tick stop_resource resource : ℕ) → ℕ
-told_to m s r = if nat_lt r s then m + 1 else m
+abbrev pub history_to : (stop_tick stop_resource resource : ℕ) → ℕ
+history_to m s r = if nat_lt r s then m + 1 else m
 
 -- A resource has a history for a tick that is at most the horizon and, if the simulation stops, not past what it has
 -- taken whole.
-abbrev pub IsTold : Ending → (resource tick : ℕ) → Type 0
-IsTold (AtHorizon h) r t = t ≤ h
-IsTold (AtStop m s reason) r t = t ≤ told_to m s r
+abbrev pub HasHistory : Ending → (resource tick : ℕ) → Type 0
+HasHistory (AtHorizon h) r t = t ≤ h
+HasHistory (AtStop m s reason) r t = t ≤ history_to m s r
 
 -- ---- The history
 

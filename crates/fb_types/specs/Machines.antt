@@ -3,7 +3,7 @@ use Rattle.std.specs.Prelude.{◌≡◌, ◌<◌, ℕ, Option, Some, None, List,
 use Rattle.fb_types.specs.Keys.{Precedes, Map, Change, or_else, without, changed_to}
 use Rattle.fb_types.specs.declared.key.Key.{Key}
 
--- What the taking of one event gives: the part after it, changes of local events and timers, messages under the keys of
+-- What taking one event gives: the part after it, changes of local events and timers, messages under the keys of
 -- their arrivals, lines, and a reason to stop.
 pub record Outcome (Part Event Line Reason : Type 0) : Type 0 where
   pub part : Part

@@ -1,4 +1,4 @@
--- What the numbers stand for that lines, messages and emissions carry while a simulation runs (this project's profile).
+-- What the numbers represent that lines, messages and emissions carry while a simulation runs (this project's profile).
 use Rattle.std.specs.Prelude.{ℕ, List, [], ◌∷◌, if◌then◌else◌, Some, None, unwrap_or, slice_get}
 use Rattle.fb_types.specs.Names.{Name, same_name, Path, Port}
 use Rattle.fb_types.specs.Values.{Values}

@@ -1,4 +1,4 @@
--- What the taking of one event does in its resource (IEC 61499-1, 5.2.2 and 5.3.2; sampling, crossings and held copies are this project's profile).
+-- What taking one event does in its resource (IEC 61499-1, 5.2.2 and 5.3.2; sampling, crossings and held copies are this project's profile).
 use Rattle.std.specs.Prelude.{◌≡◌, ℕ, List, [], ◌∷◌, ◌++◌, map, Bool, true, false, ◌==◌, if◌then◌else◌, Option, Some, None}
 use Rattle.fb_types.specs.Names.{Name, with_value, Path, same_path, Port, same_port}
 use Rattle.fb_types.specs.Values.{Values}

@@ -35,7 +35,7 @@ pub record State : Type 0 where
   pub sent : (link : ℕ) → ℕ
   pub meters : (resource : ℕ) → Meter
 
--- An event that is to be taken.
+-- An event that must be taken.
 pub data Event : Type 0 where
   -- a stimulus, with the slots that it sets
   Stimulated : Port → List Bound → Event

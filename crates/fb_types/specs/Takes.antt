@@ -1,4 +1,4 @@
--- The taking of one event: what it changes of state and agenda (IEC 61499-1, 5.2.2 and 5.3.2; keys and the count of steps are this project's profile).
+-- Taking one event: what it changes of state and agenda (IEC 61499-1, 5.2.2 and 5.3.2; keys and the count of steps are this project's profile).
 use Rattle.std.specs.Prelude.{◌≡◌, ℕ, zero, suc, ◌+◌, List, [], ◌∷◌, ◌++◌, Bool, false, ◌&&◌, ◌==◌, if◌then◌else◌, Option, Some, None}
 use Rattle.fb_types.specs.Names.{Path}
 use Rattle.fb_types.specs.Keys.{or_else, found, without, Change, no_change, changed_to, same_key, timer_key, message_key, local_key}

@@ -1,4 +1,4 @@
--- E21: a name stands for nothing of the kind that is required there (IEC 61499-1, 5 to 7).
+-- E21: nothing of the required kind has the name (IEC 61499-1, 5 to 7).
 use Rattle.std.specs.Prelude.{◌≡◌, ◌⊎◌, List, [], ◌∷◌, ◌++◌, map, flat_map, Bool, false, ◌&&◌, Option, Some, None, Contains, is_some, option_and_then}
 use Rattle.std.specs.List.{list_all}
 use Rattle.fb_types.specs.Names.{Name}
@@ -30,17 +30,17 @@ optional (Some n) = n ∷ []
 
 -- ---- Types, WITH lists and parameters
 
-abbrev pub types_wanted : Library → Network → List Wanted
-types_wanted lib net = all_of (map (λ i. i.block_type) net.instances) (block_type_names lib)
+abbrev pub required_types : Library → Network → List Wanted
+required_types lib net = all_of (map (λ i. i.block_type) net.instances) (block_type_names lib)
 
-abbrev pub withs_wanted : Ports → List Wanted
-withs_wanted p =
+abbrev pub required_withs : Ports → List Wanted
+required_withs p =
     flat_map (λ e. all_of e.with (variable_names p.inputs)) p.event_inputs
     ++ flat_map (λ e. all_of e.with (variable_names p.outputs)) p.event_outputs
 
 -- a parameter sets a data input
-abbrev pub parameters_wanted : Library → Instance → List Wanted
-parameters_wanted lib i =
+abbrev pub required_parameters : Library → Instance → List Wanted
+required_parameters lib i =
     elim (kind_of_instance lib i) [
       | None ↦ []
       | Some k ↦ all_of (map (λ x. x.name) i.parameters) (variable_names (ports_of k).inputs)
@@ -48,30 +48,30 @@ parameters_wanted lib i =
 
 -- ---- Charts
 
-abbrev pub transition_wanted : BasicType → Transition → List Wanted
-transition_wanted t x =
+abbrev pub required_transition : BasicType → Transition → List Wanted
+required_transition t x =
     (x.from, state_names t) ∷ (x.to, state_names t) ∷ all_of (optional x.condition.event) (event_names t.ports.event_inputs)
 
-abbrev pub actions_wanted : BasicType → State → List Wanted
-actions_wanted t s =
+abbrev pub required_actions : BasicType → State → List Wanted
+required_actions t s =
     flat_map (λ a. all_of (optional a.algorithm) (algorithm_names t) ++ all_of (optional a.output) (event_names t.ports.event_outputs)) s.actions
 
-abbrev pub chart_wanted : BasicType → List Wanted
-chart_wanted t = flat_map (transition_wanted t) t.transitions ++ flat_map (actions_wanted t) t.states
+abbrev pub required_chart : BasicType → List Wanted
+required_chart t = flat_map (required_transition t) t.transitions ++ flat_map (required_actions t) t.states
 
 -- ---- Deployments
 
 -- mapped instances, and the ends of links
-abbrev pub deployment_wanted : Library → Plan → List Wanted
-deployment_wanted lib plan =
+abbrev pub required_deployment : Library → Plan → List Wanted
+required_deployment lib plan =
     flat_map (λ r. all_of r.instances (instance_names lib.application.network)) plan.resources
     ++ flat_map (λ l. all_of (l.from ∷ l.to ∷ []) (resource_names_of plan)) plan.links
 
 abbrev pub wanted : Library → Plan → List Wanted
 wanted lib plan =
-    flat_map (λ n. types_wanted lib n.1) (networks lib) ++ flat_map withs_wanted (interfaces lib)
-    ++ flat_map chart_wanted (basics lib) ++ flat_map (λ n. flat_map (parameters_wanted lib) n.1.instances) (networks lib)
-    ++ deployment_wanted lib plan
+    flat_map (λ n. required_types lib n.1) (networks lib) ++ flat_map required_withs (interfaces lib)
+    ++ flat_map required_chart (basics lib) ++ flat_map (λ n. flat_map (required_parameters lib) n.1.instances) (networks lib)
+    ++ required_deployment lib plan
 
 -- ---- Expressions and statements
 

@@ -29,14 +29,14 @@ impl Drop for Emits {
 
 impl Model for Emits {
     ghost use Rattle.std.specs.Prelude.{List};
-    ghost use Rattle.fb_types.specs.Emitted.{AreBehind, in_order};
+    ghost use Rattle.fb_types.specs.Emitted.{AreAfter, in_order};
     ghost use Rattle.fb_types.specs.declared.run.Emission.{Emission};
 
     ghost Value = { List Emission };
 
     ghost view = { λ e. in_order e.first e.others.items };
 
-    ghost invariant = { λ e. AreBehind e.first e.others.items };
+    ghost invariant = { λ e. AreAfter e.first e.others.items };
 }
 
 impl Emits {

@@ -18,7 +18,7 @@ use Rattle.fb_trace.specs.declared.last.Outcome.{Outcome}
 use Rattle.fb_trace.specs.declared.last.Outcome.TheVariants.{End, Stop}
 use Rattle.fb_wave.specs.Scopes.{head_text}
 use Rattle.fb_wave.specs.Dumps.{dump_text, end_text, last_tick, ticks_text}
-use Rattle.fb_wave.specs.Writing.{HasTold, IsDump}
+use Rattle.fb_wave.specs.Writing.{HasShown, IsDump}
 use Rattle.fb_wave.specs.declared.dump.Dump.{Dump}
 use Rattle.fb_wave.specs.Lines.{IsLast, IsLineOf, IsTextOf}
 use Rattle.fb_wave.specs.Named.{HasNames}
@@ -90,7 +90,7 @@ pub copied_one :
 copied_one sys form number x y z line next input left new old mid got is taken tick dump flushed read one =
     let l = taken.line in
     let more : List ℕ = lines_text form sys (map (line_of sys) is.lines) in
-    let told : HasTold sys (is.lines ++ l ∷ []) (is.sent ++ y.page.text.items) y.dump = taken.told is.lines is.sent is.told in
+    let told : HasShown sys (is.lines ++ l ∷ []) (is.sent ++ y.page.text.items) y.dump = taken.told is.lines is.sent is.told in
     let sends : is.sent ++ y.page.text.items ≡ (is.sent ++ flushed.sent) ++ z.page.text.items =
     ap (λ (t : List ℕ). is.sent ++ t) flushed.parts ∙ sym (append_assoc is.sent flushed.sent z.page.text.items)
     in
@@ -113,13 +113,13 @@ copied_one sys form number x y z line next input left new old mid got is taken t
     }
   where
     told_with :
-        (sys : System) (ls : List Line) (y z : Progress) (a b : List ℕ) → z.dump ≡ y.dump → a ≡ b → HasTold sys ls a y.dump → HasTold sys ls b z.dump
-    told_with sys ls y z a b same is told = subst (λ d. HasTold sys ls b d) (sym same) (subst (λ (t : List ℕ). HasTold sys ls t y.dump) is told)
+        (sys : System) (ls : List Line) (y z : Progress) (a b : List ℕ) → z.dump ≡ y.dump → a ≡ b → HasShown sys ls a y.dump → HasShown sys ls b z.dump
+    told_with sys ls y z a b same is told = subst (λ d. HasShown sys ls b d) (sym same) (subst (λ (t : List ℕ). HasShown sys ls t y.dump) is told)
 
 -- before the first line
 pub copied_none :
     (sys : System) (form : Form) (number : ℕ) (x : Progress) (next : List ℕ) (input left old : Option (List ℕ)) → x.tick ≡ 0 → IsDump sys x.dump
-    → HasTold sys [] x.page.text.items x.dump → x.page.written ≡ 0 → Consumes input left next → IsFirstLine next input → number ≡ 1
+    → HasShown sys [] x.page.text.items x.dump → x.page.written ≡ 0 → Consumes input left next → IsFirstLine next input → number ≡ 1
     → (HasNames sys → (f : Form) (l : Line) → IsTextOf sys f l next → f ≡ form) → IsCopied sys form number x next input left old old
 copied_none sys form number x next input left old tick numbers told written read one counts formed =
     record {
@@ -186,14 +186,14 @@ glued head ticks ls end sent waits last is =
 
 -- what was sent goes on to the dump of the lines that were told, by way of the text that waits
 goes_on :
-    (sys : System) (ls : List Line) (sent waits : List ℕ) (x : Dump) → HasTold sys ls (sent ++ waits) x
+    (sys : System) (ls : List Line) (sent waits : List ℕ) (x : Dump) → HasShown sys ls (sent ++ waits) x
     → (more : List ℕ) × (sent ++ (waits ++ more) ≡ dump_text sys ls (AtHorizon 0))
 goes_on sys ls sent waits x told =
     let last : List ℕ = ticks_text sys x.tick told.before told.now [] in
     let end : List ℕ = end_text sys (last_tick 0 ls) (AtHorizon 0) in
     (last ++ end, glued (head_text sys) (ticks_text sys 0 [] []) ls end sent waits last (told.text []))
 
-begun_of : (sys : System) (ls : List Line) (sent waits : List ℕ) (x : Dump) → HasTold sys ls (sent ++ waits) x → IsBegun sys ls sent
+begun_of : (sys : System) (ls : List Line) (sent waits : List ℕ) (x : Dump) → HasShown sys ls (sent ++ waits) x → IsBegun sys ls sent
 begun_of sys ls sent waits x told =
     let on : (more : List ℕ) × (sent ++ (waits ++ more) ≡ dump_text sys ls (AtHorizon 0)) = goes_on sys ls sent waits x told in
     record { end = AtHorizon 0; rest = waits ++ on.0; parts = on.1 }
@@ -218,9 +218,9 @@ front_copied sys form number x next input left old new is =
 -- a line more was told, and of what waited then a front was sent
 told_cut :
     (sys : System) (form : Form) (number : ℕ) (x y : Progress) (line sent rest : List ℕ) (input left old new : Option (List ℕ)) (is : IsCopied sys form number x line input left old new)
-    (taken : IsTaken sys form line x y) → y.page.text.items ≡ sent ++ rest → HasTold sys (is.lines ++ taken.line ∷ []) ((is.sent ++ sent) ++ rest) y.dump
+    (taken : IsTaken sys form line x y) → y.page.text.items ≡ sent ++ rest → HasShown sys (is.lines ++ taken.line ∷ []) ((is.sent ++ sent) ++ rest) y.dump
 told_cut sys form number x y line sent rest input left old new is taken parts =
-    subst (λ (t : List ℕ). HasTold sys (is.lines ++ taken.line ∷ []) t y.dump)
+    subst (λ (t : List ℕ). HasShown sys (is.lines ++ taken.line ∷ []) t y.dump)
     (ap (λ (t : List ℕ). is.sent ++ t) parts ∙ sym (append_assoc is.sent sent rest)) (taken.told is.lines is.sent is.told)
 
 -- a line more was told, some of the text was sent, and no line could be read
@@ -293,7 +293,7 @@ fails_unfinished sys form number x line input left old mid new is e same =
 -- a part of the end is sent
 pub unfinished_part :
     (sys : System) (x : Progress) (page : DumpPage) (end : Outcome) (old new : Option (List ℕ)) → page.written ≡ x.page.written
-    → ((ls : List Line) (front : List ℕ) → HasTold sys ls (front ++ x.page.text.items) x.dump → front ++ page.text.items ≡ dump_text sys ls (ending_of end))
+    → ((ls : List Line) (front : List ℕ) → HasShown sys ls (front ++ x.page.text.items) x.dump → front ++ page.text.items ≡ dump_text sys ls (ending_of end))
     → (e : WaveError) → IsCutShort old new page e → IsUnfinished sys x old new e
 unfinished_part sys x page end old new kept whole (Write n) cut =
     record {

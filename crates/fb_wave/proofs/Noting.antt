@@ -41,10 +41,10 @@ is_in-more ss s k = list_any-append (λ (j : ℕ). j == k) ss (s ∷ [])
 -- ---- One more signal
 
 abbrev fresh : Cell
-fresh = record { shown = Count 0; is_noted = false }
+fresh = record { shown = Count 0; is_marked = false }
 
 is_fresh : (s : ℕ) → IsCell [] [] [] s fresh
-is_fresh s = record { shown = refl; is_noted = refl }
+is_fresh s = record { shown = refl; is_marked = refl }
 
 -- a signal of which no line told
 pub one_more_signal :
@@ -90,37 +90,37 @@ at_set P Q xs s x all other within here k d h =
 
 pub noted_old :
     (n : ℕ) (f : List ℕ) (t : List (ℕ × Value)) (u : List ℕ) (x : code.Levels) (s : ℕ) (d : Cell) → AreLevels n f t u x → s < length x.cells.items
-    → (get_or x.cells.items s d).is_noted ≡ true → AreLevels n f t (u ++ s ∷ []) x
+    → (get_or x.cells.items s d).is_marked ≡ true → AreLevels n f t (u ++ s ∷ []) x
 noted_old n f t u x s d all within is =
-    let there : is_in (noted [] u) s ≡ true = sym ((all.cells s d within).is_noted) ∙ is in
+    let there : is_in (noted [] u) s ≡ true = sym ((all.cells s d within).is_marked) ∙ is in
     let same : noted [] u ≡ noted [] (u ++ s ∷ []) = sym (noted-append [] u (s ∷ []) ∙ ap (λ (b : Bool). cond b (noted [] u) (noted [] u ++ s ∷ [])) there) in
     record {
       counted = all.counted;
       cells = λ k e h.
           let c = all.cells k e h in
-          record { shown = c.shown; is_noted = c.is_noted ∙ ap (λ (l : List ℕ). is_in l k) same };
+          record { shown = c.shown; is_marked = c.is_marked ∙ ap (λ (l : List ℕ). is_in l k) same };
       noted = all.noted ∙ same;
     }
 
 pub noted_new :
     (n : ℕ) (f : List ℕ) (t : List (ℕ × Value)) (u : List ℕ) (x y : code.Levels) (s : ℕ) (d : Cell) → AreLevels n f t u x → s < length x.cells.items
-    → (get_or x.cells.items s d).is_noted ≡ false
-    → y.cells.items ≡ set x.cells.items s (record { shown = (get_or x.cells.items s d).shown; is_noted = true })
+    → (get_or x.cells.items s d).is_marked ≡ false
+    → y.cells.items ≡ set x.cells.items s (record { shown = (get_or x.cells.items s d).shown; is_marked = true })
     → y.noted.items ≡ x.noted.items ++ s ∷ [] → AreLevels n f t (u ++ s ∷ []) y
 noted_new n f t u x y s d all within is cells listed =
-    let none : is_in (noted [] u) s ≡ false = sym ((all.cells s d within).is_noted) ∙ is in
+    let none : is_in (noted [] u) s ≡ false = sym ((all.cells s d within).is_marked) ∙ is in
     let grown : noted [] (u ++ s ∷ []) ≡ noted [] u ++ s ∷ [] = noted-append [] u (s ∷ []) ∙ ap (λ (b : Bool). cond b (noted [] u) (noted [] u ++ s ∷ [])) none in
     let other : (k : ℕ) (c : Cell) → k ≢ s → IsCell f t u k c → IsCell f t (u ++ s ∷ []) k c =
     λ k c differ is'. record {
       shown = is'.shown;
-      is_noted = is'.is_noted ∙ sym (ap (λ (l : List ℕ). is_in l k) grown ∙ is_in-more (noted [] u) s k
+      is_marked = is'.is_marked ∙ sym (ap (λ (l : List ℕ). is_in l k) grown ∙ is_in-more (noted [] u) s k
           ∙ ap (λ (b : Bool). is_in (noted [] u) k || (b || false)) (ne_eqb s k (λ e. differ (sym e))) ∙ or_false (is_in (noted [] u) k));
     }
     in
-    let here : IsCell f t (u ++ s ∷ []) s (record { shown = (get_or x.cells.items s d).shown; is_noted = true }) =
+    let here : IsCell f t (u ++ s ∷ []) s (record { shown = (get_or x.cells.items s d).shown; is_marked = true }) =
     record {
       shown = (all.cells s d within).shown;
-      is_noted = sym (ap (λ (l : List ℕ). is_in l s) grown ∙ is_in-more (noted [] u) s s ∙ ap (λ (b : Bool). is_in (noted [] u) s || (b || false)) (eq-eqb s s refl) ∙ or_true (is_in (noted [] u) s));
+      is_marked = sym (ap (λ (l : List ℕ). is_in l s) grown ∙ is_in-more (noted [] u) s s ∙ ap (λ (b : Bool). is_in (noted [] u) s || (b || false)) (eq-eqb s s refl) ∙ or_true (is_in (noted [] u) s));
     }
     in
     record {
@@ -144,14 +144,14 @@ noted_new n f t u x y s d all within is cells listed =
 reshown :
     (n : ℕ) (f g : List ℕ) (t w : List (ℕ × Value)) (u : List ℕ) (x y : code.Levels) (s : ℕ) (d : Cell) (v : Level) → AreLevels n f t u x → s < length x.cells.items
     → ((k : ℕ) → k ≢ s → shown_of k f t ≡ shown_of k g w) → v ≡ shown_of s g w
-    → y.cells.items ≡ set x.cells.items s (record { shown = v; is_noted = (get_or x.cells.items s d).is_noted })
+    → y.cells.items ≡ set x.cells.items s (record { shown = v; is_marked = (get_or x.cells.items s d).is_marked })
     → y.noted.items ≡ x.noted.items → AreLevels n g w u y
 reshown n f g t w u x y s d v all within others is cells listed =
     let other : (k : ℕ) (c : Cell) → k ≢ s → IsCell f t u k c → IsCell g w u k c =
-    λ k c differ is'. record { shown = is'.shown ∙ others k differ; is_noted = is'.is_noted }
+    λ k c differ is'. record { shown = is'.shown ∙ others k differ; is_marked = is'.is_marked }
     in
-    let here : IsCell g w u s (record { shown = v; is_noted = (get_or x.cells.items s d).is_noted }) =
-    record { shown = is; is_noted = (all.cells s d within).is_noted }
+    let here : IsCell g w u s (record { shown = v; is_marked = (get_or x.cells.items s d).is_marked }) =
+    record { shown = is; is_marked = (all.cells s d within).is_marked }
     in
     record {
       counted = ap length cells ∙ length-set x.cells.items s _ ∙ all.counted;
@@ -162,7 +162,7 @@ reshown n f g t w u x y s d v all within others is cells listed =
 
 pub told_one :
     (n : ℕ) (f : List ℕ) (t : List (ℕ × Value)) (u : List ℕ) (x y : code.Levels) (s : ℕ) (d : Cell) (v : Value) → AreLevels n f t u x → s < length x.cells.items
-    → y.cells.items ≡ set x.cells.items s (record { shown = Last v; is_noted = (get_or x.cells.items s d).is_noted })
+    → y.cells.items ≡ set x.cells.items s (record { shown = Last v; is_marked = (get_or x.cells.items s d).is_marked })
     → y.noted.items ≡ x.noted.items → AreLevels n f (t ++ (s, v) ∷ []) u y
 told_one n f t u x y s d v all within cells listed =
     reshown n f f t (t ++ (s, v) ∷ []) u x y s d (Last v) all within
@@ -189,7 +189,7 @@ after-shows (Some v) n = refl
 pub fired_one :
     (n : ℕ) (f : List ℕ) (t : List (ℕ × Value)) (u : List ℕ) (x y : code.Levels) (s : ℕ) (d e : Cell) (v : Level) → AreLevels n f t u x → s < length x.cells.items
     → v ≡ after_event ((get_or x.cells.items s e).shown)
-    → y.cells.items ≡ set x.cells.items s (record { shown = v; is_noted = (get_or x.cells.items s d).is_noted })
+    → y.cells.items ≡ set x.cells.items s (record { shown = v; is_marked = (get_or x.cells.items s d).is_marked })
     → y.noted.items ≡ x.noted.items → AreLevels n (f ++ s ∷ []) t u y
 fired_one n f t u x y s d e v all within is cells listed =
     reshown n f (f ++ s ∷ []) t t u x y s d v all within
@@ -199,5 +199,5 @@ fired_one n f t u x y s d e v all within is cells listed =
 
 -- ---- The beginning
 
-pub cell_new : (s : ℕ) → IsCell [] [] [] s (record { shown = Count 0; is_noted = false })
-cell_new s = record { shown = refl; is_noted = refl }
+pub cell_new : (s : ℕ) → IsCell [] [] [] s (record { shown = Count 0; is_marked = false })
+cell_new s = record { shown = refl; is_marked = refl }

@@ -13,14 +13,14 @@ use Rattle.fb_wave.specs.Changes.{changes, time_text}
 use Rattle.fb_wave.specs.Scopes.{head_text}
 use Rattle.fb_wave.specs.Signals.{sizes_of}
 use Rattle.fb_wave.specs.Dumps.{dump_text, end_text, last_tick, tick_changes, ticks_text}
-use Rattle.fb_wave.specs.Told.{fired, told, touched, fires_of, tells_of, touches_of}
+use Rattle.fb_wave.specs.Told.{fired, told, touched, fires_of, has_signal, touches_of}
 use Rattle.fb_wave.specs.Writing.{Tells, Turns}
 
 pub fires-one : (sys : System) (ls : List Line) (l : Line) → fires_of sys (ls ++ l ∷ []) ≡ fires_of sys ls ++ fired sys l ∷ []
 fires-one sys ls l = map-append (fired sys) ls (l ∷ [])
 
-pub tells-one : (sys : System) (ls : List Line) (l : Line) → tells_of sys (ls ++ l ∷ []) ≡ tells_of sys ls ++ told sys l
-tells-one sys ls l = flat_map-append (told sys) ls (l ∷ []) ∙ ap (λ (ts : List (ℕ × Value)). tells_of sys ls ++ ts) (append-nil (told sys l))
+pub tells-one : (sys : System) (ls : List Line) (l : Line) → has_signal sys (ls ++ l ∷ []) ≡ has_signal sys ls ++ told sys l
+tells-one sys ls l = flat_map-append (told sys) ls (l ∷ []) ∙ ap (λ (ts : List (ℕ × Value)). has_signal sys ls ++ ts) (append-nil (told sys l))
 
 pub touches-one : (sys : System) (ls : List Line) (l : Line) → touches_of sys (ls ++ l ∷ []) ≡ touches_of sys ls ++ touched sys l
 touches-one sys ls l = flat_map-append (touched sys) ls (l ∷ []) ∙ ap (λ (ts : List ℕ). touches_of sys ls ++ ts) (append-nil (touched sys l))
@@ -71,8 +71,8 @@ regroup s o c k r = simp append_assoc
 -- a line of another tick comes
 pub turn_next :
     (sys : System) (ls : List Line) (sent old mid new : List ℕ) (last tick : ℕ) (x y : Levels) → (tick ≡ last → ⊥) → (t : Tells sys ls (sent ++ old) last x)
-    → mid ≡ old ++ changes (fires_of sys ls) (tells_of sys ls) (touches_of sys t.now) → new ≡ mid ++ time_text last tick
-    → AreLevels (sizes_of sys sys.paths) (fires_of sys ls) (tells_of sys ls) [] y → Turns sys ls (sent ++ new) tick y
+    → mid ≡ old ++ changes (fires_of sys ls) (has_signal sys ls) (touches_of sys t.now) → new ≡ mid ++ time_text last tick
+    → AreLevels (sizes_of sys sys.paths) (fires_of sys ls) (has_signal sys ls) [] y → Turns sys ls (sent ++ new) tick y
 turn_next sys ls sent old mid new last tick x y other t put time are =
     record {
       before = ls;
@@ -85,7 +85,7 @@ turn_next sys ls sent old mid new last tick x y other t put time are =
           let R = ticks_text sys l.key.tick (t.before ++ t.now) (l ∷ []) rest in
           let is : new ≡ (old ++ C) ++ T =
           time ∙ ap (λ (k : ℕ). mid ++ time_text last k) (sym here)
-          ∙ ap (λ (m : List ℕ). m ++ T) (put ∙ ap (λ (zs : List Line). old ++ changes (fires_of sys zs) (tells_of sys zs) (touches_of sys t.now)) t.parts)
+          ∙ ap (λ (m : List ℕ). m ++ T) (put ∙ ap (λ (zs : List Line). old ++ changes (fires_of sys zs) (has_signal sys zs) (touches_of sys t.now)) t.parts)
           in
           let different : l.key.tick ≡ last → ⊥ = λ e. other (sym here ∙ e) in
           ap (λ (k : ℕ). (sent ++ new) ++ ticks_text sys k ls (l ∷ []) rest) (sym here)
@@ -101,14 +101,14 @@ turn_next sys ls sent old mid new last tick x y other t put time are =
 -- one more line was told
 pub tells_more :
     (sys : System) (ls : List Line) (text : List ℕ) (l : Line) (x y : Levels) (t : Turns sys ls text l.key.tick x)
-    → AreLevels (sizes_of sys sys.paths) (fires_of sys ls ++ fired sys l ∷ []) (tells_of sys ls ++ told sys l) (touches_of sys t.now ++ touched sys l) y
+    → AreLevels (sizes_of sys sys.paths) (fires_of sys ls ++ fired sys l ∷ []) (has_signal sys ls ++ told sys l) (touches_of sys t.now ++ touched sys l) y
     → Tells sys (ls ++ l ∷ []) text l.key.tick y
 tells_more sys ls text l x y t are =
     let n = sizes_of sys sys.paths in
-    let one : AreLevels n (fires_of sys (ls ++ l ∷ [])) (tells_of sys ls ++ told sys l) (touches_of sys t.now ++ touched sys l) y =
-    subst (λ (fs : List ℕ). AreLevels n fs (tells_of sys ls ++ told sys l) (touches_of sys t.now ++ touched sys l) y) (sym (fires-one sys ls l)) are
+    let one : AreLevels n (fires_of sys (ls ++ l ∷ [])) (has_signal sys ls ++ told sys l) (touches_of sys t.now ++ touched sys l) y =
+    subst (λ (fs : List ℕ). AreLevels n fs (has_signal sys ls ++ told sys l) (touches_of sys t.now ++ touched sys l) y) (sym (fires-one sys ls l)) are
     in
-    let two : AreLevels n (fires_of sys (ls ++ l ∷ [])) (tells_of sys (ls ++ l ∷ [])) (touches_of sys t.now ++ touched sys l) y =
+    let two : AreLevels n (fires_of sys (ls ++ l ∷ [])) (has_signal sys (ls ++ l ∷ [])) (touches_of sys t.now ++ touched sys l) y =
     subst (λ (ts : List (ℕ × Value)). AreLevels n (fires_of sys (ls ++ l ∷ [])) ts (touches_of sys t.now ++ touched sys l) y) (sym (tells-one sys ls l)) one
     in
     record {
@@ -116,7 +116,7 @@ tells_more sys ls text l x y t are =
       now = t.now ++ l ∷ [];
       parts = ap (λ (zs : List Line). zs ++ l ∷ []) t.parts ∙ append_assoc t.before t.now (l ∷ []);
       tick = sym (last_tick-one 0 ls l);
-      levels = subst (λ (us : List ℕ). AreLevels n (fires_of sys (ls ++ l ∷ [])) (tells_of sys (ls ++ l ∷ [])) us y) (sym (touches-one sys t.now l)) two;
+      levels = subst (λ (us : List ℕ). AreLevels n (fires_of sys (ls ++ l ∷ [])) (has_signal sys (ls ++ l ∷ [])) us y) (sym (touches-one sys t.now l)) two;
       text = λ rest. t.text l rest refl ∙ ap (λ (zs : List Line). head_text sys ++ ticks_text sys 0 [] [] zs) (sym (append_assoc ls (l ∷ []) rest));
     }
 
@@ -125,13 +125,13 @@ tells_more sys ls text l x y t are =
 -- the last tick and the end make the text whole
 pub tells_all :
     (sys : System) (ls : List Line) (sent old mid new : List ℕ) (last : ℕ) (end : Ending) (x : Levels) (t : Tells sys ls (sent ++ old) last x)
-    → mid ≡ old ++ changes (fires_of sys ls) (tells_of sys ls) (touches_of sys t.now) → new ≡ mid ++ end_text sys last end
+    → mid ≡ old ++ changes (fires_of sys ls) (has_signal sys ls) (touches_of sys t.now) → new ≡ mid ++ end_text sys last end
     → sent ++ new ≡ dump_text sys ls end
 tells_all sys ls sent old mid new last end x t put ended =
     let C = tick_changes sys t.before t.now in
     let E = end_text sys last end in
     let is : new ≡ (old ++ C) ++ E =
-    ended ∙ ap (λ (m : List ℕ). m ++ E) (put ∙ ap (λ (zs : List Line). old ++ changes (fires_of sys zs) (tells_of sys zs) (touches_of sys t.now)) t.parts)
+    ended ∙ ap (λ (m : List ℕ). m ++ E) (put ∙ ap (λ (zs : List Line). old ++ changes (fires_of sys zs) (has_signal sys zs) (touches_of sys t.now)) t.parts)
     in
     ap (λ (m : List ℕ). sent ++ m) is ∙ regroup_end sent old C E
     ∙ ap (λ (m : List ℕ). m ++ E) (t.text [] ∙ ap (λ (zs : List Line). head_text sys ++ ticks_text sys 0 [] [] zs) (append-nil ls))

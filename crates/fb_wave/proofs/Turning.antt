@@ -15,7 +15,7 @@ use Rattle.fb_wave.specs.declared.levels.Levels as code
 -- What has become of a cell where the notes of some signals are gone.
 pub record IsLater (gone : List ℕ) (k : ℕ) (old new : Cell) : Type 0 where
   pub shown : new.shown ≡ old.shown
-  pub is_noted : new.is_noted ≡ (old.is_noted && not (is_in gone k))
+  pub is_marked : new.is_marked ≡ (old.is_marked && not (is_in gone k))
 
 -- what signals tell, by their cells
 abbrev pub told_by : List Cell → Cell → List ℕ → List ℕ
@@ -57,7 +57,7 @@ turned_none old from =
           let same : get_or from.cells.items k e ≡ get_or from.cells.items k d = get_or_default from.cells.items k e d h in
           record {
             shown = ap (λ (c : Cell). c.shown) same;
-            is_noted = ap (λ (c : Cell). c.is_noted) same ∙ and_true _;
+            is_marked = ap (λ (c : Cell). c.is_marked) same ∙ and_true _;
           };
       told = λ d. refl;
     }
@@ -66,7 +66,7 @@ pub turned_more :
     (old text grown : List ℕ) (from to past : code.Levels) (p s : ℕ) (x y : Cell) → IsTurned old text from to p → p < length from.noted.items
     → s ≡ get_or from.noted.items p s → s < length from.cells.items
     → x ≡ get_or to.cells.items s x → grown ≡ text ++ changed s x.shown
-    → past.cells.items ≡ set to.cells.items s (record { shown = (get_or to.cells.items s y).shown; is_noted = false })
+    → past.cells.items ≡ set to.cells.items s (record { shown = (get_or to.cells.items s y).shown; is_marked = false })
     → past.noted.items ≡ to.noted.items → IsTurned old grown from past (p + 1)
 turned_more old text grown from to past p s x y turned within at there cell put cells listed =
     let gone : List ℕ = take p from.noted.items in
@@ -82,15 +82,15 @@ turned_more old text grown from to past p s x y turned within at there cell put 
     let it = was d h in
     record {
       shown = it.shown;
-      is_noted = it.is_noted ∙ ap (λ (b : Bool). (get_or from.cells.items k d).is_noted && not b)
+      is_marked = it.is_marked ∙ ap (λ (b : Bool). (get_or from.cells.items k d).is_marked && not b)
           (sym (ap (λ (l : List ℕ). is_in l k) one ∙ is_in-more gone s k
           ∙ ap (λ (b : Bool). is_in gone k || (b || false)) (ne_eqb s k (λ e. differ (sym e))) ∙ or_false (is_in gone k)));
     }
     in
-    let here : Is s (record { shown = (get_or to.cells.items s y).shown; is_noted = false }) =
+    let here : Is s (record { shown = (get_or to.cells.items s y).shown; is_marked = false }) =
     λ d h. record {
       shown = (turned.cells s d y h).shown;
-      is_noted = and_false (get_or from.cells.items s d).is_noted ∙ ap (λ (b : Bool). (get_or from.cells.items s d).is_noted && not b)
+      is_marked = and_false (get_or from.cells.items s d).is_marked ∙ ap (λ (b : Bool). (get_or from.cells.items s d).is_marked && not b)
           (sym (ap (λ (l : List ℕ). is_in l s) one ∙ is_in-more gone s s
           ∙ ap (λ (b : Bool). is_in gone s || (b || false)) (eq-eqb s s refl) ∙ or_true (is_in gone s)));
     }
@@ -139,8 +139,8 @@ turned_levels n f t u old text from to past p are turned end cells none =
           let is = turned.cells s d d long in
           record {
             shown = is.shown ∙ was.shown;
-            is_noted = is.is_noted
-                ∙ ap (λ (b : Bool). b && not (is_in (take p from.noted.items) s)) was.is_noted
+            is_marked = is.is_marked
+                ∙ ap (λ (b : Bool). b && not (is_in (take p from.noted.items) s)) was.is_marked
                 ∙ ap (λ (l : List ℕ). is_in (noted [] u) s && not (is_in l s)) (take_all p from.noted.items end ∙ are.noted)
                 ∙ and_not (is_in (noted [] u) s);
           });

@@ -15,7 +15,7 @@ of_tick t ls = filter (λ l. l.key.tick == t) ls
 abbrev pub before_tick : ℕ → List Line → List Line
 before_tick t ls = filter (λ l. nat_lt l.key.tick t) ls
 
--- What a dump has of a tick of these lines: its time, which stands there already for tick 0, and what the lines of the tick change.
+-- What a dump has of a tick of these lines: its time, which is there already for tick 0, and what the lines of the tick change.
 abbrev pub tick_text : System → List Line → (tick : ℕ) → List ℕ
 tick_text sys ls t = time_text 0 t ++ tick_changes sys (before_tick t ls) (of_tick t ls)
 

@@ -1,4 +1,4 @@
--- The lines of a value change dump behind its head (IEEE 1364-2005, 18.2).
+-- The lines of a value change dump after its head (IEEE 1364-2005, 18.2).
 use Rattle.std.specs.Prelude.{ℕ, pos, negsuc, ◌-◌, ◌%◌, ◌^◌, ◌==◌, List, [], ◌∷◌, ◌++◌, true, false, if◌then◌else◌, decimal, codes}
 use Rattle.std.specs.List.{flat_map}
 use Rattle.std.specs.Fmt.{digits}
@@ -43,7 +43,7 @@ value_changed s (value.Bool true) = line (codes "1" ++ variable_code s)
 value_changed s (value.Bool false) = line (codes "0" ++ variable_code s)
 value_changed s (value.Whole z) = number_changed (in_bits (value.Whole z)) (variable_code s)
 
--- an event fires, and its count is told
+-- an event fires, and its count is reported
 abbrev pub event_changed : (signal count : ℕ) → List ℕ
 event_changed s n = line (codes "1" ++ event_code s) ++ number_changed n (count_code s)
 
@@ -57,6 +57,6 @@ changed s (Count n) = event_changed s n
 abbrev pub changes : (fires : List ℕ) → (tells : List (ℕ × Value)) → (touches : List ℕ) → List ℕ
 changes fires tells touches = flat_map (λ s. changed s (shown_of s fires tells)) (noted [] touches)
 
--- the time, unless it is told already
+-- the time, unless it is reported already
 abbrev pub time_text : (told tick : ℕ) → List ℕ
 time_text told tick = if tick == told then [] else line (codes "#" ++ decimal tick)

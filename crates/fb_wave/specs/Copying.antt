@@ -13,7 +13,7 @@ use Rattle.fb_trace.specs.Progress.{Fails, bounded}
 use Rattle.fb_trace.specs.declared.last.Outcome.{Outcome}
 use Rattle.fb_trace.specs.declared.last.Outcome.TheVariants.{End, Stop}
 use Rattle.fb_wave.specs.Dumps.{dump_text, last_tick}
-use Rattle.fb_wave.specs.Writing.{HasTold, IsDump}
+use Rattle.fb_wave.specs.Writing.{HasShown, IsDump}
 use Rattle.fb_wave.specs.Lines.{IsTextOf}
 use Rattle.fb_wave.specs.Named.{HasNames}
 use Rattle.fb_wave.specs.Waves.{AreLinesOf}
@@ -22,7 +22,7 @@ use Rattle.fb_wave.specs.declared.error.WaveError.{WaveError}
 use Rattle.fb_wave.specs.declared.error.WaveError.TheVariants.{Refused, Names, Memory, Read, Write}
 use Rattle.fb_wave.specs.declared.page.DumpPage.{DumpPage}
 
--- what may come behind a last line of that tick: a horizon after it, or a stop in it or after it
+-- what may come after a last line of that tick: a horizon after it, or a stop in it or after it
 abbrev pub IsAfter : ℕ → Outcome → Type 0
 IsAfter t (End h) = t < h
 IsAfter t (Stop m) = t ≤ m.tick
@@ -77,7 +77,7 @@ IsCutShort old new before Memory = ⊥
 IsCutShort old new before Read = ⊥
 IsCutShort old new before (Write n) = Fails old new (record { waiting = []; written = before.written }) before.text.items n
 
--- The text is that of a line with which a trace can go on, and the line was told.
+-- The text is that of a line with which a trace can go on, and the line was reported.
 pub record IsTaken (sys : System) (form : Form) (text : List ℕ) (old new : Progress) : Type 0 where
   pub line : Line
   pub is : IsTextOf sys form line text
@@ -86,20 +86,20 @@ pub record IsTaken (sys : System) (form : Form) (text : List ℕ) (old new : Pro
   pub numbers : IsDump sys new.dump
   pub kept : new.page.written ≡ old.page.written
   pub told :
-      (ls : List Line) (sent : List ℕ) → HasTold sys ls (sent ++ old.page.text.items) old.dump
-      → HasTold sys (ls ++ line ∷ []) (sent ++ new.page.text.items) new.dump
+      (ls : List Line) (sent : List ℕ) → HasShown sys ls (sent ++ old.page.text.items) old.dump
+      → HasShown sys (ls ++ line ∷ []) (sent ++ new.page.text.items) new.dump
 
--- An end can come, nothing is behind it, and all that waited and the rest of the dump was sent.
+-- An end can come, nothing is after it, and all that waited and the rest of the dump was sent.
 pub record IsFinished (sys : System) (end : Outcome) (before : Progress) (left old new : Option (List ℕ)) : Type 0 where
   pub after : IsAfter before.tick end
   pub over : IsAtEnd left
   pub sent : List ℕ
   pub got : Appends old new sent
   pub whole :
-      (ls : List Line) (front : List ℕ) → HasTold sys ls (front ++ before.page.text.items) before.dump
+      (ls : List Line) (front : List ℕ) → HasShown sys ls (front ++ before.page.text.items) before.dump
       → front ++ sent ≡ dump_text sys ls (ending_of end)
 
--- The end was told, and the writer failed before it got all of the dump.
+-- The end was reported, and the writer failed before it got all of the dump.
 pub record IsCutOff (sys : System) (before : Progress) (old new : Option (List ℕ)) (written : ℕ) : Type 0 where
   pub end : Ending
   pub sent : List ℕ
@@ -108,7 +108,7 @@ pub record IsCutOff (sys : System) (before : Progress) (old new : Option (List �
   pub short : 0 < length missing
   pub counted : written ≡ bounded (before.page.written + length sent)
   pub parts :
-      (ls : List Line) (front : List ℕ) → HasTold sys ls (front ++ before.page.text.items) before.dump
+      (ls : List Line) (front : List ℕ) → HasShown sys ls (front ++ before.page.text.items) before.dump
       → (front ++ sent) ++ missing ≡ dump_text sys ls end
 
 -- the end was not sent, or not all of it
@@ -119,7 +119,7 @@ IsUnfinished sys before old new Memory = new ≡ old
 IsUnfinished sys before old new Read = new ≡ old
 IsUnfinished sys before old new (Write n) = IsCutOff sys before old new n
 
--- Lines of a trace were read and told, and the next was read. A part of the dump was sent, and counted, and a part waits.
+-- Lines of a trace were read and shown, and the next was read. A part of the dump was sent, and counted, and a part waits.
 pub record IsCopied (sys : System) (form : Form) (number : ℕ) (x : Progress) (next : List ℕ) (input left old new : Option (List ℕ)) : Type 0 where
   pub lines : List Line
   pub numbered : number ≡ length lines + 1
@@ -129,7 +129,7 @@ pub record IsCopied (sys : System) (form : Form) (number : ℕ) (x : Progress) (
   pub are : AreLinesOf sys lines
   pub last : x.tick ≡ last_tick 0 lines
   pub numbers : IsDump sys x.dump
-  pub told : HasTold sys lines (sent ++ x.page.text.items) x.dump
+  pub told : HasShown sys lines (sent ++ x.page.text.items) x.dump
   pub read : Consumes input left (lines_text form sys (map (line_of sys) lines) ++ next)
   pub got : Appends old new sent
   pub counted : bounded x.page.written ≡ bounded (length sent)

@@ -8,14 +8,14 @@ use Rattle.fb_types.specs.declared.run.Line.{Line}
 use Rattle.fb_types.specs.declared.value.Reason.{Reason}
 use Rattle.fb_wave.specs.Changes.{line, changes, time_text}
 use Rattle.fb_wave.specs.Scopes.{head_text}
-use Rattle.fb_wave.specs.Told.{fires_of, tells_of, touches_of}
+use Rattle.fb_wave.specs.Told.{fires_of, has_signal, touches_of}
 
 -- ---- Ticks
 
--- What changes in a tick: each signal that its lines tell of, once, with what it shows after all lines up to now.
+-- What changes in a tick: each signal of its lines, once, with what it shows after all lines up to now.
 abbrev pub tick_changes : System → (before now : List Line) → List ℕ
 tick_changes sys before now =
-    changes (fires_of sys (before ++ now)) (tells_of sys (before ++ now)) (touches_of sys now)
+    changes (fires_of sys (before ++ now)) (has_signal sys (before ++ now)) (touches_of sys now)
 
 -- Lines by their ticks: those of earlier ticks, and those of this tick that came so far, and then the rest. Where ticks do not fall,
 -- that is what each tick changes, one tick after another (`specs/ByTick`: `AreTickByTick`).

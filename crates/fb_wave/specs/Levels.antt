@@ -1,4 +1,4 @@
--- What signals show after events and values, and those of which a tick's lines told (this project's profile).
+-- What signals show after events and values, and those of a tick's lines (this project's profile).
 use Rattle.std.specs.Prelude.{◌≡◌, ◌<◌, ℕ, ◌+◌, ◌%◌, ◌^◌, ◌==◌, List, [], ◌∷◌, ◌++◌, length, count_by, Bool, if◌then◌else◌, Option, Some, None, slice_index_or}
 use Rattle.std.specs.List.{list_any}
 use Rattle.fb_types.specs.declared.value.Value.{Value}
@@ -13,7 +13,7 @@ abbrev pub or_else : Option Value → Option Value → Option Value
 or_else (Some v) o = Some v
 or_else None o = o
 
--- the last value that is told of a signal
+-- the last value that is reported of a signal
 abbrev pub last_told : (signal : ℕ) → List (ℕ × Value) → Option Value
 last_told s [] = None
 last_told s (t ∷ ts) = or_else (last_told s ts) (if t.0 == s then Some t.1 else None)
@@ -44,7 +44,7 @@ is_in ss s = list_any (λ k. k == s) ss
 abbrev pub with_one : List ℕ → ℕ → List ℕ
 with_one ss s = if is_in ss s then ss else ss ++ s ∷ []
 
--- numbers in the order in which each comes first, behind others
+-- numbers in the order in which each comes first, after others
 abbrev pub noted : (before : List ℕ) → List ℕ → List ℕ
 noted before [] = before
 noted before (s ∷ ss) = noted (with_one before s) ss
@@ -54,9 +54,9 @@ noted before (s ∷ ss) = noted (with_one before s) ss
 -- A cell of a signal.
 pub record IsCell (fires : List ℕ) (tells : List (ℕ × Value)) (touches : List ℕ) (s : ℕ) (x : Cell) : Type 0 where
   pub shown : x.shown ≡ shown_of s fires tells
-  pub is_noted : x.is_noted ≡ is_in (noted [] touches) s
+  pub is_marked : x.is_marked ≡ is_in (noted [] touches) s
 
--- So many signals, with what they show after events and values, and those of a tick.
+-- This many signals, with what they show after events and values, and those of a tick.
 pub record AreLevels (count : ℕ) (fires : List ℕ) (tells : List (ℕ × Value)) (touches : List ℕ) (x : code.Levels) : Type 0 where
   pub counted : length x.cells.items ≡ count
   pub cells : (s : ℕ) (d : Cell) → s < length x.cells.items → IsCell fires tells touches s (slice_index_or x.cells.items s d)

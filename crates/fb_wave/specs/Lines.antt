@@ -34,7 +34,7 @@ pub record IsInRange (k : Key) : Type 0 where
   pub a : k.a < 2 ^ 128
   pub b : k.b < 2 ^ 128
 
--- A line that the system can give: its numbers are those that lines have room for and stand for something in the system,
+-- A line that the system can give: its numbers are those that lines have room for and represent something in the system,
 -- the resource is that of the instance, and each value is one of its variable's type.
 pub record IsLineOf (sys : System) (l : Line) : Type 0 where
   pub range : IsInRange l.key
@@ -108,16 +108,16 @@ pub record IsLast (sys : System) (text : List ℕ) (end : Outcome) : Type 0 wher
   pub can : IsEndOf sys (ending_of end)
   pub is : text ≡ last_line sys (ending_of end)
 
--- what the last line of a trace has behind its first word where a resource stopped
+-- what the last line of a trace has after its first word where a resource stopped
 abbrev pub stop_text : System → (tick resource : ℕ) → Reason → List ℕ
 stop_text sys k r reason = tick_and_resource_text sys k r ++ codes " " ++ reason_text reason ++ 10 ∷ []
 
--- A text tells that a resource of the system stopped.
+-- A text says that a resource of the system stopped.
 pub record IsStop (sys : System) (text : List ℕ) (mark : StopMark) : Type 0 where
   pub tick : mark.tick < 2 ^ 64
   pub within : mark.resource < length sys.resource_names
   pub is : text ≡ stop_text sys mark.tick mark.resource mark.reason
 
--- The text tells of no stop of a resource of the system.
+-- The text has no stop of a resource of the system.
 abbrev pub IsNoStop : System → List ℕ → Type 0
 IsNoStop sys text = (k r : ℕ) (reason : Reason) → k < 2 ^ 64 → r < length sys.resource_names → text ≡ stop_text sys k r reason → ⊥

@@ -19,7 +19,7 @@ AreNumbered sys = (k : ℕ) → k < length sys.paths → sys.number (path_at sys
 abbrev pub scope_text : System → Path → (inner : List ℕ) → List ℕ
 scope_text sys q inner = opened (own_name q) ++ ports_declared (first_signal sys (sys.number q)) (ports_at sys q) ++ inner ++ closed 1
 
--- the scopes of the instances of a network, at most so many names deep
+-- the scopes of the instances of a network, at most this many names deep
 abbrev pub scopes_inside : (depth : ℕ) → Inputs → Path → Network → List ℕ
 scopes_inside zero i p net = []
 scopes_inside (suc d) i p net =

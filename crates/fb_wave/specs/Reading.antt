@@ -14,7 +14,7 @@ use Rattle.fb_wave.specs.Words.{is_ended}
 
 -- ---- Numbers
 
--- a digit behind the digits of a number
+-- a digit after the digits of a number
 pub record IsGrown (number byte grown : ℕ) : Type 0 where
   pub low : 48 ≤ byte
   pub high : byte < 58
@@ -80,7 +80,7 @@ IsNoValue ty text = (v : Value) → fits ty v ≡ true → text ≡ value_text v
 abbrev pub binding_text : Name → Value → List ℕ
 binding_text n v = codes " " ++ n ++ codes "=" ++ value_text v
 
--- A text begins with a variable and a value of its type, behind which a word ends.
+-- A text begins with a variable and a value of its type, after which a word ends.
 pub record IsBound (name : Name) (ty : Ty) (text : List ℕ) (value : Value) (rest : List ℕ) : Type 0 where
   pub parts : text ≡ binding_text name value ++ rest
   pub typed : fits ty value ≡ true

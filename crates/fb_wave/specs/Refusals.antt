@@ -26,7 +26,7 @@ pub record IsTrace (sys : System) (text : List ℕ) : Type 0 where
   pub end : Ending
   pub is : IsTraceOf sys form text lines end
 
--- A trace of the system has the first lines of the text, so many.
+-- A trace of the system has the first lines of the text, this many.
 pub record GoesOn (sys : System) (count : ℕ) (text : List ℕ) : Type 0 where
   pub trace : List ℕ
   pub is : IsTrace sys trace

@@ -20,7 +20,7 @@ use Rattle.fb_wave.specs.Signals.{size_of}
 abbrev pub declares : (kind code name : List ℕ) → List ℕ
 declares kind code name = line (codes "$var " ++ kind ++ codes " " ++ code ++ codes " " ++ name ++ codes " $end")
 
--- An event port is an event, and beside it a count. No name of a declaration has letters in lower case.
+-- An event port is an event, and next to it a count. No name of a declaration has letters in lower case.
 abbrev pub event_declared : ℕ → Name → List ℕ
 event_declared s n =
     declares (codes "event 1") (event_code s) n ++ declares (codes "reg 64") (count_code s) (n ++ codes "_count")
@@ -46,35 +46,35 @@ variable_begun s _ = line (codes "bx " ++ variable_code s)
 -- ---- The signals of an interface, by the text of an event and that of a variable
 
 -- events, the first with this number
-abbrev pub events_told : (ℕ → Name → List ℕ) → ℕ → List EventPort → List ℕ
-events_told event s [] = []
-events_told event s (e ∷ es) = event s e.name ++ events_told event (s + 1) es
+abbrev pub event_declarations : (ℕ → Name → List ℕ) → ℕ → List EventPort → List ℕ
+event_declarations event s [] = []
+event_declarations event s (e ∷ es) = event s e.name ++ event_declarations event (s + 1) es
 
 -- a variable that lines carry is one WITH an event
 abbrev pub is_carried : List EventPort → Variable → Bool
 is_carried es v = list_any (λ e. among e.with v.name) es
 
-abbrev pub carried_told : (ℕ → Name → Ty → List ℕ) → List EventPort → ℕ → Variable → List ℕ
-carried_told variable es s v = if is_carried es v then variable s v.name v.ty else []
+abbrev pub carried_declarations : (ℕ → Name → Ty → List ℕ) → List EventPort → ℕ → Variable → List ℕ
+carried_declarations variable es s v = if is_carried es v then variable s v.name v.ty else []
 
 -- variables, the first with this number
-abbrev pub variables_told : (ℕ → Name → Ty → List ℕ) → List EventPort → ℕ → List Variable → List ℕ
-variables_told variable es s [] = []
-variables_told variable es s (v ∷ vs) = carried_told variable es s v ++ variables_told variable es (s + 1) vs
+abbrev pub variable_declarations : (ℕ → Name → Ty → List ℕ) → List EventPort → ℕ → List Variable → List ℕ
+variable_declarations variable es s [] = []
+variable_declarations variable es s (v ∷ vs) = carried_declarations variable es s v ++ variable_declarations variable es (s + 1) vs
 
 -- the signals of an interface, the first with this number
-abbrev pub ports_told : (ℕ → Name → List ℕ) → (ℕ → Name → Ty → List ℕ) → ℕ → Ports → List ℕ
-ports_told event variable s its =
+abbrev pub port_declarations : (ℕ → Name → List ℕ) → (ℕ → Name → Ty → List ℕ) → ℕ → Ports → List ℕ
+port_declarations event variable s its =
     let outs = s + length its.event_inputs in
     let ins = outs + length its.event_outputs in
-    events_told event s its.event_inputs ++ events_told event outs its.event_outputs
-    ++ variables_told variable its.event_inputs ins its.inputs ++ variables_told variable its.event_outputs (ins + length its.inputs) its.outputs
+    event_declarations event s its.event_inputs ++ event_declarations event outs its.event_outputs
+    ++ variable_declarations variable its.event_inputs ins its.inputs ++ variable_declarations variable its.event_outputs (ins + length its.inputs) its.outputs
 
 abbrev pub ports_declared : ℕ → Ports → List ℕ
-ports_declared s its = ports_told event_declared variable_declared s its
+ports_declared s its = port_declarations event_declared variable_declared s its
 
 abbrev pub ports_begun : ℕ → Ports → List ℕ
-ports_begun s its = ports_told (λ s n. event_begun s) (λ s n ty. variable_begun s ty) s its
+ports_begun s its = port_declarations (λ s n. event_begun s) (λ s n ty. variable_begun s ty) s its
 
 -- which texts these are, in each of the two parts of the head
 abbrev pub event_in : HeadPart → ℕ → Name → List ℕ
@@ -90,17 +90,17 @@ variable_in Beginnings = λ s n ty. variable_begun s ty
 abbrev pub opened : Name → List ℕ
 opened n = line (codes "$scope module " ++ n ++ codes " $end")
 
--- so many scopes are closed
+-- this many scopes are closed
 abbrev pub closed : ℕ → List ℕ
 closed zero = []
 closed (suc k) = line (codes "$upscope $end") ++ closed k
 
--- the name of an instance among those beside it
+-- the name of an instance among those next to it
 abbrev pub own_name : Path → Name
 own_name [] = []
 own_name (n ∷ p) = n
 
--- The instances of a resource, where so many scopes of instances are open. Each lies in the scope of its composite, which
+-- The instances of a resource, where this many scopes of instances are open. Each is in the scope of its composite, which
 -- comes before it: the scopes are nested as the networks are (`specs/Nested`: `AreNested`).
 abbrev pub instances_declared : System → (resource depth first : ℕ) → List Path → List ℕ
 instances_declared sys r depth s [] = closed depth

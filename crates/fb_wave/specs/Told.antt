@@ -1,4 +1,4 @@
--- What the lines of a trace tell of signals (this project's profile).
+-- The signals of the lines of a trace (this project's profile).
 use Rattle.std.specs.Prelude.{ℕ, ◌+◌, List, [], ◌∷◌, map, unwrap_or, position}
 use Rattle.std.specs.List.{flat_map}
 use Rattle.fb_types.specs.Names.{Name, same_name}
@@ -15,7 +15,7 @@ use Rattle.fb_wave.specs.Signals.{event_signal, first_variable}
 abbrev pub index_of : List Variable → Name → ℕ
 index_of vs n = unwrap_or (position (same_name n) (variable_names vs)) 0
 
--- the signal whose event a line tells of
+-- the signal of a line's event
 abbrev pub fired : System → Line → ℕ
 fired sys l = event_signal sys l.instance l.taken l.event
 
@@ -25,25 +25,25 @@ pairs [] vs = []
 pairs (s ∷ ss) [] = []
 pairs (s ∷ ss) (v ∷ vs) = (s, v) ∷ pairs ss vs
 
--- the signals whose values a line tells
-abbrev pub told_signals : System → Line → List ℕ
-told_signals sys l =
+-- the signals of the values of a line
+abbrev pub changed_signals : System → Line → List ℕ
+changed_signals sys l =
     map (λ n. first_variable sys l.instance l.taken + index_of (line_side sys l) n) (line_variables sys l)
 
 abbrev pub told : System → Line → List (ℕ × Value)
-told sys l = pairs (told_signals sys l) l.values
+told sys l = pairs (changed_signals sys l) l.values
 
--- the signals that a line tells of
+-- the signals of a line
 abbrev pub touched : System → Line → List ℕ
 touched sys l = fired sys l ∷ map (λ t. t.0) (told sys l)
 
--- the events of lines, and the values that they tell
+-- the events of lines, and their values
 abbrev pub fires_of : System → List Line → List ℕ
 fires_of sys = map (fired sys)
 
-abbrev pub tells_of : System → List Line → List (ℕ × Value)
-tells_of sys = flat_map (told sys)
+abbrev pub has_signal : System → List Line → List (ℕ × Value)
+has_signal sys = flat_map (told sys)
 
--- the signals that lines tell of
+-- the signals of lines
 abbrev pub touches_of : System → List Line → List ℕ
 touches_of sys = flat_map (touched sys)

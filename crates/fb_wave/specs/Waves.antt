@@ -20,7 +20,7 @@ abbrev pub RiseFrom : ℕ → List Line → Type 0
 RiseFrom t [] = Unit {0}
 RiseFrom t (l ∷ ls) = (t ≤ l.key.tick) × RiseFrom l.key.tick ls
 
--- What may come behind a last line of that tick: a horizon after it, or a stop in it or after it.
+-- What may come after a last line of that tick: a horizon after it, or a stop in it or after it.
 abbrev pub EndsAfter : ℕ → Ending → Type 0
 EndsAfter t (AtHorizon h) = t < h
 EndsAfter t (AtStop k r reason) = t ≤ k

@@ -39,7 +39,7 @@ pub record HasThree (text : List ℕ) (size : ℕ) : Type 0 where
 abbrev pub HasNoThree : List ℕ → Type 0
 HasNoThree text = (u v w rest : List ℕ) → AreThree text u v w rest → ⊥
 
--- A text is a word and what stands behind it.
+-- A text is a word and what comes after it.
 pub record IsCut (text word rest : List ℕ) : Type 0 where
   pub parts : text ≡ word ++ rest
   pub whole : is_word word ≡ true

@@ -12,15 +12,15 @@ use Rattle.fb_wave.specs.Dumps.{last_tick, ticks_text}
 use Rattle.fb_wave.specs.declared.dump.Dump.{Dump}
 use Rattle.fb_wave.specs.declared.dump.Marks.{Marks}
 use Rattle.fb_wave.specs.Lines.{line_side}
-use Rattle.fb_wave.specs.Told.{fired, fires_of, tells_of, touches_of}
+use Rattle.fb_wave.specs.Told.{fired, fires_of, has_signal, touches_of}
 
--- The number of the first signal of each instance, and behind them how many signals there are.
+-- The number of the first signal of each instance, and after them how many signals there are.
 pub record AreFirsts (sys : System) (firsts : List ℕ) : Type 0 where
   pub counted : length firsts ≡ length sys.paths + 1
   pub each : (i : ℕ) → i ≤ length sys.paths → slice_index firsts i ≡ first_signal sys i
   pub small : sizes_of sys sys.paths < 2 ^ 64
 
--- A cell for each signal of the system, and the noted ones are among them.
+-- A cell for each signal of the system, and the marked ones are among them.
 pub record AreFit (sys : System) (x : Levels) : Type 0 where
   pub counted : length x.cells.items ≡ sizes_of sys sys.paths
   pub within : All (λ s. s < length x.cells.items) x.noted.items
@@ -38,14 +38,14 @@ pub record IsDump (sys : System) (x : Dump) : Type 0 where
   pub firsts_are : AreFirsts sys x.firsts.items
   pub fit : AreFit sys x.levels
 
--- Lines were told: the text so far is that of their dump, but for what the last tick changes. Whatever lines come, it grows
+-- Lines were written: the text so far is that of their dump, but for what the last tick changes. Whatever lines come, it grows
 -- to the dump of all.
 pub record Tells (sys : System) (ls : List Line) (told : List ℕ) (last : ℕ) (x : Levels) : Type 0 where
   pub before : List Line
   pub now : List Line
   pub parts : ls ≡ before ++ now
   pub tick : last ≡ last_tick 0 ls
-  pub levels : AreLevels (sizes_of sys sys.paths) (fires_of sys ls) (tells_of sys ls) (touches_of sys now) x
+  pub levels : AreLevels (sizes_of sys sys.paths) (fires_of sys ls) (has_signal sys ls) (touches_of sys now) x
   pub text : (rest : List Line) → told ++ ticks_text sys last before now rest ≡ head_text sys ++ ticks_text sys 0 [] [] (ls ++ rest)
 
 -- The same where the next line is one of this tick.
@@ -53,11 +53,11 @@ pub record Turns (sys : System) (ls : List Line) (told : List ℕ) (next : ℕ) 
   pub before : List Line
   pub now : List Line
   pub parts : ls ≡ before ++ now
-  pub levels : AreLevels (sizes_of sys sys.paths) (fires_of sys ls) (tells_of sys ls) (touches_of sys now) x
+  pub levels : AreLevels (sizes_of sys sys.paths) (fires_of sys ls) (has_signal sys ls) (touches_of sys now) x
   pub text :
       (l : Line) (rest : List Line) → l.key.tick ≡ next
       → told ++ ticks_text sys next before (now ++ l ∷ []) rest ≡ head_text sys ++ ticks_text sys 0 [] [] (ls ++ l ∷ rest)
 
--- A dump told of these lines, and this is its text so far.
-abbrev pub HasTold : System → List Line → List ℕ → Dump → Type 0
-HasTold sys ls told x = Tells sys ls told x.tick x.levels
+-- A dump has shown these lines, and this is its text so far.
+abbrev pub HasShown : System → List Line → List ℕ → Dump → Type 0
+HasShown sys ls told x = Tells sys ls told x.tick x.levels

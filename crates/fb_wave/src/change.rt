@@ -49,7 +49,7 @@ fn put_event(text: &mut Vec<u8>, signal: usize, count: u64) -> Result<(), AllocE
     put_bits(text, count, b"n", signal)
 }
 
-/// Puts what a signal shows behind a text.
+/// Puts what a signal shows after a text.
 fn put_change(text: &mut Vec<u8>, signal: usize, shown: Level) -> Result<(), AllocError>
     ensures { OnOk result (text.new.items ≡ text.old.items ++ changed signal shown) }
 {
@@ -59,7 +59,7 @@ fn put_change(text: &mut Vec<u8>, signal: usize, shown: Level) -> Result<(), All
     }
 }
 
-/// Puts a time behind a text, unless it is told already.
+/// Puts a time after a text, unless it is reported already.
 pub(crate) fn put_time(text: &mut Vec<u8>, told: u64, tick: u64) -> Result<(), AllocError>
     ensures { OnOk result (text.new.items ≡ text.old.items ++ time_text told tick) }
 {
@@ -69,7 +69,7 @@ pub(crate) fn put_time(text: &mut Vec<u8>, told: u64, tick: u64) -> Result<(), A
     put_line(text, b"#", tick)
 }
 
-/// Puts the changes of a tick behind a text, and goes on to the next tick.
+/// Puts the changes of a tick after a text, and goes on to the next tick.
 pub(crate) fn put_changes(text: &mut Vec<u8>, levels: &mut Levels) -> Result<(), AllocError>
     requires { All (λ s. s < length levels.old.cells.items) levels.old.noted.items }
     ensures counted { length levels.new.cells.items ≡ length levels.old.cells.items }
@@ -82,7 +82,7 @@ pub(crate) fn put_changes(text: &mut Vec<u8>, levels: &mut Levels) -> Result<(),
     for index in 0..levels.noted.len() {
         let signal = levels.noted[index];
         put_change(text, signal, levels.cells[signal].shown)?;
-        levels.cells[signal].is_noted = false;
+        levels.cells[signal].is_marked = false;
     }
     levels.noted.clear();
     Ok(())

@@ -5,7 +5,7 @@ ghost use Rattle.std.specs.Io.KnownBytes.{Consumes, IsAtEnd};
 ghost use Rattle.fb_types.specs.Headline.{system_of};
 ghost use Rattle.fb_wave.specs.Lines.{IsLast};
 ghost use Rattle.fb_wave.specs.Tables.{IsTable};
-ghost use Rattle.fb_wave.specs.Writing.{HasTold, IsDump};
+ghost use Rattle.fb_wave.specs.Writing.{HasShown, IsDump};
 ghost use Rattle.fb_wave.specs.Copying.{IsAfter, IsFinished, IsFirstLine, IsNoWriteFault, IsTaken, IsUnfinished, RefusesEnd, RefusesLine};
 ghost use Rattle.fb_wave.specs.Named as named;
 ghost use Rattle.fb_wave.specs.Named.{HasNames};
@@ -40,8 +40,8 @@ fn next_line<R: BufRead>(input: &mut R, line: &mut Vec<u8>) -> Result<(), WaveEr
     }
 }
 
-/// The form of a line by what stands behind its first word.
-fn form_behind(rest: &[u8]) -> Form
+/// The form of a line by what comes after its first word.
+fn form_after(rest: &[u8]) -> Form
     ensures { (b : ℕ) (more : List ℕ) → rest.now ≡ 32 ∷ (b ∷ more) → result ≡ (if named.is_digit b then Form.Two else Form.One) }
 {
     match rest {
@@ -57,7 +57,7 @@ fn form_of(line: &[u8]) -> Form
         → result ≡ (if named.is_digit b then Form.Two else Form.One) }
 {
     match cut(line) {
-        Some(parts) => form_behind(parts.1),
+        Some(parts) => form_after(parts.1),
         None => Form::One,
     }
 }
@@ -93,7 +93,7 @@ pub(crate) struct Progress {
 }
 
 impl Progress {
-    /// Tells of the line of that number, where a trace can go on with it.
+    /// Shows the line of that number, where a trace can go on with it.
     fn take(
         &mut self,
         alloc: Global,
@@ -120,7 +120,7 @@ impl Progress {
         Ok(())
     }
 
-    /// Tells of the end, and writes all that waits, where nothing is left to read. This end is in a line of that number.
+    /// Shows the end, and writes all that waits, where nothing is left to read. This end is in a line of that number.
     fn finish<R: BufRead, W: Write>(
         &mut self,
         system: &System,
@@ -160,7 +160,7 @@ impl Progress {
         requires table { IsTable table.now }
         requires dump { IsDump (system_of table.now.system.now) self.old.dump }
         requires tick { self.old.tick ≡ 0 }
-        requires told { HasTold (system_of table.now.system.now) [] self.old.page.text.items self.old.dump }
+        requires told { HasShown (system_of table.now.system.now) [] self.old.page.text.items self.old.dump }
         requires written { self.old.page.written ≡ 0 }
         ensures whole { OnOk result (IfSome (R.remaining input.old) (λ text. IsWave (system_of table.now.system.now) text (W.contents out.old) (W.contents out.new))) }
         ensures part { IfErr result (FailsWave (system_of table.now.system.now) (W.contents out.old) (W.contents out.new)) }

@@ -9,7 +9,7 @@ use std::alloc::AllocError;
 /// No `u64` has more digits.
 const MOST_DIGITS: usize = 64;
 
-/// Writes the digits of a number to a base at the end of the buffer, and tells where they begin.
+/// Writes the digits of a number to a base at the end of the buffer, and returns where they begin.
 fn write_digits(base: u64, number: u64, indexes: &mut [u8; MOST_DIGITS]) -> usize
     requires low { 2 ≤ base }
     requires high { base ≤ 10 }
@@ -30,7 +30,7 @@ fn write_digits(base: u64, number: u64, indexes: &mut [u8; MOST_DIGITS]) -> usiz
     start
 }
 
-/// Puts the decimal digits of a number behind a text.
+/// Puts the decimal digits of a number after a text.
 pub(crate) fn put_decimal(text: &mut Vec<u8>, number: u64) -> Result<(), AllocError>
     ensures { OnOk result (text.new.items ≡ text.old.items ++ decimal number) }
 {
@@ -39,7 +39,7 @@ pub(crate) fn put_decimal(text: &mut Vec<u8>, number: u64) -> Result<(), AllocEr
     text.extend_from_slice(&indexes[start..])
 }
 
-/// Puts the binary digits of a number behind a text.
+/// Puts the binary digits of a number after a text.
 pub(crate) fn put_binary(text: &mut Vec<u8>, number: u64) -> Result<(), AllocError>
     ensures { OnOk result (text.new.items ≡ text.old.items ++ binary number) }
 {
@@ -48,7 +48,7 @@ pub(crate) fn put_binary(text: &mut Vec<u8>, number: u64) -> Result<(), AllocErr
     text.extend_from_slice(&indexes[start..])
 }
 
-/// Puts a line behind a text: a front, and the decimal digits of a number.
+/// Puts a line after a text: a front, and the decimal digits of a number.
 pub(crate) fn put_line(text: &mut Vec<u8>, front: &[u8], number: u64) -> Result<(), AllocError>
     ensures { OnOk result (text.new.items ≡ text.old.items ++ line (front.now ++ decimal number)) }
 {

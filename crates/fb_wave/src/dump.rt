@@ -9,7 +9,7 @@ ghost use Rattle.fb_trace.specs.End.{EndsIn, ending_of};
 ghost use Rattle.fb_wave.specs.Levels.{AreLevels};
 ghost use Rattle.fb_wave.specs.Dumps.{dump_text, end_text, stop_comment};
 ghost use Rattle.fb_wave.specs.Told.{pairs};
-ghost use Rattle.fb_wave.specs.Writing.{AreFirsts, AreMarks, HasTold, IsDump, Tells, Turns};
+ghost use Rattle.fb_wave.specs.Writing.{AreFirsts, AreMarks, HasShown, IsDump, Tells, Turns};
 
 use crate::change::{put_changes, put_time};
 use crate::firsts::firsts_of;
@@ -20,10 +20,10 @@ use fb_trace::Outcome;
 use fb_types::{Line, Reason, Value};
 use std::alloc::{AllocError, Global};
 
-/// A dump, as far as lines of a trace were told. It keeps a cell for each signal.
+/// A dump, as far as lines of a trace were written. It keeps a cell for each signal.
 #[derive(Drop)]
 pub(crate) struct Dump {
-    /// The number of the first signal of each instance, and behind them how many signals there are.
+    /// The number of the first signal of each instance, and after them how many signals there are.
     firsts: Vec<usize>,
     levels: Levels,
     /// The tick of the last line, or 0 before the first.
@@ -40,7 +40,7 @@ fn reason_text(reason: Reason) -> &'static [u8]
     }
 }
 
-/// Puts the time of an end behind a text, and why a resource stopped.
+/// Puts the time of an end after a text, and why a resource stopped.
 fn put_end(text: &mut Vec<u8>, system: &System, told: u64, end: Outcome) -> Result<(), AllocError>
     requires { EndsIn (system_of system.now) end }
     ensures { OnOk result (text.new.items ≡ text.old.items ++ end_text (system_of system.now) told (ending_of end)) }
@@ -102,7 +102,7 @@ fn marks_of<'a>(firsts: &[usize], system: &'a System, line: &Line) -> Marks<'a>
     }
 }
 
-/// Goes on to a tick: puts what changed in the one before behind a text, unless it is the same.
+/// Goes on to a tick: puts what changed in the one before after a text, unless it is the same.
 fn turn(levels: &mut Levels, told: u64, tick: u64, text: &mut Vec<u8>) -> Result<(), AllocError>
     requires { All (λ s. s < length levels.old.cells.items) levels.old.noted.items }
     ensures counted { length levels.new.cells.items ≡ length levels.old.cells.items }
@@ -118,7 +118,7 @@ fn turn(levels: &mut Levels, told: u64, tick: u64, text: &mut Vec<u8>) -> Result
 }
 
 /// The variables at some indexes have these values, each as a signal whose number is that of the first and its index.
-fn tell_all(
+fn show_values(
     levels: &mut Levels,
     first: usize,
     indexes: &[u32],
@@ -138,7 +138,7 @@ fn tell_all(
     Ok(())
 }
 
-/// Notes an event, and values at some indexes behind the first variable.
+/// Notes an event, and values at some indexes after the first variable.
 fn tell(
     levels: &mut Levels,
     event: usize,
@@ -156,18 +156,18 @@ fn tell(
         AreLevels n (fires ++ event ∷ []) (tells ++ more) (touches ++ event ∷ [] ++ map (λ t. t.0) more) levels.new) }
 {
     levels.fire(event)?;
-    tell_all(levels, first, indexes, values)
+    show_values(levels, first, indexes, values)
 }
 
 impl Dump {
-    /// Begins a dump of a trace of the system: puts its head behind a text.
+    /// Begins a dump of a trace of the system: puts its head after a text.
     pub(crate) fn begin(
         alloc: Global,
         system: &System,
         text: &mut Vec<u8>,
     ) -> Result<Dump, AllocError>
         ensures numbers { IfOk result (IsDump (system_of system.now)) }
-        ensures told { text.old.items ≡ [] → IfOk result (HasTold (system_of system.now) [] text.new.items) }
+        ensures told { text.old.items ≡ [] → IfOk result (HasShown (system_of system.now) [] text.new.items) }
     {
         let mut levels = Levels::new(alloc);
         let firsts = firsts_of(alloc, system, &mut levels)?;
@@ -179,7 +179,7 @@ impl Dump {
         })
     }
 
-    /// Tells of a line of the trace: puts what changed before its tick behind a text, where it is the first of its tick.
+    /// Shows a line of the trace: puts what changed before its tick after a text, where it is the first of its tick.
     pub(crate) fn take(
         &mut self,
         system: &System,
@@ -189,8 +189,8 @@ impl Dump {
         requires dump { IsDump (system_of system.now) self.old }
         requires line { BelongsTo (system_of system.now) line.now }
         ensures numbers { OnOk result (IsDump (system_of system.now) self.new) }
-        ensures told { (ls : List Line) (sent : List ℕ) → HasTold (system_of system.now) ls (sent ++ text.old.items) self.old
-            → OnOk result (HasTold (system_of system.now) (ls ++ line.now ∷ []) (sent ++ text.new.items) self.new) }
+        ensures told { (ls : List Line) (sent : List ℕ) → HasShown (system_of system.now) ls (sent ++ text.old.items) self.old
+            → OnOk result (HasShown (system_of system.now) (ls ++ line.now ∷ []) (sent ++ text.new.items) self.new) }
     {
         system.facts();
         let marks = marks_of(self.firsts.as_slice(), system, line);
@@ -206,7 +206,7 @@ impl Dump {
         )
     }
 
-    /// Puts what changed in the last tick, and the end, behind a text.
+    /// Puts what changed in the last tick, and the end, after a text.
     pub(crate) fn end(
         &mut self,
         system: &System,
@@ -215,7 +215,7 @@ impl Dump {
     ) -> Result<(), AllocError>
         requires dump { IsDump (system_of system.now) self.old }
         requires end { EndsIn (system_of system.now) end }
-        ensures { (ls : List Line) (sent : List ℕ) → HasTold (system_of system.now) ls (sent ++ text.old.items) self.old
+        ensures { (ls : List Line) (sent : List ℕ) → HasShown (system_of system.now) ls (sent ++ text.old.items) self.old
             → OnOk result (sent ++ text.new.items ≡ dump_text (system_of system.now) ls (ending_of end)) }
     {
         put_changes(text, &mut self.levels)?;

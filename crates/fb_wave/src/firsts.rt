@@ -22,7 +22,7 @@ fn add_ports(levels: &mut Levels, ports: &Ports) -> Result<(), AllocError>
 }
 
 /// Adds the signals of all instances where there are none yet. The answer is the number of the first signal of each
-/// instance, and behind them how many signals there are.
+/// instance, and after them how many signals there are.
 pub(crate) fn firsts_of(
     alloc: Global,
     system: &System,

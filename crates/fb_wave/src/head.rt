@@ -20,7 +20,7 @@ fn rest_from(text: &[u8], count: usize) -> &[u8]
     &text[count..]
 }
 
-/// The name of an instance among those beside it.
+/// The name of an instance among those next to it.
 pub(crate) fn own_name(system: &System, instance: u32) -> &[u8]
     requires { instance < length (system_of system.now).paths }
     ensures { result.now ≡ spec.own_name (path_at (system_of system.now) instance) }

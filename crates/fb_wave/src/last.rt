@@ -29,7 +29,7 @@ fn resource_of(system: &System, name: &[u8]) -> Option<u32>
     None
 }
 
-/// The reason that a text tells behind a blank, with its line feed.
+/// The reason in a text after a blank, with its line feed.
 fn reason_of(text: &[u8]) -> Option<Reason>
     ensures { MatchOption result ((r : Reason) → text.now ≡ codes " " ++ reason_text r ++ 10 ∷ [] → ⊥) (λ r. text.now ≡ codes " " ++ reason_text r ++ 10 ∷ []) }
 {
@@ -45,7 +45,7 @@ fn reason_of(text: &[u8]) -> Option<Reason>
     None
 }
 
-/// The tick that a text tells, with its line feed.
+/// The tick in a text, with its line feed.
 fn horizon_of(text: &[u8]) -> Option<u64>
     ensures { MatchOption result ((h : ℕ) → h < 2 ^ 64 → text.now ≡ decimal h ++ 10 ∷ [] → ⊥) (λ h. text.now ≡ decimal h ++ 10 ∷ []) }
 {
@@ -56,7 +56,7 @@ fn horizon_of(text: &[u8]) -> Option<u64>
     magnitude(parts.0)
 }
 
-/// The stop of a resource that a text tells, with its line feed.
+/// The stop of a resource in a text, with its line feed.
 fn stop_of(system: &System, text: &[u8]) -> Option<StopMark>
     ensures stop { IfSome result (IsStop (system_of system.now) text.now) }
     ensures none { HasNames (system_of system.now) → IfNone result (IsNoStop (system_of system.now) text.now) }
@@ -72,7 +72,7 @@ fn stop_of(system: &System, text: &[u8]) -> Option<StopMark>
     })
 }
 
-/// The end that a text tells, with its line feed.
+/// The end in a text, with its line feed.
 pub(crate) fn read_last(system: &System, text: &[u8]) -> Option<Outcome>
     ensures last { IfSome result (IsLast (system_of system.now) text.now) }
     ensures none { HasNames (system_of system.now) → IfNone result (IsNoLast (system_of system.now) text.now) }

@@ -21,16 +21,16 @@ pub(crate) enum Level {
 pub(crate) struct Cell {
     /// What it shows.
     pub(crate) shown: Level,
-    /// Set where a line of this tick told of it.
-    pub(crate) is_noted: bool,
+    /// Set where a line of this tick has it.
+    pub(crate) is_marked: bool,
 }
 
-/// All signals, and those of which a line of this tick told, in the order in which each came first.
+/// All signals, and those of the lines of this tick, in the order in which each came first.
 #[derive(Drop)]
 pub(crate) struct Levels {
     /// Each signal at the index of its number.
     pub(crate) cells: Vec<Cell>,
-    /// The numbers of those of which a line of this tick told.
+    /// The numbers of those of the lines of this tick.
     pub(crate) noted: Vec<usize>,
 }
 
@@ -63,7 +63,7 @@ impl Levels {
         self.cells.len()
     }
 
-    /// Adds a number of signals to those of which no line told yet.
+    /// Adds a number of signals that no line has yet.
     pub(crate) fn add(&mut self, count: usize) -> Result<(), AllocError>
         ensures { (n : ℕ) → AreLevels n [] [] [] self.old → OnOk result (AreLevels (n + count) [] [] [] self.new) }
     {
@@ -71,14 +71,14 @@ impl Levels {
         while left > 0 {
             self.cells.push(Cell {
                 shown: Level::Count(0),
-                is_noted: false,
+                is_marked: false,
             })?;
             left -= 1;
         }
         Ok(())
     }
 
-    /// Notes that a line of this tick told of a signal.
+    /// Marks a signal of a line of this tick.
     fn note(&mut self, signal: usize) -> Result<(), AllocError>
         requires signal { signal < length self.old.cells.items }
         requires within { All (λ s. s < length self.old.cells.items) self.old.noted.items }
@@ -87,11 +87,11 @@ impl Levels {
         ensures levels { (n : ℕ) (fires : List ℕ) (tells : List (ℕ × Value)) (touches : List ℕ) → AreLevels n fires tells touches self.old
             → OnOk result (AreLevels n fires tells (touches ++ signal ∷ []) self.new) }
     {
-        if self.cells[signal].is_noted {
+        if self.cells[signal].is_marked {
             return Ok(());
         }
         self.noted.push(signal)?;
-        self.cells[signal].is_noted = true;
+        self.cells[signal].is_marked = true;
         Ok(())
     }
 

@@ -1,14 +1,15 @@
 //! Waveforms: reads the trace of a system and writes it as a value change dump (IEEE 1364-2005, 18).
 //!
-//! Guarantees to callers: where a text was shown, it is the trace of some lines of the system with an end behind them, in one of
-//! the two forms, and the writer got exactly the dump that the definitions have of these, as a function of the whole list. Where it
-//! is refused, the line is the first that no trace of the system has after the lines before it. Where it is refused or fails, the
-//! writer got the first bytes of a dump.
+//! Guarantees to callers: where a text was shown, it is the trace of some lines of the system with an end after them,
+//! in one of the two forms, and the writer got exactly the dump that the definitions have of these, as a function of
+//! the whole list. Where it is refused, the line is the first that no trace of the system has after the lines before
+//! it. Where it is refused or fails, the writer got the first bytes of a dump.
 //!
-//! Read in this order: `wave`, the entry, with `error`; `copy`, which goes line by line, and `page`, where text waits. Then
-//! how lines are read: `names`, whether names are some; `words`, what parts a line; `number` and `values`, what words stand for; `ports`, the event ports of a
-//! system; `table`, finds them by what lines have of them; `line`; `last`. Then how they are told: `levels` and `change`, what
-//! signals show and how changes are told; `scopes`, `declared`, `begun` and `signals`, what stands before them; `digits`; `firsts` and `head`;
+//! Read in this order: `wave`, the entry, with `error`; `copy`, which goes line by line, and `page`, where text waits.
+//! Then how lines are read: `names`, whether names are some; `words`, what parts a line; `number` and `values`, the
+//! meaning of words; `ports`, the event ports of a system; `table`, finds them by what lines have of them; `line`;
+//! `last`. Then how they are reported: `levels` and `change`, what signals show and how changes are reported; `scopes`,
+//! `declared`, `begun` and `signals`, what comes before them; `digits`; `firsts` and `head`;
 //! `dump`.
 #![tactic(auto)]
 

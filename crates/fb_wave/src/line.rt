@@ -36,7 +36,7 @@ fn class_of(number: u128) -> Option<u8>
     }
 }
 
-/// What a line begins with in a form, and what stands behind it.
+/// What a line begins with in a form, and what comes after it.
 fn parts_of(form: Form, text: &[u8]) -> Option<(Parts, &[u8])>
     ensures head { MatchOption result (HasNoHead form text.now) (λ p. IsHead form text.now p.0 p.1.now) }
     ensures range { IfSome result (λ p. AreInRange p.0) }

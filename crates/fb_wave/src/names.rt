@@ -18,7 +18,7 @@ fn is_letter(byte: u8) -> bool
     byte.is_ascii_uppercase() || byte == b'_'
 }
 
-/// Whether a byte may stand in a name behind its first.
+/// Whether a byte may be in a name after its first.
 fn is_part(byte: u8) -> bool
     ensures { result ≡ (named.is_letter byte || named.is_digit byte) }
 {

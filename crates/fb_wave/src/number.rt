@@ -5,7 +5,7 @@ ghost use Rattle.fb_wave.specs.Reading.{HasNoNumber, IsGrown, IsNoNumber, IsWide
 
 use crate::words::{behind, cut};
 
-/// A number with one more digit behind its digits, below 2^128.
+/// A number with one more digit after its digits, below 2^128.
 fn grown(number: u128, byte: u8) -> Option<u128>
     ensures { MatchOption result (48 ≤ byte → byte < 58 → 2 ^ 128 ≤ number * 10 + (byte - 48)) (IsGrown number byte) }
 {
@@ -47,7 +47,7 @@ pub(crate) fn magnitude(text: &[u8]) -> Option<u64>
     narrow(natural(text)?)
 }
 
-/// A number before a blank, and what stands behind the blank.
+/// A number before a blank, and what comes after the blank.
 pub(crate) fn number(text: &[u8]) -> Option<(u128, &[u8])>
     ensures number { MatchOption result (HasNoNumber (2 ^ 128) text.now) (λ p. text.now ≡ number_text p.0 ++ p.1.now) }
     ensures range { IfSome result (λ p. p.0 < 2 ^ 128) }
@@ -56,7 +56,7 @@ pub(crate) fn number(text: &[u8]) -> Option<(u128, &[u8])>
     Some((natural(parts.0)?, behind(parts.1, b" ")?))
 }
 
-/// A number of 64 bits before a blank, and what stands behind the blank.
+/// A number of 64 bits before a blank, and what comes after the blank.
 pub(crate) fn tick(text: &[u8]) -> Option<(u64, &[u8])>
     ensures tick { MatchOption result (HasNoNumber (2 ^ 64) text.now) (λ p. text.now ≡ number_text p.0 ++ p.1.now) }
     ensures range { IfSome result (λ p. p.0 < 2 ^ 64) }

@@ -10,7 +10,7 @@ use fb_trace::write_front;
 use std::alloc::Global;
 use std::io::Write;
 
-/// So many bytes wait before some are written, to make few writes of many.
+/// This many bytes wait before some are written, to make few writes of many.
 const MANY: usize = 65_536;
 
 /// Whole lines that wait to be written, and how many bytes were written before them, up to the greatest `u128`.

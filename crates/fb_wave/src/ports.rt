@@ -95,7 +95,8 @@ pub(crate) fn holder_of(system: &System, port: Port) -> u32
     system.resource(port.instance) as u32
 }
 
-/// What stands between the resource and the path of a line: the sign of an event that was taken, or of one that was emitted.
+/// What is between the resource and the path of a line: the sign of an event that was taken, or of one that was
+/// emitted.
 fn sign(taken: bool) -> &'static [u8]
     ensures { result.now ≡ (if taken then codes " > " else codes " < ") }
 {

@@ -9,7 +9,7 @@ use crate::{begun, declared};
 use fb_types::{EventPort, Name, Ports, Variable};
 use std::alloc::AllocError;
 
-/// What a part of the head tells of each signal.
+/// What a part of the head says of each signal.
 #[derive(Clone, Copy)]
 pub(crate) enum HeadPart {
     /// Its declaration.
@@ -39,7 +39,7 @@ fn put_events(
     events: &[EventPort],
 ) -> Result<(), AllocError>
     requires { first + length events.now < 2 ^ 64 }
-    ensures { OnOk result (text.new.items ≡ text.old.items ++ spec.events_told (spec.event_in part) first events.now) }
+    ensures { OnOk result (text.new.items ≡ text.old.items ++ spec.event_declarations (spec.event_in part) first events.now) }
 {
     let mut signal = first;
     for event in events {
@@ -80,7 +80,7 @@ fn put_variable(
     signal: usize,
     variable: &Variable,
 ) -> Result<(), AllocError>
-    ensures { OnOk result (text.new.items ≡ text.old.items ++ spec.carried_told (spec.variable_in part) events.now signal variable.now) }
+    ensures { OnOk result (text.new.items ≡ text.old.items ++ spec.carried_declarations (spec.variable_in part) events.now signal variable.now) }
 {
     if !is_carried(events, variable) {
         return Ok(());
@@ -101,7 +101,7 @@ fn put_variables(
     variables: &[Variable],
 ) -> Result<(), AllocError>
     requires { first + length variables.now < 2 ^ 64 }
-    ensures { OnOk result (text.new.items ≡ text.old.items ++ spec.variables_told (spec.variable_in part) events.now first variables.now) }
+    ensures { OnOk result (text.new.items ≡ text.old.items ++ spec.variable_declarations (spec.variable_in part) events.now first variables.now) }
 {
     let mut signal = first;
     for variable in variables {
@@ -119,7 +119,7 @@ pub(crate) fn put_ports(
     ports: &Ports,
 ) -> Result<(), AllocError>
     requires { first + size_of ports.now < 2 ^ 64 }
-    ensures { OnOk result (text.new.items ≡ text.old.items ++ spec.ports_told (spec.event_in part) (spec.variable_in part) first ports.now) }
+    ensures { OnOk result (text.new.items ≡ text.old.items ++ spec.port_declarations (spec.event_in part) (spec.variable_in part) first ports.now) }
 {
     let outputs = first + ports.event_inputs.len();
     let variables = outputs + ports.event_outputs.len();

@@ -27,11 +27,11 @@ pub(crate) struct PortTable<'a> {
     indexes: Indexes<'a>,
 }
 
-/// Where the port of a line is looked for first: at the port that came last behind that of the line before. A guess
+/// Where the port of a line is looked for first: at the port that came last after that of the line before. A guess
 /// that is wrong costs time alone, so nothing is promised of it.
 #[derive(Drop)]
 pub(crate) struct Guess {
-    /// For each port the index of the one that came last behind it.
+    /// For each port the index of the one that came last after it.
     next: Vec<usize>,
     /// The index of the port of the line before.
     last: usize,
@@ -138,7 +138,7 @@ impl<'a> PortTable<'a> {
         }
     }
 
-    /// The port at an index, if a text begins with its text, and what stands behind it.
+    /// The port at an index, if a text begins with its text, and what comes after it.
     fn at<'b>(&self, index: usize, text: &'b [u8]) -> Option<(Port, &'b [u8])>
         requires { IsTable self.now }
         ensures found { IfSome result (λ p. BeginsWith (system_of self.now.system.now) text.now p.0 p.1.now) }
@@ -154,7 +154,7 @@ impl<'a> PortTable<'a> {
         Some((*port, rest))
     }
 
-    /// The port with whose text a text begins, and what stands behind it. Its index is guessed, and looked up where the
+    /// The port with whose text a text begins, and what comes after it. Its index is guessed, and looked up where the
     /// guess is wrong.
     pub(crate) fn find<'b>(&self, guess: &mut Guess, text: &'b [u8]) -> Option<(Port, &'b [u8])>
         requires { IsTable self.now }

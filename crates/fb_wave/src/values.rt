@@ -10,7 +10,7 @@ use crate::words::{behind, cut};
 use fb_types::{Ty, Value, Values, Variable};
 use std::alloc::{AllocError, Global};
 
-/// The number below 0 of which a text has the digits behind the sign.
+/// The number below 0 of which a text has the digits after the sign.
 fn below_zero(digits: &[u8]) -> Option<i128>
     ensures { MatchOption result (HasNoDigits digits.now) (λ z. IsTextOfWhole z (codes "-" ++ digits.now)) }
 {
@@ -61,7 +61,7 @@ fn value_of(ty: Ty, text: &[u8]) -> Option<Value>
     if ty.holds(value) { Some(value) } else { None }
 }
 
-/// A variable with a value of its type, and what stands behind them.
+/// A variable with a value of its type, and what comes after them.
 fn binding<'a>(variable: &Variable, text: &'a [u8]) -> Option<(Value, &'a [u8])>
     ensures { MatchOption result (IsUnbound variable.now.name variable.now.ty text.now)
         (λ p. IsBound variable.now.name variable.now.ty text.now p.0 p.1.now) }

@@ -18,12 +18,12 @@ use std::io::{BufRead, Write};
 
 /// Reads a trace of the system, in either form, and writes its value change dump.
 ///
-/// A time of the dump is a tick, in milliseconds. In a tick each signal changes once, at most: an event port fires where it
-/// had an event, and the count beside it has 64 bits; a variable takes its last value. All memory is that of the signals,
-/// of a line, and of a page.
+/// A time of the dump is a tick, in milliseconds. In a tick each signal changes once, at most: an event port fires
+/// where it had an event, and the count next to it has 64 bits; a variable takes its last value. All memory is that of
+/// the signals, of a line, and of a page.
 ///
 /// # Errors
-/// `Refused` with the number of the first line that no trace of the system has behind the lines before it. So no trace is
+/// `Refused` with the number of the first line that no trace of the system has after the lines before it. So no trace is
 /// refused. What was written then is the beginning of a dump and ends at a line. The same holds where the reader fails or
 /// memory runs out. Where the writer fails it got as many bytes as the error says, but not all.
 ///

@@ -31,7 +31,7 @@ pub(crate) fn cut(text: &[u8]) -> Option<(&[u8], &[u8])>
     None
 }
 
-/// What stands behind a front.
+/// What comes after a front.
 pub(crate) fn behind<'a>(text: &'a [u8], front: &[u8]) -> Option<&'a [u8]>
     ensures { MatchOption result ((rest : List ℕ) → text.now ≡ front.now ++ rest → ⊥) (λ rest. text.now ≡ front.now ++ rest.now) }
 {

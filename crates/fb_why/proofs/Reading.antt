@@ -6,7 +6,7 @@ use Rattle.fb_types.specs.declared.deploy.Stimulus.{Stimulus}
 use Rattle.fb_types.specs.declared.library.Library.{Library}
 use Rattle.fb_read.specs.Whole.{IsLibraryText}
 use Rattle.fb_why.specs.Causes.{IsCause}
-use Rattle.fb_why.specs.Findings.{AppliesAt, AppliesNowhere, AreStimuli, ExceedsAt, ExceedsNowhere, HasNoExcess, HasNoFlaw, IsPlan, IsSilent, IsSilentOf, Tells, TellsExcess, TellsFlaw, TellsOf}
+use Rattle.fb_why.specs.Findings.{AppliesAt, AppliesNowhere, AreStimuli, ExceedsAt, ExceedsNowhere, HasNoExcess, HasNoFlaw, IsPlan, IsSilent, IsSilentOf, Tells, TellsExcess, TellsFlaw, FindsOf}
 use Rattle.fb_why.specs.declared.cause.Cause.{Cause}
 use Rattle.fb_why.specs.declared.cause.Excess.{Excess}
 use Rattle.fb_why.specs.declared.cause.Flaw.{Flaw}
@@ -42,7 +42,7 @@ unread_told (Ok (Some r)) F N T said so = absurd (let other : Some r ≡ None = 
 -- and by the number
 pub numbered :
     {E : Type 0} (cause : Cause) (n : ℕ) (text : List ℕ) (bytes given : Option (List ℕ)) (made : Result (Option Finding) E) → IsCause n cause
-    → IfOk made (λ o. MatchOption o (IsSilentOf cause n text bytes given) (λ r. TellsOf cause n text bytes given r.location))
+    → IfOk made (λ o. MatchOption o (IsSilentOf cause n text bytes given) (λ r. FindsOf cause n text bytes given r.location))
     → IfOk made (λ o. MatchOption o (IsSilent text bytes given n) (λ r. Tells text bytes given n r.location))
 numbered cause n text bytes given (Err e) is holds = tt
 numbered cause n text bytes given (Ok None) is holds = (cause, is, holds)

@@ -118,9 +118,9 @@ HasNoFlaw flaw declaration deploy = IsFlawless flaw declaration deploy ⊎ IsNoT
 -- ---- The text of the declaration
 
 -- A fault of the text has this number, and applies at this location.
-abbrev pub TellsText : (number : ℕ) → (declaration : List ℕ) → Spot → Type 0
-TellsText number declaration (spot.Text p) = (fault : ReadError) × (text_number fault ≡ Some number) × TellsFault declaration fault p
-TellsText number declaration _ = ⊥
+abbrev pub FindsInText : (number : ℕ) → (declaration : List ℕ) → Spot → Type 0
+FindsInText number declaration (spot.Text p) = (fault : ReadError) × (text_number fault ≡ Some number) × TellsFault declaration fault p
+FindsInText number declaration _ = ⊥
 
 -- ---- The bytes of the deployment and of the stimuli
 
@@ -135,15 +135,15 @@ IsStimuliSpot number bytes (spot.Stimuli p) = (rows.number_of p ≡ number) × r
 IsStimuliSpot number bytes _ = ⊥
 
 -- The deployment is given, and what has this number is wrong at the location.
-abbrev pub TellsDeployment : (number : ℕ) → Option (List ℕ) → Spot → Type 0
-TellsDeployment number deploy location = (bytes : List ℕ) × (deploy ≡ Some bytes) × IsDeploymentSpot number bytes location
+abbrev pub FindsInDeployment : (number : ℕ) → Option (List ℕ) → Spot → Type 0
+FindsInDeployment number deploy location = (bytes : List ℕ) × (deploy ≡ Some bytes) × IsDeploymentSpot number bytes location
 
 -- The stimuli are given, and refused with this number for what is reported of the location.
-abbrev pub TellsStimuli : (number : ℕ) → Option (List ℕ) → Spot → Type 0
-TellsStimuli number stimuli location = (bytes : List ℕ) × (stimuli ≡ Some bytes) × IsStimuliSpot number bytes location
+abbrev pub FindsInStimuli : (number : ℕ) → Option (List ℕ) → Spot → Type 0
+FindsInStimuli number stimuli location = (bytes : List ℕ) × (stimuli ≡ Some bytes) × IsStimuliSpot number bytes location
 
-abbrev pub TellsBytes : (number : ℕ) → (deploy stimuli : Option (List ℕ)) → Spot → Type 0
-TellsBytes number deploy stimuli location = TellsDeployment number deploy location ⊎ TellsStimuli number stimuli location
+abbrev pub FindsInBytes : (number : ℕ) → (deploy stimuli : Option (List ℕ)) → Spot → Type 0
+FindsInBytes number deploy stimuli location = FindsInDeployment number deploy location ⊎ FindsInStimuli number stimuli location
 
 -- Something is wrong with the deployment at a location, and has another number.
 pub record HasOtherFault (number : ℕ) (bytes : List ℕ) : Type 0 where
@@ -217,12 +217,12 @@ HasNoExcess excess declaration deploy stimuli =
 -- ---- By the number
 
 -- What is refused with this number applies at this location.
-abbrev pub TellsOf : Cause → (number : ℕ) → (declaration : List ℕ) → (deploy stimuli : Option (List ℕ)) → Spot → Type 0
-TellsOf cause.Text number declaration deploy stimuli location = TellsText number declaration location
-TellsOf cause.Bytes number declaration deploy stimuli location = TellsBytes number deploy stimuli location
-TellsOf (cause.Flaw flaw) number declaration deploy stimuli location = TellsFlaw flaw declaration deploy location
-TellsOf (cause.Excess excess) number declaration deploy stimuli location = TellsExcess excess declaration deploy stimuli location
-TellsOf cause.Other number declaration deploy stimuli location = ⊥
+abbrev pub FindsOf : Cause → (number : ℕ) → (declaration : List ℕ) → (deploy stimuli : Option (List ℕ)) → Spot → Type 0
+FindsOf cause.Text number declaration deploy stimuli location = FindsInText number declaration location
+FindsOf cause.Bytes number declaration deploy stimuli location = FindsInBytes number deploy stimuli location
+FindsOf (cause.Flaw flaw) number declaration deploy stimuli location = TellsFlaw flaw declaration deploy location
+FindsOf (cause.Excess excess) number declaration deploy stimuli location = TellsExcess excess declaration deploy stimuli location
+FindsOf cause.Other number declaration deploy stimuli location = ⊥
 
 -- Nothing is reported if the refusal does not apply, or if something can't be read or is refused with another number. For
 -- a text, nothing may be reported in any case in which the location is hard to find.
@@ -235,7 +235,7 @@ IsSilentOf cause.Other number declaration deploy stimuli = Unit {0}
 
 -- The refusal with this number applies at this location.
 abbrev pub Tells : (declaration : List ℕ) → (deploy stimuli : Option (List ℕ)) → (number : ℕ) → Spot → Type 0
-Tells declaration deploy stimuli number location = (cause : Cause) × IsCause number cause × TellsOf cause number declaration deploy stimuli location
+Tells declaration deploy stimuli number location = (cause : Cause) × IsCause number cause × FindsOf cause number declaration deploy stimuli location
 
 -- No location is reported.
 abbrev pub IsSilent : (declaration : List ℕ) → (deploy stimuli : Option (List ℕ)) → (number : ℕ) → Type 0

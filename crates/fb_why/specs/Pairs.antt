@@ -25,7 +25,7 @@ Paired xs o = MatchOption o (¬ (Twice xs)) (IsPair xs)
 abbrev pub Key : Type 0
 Key = Option (Bor Name) × Bor Name × Option (Bor Name) × Bor Name
 
--- the two ports that they stand for
+-- the two ports that they represent
 abbrev pub key_ports : Key → Port × Port
 key_ports k = (end_port (k.0, k.1), end_port (k.2, k.3))
 

@@ -21,7 +21,7 @@ abbrev pub has_number : Option Fault → ℕ → Bool
 has_number None n = false
 has_number (Some f) n = number_of f == n
 
--- The catalog has the indices of all names, each of which stands for something.
+-- The catalog has the indices of all names, each of which is known.
 abbrev pub IsKnown : Library → Catalog → Type 0
 IsKnown lib catalog = (plan : Plan) × IsCatalog lib plan catalog × ¬ (NameUnknown lib plan)
 

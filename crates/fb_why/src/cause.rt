@@ -10,7 +10,7 @@ use fb_read::ReadError;
 pub enum Flaw {
     /// Something is given twice (E20).
     Twice,
-    /// A name stands for nothing (E21).
+    /// A name is unknown (E21).
     Unknown,
     /// An expression, a statement or a value is of a wrong kind (E22).
     Misfit,

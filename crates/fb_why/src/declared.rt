@@ -6,10 +6,10 @@ ghost use Rattle.fb_why.specs.Findings.{AppliesAt, AppliesNowhere};
 ghost use Rattle.fb_why.specs.declared.cause.Flaw.TheVariants as flaw;
 
 use crate::cause::Flaw;
+use crate::flaw_message::flaw_message;
 use crate::heights::too_high_location;
 use crate::sources::joined_location;
 use crate::spot::{Finding, Spot, found};
-use crate::tell_flaw::tell_flaw;
 use crate::twice::twice_location;
 use crate::unlinked::unlinked_location;
 use crate::unmapped::unmapped_location;
@@ -98,7 +98,7 @@ pub fn finding_in(
     ensures { IfOk result (λ o. MatchOption o (AppliesNowhere flaw library.now plan.now) (λ r. AppliesAt flaw library.now plan.now r.location)) }
 {
     match spot_in(alloc, flaw, library, plan)? {
-        Some(spot) => found(spot, tell_flaw(alloc, library, plan, spot)),
+        Some(spot) => found(spot, flaw_message(alloc, library, plan, spot)),
         None => Ok(None),
     }
 }

@@ -7,7 +7,7 @@ use crate::cause::Excess;
 use crate::limit::limit_location;
 use crate::spot::{Finding, Spot, found};
 use crate::stimulus::stimulus_location;
-use crate::tell::{tell_limit, tell_stimulus};
+use crate::tell::{limit_message, stimulus_message};
 use fb_types::{Library, Plan, Stimulus};
 use std::alloc::{AllocError, Global};
 
@@ -25,12 +25,12 @@ pub fn finding_with(
         Excess::Stimulus => match stimulus_location(alloc, library, plan, stimuli)? {
             Some(location) => found(
                 Spot::Stimulus(location),
-                tell_stimulus(alloc, library, stimuli, location),
+                stimulus_message(alloc, library, stimuli, location),
             ),
             None => Ok(None),
         },
         Excess::Limit => match limit_location(alloc, library, plan, stimuli)? {
-            Some(limit) => found(Spot::Limit(limit), tell_limit(alloc, limit)),
+            Some(limit) => found(Spot::Limit(limit), limit_message(alloc, limit)),
             None => Ok(None),
         },
     }

@@ -2,7 +2,7 @@
 
 ghost use Rattle.std.specs.Prelude.{◌≡◌, ℕ, List, Option, None, IfOk, MatchOption, option_map};
 ghost use Rattle.fb_read.specs.Whole.{IsLibraryText, IsMemory};
-ghost use Rattle.fb_why.specs.Findings.{AreNoStimuli, AreStimuli, HasNoExcess, HasNoFlaw, IsNoPlan, IsPlan, IsSilent, IsSilentOf, Tells, TellsExcess, TellsFlaw, TellsOf};
+ghost use Rattle.fb_why.specs.Findings.{AreNoStimuli, AreStimuli, HasNoExcess, HasNoFlaw, IsNoPlan, IsPlan, IsSilent, IsSilentOf, Tells, TellsExcess, TellsFlaw, FindsOf};
 
 use crate::cause::{Cause, Excess, Flaw, cause_of};
 use crate::declared::finding_in;
@@ -152,7 +152,7 @@ fn finding_by(
     stimuli: Option<&[u8]>,
 ) -> Result<Option<Finding>, AllocError>
     ensures { let plan = option_map (λ b. b.now) deploy.entry in let rows = option_map (λ b. b.now) stimuli.entry in
-        IfOk result (λ o. MatchOption o (IsSilentOf cause number declaration.now plan rows) (λ r. TellsOf cause number declaration.now plan rows r.location)) }
+        IfOk result (λ o. MatchOption o (IsSilentOf cause number declaration.now plan rows) (λ r. FindsOf cause number declaration.now plan rows r.location)) }
 {
     match cause {
         Cause::Text => text_finding(alloc, number, declaration),

@@ -1,13 +1,14 @@
 //! Where the bytes of a declaration, of a deployment or of stimuli are refused.
 
 ghost use Rattle.std.specs.Prelude.{IfOk, IfSome, MatchOption, option_map};
-ghost use Rattle.fb_why.specs.Findings.{IsDeploymentSpot, IsSilentOfBytes, IsSilentOfDeployment, IsSilentOfStimuli, IsStimuliSpot, TellsBytes, TellsDeployment, TellsStimuli, TellsText};
+ghost use Rattle.fb_why.specs.Findings.{IsDeploymentSpot, IsSilentOfBytes, IsSilentOfDeployment, IsSilentOfStimuli, IsStimuliSpot, FindsInBytes, FindsInDeployment, FindsInStimuli, FindsInText};
 
 use crate::cause::text_number;
 use crate::spot::{Finding, Spot, found};
 use fb_read::{discard, read_library};
 use fb_why_bytes::{
-    deployment_location, stimuli_location, tell_deployment, tell_stimuli, tell_text, text_location,
+    deployment_location, deployment_message, stimuli_location, stimuli_message, text_location,
+    text_message,
 };
 use std::alloc::{AllocError, Global};
 
@@ -17,7 +18,7 @@ pub fn text_finding(
     number: u8,
     declaration: &[u8],
 ) -> Result<Option<Finding>, AllocError>
-    ensures { IfOk result (λ o. IfSome o (λ r. TellsText number declaration.now r.location)) }
+    ensures { IfOk result (λ o. IfSome o (λ r. FindsInText number declaration.now r.location)) }
 {
     let fault = match read_library(alloc, declaration) {
         Ok(library) => {
@@ -32,7 +33,7 @@ pub fn text_finding(
     match text_location(alloc, declaration, &fault)? {
         Some(location) => found(
             Spot::Text(location),
-            tell_text(alloc, declaration, &fault, location),
+            text_message(alloc, declaration, &fault, location),
         ),
         None => Ok(None),
     }
@@ -54,7 +55,7 @@ fn deployment_finding(
     }
     found(
         Spot::Deployment(location),
-        tell_deployment(alloc, bytes, location),
+        deployment_message(alloc, bytes, location),
     )
 }
 
@@ -70,7 +71,7 @@ fn stimuli_finding(alloc: Global, number: u8, bytes: &[u8]) -> Result<Option<Fin
     }
     found(
         Spot::Stimuli(location),
-        tell_stimuli(alloc, bytes, location),
+        stimuli_message(alloc, bytes, location),
     )
 }
 
@@ -81,7 +82,7 @@ fn deployment_finding_if(
     deploy: Option<&[u8]>,
 ) -> Result<Option<Finding>, AllocError>
     ensures { let plan = option_map (λ b. b.now) deploy.entry in
-        IfOk result (λ o. MatchOption o (IfSome plan (IsSilentOfDeployment number)) (λ r. TellsDeployment number plan r.location)) }
+        IfOk result (λ o. MatchOption o (IfSome plan (IsSilentOfDeployment number)) (λ r. FindsInDeployment number plan r.location)) }
 {
     match deploy {
         Some(bytes) => deployment_finding(alloc, number, bytes),
@@ -96,7 +97,7 @@ fn stimuli_finding_if(
     stimuli: Option<&[u8]>,
 ) -> Result<Option<Finding>, AllocError>
     ensures { let rows = option_map (λ b. b.now) stimuli.entry in
-        IfOk result (λ o. MatchOption o (IfSome rows (IsSilentOfStimuli number)) (λ r. TellsStimuli number rows r.location)) }
+        IfOk result (λ o. MatchOption o (IfSome rows (IsSilentOfStimuli number)) (λ r. FindsInStimuli number rows r.location)) }
 {
     match stimuli {
         Some(bytes) => stimuli_finding(alloc, number, bytes),
@@ -112,7 +113,7 @@ pub fn bytes_finding(
     stimuli: Option<&[u8]>,
 ) -> Result<Option<Finding>, AllocError>
     ensures { let plan = option_map (λ b. b.now) deploy.entry in let rows = option_map (λ b. b.now) stimuli.entry in
-        IfOk result (λ o. MatchOption o (IsSilentOfBytes number plan rows) (λ r. TellsBytes number plan rows r.location)) }
+        IfOk result (λ o. MatchOption o (IsSilentOfBytes number plan rows) (λ r. FindsInBytes number plan rows r.location)) }
 {
     match deployment_finding_if(alloc, number, deploy)? {
         Some(finding) => Ok(Some(finding)),

@@ -24,7 +24,7 @@ pub enum Spot {
     Stimuli(StimuliLocation),
     /// What is given twice (E20).
     Twice(GivenTwice),
-    /// A name that stands for nothing (E21).
+    /// An unknown name (E21).
     Unknown(UnknownName),
     /// An expression, a statement or a value of a wrong kind (E22).
     Misfit(Misfit),

@@ -145,7 +145,7 @@ pub static OF_CHECKS: [Explanation; 12] = [
     },
     Explanation {
         name: "E21",
-        meaning: "A name stands for nothing of the required kind.",
+        meaning: "Nothing of the required kind has this name.",
         examples: [
             "`F.EO TO W.EJ;` where `W` is an E_SWITCH: it has no event input `EJ`.",
             "`S.COLD TO C;` in an application: only composites have ports that are named without an instance.",
@@ -251,9 +251,9 @@ pub static OF_RULES: [Explanation; 6] = [
         meaning: "The rules have more than 1,048,576 bytes, or there are more than 1,000.",
         examples: [
             "Rules that a tool wrote for each of many ports.",
-            "A file of another sort, given by mistake: the rules come before the traces.",
+            "A file of another kind, given by mistake: the rules come before the traces.",
         ],
-        look: "The size of the file, and the number of its `[[rule]]`. A `*` in a pattern stands for many ports.",
+        look: "The size of the file, and the number of its `[[rule]]`. A `*` in a pattern matches many ports.",
     },
     Explanation {
         name: "E41",
@@ -266,7 +266,7 @@ pub static OF_RULES: [Explanation; 6] = [
     },
     Explanation {
         name: "E42",
-        meaning: "A rule lacks a key, has another one, or has a value of another sort; or there is no rule.",
+        meaning: "A rule lacks a key, has an unknown one, or has a value of another kind; or there is no rule.",
         examples: [
             "`after` with both `see` and `not`, or with neither.",
             "`within = \"10\"`: a number has no quotes.",
@@ -280,24 +280,24 @@ pub static OF_RULES: [Explanation; 6] = [
             "`VALVE.CLOSED`: a resource and a sign come first, as in `* < VALVE.CLOSED`.",
             "`R1 > LAMP.SET ON = TRUE`: a condition has no blanks.",
         ],
-        look: "A pattern is `RESOURCE > PATH.EVENT VAR=value ..`: a name or `*`; `>`, `<` or `*`; two names or more with full stops, the last parts perhaps `*`; then conditions. TRUE and FALSE are compared by `=` and `<>` alone.",
+        look: "A pattern is `RESOURCE > PATH.EVENT VAR=value ..`: a name or `*`; `>`, `<` or `*`; two names or more joined by full stops, of which `*` may replace the last ones; then conditions. TRUE and FALSE are compared only by `=` and `<>`.",
     },
     Explanation {
         name: "E44",
         meaning: "A number of a rule is out of its range.",
         examples: [
-            "`within = -1`: a Q before a P is asked for by `before`.",
+            "`within = -1`: use `before` for a Q before a P.",
             "`least = 3` with `most = 2`.",
         ],
         look: "`within`, `least` and `most` are 0 to 1,000,000,000,000, `every` is 1 to that, and `least` is not over `most`.",
     },
     Explanation {
         name: "E45",
-        meaning: "The declared system has no event for a pattern of a rule, or none with all its variables.",
+        meaning: "The declared system has no event that matches a pattern of a rule, or none with all its variables.",
         examples: [
             "`R1 > VALVE.CLOSE` where `VALVE` is in `R2`.",
             "`* < VALVE.CLOSED Q=TRUE` where `Q` is not WITH the event.",
         ],
-        look: "Slips of the pen; the resource of the instance; `>` for an event output, or `<` for an event input. Without `--decl` the report tells for each trace what it does not have.",
+        look: "Typing errors; the resource of the instance; `>` for an event output, or `<` for an event input. Without `--decl` the report lists the patterns that no line of a trace matches.",
     },
 ];

@@ -17,7 +17,7 @@ fn ending(location: usize) -> &'static str {
 }
 
 /// Says what is wrong with the stimulus at this location.
-pub fn tell_stimulus(
+pub fn stimulus_message(
     alloc: Global,
     library: &Library,
     stimuli: &[Stimulus],
@@ -29,7 +29,7 @@ pub fn tell_stimulus(
 }
 
 /// Says which limit is exceeded.
-pub fn tell_limit(alloc: Global, limit: Limit) -> Result<String, AllocError> {
+pub fn limit_message(alloc: Global, limit: Limit) -> Result<String, AllocError> {
     let mut text = Text::new(alloc);
     text.words(match limit {
         Limit::Instances => "application: there are more than 4,096 instances, components included",

@@ -2,7 +2,7 @@
 use Rattle.std.specs.Prelude.{◌≡◌, ◌≤◌, ℕ, ◌+◌, ◌==◌, not, length, take, count_by}
 use Rattle.std.specs.List.{suffix_len}
 use Rattle.fb_read.specs.Blank.{Text}
-use Rattle.fb_read.specs.Tokens.{behind_mark}
+use Rattle.fb_read.specs.Tokens.{after_mark}
 use Rattle.fb_why_bytes.specs.declared.text_locations.TextLocation.{TextLocation}
 
 -- the line of the byte at an offset: one more than there are line feeds before it
@@ -15,7 +15,7 @@ column_at text offset = 1 + suffix_len (λ b. not (b == 10)) (take offset text)
 
 -- The location is in the text, after its byte order mark, and its line and its column are those at which it begins.
 pub record IsLocation (text : Text) (location : TextLocation) : Type 0 where
-  pub behind : length text ≤ location.start + length (behind_mark text)
+  pub behind : length text ≤ location.start + length (after_mark text)
   pub ordered : location.start ≤ location.end
   pub within : location.end ≤ length text
   pub line : location.line ≡ line_at text location.start

@@ -7,7 +7,7 @@ use std::alloc::{AllocError, Global};
 use toml::Table;
 
 /// Where a deployment is refused, and what was expected there.
-pub fn tell_deployment(
+pub fn deployment_message(
     alloc: Global,
     bytes: &[u8],
     location: DeployLocation,

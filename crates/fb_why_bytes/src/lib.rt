@@ -35,13 +35,13 @@ mod text_verdict;
 mod words;
 
 pub use deployment::deployment_location;
-pub use deployment_messages::tell_deployment;
+pub use deployment_messages::deployment_message;
 pub use find::text_location;
 pub use location::{
     DeployKey, DeployLocation, RowFault, StimuliLocation, TableFault, TableLocation,
 };
 pub use rules_messages::{tell_rules, tell_unknown};
 pub use stimuli::stimuli_location;
-pub use stimuli_messages::tell_stimuli;
-pub use text_locations::{TextLocation, behind_mark, location_at};
-pub use text_messages::tell_text;
+pub use stimuli_messages::stimuli_message;
+pub use text_locations::{TextLocation, after_mark, location_at};
+pub use text_messages::text_message;

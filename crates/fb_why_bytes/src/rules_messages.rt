@@ -36,7 +36,7 @@ pub fn tell_rules(alloc: Global, bytes: &[u8], place: RulesPlace) -> Result<Stri
     text.into_string()
 }
 
-/// Adds what stands at a place in a document.
+/// Adds what is at a place in a document.
 fn push_read(alloc: Global, text: &mut ByteText, bytes: &[u8], place: RulesPlace) {
     match toml::table_from_slice(alloc, bytes) {
         Ok(keys) => push_place(text, &keys, place),
@@ -63,7 +63,7 @@ fn push_place(text: &mut ByteText, keys: &Table, place: RulesPlace) {
     }
 }
 
-/// What is wrong with the array of the rules: there is no rule, or a key beside them.
+/// What is wrong with the array of the rules: there is no rule, or a key next to them.
 fn push_list(text: &mut ByteText, keys: &Table) {
     match keys.get("rule") {
         Some(_) if keys.len() > 1 => push_beside(text, keys),
@@ -168,7 +168,7 @@ fn push_further(text: &mut ByteText, keys: &Table) {
     }
 }
 
-/// Adds the first key beside the rules.
+/// Adds the first key next to the rules.
 fn push_beside(text: &mut ByteText, keys: &Table) {
     text.words("there is a further key");
     for (key, _) in keys {

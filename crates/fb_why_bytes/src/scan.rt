@@ -2,7 +2,7 @@
 
 ghost use Rattle.std.specs.Prelude.{◌+◌, ◌≤◌, ◌<◌, length};
 
-use crate::text_locations::behind_mark;
+use crate::text_locations::after_mark;
 use std::alloc::{AllocError, Global};
 
 /// The bytes from one offset up to another.
@@ -112,7 +112,7 @@ fn token_len(z: &[u8]) -> usize
 /// The tokens of a text, one after another.
 pub fn stretches(alloc: Global, text: &[u8]) -> Result<Vec<Stretch>, AllocError> {
     let mut found = Vec::new(alloc);
-    let mut start = text.len() - behind_mark(text).len();
+    let mut start = text.len() - after_mark(text).len();
     while start < text.len() {
         let rest = &text[start..];
         let pause = pause_len(rest);

@@ -8,7 +8,7 @@ use fb_inputs::records_of;
 use std::alloc::{AllocError, Global};
 
 /// Where stimuli are refused, and what was expected there.
-pub fn tell_stimuli(
+pub fn stimuli_message(
     alloc: Global,
     bytes: &[u8],
     location: StimuliLocation,

@@ -3,7 +3,7 @@
 ghost use Rattle.std.specs.Prelude.{◌≡◌, ◌==◌, ◌≤◌, ◌<◌, IfSome, count_by, length, not};
 ghost use Rattle.std.specs.List.{suffix_len};
 ghost use Rattle.fb_read.specs.Blank as spec;
-ghost use Rattle.fb_read.specs.Tokens.{behind_mark};
+ghost use Rattle.fb_read.specs.Tokens.{after_mark};
 ghost use Rattle.fb_why_bytes.specs.Locations.{IsLocation, IsStretch};
 
 /// A location in a text: the bytes from `start` up to `end`, both offsets in bytes. It is empty at the end of the text.
@@ -28,8 +28,8 @@ fn at(bytes: &[u8], i: usize) -> u8
 }
 
 /// What follows one leading byte order mark.
-pub fn behind_mark(text: &[u8]) -> &[u8]
-    ensures value { result.now ≡ behind_mark text.now }
+pub fn after_mark(text: &[u8]) -> &[u8]
+    ensures value { result.now ≡ after_mark text.now }
     ensures shorter { length result.now ≤ length text.now }
 {
     if at(text, 0) == 0xEF && at(text, 1) == 0xBB && at(text, 2) == 0xBF {
@@ -53,7 +53,7 @@ pub(crate) fn line_feeds(text: &[u8]) -> usize
 }
 
 /// The number of bytes after the last line feed.
-fn behind_line_feed(text: &[u8]) -> usize
+fn after_line_feed(text: &[u8]) -> usize
     ensures value { result ≡ suffix_len (λ b. not (b == 10)) text.now }
     ensures within { result ≤ length text.now }
 {
@@ -73,7 +73,7 @@ pub fn location_at(text: &[u8], start: usize, end: usize) -> Option<TextLocation
     ensures location { IfSome result (IsLocation text.now) }
     ensures there { IfSome result (λ location. IsStretch start end location) }
 {
-    if start > end || end > text.len() || start < text.len() - behind_mark(text).len() {
+    if start > end || end > text.len() || start < text.len() - after_mark(text).len() {
         return None;
     }
     let before = &text[..start];
@@ -81,6 +81,6 @@ pub fn location_at(text: &[u8], start: usize, end: usize) -> Option<TextLocation
         start,
         end,
         line: line_feeds(before) + 1,
-        column: behind_line_feed(before) + 1,
+        column: after_line_feed(before) + 1,
     })
 }

@@ -11,7 +11,7 @@ use std::alloc::{AllocError, Global};
 const MOST_SHOWN: usize = 40;
 
 /// Says where a refusal applies: where it is, what is there, and what was expected.
-pub fn tell_text(
+pub fn text_message(
     alloc: Global,
     text: &[u8],
     fault: &ReadError,
@@ -90,13 +90,13 @@ fn push_syntax(alloc: Global, message: &mut ByteText, before: &[u8], here: &[u8]
         push_shown(message, here);
     }
     match expected(alloc, before) {
-        Ok(wanted) => push_wanted(message, wanted.as_str()),
+        Ok(wanted) => push_expected(message, wanted.as_str()),
         Err(_) => message.give_up(),
     }
 }
 
 /// Adds the tokens that were expected, if any are known.
-fn push_wanted(message: &mut ByteText, wanted: &str) {
+fn push_expected(message: &mut ByteText, wanted: &str) {
     if wanted.is_empty() {
         return;
     }

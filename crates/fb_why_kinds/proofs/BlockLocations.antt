@@ -4,7 +4,7 @@ use Rattle.std.specs.Prelude.{slice_get, option_map, option_and_then}
 use Rattle.std.specs.List.{list_all}
 use Rattle.fb_types.specs.Names.{Name}
 use Rattle.fb_types.specs.Blocks.{among}
-use Rattle.fb_types.specs.Unknown.{withs_wanted, chart_wanted, Mention}
+use Rattle.fb_types.specs.Unknown.{required_withs, required_chart, Mention}
 use Rattle.fb_types.specs.declared.library.Action.{Action}
 use Rattle.fb_types.specs.declared.library.BasicType.{BasicType}
 use Rattle.fb_types.specs.declared.library.BlockType.{BlockType}
@@ -20,7 +20,7 @@ use Rattle.fb_why_kinds.specs.declared.location.ActionPart.{ActionPart}
 use Rattle.fb_why_kinds.specs.declared.location.Direction.{Direction}
 use Rattle.fb_why_kinds.specs.declared.location.TransitionPart.{TransitionPart}
 use Rattle.fb_why_kinds.specs.Sites.{basic_at}
-use Rattle.fb_why_kinds.specs.Unknown.{Unmet, UnknownAmong, IsUnknownMention, events_of, variables_for, with_wanted, transition_wanted, action_wanted}
+use Rattle.fb_why_kinds.specs.Unknown.{Unmet, UnknownAmong, IsUnknownMention, events_of, variables_for, with_wanted, required_transition, required_action}
 use Rattle.fb_why_kinds.proofs.NetworkLocations.{unmet_is}
 
 -- ---- WITH lists
@@ -44,50 +44,50 @@ with_location lib b t d p es r at of_type of_side found =
     )
 
 pub withs_known :
-    (p : Ports) → list_all (with_inputs p) p.event_inputs ≡ true → list_all (with_outputs p) p.event_outputs ≡ true → all_met (withs_wanted p) ≡ true
+    (p : Ports) → list_all (with_inputs p) p.event_inputs ≡ true → list_all (with_outputs p) p.event_outputs ≡ true → all_met (required_withs p) ≡ true
 withs_known p ins outs = withs_met p ∙ (λ i. ins i && outs i)
 
 pub withs_known_of :
     (q p : Ports) (es os : List EventPort) → p ≡ q → es ≡ p.event_inputs → os ≡ p.event_outputs → list_all (with_inputs p) es ≡ true → list_all (with_outputs p) os ≡ true
-    → all_met (withs_wanted q) ≡ true
+    → all_met (required_withs q) ≡ true
 withs_known_of q p es os same inputs outputs ins outs =
-    subst (λ (q : Ports). all_met (withs_wanted q) ≡ true) same
+    subst (λ (q : Ports). all_met (required_withs q) ≡ true) same
     (withs_known p (sym (ap (list_all (with_inputs p)) inputs) ∙ ins) (sym (ap (list_all (with_outputs p)) outputs) ∙ outs))
 
 -- ---- Charts
 
 abbrev pub FoundTransition : BasicType → List Transition → ℕ × TransitionPart → Type 0
-FoundTransition t xs r = (x : Transition) × (slice_get xs r.0 ≡ Some x) × Unmet (transition_wanted t x r.1)
+FoundTransition t xs r = (x : Transition) × (slice_get xs r.0 ≡ Some x) × Unmet (required_transition t x r.1)
 
 pub transition_location :
     (lib : Library) (b : ℕ) (t : BasicType) (xs : List Transition) (r : ℕ × TransitionPart) → basic_at lib b ≡ Some t → xs ≡ t.transitions → FoundTransition t xs r
-    → Unmet (option_and_then (λ t. option_and_then (λ y. transition_wanted t y r.1) (slice_get t.transitions r.0)) (basic_at lib b))
+    → Unmet (option_and_then (λ t. option_and_then (λ y. required_transition t y r.1) (slice_get t.transitions r.0)) (basic_at lib b))
 transition_location lib b t xs r at all found = (
   found.2.0,
-  ap (option_and_then (λ (t : BasicType). option_and_then (λ (y : Transition). transition_wanted t y r.1) (slice_get t.transitions r.0))) at
-      ∙ ap (option_and_then (λ (y : Transition). transition_wanted t y r.1)) (ap (λ (xs : List Transition). slice_get xs r.0) (sym all) ∙ found.1)
+  ap (option_and_then (λ (t : BasicType). option_and_then (λ (y : Transition). required_transition t y r.1) (slice_get t.transitions r.0))) at
+      ∙ ap (option_and_then (λ (y : Transition). required_transition t y r.1)) (ap (λ (xs : List Transition). slice_get xs r.0) (sym all) ∙ found.1)
       ∙ found.2.1,
   found.2.2,
 )
 
 abbrev pub FoundAction : BasicType → List State → ℕ × (ℕ × ActionPart) → Type 0
-FoundAction t ss r = (s : State) × (slice_get ss r.0 ≡ Some s) × ((a : Action) × (slice_get s.actions r.1.0 ≡ Some a) × Unmet (action_wanted t a r.1.1))
+FoundAction t ss r = (s : State) × (slice_get ss r.0 ≡ Some s) × ((a : Action) × (slice_get s.actions r.1.0 ≡ Some a) × Unmet (required_action t a r.1.1))
 
 pub action_location :
     (lib : Library) (b : ℕ) (t : BasicType) (ss : List State) (r : ℕ × (ℕ × ActionPart)) → basic_at lib b ≡ Some t → ss ≡ t.states → FoundAction t ss r
-    → Unmet (option_and_then (λ t. option_and_then (λ y. option_and_then (λ z. action_wanted t z r.1.1) (slice_get y.actions r.1.0)) (slice_get t.states r.0)) (basic_at lib b))
+    → Unmet (option_and_then (λ t. option_and_then (λ y. option_and_then (λ z. required_action t z r.1.1) (slice_get y.actions r.1.0)) (slice_get t.states r.0)) (basic_at lib b))
 action_location lib b t ss r at all found =
     let a = found.2 in (
       a.2.0,
-      ap (option_and_then (λ (t : BasicType). option_and_then (λ (y : State). option_and_then (λ (z : Action). action_wanted t z r.1.1) (slice_get y.actions r.1.0)) (slice_get t.states r.0))) at
-          ∙ ap (option_and_then (λ (y : State). option_and_then (λ (z : Action). action_wanted t z r.1.1) (slice_get y.actions r.1.0))) (ap (λ (ss : List State). slice_get ss r.0) (sym all) ∙ found.1)
-          ∙ ap (option_and_then (λ (z : Action). action_wanted t z r.1.1)) a.1
+      ap (option_and_then (λ (t : BasicType). option_and_then (λ (y : State). option_and_then (λ (z : Action). required_action t z r.1.1) (slice_get y.actions r.1.0)) (slice_get t.states r.0))) at
+          ∙ ap (option_and_then (λ (y : State). option_and_then (λ (z : Action). required_action t z r.1.1) (slice_get y.actions r.1.0))) (ap (λ (ss : List State). slice_get ss r.0) (sym all) ∙ found.1)
+          ∙ ap (option_and_then (λ (z : Action). required_action t z r.1.1)) a.1
           ∙ a.2.1,
       a.2.2,
     )
 
 pub chart_known :
-    (t : BasicType) → list_all (transition_met t) t.transitions ≡ true → list_all (actions_met t) t.states ≡ true → all_met (chart_wanted t) ≡ true
+    (t : BasicType) → list_all (transition_met t) t.transitions ≡ true → list_all (actions_met t) t.states ≡ true → all_met (required_chart t) ≡ true
 chart_known t transitions states = chart_met t ∙ (λ i. transitions i && states i)
 
 -- ---- Guards and algorithms

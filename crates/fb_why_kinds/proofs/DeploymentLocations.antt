@@ -6,7 +6,7 @@ use Rattle.std.proofs.lemmas.List.Folds.{list_all-append}
 use Rattle.fb_types.specs.Names.{Name, same_name}
 use Rattle.fb_types.specs.Flat.{resource_names_of}
 use Rattle.fb_types.specs.Repeated.{instance_names}
-use Rattle.fb_types.specs.Unknown.{all_of, deployment_wanted}
+use Rattle.fb_types.specs.Unknown.{all_of, required_deployment}
 use Rattle.fb_types.specs.declared.library.Instance.{Instance}
 use Rattle.fb_types.specs.declared.library.Library.{Library}
 use Rattle.fb_types.specs.declared.deploy.Link.{Link}
@@ -85,7 +85,7 @@ deployment_known lib plan is rs ls instances resources links mapped joined unkno
     list_all-flat_map met (λ (l : Link). all_of (l.from ∷ l.to ∷ []) (resource_names_of plan)) plan.links
     ∙ list_all-agree (λ (l : Link). list_all met (all_of (l.from ∷ l.to ∷ []) (named_resources plan.resources))) (are_sides_met plan.resources) (link_met plan.resources) plan.links
     ∙ (λ i. list_all (are_sides_met (sym resources i)) (sym links i)) ∙ joined in
-    met_wanted (deployment_wanted lib plan)
+    met_wanted (required_deployment lib plan)
     (list_all-append met (flat_map (λ (r : ResourceEntry). all_of r.instances (named_instances js)) plan.resources) (flat_map (λ (l : Link). all_of (l.from ∷ l.to ∷ []) (resource_names_of plan)) plan.links)
     ∙ (λ i. lists i && ends i))
     unknown.0 unknown.1 unknown.2

@@ -9,7 +9,7 @@ use Rattle.fb_types.specs.Names.{Name, same_name}
 use Rattle.fb_types.specs.Blocks.{Kind, among, ports_of}
 use Rattle.fb_types.specs.Flat.{instance_in, kind_of_instance}
 use Rattle.fb_types.specs.Repeated.{Placed, block_type_names}
-use Rattle.fb_types.specs.Unknown.{Wanted, all_of, types_wanted, parameters_wanted, data_ins, is_end}
+use Rattle.fb_types.specs.Unknown.{Wanted, all_of, required_types, required_parameters, data_ins, is_end}
 use Rattle.fb_types.specs.declared.library.Connection.{Connection}
 use Rattle.fb_types.specs.declared.library.Instance.{Instance}
 use Rattle.fb_types.specs.declared.library.Library.{Library}
@@ -57,17 +57,17 @@ unmet_from o w e h = (w, e, unmet_is w h)
 abbrev pub set_names : List Parameter → List Name
 set_names xs = map (λ x. x.name) xs
 
-parameters_are : (lib : Library) (i : Instance) (k : Kind) → kind_of_instance lib i ≡ Some k → parameters_wanted lib i ≡ all_of (set_names i.parameters) (data_ins (ports_of k))
+parameters_are : (lib : Library) (i : Instance) (k : Kind) → kind_of_instance lib i ≡ Some k → required_parameters lib i ≡ all_of (set_names i.parameters) (data_ins (ports_of k))
 parameters_are lib i k e =
     ap (λ (o : Option Kind). elim o as (λ _. List Wanted) [ None ↦ [] | Some k ↦ all_of (set_names i.parameters) (data_ins (ports_of k)) ]) e
 
 -- the data inputs that are required of an instance, if the ports of its type are known
 wanted_of :
     (lib : Library) (i : Instance) (p : Ports) → Some p ≡ option_map ports_of (kind_of_instance lib i)
-    → parameters_wanted lib i ≡ all_of (set_names i.parameters) (data_ins p)
+    → required_parameters lib i ≡ all_of (set_names i.parameters) (data_ins p)
 wanted_of lib i p h =
     elim (kind_of_instance lib i) as
-    (λ o. kind_of_instance lib i ≡ o → Some p ≡ option_map ports_of o → parameters_wanted lib i ≡ all_of (set_names i.parameters) (data_ins p)) [
+    (λ o. kind_of_instance lib i ≡ o → Some p ≡ option_map ports_of o → required_parameters lib i ≡ all_of (set_names i.parameters) (data_ins p)) [
       | None ↦ λ e h. absurd (cc)
       | Some k ↦ λ e h. parameters_are lib i k e ∙ ap (λ (q : Ports). all_of (set_names i.parameters) (data_ins q)) (sym (same_Some p (ports_of k) h))
     ] refl h
@@ -83,7 +83,7 @@ pub parameters_answer :
     → InputAnswer p xs r → MatchOption r (are_parameters_met lib i ≡ true) (UnmetParameter lib i)
 parameters_answer lib i p xs r of_type all answer =
     let ins : List Name = data_ins p in
-    let wanted : parameters_wanted lib i ≡ all_of (set_names xs) ins =
+    let wanted : required_parameters lib i ≡ all_of (set_names xs) ins =
     wanted_of lib i p of_type ∙ ap (λ (xs : List Parameter). all_of (set_names xs) ins) (sym all) in
     elim r as (λ r. InputAnswer p xs r → MatchOption r (are_parameters_met lib i ≡ true) (UnmetParameter lib i)) [
       | None ↦ λ h.
@@ -162,7 +162,7 @@ end_location lib s n f k side c at found h = record { network = n; stands = c; a
 
 -- ---- Networks in which all is known
 
-types_met : (lib : Library) (n : Placed) → list_all (is_type_met lib) n.1.instances ≡ true → list_all met (types_wanted lib n.1) ≡ true
+types_met : (lib : Library) (n : Placed) → list_all (is_type_met lib) n.1.instances ≡ true → list_all met (required_types lib n.1) ≡ true
 types_met lib n h =
     list_all-all_of (map (λ i. i.block_type) n.1.instances) (block_type_names lib)
     ∙ list_all-map (λ m. list_any (same_name m) (block_type_names lib)) (λ i. i.block_type) n.1.instances ∙ h
@@ -173,9 +173,9 @@ pub network_known :
     → ¬ (NetworkUnknown lib n)
 network_known lib n types parameters events values unknown =
     elim unknown [
-      | inl w ↦ elim (Contains-append_cases (types_wanted lib n.1) (flat_map (parameters_wanted lib) n.1.instances) w.0 w.1) [
-        | inl t ↦ met_wanted (types_wanted lib n.1) (types_met lib n types) w.0 t w.2
-        | inr p ↦ met_wanted (flat_map (parameters_wanted lib) n.1.instances) (list_all-flat_map met (parameters_wanted lib) n.1.instances ∙ parameters) w.0 p w.2
+      | inl w ↦ elim (Contains-append_cases (required_types lib n.1) (flat_map (required_parameters lib) n.1.instances) w.0 w.1) [
+        | inl t ↦ met_wanted (required_types lib n.1) (types_met lib n types) w.0 t w.2
+        | inr p ↦ met_wanted (flat_map (required_parameters lib) n.1.instances) (list_all-flat_map met (required_parameters lib) n.1.instances ∙ parameters) w.0 p w.2
       ]
       | inr f ↦ true≢false (sym (λ i. events i && values i) ∙ f)
     ]

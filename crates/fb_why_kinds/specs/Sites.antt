@@ -12,7 +12,7 @@ use Rattle.fb_types.specs.declared.library.Instance.{Instance}
 use Rattle.fb_types.specs.declared.library.Library.{Library}
 use Rattle.fb_types.specs.declared.library.Network.{Network}
 use Rattle.fb_types.specs.declared.library.Variable.{Variable}
-use Rattle.fb_why_kinds.specs.declared.networks.PlacedNetwork.{PlacedNetwork}
+use Rattle.fb_why_kinds.specs.declared.networks.LocatedNetwork.{LocatedNetwork}
 use Rattle.fb_why_kinds.specs.declared.location.FlowKind.TheVariants.{Events, Data}
 use Rattle.fb_why_kinds.specs.declared.location.FlowKind.{FlowKind}
 use Rattle.fb_why_kinds.specs.declared.location.Site.TheVariants.{Application, Inside}
@@ -36,7 +36,7 @@ connections_of Events net = net.event_connections
 connections_of Data net = net.data_connections
 
 -- the network that the code searches, with the composite type around it
-abbrev pub placed : PlacedNetwork → Placed
+abbrev pub placed : LocatedNetwork → Placed
 placed s = (option_map (λ c. c.now) s.composite, s.network.now)
 
 -- whether the network inside a block type passes a test

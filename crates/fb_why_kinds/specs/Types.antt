@@ -1,4 +1,4 @@
--- What a type's name stands for, as the code finds it (IEC 61499-1, 5.3).
+-- What a type's name represents, as the code finds it (IEC 61499-1, 5.3).
 use Rattle.std.specs.Prelude.{◌++◌, List}
 use Rattle.fb_types.specs.Blocks as model
 use Rattle.fb_types.specs.Flat.{kind_of}

@@ -1,11 +1,11 @@
--- Where a name stands for nothing of the required kind (E21): the location, and what is required there (IEC 61499-1, 5 to
+-- Where nothing of the required kind has a name (E21): the location, and what is required there (IEC 61499-1, 5 to
 -- 7).
 use Rattle.std.specs.Prelude.{◌≡◌, ℕ, List, Bool, true, false, ◌&&◌, Option, Some, Contains, slice_get, option_map, option_and_then}
 use Rattle.std.specs.List.{list_all, list_any}
 use Rattle.fb_types.specs.Names.{Name, same_name}
 use Rattle.fb_types.specs.Flat.{resource_names_of}
 use Rattle.fb_types.specs.Repeated.{Placed, block_type_names, instance_names, algorithm_names, state_names}
-use Rattle.fb_types.specs.Unknown.{Wanted, parameters_wanted, is_end, event_ins, event_outs, data_ins, data_outs, Mention, mentions_body, is_known}
+use Rattle.fb_types.specs.Unknown.{Wanted, required_parameters, is_end, event_ins, event_outs, data_ins, data_outs, Mention, mentions_body, is_known}
 use Rattle.fb_types.specs.Syntax.{body_of}
 use Rattle.fb_types.specs.declared.library.Action.{Action}
 use Rattle.fb_types.specs.declared.library.BasicType.{BasicType}
@@ -49,10 +49,10 @@ is_type_met lib i = is_met (type_wanted lib i)
 
 -- a parameter, with the data inputs of the instance's type
 abbrev pub parameter_wanted : Library → Instance → ℕ → Option Wanted
-parameter_wanted lib i p = slice_get (parameters_wanted lib i) p
+parameter_wanted lib i p = slice_get (required_parameters lib i) p
 
 abbrev pub are_parameters_met : Library → Instance → Bool
-are_parameters_met lib i = all_met (parameters_wanted lib i)
+are_parameters_met lib i = all_met (required_parameters lib i)
 
 -- A name is there that is not among those of its kind.
 abbrev pub Unmet : Option Wanted → Type 0
@@ -80,7 +80,7 @@ is_side_known lib n f To c = is_end lib n (inputs_of f) (outputs_of f) c.to
 abbrev pub are_ends_known : Library → Placed → FlowKind → Connection → Bool
 are_ends_known lib n f c = is_side_known lib n f From c && is_side_known lib n f To c
 
--- The connection is there, and its end stands for no port of the right direction.
+-- The connection is there, and its end represents no port of the right direction.
 pub record IsUnknownEnd (lib : Library) (s : Site) (f : FlowKind) (k : ℕ) (side : Side) : Type 0 where
   pub network : Placed
   pub stands : Connection
@@ -101,14 +101,14 @@ variables_for Output = data_outs
 abbrev pub with_wanted : Ports → Direction → (event variable : ℕ) → Option Wanted
 with_wanted p d e v = option_and_then (λ x. option_map (λ n. (n, variables_for d p)) (slice_get x.with v)) (slice_get (events_of d p) e)
 
-abbrev pub transition_wanted : BasicType → Transition → TransitionPart → Option Wanted
-transition_wanted t x part.From = Some (x.from, state_names t)
-transition_wanted t x part.To = Some (x.to, state_names t)
-transition_wanted t x part.Event = option_map (λ n. (n, event_ins t.ports)) x.condition.event
+abbrev pub required_transition : BasicType → Transition → TransitionPart → Option Wanted
+required_transition t x part.From = Some (x.from, state_names t)
+required_transition t x part.To = Some (x.to, state_names t)
+required_transition t x part.Event = option_map (λ n. (n, event_ins t.ports)) x.condition.event
 
-abbrev pub action_wanted : BasicType → Action → ActionPart → Option Wanted
-action_wanted t a Algorithm = option_map (λ n. (n, algorithm_names t)) a.algorithm
-action_wanted t a actions.Output = option_map (λ n. (n, event_outs t.ports)) a.output
+abbrev pub required_action : BasicType → Action → ActionPart → Option Wanted
+required_action t a Algorithm = option_map (λ n. (n, algorithm_names t)) a.algorithm
+required_action t a actions.Output = option_map (λ n. (n, event_outs t.ports)) a.output
 
 -- ---- Expressions and statements
 
@@ -141,9 +141,9 @@ IsUnknownIn lib (Parameter s i p) = Unmet (option_and_then (λ x. parameter_want
 IsUnknownIn lib (End s f k side) = IsUnknownEnd lib s f k side
 IsUnknownIn lib (With b d e v) = Unmet (option_and_then (λ t. with_wanted (ports_of_block t) d e v) (slice_get lib.blocks b))
 IsUnknownIn lib (location.Transition b x part) =
-    Unmet (option_and_then (λ t. option_and_then (λ y. transition_wanted t y part) (slice_get t.transitions x)) (basic_at lib b))
+    Unmet (option_and_then (λ t. option_and_then (λ y. required_transition t y part) (slice_get t.transitions x)) (basic_at lib b))
 IsUnknownIn lib (location.Action b s a part) =
-    Unmet (option_and_then (λ t. option_and_then (λ y. option_and_then (λ z. action_wanted t z part) (slice_get y.actions a)) (slice_get t.states s)) (basic_at lib b))
+    Unmet (option_and_then (λ t. option_and_then (λ y. option_and_then (λ z. required_action t z part) (slice_get y.actions a)) (slice_get t.states s)) (basic_at lib b))
 IsUnknownIn lib (Guard b x m) = IsUnknownMention lib b (guard_at x) m
 IsUnknownIn lib (location.Body b a m) = IsUnknownMention lib b (body_at a) m
 IsUnknownIn lib _ = ⊥

@@ -1,9 +1,9 @@
-//! Names in block types that stand for nothing (E21).
+//! Unknown names in block types (E21).
 
 ghost use Rattle.std.specs.Prelude.{◌≡◌, All, IfOk, MatchOption, Some, true, false, slice_get, option_map};
 ghost use Rattle.std.specs.List.{list_all};
 ghost use Rattle.fb_types.specs.Syntax.{body_of};
-ghost use Rattle.fb_types.specs.Unknown.{Mention, chart_wanted, is_known, mentioned, mentions_body, withs_wanted};
+ghost use Rattle.fb_types.specs.Unknown.{Mention, required_chart, is_known, mentioned, mentions_body, required_withs};
 ghost use Rattle.fb_types.specs.declared.library.Algorithm.{Algorithm};
 ghost use Rattle.fb_types.specs.declared.library.Transition.{Transition};
 ghost use Rattle.fb_check_types.specs.Checks.{all_known, all_met, body_known, guard_known, guard_mentions};
@@ -16,7 +16,7 @@ use crate::charts::{unknown_in_states, unknown_in_transitions, unknown_with};
 use crate::location::{Direction, Site, UnknownName};
 use crate::lookup::BlockTypes;
 use crate::mentions::{Mention, is_mention_known, push_body, push_expression};
-use crate::networks::{PlacedNetwork, unknown_in_network};
+use crate::networks::{LocatedNetwork, unknown_in_network};
 use fb_check_names::PortSort;
 use fb_types::{Algorithm, BasicType, BlockType, Library, Transition};
 use std::alloc::{AllocError, Global};
@@ -24,7 +24,7 @@ use std::alloc::{AllocError, Global};
 /// Where a WITH list of a block type has a name that is no variable.
 fn unknown_in_withs(library: &Library, block: usize, declared: &BlockType) -> Option<UnknownName>
     requires { slice_get library.now.blocks block ≡ Some declared.now }
-    ensures { MatchOption result (all_met (withs_wanted (ports_of_block declared.now)) ≡ true) (IsUnknownIn library.now) }
+    ensures { MatchOption result (all_met (required_withs (ports_of_block declared.now)) ≡ true) (IsUnknownIn library.now) }
 {
     let ports = declared.ports();
     let inputs = unknown_with(ports, PortSort::Input, ports.event_inputs.as_slice());
@@ -45,10 +45,10 @@ fn unknown_in_withs(library: &Library, block: usize, declared: &BlockType) -> Op
     })
 }
 
-/// Where a chart has a name that stands for nothing.
+/// Where a chart has an unknown name.
 fn unknown_in_chart(library: &Library, block: usize, basic: &BasicType) -> Option<UnknownName>
     requires { basic_at library.now block ≡ Some basic.now }
-    ensures { MatchOption result (all_met (chart_wanted basic.now) ≡ true) (IsUnknownIn library.now) }
+    ensures { MatchOption result (all_met (required_chart basic.now) ≡ true) (IsUnknownIn library.now) }
 {
     if let Some((transition, part)) = unknown_in_transitions(basic, basic.transitions.as_slice()) {
         return Some(UnknownName::Transition {
@@ -170,7 +170,7 @@ fn unknown_in_texts(
     }
 }
 
-/// Where a name of a block type stands for nothing, if there is such a location.
+/// Where a name of a block type is unknown, if there is such a location.
 fn unknown_in_block(
     alloc: Global,
     types: &BlockTypes,
@@ -189,7 +189,7 @@ fn unknown_in_block(
             None => unknown_in_texts(alloc, types.library, block, basic),
         },
         BlockType::Composite(composite) => {
-            let scope = PlacedNetwork {
+            let scope = LocatedNetwork {
                 composite: Some(composite),
                 network: &composite.network,
             };
@@ -198,7 +198,7 @@ fn unknown_in_block(
     }
 }
 
-/// Where a name of the block types stands for nothing, if there is such a location.
+/// Where a name of the block types is unknown, if there is such a location.
 fn unknown_in_some(
     alloc: Global,
     types: &BlockTypes,

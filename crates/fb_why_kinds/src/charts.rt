@@ -1,4 +1,4 @@
-//! Names in WITH lists and in charts that stand for nothing (E21).
+//! Unknown names in WITH lists and in charts (E21).
 
 ghost use Rattle.std.specs.Prelude.{◌≡◌, MatchOption, Some, true, false, slice_get};
 ghost use Rattle.std.specs.List.{list_all};
@@ -11,7 +11,7 @@ ghost use Rattle.fb_types.specs.declared.library.Transition.{Transition};
 ghost use Rattle.fb_types.specs.Names.{Name};
 ghost use Rattle.fb_check_types.specs.Checks.{action_met, actions_met, transition_met};
 ghost use Rattle.fb_check_names.specs.Sorts.{names_of_sort};
-ghost use Rattle.fb_why_kinds.specs.Unknown.{Unmet, action_wanted, transition_wanted};
+ghost use Rattle.fb_why_kinds.specs.Unknown.{Unmet, required_action, required_transition};
 
 use crate::location::{ActionPart, TransitionPart};
 use crate::lookup::{has_port, is_called};
@@ -54,9 +54,9 @@ fn is_algorithm(basic: &BasicType, name: &Name) -> bool
     is_called(basic.algorithms.as_slice(), name)
 }
 
-/// The first name of a transition that stands for nothing.
+/// The first unknown name of a transition.
 fn unknown_part(basic: &BasicType, transition: &Transition) -> Option<TransitionPart>
-    ensures { MatchOption result (transition_met basic.now transition.now ≡ true) (λ part. Unmet (transition_wanted basic.now transition.now part)) }
+    ensures { MatchOption result (transition_met basic.now transition.now ≡ true) (λ part. Unmet (required_transition basic.now transition.now part)) }
 {
     if !is_state(basic, &transition.from) {
         return Some(TransitionPart::From);
@@ -77,7 +77,7 @@ pub fn unknown_in_transitions(
     basic: &BasicType,
     transitions: &[Transition],
 ) -> Option<(usize, TransitionPart)>
-    ensures { MatchOption result (list_all (transition_met basic.now) transitions.now ≡ true) (λ r. (x : Transition) × (slice_get transitions.now r.0 ≡ Some x) × Unmet (transition_wanted basic.now x r.1)) }
+    ensures { MatchOption result (list_all (transition_met basic.now) transitions.now ≡ true) (λ r. (x : Transition) × (slice_get transitions.now r.0 ≡ Some x) × Unmet (required_transition basic.now x r.1)) }
 {
     for (location, transition) in transitions.iter().enumerate() {
         if let Some(part) = unknown_part(basic, transition) {
@@ -87,9 +87,9 @@ pub fn unknown_in_transitions(
     None
 }
 
-/// The first name of an action that stands for nothing.
+/// The first name of an action that is unknown.
 fn unknown_action(basic: &BasicType, action: &Action) -> Option<ActionPart>
-    ensures { MatchOption result (action_met basic.now action.now ≡ true) (λ part. Unmet (action_wanted basic.now action.now part)) }
+    ensures { MatchOption result (action_met basic.now action.now ≡ true) (λ part. Unmet (required_action basic.now action.now part)) }
 {
     if let Some(algorithm) = &action.algorithm {
         if !is_algorithm(basic, algorithm) {
@@ -106,7 +106,7 @@ fn unknown_action(basic: &BasicType, action: &Action) -> Option<ActionPart>
 
 /// The first action with such a name, and the name.
 fn unknown_in_actions(basic: &BasicType, actions: &[Action]) -> Option<(usize, ActionPart)>
-    ensures { MatchOption result (list_all (action_met basic.now) actions.now ≡ true) (λ r. (a : Action) × (slice_get actions.now r.0 ≡ Some a) × Unmet (action_wanted basic.now a r.1)) }
+    ensures { MatchOption result (list_all (action_met basic.now) actions.now ≡ true) (λ r. (a : Action) × (slice_get actions.now r.0 ≡ Some a) × Unmet (required_action basic.now a r.1)) }
 {
     for (location, action) in actions.iter().enumerate() {
         if let Some(part) = unknown_action(basic, action) {
@@ -121,7 +121,7 @@ pub fn unknown_in_states(
     basic: &BasicType,
     states: &[State],
 ) -> Option<(usize, (usize, ActionPart))>
-    ensures { MatchOption result (list_all (actions_met basic.now) states.now ≡ true) (λ r. (s : State) × (slice_get states.now r.0 ≡ Some s) × ((a : Action) × (slice_get s.actions r.1.0 ≡ Some a) × Unmet (action_wanted basic.now a r.1.1))) }
+    ensures { MatchOption result (list_all (actions_met basic.now) states.now ≡ true) (λ r. (s : State) × (slice_get states.now r.0 ≡ Some s) × ((a : Action) × (slice_get s.actions r.1.0 ≡ Some a) × Unmet (required_action basic.now a r.1.1))) }
 {
     for (location, state) in states.iter().enumerate() {
         if let Some(found) = unknown_in_actions(basic, state.actions.as_slice()) {

@@ -1,4 +1,4 @@
-//! Names in a deployment that stand for nothing (E21): mapped instances and the ends of links.
+//! Unknown names in a deployment (E21): mapped instances and the ends of links.
 
 ghost use Rattle.std.specs.Prelude.{◌≡◌, MatchOption, Some, true, false, slice_get};
 ghost use Rattle.std.specs.List.{list_all};
@@ -61,7 +61,7 @@ fn unknown_link(resources: &[ResourceEntry], links: &[Link]) -> Option<(usize, S
     None
 }
 
-/// Where a name of a deployment stands for nothing, if there is such a location.
+/// Where a name of a deployment is unknown, if there is such a location.
 pub fn unknown_in_deployment(library: &Library, plan: &Plan) -> Option<UnknownName>
     ensures { MatchOption result (¬ (DeploymentUnknown library.now plan.now)) (IsUnknownAt library.now plan.now) }
 {

@@ -1,4 +1,4 @@
-//! Locations at which a name stands for nothing, a value, an expression or a statement has the wrong kind, or a data
+//! Locations at which a name is unknown, a value, an expression or a statement has the wrong kind, or a data
 //! connection leads out of range.
 
 /// A network of a declaration.
@@ -46,7 +46,7 @@ pub enum ActionPart {
     Output,
 }
 
-/// A location of a declaration or a deployment at which a name stands for nothing. Items of lists are counted from 0, in
+/// A location of a declaration or a deployment at which a name is unknown. Items of lists are counted from 0, in
 /// the order of the text.
 #[derive(Clone, Copy)]
 pub enum UnknownName {

@@ -1,4 +1,4 @@
-//! What names stand for in a declaration, found by comparing names.
+//! The meaning of names in a declaration, found by comparing names.
 
 ghost use Rattle.std.specs.Prelude.{◌≡◌, IfOk, option_map};
 ghost use Rattle.std.specs.List.{list_any};
@@ -62,7 +62,7 @@ impl<'a> BlockTypes<'a> {
         })
     }
 
-    /// The ports of the type that a name stands for.
+    /// The ports of the type that a name represents.
     pub fn ports_named(&self, name: &Name) -> Option<&Ports>
         ensures { option_copied result ≡ option_map ports_of (spec.type_named self.now.library.now name.now) }
     {
@@ -75,7 +75,7 @@ impl<'a> BlockTypes<'a> {
         }
     }
 
-    /// Whether a name stands for a type.
+    /// Whether a name represents a type.
     pub fn is_type(&self, name: &Name) -> bool
         ensures { result ≡ among (block_type_names self.now.library.now) name.now }
     {

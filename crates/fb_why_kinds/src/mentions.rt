@@ -1,4 +1,4 @@
-//! Variables and functions in guards and algorithms whose names stand for nothing (E21).
+//! Variables and functions in guards and algorithms whose names are unknown (E21).
 
 ghost use Rattle.std.specs.Prelude.{◌≡◌, ◌∷◌, ◌++◌, [], IfOk};
 ghost use Rattle.fb_types.specs.Blocks.{among, variable_names, variables_of};

@@ -10,14 +10,14 @@ ghost use Rattle.fb_why_kinds.specs.Sites.{placed};
 ghost use Rattle.fb_why_kinds.specs.Misjoins.{IsMisjoinedAt, IsMisjoinedInside, MisjoinedIn, are_joined, are_joined_inside, is_joined};
 
 use crate::location::{Misjoin, Site};
-use crate::networks::PlacedNetwork;
+use crate::networks::LocatedNetwork;
 use crate::types::type_named;
 use fb_check_networks::is_within;
 use fb_check_types::port_type;
 use fb_types::{BlockType, Connection, Library, PortName, Ty, instance_named};
 
 /// The type of the variable at an end of a data connection.
-pub(crate) fn type_at_end(library: &Library, scope: &PlacedNetwork, end: &PortName) -> Option<Ty>
+pub(crate) fn type_at_end(library: &Library, scope: &LocatedNetwork, end: &PortName) -> Option<Ty>
     ensures { result ≡ joined.type_at_end library.now (placed scope.now) end.now }
 {
     match &end.component {
@@ -34,7 +34,7 @@ pub(crate) fn type_at_end(library: &Library, scope: &PlacedNetwork, end: &PortNa
 }
 
 /// Whether the type at the end of a connection contains all values of the one at its beginning, if both are types.
-fn is_joined(library: &Library, scope: &PlacedNetwork, connection: &Connection) -> bool
+fn is_joined(library: &Library, scope: &LocatedNetwork, connection: &Connection) -> bool
     ensures { result ≡ is_joined library.now (placed scope.now) connection.now }
 {
     let from = type_at_end(library, scope, &connection.from);
@@ -48,7 +48,7 @@ fn is_joined(library: &Library, scope: &PlacedNetwork, connection: &Connection) 
 /// The first of these data connections that leads out of range.
 fn first_misjoined(
     library: &Library,
-    scope: &PlacedNetwork,
+    scope: &LocatedNetwork,
     connections: &[Connection],
 ) -> Option<usize>
     ensures { MatchOption result (list_all (is_joined library.now (placed scope.now)) connections.now ≡ true) (λ k. (c : Connection) × (slice_get connections.now k ≡ Some c) × (is_joined library.now (placed scope.now) c ≡ false)) }
@@ -62,7 +62,7 @@ fn first_misjoined(
 }
 
 /// The first data connection of a network that leads out of range.
-fn misjoined_in(library: &Library, scope: &PlacedNetwork) -> Option<usize>
+fn misjoined_in(library: &Library, scope: &LocatedNetwork) -> Option<usize>
     ensures { MatchOption result (are_joined library.now (placed scope.now) ≡ true) (MisjoinedIn library.now (placed scope.now)) }
 {
     first_misjoined(library, scope, scope.network.data_connections.as_slice())
@@ -75,7 +75,7 @@ fn misjoined_inside(library: &Library, block: &BlockType) -> Option<usize>
     match block {
         BlockType::Basic(_) => None,
         BlockType::Composite(composite) => {
-            let scope = PlacedNetwork {
+            let scope = LocatedNetwork {
                 composite: Some(composite),
                 network: &composite.network,
             };
@@ -100,7 +100,7 @@ fn misjoined_in_some(library: &Library, blocks: &[BlockType]) -> Option<(usize, 
 pub fn misjoin_location(library: &Library) -> Option<Misjoin>
     ensures { MatchOption result (¬ (OutOfRange library.now)) (IsMisjoinedAt library.now) }
 {
-    let scope = PlacedNetwork {
+    let scope = LocatedNetwork {
         composite: None,
         network: &library.application.network,
     };

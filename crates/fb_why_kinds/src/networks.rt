@@ -1,4 +1,4 @@
-//! Names in networks that stand for nothing (E21): types, parameters and ends of connections.
+//! Unknown names in networks (E21): types, parameters and ends of connections.
 
 ghost use Rattle.std.specs.Prelude.{◌≡◌, MatchOption, Some, true, false, slice_get, option_map};
 ghost use Rattle.std.specs.List.{list_all};
@@ -24,7 +24,7 @@ use fb_types::{
 
 /// A network with the composite type that contains it, or none for the application's.
 #[derive(Clone, Copy)]
-pub struct PlacedNetwork<'a> {
+pub struct LocatedNetwork<'a> {
     /// The composite type that contains the network, or none.
     pub composite: Option<&'a CompositeType>,
     /// The network.
@@ -78,7 +78,7 @@ fn unknown_parameters(types: &BlockTypes, instances: &[Instance]) -> Option<(usi
 /// Whether an end is among the ports of the one kind at a component, or of the other at the boundary.
 fn is_end(
     types: &BlockTypes,
-    scope: &PlacedNetwork,
+    scope: &LocatedNetwork,
     component: PortSort,
     boundary: PortSort,
     end: &PortName,
@@ -123,7 +123,7 @@ pub(crate) fn input_of(flow: FlowKind) -> PortSort
 /// Whether an end of a connection is a port of the right direction.
 fn is_side_known(
     types: &BlockTypes,
-    scope: &PlacedNetwork,
+    scope: &LocatedNetwork,
     flow: FlowKind,
     side: Side,
     connection: &Connection,
@@ -140,7 +140,7 @@ fn is_side_known(
 /// The end of a connection that is unknown, the first one if both are.
 fn unknown_side(
     types: &BlockTypes,
-    scope: &PlacedNetwork,
+    scope: &LocatedNetwork,
     flow: FlowKind,
     connection: &Connection,
 ) -> Option<Side>
@@ -158,7 +158,7 @@ fn unknown_side(
 /// The first connection with an unknown end, and the end.
 fn unknown_end(
     types: &BlockTypes,
-    scope: &PlacedNetwork,
+    scope: &LocatedNetwork,
     flow: FlowKind,
     connections: &[Connection],
 ) -> Option<(usize, Side)>
@@ -183,11 +183,11 @@ fn end(site: Site, flow: FlowKind, connection: usize, side: Side) -> UnknownName
     }
 }
 
-/// Where a name of a network stands for nothing, if there is such a location.
+/// Where a name of a network is unknown, if there is such a location.
 pub fn unknown_in_network(
     types: &BlockTypes,
     site: Site,
-    scope: &PlacedNetwork,
+    scope: &LocatedNetwork,
 ) -> Option<UnknownName>
     requires { network_at types.now.library.now site ≡ Some (placed scope.now) }
     ensures { MatchOption result (¬ (NetworkUnknown types.now.library.now (placed scope.now))) (IsUnknownIn types.now.library.now) }

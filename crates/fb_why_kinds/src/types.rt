@@ -1,4 +1,4 @@
-//! What the names of block types and of their ports stand for, found by comparing names.
+//! The meaning of the names of block types and of their ports, found by comparing names.
 
 ghost use Rattle.std.specs.Prelude.{◌≡◌, [], ◌∷◌, option_map};
 ghost use Rattle.fb_types.specs.Blocks as blocks;

@@ -1,4 +1,4 @@
-//! Where a name of a declaration or a deployment stands for nothing (E21).
+//! Where a name of a declaration or a deployment is unknown (E21).
 
 ghost use Rattle.std.specs.Prelude.{◌≡◌, IfOk, MatchOption};
 ghost use Rattle.fb_types.specs.Unknown.{NameUnknown};
@@ -8,7 +8,7 @@ use crate::blocks::unknown_in_blocks;
 use crate::deployment::unknown_in_deployment;
 use crate::location::{Site, UnknownName};
 use crate::lookup::BlockTypes;
-use crate::networks::{PlacedNetwork, unknown_in_network};
+use crate::networks::{LocatedNetwork, unknown_in_network};
 use fb_types::{Library, Plan};
 use std::alloc::{AllocError, Global};
 
@@ -22,7 +22,7 @@ fn unknown_with(
     requires { types.now.library.now ≡ library.now }
     ensures { IfOk result (λ o. MatchOption o (¬ (NameUnknown library.now plan.now)) (IsUnknownAt library.now plan.now)) }
 {
-    let scope = PlacedNetwork {
+    let scope = LocatedNetwork {
         composite: None,
         network: &library.application.network,
     };
@@ -35,7 +35,7 @@ fn unknown_with(
     Ok(unknown_in_deployment(library, plan))
 }
 
-/// A location at which a name stands for nothing of the required kind, or `None` if there is no such name.
+/// A location at which nothing of the required kind has a name, or `None` if there is no such name.
 ///
 /// # Errors
 ///

@@ -1,10 +1,10 @@
-//! The text for a name that stands for nothing: where it is, and what was expected there.
+//! The text for an unknown name: where it is, and what was expected there.
 
 use crate::location::{ActionPart, Direction, FlowKind, Side, Site, TransitionPart, UnknownName};
 use crate::lookup::BlockTypes;
 use crate::mentions::{Mention, push_body, push_expression};
-use crate::networks::{PlacedNetwork, input_of, output_of};
-use crate::tell_sites::{
+use crate::networks::{LocatedNetwork, input_of, output_of};
+use crate::site_messages::{
     instance_of, push_basic, push_block, push_instance, push_site, push_transition, scope_of,
 };
 use crate::words::Text;
@@ -99,7 +99,7 @@ fn tell_end(
     (flow, connection, side): (FlowKind, usize, Side),
 ) {
     push_site(text, types.library, site);
-    let Some(PlacedNetwork { composite, network }) = scope_of(types.library, site) else {
+    let Some(LocatedNetwork { composite, network }) = scope_of(types.library, site) else {
         return;
     };
     let (words, connections) = match flow {

@@ -13,7 +13,7 @@ module _ (M : Machine) where
     pub in_range : tick ≤ horizon
     pub stops : (s : ℕ) (reason : M.Reason) → (c s).state.stop ≡ Some reason → tick ≤ (c s).clock + 1
 
-  -- A tick that is not so many ticks past an event on an agenda or a message in an outbox.
+  -- A tick that is not this many ticks past an event on an agenda or a message in an outbox.
   pub record IsNear (cap : ℕ) (c : Core M) (tick : ℕ) : Type 0 where
     pub events : (k : Key) (e : M.Event) → waiting M (c k.resource).state k ≡ Some e → tick ≤ k.tick + cap
     pub messages : (s : ℕ) (k : Key) (e : M.Event) → found k (c s).outbox ≡ Some e → tick ≤ k.tick + cap

@@ -19,7 +19,7 @@ edge_of f = record { tick = f.tick; resource = f.resource; within = f.within }
 abbrev pub floor_at : (least : ℕ) → Resource → ℕ
 floor_at least x = floor_of x.stopped x.clock least
 
--- The edge is at the least floor of the first so many resources, and at the first resource that has it.
+-- The edge is at the least floor of the first this many resources, and at the first resource that has it.
 pub record IsFrontierTo (m : ℕ) (xs : List Resource) (n : ℕ) (e : Edge) : Type 0 where
   pub least : (r : ℕ) (x : Resource) → r < n → slice_get xs r ≡ Some x → (e.tick < floor_at m x) ⊎ ((e.tick ≡ floor_at m x) × (e.resource ≤ r))
   pub there : 0 < n → (x : Resource) × (e.resource < n) × (slice_get xs e.resource ≡ Some x) × (floor_at m x ≡ e.tick) × (e.within ≡ is_some x.stopped)

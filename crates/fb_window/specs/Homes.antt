@@ -14,7 +14,7 @@ use Rattle.fb_resource.specs.declared.resource.WindowDone.TheVariants.{Ran}
 use Rattle.fb_window.specs.Jobs.{Does, jobs_of, resting_of}
 use Rattle.fb_window.specs.declared.home.Home.{Home}
 
--- A resource that ran comes back from below its bound, its lines behind those that were kept; one that has stopped is as it was.
+-- A resource that ran comes back from below its bound, its lines after those that were kept; one that has stopped is as it was.
 pub record HasCome (i : Inputs) (limit bound : ℕ) (x : Resource) (kept : List Line) (y : Resource) (lines : List Line) (sent : Vec Message) : Type 0 where
   pub ran : x.stopped ≡ None → (new : Vec Line) × (stop : Option StopMark) × HasRun i limit x bound (Ran y new sent stop) × (lines ≡ kept ++ new.items)
   pub rested : (reason : Reason) → x.stopped ≡ Some reason → (y ≡ x) × (lines ≡ kept) × (sent.items ≡ [])

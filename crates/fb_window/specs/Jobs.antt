@@ -46,7 +46,7 @@ abbrev pub jobs_of : Inputs → (limit : ℕ) → (bounds : List ℕ) → (index
 jobs_of i limit bs r [] = []
 jobs_of i limit bs r (x ∷ xs) = job_of i limit (slice_index_or bs r 0) x ++ jobs_of i limit bs (r + 1) xs
 
--- a resource that has stopped stays behind, at its index
+-- a resource that has stopped remains, at its index
 abbrev pub resting_of : Resource → Option Resource
 resting_of x = elim x.stopped [ None ↦ None | Some reason ↦ Some x ]
 

@@ -1,4 +1,4 @@
--- How resources leave: what stays behind, and with which bounds they may (this project's profile).
+-- How resources leave: what remains, and with which bounds they may (this project's profile).
 use Rattle.std.specs.Prelude.{◌≡◌, ℕ, ◌<◌, ◌≤◌, List, map, length, Some, None, slice_get, slice_index_or}
 use Rattle.fb_types.specs.Headline.{Inputs, system_of}
 use Rattle.fb_types.specs.Parts.{machine, count_of}

@@ -1,4 +1,4 @@
--- What a core, and what of it stays behind while resources are away, keep in their types (this project's profile).
+-- What a core, and what of it remains while resources are away, keep in their types (this project's profile).
 use Rattle.std.specs.Prelude.{◌≡◌, ◌^◌, ◌<◌, ◌≤◌, ℕ, List, All, Some, length, slice_get}
 use Rattle.fb_types.specs.Cores.{CoreStep, opening_core}
 use Rattle.fb_types.specs.Headline.{Inputs, system_of, stimuli_of}
@@ -41,7 +41,7 @@ pub record MayGo (i : Inputs) (limit horizon : ℕ) (xs : List Resource) (bounds
   pub idle : (r : ℕ) → count_of (system_of i) ≤ r → (core_of i limit steps r).clock ≡ 0
   pub legal : AreLegal i limit horizon (core_of i limit steps) bounds
 
--- What stays behind of such a core, where its resources have left with legal bounds.
+-- What remains of such a core, where its resources have left with legal bounds.
 pub record IsBehind (a : AwayState) : Type 0 where
   pub resources : List Resource
   pub bounds : List ℕ

@@ -1,4 +1,4 @@
--- Where the core of the parallel run stands (this project's profile).
+-- Where the core of the parallel run is (this project's profile).
 use Rattle.std.specs.Prelude.{◌≡◌, ℕ, ◌≤◌, List, [], length, Some, None, slice_get}
 use Rattle.fb_types.specs.Headline.{Inputs, system_of}
 use Rattle.fb_types.specs.Machines.{Machine, waiting}

@@ -35,7 +35,7 @@ module _ (M : Machine) where
   abbrev pub walk_steps : List (Single M) → List (CoreStep M)
   walk_steps ts = flat_map single_steps ts
 
-  -- None of so many resources has stopped, and one takes what it has at the least tick of all events: one event at least.
+  -- None of this many resources has stopped, and one takes what it has at the least tick of all events: one event at least.
   pub record IsSingle (count : ℕ) (c : model_cores.Core M) (t : Single M) : Type 0 where
     pub counted : t.resource < count
     pub live : (r : ℕ) → r < count → (c r).state.stop ≡ None
@@ -79,7 +79,7 @@ Walks i limit horizon most before after =
 
 -- ---- In code
 
--- A resource has run below a tick by itself. Its lines stand behind those that were kept, its messages were delivered, and nothing else has changed.
+-- A resource has run below a tick by itself. Its lines come after those that were kept, its messages were delivered, and nothing else has changed.
 pub record HasTurned (i : Inputs) (limit index to : ℕ) (old new : CoreState) (stop : Option StopMark) : Type 0 where
   pub before : Resource
   pub after : Resource

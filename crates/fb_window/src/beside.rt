@@ -1,12 +1,12 @@
-//! Owned values beside calls that may fail.
+//! Owned values next to calls that may fail.
 
 ghost use Rattle.std.specs.Prelude.{◌≡◌, Ok, IfOk};
 
 use std::alloc::AllocError;
 
-/// What is kept, beside what was made, where that was.
+/// What is kept, next to what was made, where that was.
 ///
-/// A value of a type parameter is dropped by one call. Where `?` stands beside owned values of other types, the drop of
+/// A value of a type parameter is dropped by one call. Where `?` is next to owned values of other types, the drop of
 /// each is written out at each exit, and proved there.
 pub(crate) fn beside<A: Drop, B: Drop>(
     kept: A,

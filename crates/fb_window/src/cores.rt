@@ -1,4 +1,4 @@
-//! The core of the parallel run: all resources at home, and what of it stays behind while they are away.
+//! The core of the parallel run: all resources at home, and what of it remains while they are away.
 
 ghost use Rattle.std.specs.Prelude.{◌≡◌};
 
@@ -57,30 +57,30 @@ impl Core {
 /// have no meaning.
 #[derive(Drop)]
 pub struct Bounds {
-    /// The tick past which no bound lies.
+    /// The tick past which no bound is.
     pub horizon: u64,
     /// The bounds.
     pub all: [u64; MOST_RESOURCES],
 }
 
-/// What stays behind while resources are away.
+/// What remains while resources are away.
 #[derive(Drop)]
 pub struct AwayState {
     /// The links of the system that is run. Contracts see by them which system it is.
     pub system: SystemLinks,
     /// The limit on the steps of one tick of a resource.
     pub steps: u64,
-    /// The tick past which no bound lies.
+    /// The tick past which no bound is.
     pub horizon: u64,
     /// At the index of each resource that has stopped, this resource.
     pub resting: Vec<Option<Resource>>,
     /// For each resource its lines that are not final yet.
     pub pending: Vec<Vec<Line>>,
-    /// The jobs with which the others have left, for contracts alone.
+    /// The jobs with which the others have left, for contracts only.
     pub jobs: Snapshot<Vec<Job>>,
 }
 
-/// What stays behind of a core while resources are away, which have left with legal bounds. Contracts see what it holds.
+/// What remains of a core while resources are away, which have left with legal bounds. Contracts see what it holds.
 #[derive(Drop)]
 pub struct Away {
     pub(crate) state: AwayState,

@@ -33,7 +33,7 @@ fn cut(
     Ok((lines, rest))
 }
 
-/// Puts what is final of each list of lines behind the fronts, and the others behind the rests. These are lent here, so
+/// Puts what is final of each list of lines after the fronts, and the others after the rests. These are lent here, so
 /// that no exit of the loop drops them.
 fn cut_each(
     alloc: Global,

@@ -27,21 +27,21 @@ pub(crate) struct Home {
     pub(crate) outboxes: Vec<Vec<Message>>,
 }
 
-/// Puts lines behind others.
-pub(crate) fn put_behind(kept: &mut Vec<Line>, mut lines: Vec<Line>) -> Result<(), AllocError>
+/// Puts lines after others.
+pub(crate) fn append_lines(kept: &mut Vec<Line>, mut lines: Vec<Line>) -> Result<(), AllocError>
     ensures { OnOk result (kept.new.items ≡ kept.old.items ++ lines.items) }
 {
     kept.append(&mut lines)
 }
 
-/// Puts lines behind those that are kept. Where none are, they stay where they are.
+/// Puts lines after those that are kept. Where none are, they stay where they are.
 fn keep(mut kept: Vec<Line>, lines: Vec<Line>) -> Result<Vec<Line>, AllocError>
     ensures { IfOk result (λ v. v.items ≡ kept.items ++ lines.items) }
 {
     if kept.is_empty() {
         return Ok(lines);
     }
-    put_behind(&mut kept, lines)?;
+    append_lines(&mut kept, lines)?;
     Ok(kept)
 }
 

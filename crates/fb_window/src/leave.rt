@@ -67,7 +67,7 @@ impl CoreState {
         Ok(())
     }
 
-    /// One job for each resource that has not stopped, with the bound at its index, and what stays behind.
+    /// One job for each resource that has not stopped, with the bound at its index, and what remains.
     fn jobs(
         self,
         alloc: Global,
@@ -116,7 +116,7 @@ impl Core {
     }
 
     /// Takes the core apart: one job for each resource that has not stopped, with the bound at its index, and what
-    /// stays behind.
+    /// remains.
     ///
     /// # Errors
     /// When memory runs out.

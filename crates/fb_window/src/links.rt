@@ -23,11 +23,11 @@ pub struct LinkRow {
 }
 
 /// The links of a system, in order. They are copied from it, so that whoever asks for all of them again and again finds
-/// them side by side, and needs no share of the system. Contracts see the inputs that the system stands for.
+/// them side by side, and needs no share of the system. Contracts see the inputs that the system represents.
 pub struct SystemLinks {
     /// The links.
     rows: Vec<LinkRow>,
-    /// Their system, for contracts alone.
+    /// Their system, for contracts only.
     system: Snapshot<System>,
 }
 

@@ -14,7 +14,7 @@ use fb_system::System;
 use fb_types::Line;
 use std::alloc::{AllocError, Global};
 
-/// So many lists without a line.
+/// This many lists without a line.
 fn no_lines(alloc: Global, count: usize) -> Result<Vec<Vec<Line>>, AllocError>
     ensures counted { IfOk result (λ v. length v.items ≡ count) }
     ensures none { IfOk result (λ v. All (λ p. p.items ≡ []) v.items) }

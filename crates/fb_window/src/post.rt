@@ -17,7 +17,7 @@ use fb_types::Message;
 use std::alloc::{AllocError, Global};
 use std::vec::IntoIter;
 
-/// Puts the messages in the next list on the agenda of a resource, and this behind the others.
+/// Puts the messages in the next list on the agenda of a resource, and this after the others.
 fn deliver_next(
     delivered: &mut Vec<Resource>,
     mut resource: Resource,

@@ -18,7 +18,7 @@ ghost use Rattle.fb_window.specs.Walking.{HasTurned, Walks};
 
 use crate::cores::{Core, CoreState, Failed};
 use crate::ends::first_stop;
-use crate::home::put_behind;
+use crate::home::append_lines;
 use crate::nexts::Nexts;
 use fb_resource::Resource;
 use fb_system::System;
@@ -97,7 +97,7 @@ fn give(
 }
 
 impl CoreState {
-    /// Runs a resource below a tick, keeps its lines, and delivers its messages. Tells where it stopped, if it did.
+    /// Runs a resource below a tick, keeps its lines, and delivers its messages. Returns where it stopped, if it did.
     fn turn(
         &mut self,
         alloc: Global,
@@ -124,7 +124,7 @@ impl CoreState {
     {
         let steps = self.steps;
         let output = self.resources[index].run_here(alloc, system, to, steps)?;
-        put_behind(&mut self.pending[index], output.lines)?;
+        append_lines(&mut self.pending[index], output.lines)?;
         nexts.note(index, &self.resources[index]);
         give(alloc, system, &mut self.resources, nexts, output.sent)?;
         Ok(output.stop)

@@ -7,7 +7,7 @@ use Rattle.fb_expect.specs.Parting.{MayPart}
 use Rattle.fb_expect.specs.Telling.{Tells}
 use Rattle.fb_expect.specs.declared.parting.Difference.{Difference}
 use Rattle.fbsim_command.specs.declared.statuses.Done.TheVariants.{Different}
-use Rattle.fbsim_command.specs.Comparing.{AreUnopened, Compares, Differs, IsTold}
+use Rattle.fbsim_command.specs.Comparing.{AreUnopened, Compares, Differs, IsReported}
 use Rattle.fbsim_command.specs.Failures.{WritesPart, failure_of_source}
 use Rattle.fbsim_command.specs.Outcomes.{End, Held}
 use Rattle.fbsim_command.specs.Showing.{Opening}
@@ -24,16 +24,16 @@ parted d first second a b (Err g) f same is = subst (λ (h : Failure). Differs d
 -- what is reported of two lines
 pub told-of :
     (d : Diff) (first second : Held) (o : Option Difference) (x : Difference) (text : Text) → o ≡ Some x → MayPart first second o → Tells d.first.now d.second.now x text
-    → IsTold d first second text
+    → IsReported d first second text
 told-of d first second o x text is part tells = record { difference = x; part = subst (λ (p : Option Difference). MayPart first second p) is part; tells = tells }
 
 -- it is written
-pub wrote : (d : Diff) (first second a b : Held) (text bytes : Text) → bytes ≡ text → IsTold d first second text → Appends a b bytes → Differs d first second a b (Ok Different)
+pub wrote : (d : Diff) (first second a b : Held) (text bytes : Text) → bytes ≡ text → IsReported d first second text → Appends a b bytes → Differs d first second a b (Ok Different)
 wrote d first second a b text bytes same told got = (text, told, subst (λ (z : Text). Appends a b z) same got)
 
 -- the writer fails
-pub untold : (d : Diff) (first second a b : Held) (text bytes : Text) → bytes ≡ text → IsTold d first second text → (f : Failure) → WritesPart a b bytes f → Differs d first second a b (Err f)
-untold d first second a b text bytes same told (Write n) part = (bytes, subst (λ (z : Text). IsTold d first second z) (sym same) told, part)
+pub untold : (d : Diff) (first second a b : Held) (text bytes : Text) → bytes ≡ text → IsReported d first second text → (f : Failure) → WritesPart a b bytes f → Differs d first second a b (Err f)
+untold d first second a b text bytes same told (Write n) part = (bytes, subst (λ (z : Text). IsReported d first second z) (sym same) told, part)
 untold d first second a b text bytes same told (Refused refusal) part = absurd part
 untold d first second a b text bytes same told (RefusedTrace message) part = absurd part
 untold d first second a b text bytes same told File part = absurd part

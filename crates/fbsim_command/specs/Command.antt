@@ -187,8 +187,8 @@ Explains words old new (Err BadOption) = ⊥
 Explains words old new (Err (RefusedTrace text)) = ⊥
 
 -- nothing is read, and only the end is reported
-abbrev pub TellsNoMore : {S : Type 0} → (from to : S) → (reports : Text) → (note : Option Text) → Type 0
-TellsNoMore from to reports note = (to ≡ from) × (reports ≡ []) × (note ≡ None)
+abbrev pub ReportsNoMore : {S : Type 0} → (from to : S) → (reports : Text) → (note : Option Text) → Type 0
+ReportsNoMore from to reports note = (to ≡ from) × (reports ≡ []) × (note ≡ None)
 
 -- The words are done as the call that they name: a task, a trace that is shown, a refusal that is explained, rules that are
 -- held against traces, traces that are compared, or what is declared, which is drawn. Or they name none.
@@ -196,8 +196,8 @@ abbrev pub Does : {S : Type 0} → Reading S → Opening S → (from to : S) →
 Does reads opens from to words old new end reports note =
     ((c : Task) × AreCall words (call.Task c) × IsTaken words × Performs reads from to c old new end reports note)
     ⊎ ((w : Wave) × AreCall words (call.Wave w) × IsTaken words × Shows reads opens from to w old new end × (reports ≡ []) × (note ≡ None))
-    ⊎ ((name : Bor Text) × AreCall words (call.Explain name) × IsTaken words × ExplainsRefusal name.now old new end × TellsNoMore from to reports note)
+    ⊎ ((name : Bor Text) × AreCall words (call.Explain name) × IsTaken words × ExplainsRefusal name.now old new end × ReportsNoMore from to reports note)
     ⊎ ((x : Expect) × AreCall words (call.Expect x) × IsTaken words × Expects reads opens from to x old new end note × (reports ≡ []))
     ⊎ ((d : Diff) × AreCall words (call.Diff d) × IsTaken words × Compares opens from to d old new end × (reports ≡ []) × (note ≡ None))
     ⊎ ((d : Draw) × AreCall words (call.Draw d) × IsTaken words × Draws reads from to d old new end × (reports ≡ []) × (note ≡ None))
-    ⊎ (Explains words old new end × TellsNoMore from to reports note)
+    ⊎ (Explains words old new end × ReportsNoMore from to reports note)

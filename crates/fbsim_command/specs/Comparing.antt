@@ -13,8 +13,8 @@ use Rattle.fbsim_command.specs.declared.failure.Failure.TheVariants.{Refused, Re
 use Rattle.fbsim_command.specs.declared.sources.SourceFault.{SourceFault}
 use Rattle.fbsim_command.specs.declared.statuses.Done.TheVariants.{Helped, Explained, Accepted, Shown, Ended, Stopped, Met, Unmet, Same, Different}
 
--- Two texts part first at two lines, and the text tells in what these differ.
-pub record IsTold (d : Diff) (first second : Held) (text : Text) : Type 0 where
+-- Two texts part first at two lines, and the text says in what these differ.
+pub record IsReported (d : Diff) (first second : Held) (text : Text) : Type 0 where
   pub difference : Difference
   pub part : MayPart first second (Some difference)
   pub tells : Tells d.first.now d.second.now difference text
@@ -22,7 +22,7 @@ pub record IsTold (d : Diff) (first second : Held) (text : Text) : Type 0 where
 -- two files, of which these bytes are known, are compared
 abbrev pub Differs : Diff → (first second : Held) → (old new : Held) → End → Type 0
 Differs d first second old new (Ok Same) = MayPart first second None × (new ≡ old)
-Differs d first second old new (Ok Different) = (text : Text) × IsTold d first second text × Appends old new text
+Differs d first second old new (Ok Different) = (text : Text) × IsReported d first second text × Appends old new text
 Differs d first second old new (Ok Helped) = ⊥
 Differs d first second old new (Ok Explained) = ⊥
 Differs d first second old new (Ok Accepted) = ⊥
@@ -34,7 +34,7 @@ Differs d first second old new (Ok Unmet) = ⊥
 Differs d first second old new (Err (Refused refusal)) = ⊥
 Differs d first second old new (Err (RefusedTrace text)) = ⊥
 Differs d first second old new (Err File) = new ≡ old
-Differs d first second old new (Err (Write n)) = (text : Text) × IsTold d first second text × IsPartWritten old new text n
+Differs d first second old new (Err (Write n)) = (text : Text) × IsReported d first second text × IsPartWritten old new text n
 Differs d first second old new (Err Memory) = new ≡ old
 Differs d first second old new (Err (Line message)) = ⊥
 Differs d first second old new (Err BadOption) = ⊥

@@ -37,7 +37,7 @@ use Rattle.fbsim_command.specs.declared.texts.Part.{Part}
 
 -- ---- What is read before the traces
 
--- the call that checks the declaration in which the names of the rules are to be
+-- the call that checks the declaration in which the names of the rules must be
 abbrev pub files_of : Expect → Bor Text → Task
 files_of x declaration = record { action = Check; declaration = declaration; deploy = x.deploy; stimuli = None; why = x.why }
 
@@ -52,7 +52,7 @@ MayDeclare reads x None old new (Some given) = ⊥
 MayDeclare reads x (Some name) old new None = ⊥
 MayDeclare reads x (Some name) old new (Some given) = AreRead reads (files_of x name) old new given
 
--- The rules are read, and then what their names are to be in.
+-- The rules are read, and then what their names must be in.
 pub record AreRulesRead {S : Type 0} (reads : Reading S) (x : Expect) (old new : S) (bytes : Text) (declared : Option Given) : Type 0 where
   pub between : S
   pub rules : reads old x.rules.now asked_rules (Ok bytes) between
@@ -167,7 +167,7 @@ AreHeld {S} opens x rules old new (name ∷ names) (js ∷ all) = (between : S) 
 abbrev pub names_of : Expect → List Text
 names_of x = map (λ t. t.now) x.traces.items
 
--- the points of all traces, numbered behind those before
+-- the points of all traces, numbered after those before
 abbrev pub points_of : Expect → List Rule → (before : ℕ) → List (Bor Text) → List (List Judged) → Text
 points_of x rules before [] all = []
 points_of x rules before (t ∷ ts) [] = []
@@ -196,7 +196,7 @@ pub record ComesTo {S : Type 0} (opens : Opening S) (x : Expect) (rules : List R
   pub parts : names_of x ≡ before ++ name ∷ behind
   pub held : AreHeld opens x rules old new before all
 
--- A trace is refused, at the line that the text tells with the trace's name.
+-- A trace is refused, at the line in the text, with the trace's name.
 pub record RefusesTrace {S : Type 0} (opens : Opening S) (x : Expect) (rules : List Rule) (old new : S) (text : Text) : Type 0 where
   pub name : Text
   pub between : S
@@ -245,14 +245,14 @@ AreUnheld opens x rules old new (Write n) = ⊥
 AreUnheld opens x rules old new (Line message) = ⊥
 AreUnheld opens x rules old new BadOption = ⊥
 
--- The trace at this place was held against the rules, and its points stand behind a text. It says whether all rules are well.
+-- The trace at this place was held against the rules, and its points come after a text. It says whether all rules are well.
 pub record PutsOne {S : Type 0} (opens : Opening S) (x : Expect) (rules : List Rule) (index : ℕ) (trace : Bor Text) (old new : S) (before text : Text) (well : Bool) : Type 0 where
   pub judged : List Judged
   pub held : IsHeld opens x rules old new trace.now judged
   pub is : text ≡ before ++ points x.is_strict (record { trace = trace; is_named = nat_lt 1 (length x.traces.items) }) (length rules * index) rules judged
   pub fine : well ≡ are_well x.is_strict judged
 
--- These traces were held against the rules, and their points stand behind a text.
+-- These traces were held against the rules, and their points come after a text.
 pub record Puts {S : Type 0} (opens : Opening S) (x : Expect) (rules : List Rule) (traces : List (Bor Text)) (old new : S) (before text : Text) (well : Bool) : Type 0 where
   pub all : List (List Judged)
   pub held : AreHeld opens x rules old new (map (λ t. t.now) traces) all

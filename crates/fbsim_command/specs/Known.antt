@@ -34,7 +34,7 @@ names_with its taken event = if taken then inputs_with its (event_at its.event_i
 abbrev pub ports_of : System → (instance : ℕ) → Ports
 ports_of sys i = ports_at sys (path_at sys i)
 
--- what lines of a port begin with behind their tick. Their values make no difference here.
+-- what lines of a port begin with after their tick. Their values make no difference here.
 abbrev pub event_there : System → (instance : ℕ) → (taken : Bool) → (event : ℕ) → Event
 event_there sys i taken event =
     record {

@@ -28,7 +28,7 @@ use Rattle.fbsim_command.specs.declared.line.LineFault.TheVariants.{Memory, Help
 abbrev pub up_to : ℕ → ValueParser
 up_to most = parser.Unsigned 1 most
 
--- the word that stands for a form of the trace
+-- the word that represents a form of the trace
 abbrev pub word_of : Form → Text
 word_of One = codes "1"
 word_of Two = codes "2"
@@ -41,7 +41,7 @@ abbrev pub AreForms : ValueParser → Type 0
 AreForms (parser.Names words) = map (λ w. w.now) words.now ≡ form_words
 AreForms _ = ⊥
 
--- A value as a parser refers to it. Where it lies in memory changes no answer of the parser, so it may be anywhere.
+-- A value as a parser refers to it. Where it is in memory changes no answer of the parser, so it may be anywhere.
 abbrev pub placed : {X : Type 0} → X → Bor X
 placed x = record { ref_ptr = (0, 0); now = x }
 
@@ -200,7 +200,7 @@ abbrev pub deploys_nothing : (declaration deploy : Option Text) → Bool
 deploys_nothing (Some n) deploy = false
 deploys_nothing None deploy = is_some deploy
 
--- Rules are to be held against these traces. A deployment is one of a declaration.
+-- Rules must be held against these traces. A deployment is one of a declaration.
 pub record AsksExpect (rows : List Row) (x : Expect) : Type 0 where
   pub rules : first_of (codes "RULES") rows ≡ Some x.rules.now
   pub traces : all_of (codes "TRACE") rows ≡ Some (map (λ t. t.now) x.traces.items)
@@ -211,7 +211,7 @@ pub record AsksExpect (rows : List Row) (x : Expect) : Type 0 where
   pub cut : IsFlag rows (codes "cut") x.is_cut
   pub why : IsFlag rows (codes "why") x.why
 
--- these traces are to be compared
+-- these traces must be compared
 pub record AsksDiff (rows : List Row) (d : Diff) : Type 0 where
   pub first : first_of (codes "A") rows ≡ Some d.first.now
   pub second : first_of (codes "B") rows ≡ Some d.second.now

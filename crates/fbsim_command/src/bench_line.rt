@@ -19,7 +19,7 @@ pub struct Expect<'a> {
     pub rules: &'a str,
     /// The names of the files with the traces, one or more.
     pub traces: Vec<&'a str>,
-    /// The name of the declaration's file, where the names of the rules are to be in it.
+    /// The name of the declaration's file, where the names of the rules must be in it.
     pub declaration: Option<&'a str>,
     /// The name of the deployment's file, where one is given.
     pub deploy: Option<&'a str>,

@@ -22,7 +22,7 @@ use fb_system::System;
 use std::alloc::{AllocError, Global};
 use std::io::Write;
 
-/// What is to be drawn, and the files that it is in.
+/// What must be drawn, and the files that it is in.
 #[derive(Clone, Copy)]
 pub struct Draw<'a> {
     /// The name of the declaration's file; `-` is standard input, here and below.
@@ -41,7 +41,7 @@ const EXAMPLE: &str = "Example: fbsim draw cell.iec --deploy cell.toml | dot -Ts
 const TYPE_HELP: &str =
     "The name of the type to draw, in any letter case: the chart of a basic type, the network of a composite type; without it the application is drawn.";
 
-/// The number of the refusal of a name that stands for nothing.
+/// The number of the refusal of an unknown name.
 const UNKNOWN: u8 = 21;
 
 /// The command that draws what is declared.

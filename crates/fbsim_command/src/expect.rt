@@ -29,7 +29,7 @@ const RULES_BYTES: usize = 1_048_577;
 /// The number of the refusal of rules that name what a declaration does not have.
 pub(crate) const UNKNOWN: u8 = 45;
 
-/// The call that checks the declaration in which the names of the rules are to be.
+/// The call that checks the declaration in which the names of the rules must be.
 pub(crate) fn files_of<'a>(expect: &Expect<'a>, declaration: &'a str) -> Task<'a>
     ensures { result ≡ files_of expect.now declaration.entry }
 {
@@ -98,7 +98,7 @@ fn are_named(expect: &Expect<'_>) -> bool
     expect.traces.len() > 1
 }
 
-/// How many points so many rules have at so many traces.
+/// How many points this many rules have at this many traces.
 fn product(rules: usize, traces: usize) -> u128
     ensures count { result ≡ rules * traces }
     ensures room { result + rules < 2 ^ 128 }
@@ -106,7 +106,7 @@ fn product(rules: usize, traces: usize) -> u128
     rules as u128 * traces as u128
 }
 
-/// How many points all rules have at so many traces.
+/// How many points all rules have at this many traces.
 fn points_before(rules: &[Rule], traces: usize) -> u128
     ensures count { result ≡ length rules.now * traces }
     ensures room { result + length rules.now < 2 ^ 128 }
@@ -114,7 +114,7 @@ fn points_before(rules: &[Rule], traces: usize) -> u128
     product(rules.len(), traces)
 }
 
-/// Holds all rules against the trace at this place of a call, and puts their points behind a text. It says whether all
+/// Holds all rules against the trace at this place of a call, and puts their points after a text. It says whether all
 /// are well.
 fn put_one<S: Streams>(
     alloc: Global,
@@ -146,7 +146,7 @@ fn put_one<S: Streams>(
     Ok(are_well(expect.is_strict, judged.as_slice()))
 }
 
-/// Holds all rules against each trace of a call, and puts their points behind a text. It says whether all are well.
+/// Holds all rules against each trace of a call, and puts their points after a text. It says whether all are well.
 fn put_all<S: Streams>(
     alloc: Global,
     expect: &Expect<'_>,

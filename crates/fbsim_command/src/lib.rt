@@ -1,6 +1,7 @@
 //! One call of the program: its words, its files, what it does with them, and how it ends.
 //!
-//! It guarantees to callers: `parse` gives the call that the parser's matches of the words stand for, defaults included.
+//! It guarantees to callers: `parse` gives the call that the parser's matches of the words represent, defaults
+//! included.
 //! `command` says for every way in which a call can end: its status, what was read, what was written, and what was
 //! reported of a failure. `Files` reads the first bytes of a file, at most as many as are asked for, and standard input
 //! once.

@@ -298,7 +298,7 @@ fn run_numbers<'a>(alloc: Global) -> Result<Command<'a>, AllocError>
     with_arg(command, workers)
 }
 
-/// The command that runs, with all options: besides, how a run is made, and what its trace is like.
+/// The command that runs, with all options: also, how a run is made, and what its trace is like.
 fn run<'a>(alloc: Global, forms: ValueParser<'a>) -> Result<Command<'a>, AllocError>
     ensures app { IfOk result (λ c. app_of c ≡ spec.with_run_options forms.entry (spec.files (codes "run"))) }
     ensures globals { IfOk result (λ c. (fields_of c).has_globals ≡ false) }

@@ -11,7 +11,7 @@ use crate::texts::{Part, Texts, Unread};
 use fb_why::finding_of;
 use std::alloc::Global;
 
-/// The number of a fault of the grammar, whose line says where it is besides.
+/// The number of a fault of the grammar, whose line says where it is also.
 const SYNTAX: u8 = 3;
 
 /// What a file is called.

@@ -66,7 +66,7 @@ fn run_inputs<R: Threads + Wait + Sync, W: Write>(
 
 /// Writes the trace of the inputs with workers, and reports the progress of the run meanwhile. It says how that ends,
 /// and whether standard error took all reports.
-fn run_and_tell<R: Threads + Wait + Sync, W: Write, E: Write>(
+fn run_and_report<R: Threads + Wait + Sync, W: Write, E: Write>(
     rt: &R,
     alloc: Global,
     inputs: &Inputs<'_>,
@@ -94,7 +94,7 @@ struct Answer {
     note: Option<String>,
 }
 
-/// The answer of what ended so, with nothing else to tell.
+/// The answer of what ended so, with nothing else to report.
 fn ended(end: Result<Done, Failure>) -> Answer
     ensures { result ≡ record { end = end; is_heard = true; note = None } }
 {
@@ -136,7 +136,7 @@ fn meet<R: Threads + Wait + Sync, W: Write, E: Write>(
                 form,
             };
             if progress && !serial {
-                return run_and_tell(rt, alloc, &inputs, options, out, err);
+                return run_and_report(rt, alloc, &inputs, options, out, err);
             }
             let end = run_inputs(rt, alloc, &inputs, options, serial, out);
             (end, true)
@@ -275,7 +275,7 @@ fn tell<E: Write>(err: &mut E, failure: &Failure) -> io::Result<()>
 
 /// Reports how a call ends, if it failed: the line of its failure, and then the note. It says whether standard error
 /// took it all.
-fn tell_end<E: Write>(err: &mut E, end: &Result<Done, Failure>, note: &Option<String>) -> bool
+fn report_end<E: Write>(err: &mut E, end: &Result<Done, Failure>, note: &Option<String>) -> bool
     ensures told { IsTrue result → Appends (E.contents err.old) (E.contents err.new) (told_of end.now (option_map string_bytes note.now)) }
     ensures quiet { OnOk end.now (E.contents err.new ≡ E.contents err.old) }
 {
@@ -308,7 +308,7 @@ pub fn command_exit<'w, R: Threads + Wait + Sync, S: Source + Streams, W: Write,
 {
     let answer = obey(rt, alloc, words, source, out, err);
     // A standard error that fails changes no status.
-    let is_told = tell_end(err, &answer.end, &answer.note);
+    let is_told = report_end(err, &answer.end, &answer.note);
     ExitStatus {
         status: status(&answer.end),
         is_reported: answer.is_heard && is_told,

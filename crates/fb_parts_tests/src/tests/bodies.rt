@@ -71,7 +71,7 @@ fn expect_row(rt: &impl Abort, alloc: Global, algorithm: &Algorithm, row: &Row) 
     forget(variable);
 }
 
-/// The algorithms go as the rows say, in their order. The last one is behind the rows.
+/// The algorithms go as the rows say, in their order. The last one is after the rows.
 fn expect_rows(rt: &impl Abort, alloc: Global, algorithms: &[Algorithm]) {
     assert!(rt; algorithms.len() == 13);
     for (algorithm, row) in algorithms.iter().zip(ROWS.iter()) {

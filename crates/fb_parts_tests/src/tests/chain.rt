@@ -1,9 +1,12 @@
 //! Resources of accepted systems, and the calls on them, each with what the next one asks for.
 
-ghost use Rattle.std.specs.Prelude.{◌≡◌, ℕ, All, IsTrue, None};
+ghost use Rattle.std.specs.Prelude.{◌≡◌, ◌<◌, ℕ, All, IsTrue, None, length};
 ghost use Rattle.fb_types.specs.Headline.{system_of};
+ghost use Rattle.fb_types.specs.Reactions.{World};
 ghost use Rattle.fb_types.specs.declared.key.Key.{Key};
 ghost use Rattle.fb_agenda.specs.Agendas.{waiting};
+ghost use Rattle.fb_laws.specs.Typed.{AreTyped};
+ghost use Rattle.fb_net.specs.Worlds.{IsForest};
 ghost use Rattle.fb_system.specs.Lines.{BelongsTo};
 ghost use Rattle.fb_resource.specs.Posts.{IsMessage};
 ghost use Rattle.fb_resource.specs.Resources.{IsFor, IsOf};
@@ -12,6 +15,7 @@ use super::narrow::{ALL_AT_ONCE, Narrow};
 use fb_check::accept;
 use fb_inputs::{read_deploy, read_stimuli};
 use fb_link::exchange;
+use fb_net::Tree;
 use fb_read::read_library;
 use fb_resource::{Resource, WindowDone};
 use fb_system::System;
@@ -38,7 +42,7 @@ fn deploy_of(rt: &impl Abort, alloc: Global, text: &str) -> Deploy {
     deploy
 }
 
-/// The system of a declaration, a deployment and stimuli that are accepted together. An empty text stands for no
+/// The system of a declaration, a deployment and stimuli that are accepted together. An empty text represents no
 /// deployment.
 pub fn accepted(
     rt: &impl Abort,
@@ -72,6 +76,20 @@ pub fn opened(rt: &impl Abort, alloc: Global, system: &System, number: u32) -> R
         panic!(rt; "memory");
     };
     resource
+}
+
+/// The blocks of the resource of a number, as they are before the first event. Their values fit their types.
+pub fn built(rt: &impl Abort, alloc: Global, system: &System, number: u32) -> Tree
+    ensures belongs { (w : World) × IsForest system.now result w × AreTyped (system_of system.now) w }
+    ensures named { result.resource < length (system_of system.now).resource_names }
+    ensures number { result.resource ≡ number }
+{
+    assert!(rt; (number as usize) < system.resources());
+    system.facts();
+    let Ok(tree) = Tree::build(alloc, system, number) else {
+        panic!(rt; "memory");
+    };
+    tree
 }
 
 /// What a run gave.

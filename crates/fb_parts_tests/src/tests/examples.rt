@@ -1,12 +1,14 @@
-//! The examples of the documentation of `fb_check::accept`, `fb_resource::Resource::run_to` and `fb_wave::write_wave`. `tools/documents.py`
-//! compares them.
+//! The examples of the documentation of `fb_check::accept`, `fb_net::Tree::take`, `fb_resource::Resource::run_to` and
+//! `fb_wave::write_wave`. `tools/documents.py` compares them.
 
-use super::chain::{accepted, opened};
+use super::chain::{accepted, built, opened};
 use fb_check::accept;
 use fb_inputs::read_stimuli;
+use fb_net::{Arrival, Outbox};
 use fb_read::read_library;
 use fb_resource::WindowDone;
-use fb_types::Deploy;
+use fb_st::Meter;
+use fb_types::{Deploy, TimerAsk};
 use fb_wave::write_wave;
 use fb_window::{discard_resource, discard_system};
 use std::mem::forget;
@@ -24,6 +26,25 @@ fn an_application_is_accepted(rt: HostRuntime) {
     );
     let system = accept(rt.alloc(), library, deploy, stimuli).expect(&rt, "accepted");
     assert!(rt; system.resources() == 1);
+    discard_system(system);
+}
+
+#[test]
+fn a_tree_takes_a_timer(rt: HostRuntime) {
+    let declaration = "APPLICATION A FBS S : E_RESTART; END_FBS END_APPLICATION";
+    let system = accepted(&rt, rt.alloc(), declaration, "", "tick,event,values\n");
+    let mut tree = built(&rt, rt.alloc(), &system, 0);
+    let mut outbox = Outbox {
+        lines: Vec::new(rt.alloc()),
+        outs: Vec::new(rt.alloc()),
+        timer: TimerAsk::Keep,
+    };
+    let mut meter = Meter { left: 100 };
+    assert!(rt; system.count() == 1 && system.resource(0) == 0);
+    tree.take(&system, Arrival::Timer(0), 0, &mut meter, &mut outbox)
+        .expect(&rt, "taken");
+    assert!(rt; outbox.lines.len() == 1 && outbox.outs.is_empty());
+    forget((tree, outbox));
     discard_system(system);
 }
 

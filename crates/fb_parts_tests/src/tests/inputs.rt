@@ -1,4 +1,5 @@
-//! What a deployment and stimuli are read as, where no trace shows it: devices, names that stand for nothing, values that no type holds.
+//! What a deployment and stimuli are read as, where no trace shows it: devices, names that are unknown, values that no
+//! type holds.
 
 use fb_inputs::{read_deploy, read_stimuli};
 use fb_types::{Deploy, Name, Plan, Setting, Value};

@@ -1,4 +1,4 @@
-//! One stimulus more than there may be, which no text can show, since one of so many rows is refused before.
+//! One stimulus more than there may be, which no text can show, since one of this many rows is refused before.
 
 use fb_check::accept;
 use fb_read::read_library;
@@ -16,7 +16,7 @@ fn stop(rt: &impl Abort, alloc: Global, tick: u64) -> Stimulus {
     }
 }
 
-/// The number by which so many stimuli are refused, if they are.
+/// The number by which this many stimuli are refused, if they are.
 fn number_of(rt: &impl Abort, alloc: Global, count: u64) -> Option<u8> {
     let text = "APPLICATION A FBS D : E_DELAY; END_FBS END_APPLICATION";
     let Ok(library) = read_library(alloc, text.as_bytes()) else {

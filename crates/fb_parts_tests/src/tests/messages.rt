@@ -26,7 +26,7 @@ struct Talk {
     trace: &'static str,
 }
 
-/// A text, and another one sixty times behind it.
+/// A text, and another one sixty times after it.
 macro_rules! sixty {
     ($first:literal, $text:literal) => {
         concat!(
@@ -61,7 +61,7 @@ static LATCH: Talk = Talk {
     trace: "5 R2 > W.EI G=FALSE\n5 R2 < W.EO0\n5 R2 > W.EI G=TRUE\n5 R2 < W.EO1\n",
 };
 
-/// A split whose second output stands first among the connections.
+/// A split whose second output is first among the connections.
 const SPLIT: Talk = Talk {
     declaration: "APPLICATION A FBS P : E_SPLIT; M : E_MERGE; END_FBS\n\
         EVENT_CONNECTIONS P.EO2 TO M.EI2; P.EO1 TO M.EI1; END_CONNECTIONS END_APPLICATION",
@@ -84,7 +84,7 @@ static OTHER: Talk = Talk {
     ..SPLIT
 };
 
-/// A merge passes each of sixty events on: so many messages need several indexes to stand.
+/// A merge passes each of sixty events on: this many messages need several indexes to be.
 static PASS: Talk = Talk {
     declaration: "APPLICATION A FBS A : E_MERGE; M : E_MERGE; END_FBS\n\
         EVENT_CONNECTIONS A.EO TO M.EI1; END_CONNECTIONS END_APPLICATION",
@@ -103,7 +103,7 @@ static PASS: Talk = Talk {
 };
 
 /// What the first resource sends to the second one.
-fn expect_heard(rt: &impl Abort, alloc: Global, system: &System, talk: &Talk) {
+fn expect_received(rt: &impl Abort, alloc: Global, system: &System, talk: &Talk) {
     let sender = opened(rt, alloc, system, 0);
     let sender = run(rt, sender, alloc, system, talk.sent_below, ENOUGH);
     let sent = turned(system, sender.sent, talk.turned);
@@ -130,10 +130,10 @@ fn expect_heard(rt: &impl Abort, alloc: Global, system: &System, talk: &Talk) {
 /// Where one request for memory is refused to a resource that takes messages, it takes them at a second try. Any other that is
 /// refused ends the test. `tools/refuse.py` runs this with each request refused in turn.
 #[test]
-fn messages_come_after_a_want_of_memory(rt: HostRuntime) {
+fn messages_come_after_out_of_memory(rt: HostRuntime) {
     for talk in [&LATCH, &SPLIT, &OTHER, &PASS] {
         let system = accepted(&rt, rt.alloc(), talk.declaration, talk.deploy, talk.stimuli);
-        expect_heard(&rt, rt.alloc(), &system, talk);
+        expect_received(&rt, rt.alloc(), &system, talk);
         discard_system(system);
     }
 }

@@ -1,4 +1,4 @@
-//! Lines with numbers that no run comes to, up to the greatest and down to the least, and last lines.
+//! Lines with numbers that no run reaches, up to the greatest and down to the least, and last lines.
 
 use super::belonging::{all_belong, ends_in};
 use super::chain::{accepted, expect_text};
@@ -10,7 +10,7 @@ use std::alloc::Global;
 use std::mem::forget;
 use std::process::Abort;
 
-/// The instance G lies in the second of two resources.
+/// The instance G is in the second of two resources.
 const DECLARATION: &str =
     "FUNCTION_BLOCK GAUGE EVENT_INPUT GO WITH G, N; HALT; END_EVENT VAR_INPUT N : LINT; G : BOOL; END_VAR\n\
     EC_STATES IDLE; END_STATES END_FUNCTION_BLOCK\n\

@@ -20,7 +20,7 @@ fn composite(rt: &impl Abort, alloc: Global) -> Block {
     Block::Composite(Items::from_vec(inside))
 }
 
-/// How many blocks stand inside a block, if any may.
+/// How many blocks are inside a block, if any may.
 fn count(block: &mut Block) -> Option<usize> {
     match block.components_mut() {
         Some(components) => Some(components.len()),

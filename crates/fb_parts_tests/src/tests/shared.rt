@@ -65,7 +65,7 @@ fn a_box_keeps_its_value(rt: HostRuntime) {
     assert!(rt; *boxed.get() == 41);
 }
 
-/// Each key comes before those below it, by one part alone: the parts behind it say the opposite.
+/// Each key comes before those below it, by one part alone: the parts after it say the opposite.
 static RISING: [Key; 6] = [
     Key {
         tick: 6,

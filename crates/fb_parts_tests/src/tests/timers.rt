@@ -58,7 +58,7 @@ fn the_longest_delay_fits(rt: HostRuntime) {
     assert!(rt; asked(&rt, rt.alloc(), &mut state, 1, LATEST) == TimerAsk::Clear);
 }
 
-/// The event of the cycle stands behind what was emitted before it.
+/// The event of the cycle comes after what was emitted before it.
 #[test]
 fn the_longest_cycle_fits(rt: HostRuntime) {
     let mut state = EventState::new(EventKind::Cycle);

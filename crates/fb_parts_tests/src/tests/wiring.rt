@@ -38,8 +38,8 @@ const NEXT_TO_FAR: ConnectionEnd = ConnectionEnd {
     port: 999_999,
 };
 
-/// The connections of events and of data; where those of events lead from some ends; and from where those of data come to
-/// some ends.
+/// The connections of events and of data; where those of events lead from some ends; and from where those of data lead
+/// to some ends.
 type Network = (
     &'static [NumberedConnection],
     &'static [NumberedConnection],
@@ -153,7 +153,7 @@ fn expect_network(rt: &impl Abort, alloc: Global, network: &Network) {
     forget(wiring);
 }
 
-/// The ports below the far one have no ends, at either sort of wires.
+/// The ports below the far one have no ends, of either kind of connections.
 #[test]
 fn connections_by_their_ends(rt: HostRuntime) {
     expect_network(&rt, rt.alloc(), &NEAR);

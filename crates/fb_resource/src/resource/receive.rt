@@ -1,4 +1,4 @@
-//! How messages come to a resource.
+//! How a resource gets messages.
 
 ghost use Rattle.std.specs.Prelude.{◌≡◌, IfErr, OnErr, OnOk};
 ghost use Rattle.fb_agenda.specs.Arrivals.{AreNew};

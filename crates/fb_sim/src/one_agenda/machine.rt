@@ -1,4 +1,4 @@
-//! The state of a run of all resources, and the taking of one event after another.
+//! The state of a run of all resources, and taking one event after another.
 
 ghost use Rattle.std.specs.Prelude.{◌≡◌, ◌^◌, ◌<◌, ◌≤◌, ℕ, [], length, All, IfOk, IfSome, None, OnOk};
 ghost use Rattle.fb_types.specs.Headline.{Inputs, system_of};

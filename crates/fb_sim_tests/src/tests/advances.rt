@@ -16,7 +16,7 @@ use std::process::Abort;
 use std::sync::Wait;
 use std::thread::Threads;
 
-/// The simulation of a case by so many workers.
+/// The simulation of a case by this many workers.
 pub fn opened(rt: &impl Abort, alloc: Global, case: &Case, workers: u64) -> Simulation {
     let inputs = inputs_of(case.declaration, case.deploy, case.stimuli);
     let Ok(simulation) = Simulation::open(alloc, &inputs, case.steps, workers, Form::One) else {
@@ -206,7 +206,7 @@ fn try_pieces<R: Threads + Wait + Sync>(
 /// A simulation that was once out of memory has failed for good. `tools/refuse.py` runs this with each request refused in turn. Without
 /// that no call fails.
 #[test]
-fn after_a_want_of_memory_nothing_is_written(rt: HostRuntime) {
+fn after_out_of_memory_nothing_is_written(rt: HostRuntime) {
     for case in [&CYCLE, &ARRIVAL, &BETWEEN, &TWICE, &RING] {
         for workers in [1, 2] {
             let mut out = Vec::new(rt.alloc());

@@ -28,7 +28,7 @@ impl Meeting {
     /// How often a worker looks for the others before it gives up.
     const LOOKS: u32 = 100_000_000;
 
-    /// A meeting of so many workers, in the round behind so many others.
+    /// A meeting of this many workers, in the round after this many others.
     pub fn new(workers: u64, before: u64) -> Meeting {
         let first = workers.saturating_mul(before);
         Meeting {
@@ -67,7 +67,7 @@ impl Gate for Meeting {
     }
 }
 
-/// Three resources run by so many workers, who pass a gate.
+/// Three resources run by this many workers, who pass a gate.
 fn expect_between<R: Abort + Threads + Wait + Sync, P: Gate>(
     rt: &R,
     alloc: Global,
@@ -82,7 +82,7 @@ fn expect_between<R: Abort + Threads + Wait + Sync, P: Gate>(
     assert!(rt; out.as_slice() == BETWEEN.trace.as_bytes());
 }
 
-/// In the first round of the run each of the three resources has an event, so that there is work for so many workers.
+/// In the first round of the run each of the three resources has an event, so that there is work for this many workers.
 #[test]
 fn workers_meet(rt: HostRuntime) {
     for workers in [2, 3] {
@@ -113,7 +113,7 @@ impl Gate for InOrder {
     }
 }
 
-/// A simulation that is advanced goes by rounds, also by one worker, who does the jobs on the calling thread.
+/// A simulation that is advanced makes rounds, also with one worker, who does the jobs on the calling thread.
 #[test]
 fn one_worker_passes_the_gate_in_the_order_of_the_jobs(rt: HostRuntime) {
     let gate = InOrder {

@@ -19,7 +19,7 @@ use std::alloc::Global;
 use std::mem::forget;
 use std::process::Abort;
 
-/// How many ticks past the least event a bound may lie.
+/// How many ticks past the least event a bound may be.
 const CAP: u64 = 1024;
 
 /// More rounds than any of these runs has.
@@ -77,7 +77,7 @@ fn digit(number: u64) -> u8 {
     b'0' + (number % 10) as u8
 }
 
-/// Puts a number of at most five digits behind a text.
+/// Puts a number of at most five digits after a text.
 fn push_number<R: Abort>(rt: &R, text: &mut Vec<u8>, number: u64) {
     for unit in [10_000, 1_000, 100, 10, 1] {
         if number >= unit || unit == 1 {
@@ -87,7 +87,7 @@ fn push_number<R: Abort>(rt: &R, text: &mut Vec<u8>, number: u64) {
     }
 }
 
-/// Writes the bounds of a round, in the order of the resources. A dash stands for one that has stopped.
+/// Writes the bounds of a round, in the order of the resources. A dash represents one that has stopped.
 fn tell<R: Abort>(rt: &R, core: &Core, bounds: &Bounds, out: &mut Vec<u8>) {
     out.extend_from_slice(b"below").expect(rt, "memory");
     for (resource, bound) in core.state().resources.iter().zip(bounds.all.iter()) {
@@ -139,7 +139,7 @@ fn hand_out<R: Abort>(rt: &R, system: &System, form: Form, lines: Vec<Line>, out
     forget(lines);
 }
 
-/// Runs a core by rounds to its end, and writes its trace behind what is there.
+/// Runs a core by rounds to its end, and writes its trace after what is there.
 fn run_on<R: Abort>(
     rt: &R,
     alloc: Global,
@@ -176,7 +176,7 @@ fn run_on<R: Abort>(
     rt.panic("it came to no end")
 }
 
-/// Runs a system by rounds to its end, and writes its trace behind what is there.
+/// Runs a system by rounds to its end, and writes its trace after what is there.
 pub fn run_by_hand<R: Abort>(
     rt: &R,
     alloc: Global,

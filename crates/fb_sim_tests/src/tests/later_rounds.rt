@@ -70,7 +70,7 @@ pub fn lines_in(trace: &[u8]) -> u32 {
     lines
 }
 
-/// A run by so many workers writes the same.
+/// A run by this many workers writes the same.
 fn expect_the_same<R: Abort + Threads + Wait + Sync, P: Gate>(
     rt: &R,
     alloc: Global,

@@ -103,7 +103,7 @@ impl Work for Squares {
     }
 }
 
-/// The squares of the numbers below a count, by so many workers.
+/// The squares of the numbers below a count, by this many workers.
 fn squares_of<R: Abort + Threads + Wait + Sync>(
     rt: &R,
     alloc: Global,

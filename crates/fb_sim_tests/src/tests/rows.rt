@@ -12,8 +12,8 @@ use std::process::Abort;
 /// The head of stimuli that are none.
 const NO_STIMULI: &str = "tick,event,values\n";
 
-/// A system, and what its rounds hand out. Before each stand the bounds of all resources that have not stopped, unless they stand before
-/// none.
+/// A system, and what its rounds hand out. Before each are the bounds of all resources that have not stopped, unless
+/// they come before none.
 #[derive(Clone, Copy)]
 struct Row {
     declaration: &'static str,
@@ -117,7 +117,7 @@ const OLD_COPY: Row = Row {
         end 6\n",
 };
 
-/// In the tick of the stop the resource before it has run whole, and the one behind it not at all.
+/// In the tick of the stop the resource before it has run whole, and the one after it not at all.
 const BETWEEN: Row = Row {
     declaration: looper!(
         "APPLICATION A FBS A : E_MERGE; L : LOOPER; C : E_MERGE; END_FBS END_APPLICATION"
@@ -180,7 +180,7 @@ const LATER_STOP: Row = Row {
 };
 
 /// All lines before the stop are handed out in the first round, and in the second R3 comes past the stop.
-const BEHIND_A_STOP: Row = Row {
+const AFTER_A_STOP: Row = Row {
     declaration: looper!(
         "APPLICATION A FBS M : E_MERGE; K : LOOPER; N : E_MERGE; END_FBS END_APPLICATION"
     ),
@@ -303,7 +303,7 @@ static ROWS: [Row; 11] = [
     BETWEEN,
     TWO_STOPS,
     LATER_STOP,
-    BEHIND_A_STOP,
+    AFTER_A_STOP,
     OVERTAKEN,
     TOGETHER,
     KEYS,

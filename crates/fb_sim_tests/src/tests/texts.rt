@@ -4,7 +4,7 @@ use super::ENOUGH;
 use fb_sim::Outcome;
 use fb_types::{Reason, StopMark};
 
-/// A run, and what it comes to. An empty text stands for no deployment, or for no stimuli.
+/// A run, and its result. An empty text means no deployment, or no stimuli.
 #[derive(Clone, Copy)]
 pub struct Case {
     pub declaration: &'static str,
@@ -58,7 +58,7 @@ pub const BETWEEN_TRACE: &str = "7 R1 > A.EI1\n\
     7 R2 < L.TICKED\n\
     stop 7 R2 steps\n";
 
-/// In the tick of the stop the resource before it has run whole, and the one behind it not at all.
+/// In the tick of the stop the resource before it has run whole, and the one after it not at all.
 pub const BETWEEN: Case = Case {
     declaration: looper!(
         "APPLICATION A FBS A : E_MERGE; L : LOOPER; C : E_MERGE; END_FBS END_APPLICATION"

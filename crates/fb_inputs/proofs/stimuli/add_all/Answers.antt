@@ -1,6 +1,6 @@
 use Rattle.std.proofs.Common.{refl, ap, ◌∙◌, length}
 use Rattle.std.proofs.lemmas.Result.{err_from_is_err_and}
-use Rattle.fb_inputs.specs.Stimuli.{all_behind, stimuli_from}
+use Rattle.fb_inputs.specs.Stimuli.{all_after, stimuli_from}
 use Rattle.fb_inputs.specs.Readers.{rows_from}
 use Rattle.fb_inputs.proofs.Records.{at_end, failed_reading}
 use Rattle.fb_inputs.proofs.Rows.{none_left}
@@ -11,7 +11,7 @@ pub loop-read-init : goal.loop-read-init
 loop-read-init c =
     let (z, here) = c.requires in
     rw c.into_iter-read-iterator.ensures.into_iter_gives
-    (z, here, λ y there. ap (λ t. all_behind c.args.found.now (stimuli_from (length c.args.found.now) (rows_from c.args.rows.now.rdr.state t))) (one_left c.args.rows.now y z there here))
+    (z, here, λ y there. ap (λ t. all_after c.args.found.now (stimuli_from (length c.args.found.now) (rows_from c.args.rows.now.rdr.state t))) (one_left c.args.rows.now y z there here))
 
 pub add-requires : goal.add-requires
 add-requires c =

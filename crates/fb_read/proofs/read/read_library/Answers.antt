@@ -1,7 +1,7 @@
 use Rattle.std.proofs.Common.{◌≤◌, length, arith, rules}
 use Rattle.fb_read.specs.declared.error.ReadError.TheVariants as error
 use Rattle.fb_read.specs.Front.{bad_byte, bad_token}
-use Rattle.fb_read.specs.Tokens.{behind_mark, IsFirstFault}
+use Rattle.fb_read.specs.Tokens.{after_mark, IsFirstFault}
 use Rattle.fb_read.specs.Whole.{most_bytes}
 use Rattle.fb_read.proofs.WholeLaws.{is-declared, is-none, is-nesting, no-token-fault, not-byte, not-token, nothing-faulty, barren-faulty, other-fault}
 use Rattle.fb_read.proofs.read.read_library.Goals as goal
@@ -26,10 +26,10 @@ returns-in-Ok-clause-token c =
     let short : length c.args.text.now ≤ most_bytes = omega arith in
     no-token-fault c.args.text.now _ short c.in-Ok.ensures.found c.parse.result error.Token bad_token (not-token c.args.text.now _ short c.in-Ok.ensures.found c.parse.result (rw c.as_slice.ensures at c.parse.ensures))
 
-first-bad_byte : (c : In-Err-Byte) → IsFirstFault bad_byte (behind_mark c.args.text.now)
+first-bad_byte : (c : In-Err-Byte) → IsFirstFault bad_byte (after_mark c.args.text.now)
 first-bad_byte c = search rules
 
-first-bad_token : (c : In-Err-Token) → IsFirstFault bad_token (behind_mark c.args.text.now)
+first-bad_token : (c : In-Err-Token) → IsFirstFault bad_token (after_mark c.args.text.now)
 first-bad_token c = search rules
 
 pub returns-in-Err-Byte-clause-none : goal.returns-in-Err-Byte-clause-none

@@ -7,7 +7,7 @@ use Rattle.fb_read.proofs.TokenLaws.{begun, ended, one_more, unclosed, faulty}
 use Rattle.fb_read.proofs.tokens.lex.Goals as goal
 
 pub tokens-init : goal.tokens-init
-tokens-init c = record { reading = begun _ _ _ c.new-found.ensures c.behind_mark-rest.ensures.value; within = omega arith; few = grind (arith, common_steps) }
+tokens-init c = record { reading = begun _ _ _ c.new-found.ensures c.after_mark-rest.ensures.value; within = omega arith; few = grind (arith, common_steps) }
 
 pub returns-in_default-clause-fault : goal.returns-in_default-clause-fault
 returns-in_default-clause-fault c = let h : skip start c.tokens.rest.now ≡ None = search rules in unclosed _ c.tokens.rest.now _ c.tokens.invariant.reading h

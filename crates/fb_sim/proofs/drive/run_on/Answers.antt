@@ -13,8 +13,8 @@ loop-init g c = record {
   came = λ ls h. came_first c.args.system.now c.args.options ls c.args.first _ h;
 }
 
-pub counted_round-requires-clause-options : goal.counted_round-requires-clause-options
-counted_round-requires-clause-options g c κs w =
+pub round_with_counts-requires-clause-options : goal.round_with_counts-requires-clause-options
+round_with_counts-requires-clause-options g c κs w =
     let o = c.requires.options in
     record {
       horizon_least = o.horizon_least;
@@ -25,8 +25,8 @@ counted_round-requires-clause-options g c κs w =
       workers_most = c.loop.invariant.few;
     }
 
-pub counted_round-requires-clause-come : goal.counted_round-requires-clause-come
-counted_round-requires-clause-come g c κs w =
+pub round_with_counts-requires-clause-come : goal.round_with_counts-requires-clause-come
+round_with_counts-requires-clause-come g c κs w =
     let came = c.loop.invariant.came c.requires.come.0 c.requires.come.1 in
     (_, came.come)
 

@@ -292,19 +292,19 @@ run_counts-loop-preserved t c =
     let turn : Running = Step (Then (RunsAll T body) (Advances T n end step)) in
     let test : Values → Result Bool Reason = λ vars. Ok (not (passed end step (whole (vars n)))) in
     let p : Point = point c.loop.frame c.loop.meter in
-    let m : Point = point c.counted_turn.new.frame c.counted_turn.new.meter in
-    let ran = counted_as (declared_in c.loop.frame) (declared_in c.args.frame.now) n end step body p m (end_of c.counted_turn.result) Went c.loop.invariant.declared
-    (ended_by c.counted_turn.result c.in_ok-counted_turn.field-0 flow.Went c.in_ok-counted_turn.was c.in-Went.is) c.counted_turn.ensures.run in
+    let m : Point = point c.turn_of_for.new.frame c.turn_of_for.new.meter in
+    let ran = counted_as (declared_in c.loop.frame) (declared_in c.args.frame.now) n end step body p m (end_of c.turn_of_for.result) Went c.loop.invariant.declared
+    (ended_by c.turn_of_for.result c.in_ok-turn_of_for.field-0 flow.Went c.in_ok-turn_of_for.was c.in-Went.is) c.turn_of_for.ensures.run in
     let here : passed end step (whole (values_of c.loop.frame n)) ≡ false = c.loop.invariant.within in
     record {
       run = λ e q rest. c.loop.invariant.run e q (loop_goes_on test turn p m (ap (λ b. Ok (not b)) here) ran e q rest);
-      declared = c.counted_turn.ensures.declared ∙ c.loop.invariant.declared;
-      fewer = let a = c.counted_turn.ensures.fewer in let b = c.loop.invariant.fewer in omega arith;
-      within = c.in_ok-counted_turn.ensures.within c.in-Went.is;
+      declared = c.turn_of_for.ensures.declared ∙ c.loop.invariant.declared;
+      fewer = let a = c.turn_of_for.ensures.fewer in let b = c.loop.invariant.fewer in omega arith;
+      within = c.in_ok-turn_of_for.ensures.within c.in-Went.is;
     }
 
-pub run_counts-returns-in_err-counted_turn-clause-run : goal.run_counts-returns-in_err-counted_turn-clause-run
-run_counts-returns-in_err-counted_turn-clause-run t c =
+pub run_counts-returns-in_err-turn_of_for-clause-run : goal.run_counts-returns-in_err-turn_of_for-clause-run
+run_counts-returns-in_err-turn_of_for-clause-run t c =
     let n : Name = c.args.variable.now in
     let body : Stmts = all_of c.args.body.now in
     let T : Types = types_in (declared_in c.args.frame.now) in
@@ -313,11 +313,11 @@ run_counts-returns-in_err-counted_turn-clause-run t c =
     let turn : Running = Step (Then (RunsAll T body) (Advances T n end step)) in
     let test : Values → Result Bool Reason = λ vars. Ok (not (passed end step (whole (vars n)))) in
     let p : Point = point c.loop.frame c.loop.meter in
-    let r : Reason = c.in_err-counted_turn.field-0.0 in
+    let r : Reason = c.in_err-turn_of_for.field-0.0 in
     let here : passed end step (whole (values_of c.loop.frame n)) ≡ false = c.loop.invariant.within in
-    let m : Point = point c.counted_turn.new.frame c.counted_turn.new.meter in
-    let ran = counted_as (declared_in c.loop.frame) (declared_in c.args.frame.now) n end step body p m (end_of c.counted_turn.result) (Stopped r) c.loop.invariant.declared
-    (stopped_by c.counted_turn.result r c.in_err-counted_turn.was) c.counted_turn.ensures.run in
+    let m : Point = point c.turn_of_for.new.frame c.turn_of_for.new.meter in
+    let ran = counted_as (declared_in c.loop.frame) (declared_in c.args.frame.now) n end step body p m (end_of c.turn_of_for.result) (Stopped r) c.loop.invariant.declared
+    (stopped_by c.turn_of_for.result r c.in_err-turn_of_for.was) c.turn_of_for.ensures.run in
     let x = err_from_is_err_and c.from_residual.result c.from_residual.ensures.1 in
     rw (x.1, x.2) (c.loop.invariant.run (Stopped r) m (loop_stopped test turn p m r (ap (λ b. Ok (not b)) here) ran))
 
@@ -332,9 +332,9 @@ run_counts-returns-in-Left-clause-run t c =
     let test : Values → Result Bool Reason = λ vars. Ok (not (passed end step (whole (vars n)))) in
     let p : Point = point c.loop.frame c.loop.meter in
     let here : passed end step (whole (values_of c.loop.frame n)) ≡ false = c.loop.invariant.within in
-    let m : Point = point c.counted_turn.new.frame c.counted_turn.new.meter in
-    let ran = counted_as (declared_in c.loop.frame) (declared_in c.args.frame.now) n end step body p m (end_of c.counted_turn.result) Left c.loop.invariant.declared
-    (ended_by c.counted_turn.result c.in_ok-counted_turn.field-0 flow.Left c.in_ok-counted_turn.was c.in-Left.is) c.counted_turn.ensures.run in
+    let m : Point = point c.turn_of_for.new.frame c.turn_of_for.new.meter in
+    let ran = counted_as (declared_in c.loop.frame) (declared_in c.args.frame.now) n end step body p m (end_of c.turn_of_for.result) Left c.loop.invariant.declared
+    (ended_by c.turn_of_for.result c.in_ok-turn_of_for.field-0 flow.Left c.in_ok-turn_of_for.was c.in-Left.is) c.turn_of_for.ensures.run in
     c.loop.invariant.run Went m (loop_left test turn p m (ap (λ b. Ok (not b)) here) ran)
 
 pub run_counts-returns-in-Returned-clause-run : goal.run_counts-returns-in-Returned-clause-run
@@ -348,9 +348,9 @@ run_counts-returns-in-Returned-clause-run t c =
     let test : Values → Result Bool Reason = λ vars. Ok (not (passed end step (whole (vars n)))) in
     let p : Point = point c.loop.frame c.loop.meter in
     let here : passed end step (whole (values_of c.loop.frame n)) ≡ false = c.loop.invariant.within in
-    let m : Point = point c.counted_turn.new.frame c.counted_turn.new.meter in
-    let ran = counted_as (declared_in c.loop.frame) (declared_in c.args.frame.now) n end step body p m (end_of c.counted_turn.result) Returned c.loop.invariant.declared
-    (ended_by c.counted_turn.result c.in_ok-counted_turn.field-0 flow.Returned c.in_ok-counted_turn.was c.in-Returned.is) c.counted_turn.ensures.run in
+    let m : Point = point c.turn_of_for.new.frame c.turn_of_for.new.meter in
+    let ran = counted_as (declared_in c.loop.frame) (declared_in c.args.frame.now) n end step body p m (end_of c.turn_of_for.result) Returned c.loop.invariant.declared
+    (ended_by c.turn_of_for.result c.in_ok-turn_of_for.field-0 flow.Returned c.in_ok-turn_of_for.was c.in-Returned.is) c.turn_of_for.ensures.run in
     c.loop.invariant.run Returned m (loop_returned test turn p m (ap (λ b. Ok (not b)) here) ran)
 
 -- ---- One assignment

@@ -97,8 +97,8 @@ decreases-run_branch l = max (6 * most branch.the_size l.branches.now) (6 * most
 abbrev pub decreases-turn : goal.decreases-turn
 decreases-turn l = 6 * most stmt.the_size l.body.now + 3
 
-abbrev pub decreases-counted_turn : goal.decreases-counted_turn
-decreases-counted_turn l = 6 * most stmt.the_size l.body.now + 3
+abbrev pub decreases-turn_of_for : goal.decreases-turn_of_for
+decreases-turn_of_for l = 6 * most stmt.the_size l.body.now + 3
 
 abbrev pub decreases-run_while : goal.decreases-run_while
 decreases-run_while l = 6 * most stmt.the_size l.body.now + 4

@@ -1,6 +1,6 @@
 use Rattle.std.proofs.Common.{◌++◌}
 use Rattle.fb_wave.specs.Signals.{sizes_of}
-use Rattle.fb_wave.specs.Told.{fires_of, tells_of, touches_of}
+use Rattle.fb_wave.specs.Told.{fires_of, has_signal, touches_of}
 use Rattle.fb_wave.proofs.Telling.{turn_next, turn_same}
 use Rattle.fb_wave.proofs.Handing.{on_ok}
 use Rattle.fb_wave.proofs.dump.turn.Goals as goal
@@ -15,6 +15,6 @@ returns-clause-turned c sys ls sent t =
     (λ e.
     turn_next sys ls sent c.args.text.now.items c.put_changes.new.text.items c.put_time.new.text.items c.args.told c.args.tick c.args.levels.now c.put_changes.new.levels
     c.if-tick-told.false t
-    (c.in_ok-put_changes.ensures.text (sizes_of sys sys.paths) (fires_of sys ls) (tells_of sys ls) (touches_of sys t.now) t.levels)
+    (c.in_ok-put_changes.ensures.text (sizes_of sys sys.paths) (fires_of sys ls) (has_signal sys ls) (touches_of sys t.now) t.levels)
     e
-    (c.in_ok-put_changes.ensures.levels (sizes_of sys sys.paths) (fires_of sys ls) (tells_of sys ls) (touches_of sys t.now) t.levels))
+    (c.in_ok-put_changes.ensures.levels (sizes_of sys sys.paths) (fires_of sys ls) (has_signal sys ls) (touches_of sys t.now) t.levels))

@@ -1,7 +1,7 @@
 use Rattle.std.proofs.Common.{ℕ, ◌++◌, ap, ◌∙◌, arith}
 use Rattle.fb_types.specs.Names.{Name}
 use Rattle.fb_types.specs.declared.library.EventPort.{EventPort}
-use Rattle.fb_wave.specs.Scopes.{event_in, events_told}
+use Rattle.fb_wave.specs.Scopes.{event_in, event_declarations}
 use Rattle.fb_wave.proofs.Declaring.{events_go}
 use Rattle.fb_wave.proofs.Listing.{going_on, gone_all}
 use Rattle.fb_wave.proofs.signals.put_events.Goals as goal
@@ -14,7 +14,7 @@ loop-event-preserved c =
     record {
       number = omega (arith, c.loop-event.invariant.number);
       text =
-          going_on (events_told event) (λ (n : ℕ) (e : EventPort). event n e.name) c.args.text.now.items text c.put_event.new.text.items c.args.first s c.loop-event.event-index
+          going_on (event_declarations event) (λ (n : ℕ) (e : EventPort). event n e.name) c.args.text.now.items text c.put_event.new.text.items c.args.first s c.loop-event.event-index
           c.args.events.now c.event-item.result (events_go event) c.loop-event-test.true c.event-item.is
           (c.in_ok-put_event.ensures ∙ ap (λ (n : Name). text ++ event s n) c.as_bytes.ensures) c.loop-event.invariant.text;
     }
@@ -22,5 +22,5 @@ loop-event-preserved c =
 pub returns : goal.returns
 returns c =
     let event = event_in c.args.part in
-    gone_all (events_told event) (λ (n : ℕ) (e : EventPort). event n e.name) c.args.text.now.items c.loop-event.text.items c.args.first c.loop-event.signal
+    gone_all (event_declarations event) (λ (n : ℕ) (e : EventPort). event n e.name) c.args.text.now.items c.loop-event.text.items c.args.first c.loop-event.signal
     c.loop-event.event-index c.args.events.now (events_go event) (omega (arith, c.loop-event-test.false)) c.loop-event.invariant.text

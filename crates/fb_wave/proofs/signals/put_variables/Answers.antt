@@ -1,5 +1,5 @@
 use Rattle.std.proofs.Common.{arith}
-use Rattle.fb_wave.specs.Scopes.{carried_told, variable_in, variables_told}
+use Rattle.fb_wave.specs.Scopes.{carried_declarations, variable_in, variable_declarations}
 use Rattle.fb_wave.proofs.Declaring.{variables_go}
 use Rattle.fb_wave.proofs.Listing.{going_on, gone_all}
 use Rattle.fb_wave.proofs.signals.put_variables.Goals as goal
@@ -11,7 +11,7 @@ loop-variable-preserved c =
     record {
       number = omega (arith, c.loop-variable.invariant.number);
       text =
-          going_on (variables_told variable events) (carried_told variable events) c.args.text.now.items c.loop-variable.text.items c.put_variable.new.text.items c.args.first
+          going_on (variable_declarations variable events) (carried_declarations variable events) c.args.text.now.items c.loop-variable.text.items c.put_variable.new.text.items c.args.first
           c.loop-variable.signal c.loop-variable.variable-index c.args.variables.now c.variable-item.result (variables_go variable events) c.loop-variable-test.true
           c.variable-item.is c.in_ok-put_variable.ensures c.loop-variable.invariant.text;
     }
@@ -20,5 +20,5 @@ pub returns : goal.returns
 returns c =
     let variable = variable_in c.args.part in
     let events = c.args.events.now in
-    gone_all (variables_told variable events) (carried_told variable events) c.args.text.now.items c.loop-variable.text.items c.args.first c.loop-variable.signal
+    gone_all (variable_declarations variable events) (carried_declarations variable events) c.args.text.now.items c.loop-variable.text.items c.args.first c.loop-variable.signal
     c.loop-variable.variable-index c.args.variables.now (variables_go variable events) (omega (arith, c.loop-variable-test.false)) c.loop-variable.invariant.text

@@ -4,7 +4,7 @@ use Rattle.fb_types.specs.Headline.{Inputs, system_of}
 use Rattle.fb_types.specs.Names.{Name}
 use Rattle.fb_types.specs.Repeated.{Twice}
 use Rattle.fb_wave.specs.Ports.{port_text}
-use Rattle.fb_wave.specs.Writing.{HasTold, IsDump}
+use Rattle.fb_wave.specs.Writing.{HasShown, IsDump}
 use Rattle.fb_wave.specs.Tables.{IsTable}
 use Rattle.fb_wave.specs.declared.table.PortTable.{PortTable}
 use Rattle.fb_wave.specs.Named.{HasNames}
@@ -28,7 +28,7 @@ copy-requires-clause-dump g c =
 
 pub copy-requires-clause-told : goal.copy-requires-clause-told
 copy-requires-clause-told g c =
-    subst (λ (s : Inputs). HasTold (system_of s) [] c.begin.new.text.items c.in_ok-dump.dump) (sym (of_table _ c.in-Some.table c.args.system.now c.in-Some.is c.in_ok-table.ensures.table))
+    subst (λ (s : Inputs). HasShown (system_of s) [] c.begin.new.text.items c.in_ok-dump.dump) (sym (of_table _ c.in-Some.table c.args.system.now c.in-Some.is c.in_ok-table.ensures.table))
     (c.in_ok-dump.ensures.told c.new-page.ensures.empty)
 
 pub returns-clause-whole : goal.returns-clause-whole

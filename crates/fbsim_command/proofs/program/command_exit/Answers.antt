@@ -10,10 +10,10 @@ returns g c =
     let end = c.obey-answer.result.end in
     let note = option_map string_bytes c.obey-answer.result.note in
     let heard = c.obey-answer.result.is_heard in
-    let told = c.tell_end-is_told.result in
+    let told = c.report_end-is_told.result in
     let old = g.E.Write.contents c.args.err.now in
     let mid = g.E.Write.contents c.obey-answer.new.err in
-    let new = g.E.Write.contents c.tell_end-is_told.new.err in
+    let new = g.E.Write.contents c.report_end-is_told.new.err in
     let reports = c.obey-answer.ensures.0 in
     let hears = c.obey-answer.ensures.1 in
     let all : c.if-answer.result ≡ (heard && told) =
@@ -26,6 +26,6 @@ returns g c =
       note,
       c.status.ensures,
       c.obey-answer.ensures.2,
-      λ is. told_all heard told old mid new reports (told_of end note) hears c.tell_end-is_told.ensures.told (subst (λ (b : Bool). IsTrue b) all is),
-      quiet_all heard old mid new reports end hears c.tell_end-is_told.ensures.quiet,
+      λ is. told_all heard told old mid new reports (told_of end note) hears c.report_end-is_told.ensures.told (subst (λ (b : Bool). IsTrue b) all is),
+      quiet_all heard old mid new reports end hears c.report_end-is_told.ensures.quiet,
     )

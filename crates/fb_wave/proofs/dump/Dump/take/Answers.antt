@@ -3,7 +3,7 @@ use Rattle.fb_types.specs.Headline.{system_of}
 use Rattle.fb_types.specs.declared.value.Value.{Value}
 use Rattle.fb_wave.specs.Levels.{AreLevels}
 use Rattle.fb_wave.specs.Signals.{sizes_of}
-use Rattle.fb_wave.specs.Told.{fires_of, pairs, tells_of, touches_of}
+use Rattle.fb_wave.specs.Told.{fires_of, pairs, has_signal, touches_of}
 use Rattle.fb_wave.proofs.Marking.{line_once, marks_told}
 use Rattle.fb_wave.proofs.Telling.{tells_more}
 use Rattle.fb_wave.proofs.Handing.{on_any, on_ok}
@@ -19,12 +19,12 @@ returns-clause-told c ls sent t =
     let u = c.in_ok-turn.ensures.turned sys ls sent t in
     let more : List Value → List (ℕ × Value) = λ vs. pairs (map (λ k. m.first + k) m.indexes.now) vs in
     let at : List Value → Type 0 =
-    λ vs. AreLevels n (fires ++ m.event ∷ []) (tells_of sys ls ++ more vs) ((touches_of sys u.now ++ m.event ∷ []) ++ map (λ (p : ℕ × Value). p.0) (more vs)) c.tell.new.levels
+    λ vs. AreLevels n (fires ++ m.event ∷ []) (has_signal sys ls ++ more vs) ((touches_of sys u.now ++ m.event ∷ []) ++ map (λ (p : ℕ × Value). p.0) (more vs)) c.tell.new.levels
     in
-    on_ok c.tell.result _ _ (c.tell.ensures.levels n fires (tells_of sys ls) (touches_of sys u.now) u.levels)
+    on_ok c.tell.result _ _ (c.tell.ensures.levels n fires (has_signal sys ls) (touches_of sys u.now) u.levels)
     (λ told.
     tells_more sys ls (sent ++ c.turn.new.text.items) l c.turn.new.levels c.tell.new.levels u
-    (marks_told sys l m n fires (touches_of sys u.now) (tells_of sys ls) c.tell.new.levels
+    (marks_told sys l m n fires (touches_of sys u.now) (has_signal sys ls) c.tell.new.levels
     (line_once c.args.system.now l c.facts.ensures.accepted) c.marks_of-marks.ensures
     (subst at c.as_slice-values.ensures told)))
 

@@ -6,7 +6,7 @@ use Rattle.fb_wave.proofs.levels.Levels.note.Goals as goal
 pub returns-then-index-clause-levels : goal.returns-then-index-clause-levels
 returns-then-index-clause-levels c n f t u all =
     noted_old n f t u c.args.self.now c.args.signal c.index.result.now all c.requires.signal
-    (ap (λ (x : Cell). x.is_noted) (sym c.index.ensures) ∙ c.if-index.true)
+    (ap (λ (x : Cell). x.is_marked) (sym c.index.ensures) ∙ c.if-index.true)
 
 pub returns-clause-levels : goal.returns-clause-levels
 returns-clause-levels c n f t u all =
@@ -14,7 +14,7 @@ returns-clause-levels c n f t u all =
     let s = c.args.signal in
     let here = c.index_mut.result.now in
     noted_new n f t u c.args.self.now _ s here all c.requires.signal
-    ((all.cells s here c.requires.signal).is_noted ∙ sym ((all.cells s c.index.result.now c.requires.signal).is_noted)
-    ∙ ap (λ (x : Cell). x.is_noted) (sym c.index.ensures) ∙ c.if-index.false)
-    (ap (λ (x : Cell). set items s (record { shown = x.shown; is_noted = true })) c.index_mut.ensures.value)
+    ((all.cells s here c.requires.signal).is_marked ∙ sym ((all.cells s c.index.result.now c.requires.signal).is_marked)
+    ∙ ap (λ (x : Cell). x.is_marked) (sym c.index.ensures) ∙ c.if-index.false)
+    (ap (λ (x : Cell). set items s (record { shown = x.shown; is_marked = true })) c.index_mut.ensures.value)
     c.in_ok-push.ensures.items

@@ -10,4 +10,4 @@ returns-clause-levels c n f t u all =
     let s = c.args.signal in
     c.note.ensures.levels n f (t ++ (s, c.args.value) ∷ []) u
     (told_one n f t u c.args.self.now _ s c.index_mut.result.now c.args.value all c.requires.signal
-    (ap (λ (x : Cell). set items s (record { shown = Last c.args.value; is_noted = x.is_noted })) c.index_mut.ensures.value) refl)
+    (ap (λ (x : Cell). set items s (record { shown = Last c.args.value; is_marked = x.is_marked })) c.index_mut.ensures.value) refl)

@@ -54,8 +54,8 @@ returns-clause-turned c =
       ran = subst (λ (z : Inputs). HasRun z old.steps before c.args.to (Ran after output.lines output.sent output.stop)) c.requires.system c.in_ok-output.ensures;
       given = subst (λ (z : Inputs). AreGiven (system_of z) output.sent.items (slice_set xs index after) c.give.new.resources.items) c.requires.system c.in_ok-give.ensures.given;
       kept = kept;
-      lines = c.put_behind.new.kept;
+      lines = c.append_lines.new.kept;
       kept_was = slice_get_read ps (length ps) index kept refl within_too c.index_mut-2.ensures.value;
-      joined = c.in_ok-put_behind.ensures;
+      joined = c.in_ok-append_lines.ensures;
       pending = refl;
     }

@@ -4,7 +4,7 @@ use Rattle.fb_types.specs.declared.value.Value.{Value}
 use Rattle.fb_wave.specs.Levels.{AreLevels}
 use Rattle.fb_wave.specs.Told.{pairs}
 use Rattle.fb_wave.proofs.Pairing.{length-pairs, pairs-more, told-more}
-use Rattle.fb_wave.proofs.dump.tell_all.Goals as goal
+use Rattle.fb_wave.proofs.dump.show_values.Goals as goal
 
 pub loop-index-preserved : goal.loop-index-preserved
 loop-index-preserved c =

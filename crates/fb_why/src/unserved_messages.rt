@@ -1,6 +1,6 @@
 //! The text for a data connection between two resources that no event serves (E28).
 
-use crate::tell_unlinked::push_resource;
+use crate::unlinked_messages::push_resource;
 use fb_types::{Application, Plan};
 use fb_why_kinds::Text;
 

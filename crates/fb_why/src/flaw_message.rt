@@ -1,18 +1,18 @@
 //! The text for a location in a declaration and a deployment (E20 to E28).
 
+use crate::height_messages::push_descent;
+use crate::joined_messages::push_joined;
 use crate::spot::Spot;
-use crate::tell_heights::push_descent;
-use crate::tell_joined::push_joined;
-use crate::tell_twice::push_given;
-use crate::tell_unlinked::push_unlinked;
-use crate::tell_unmapped::push_unmapped;
-use crate::tell_unserved::push_unserved;
+use crate::twice_messages::push_given;
+use crate::unlinked_messages::push_unlinked;
+use crate::unmapped_messages::push_unmapped;
+use crate::unserved_messages::push_unserved;
 use fb_types::{Library, Plan};
-use fb_why_kinds::{Text, tell_misfit, tell_misjoin, tell_unknown};
+use fb_why_kinds::{Text, misfit_message, misjoin_message, tell_unknown};
 use std::alloc::{AllocError, Global};
 
 /// Says where the refusal applies, and what is wrong there.
-pub fn tell_flaw(
+pub fn flaw_message(
     alloc: Global,
     library: &Library,
     plan: &Plan,
@@ -20,8 +20,8 @@ pub fn tell_flaw(
 ) -> Result<String, AllocError> {
     match location {
         Spot::Unknown(location) => tell_unknown(alloc, library, plan, location),
-        Spot::Misfit(location) => tell_misfit(alloc, library, location),
-        Spot::Misjoin(location) => tell_misjoin(alloc, library, location),
+        Spot::Misfit(location) => misfit_message(alloc, library, location),
+        Spot::Misjoin(location) => misjoin_message(alloc, library, location),
         _ => {
             let mut text = Text::new(alloc);
             push_location(&mut text, library, plan, location);

@@ -3,7 +3,7 @@ use Rattle.std.specs.Prelude.{IfSome, Option, Some, None}
 use Rattle.std.specs.Borrow.{Bor}
 use Rattle.fb_expect.specs.Events.{IsKeyText, IsNumberText}
 use Rattle.fb_expect.specs.Words.{Text}
-use Rattle.fb_expect.proofs.event.behind_key.Goals as goal
+use Rattle.fb_expect.proofs.event.after_key.Goals as goal
 
 abbrev Behind : (most : ℕ) → (text rest : Text) → Type 0
 Behind most text rest = (head : Text) × IsNumberText most head × (text ≡ head ++ rest)
@@ -19,4 +19,4 @@ key text first second (Some rest) a b c = (
 )
 
 pub returns : goal.returns
-returns c = key c.args.text.now c.in_ok-behind_class.behind_class.now c.in_ok-behind_first.behind_first.now c.behind_number-3.result c.in_ok-behind_class.ensures c.in_ok-behind_first.ensures c.behind_number-3.ensures
+returns c = key c.args.text.now c.in_ok-after_class.after_class.now c.in_ok-after_first.after_first.now c.after_number-3.result c.in_ok-after_class.ensures c.in_ok-after_first.ensures c.after_number-3.ensures

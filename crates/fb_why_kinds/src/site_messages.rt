@@ -1,7 +1,7 @@
 //! Words for networks, block types and instances, and how they are found.
 
 use crate::location::Site;
-use crate::networks::PlacedNetwork;
+use crate::networks::LocatedNetwork;
 use crate::words::Text;
 use fb_types::{BasicType, BlockType, Instance, Library, Transition};
 
@@ -34,15 +34,15 @@ pub(crate) fn push_site(text: &mut Text, library: &Library, site: Site) {
 }
 
 /// The network of a site, with the composite type around it.
-pub(crate) fn scope_of(library: &Library, site: Site) -> Option<PlacedNetwork> {
+pub(crate) fn scope_of(library: &Library, site: Site) -> Option<LocatedNetwork> {
     match site {
-        Site::Application => Some(PlacedNetwork {
+        Site::Application => Some(LocatedNetwork {
             composite: None,
             network: &library.application.network,
         }),
         Site::Inside(block) => match library.blocks.get(block)? {
             BlockType::Basic(_) => None,
-            BlockType::Composite(composite) => Some(PlacedNetwork {
+            BlockType::Composite(composite) => Some(LocatedNetwork {
                 composite: Some(composite),
                 network: &composite.network,
             }),

@@ -3,10 +3,10 @@
 use crate::location::{Misfit, Misjoin, Site, StatementPart, Variables};
 use crate::misfits::internals_of;
 use crate::misjoins::type_at_end;
-use crate::statements::{Standing, all_statements};
-use crate::tell_sites::{
+use crate::site_messages::{
     instance_of, push_basic, push_block, push_instance, push_site, push_transition, scope_of,
 };
+use crate::statements::{Standing, all_statements};
 use crate::types::type_named;
 use crate::words::{Text, type_words};
 use fb_check_types::{Typing, sort_of, sort_of_type};
@@ -14,7 +14,7 @@ use fb_types::{BasicType, BlockType, Choice, Expr, Library, Reference, Sort, Stm
 use std::alloc::{AllocError, Global};
 
 /// Says where a value, an expression or a statement has the wrong kind.
-pub fn tell_misfit(
+pub fn misfit_message(
     alloc: Global,
     library: &Library,
     location: Misfit,
@@ -25,7 +25,7 @@ pub fn tell_misfit(
 }
 
 /// Says which data connection leads out of range.
-pub fn tell_misjoin(
+pub fn misjoin_message(
     alloc: Global,
     library: &Library,
     location: Misjoin,
@@ -72,7 +72,7 @@ fn push_misfit(
 }
 
 /// Adds that a value of the type is expected.
-fn push_wanted(text: &mut Text, ty: Ty) {
+fn push_expected(text: &mut Text, ty: Ty) {
     text.words(": a value of ");
     text.words(type_words(ty));
     text.words(" is expected");
@@ -99,7 +99,7 @@ fn push_variable(text: &mut Text, words: &str, variable: &Variable) {
         text.words(" := ");
         text.value(value);
     }
-    push_wanted(text, variable.ty);
+    push_expected(text, variable.ty);
 }
 
 fn push_parameter(
@@ -122,7 +122,7 @@ fn push_parameter(
         return;
     };
     if let Some(ty) = kind.input_type(&parameter.name) {
-        push_wanted(text, ty);
+        push_expected(text, ty);
     }
 }
 
@@ -139,7 +139,7 @@ fn push_guard(text: &mut Text, library: &Library, block: usize, transition: usiz
     }
 }
 
-fn words_for_wanted(sort: Sort) -> &'static str {
+fn words_for_expected(sort: Sort) -> &'static str {
     match sort {
         Sort::TruthValue => ": a truth value is expected, and ",
         Sort::WholeNumber => ": a number is expected, and ",
@@ -149,7 +149,7 @@ fn words_for_wanted(sort: Sort) -> &'static str {
 /// Adds words for an expression, the kind that is expected, and its kind.
 fn push_kind(text: &mut Text, basic: &BasicType, words: &str, (wanted, expr): (Sort, &Expr)) {
     text.words(words);
-    text.words(words_for_wanted(wanted));
+    text.words(words_for_expected(wanted));
     text.words(match sort_of(expr, basic) {
         Some(Sort::TruthValue) => "it is a truth value",
         Some(Sort::WholeNumber) => "it is a number",

@@ -1,6 +1,6 @@
 use Rattle.std.proofs.Common.{Ok, Err}
 use Rattle.fbsim_command.proofs.Reporting.{ends_as, fails_as, reported}
-use Rattle.fbsim_command.proofs.program.run_and_tell.Goals as goal
+use Rattle.fbsim_command.proofs.program.run_and_report.Goals as goal
 
 pub returns-in-Ok-clause-told : goal.returns-in-Ok-clause-told
 returns-in-Ok-clause-told g c =

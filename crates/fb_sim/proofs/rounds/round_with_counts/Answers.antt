@@ -1,11 +1,11 @@
 use Rattle.std.proofs.Common.{Ok, length, ap, refl, subst, sym}
 use Rattle.fb_laws.specs.Sound.{AreGood}
 use Rattle.fb_laws.specs.Finality.{core_of}
-use Rattle.fb_sim.specs.Rounds.{CountedRounds}
+use Rattle.fb_sim.specs.Rounds.{RoundsWithCounts}
 use Rattle.fb_sim.specs.declared.progress.Round.{Round}
 use Rattle.fb_sim.specs.declared.tally.Tally.{Tally}
 use Rattle.fb_sim.proofs.WindowIs.{counted_failed, counted_passed, counted_wanting, counted_whole, home_since}
-use Rattle.fb_sim.proofs.rounds.counted_round.Goals as goal
+use Rattle.fb_sim.proofs.rounds.round_with_counts.Goals as goal
 
 pub window-requires-clause-come : goal.window-requires-clause-come
 window-requires-clause-come g c κs w =
@@ -57,5 +57,5 @@ returns g c ls h =
     let home = home_since c.args.system.now o.steps o.horizon before ls _ walked _ (c.in_ok-settled.ensures.home ls walked.way) in
     let whole = c.in_ok-bytes.ensures.whole in
     let tally : Tally = record { bytes = c.in_ok-bytes.bytes; busy = c.in_ok-settled.busy; lines = c.in_ok-settled.lines; final_lines = length c.lines_of-finals.result.now } in
-    subst (λ (r : Round). CountedRounds c.args.system.now o before ls old new (Ok (r, tally))) (sym c.round_of.ensures)
+    subst (λ (r : Round). RoundsWithCounts c.args.system.now o before ls old new (Ok (r, tally))) (sym c.round_of.ensures)
     (counted_whole c.args.system.now o before ls old new c.in_ok-settled.settled tally home (rw c.lines_of-finals.ensures at whole.0) (rw c.lines_of-finals.ensures at whole.1) (ap length c.lines_of-finals.ensures))

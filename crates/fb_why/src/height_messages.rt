@@ -17,7 +17,7 @@ pub fn push_descent(text: &mut Text, library: &Library, location: Descent) {
     match location {
         Descent::Circle(_, _) => {
             text.named(": ", &composite.name);
-            text.words(" holds itself through it");
+            text.words(" contains itself through it");
         }
         Descent::Height(_, _) => text.words(": composites nest more than 16 deep through it"),
     }

@@ -1,7 +1,7 @@
 use Rattle.std.proofs.Common.{append-nil}
 use Rattle.fb_trace.proofs.Ends.{all_got, part_passed}
 use Rattle.fb_trace.proofs.Steps.{Fails-after}
-use Rattle.fb_trace.proofs.lines.write_counted.Goals as goal
+use Rattle.fb_trace.proofs.lines.write_lines_with_count.Goals as goal
 
 pub returns-clause-whole : goal.returns-clause-whole
 returns-clause-whole g c =

@@ -2,7 +2,7 @@ use Rattle.std.proofs.Common.{◌≡◌, ◌+◌, ◌<◌, length, map, take}
 use Rattle.std.specs.Prelude.{All}
 use Rattle.fb_wave.specs.Told.{pairs}
 use Rattle.fb_wave.proofs.Pairing.{AreTold}
-use Rattle.fb_wave.proofs.dump.tell_all.Given as goal
+use Rattle.fb_wave.proofs.dump.show_values.Given as goal
 
 abbrev pub invariant-loop-index : goal.invariant-loop-index
 invariant-loop-index l = record {

@@ -1,5 +1,5 @@
 use Rattle.std.proofs.Common.{ℕ, List, ◌++◌, codes, refl, sym, ap, ◌∙◌, append_assoc}
-use Rattle.fb_expect.proofs.event.behind_number.Goals as goal
+use Rattle.fb_expect.proofs.event.after_number.Goals as goal
 
 pub returns-then-is_number : goal.returns-then-is_number
 returns-then-is_number c =
