@@ -4,7 +4,7 @@ use Rattle.std.specs.Prelude.{slice_get, option_map, option_and_then, position, 
 use Rattle.std.specs.Bool.{Decides}
 use Rattle.std.proofs.lemmas.Bool.{true≢false, false_from_ne_true}
 use Rattle.fb_types.specs.Names.{Name, same_name}
-use Rattle.fb_types.specs.Blocks.{Kind, named, ports_of, variable_names}
+use Rattle.fb_types.specs.Blocks.{Kind, named, ports_of, variable_names, type_at}
 use Rattle.fb_types.specs.Flat.{kind_of_instance, instance_in}
 use Rattle.fb_types.specs.Joined.{OutOfRange, IsWithin, type_among, type_at_end}
 use Rattle.fb_types.specs.Repeated.{Placed, NameTwice, networks, networks_in, instance_names}
@@ -26,7 +26,7 @@ use Rattle.fb_check_names.specs.declared.numbers.NetworkNumbers.{NetworkNumbers}
 use Rattle.fb_check_names.specs.declared.numbers.Resolved.{Resolved}
 use Rattle.fb_check_names.specs.Numbers.{IsNetwork, IsResolved, index_of, type_number, kind_of_number, ports_at_index, end_at, end_number, both_ends, data_wire}
 use Rattle.fb_check_networks.specs.Ranges.{is_within}
-use Rattle.fb_check_networks.specs.Variables.{type_at, source_type, target_type}
+use Rattle.fb_check_networks.specs.Variables.{source_type, target_type}
 use Rattle.fb_types.proofs.Options.{and_then_parts, map_parts}
 use Rattle.fb_check_names.proofs.Each.{each_at, each_from}
 use Rattle.fb_types.proofs.ByIndex.{element_of_index, index_of_element}

@@ -1,7 +1,6 @@
 -- What the numbers of types and the indices of ports say of the names that they stand for.
-use Rattle.std.proofs.Common.{◌≡◌, ℕ, zero, suc, List, [], ◌∷◌, ◌++◌, map, Some, None, Contains, refl, sym, ◌∙◌, ap, subst, inl, inr}
-use Rattle.std.specs.Prelude.{slice_get, option_map, option_and_then, position, flat_map, codes}
-use Rattle.std.proofs.lemmas.Bool.{true≢false}
+use Rattle.std.proofs.Common.{◌≡◌, ℕ, zero, suc, List, [], ◌∷◌, ◌++◌, map, Some, None, Contains, refl, ◌∙◌, ap, subst, inl, inr}
+use Rattle.std.specs.Prelude.{slice_get, option_map, option_and_then, position, flat_map}
 use Rattle.std.proofs.lemmas.List.Elements.{Contains-append_left, Contains-append_right}
 use Rattle.fb_types.specs.Names.{Name, same_name}
 use Rattle.fb_types.specs.Blocks.{Kind, Event, named, event_blocks, event_names, variable_names, ports_of, ports_of_event_block}
@@ -13,12 +12,12 @@ use Rattle.fb_types.specs.declared.library.BlockType.TheVariants as block
 use Rattle.fb_types.specs.declared.library.CompositeType.{CompositeType}
 use Rattle.fb_types.specs.declared.library.Ports.{Ports}
 use Rattle.fb_types.specs.declared.event_kind.EventKind.{EventKind}
-use Rattle.fb_types.specs.declared.event_kind.EventKind.TheVariants.{Restart, Split, Merge, Rendezvous, Permit, Select, Switch, Delay, Cycle, SetReset, DataLatch, RisingEdge, FallingEdge, CountUp}
 use Rattle.fb_types.specs.declared.deploy.Plan.{Plan}
 use Rattle.fb_types.proofs.Positions.{named-position}
 use Rattle.fb_types.proofs.TwiceLaws.{Twice-append_left, Twice-both}
 use Rattle.fb_types.proofs.Elements.{Contains-nil, Contains-cons_cases, Contains-here, Contains-there, Contains-map}
 use Rattle.fb_types.proofs.ByIndex.{element_of_index}
+use Rattle.fb_types.proofs.EventNames.{variables_once}
 use Rattle.fb_check_names.specs.declared.numbers.TypeNumber.{TypeNumber}
 use Rattle.fb_check_names.specs.declared.numbers.TypeNumber.TheVariants as number
 use Rattle.fb_check_names.specs.Numbers.{index_of, type_number, kind_of_number}
@@ -76,32 +75,9 @@ composite_in (block.Composite u ∷ bs) (suc k) t h =
 abbrev pub IsApart : Ports → Type 0
 IsApart p = (n : Name) → Contains (variable_names p.inputs) n → Contains (variable_names p.outputs) n → ⊥
 
-one_of : (a n : Name) → Contains (a ∷ []) n → a ≡ n
-one_of a n h = elim (Contains-cons_cases a [] n h) [ inl e ↦ e | inr none ↦ absurd (Contains-nil n none) ]
-
 event_block_apart : (k : EventKind) → IsApart (ports_of_event_block k)
-event_block_apart Restart n h g = Contains-nil n h
-event_block_apart Split n h g = Contains-nil n h
-event_block_apart Merge n h g = Contains-nil n h
-event_block_apart Rendezvous n h g = Contains-nil n h
-event_block_apart Permit n h g = Contains-nil n g
-event_block_apart Select n h g = Contains-nil n g
-event_block_apart Switch n h g = Contains-nil n g
-event_block_apart Delay n h g = Contains-nil n g
-event_block_apart Cycle n h g = Contains-nil n g
-event_block_apart SetReset n h g = Contains-nil n h
-event_block_apart DataLatch n h g =
-    let same : codes "D" ≡ codes "Q" = one_of (codes "D") n h ∙ sym (one_of (codes "Q") n g) in
-    true≢false (ap (same_name (codes "D")) same)
-event_block_apart RisingEdge n h g = Contains-nil n g
-event_block_apart FallingEdge n h g = Contains-nil n g
-event_block_apart CountUp n h g =
-    elim (Contains-cons_cases (codes "Q") (codes "CV" ∷ []) n g) [
-      | inl e ↦ let same : codes "PV" ≡ codes "Q" = one_of (codes "PV") n h ∙ sym e in true≢false (ap (same_name (codes "PV")) same)
-      | inr rest ↦
-          let same : codes "PV" ≡ codes "CV" = one_of (codes "PV") n h ∙ sym (one_of (codes "CV") n rest) in
-          true≢false (ap (same_name (codes "PV")) same)
-    ]
+event_block_apart k n i o =
+    variables_once k (Twice-both (variable_names (ports_of_event_block k).inputs) (variable_names (ports_of_event_block k).outputs) n i o)
 
 -- the variables of a type of the declaration
 declared_apart : (lib : Library) (plan : Plan) (b : BlockType) → ¬ (NameTwice lib plan) → Contains lib.blocks b → IsApart (ports_of (kind_of b))

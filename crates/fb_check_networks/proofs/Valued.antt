@@ -4,7 +4,7 @@ use Rattle.std.specs.Prelude.{slice_get, option_map, option_and_then, ◌↔◌,
 use Rattle.std.specs.Bool.{Decides}
 use Rattle.std.specs.List.{list_any, list_all, zip}
 use Rattle.fb_types.specs.Values.{fits}
-use Rattle.fb_types.specs.Blocks.{Kind, named, ports_of}
+use Rattle.fb_types.specs.Blocks.{Kind, named, ports_of, type_at}
 use Rattle.fb_types.specs.Flat.{kind_of_instance}
 use Rattle.fb_types.specs.Kinds.{parameter_right, parameters_right}
 use Rattle.fb_types.specs.Repeated.{Placed}
@@ -19,7 +19,6 @@ use Rattle.fb_check_names.specs.declared.numbers.TypeNumber.{TypeNumber}
 use Rattle.fb_check_names.specs.declared.numbers.NetworkNumbers.{NetworkNumbers}
 use Rattle.fb_check_names.specs.declared.numbers.Resolved.{Resolved}
 use Rattle.fb_check_names.specs.Numbers.{IsNetwork, IsResolved, each_or_none, index_of, type_number, kind_of_number, parameter_numbers}
-use Rattle.fb_check_networks.specs.Variables.{type_at}
 use Rattle.fb_check_networks.specs.Networks.{network_passes}
 use Rattle.fb_check_names.proofs.Each.{each_parts}
 use Rattle.fb_types.proofs.ByIndex.{element_of_index, index_of_element}

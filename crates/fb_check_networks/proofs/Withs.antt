@@ -1,15 +1,14 @@
 -- The variables WITH an output event, if the names of a type differ.
-use Rattle.std.proofs.Common.{◌≡◌, ◌||◌, ◌&&◌, Bool, true, false, cond, List, [], ◌∷◌, ◌++◌, map, Option, Some, None, Contains, refl, sym, ◌∙◌, ap, subst, inl, inr}
+use Rattle.std.proofs.Common.{◌≡◌, ◌||◌, ◌&&◌, Bool, true, false, cond, List, [], ◌∷◌, ◌++◌, map, Option, Some, None, Contains, refl, sym, ap, subst, inl, inr}
 use Rattle.std.specs.Prelude.{option_map, flat_map}
 use Rattle.std.specs.List.{list_any}
 use Rattle.std.proofs.lemmas.Bool.{true≢false}
 use Rattle.std.proofs.lemmas.List.Elements.{Contains-append_left}
 use Rattle.fb_types.specs.Names.{Name, same_name}
-use Rattle.fb_types.specs.Blocks.{Kind, Event, named, among, event_names, variable_names, variables_with, event_blocks, ports_of, ports_of_event_block}
+use Rattle.fb_types.specs.Blocks.{Kind, Event, named, among, event_names, variable_names, variables_with, event_blocks, ports_of, ports_of_event_block, goes_with}
 use Rattle.fb_types.specs.Flat.{kind_of, type_name, type_named, resource_names_of}
 use Rattle.fb_types.specs.Repeated.{Twice, NameTwice, networks, basics, interfaces, block_type_names, port_names, algorithm_names, state_names, instance_names, with_lists, parameter_lists, internals_of}
 use Rattle.fb_types.specs.declared.event_kind.EventKind.{EventKind}
-use Rattle.fb_types.specs.declared.event_kind.EventKind.TheVariants.{Restart, Split, Merge, Rendezvous, Permit, Select, Switch, Delay, Cycle, SetReset, DataLatch, RisingEdge, FallingEdge, CountUp}
 use Rattle.fb_types.specs.declared.library.Library.{Library}
 use Rattle.fb_types.specs.declared.library.BlockType.{BlockType}
 use Rattle.fb_types.specs.declared.library.EventPort.{EventPort}
@@ -19,13 +18,11 @@ use Rattle.fb_types.proofs.TwiceLaws.{Twice-append_left, Twice-append_right}
 use Rattle.fb_types.proofs.Options.{map_parts}
 use Rattle.fb_types.proofs.NameLaws.{contains_from_any, any_from_contains, same_from_same_name, named-Contains}
 use Rattle.fb_types.proofs.Elements.{Contains-nil, Contains-here, Contains-there, Contains-map}
+use Rattle.fb_types.proofs.EventNames.{events_once}
 use Rattle.fb_check_networks.specs.Serving.{listed_with}
 use Rattle.fb_check_networks.proofs.Elements.{Contains-filter, filter-Contains}
 
 -- ---- One list of events
-
-abbrev goes_with : Name → Name → EventPort → Bool
-goes_with e v p = same_name p.name e && among p.with v
 
 and_parts : (a b : Bool) → (a && b) ≡ true → (a ≡ true) × (b ≡ true)
 and_parts true b h = (refl, h)
@@ -78,42 +75,6 @@ listed_from_with ps vs e v once c =
 
 -- ---- The output events of a type differ
 
--- whether a name occurs twice
-abbrev repeats : List Name → Bool
-repeats [] = false
-repeats (n ∷ ns) = list_any (same_name n) ns || repeats ns
-
-or_true : (b : Bool) → (b || true) ≡ true
-or_true true = refl
-or_true false = refl
-
-repeats_from_twice : (ns : List Name) → Twice ns → repeats ns ≡ true
-repeats_from_twice [] h = absurd h
-repeats_from_twice (n ∷ ns) h =
-    elim h [
-      | inl c ↦ ap (λ b. b || repeats ns) (any_from_contains n ns c)
-      | inr t ↦ ap (λ b. list_any (same_name n) ns || b) (repeats_from_twice ns t) ∙ or_true (list_any (same_name n) ns)
-    ]
-
-once_from_test : (ns : List Name) → repeats ns ≡ false → ¬ (Twice ns)
-once_from_test ns h t = true≢false (sym (repeats_from_twice ns t) ∙ h)
-
-no_repeats : (k : EventKind) → repeats (event_names (ports_of_event_block k).event_outputs) ≡ false
-no_repeats Restart = refl
-no_repeats Split = refl
-no_repeats Merge = refl
-no_repeats Rendezvous = refl
-no_repeats Permit = refl
-no_repeats Select = refl
-no_repeats Switch = refl
-no_repeats Delay = refl
-no_repeats Cycle = refl
-no_repeats SetReset = refl
-no_repeats DataLatch = refl
-no_repeats RisingEdge = refl
-no_repeats FallingEdge = refl
-no_repeats CountUp = refl
-
 -- the ports of a declared type are a name space
 declared_once : (lib : Library) (plan : Plan) (t : BlockType) → ¬ (NameTwice lib plan) → Contains lib.blocks t → ¬ (Twice (event_names (ports_of (kind_of t)).event_outputs))
 declared_once lib plan t once there twice =
@@ -148,7 +109,7 @@ outputs_once lib plan n k once h =
     elim (named (λ (e : Name × EventKind). e.0) n event_blocks) as (λ o. elim o as (λ _. Option Kind) [ Some e ↦ Some (Event e.1) | None ↦ option_map kind_of (named type_name n lib.blocks) ] ≡ Some k → P k) [
       | Some e ↦ λ h.
           let same : Event e.1 ≡ k = cc in
-          subst P same (once_from_test (event_names (ports_of_event_block e.1).event_outputs) (no_repeats e.1))
+          subst P same (λ t. let p = ports_of_event_block e.1 in events_once e.1 (Twice-append_right (event_names p.event_inputs) (event_names p.event_outputs) t))
       | None ↦ λ h.
           let t = map_parts kind_of (named type_name n lib.blocks) k h in
           subst P t.2 (declared_once lib plan t.0 once (named-Contains type_name n lib.blocks t.0 t.1))

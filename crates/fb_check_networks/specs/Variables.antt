@@ -1,17 +1,12 @@
 -- The types of variables by the numbers of block types and the indices of ports (IEC 61499-1, 5.3).
-use Rattle.std.specs.Prelude.{ℕ, List, Option, Some, None, slice_get, option_map, option_and_then}
-use Rattle.fb_types.specs.Blocks.{ports_of}
+use Rattle.std.specs.Prelude.{ℕ, List, Option, Some, None, slice_get, option_and_then}
+use Rattle.fb_types.specs.Blocks.{ports_of, type_at}
 use Rattle.fb_types.specs.declared.value.Ty.{Ty}
 use Rattle.fb_types.specs.declared.library.Library.{Library}
 use Rattle.fb_types.specs.declared.library.Ports.{Ports}
-use Rattle.fb_types.specs.declared.library.Variable.{Variable}
 use Rattle.fb_check_names.specs.declared.numbers.TypeNumber.{TypeNumber}
 use Rattle.fb_check_names.specs.declared.numbers.ConnectionEnd.{ConnectionEnd}
 use Rattle.fb_check_names.specs.Numbers.{kind_of_number}
-
--- the type of the variable at an index
-abbrev pub type_at : List Variable → ℕ → Option Ty
-type_at vs k = option_map (λ v. v.ty) (slice_get vs k)
 
 -- the types of the data inputs and outputs of a block type
 abbrev pub input_type : Library → TypeNumber → ℕ → Option Ty

@@ -1,47 +1,15 @@
 //! The types of variables by the numbers of block types and the indices of ports.
 
-ghost use Rattle.std.specs.Prelude.{◌≡◌, map, slice_get, option_map};
+ghost use Rattle.std.specs.Prelude.{◌≡◌};
 ghost use Rattle.std.specs.Option.{option_copied};
 ghost use Rattle.fb_types.specs.Blocks as blocks;
 ghost use Rattle.fb_check_networks.specs.Variables as spec;
 
 use fb_check_names::{ConnectionEnd, TypeNumber};
-use fb_types::{EventKind, Library, Ports, Ty, Variable};
-
-/// The types of the data inputs of an event block.
-fn event_block_inputs(kind: EventKind) -> &'static [Ty]
-    ensures { result.now ≡ map (λ v. v.ty) (blocks.ports_of_event_block kind).inputs }
-{
-    match kind {
-        EventKind::Restart
-        | EventKind::Split
-        | EventKind::Merge
-        | EventKind::Rendezvous
-        | EventKind::SetReset => &[],
-        EventKind::Permit
-        | EventKind::Select
-        | EventKind::Switch
-        | EventKind::DataLatch
-        | EventKind::RisingEdge
-        | EventKind::FallingEdge => &[Ty::Bool],
-        EventKind::Delay | EventKind::Cycle => &[Ty::Time],
-        EventKind::CountUp => &[Ty::Uint],
-    }
-}
-
-/// The types of the data outputs of an event block.
-fn event_block_outputs(kind: EventKind) -> &'static [Ty]
-    ensures { result.now ≡ map (λ v. v.ty) (blocks.ports_of_event_block kind).outputs }
-{
-    match kind {
-        EventKind::SetReset | EventKind::DataLatch => &[Ty::Bool],
-        EventKind::CountUp => &[Ty::Bool, Ty::Uint],
-        _ => &[],
-    }
-}
+use fb_types::{Library, Ports, Ty, Variable, event_block_input, event_block_output};
 
 fn type_at(variables: &[Variable], index: usize) -> Option<Ty>
-    ensures { result ≡ spec.type_at variables.now index }
+    ensures { result ≡ blocks.type_at variables.now index }
 {
     Some(variables.get(index)?.ty)
 }
@@ -51,7 +19,7 @@ pub fn input_type(library: &Library, number: TypeNumber, index: usize) -> Option
     ensures { result ≡ spec.input_type library.now number index }
 {
     match number {
-        TypeNumber::Event(kind) => event_block_inputs(kind).get(index).copied(),
+        TypeNumber::Event(kind) => event_block_input(kind, index),
         TypeNumber::Declared(block) => {
             let ports = library.blocks.get(block)?.ports();
             type_at(ports.inputs.as_slice(), index)
@@ -64,7 +32,7 @@ fn output_type(library: &Library, number: TypeNumber, index: usize) -> Option<Ty
     ensures { result ≡ spec.output_type library.now number index }
 {
     match number {
-        TypeNumber::Event(kind) => event_block_outputs(kind).get(index).copied(),
+        TypeNumber::Event(kind) => event_block_output(kind, index),
         TypeNumber::Declared(block) => {
             let ports = library.blocks.get(block)?.ports();
             type_at(ports.outputs.as_slice(), index)

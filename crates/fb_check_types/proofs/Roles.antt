@@ -6,7 +6,7 @@ use Rattle.std.proofs.lemmas.Option.{slice_get-map}
 use Rattle.std.proofs.lemmas.List.{map-append}
 use Rattle.std.proofs.lemmas.List.Folds.{list_any-append}
 use Rattle.fb_types.specs.Names.{Name, same_name}
-use Rattle.fb_types.specs.Blocks.{named, among, event_names, variable_names}
+use Rattle.fb_types.specs.Blocks.{named, among, event_names, variable_names, type_named}
 use Rattle.fb_types.specs.Repeated.{Twice}
 use Rattle.fb_types.specs.declared.library.EventPort.{EventPort}
 use Rattle.fb_types.specs.declared.library.Variable.{Variable}
@@ -21,7 +21,7 @@ use Rattle.fb_types.proofs.ByIndex.{element_at}
 use Rattle.fb_types.proofs.Options.{none_from_is_some}
 use Rattle.fb_types.proofs.TwiceLaws.{Twice-both, Twice-append_right}
 use Rattle.fb_check_types.specs.declared.interface.Role.TheVariants.{EventInput, EventOutput, Input, Output, Internal}
-use Rattle.fb_check_types.specs.Roles.{Declared, names_of, events_as, variables_as, with_roles, role_of, variables_of, type_named, is_event_input, is_event_output, is_input, is_output, is_port, type_in}
+use Rattle.fb_check_types.specs.Roles.{Declared, names_of, events_as, variables_as, with_roles, role_of, variables_of, is_event_input, is_event_output, is_input, is_output, is_port, type_in}
 
 -- ---- The first of several lists
 

@@ -1,12 +1,11 @@
 -- The types of variables by their names.
-use Rattle.std.proofs.Common.{◌≡◌, ◌++◌, List, [], ◌∷◌, Option, Some, None, cond, true, false, refl}
+use Rattle.std.proofs.Common.{◌≡◌, ◌++◌, List, [], ◌∷◌, Some, None, cond, true, false, refl}
 use Rattle.std.specs.Prelude.{option_map, unwrap_or}
 use Rattle.fb_types.specs.Names.{Name, same_name}
-use Rattle.fb_types.specs.Blocks.{named}
+use Rattle.fb_types.specs.Blocks.{named, type_named}
 use Rattle.fb_types.specs.declared.library.Variable.{Variable}
 use Rattle.fb_types.specs.declared.value.Ty.{Ty}
 use Rattle.fb_types.specs.declared.value.Ty.TheVariants.{Bool as Boolean}
-use Rattle.fb_check_types.specs.Roles.{type_named}
 
 pub type_front : (n : Name) (xs ys : List Variable) (t : Ty) → type_named xs n ≡ Some t → type_named (xs ++ ys) n ≡ Some t
 type_front n [] ys t h = absurd (cc)

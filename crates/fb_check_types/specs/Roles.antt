@@ -40,10 +40,6 @@ role_of d n = option_map (λ r. r.1) (named (λ r. r.0) n (with_roles d))
 abbrev pub variables_of : Declared → List Variable
 variables_of d = d.ports.inputs ++ d.ports.outputs ++ d.internals
 
--- the type of the variable of a name
-abbrev pub type_named : List Variable → Name → Option Ty
-type_named vs n = option_map (λ v. v.ty) (named (λ v. v.name) n vs)
-
 -- ---- One role
 
 abbrev pub is_event_input : Role → Bool

@@ -1,11 +1,11 @@
 //! The meaning of the names of a block type's interface, by their indices.
 
 ghost use Rattle.std.specs.Prelude.{◌≡◌, List, option_map, slice_get};
-ghost use Rattle.fb_types.specs.Blocks.{among, named};
+ghost use Rattle.fb_types.specs.Blocks.{among, named, type_named};
 ghost use Rattle.fb_types.specs.Repeated.{Twice};
 ghost use Rattle.fb_check_names.specs.Indexes.{IsIndex};
 ghost use Rattle.fb_check_names.specs.Sorts.{names_of_sort};
-ghost use Rattle.fb_check_types.specs.Roles.{is_port, names_of, role_of, type_in, type_named, variables_of, with_roles};
+ghost use Rattle.fb_check_types.specs.Roles.{is_port, names_of, role_of, type_in, variables_of, with_roles};
 
 use fb_check_names::{Indexes, PortSort, index_of};
 use fb_types::{Name, Ports, Ty, Variable};

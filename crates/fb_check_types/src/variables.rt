@@ -1,7 +1,7 @@
 //! Variables, found by comparing names.
 
 ghost use Rattle.std.specs.Prelude.{◌≡◌, ◌++◌};
-ghost use Rattle.fb_check_types.specs.Roles.{type_named};
+ghost use Rattle.fb_types.specs.Blocks.{type_named};
 
 use crate::sorts::Typing;
 use fb_types::{BasicType, Name, Ports, Ty, Variable};

@@ -1,22 +1,21 @@
 -- The names of the variables of an accepted declaration's type differ: those of the data inputs, those of the data outputs, and the ones from the others.
-use Rattle.std.proofs.Common.{◌≡◌, List, [], ◌∷◌, ◌++◌, append_assoc, map, ◌||◌, Bool, true, false, Contains, refl, ap, sym, ◌∙◌, subst, inl, inr}
-use Rattle.std.proofs.lemmas.Bool.{true≢false, false_from_ne_true}
+use Rattle.std.proofs.Common.{◌≡◌, List, [], ◌∷◌, ◌++◌, append_assoc, map, false, Contains, refl, sym, subst, inl}
+use Rattle.std.proofs.lemmas.Bool.{false_from_ne_true}
 use Rattle.std.proofs.lemmas.List.Elements.{Contains-append_left}
 use Rattle.std.specs.Prelude.{Option, Some, None, option_map, option_and_then, flat_map}
-use Rattle.std.specs.List.{list_any}
-use Rattle.fb_types.specs.Names.{Name, Path, same_name}
-use Rattle.fb_types.specs.Blocks.{Kind, Event, among, event_blocks, event_names, named, ports_of, ports_of_event_block, variable_names}
+use Rattle.fb_types.specs.Names.{Name, Path}
+use Rattle.fb_types.specs.Blocks.{Kind, Event, among, event_blocks, event_names, named, ports_of, variable_names}
 use Rattle.fb_types.specs.Flat.{kind_of, kind_at, kind_of_instance, instance_at, resource_names_of, type_name}
 use Rattle.fb_types.specs.Repeated.{NameTwice, Placed, Twice, algorithm_names, basics, block_type_names, instance_names, interfaces, internals_of, networks, parameter_lists, port_names, state_names, with_lists}
 use Rattle.fb_types.specs.declared.deploy.Plan.{Plan}
 use Rattle.fb_types.specs.declared.event_kind.EventKind.{EventKind}
-use Rattle.fb_types.specs.declared.event_kind.EventKind.TheVariants as kind
 use Rattle.fb_types.specs.declared.library.BlockType.{BlockType}
 use Rattle.fb_types.specs.declared.library.Instance.{Instance}
 use Rattle.fb_types.specs.declared.library.Library.{Library}
 use Rattle.fb_types.proofs.TwiceLaws.{Twice-append_left, Twice-both, Twice-append_right}
-use Rattle.fb_types.proofs.NameLaws.{any_from_contains, contains_from_any, named-Contains}
+use Rattle.fb_types.proofs.NameLaws.{contains_from_any, named-Contains}
 use Rattle.fb_types.proofs.Elements.{Contains-there, Contains-map}
+use Rattle.fb_types.proofs.EventNames.{variables_once}
 
 -- Each name of a data input or of a data output stands once.
 pub record Differ (k : Kind) : Type 0 where
@@ -36,42 +35,9 @@ differ k once =
 
 -- ---- The event blocks
 
--- whether a name stands twice
-unfoldable repeats : List Name → Bool
-repeats [] = false
-repeats (n ∷ ns) = list_any (same_name n) ns || repeats ns
-
-repeats_from_twice : (ns : List Name) → Twice ns → repeats ns ≡ true
-unfolding repeats
-repeats_from_twice [] h = absurd h
-repeats_from_twice (n ∷ ns) h =
-    elim h [
-      | inl c ↦ ap (λ b. b || repeats ns) (any_from_contains n ns c)
-      | inr t ↦ ap (λ b. list_any (same_name n) ns || b) (repeats_from_twice ns t)
-          ∙ (elim (list_any (same_name n) ns) as (λ b. (b || true) ≡ true) [ true ↦ refl | false ↦ refl ])
-    ]
-
-by_event_kind : (k : EventKind) → repeats (variable_names (ports_of_event_block k).inputs ++ variable_names (ports_of_event_block k).outputs) ≡ false
-unfolding repeats
-by_event_kind kind.Restart = refl
-by_event_kind kind.Split = refl
-by_event_kind kind.Merge = refl
-by_event_kind kind.Rendezvous = refl
-by_event_kind kind.Permit = refl
-by_event_kind kind.Select = refl
-by_event_kind kind.Switch = refl
-by_event_kind kind.Delay = refl
-by_event_kind kind.Cycle = refl
-by_event_kind kind.SetReset = refl
-by_event_kind kind.DataLatch = refl
-by_event_kind kind.RisingEdge = refl
-by_event_kind kind.FallingEdge = refl
-by_event_kind kind.CountUp = refl
-
 event_apart : (k : EventKind) → Differ (Event k)
 event_apart k =
-    differ (Event k)
-    (λ t. true≢false (sym (repeats_from_twice (variable_names (ports_of_event_block k).inputs ++ variable_names (ports_of_event_block k).outputs) t) ∙ by_event_kind k))
+    differ (Event k) (variables_once k)
 
 -- ---- The types of a declaration
 

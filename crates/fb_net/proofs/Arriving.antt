@@ -13,7 +13,6 @@ use Rattle.fb_types.specs.States.{Line}
 use Rattle.fb_types.specs.Systems.{System}
 use Rattle.fb_types.specs.Values.{Values}
 use Rattle.fb_types.specs.declared.event_kind.EventKind.{EventKind}
-use Rattle.fb_types.specs.declared.event_kind.EventKind.TheVariants as kind
 use Rattle.fb_types.specs.declared.key.Key.{Key}
 use Rattle.fb_types.specs.declared.library.Ports.{Ports}
 use Rattle.fb_types.specs.declared.library.Variable.{Variable}
@@ -22,6 +21,7 @@ use Rattle.fb_types.specs.declared.run.Target.{Target}
 use Rattle.fb_types.specs.declared.run.TimerAsk.{TimerAsk}
 use Rattle.fb_types.specs.declared.value.Value.{Value}
 use Rattle.fb_types.proofs.NameLaws.{same_name-itself}
+use Rattle.fb_types.proofs.EventCounts.{one_input}
 use Rattle.fb_system.specs.Lines.{IsEmission}
 use Rattle.fb_net.specs.Outs.{Gathered, Stands, asked, gathered, out_of}
 use Rattle.fb_net.specs.declared.outbox.Out.{Out}
@@ -37,23 +37,6 @@ use Rattle.fb_net.specs.Arrivals.{ComesTo, IsReady, AreTypedAt, Tells, entering,
 use Rattle.fb_net.proofs.Sampling.{bound-paired, input_port, output_port, port_named, ports-of_kind}
 
 -- ---- Values of their types
-
--- an event block has one data input at most
-one_input : (k : EventKind) → length (ports_of_event_block k).inputs ≤ 1
-one_input kind.Restart = omega arith
-one_input kind.Split = omega arith
-one_input kind.Merge = omega arith
-one_input kind.Rendezvous = omega arith
-one_input kind.Permit = omega arith
-one_input kind.Select = omega arith
-one_input kind.Switch = omega arith
-one_input kind.Delay = omega arith
-one_input kind.Cycle = omega arith
-one_input kind.SetReset = omega arith
-one_input kind.DataLatch = omega arith
-one_input kind.RisingEdge = omega arith
-one_input kind.FallingEdge = omega arith
-one_input kind.CountUp = omega arith
 
 first_named : (x : Variable) (vs : List Variable) → variable_named x.name (x ∷ vs) ≡ Some x
 first_named x vs = rw (same_name-itself x.name) refl

@@ -1,9 +1,9 @@
 -- What acceptance says of the instances of a declaration.
-use Rattle.std.proofs.Common.{◌≡◌, ℕ, ◌<◌, ◌≤◌, ◌+◌, zero, suc, List, [], ◌∷◌, ◌++◌, map, length, get_or, Option, Some, None, Contains, true, false, Bool, refl, sym, ◌∙◌, ap, subst, inl, inr, arith, append_assoc}
+use Rattle.std.proofs.Common.{◌≡◌, ℕ, ◌<◌, ◌≤◌, ◌+◌, zero, suc, List, [], ◌∷◌, ◌++◌, map, length, get_or, Option, Some, None, Contains, true, false, refl, sym, ◌∙◌, ap, subst, inl, inr, arith, append_assoc}
 use Rattle.std.proofs.lemmas.Bool.{true≢false}
 use Rattle.std.proofs.lemmas.List.Elements.{Contains-append_left, Contains-append_right, Contains-append_cases}
 use Rattle.std.proofs.lemmas.Option.{slice_get-get_or}
-use Rattle.std.specs.Prelude.{flat_map, not, ◌&&◌, option_map, option_and_then, position, slice_get, unwrap_or}
+use Rattle.std.specs.Prelude.{flat_map, option_map, option_and_then, position, slice_get, unwrap_or}
 use Rattle.fb_types.specs.Names.{Name, Path, same_name}
 use Rattle.fb_types.specs.Blocks.{Kind, Basic, Event, among, event_blocks, event_names, named, ports_of, variable_names}
 use Rattle.fb_types.specs.Flat.{inside, instance_at, instance_in, kind_at, kind_of, kind_of_instance, network_at, paths_inside, paths_of, resource_names_of, type_name, type_named}
@@ -13,7 +13,6 @@ use Rattle.fb_types.specs.Repeated.{NameTwice, Placed, Twice, algorithm_names, b
 use Rattle.fb_types.specs.Unknown.{NameUnknown, Wanted, all_of, required_chart, required_deployment, required_parameters, required_types, wanted, required_withs}
 use Rattle.fb_types.specs.declared.deploy.Plan.{Plan}
 use Rattle.fb_types.specs.declared.event_kind.EventKind.{EventKind}
-use Rattle.fb_types.specs.declared.event_kind.EventKind.TheVariants as kind
 use Rattle.fb_types.specs.declared.library.BasicType.{BasicType}
 use Rattle.fb_types.specs.declared.library.BlockType.{BlockType}
 use Rattle.fb_types.specs.declared.library.BlockType.TheVariants as block
@@ -28,6 +27,7 @@ use Rattle.fb_types.proofs.NameLaws.{any_from_contains, contains_from_any, named
 use Rattle.fb_types.proofs.ByIndex.{index_of_element}
 use Rattle.fb_types.proofs.TwiceLaws.{Twice-append_left, once_right}
 use Rattle.fb_types.proofs.Elements.{Contains-cons_cases, Contains-here, Contains-nil, Contains-there, Contains-flat_map, Contains-map, flat_map-Contains}
+use Rattle.fb_types.proofs.EventNames.{variables_once as event_variables_once}
 use Rattle.fb_system.proofs.Distinct.{AreOnce, below, paths_from}
 use Rattle.fb_system.proofs.Inside.{network_known}
 use Rattle.fb_system.proofs.Sites.{all_once}
@@ -246,40 +246,6 @@ basic_at lib q t h =
 abbrev pub data_names : Kind → List Name
 data_names k = variable_names (ports_of k).inputs ++ variable_names (ports_of k).outputs
 
-abbrev all_apart : List Name → Bool
-all_apart [] = true
-all_apart (n ∷ ns) = not (among ns n) && all_apart ns
-
-apart_once : (ns : List Name) → all_apart ns ≡ true → ¬ (Twice ns)
-apart_once [] h t = t
-apart_once (n ∷ ns) h t =
-    elim (among ns n) as (λ b. among ns n ≡ b → ⊥) [
-      | true ↦ λ e. true≢false (sym (sym (ap (λ b. not b && all_apart ns) e) ∙ h))
-      | false ↦ λ e. elim t [
-        | inl c ↦ true≢false (sym (any_from_contains n ns c) ∙ e)
-        | inr u ↦ apart_once ns (sym (ap (λ b. not b && all_apart ns) e) ∙ h) u
-      ]
-    ] refl
-
-event_once : (k : EventKind) → ¬ (Twice (data_names (Event k)))
-event_once k = apart_once (data_names (Event k)) (by_kind k)
-  where
-    by_kind : (k : EventKind) → all_apart (data_names (Event k)) ≡ true
-    by_kind kind.Restart = refl
-    by_kind kind.Split = refl
-    by_kind kind.Merge = refl
-    by_kind kind.Rendezvous = refl
-    by_kind kind.Permit = refl
-    by_kind kind.Select = refl
-    by_kind kind.Switch = refl
-    by_kind kind.Delay = refl
-    by_kind kind.Cycle = refl
-    by_kind kind.SetReset = refl
-    by_kind kind.DataLatch = refl
-    by_kind kind.RisingEdge = refl
-    by_kind kind.FallingEdge = refl
-    by_kind kind.CountUp = refl
-
 module _ (lib : Library) (plan : Plan) (once : ¬ (NameTwice lib plan)) where
   ports_once : (b : BlockType) → Contains lib.blocks b → ¬ (Twice (port_names b))
   ports_once b c twice =
@@ -324,7 +290,7 @@ module _ (lib : Library) (plan : Plan) (once : ¬ (NameTwice lib plan)) where
   by_event : (n : Name) (k : Kind) (o : Option (Name × EventKind)) →
       elim o [ Some e ↦ Some (Event e.1) | None ↦ option_map kind_of (named type_name n lib.blocks) ] ≡ Some k → ¬ (Twice (data_names k))
   by_event n k None h = by_block n k (named type_name n lib.blocks) refl h
-  by_event n k (Some e) h = subst (λ (k : Kind). ¬ (Twice (data_names k))) (same (Event e.1) k h) (event_once e.1)
+  by_event n k (Some e) h = subst (λ (k : Kind). ¬ (Twice (data_names k))) (same (Event e.1) k h) (event_variables_once e.1)
     where
       same : (a b : Kind) → Some a ≡ Some b → a ≡ b
       same a b e = cc

@@ -1,11 +1,9 @@
 -- The names of the ports of a type differ, and so do the names of the instances of a network.
-use Rattle.std.proofs.Common.{◌≡◌, ◌||◌, Bool, true, false, List, [], ◌∷◌, ◌++◌, map, Some, None, Contains, refl, sym, ◌∙◌, ap, subst, inl, inr}
+use Rattle.std.proofs.Common.{◌≡◌, List, [], ◌∷◌, ◌++◌, map, Some, None, Contains, refl, sym, ◌∙◌, ap, subst, inl, inr}
 use Rattle.std.specs.Prelude.{slice_get, option_map, option_and_then, flat_map}
-use Rattle.std.specs.List.{list_any}
-use Rattle.std.proofs.lemmas.Bool.{true≢false}
 use Rattle.std.proofs.lemmas.List.{append_assoc}
 use Rattle.std.proofs.lemmas.List.Elements.{Contains-append_left, Contains-append_right}
-use Rattle.fb_types.specs.Names.{Name, Path, same_name}
+use Rattle.fb_types.specs.Names.{Name, Path}
 use Rattle.fb_types.specs.Blocks.{Kind, Event, variable_names, ports_of, ports_of_event_block}
 use Rattle.fb_types.specs.Flat.{kind_of, type_named, kind_at, kind_of_instance, instance_at, resource_names_of}
 use Rattle.fb_types.specs.Repeated.{Twice, Placed, NameTwice, networks, port_names, internals_of, name_spaces, block_type_names, algorithm_names, state_names, basics, instance_names, with_lists, interfaces, parameter_lists}
@@ -14,12 +12,11 @@ use Rattle.fb_types.specs.declared.library.Library.{Library}
 use Rattle.fb_types.specs.declared.library.BlockType.{BlockType}
 use Rattle.fb_types.specs.declared.library.Ports.{Ports}
 use Rattle.fb_types.specs.declared.event_kind.EventKind.{EventKind}
-use Rattle.fb_types.specs.declared.event_kind.EventKind.TheVariants.{Restart, Split, Merge, Rendezvous, Permit, Select, Switch, Delay, Cycle, SetReset, DataLatch, RisingEdge, FallingEdge, CountUp}
 use Rattle.fb_types.specs.declared.deploy.Plan.{Plan}
-use Rattle.fb_types.proofs.NameLaws.{any_from_contains}
 use Rattle.fb_types.proofs.TwiceLaws.{Twice-append_left, Twice-append_right}
 use Rattle.fb_types.proofs.Elements.{Contains-nil, Contains-cons_cases, Contains-there, Contains-map}
 use Rattle.fb_types.proofs.ByIndex.{element_of_index}
+use Rattle.fb_types.proofs.EventNames.{ports_once}
 use Rattle.fb_check_names.specs.declared.numbers.TypeNumber.{TypeNumber}
 use Rattle.fb_check_names.specs.declared.numbers.TypeNumber.TheVariants as number
 use Rattle.fb_check_names.specs.Numbers.{type_number, kind_of_number}
@@ -58,40 +55,8 @@ pub record ArePortsApart (p : Ports) : Type 0 where
   pub events : Differ (event_ins p) (event_outs p)
   pub variables : Differ (data_ins p) (data_outs p)
 
--- whether a name occurs twice
-unfoldable repeats : List Name → Bool
-repeats [] = false
-repeats (n ∷ ns) = list_any (same_name n) ns || repeats ns
-
-repeats_from_twice : (ns : List Name) → Twice ns → repeats ns ≡ true
-unfolding repeats
-repeats_from_twice [] h = absurd h
-repeats_from_twice (n ∷ ns) h =
-    elim h [
-      | inl c ↦ ap (λ b. b || repeats ns) (any_from_contains n ns c)
-      | inr t ↦ ap (λ b. list_any (same_name n) ns || b) (repeats_from_twice ns t)
-          ∙ (elim (list_any (same_name n) ns) as (λ b. (b || true) ≡ true) [ true ↦ refl | false ↦ refl ])
-    ]
-
 abbrev all_names : Ports → List Name
 all_names p = (event_ins p ++ event_outs p) ++ (data_ins p ++ data_outs p)
-
-event_block_once : (k : EventKind) → repeats (all_names (ports_of_event_block k)) ≡ false
-unfolding repeats
-event_block_once Restart = refl
-event_block_once Split = refl
-event_block_once Merge = refl
-event_block_once Rendezvous = refl
-event_block_once Permit = refl
-event_block_once Select = refl
-event_block_once Switch = refl
-event_block_once Delay = refl
-event_block_once Cycle = refl
-event_block_once SetReset = refl
-event_block_once DataLatch = refl
-event_block_once RisingEdge = refl
-event_block_once FallingEdge = refl
-event_block_once CountUp = refl
 
 apart_from_once : (p : Ports) → ¬ (Twice (all_names p)) → ArePortsApart p
 apart_from_once p once =
@@ -104,8 +69,7 @@ apart_from_once p once =
 
 event_block_apart : (k : EventKind) → ArePortsApart (ports_of_event_block k)
 event_block_apart k =
-    apart_from_once (ports_of_event_block k)
-    (λ t. true≢false (sym (repeats_from_twice (all_names (ports_of_event_block k)) t) ∙ event_block_once k))
+    apart_from_once (ports_of_event_block k) (ports_once k)
 
 -- ---- Name spaces
 

@@ -1,17 +1,15 @@
 -- What accepted names guarantee of an instance: the variables of its type differ, and its parameters name inputs, each
 -- once.
-use Rattle.std.proofs.Common.{◌≡◌, ◌⊎◌, ℕ, Bool, true, false, not, ◌&&◌, List, [], ◌∷◌, ◌++◌, Option, Some, None, Contains, refl, sym, ◌∙◌, ap, subst, inl, inr, append_assoc}
+use Rattle.std.proofs.Common.{◌≡◌, ◌⊎◌, ℕ, List, [], ◌∷◌, ◌++◌, Option, Some, None, Contains, refl, sym, ◌∙◌, ap, subst, inl, inr, append_assoc}
 use Rattle.std.specs.Prelude.{flat_map, option_map, option_and_then}
-use Rattle.std.proofs.lemmas.Bool.{true≢false}
 use Rattle.std.proofs.lemmas.List.Elements.{Contains-append_right}
 use Rattle.std.proofs.lemmas.Option.{same_Some}
 use Rattle.fb_types.specs.Names.{Name, Path}
-use Rattle.fb_types.specs.Blocks.{Kind, Event, among, named, event_blocks, event_names, ports_of, ports_of_event_block, variable_names}
+use Rattle.fb_types.specs.Blocks.{Kind, Event, named, event_blocks, event_names, ports_of, variable_names}
 use Rattle.fb_types.specs.Flat.{kind_of, type_name, type_named, network_of, instance_in, kind_of_instance, inside, network_at, instance_at}
 use Rattle.fb_types.specs.Repeated.{Twice, Placed, NameTwice, networks, networks_in, internals_of, port_names, parameter_lists}
 use Rattle.fb_types.specs.Unknown.{NameUnknown, Wanted, all_of, data_ins, required_parameters, required_types}
 use Rattle.fb_types.specs.declared.event_kind.EventKind.{EventKind}
-use Rattle.fb_types.specs.declared.event_kind.EventKind.TheVariants.{Restart, Split, Merge, Rendezvous, Permit, Select, Switch, Delay, Cycle, SetReset, DataLatch, RisingEdge, FallingEdge, CountUp}
 use Rattle.fb_types.specs.declared.deploy.Plan.{Plan}
 use Rattle.fb_types.specs.declared.library.BlockType.{BlockType}
 use Rattle.fb_types.specs.declared.library.BlockType.TheVariants as block
@@ -21,57 +19,19 @@ use Rattle.fb_types.specs.declared.library.Network.{Network}
 use Rattle.fb_types.specs.declared.library.Ports.{Ports}
 use Rattle.fb_check_names.specs.GivenTwice.{NetworkTwice}
 use Rattle.fb_types.proofs.TwiceLaws.{Twice-append_left, Twice-append_right}
-use Rattle.fb_types.proofs.NameLaws.{any_from_contains, named-Contains}
+use Rattle.fb_types.proofs.NameLaws.{named-Contains}
 use Rattle.fb_types.proofs.Elements.{Contains-here, Contains-there, Contains-map, Contains-flat_map}
+use Rattle.fb_types.proofs.EventNames.{variables_once as event_variables_once}
 use Rattle.fb_check_names.proofs.NameTwice.{block_twice, network_twice}
 use Rattle.fb_check_names.specs.Numbers.{each_or_none, index_of, parameter_numbers}
 use Rattle.fb_check_names.proofs.Resolving.{of_network}
 use Rattle.fb_system.specs.Begins.{parameter_names}
 
--- ---- Lists
-
--- whether names differ
-abbrev differ : List Name → Bool
-differ [] = true
-differ (n ∷ ns) = not (among ns n) && differ ns
-
-not_both : (a b : Bool) → (not a && b) ≡ true → (a ≡ false) × (b ≡ true)
-not_both false b h = (refl, h)
-not_both true b h = absurd (true≢false (sym h))
-
-once_from_test : (ns : List Name) → differ ns ≡ true → ¬ (Twice ns)
-once_from_test [] h t = t
-once_from_test (n ∷ ns) h t =
-    let parts = not_both (among ns n) (differ ns) h in
-    elim t [
-      | inl c ↦ true≢false (sym (any_from_contains n ns c) ∙ parts.0)
-      | inr rest ↦ once_from_test ns parts.1 rest
-    ]
-
 -- ---- The variables of a type
-
-abbrev variables : Ports → List Name
-variables p = variable_names p.inputs ++ variable_names p.outputs
 
 -- The data inputs and data outputs of an interface have different names.
 pub record AreOnce (p : Ports) : Type 0 where
   pub once : ¬ (Twice (variable_names p.inputs ++ variable_names p.outputs))
-
-event_block_differs : (k : EventKind) → differ (variables (ports_of_event_block k)) ≡ true
-event_block_differs Restart = refl
-event_block_differs Split = refl
-event_block_differs Merge = refl
-event_block_differs Rendezvous = refl
-event_block_differs Permit = refl
-event_block_differs Select = refl
-event_block_differs Switch = refl
-event_block_differs Delay = refl
-event_block_differs Cycle = refl
-event_block_differs SetReset = refl
-event_block_differs DataLatch = refl
-event_block_differs RisingEdge = refl
-event_block_differs FallingEdge = refl
-event_block_differs CountUp = refl
 
 ports_once : (lib : Library) (plan : Plan) (t : BlockType) → ¬ (NameTwice lib plan) → Contains lib.blocks t → ¬ (Twice (port_names t))
 ports_once lib plan (block.Basic b) once c t = once (block_twice lib plan (block.Basic b) c (inl (inl t)))
@@ -116,7 +76,7 @@ pub variables_once : (lib : Library) (plan : Plan) (n : Name) (k : Kind) → ¬ 
 variables_once lib plan n k once h =
     elim (kind_cases lib n k h) [
       | inl e ↦
-          subst (λ (k : Kind). AreOnce (ports_of k)) e.1 (record { once = once_from_test (variables (ports_of_event_block e.0)) (event_block_differs e.0) })
+          subst (λ (k : Kind). AreOnce (ports_of k)) e.1 (record { once = event_variables_once e.0 })
       | inr b ↦ subst (λ (k : Kind). AreOnce (ports_of k)) b.is (declared_once lib plan b.type once b.there)
     ]
 

@@ -1,6 +1,7 @@
 -- All kinds of event blocks, and their interfaces one after another.
-use Rattle.std.proofs.Common.{◌≡◌, ℕ, ◌<◌, ◌+◌, List, [], ◌∷◌, ◌++◌, map, take, get_or, refl, sym, ◌∙◌, ap}
+use Rattle.std.proofs.Common.{◌≡◌, ℕ, ◌<◌, ◌+◌, Bool, true, List, [], ◌∷◌, ◌++◌, map, take, get_or, refl, sym, ◌∙◌, ap}
 use Rattle.std.specs.Prelude.{slice_get, Some, option_map}
+use Rattle.std.specs.List.{list_all}
 use Rattle.std.proofs.lemmas.List.{take_more, map-append}
 use Rattle.std.proofs.lemmas.Option.{slice_get-map}
 use Rattle.fb_types.specs.Blocks.{ports_of_event_block}
@@ -8,6 +9,8 @@ use Rattle.fb_types.specs.EventPorts.{ArePortsOfKinds, kind_index}
 use Rattle.fb_types.specs.declared.event_kind.EventKind.{EventKind}
 use Rattle.fb_types.specs.declared.event_kind.EventKind.TheVariants.{Restart, Split, Merge, Rendezvous, Permit, Select, Switch, Delay, Cycle, SetReset, DataLatch, RisingEdge, FallingEdge, CountUp}
 use Rattle.fb_types.specs.declared.library.Ports.{Ports}
+use Rattle.fb_types.proofs.ByIndex.{element_of_index}
+use Rattle.fb_types.proofs.ListTests.{passes_at}
 
 abbrev pub kinds : List EventKind
 kinds =
@@ -29,6 +32,10 @@ kind_stands DataLatch = refl
 kind_stands RisingEdge = refl
 kind_stands FallingEdge = refl
 kind_stands CountUp = refl
+
+-- a test that all kinds in the list pass is passed by any kind
+pub of_each : (test : EventKind → Bool) → list_all test kinds ≡ true → (k : EventKind) → test k ≡ true
+of_each test passed k = passes_at test kinds k passed (element_of_index kinds (kind_index k) k (kind_stands k))
 
 pub ports_next :
     (n : ℕ) (all more : List Ports) (x : Ports) → n < 14 → x ≡ ports_of_event_block (get_or kinds n Restart)

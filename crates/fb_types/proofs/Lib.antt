@@ -35,3 +35,5 @@ pub mod Acceptance
 pub mod ExamplesAccepted
 pub mod AllKinds
 pub mod EventCounts
+pub mod EventNames
+pub mod EventRowLaws

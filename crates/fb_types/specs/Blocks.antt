@@ -1,5 +1,5 @@
 -- Block types and their ports (IEC 61499-1, 5.1 and Annex A; the ports of event blocks are this project's profile).
-use Rattle.std.specs.Prelude.{List, [], ◌∷◌, ◌++◌, map, Bool, ◌&&◌, if◌then◌else◌, Option, Some, None, option_map, codes}
+use Rattle.std.specs.Prelude.{ℕ, List, [], ◌∷◌, ◌++◌, map, Bool, ◌&&◌, if◌then◌else◌, Option, Some, None, option_map, slice_get, codes}
 use Rattle.std.specs.List.{filter, list_any}
 use Rattle.fb_types.specs.Names.{Name, same_name}
 use Rattle.fb_types.specs.Values.{Values, Types, zero_of}
@@ -109,10 +109,20 @@ event_names es = map (λ e. e.name) es
 abbrev pub variable_names : List Variable → List Name
 variable_names vs = map (λ v. v.name) vs
 
+-- the type of the variable at an index, and of the one with a name
+abbrev pub type_at : List Variable → ℕ → Option Ty
+type_at vs k = option_map (λ v. v.ty) (slice_get vs k)
+
+abbrev pub type_named : List Variable → Name → Option Ty
+type_named vs n = option_map (λ v. v.ty) (named (λ v. v.name) n vs)
+
+-- whether an event has this name and this variable WITH it
+abbrev pub goes_with : (event variable : Name) → EventPort → Bool
+goes_with e v p = same_name p.name e && among p.with v
+
 -- the variables WITH an event, in the order in which the variables are declared
 abbrev pub variables_with : List EventPort → List Variable → Name → List Name
-variables_with events variables e =
-    filter (λ v. list_any (λ p. same_name p.name e && among p.with v) events) (variable_names variables)
+variables_with events variables e = filter (λ v. list_any (goes_with e v) events) (variable_names variables)
 
 abbrev pub inputs_with : Ports → Name → List Name
 inputs_with p = variables_with p.event_inputs p.inputs

@@ -34,7 +34,10 @@ pub mod value;
 pub use boxed::Boxed;
 pub use deploy::{Deploy, Link, Plan, ResourceEntry, Setting, Stimulus};
 pub use event_kind::EventKind;
-pub use event_ports::{all_ports, kind_named, ports_of};
+pub use event_ports::{
+    all_ports, event_block_carries, event_block_input, event_block_input_named, event_block_output,
+    event_block_output_named, kind_named, ports_of,
+};
 pub use few::{Few, Held};
 pub use function::Function;
 pub use items::Items;

@@ -1,9 +1,8 @@
 -- What acceptance says of the instances and the variables of a system.
-use Rattle.std.proofs.Common.{◌≡◌, ℕ, zero, suc, ◌<◌, Bool, true, false, not, ◌&&◌, List, [], ◌∷◌, ◌++◌, length, Option, Some, None, Contains, refl, sym, subst, ◌∙◌, inl, inr, arith}
+use Rattle.std.proofs.Common.{◌≡◌, ℕ, zero, suc, ◌<◌, Bool, true, false, List, [], ◌∷◌, ◌++◌, length, Option, Some, None, Contains, refl, subst, inl, inr, arith}
 use Rattle.std.specs.Prelude.{if◌then◌else◌, option_map, slice_get, unwrap_or}
-use Rattle.std.proofs.lemmas.Bool.{and_parts, not-true, true≢false}
 use Rattle.std.proofs.lemmas.Option.{same_Some}
-use Rattle.fb_types.specs.Blocks.{Event, Kind, among, event_blocks, event_names, named, ports, ports_of, ports_of_event_block, variable_names}
+use Rattle.fb_types.specs.Blocks.{Event, Kind, event_blocks, event_names, named, ports, ports_of, ports_of_event_block, variable_names}
 use Rattle.fb_types.specs.Flat.{inside, instance_at, kind_at, kind_of, kind_of_instance, paths_inside, paths_of, type_name, type_named}
 use Rattle.fb_types.specs.Headline.{AreAccepted, Inputs, system_of}
 use Rattle.fb_types.specs.Names.{Name, Path}
@@ -11,16 +10,16 @@ use Rattle.fb_types.specs.Numbers.{path_at, ports_at}
 use Rattle.fb_types.specs.Repeated.{NameTwice, Twice, internals_of, port_names as type_names}
 use Rattle.fb_types.specs.declared.deploy.Plan.{Plan}
 use Rattle.fb_types.specs.declared.event_kind.EventKind.{EventKind}
-use Rattle.fb_types.specs.declared.event_kind.EventKind.TheVariants.{Restart, Split, Merge, Rendezvous, Permit, Select, Switch, Delay, Cycle, SetReset, DataLatch, RisingEdge, FallingEdge, CountUp}
 use Rattle.fb_types.specs.declared.library.BlockType.{BlockType}
 use Rattle.fb_types.specs.declared.library.BlockType.TheVariants as block
 use Rattle.fb_types.specs.declared.library.Library.{Library}
 use Rattle.fb_types.specs.declared.library.Network.{Network}
 use Rattle.fb_types.specs.declared.library.Ports.{Ports}
 use Rattle.fb_types.proofs.Elements.{Contains-cons_cases, Contains-here, Contains-nil, Contains-there, flat_map-Contains}
-use Rattle.fb_types.proofs.NameLaws.{any_from_contains, named-Contains}
+use Rattle.fb_types.proofs.NameLaws.{named-Contains}
 use Rattle.fb_types.proofs.Options.{and_then_parts, map_parts}
 use Rattle.fb_types.proofs.TwiceLaws.{Twice-append_left, Twice-append_right}
+use Rattle.fb_types.proofs.EventNames.{events_once as event_names_once}
 use Rattle.fb_check_names.proofs.NameTwice.{block_twice}
 use Rattle.fb_system.proofs.Distinct.{below, paths_from}
 use Rattle.fb_system.proofs.Naming.{variables_once}
@@ -51,52 +50,14 @@ outputs_once i accepted p t =
 
 -- ---- The events of an instance have different names
 
--- whether names differ
-abbrev differ : List Name → Bool
-differ [] = true
-differ (n ∷ ns) = not (among ns n) && differ ns
-
-once_from_test : (ns : List Name) → differ ns ≡ true → ¬ (Twice ns)
-once_from_test [] h t = t
-once_from_test (n ∷ ns) h t =
-    let parts = and_parts (not (among ns n)) (differ ns) h in
-    elim t [
-      | inl c ↦ true≢false (sym (any_from_contains n ns c) ∙ not-true (among ns n) parts.0)
-      | inr rest ↦ once_from_test ns parts.1 rest
-    ]
-
 abbrev events_of : Ports → Bool → List Name
 events_of its taken = event_names (if taken then its.event_inputs else its.event_outputs)
 
-event_block_differs : (k : EventKind) (taken : Bool) → differ (events_of (ports_of_event_block k) taken) ≡ true
-event_block_differs Restart true = refl
-event_block_differs Restart false = refl
-event_block_differs Split true = refl
-event_block_differs Split false = refl
-event_block_differs Merge true = refl
-event_block_differs Merge false = refl
-event_block_differs Rendezvous true = refl
-event_block_differs Rendezvous false = refl
-event_block_differs Permit true = refl
-event_block_differs Permit false = refl
-event_block_differs Select true = refl
-event_block_differs Select false = refl
-event_block_differs Switch true = refl
-event_block_differs Switch false = refl
-event_block_differs Delay true = refl
-event_block_differs Delay false = refl
-event_block_differs Cycle true = refl
-event_block_differs Cycle false = refl
-event_block_differs SetReset true = refl
-event_block_differs SetReset false = refl
-event_block_differs DataLatch true = refl
-event_block_differs DataLatch false = refl
-event_block_differs RisingEdge true = refl
-event_block_differs RisingEdge false = refl
-event_block_differs FallingEdge true = refl
-event_block_differs FallingEdge false = refl
-event_block_differs CountUp true = refl
-event_block_differs CountUp false = refl
+event_block_once : (k : EventKind) (taken : Bool) → ¬ (Twice (events_of (ports_of_event_block k) taken))
+event_block_once k true t =
+    let p = ports_of_event_block k in event_names_once k (Twice-append_left (event_names p.event_inputs) (event_names p.event_outputs) t)
+event_block_once k false t =
+    let p = ports_of_event_block k in event_names_once k (Twice-append_right (event_names p.event_inputs) (event_names p.event_outputs) t)
 
 types_once : (lib : Library) (plan : Plan) (t : BlockType) → ¬ (NameTwice lib plan) → Contains lib.blocks t → ¬ (Twice (type_names t))
 types_once lib plan (block.Basic b) once c t = once (block_twice lib plan (block.Basic b) c (inl (inl t)))
@@ -125,7 +86,7 @@ kind_events_once lib plan n k once h taken =
     (λ o. elim o as (λ _. Option Kind) [ Some e ↦ Some (Event e.1) | None ↦ option_map kind_of (named type_name n lib.blocks) ] ≡ Some k → ¬ (Twice (events_of (ports_of k) taken))) [
       | Some e ↦ λ h.
           subst (λ (k : Kind). ¬ (Twice (events_of (ports_of k) taken))) (same_Some (Event e.1) k h)
-          (once_from_test (events_of (ports_of_event_block e.1) taken) (event_block_differs e.1 taken))
+          (event_block_once e.1 taken)
       | None ↦ λ h.
           (let from = map_parts kind_of (named type_name n lib.blocks) k h in
           subst (λ (k : Kind). ¬ (Twice (events_of (ports_of k) taken))) from.2

@@ -1,9 +1,9 @@
 -- The variables WITH output events, by name.
-use Rattle.std.proofs.Common.{◌≡◌, ◌||◌, ◌&&◌, Bool, true, false, cond, List, [], ◌∷◌, Option, Some, None, refl, sym, ◌∙◌, ap}
+use Rattle.std.proofs.Common.{◌≡◌, ◌&&◌, Bool, true, false, List, [], ◌∷◌, Option, Some, None, refl, sym, ◌∙◌, ap}
 use Rattle.std.specs.Prelude.{option_map, option_and_then}
-use Rattle.std.specs.List.{find, filter, list_any}
+use Rattle.std.specs.List.{find, list_any}
 use Rattle.fb_types.specs.Names.{Name, Path, Port, same_name}
-use Rattle.fb_types.specs.Blocks.{Kind, among, named, event_block_named, outputs_with, ports_of_event_block, variable_names}
+use Rattle.fb_types.specs.Blocks.{Kind, among, goes_with, named, event_block_named, outputs_with, ports_of_event_block}
 use Rattle.fb_types.specs.Flat.{kind_at, kind_of, kind_of_instance, port_in, type_name, type_named}
 use Rattle.fb_types.specs.declared.event_kind.EventKind.{EventKind}
 use Rattle.fb_types.specs.declared.library.BlockType.{BlockType}
@@ -13,38 +13,13 @@ use Rattle.fb_types.specs.declared.library.Library.{Library}
 use Rattle.fb_types.specs.declared.library.PortName.{PortName}
 use Rattle.fb_types.specs.declared.library.Ports.{Ports}
 use Rattle.fb_types.specs.declared.library.Variable.{Variable}
-use Rattle.fb_types.proofs.NameLaws.{same_from_same_name, find-named}
+use Rattle.fb_types.proofs.EventRowLaws.{among_outputs_with}
+use Rattle.fb_types.proofs.NameLaws.{find-named}
 use Rattle.fb_why_kinds.proofs.NetworkLocations.{any_map}
 use Rattle.fb_why_kinds.proofs.Typed.{declared_type, event_type}
 use Rattle.fb_why.specs.Unserved.{carries}
 
 -- ---- One interface
-
-abbrev goes_with : Name → Name → EventPort → Bool
-goes_with e v p = same_name p.name e && among p.with v
-
-and_false : (b : Bool) → (b && false) ≡ false
-and_false true = refl
-and_false false = refl
-
-among-filter : (f : Name → Bool) (ns : List Name) (v : Name) → among (filter f ns) v ≡ (among ns v && f v)
-among-filter f [] v = refl
-among-filter f (n ∷ ns) v =
-    elim (same_name v n) as (λ b. same_name v n ≡ b → among (filter f (n ∷ ns)) v ≡ ((b || among ns v) && f v)) [
-      | true ↦ λ e.
-          let same : f n ≡ f v = ap f (sym (same_from_same_name v n e)) in
-          elim (f n) as (λ b. f n ≡ b → list_any (same_name v) (cond b (n ∷ filter f ns) (filter f ns)) ≡ f v) [
-            | true ↦ λ g. ap (λ b. b || among (filter f ns) v) e ∙ sym g ∙ same
-            | false ↦ λ g.
-                let none : f v ≡ false = sym same ∙ g in
-                among-filter f ns v ∙ ap (λ b. among ns v && b) none ∙ and_false (among ns v) ∙ sym none
-          ] refl
-      | false ↦ λ e.
-          elim (f n) as (λ b. list_any (same_name v) (cond b (n ∷ filter f ns) (filter f ns)) ≡ (among ns v && f v)) [
-            | true ↦ ap (λ b. b || among (filter f ns) v) e ∙ among-filter f ns v
-            | false ↦ among-filter f ns v
-          ]
-    ] refl
 
 -- a variable that is declared and WITH an event of the name
 pub ports_answer :
@@ -52,8 +27,7 @@ pub ports_answer :
     → (list_any (λ x. same_name v x.name) vs && list_any (goes_with e v) es) ≡ among (outputs_with p e) v
 ports_answer p vs es e v outputs events =
     (λ i. list_any (λ (x : Variable). same_name v x.name) (outputs i) && list_any (goes_with e v) (events i))
-    ∙ ap (λ b. b && list_any (goes_with e v) p.event_outputs) (any_map (λ (x : Variable). x.name) v p.outputs)
-    ∙ sym (among-filter (λ v. list_any (goes_with e v) p.event_outputs) (variable_names p.outputs) v)
+    ∙ ap (λ b. b && list_any (goes_with e v) p.event_outputs) (any_map (λ (x : Variable). x.name) v p.outputs) ∙ among_outputs_with p e v
 
 -- the same, from the results of the two parts
 pub ports_then :

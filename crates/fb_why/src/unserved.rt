@@ -1,9 +1,8 @@
 //! Data connections between two resources that no event serves (E28).
 
-ghost use Rattle.std.specs.Prelude.{◌≡◌, ◌&&◌, MatchOption, [], Some, true, false, slice_get};
+ghost use Rattle.std.specs.Prelude.{◌≡◌, MatchOption, [], Some, true, false, slice_get};
 ghost use Rattle.std.specs.List.{list_all, list_any};
-ghost use Rattle.fb_types.specs.Names.{same_name};
-ghost use Rattle.fb_types.specs.Blocks.{among, outputs_with, ports_of_event_block, variable_names};
+ghost use Rattle.fb_types.specs.Blocks.{among, goes_with, outputs_with};
 ghost use Rattle.fb_types.specs.Flat.{kind_at, port_in, type_named};
 ghost use Rattle.fb_types.specs.Mapped.{NoEvent};
 ghost use Rattle.fb_types.specs.declared.library.Connection.{Connection};
@@ -12,13 +11,13 @@ ghost use Rattle.fb_why.specs.Unserved.{IsUnservedAt, begin_together, brings, ca
 use crate::among::is_among;
 use crate::unlinked::resource_of;
 use fb_types::{
-    Connection, EventKind, EventPort, Library, Name, Plan, PortName, Ports, block_named,
+    Connection, EventPort, Library, Name, Plan, PortName, Ports, block_named, event_block_carries,
     has_variable, instance_named, kind_named,
 };
 
 /// Whether an event of this name has a variable WITH it.
 fn has_event(events: &[EventPort], event: &Name, variable: &Name) -> bool
-    ensures { result ≡ list_any (λ p. same_name p.name event.now && among p.with variable.now) events.now }
+    ensures { result ≡ list_any (goes_with event.now variable.now) events.now }
 {
     for port in events {
         if port.name.is(event) && is_among(port.with.as_slice(), variable) {
@@ -36,34 +35,12 @@ fn ports_carry(ports: &Ports, event: &Name, variable: &Name) -> bool
         && has_event(ports.event_outputs.as_slice(), event, variable)
 }
 
-fn is_text(name: &Name, text: &[u8]) -> bool
-    ensures { result ≡ same_name name.now text.now }
-{
-    name.as_bytes() == text
-}
-
-/// The same for an event block.
-fn event_block_carries(kind: EventKind, event: &Name, variable: &Name) -> bool
-    ensures { result ≡ among (outputs_with (ports_of_event_block kind) event.now) variable.now }
-{
-    match kind {
-        EventKind::SetReset | EventKind::DataLatch => {
-            is_text(variable, b"Q") && is_text(event, b"EO")
-        }
-        EventKind::CountUp => {
-            (is_text(variable, b"Q") || is_text(variable, b"CV"))
-                && (is_text(event, b"CUO") || is_text(event, b"RO"))
-        }
-        _ => false,
-    }
-}
-
 /// The same for the type with a name.
 fn type_carries(library: &Library, name: &Name, event: &Name, variable: &Name) -> bool
     ensures { result ≡ carries (type_named library.now name.now) event.now variable.now }
 {
     match kind_named(name.as_bytes()) {
-        Some(kind) => event_block_carries(kind, event, variable),
+        Some(kind) => event_block_carries(kind, event.as_bytes(), variable.as_bytes()),
         None => match block_named(library.blocks.as_slice(), name) {
             Some(block) => ports_carry(block.ports(), event, variable),
             None => false,

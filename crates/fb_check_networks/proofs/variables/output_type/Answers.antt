@@ -1,11 +1,10 @@
 use Rattle.std.proofs.Common.{◌≡◌, Option, None, Some, sym, ◌∙◌, ap}
 use Rattle.std.specs.Prelude.{option_and_then, option_map}
-use Rattle.fb_types.specs.Blocks.{Kind, ports_of}
+use Rattle.fb_types.specs.Blocks.{Kind, ports_of, type_at}
 use Rattle.fb_types.specs.Flat.{kind_of}
 use Rattle.fb_types.specs.declared.library.Ports.{Ports}
 use Rattle.fb_types.specs.declared.value.Ty.{Ty}
 use Rattle.fb_check_names.specs.Numbers.{kind_of_number}
-use Rattle.fb_check_networks.specs.Variables.{type_at}
 use Rattle.fb_check_networks.proofs.variables.output_type.Goals as goal
 
 pub returns-in_err-get-in-Declared : goal.returns-in_err-get-in-Declared

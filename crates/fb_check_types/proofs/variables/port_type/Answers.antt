@@ -1,6 +1,6 @@
 use Rattle.std.proofs.Common.{List, sym, ◌∙◌, ap}
 use Rattle.fb_types.specs.declared.library.Variable.{Variable}
-use Rattle.fb_check_types.specs.Roles.{type_named}
+use Rattle.fb_types.specs.Blocks.{type_named}
 use Rattle.fb_check_types.proofs.Typed.{type_back, type_front}
 use Rattle.fb_check_types.proofs.variables.port_type.Goals as goal
 

@@ -1,5 +1,5 @@
 use Rattle.std.proofs.Common.{◌≡◌, drop}
-use Rattle.fb_check_types.specs.Roles.{type_named}
+use Rattle.fb_types.specs.Blocks.{type_named}
 use Rattle.fb_check_types.proofs.variables.variable_type.Given as goal
 
 abbrev pub invariant-loop-variable : goal.invariant-loop-variable

@@ -1,10 +1,9 @@
 use Rattle.std.proofs.Common.{List, sym, ◌∙◌, ap}
 use Rattle.std.specs.Prelude.{is_some}
-use Rattle.fb_types.specs.Blocks.{named}
+use Rattle.fb_types.specs.Blocks.{named, type_named}
 use Rattle.fb_types.specs.declared.library.Variable.{Variable}
 use Rattle.fb_types.proofs.Options.{is_some-option_map}
 use Rattle.fb_types.proofs.NameLaws.{any-named}
-use Rattle.fb_check_types.specs.Roles.{type_named}
 use Rattle.fb_why_kinds.proofs.types.is_input.Goals as goal
 
 pub returns : goal.returns

@@ -1,6 +1,7 @@
 use Rattle.std.proofs.Common.{◌∙◌, ap}
 use Rattle.std.specs.Prelude.{is_some}
-use Rattle.fb_check_types.specs.Roles.{variables_of, type_named}
+use Rattle.fb_types.specs.Blocks.{type_named}
+use Rattle.fb_check_types.specs.Roles.{variables_of}
 use Rattle.fb_check_types.proofs.Roles.{is_some-type_named}
 use Rattle.fb_check_types.proofs.scope.Scope.is_variable.Goals as goal
 

@@ -3,7 +3,7 @@ use Rattle.std.specs.Prelude.{unwrap_or}
 use Rattle.fb_types.specs.declared.library.Variable.{Variable}
 use Rattle.fb_types.specs.declared.value.Ty.{Ty}
 use Rattle.fb_types.specs.declared.value.Ty.TheVariants.{Bool as Boolean}
-use Rattle.fb_check_types.specs.Roles.{type_named}
+use Rattle.fb_types.specs.Blocks.{type_named}
 use Rattle.fb_check_types.proofs.Typed.{type_or_boolean}
 use Rattle.fb_check_types.proofs.variables.BasicTypeTyping.type_of.Goals as goal
 
