@@ -2,50 +2,63 @@
 use Rattle.std.proofs.Common.{◌≡◌, ℕ, ◌+◌, ◌<◌, ◌≤◌, Bool, true, false, List, [], ◌∷◌, ◌++◌, length, get_or, drop, Option, Some, None, refl, sym, ap, ◌∙◌, append_assoc, append-nil, arith}
 use Rattle.std.proofs.lemmas.List.{drop_more}
 use Rattle.std.specs.List.{filter}
-use Rattle.fb_inputs.specs.Lists.{◌>>=◌, each}
-
--- what was found before, and what is still found
-abbrev pub with_front : {B : Type 0} → List B → Option (List B) → Option (List B)
-with_front front o = o >>= λ more. Some (front ++ more)
-
-pub front_none : {B : Type 0} (o : Option (List B)) → o ≡ with_front [] o
-front_none None = refl
-front_none (Some ys) = refl
-
-regroup : {B : Type 0} (front : List B) (y : B) (o : Option (List B)) → with_front front (o >>= λ ys. Some (y ∷ ys)) ≡ with_front (front ++ y ∷ []) o
-regroup front y None = refl
-regroup {B} front y (Some ys) = ap (λ (zs : List B). Some zs) (sym (append_assoc front (y ∷ []) ys))
-
-pub each-more : {A B : Type 0} (f : A → Option B) (front : List B) (x : A) (xs : List A) (y : B) → f x ≡ Some y → with_front front (each f (x ∷ xs)) ≡ with_front (front ++ y ∷ []) (each f xs)
-unfolding each
-each-more f front x xs y h = rw h (regroup front y (each f xs))
-
-pub each-fails : {A B : Type 0} (f : A → Option B) (front : List B) (x : A) (xs : List A) → f x ≡ None → with_front front (each f (x ∷ xs)) ≡ None
-unfolding each
-each-fails f front x xs h = rw h refl
-
-pub each-done : {A B : Type 0} (f : A → Option B) (front : List B) → with_front front (each f []) ≡ Some front
-unfolding each
-each-done {B} f front = ap (λ (zs : List B). Some zs) (append-nil front)
+use Rattle.std.specs.Prelude.{Result, Ok, Err}
+use Rattle.std.proofs.lemmas.List.{length_push}
+use Rattle.fb_inputs.specs.Lists.{all_after, each_at, each_in, placed}
+use Rattle.fb_inputs.specs.Refusals.{and_then}
 
 -- ---- a loop over the elements, whose rest is known
 
-pub more : {A B : Type 0} (f : A → Option B) (front : List B) (x : A) (xs rest : List A) (y : B) (total : Option (List B)) → rest ≡ x ∷ xs → f x ≡ Some y
-    → total ≡ with_front front (each f rest) → total ≡ with_front (front ++ y ∷ []) (each f xs)
-more f front x xs rest y total split found so_far = rw split at so_far ∙ each-more f front x xs y found
+pub nothing_before : {B N : Type 0} (o : Result (List B) N) → o ≡ all_after [] o
+nothing_before (Ok more) = refl
+nothing_before (Err n) = refl
 
-pub fails : {A B : Type 0} (f : A → Option B) (front : List B) (x : A) (xs rest : List A) (total : Option (List B)) → rest ≡ x ∷ xs → f x ≡ None
-    → total ≡ with_front front (each f rest) → None ≡ total
-fails f front x xs rest total split found so_far = sym (rw split at so_far ∙ each-fails f front x xs found)
+abbrev found_all : {B N : Type 0} → List B → Result (List B) N
+found_all all = Ok all
 
-pub done : {A B : Type 0} (f : A → Option B) (front : List B) (rest : List A) (total : Option (List B)) → length rest ≤ 0
-    → total ≡ with_front front (each f rest) → Some front ≡ total
-done f front [] total le so_far = sym (so_far ∙ each-done f front)
-done f front (x ∷ xs) total le so_far = absurd (omega arith)
+pub regroup_at : {B N : Type 0} (front : List B) (y : B) (o : Result (List B) N) → all_after front (and_then o (λ ys. Ok (y ∷ ys))) ≡ all_after (front ++ y ∷ []) o
+regroup_at {N = N} front y (Ok ys) = ap (found_all {N = N}) (sym (append_assoc front (y ∷ []) ys))
+regroup_at front y (Err n) = refl
+
+pub more_at : {A B N : Type 0} (why : ℕ → N) (f : A → Option B) (front : List B) (x : A) (xs rest : List A) (y : B) (total : Result (List B) N) → rest ≡ x ∷ xs → f x ≡ Some y
+    → total ≡ all_after front (each_at why f (length front) rest) → total ≡ all_after (front ++ y ∷ []) (each_at why f (length (front ++ y ∷ [])) xs)
+unfolding each_at
+more_at why f front x xs rest y total split found so_far =
+    rw split at so_far ∙ (rw (found, length_push front y) (regroup_at front y (each_at why f (length front + 1) xs)))
+
+pub fails_at : {A B N : Type 0} (why : ℕ → N) (f : A → Option B) (front : List B) (x : A) (xs rest : List A) (total : Result (List B) N) → rest ≡ x ∷ xs → f x ≡ None
+    → total ≡ all_after front (each_at why f (length front) rest) → total ≡ Err (why (length front))
+unfolding each_at
+fails_at why f front x xs rest total split found so_far = rw split at so_far ∙ rw found refl
+
+pub done_at : {A B N : Type 0} (why : ℕ → N) (f : A → Option B) (front : List B) (rest : List A) (total : Result (List B) N) → length rest ≤ 0
+    → total ≡ all_after front (each_at why f (length front) rest) → total ≡ Ok front
+unfolding each_at
+done_at {N = N} why f front [] total le so_far = so_far ∙ ap (found_all {N = N}) (append-nil front)
+done_at why f front (x ∷ xs) total le so_far = absurd (omega arith)
+
+-- ---- the same, where the element says itself what is wrong with it
+
+pub more_in : {A B M N : Type 0} (at : ℕ → M → N) (f : A → Result B M) (front : List B) (x : A) (xs rest : List A) (y : B) (total : Result (List B) N) → rest ≡ x ∷ xs → placed (at (length front)) (f x) ≡ Ok y
+    → total ≡ all_after front (each_in at f (length front) rest) → total ≡ all_after (front ++ y ∷ []) (each_in at f (length (front ++ y ∷ [])) xs)
+unfolding each_in
+more_in at f front x xs rest y total split found so_far =
+    rw split at so_far ∙ (rw (found, length_push front y) (regroup_at front y (each_in at f (length front + 1) xs)))
+
+pub fails_in : {A B M N : Type 0} (at : ℕ → M → N) (f : A → Result B M) (front : List B) (x : A) (xs rest : List A) (n : N) (total : Result (List B) N) → rest ≡ x ∷ xs → placed (at (length front)) (f x) ≡ Err n
+    → total ≡ all_after front (each_in at f (length front) rest) → total ≡ Err n
+unfolding each_in
+fails_in at f front x xs rest n total split found so_far = rw split at so_far ∙ rw found refl
+
+pub done_in : {A B M N : Type 0} (at : ℕ → M → N) (f : A → Result B M) (front : List B) (rest : List A) (total : Result (List B) N) → length rest ≤ 0
+    → total ≡ all_after front (each_in at f (length front) rest) → total ≡ Ok front
+unfolding each_in
+done_in {N = N} at f front [] total le so_far = so_far ∙ ap (found_all {N = N}) (append-nil front)
+done_in at f front (x ∷ xs) total le so_far = absurd (omega arith)
 
 -- ---- a loop that passes some elements over
 
-dropped : {A : Type 0} (xs : List A) (n : ℕ) (x : A) → (n < length xs) × (x ≡ get_or xs n x) → drop n xs ≡ x ∷ drop (n + 1) xs
+pub dropped : {A : Type 0} (xs : List A) (n : ℕ) (x : A) → (n < length xs) × (x ≡ get_or xs n x) → drop n xs ≡ x ∷ drop (n + 1) xs
 dropped {A} xs n x h = drop_more xs n x h.0 ∙ ap (λ (z : A). z ∷ drop (n + 1) xs) (sym h.1)
 
 pub filter_skips : {A : Type 0} (p : A → Bool) (xs : List A) (n : ℕ) (x : A) → (n < length xs) × (x ≡ get_or xs n x) → p x ≡ false → filter p (drop n xs) ≡ filter p (drop (n + 1) xs)

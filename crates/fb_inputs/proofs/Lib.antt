@@ -3,8 +3,11 @@ pub mod Parts
 pub mod Fields
 pub mod Records
 pub mod Rows
+pub mod FaultLaws
 pub mod Turns
 pub mod Tables
 pub mod Tested
 pub mod Values
 pub mod Outcomes
+pub mod Placing
+pub mod DeployLaws

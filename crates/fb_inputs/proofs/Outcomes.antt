@@ -1,24 +1,24 @@
--- Refusals that are passed on, and documents.
-use Rattle.std.proofs.Common.{◌≡◌, ◌≤◌, ℕ, Bool, true, false, List, length, Option, Some, None, Ok, Err, IsUtf8, refl, sym, ap, ◌∙◌}
+-- Documents, and what a function returns for the bytes of a deployment.
+use Rattle.std.proofs.Common.{◌≡◌, ◌≤◌, Bool, true, false, length, Some, None, Ok, Err, IsUtf8, refl, ap, ◌∙◌}
+use Rattle.std.specs.Prelude.{Result, option_map}
 use Rattle.std.specs.Option.{IfSome}
 use Rattle.std.specs.Str.{is_utf8}
-use Rattle.std.proofs.lemmas.Bool.{le-leb}
+use Rattle.std.proofs.lemmas.Bool.{le-leb, lt-leb}
 use Rattle.std.proofs.lemmas.Str.{IsUtf8-from_is_utf8, is_utf8-from_IsUtf8}
 use Rattle.toml.specs.Data.{Members}
 use Rattle.toml.specs.Parse.{parse_document}
-use Rattle.fb_inputs.specs.declared.error.InputError.{InputError}
-use Rattle.fb_inputs.specs.Refusals.{Outcome, number_of, ◌>>=◌, or_refuse, no_document, bad_shape}
-use Rattle.fb_inputs.specs.Words.{Text}
-use Rattle.fb_inputs.specs.Deployments.{document, deploy_of, deployment, judged, most_bytes}
-use Rattle.fb_inputs.specs.Documents.{draft}
+use Rattle.fb_types.specs.declared.deploy.Plan.{Plan}
+use Rattle.fb_inputs.specs.declared.deploy_location.DeployFault.{DeployFault}
+use Rattle.fb_inputs.specs.declared.deploy_location.DeployFault.TheVariants as deploy_fault
+use Rattle.fb_inputs.specs.declared.deploy_location.DeployLocation.{DeployLocation}
+use Rattle.fb_inputs.specs.declared.deploy_location.DeployLocation.TheVariants as location
 use Rattle.fb_inputs.specs.declared.document.PlanDraft.{PlanDraft}
-
-pub passed_on : {A B : Type 0} (e : InputError) (o : Outcome A) (f : A → Outcome B) → IfSome (number_of e) (λ n. o ≡ Err n) → IfSome (number_of e) (λ n. (o >>= f) ≡ Err n)
-passed_on {A} {B} e o f h = by (number_of e) h
-  where
-    by : (m : Option ℕ) → IfSome m (λ n. o ≡ Err n) → IfSome m (λ n. (o >>= f) ≡ Err n)
-    by None h = tt
-    by (Some n) h = rw h refl
+use Rattle.fb_inputs.specs.declared.error.InputError.{InputError}
+use Rattle.fb_inputs.specs.DeployPlaces.{AnswersInDocument, InDocument, number_at, numbered, place_of}
+use Rattle.fb_inputs.specs.Deployments.{IsNoDocument, IsRefusedThere, Locates, deploy_of, deployment, deployment_of, document, in_document, judged, most_bytes, no_document, too_long}
+use Rattle.fb_inputs.specs.Documents.{draft}
+use Rattle.fb_inputs.specs.Refusals.{and_then, number_of}
+use Rattle.fb_inputs.specs.Words.{Text}
 
 pub is_document : (bytes : Text) (keys : Members) → IsUtf8 bytes → parse_document bytes ≡ Some keys → document bytes ≡ Some keys
 unfolding document
@@ -32,16 +32,54 @@ is_no_document bytes unparsed = by (is_utf8 bytes) refl
     by true e = rw e (unparsed (IsUtf8-from_is_utf8 bytes e))
     by false e = rw e refl
 
--- ---- From the bytes to the draft
+-- ---- From the bytes to the plan
 
-pub short_deploy : (bytes : Text) → length bytes ≤ most_bytes → deploy_of bytes ≡ (or_refuse no_document (document bytes) >>= deployment)
+short_deploy : (bytes : Text) → length bytes ≤ most_bytes → deploy_of bytes ≡ deployment_of (document bytes)
 unfolding deploy_of
 short_deploy bytes le = rw (le-leb (length bytes) most_bytes le) refl
 
-pub drafted : (bytes : Text) (keys : Members) (d : PlanDraft) → length bytes ≤ most_bytes → or_refuse no_document (document bytes) ≡ Ok keys → draft keys ≡ Some d → deploy_of bytes ≡ judged d
-unfolding deployment
-drafted bytes keys d le read found = short_deploy bytes le ∙ rw (read, found) refl
+of_document : (bytes : Text) (keys : Members) → length bytes ≤ most_bytes → document bytes ≡ Some keys → deploy_of bytes ≡ numbered (deployment keys)
+of_document bytes keys le read = short_deploy bytes le ∙ ap deployment_of read
 
-pub undrafted : (bytes : Text) (keys : Members) → length bytes ≤ most_bytes → or_refuse no_document (document bytes) ≡ Ok keys → draft keys ≡ None → deploy_of bytes ≡ Err bad_shape
+drafted : (keys : Members) (d : PlanDraft) → draft keys ≡ Ok d → deployment keys ≡ judged d
 unfolding deployment
-undrafted bytes keys le read none = short_deploy bytes le ∙ rw (read, none) refl
+drafted keys d found = ap (λ (o : InDocument PlanDraft). and_then o judged) found
+
+undrafted : (keys : Members) (p : DeployLocation) → draft keys ≡ Err p → deployment keys ≡ Err p
+unfolding deployment
+undrafted keys p found = ap (λ (o : InDocument PlanDraft). and_then o judged) found
+
+pub refused_document : {X : Type 0} (seen : X → Plan) (bytes : Text) (e : DeployFault) → length bytes ≤ most_bytes → IsNoDocument bytes e → Locates seen bytes (Err e)
+refused_document seen bytes deploy_fault.Memory le h = tt
+refused_document seen bytes (deploy_fault.At (location.Document at)) le h = no_document le h.0 h.1
+refused_document seen bytes (deploy_fault.At location.Bytes) le h = absurd h
+refused_document seen bytes (deploy_fault.At (location.Shape t why)) le h = absurd h
+refused_document seen bytes (deploy_fault.At (location.Latency k i)) le h = absurd h
+refused_document seen bytes (deploy_fault.At (location.NoEntry k)) le h = absurd h
+refused_document seen bytes (deploy_fault.At (location.Entry k i)) le h = absurd h
+refused_document seen bytes (deploy_fault.At location.Resources) le h = absurd h
+refused_document seen bytes (deploy_fault.At location.Links) le h = absurd h
+refused_document seen bytes (deploy_fault.At (location.Entries k)) le h = absurd h
+
+pub refused_draft : {X : Type 0} (seen : X → Plan) (bytes : Text) (keys : Members) (e : DeployFault) → length bytes ≤ most_bytes → document bytes ≡ Some keys → IfSome (place_of e) (λ p. draft keys ≡ Err p)
+    → Locates seen bytes (Err e)
+refused_draft seen bytes keys deploy_fault.Memory le read h = tt
+refused_draft seen bytes keys (deploy_fault.At p) le read h = in_document le read (undrafted keys p h)
+
+pub judged_there : (bytes : Text) (keys : Members) (d : PlanDraft) (o : Result Plan DeployFault) → length bytes ≤ most_bytes → document bytes ≡ Some keys → draft keys ≡ Ok d
+    → AnswersInDocument (λ x. x) (judged d) o → Locates (λ x. x) bytes o
+judged_there bytes keys d (Ok plan) le read found h = of_document bytes keys le read ∙ ap (λ (r : InDocument Plan). numbered r) (drafted keys d found ∙ h)
+judged_there bytes keys d (Err deploy_fault.Memory) le read found h = tt
+judged_there bytes keys d (Err (deploy_fault.At p)) le read found h = in_document le read (drafted keys d found ∙ h)
+
+-- ---- The number of a refusal
+
+pub numbered_there : (bytes : Text) (p : DeployLocation) → IsRefusedThere bytes p → deploy_of bytes ≡ Err (number_at p)
+unfolding deploy_of
+numbered_there bytes p (too_long long) = rw (lt-leb (length bytes) most_bytes long) refl
+numbered_there bytes p (no_document le none within) = short_deploy bytes le ∙ ap deployment_of none
+numbered_there bytes p (in_document {keys = keys} le read refused) = of_document bytes keys le read ∙ ap (λ (r : InDocument Plan). numbered r) refused
+
+pub deploy_number : (bytes : Text) (e : DeployFault) (g : InputError) → number_of g ≡ option_map number_at (place_of e) → Locates (λ x. x) bytes (Err e) → IfSome (number_of g) (λ n. deploy_of bytes ≡ Err n)
+deploy_number bytes deploy_fault.Memory g is h = rw is tt
+deploy_number bytes (deploy_fault.At p) g is h = rw is (numbered_there bytes p h)

@@ -1,7 +1,7 @@
 -- The parts of a text before and after a mark.
 use Rattle.std.proofs.Common.{◌≡◌, ℕ, ◌+◌, ◌-◌, ◌<◌, ◌≤◌, ltb, nat_eq, true, false, length, get_or, take, drop, Some, None, refl, arith}
 use Rattle.std.proofs.lemmas.List.{take_all, length-drop}
-use Rattle.std.proofs.lemmas.Bool.{lt-ltb, le-ltb}
+use Rattle.std.proofs.lemmas.Bool.{lt-ltb}
 use Rattle.std.proofs.lemmas.List.Sums.{position_or_len_is}
 use Rattle.std.specs.List.{position_or_len}
 use Rattle.fb_inputs.specs.Words.{Text, parted}

@@ -8,11 +8,13 @@ use Rattle.csv.specs.declared.error.Error.{Error}
 use Rattle.csv.specs.declared.iter.ByteRecordsIntoIter.{ByteRecordsIntoIter}
 use Rattle.csv.specs.declared.record.ByteRecord.{ByteRecord}
 use Rattle.fb_types.specs.declared.deploy.Stimulus.{Stimulus}
-use Rattle.fb_inputs.specs.declared.error.InputError.{InputError}
-use Rattle.fb_inputs.specs.declared.error.InputError.TheVariants.{Memory, Row}
-use Rattle.fb_inputs.specs.Refusals.{number_of}
+use Rattle.fb_inputs.specs.declared.location.StimuliFault.{StimuliFault}
+use Rattle.fb_inputs.specs.declared.location.StimuliFault.TheVariants.{Memory, At}
+use Rattle.fb_inputs.specs.declared.location.StimuliLocation.TheVariants.{Heading}
+use Rattle.fb_inputs.specs.Places.{place_of}
 use Rattle.fb_inputs.specs.Words.{Text}
-use Rattle.fb_inputs.specs.Stimuli.{all_after, is_head, stimuli_from}
+use Rattle.fb_inputs.specs.Stimuli.{is_head, stimuli_from}
+use Rattle.fb_inputs.specs.Lists.{all_after}
 use Rattle.fb_inputs.specs.Readers.{IsAdded, IsAt, IsOpened, IsRead, Opens, kept_of, known, rows_from}
 use Rattle.fb_inputs.proofs.Records.{at_more}
 use Rattle.fb_inputs.proofs.Rows.{next_found, next_refused, start_read}
@@ -35,8 +37,8 @@ turn_more a b z front behind (Ok row) u here step flexible added =
 turn_more a b z front behind (Err e) u here step flexible added = absurd cc
 
 pub turn_refused :
-    (a b : Rest) (z : Text) (front behind : List Stimulus) (r : Result ByteRecord Error) (e : InputError) → IsAt a z → RowStep known a.rdr b.rdr b.left (Some r) → FlexibleStep a.rdr b.rdr (Some r)
-    → IsAdded r front behind (Err e) → IfSome (number_of e) (λ n. all_after front (stimuli_from (length front) (rows_from a.rdr.state z)) ≡ Err n)
+    (a b : Rest) (z : Text) (front behind : List Stimulus) (r : Result ByteRecord Error) (e : StimuliFault) → IsAt a z → RowStep known a.rdr b.rdr b.left (Some r) → FlexibleStep a.rdr b.rdr (Some r)
+    → IsAdded r front behind (Err e) → IfSome (place_of e) (λ n. all_after front (stimuli_from (length front) (rows_from a.rdr.state z)) ≡ Err n)
 turn_refused a b z front behind (Ok row) e here step flexible added =
     let (y, there, rows) = at_more a b z (fields_of row) here step.0 step.1 step.2 flexible in
     next_refused e front (fields_of row) (rows_from b.rdr.state y) _ _ rows added refl
@@ -45,13 +47,13 @@ turn_refused a b z front behind (Err x) e here step flexible added = let memory 
 -- ---- The heading
 
 -- the result, once the first record was tested
-abbrev pub heading_of : Result Bool InputError → Result Bool InputError
+abbrev pub heading_of : Result Bool StimuliFault → Result Bool StimuliFault
 heading_of (Ok true) = Ok true
-heading_of (Ok false) = Err Row
+heading_of (Ok false) = Err (At Heading)
 heading_of (Err e) = Err e
 
 pub heading_found :
-    (bytes : Text) (a b : Rest) (r : Result ByteRecord Error) (told : Result Bool InputError) → IsOpened a (strip_bom bytes) → RowStep known a.rdr b.rdr b.left (Some r)
+    (bytes : Text) (a b : Rest) (r : Result ByteRecord Error) (told : Result Bool StimuliFault) → IsOpened a (strip_bom bytes) → RowStep known a.rdr b.rdr b.left (Some r)
     → FlexibleStep a.rdr b.rdr (Some r) → IsRead r told → Opens bytes (kept_of b (heading_of told))
 heading_found bytes a b (Ok row) told opened step flexible is =
     let (here, start) = opened in
@@ -64,5 +66,5 @@ heading_found bytes a b (Ok row) told opened step flexible is =
     ]) refl)
 heading_found bytes a b (Err e) told opened step flexible is = rw is tt
 
-pub told_by : (r : Result Bool InputError) (x b : Bool) → r ≡ Ok x → x ≡ b → r ≡ Ok b
+pub told_by : (r : Result Bool StimuliFault) (x b : Bool) → r ≡ Ok x → x ≡ b → r ≡ Ok b
 told_by r x b is same = is ∙ ap (λ t. Ok t) same

@@ -4,8 +4,10 @@ use Rattle.std.proofs.lemmas.List.{drop_more}
 use Rattle.toml.specs.Data.{Data, as_array}
 use Rattle.toml.specs.View.{view, items_view}
 use Rattle.toml.specs.declared.value.Value.{Value}
-use Rattle.fb_inputs.specs.Lists.{each}
-use Rattle.fb_inputs.specs.Documents.{array_of, list_of, pair, pair_of}
+use Rattle.fb_inputs.specs.declared.deploy_location.DeployKey.{DeployKey}
+use Rattle.fb_inputs.specs.DeployPlaces.{InTable, element_at, shape_in}
+use Rattle.fb_inputs.specs.Lists.{each_at, each_in}
+use Rattle.fb_inputs.specs.Documents.{array_of, list_of, pair, pair_of, tables_of}
 
 pub next_view : (vs : List Value) (i : ℕ) (v : Value) → i < length vs → v ≡ get_or vs i v → map view (drop i vs) ≡ view v ∷ map view (drop (i + 1) vs)
 next_view vs i v lt is = ap (map view) (drop_more vs i v lt) ∙ ap (λ (w : Value). view w ∷ map view (drop (i + 1) vs)) (sym is)
@@ -14,8 +16,11 @@ list_view : (vs : List Value) → list_of (items_view vs) ≡ map view vs
 list_view [] = refl
 list_view (v ∷ vs) = ap (λ (ds : List Data). view v ∷ ds) (list_view vs)
 
-pub array_view : {A : Type 0} (f : Data → Option A) (d : Data) (vs : List Value) → Some (items_view vs) ≡ as_array d → array_of f d ≡ each f (map view vs)
-array_view f d vs h = rw (← h, list_view vs) refl
+pub array_view : {A : Type 0} (k : DeployKey) (f : Data → Option A) (d : Data) (vs : List Value) → Some (items_view vs) ≡ as_array d → array_of k f d ≡ each_at (element_at k) f 0 (map view vs)
+array_view k f d vs h = rw (← h, list_view vs) refl
+
+pub tables_view : {A : Type 0} (k : DeployKey) (f : Data → InTable A) (d : Data) (vs : List Value) → Some (items_view vs) ≡ as_array d → tables_of k f d ≡ each_in (shape_in k) f 0 (map view vs)
+tables_view k f d vs h = rw (← h, list_view vs) refl
 
 not_two : (vs : List Value) → (length vs ≡ 2 → ⊥) → pair_of (map view vs) ≡ None
 unfolding pair_of

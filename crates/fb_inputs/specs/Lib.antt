@@ -1,10 +1,14 @@
 pub mod Refusals
+pub mod Places
+pub mod DeployPlaces
 pub mod Lists
 pub mod Paired
 pub mod Words
 pub mod Numbers
 pub mod Rows
 pub mod Stimuli
+pub mod Faults
 pub mod Readers
 pub mod Documents
 pub mod Deployments
+pub mod DeployFaults

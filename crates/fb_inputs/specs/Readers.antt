@@ -11,11 +11,12 @@ use Rattle.csv.specs.declared.parser.State.TheVariants as st
 use Rattle.csv.specs.declared.reader.Trim.TheVariants as trim
 use Rattle.csv.specs.declared.record.ByteRecord.{ByteRecord}
 use Rattle.fb_types.specs.declared.deploy.Stimulus.{Stimulus}
-use Rattle.fb_inputs.specs.declared.error.InputError.{InputError}
-use Rattle.fb_inputs.specs.declared.error.InputError.TheVariants.{Memory}
-use Rattle.fb_inputs.specs.Refusals.{bad_row, number_of}
+use Rattle.fb_inputs.specs.declared.location.StimuliFault.{StimuliFault}
+use Rattle.fb_inputs.specs.declared.location.StimuliFault.TheVariants.{Memory}
+use Rattle.fb_inputs.specs.declared.location.StimuliLocation.TheVariants.{Heading}
+use Rattle.fb_inputs.specs.Places.{place_of}
 use Rattle.fb_inputs.specs.Rows.{Row}
-use Rattle.fb_inputs.specs.Stimuli.{is_head, stimulus}
+use Rattle.fb_inputs.specs.Stimuli.{is_head, stimulus_at}
 use Rattle.fb_inputs.specs.Words.{Text}
 
 abbrev pub known : Bor (List ℕ) → Option (List ℕ)
@@ -55,24 +56,24 @@ pub record HasOtherHead (bytes : Text) : Type 0 where
   pub other : is_head first ≡ false
 
 -- where a reader is that has read a heading, if there is any record, or why there is none
-abbrev pub Opens : Text → Result (Option (ByteRecordsIntoIter (Bor (List ℕ)))) InputError → Type 0
+abbrev pub Opens : Text → Result (Option (ByteRecordsIntoIter (Bor (List ℕ)))) StimuliFault → Type 0
 Opens bytes (Ok None) = records default_config (strip_bom bytes) ≡ []
 Opens bytes (Ok (Some it)) = IsHeaded bytes it
-Opens bytes (Err e) = IfSome (number_of e) (λ n. (n ≡ bad_row) × HasOtherHead bytes)
+Opens bytes (Err e) = IfSome (place_of e) (λ p. (p ≡ Heading) × HasOtherHead bytes)
 
 -- whether what was read is a heading: the only error is out of memory
-abbrev pub IsRead : Result ByteRecord Error → Result Bool InputError → Type 0
+abbrev pub IsRead : Result ByteRecord Error → Result Bool StimuliFault → Type 0
 IsRead (Ok row) told = told ≡ Ok (is_head (fields_of row))
 IsRead (Err e) told = told ≡ Err Memory
 
 -- a value, if a test was passed
-abbrev pub kept_of : {A : Type 0} → A → Result Bool InputError → Result (Option A) InputError
+abbrev pub kept_of : {A : Type 0} → A → Result Bool StimuliFault → Result (Option A) StimuliFault
 kept_of x (Ok true) = Ok (Some x)
 kept_of x (Ok false) = Ok None
 kept_of x (Err e) = Err e
 
 -- the stimulus of what was read follows the others, unless it is refused or memory runs out
-abbrev pub IsAdded : Result ByteRecord Error → List Stimulus → List Stimulus → Result (Unit {0}) InputError → Type 0
-IsAdded (Ok row) old new (Ok u) = (s : Stimulus) × (stimulus (length old) (fields_of row) ≡ Ok s) × (new ≡ old ++ s ∷ [])
-IsAdded (Ok row) old new (Err e) = IfSome (number_of e) (λ n. stimulus (length old) (fields_of row) ≡ Err n)
+abbrev pub IsAdded : Result ByteRecord Error → List Stimulus → List Stimulus → Result (Unit {0}) StimuliFault → Type 0
+IsAdded (Ok row) old new (Ok u) = (s : Stimulus) × (stimulus_at (length old) (fields_of row) ≡ Ok s) × (new ≡ old ++ s ∷ [])
+IsAdded (Ok row) old new (Err e) = IfSome (place_of e) (λ p. stimulus_at (length old) (fields_of row) ≡ Err p)
 IsAdded (Err e) old new added = added ≡ Err Memory

@@ -40,17 +40,23 @@ number_of Table = Some bad_table
 abbrev pub Outcome : Type 0 → Type 0
 Outcome A = Result A ℕ
 
+abbrev pub and_then : {A B N : Type 0} → Result A N → (A → Result B N) → Result B N
+and_then (Ok x) f = f x
+and_then (Err n) f = Err n
+
 infixl 10 ◌>>=◌
-abbrev pub ◌>>=◌ : {A B : Type 0} → Outcome A → (A → Outcome B) → Outcome B
-Ok x >>= f = f x
-Err n >>= f = Err n
+abbrev pub ◌>>=◌ : {A B N : Type 0} → Result A N → (A → Result B N) → Result B N
+o >>= f = and_then o f
 
 -- the value, if there is one, or this refusal
-abbrev pub or_refuse : {A : Type 0} → ℕ → Option A → Outcome A
+abbrev pub or_refuse : {A N : Type 0} → N → Option A → Result A N
 or_refuse n (Some x) = Ok x
 or_refuse n None = Err n
 
--- A function returns this outcome, as far as contracts see it, unless memory runs out.
+-- A function returns this result, as far as contracts see it, unless memory runs out. What an error says is none then.
+abbrev pub AnswersBy : {X Y E N : Type 0} → (E → Option N) → (X → Y) → Result Y N → Result X E → Type 0
+AnswersBy says seen outcome (Ok x) = outcome ≡ Ok (seen x)
+AnswersBy says seen outcome (Err e) = IfSome (says e) (λ n. outcome ≡ Err n)
+
 abbrev pub Answers : {X Y : Type 0} → (X → Y) → Outcome Y → Result X InputError → Type 0
-Answers seen outcome (Ok x) = outcome ≡ Ok (seen x)
-Answers seen outcome (Err e) = IfSome (number_of e) (λ n. outcome ≡ Err n)
+Answers seen outcome result = AnswersBy number_of seen outcome result

@@ -1,10 +1,13 @@
 -- A row of stimuli, by the fields of its record (this project's profile).
-use Rattle.std.specs.Prelude.{ℕ, Bool, not, nat_eq, ◌==◌, List, [], ◌∷◌, length, filter, Option, Some, None, option_map}
+use Rattle.std.specs.Prelude.{not, nat_eq, ◌==◌, List, length, filter, Option, Some, option_map, Ok}
 use Rattle.std.specs.List.{slice_split}
 use Rattle.fb_types.specs.declared.deploy.Setting.{Setting}
 use Rattle.fb_inputs.specs.declared.row.Word.{Word}
 use Rattle.fb_inputs.specs.declared.row.Draft.{Draft}
-use Rattle.fb_inputs.specs.Lists.{◌>>=◌, each}
+use Rattle.fb_inputs.specs.declared.location.RowFault.TheVariants as fault
+use Rattle.fb_inputs.specs.Lists.{◌>>=◌, each_at}
+use Rattle.fb_inputs.specs.Refusals.{and_then, or_refuse}
+use Rattle.fb_inputs.specs.Places.{InRow, word_at}
 use Rattle.fb_inputs.specs.Words.{Text, name, parted}
 use Rattle.fb_inputs.specs.Numbers.{value_of}
 
@@ -32,11 +35,10 @@ word z = do
   Some (record { variable = variable; value = value_of ends.1 })
 
 -- the shape of a row: its parts, each with its value, if that is one
-unfoldable pub draft : Text → Text → Option Draft
-draft at values = do
-  ends ← event at
-  found ← each word (words values)
-  Some (record { instance = ends.0; event = ends.1; words = found })
+unfoldable pub draft : Text → Text → InRow Draft
+draft at values =
+    and_then (or_refuse fault.Event (event at)) (λ ends. and_then (each_at word_at word 0 (words values)) (λ found.
+    Ok (record { instance = ends.0; event = ends.1; words = found })))
 
 abbrev pub setting : Word → Option Setting
 setting w = option_map (λ v. record { variable = w.variable; value = v }) w.value

@@ -1,6 +1,6 @@
 -- Names and keywords (IEC 61499-1, Annex B, and IEC 61131-3, 6.1, in manner; letter case is this project's
 -- profile: it is nowhere significant, and names are kept in upper case).
-use Rattle.std.specs.Prelude.{ℕ, ◌+◌, ◌-◌, Bool, true, false, not, ◌&&◌, ◌||◌, if◌then◌else◌, ◌==◌, nat_le, nat_eq, List, [], ◌∷◌, map, take, drop, position, Option, Some, None, option_map, codes}
+use Rattle.std.specs.Prelude.{ℕ, ◌+◌, ◌-◌, Bool, false, not, ◌&&◌, ◌||◌, if◌then◌else◌, ◌==◌, nat_le, nat_eq, List, [], ◌∷◌, map, take, drop, position, Option, Some, None, option_map, codes}
 use Rattle.std.specs.List.{list_all}
 use Rattle.std.specs.Char.{is_ascii_digit, is_ascii_alphabetic}
 use Rattle.std.specs.Str.{bytes_eq}

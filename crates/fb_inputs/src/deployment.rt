@@ -1,35 +1,49 @@
 //! Deployments.
 
-ghost use Rattle.std.specs.Prelude.{◌≡◌, ◌≤◌, length};
+ghost use Rattle.std.specs.Prelude.{◌≡◌, ◌≤◌, length, Some, IfErr, IfOk, MatchOption};
 ghost use Rattle.toml.specs.View.{table_view};
-ghost use Rattle.fb_inputs.specs.Refusals.{Answers, no_document, or_refuse};
+ghost use Rattle.fb_inputs.specs.Refusals.{Answers};
+ghost use Rattle.fb_inputs.specs.DeployFaults.{IsPlanned, IsRefusedAt};
+ghost use Rattle.fb_inputs.specs.DeployPlaces.{AnswersInDocument};
+ghost use Rattle.fb_inputs.specs.Deployments.{IsNoDocument, Locates};
 ghost use Rattle.fb_inputs.specs.Deployments as spec;
 
-use crate::document::{PlanDraft, draft_of};
+use crate::deploy_location::{DeployFault, DeployLocation, deploy_error};
+use crate::document::{LinkDraft, PlanDraft, draft_of};
 use crate::error::InputError;
-use crate::table::{all_are_short, all_have_latencies, all_rise, links_of};
+use crate::table::{entries_location, latency_location, links_of, start_location};
 use fb_types::{Deploy, MOST_BYTES, MOST_LINKS, MOST_RESOURCES, Plan};
-use std::alloc::Global;
+use std::alloc::{AllocError, Global};
 use toml::Table;
+
+/// Where there are too many resources, links or entries of a link.
+fn excess(resources: usize, links: &[LinkDraft]) -> Option<DeployLocation>
+    ensures { result ≡ spec.excess resources links.now }
+{
+    if resources > MOST_RESOURCES {
+        return Some(DeployLocation::Resources);
+    }
+    if links.len() > MOST_LINKS {
+        return Some(DeployLocation::Links);
+    }
+    entries_location(links)
+}
 
 /// The deployment, if its numbers are within their limits.
 #[tactic(auto, unfolding(crate::specs::Deployments::judged))]
-fn judge(alloc: Global, draft: PlanDraft) -> Result<Deploy, InputError>
+fn judge(alloc: Global, draft: PlanDraft) -> Result<Deploy, DeployFault>
     requires { 1 ≤ length draft.resources }
-    ensures { Answers (λ d. d) (spec.judged draft) result }
+    ensures { AnswersInDocument (λ d. d) (spec.judged draft) result }
 {
     let PlanDraft { resources, links } = draft;
-    if !all_have_latencies(links.as_slice()) {
-        return Err(InputError::Latency);
+    if let Some(location) = latency_location(links.as_slice()) {
+        return Err(DeployFault::At(location));
     }
-    if !all_rise(links.as_slice()) {
-        return Err(InputError::Table);
+    if let Some(location) = start_location(links.as_slice()) {
+        return Err(DeployFault::At(location));
     }
-    if resources.len() > MOST_RESOURCES
-        || links.len() > MOST_LINKS
-        || !all_are_short(links.as_slice())
-    {
-        return Err(InputError::Limit);
+    if let Some(location) = excess(resources.len(), links.as_slice()) {
+        return Err(DeployFault::At(location));
     }
     let links = links_of(alloc, links)?;
     Ok(Deploy::new(Plan {
@@ -40,19 +54,33 @@ fn judge(alloc: Global, draft: PlanDraft) -> Result<Deploy, InputError>
 }
 
 /// The document in TOML.
-fn document(alloc: Global, bytes: &[u8]) -> Result<Table, InputError>
-    ensures { Answers (λ t. table_view t) (or_refuse no_document (spec.document bytes.now)) result }
+fn document(alloc: Global, bytes: &[u8]) -> Result<Table, DeployFault>
+    ensures found { IfOk result (λ t. spec.document bytes.now ≡ Some (table_view t)) }
+    ensures refused { IfErr result (IsNoDocument bytes.now) }
 {
     match toml::table_from_slice(alloc, bytes) {
         Ok(keys) => Ok(keys),
-        Err(error) => {
-            if error.is_memory() {
-                Err(InputError::Memory)
-            } else {
-                Err(InputError::Document)
-            }
-        }
+        Err(error) => match error.span() {
+            Some(span) => Err(DeployFault::At(DeployLocation::Document(span.start))),
+            None => Err(DeployFault::Memory),
+        },
     }
+}
+
+/// Reads a deployment in TOML as [`read_deploy`] does.
+///
+/// # Errors
+///
+/// Where the deployment is refused, or `Memory`.
+pub fn locate_deploy(alloc: Global, bytes: &[u8]) -> Result<Deploy, DeployFault>
+    ensures { Locates (λ d. d) bytes.now result }
+{
+    if bytes.len() > MOST_BYTES {
+        return Err(DeployFault::At(DeployLocation::Bytes));
+    }
+    let keys = document(alloc, bytes)?;
+    let draft = draft_of(alloc, &keys)?;
+    judge(alloc, draft)
 }
 
 /// Reads a deployment in TOML: resources with their instances, and links with their latencies in ticks, which are
@@ -64,16 +92,32 @@ fn document(alloc: Global, bytes: &[u8]) -> Result<Table, InputError>
 /// unknown or of the wrong kind, a text that is no name, a link from a resource to itself (E11); a latency outside 1 to
 /// 1,000,000 (E12); a table of latencies that doesn't rise from tick 0 to at most 10^12 (E16); more than 256 resources,
 /// 1,024 links or 64 entries of a table (E15). `Memory` if memory runs out.
-#[tactic(auto, unfolding(crate::specs::Deployments::deploy_of, crate::specs::Deployments::deployment))]
 pub fn read_deploy(alloc: Global, bytes: &[u8]) -> Result<Deploy, InputError>
     ensures { Answers (λ d. d) (spec.deploy_of bytes.now) result }
 {
-    if bytes.len() > MOST_BYTES {
-        return Err(InputError::Limit);
+    match locate_deploy(alloc, bytes) {
+        Ok(deploy) => Ok(deploy),
+        Err(fault) => Err(deploy_error(fault)),
     }
-    let keys = document(alloc, bytes)?;
-    let Some(draft) = draft_of(alloc, &keys)? else {
-        return Err(InputError::Shape);
-    };
-    judge(alloc, draft)
+}
+
+/// Where the deployment in these bytes is refused, or `None` if it is accepted.
+///
+/// # Errors
+///
+/// When memory runs out.
+pub fn deployment_location(
+    alloc: Global,
+    bytes: &[u8],
+) -> Result<Option<DeployLocation>, AllocError>
+    ensures { IfOk result (λ o. MatchOption o (IsPlanned bytes.now) (IsRefusedAt bytes.now)) }
+{
+    match locate_deploy(alloc, bytes) {
+        Ok(deploy) => {
+            drop(deploy);
+            Ok(None)
+        }
+        Err(DeployFault::Memory) => Err(AllocError),
+        Err(DeployFault::At(location)) => Ok(Some(location)),
+    }
 }

@@ -1,12 +1,14 @@
 //! What a document says of a deployment, before its numbers are checked.
 
-ghost use Rattle.std.specs.Prelude.{◌≡◌, ◌≤◌, map, length, codes, IfOk, IfSome, option_map};
-ghost use Rattle.toml.specs.Data.{get_member};
+ghost use Rattle.std.specs.Prelude.{◌≡◌, ◌≤◌, map, length, IfOk, option_map};
 ghost use Rattle.toml.specs.View.{table_view, view};
 ghost use Rattle.fb_inputs.specs.Lists as lists;
+ghost use Rattle.fb_inputs.specs.DeployPlaces.{AnswersInDocument, AnswersInTable, element_at, shape_in};
+ghost use Rattle.fb_inputs.specs.DeployPlaces as places;
 ghost use Rattle.fb_inputs.specs.Documents as spec;
 
-use crate::paired::paired;
+use crate::deploy_location::{DeployFault, DeployKey, TableError, TableFault, at_top};
+use crate::paired::{beside, placed};
 use crate::text::name;
 use fb_types::{Items, Name, ResourceEntry};
 use std::alloc::{AllocError, Global};
@@ -52,34 +54,34 @@ trait Piece: Drop {
         ensures { IfOk result (λ r. r ≡ meaning (view value.now)) };
 }
 
-/// The meaning of the values, if all of them are of that kind.
-fn each<T: Piece>(alloc: Global, values: &[Value]) -> Result<Option<Items<T>>, AllocError>
-    ensures { IfOk result (λ r. r ≡ lists.each T.meaning (map view values.now)) }
+/// What the values of the array at a key represent. The first one that is not of that kind is at fault.
+fn each<T: Piece>(alloc: Global, values: &[Value], key: DeployKey) -> Result<Items<T>, TableError>
+    ensures { AnswersInTable (λ t. t) (lists.each_at (element_at key) T.meaning 0 (map view values.now)) result }
 {
     let mut found = Items::new(alloc);
     for value in values {
         let Some(piece) = T::read(alloc, value)? else {
-            return Ok(None);
+            return Err(TableError::At(TableFault::Element(key, found.len())));
         };
         found.push(piece)?;
     }
-    Ok(Some(found))
+    Ok(found)
 }
 
-/// The meaning of the items of an array, if all of them are of that kind.
-fn array<T: Piece>(alloc: Global, value: &Value) -> Result<Option<Items<T>>, AllocError>
-    ensures { IfOk result (λ r. r ≡ spec.array_of T.meaning (view value.now)) }
+/// What the items of the array at a key represent.
+fn array<T: Piece>(alloc: Global, value: &Value, key: DeployKey) -> Result<Items<T>, TableError>
+    ensures { AnswersInTable (λ t. t) (spec.array_of key T.meaning (view value.now)) result }
 {
     match value.as_array() {
-        Some(values) => each::<T>(alloc, values.as_slice()),
-        None => Ok(None),
+        Some(values) => each::<T>(alloc, values.as_slice(), key),
+        None => Err(TableError::At(TableFault::Wrong(key))),
     }
 }
 
-fn value_at<'a>(keys: &'a Table, key: &str) -> Option<&'a Value>
-    ensures { option_map (λ v. view v.now) result ≡ get_member key.now (table_view keys.now) }
+fn value_at<'a>(keys: &'a Table, key: DeployKey) -> Option<&'a Value>
+    ensures { option_map (λ v. view v.now) result ≡ places.value_at (table_view keys.now) key }
 {
-    keys.get(key)
+    keys.get(key.text())
 }
 
 fn count_of(keys: &Table) -> usize
@@ -100,56 +102,66 @@ impl Piece for Name {
 }
 
 /// The name at a key.
-fn name_at(alloc: Global, keys: &Table, key: &str) -> Result<Option<Name>, AllocError>
-    ensures { IfOk result (λ r. r ≡ spec.read_at spec.name_of key.now (table_view keys.now)) }
+fn name_at(alloc: Global, keys: &Table, key: DeployKey) -> Result<Name, TableError>
+    ensures { AnswersInTable (λ n. n) (spec.read_at key (spec.of_kind key spec.name_of) (table_view keys.now)) result }
 {
-    match value_at(keys, key) {
-        Some(value) => Name::read(alloc, value),
-        None => Ok(None),
+    let Some(value) = value_at(keys, key) else {
+        return Err(TableError::At(TableFault::Missing(key)));
+    };
+    match Name::read(alloc, value)? {
+        Some(name) => Ok(name),
+        None => Err(TableError::At(TableFault::Wrong(key))),
     }
 }
 
-/// The meaning of the array at a key.
-fn array_at<T: Piece>(
-    alloc: Global,
-    keys: &Table,
-    key: &str,
-) -> Result<Option<Items<T>>, AllocError>
-    ensures { IfOk result (λ r. r ≡ spec.read_at (spec.array_of T.meaning) key.now (table_view keys.now)) }
+/// The names in the array at a key.
+fn names_at(alloc: Global, keys: &Table, key: DeployKey) -> Result<Items<Name>, TableError>
+    ensures { AnswersInTable (λ t. t) (spec.read_at key (spec.array_of key spec.name_of) (table_view keys.now)) result }
 {
     match value_at(keys, key) {
-        Some(value) => array::<T>(alloc, value),
-        None => Ok(None),
+        Some(value) => array::<Name>(alloc, value, key),
+        None => Err(TableError::At(TableFault::Missing(key))),
     }
 }
 
-impl Piece for ResourceEntry {
+/// What a table of a document represents.
+trait Entry: Drop {
+    ghost use Rattle.toml.specs.Data.{Data};
+    ghost use Rattle.fb_inputs.specs.DeployPlaces.{InTable};
+
+    ghost meaning: { Data → InTable Self };
+
+    fn read(alloc: Global, value: &Value) -> Result<Self, TableError>
+        ensures { AnswersInTable (λ t. t) (meaning (view value.now)) result };
+}
+
+/// A device, a name and instances, and no other key.
+#[tactic(auto, unfolding(crate::specs::Documents::read_resource))]
+fn resource_of(alloc: Global, keys: &Table) -> Result<ResourceEntry, TableError>
+    ensures { AnswersInTable (λ r. r) (spec.read_resource (table_view keys.now)) result }
+{
+    let device = name_at(alloc, keys, DeployKey::Device)?;
+    let names = beside(device, name_at(alloc, keys, DeployKey::Name))?;
+    let (names, instances) = beside(names, names_at(alloc, keys, DeployKey::Instances))?;
+    if count_of(keys) != 3 {
+        return Err(TableError::At(TableFault::Further));
+    }
+    let (device, name) = names;
+    Ok(ResourceEntry {
+        device,
+        name,
+        instances,
+    })
+}
+
+impl Entry for ResourceEntry {
     ghost meaning = { spec.resource };
 
-    #[tactic(auto, unfolding(crate::specs::Documents::resource))]
-    fn read(alloc: Global, value: &Value) -> Result<Option<ResourceEntry>, AllocError> {
-        let Some(keys) = value.as_table() else {
-            return Ok(None);
-        };
-        let Some(device) = name_at(alloc, keys, "device")? else {
-            return Ok(None);
-        };
-        let Some(names) = paired(device, name_at(alloc, keys, "name"))? else {
-            return Ok(None);
-        };
-        let instances = array_at::<Name>(alloc, keys, "instances");
-        let Some((names, instances)) = paired(names, instances)? else {
-            return Ok(None);
-        };
-        let (device, name) = names;
-        if count_of(keys) != 3 {
-            return Ok(None);
+    fn read(alloc: Global, value: &Value) -> Result<ResourceEntry, TableError> {
+        match value.as_table() {
+            Some(keys) => resource_of(alloc, keys),
+            None => Err(TableError::At(TableFault::NoTable)),
         }
-        Ok(Some(ResourceEntry {
-            device,
-            name,
-            instances,
-        }))
     }
 }
 
@@ -174,91 +186,131 @@ impl Piece for LatencyDraft {
     }
 }
 
-fn constant(alloc: Global, value: &Value) -> Result<Option<Items<LatencyDraft>>, AllocError>
-    ensures { IfOk result (λ r. r ≡ spec.constant (view value.now)) }
+/// The same latency at every tick.
+fn constant(alloc: Global, value: &Value) -> Result<Items<LatencyDraft>, TableError>
+    ensures { AnswersInTable (λ t. t) (spec.of_kind DeployKey.Latency spec.constant (view value.now)) result }
 {
     match value.as_integer() {
-        Some(ticks) => Ok(Some(Items::from_slice(alloc, &[LatencyDraft { start: 0, ticks }])?)),
-        None => Ok(None),
+        Some(ticks) => Ok(Items::from_slice(alloc, &[LatencyDraft { start: 0, ticks }])?),
+        None => Err(TableError::At(TableFault::Wrong(DeployKey::Latency))),
     }
 }
 
 /// The latencies of a link: the same at every tick, or a table.
 #[tactic(auto, unfolding(crate::specs::Documents::table_of))]
-fn table_of(alloc: Global, keys: &Table) -> Result<Option<Items<LatencyDraft>>, AllocError>
-    ensures { IfOk result (λ r. r ≡ spec.table_of (get_member (codes "latency") (table_view keys.now)) (get_member (codes "latencies") (table_view keys.now))) }
+fn table_of(alloc: Global, keys: &Table) -> Result<Items<LatencyDraft>, TableError>
+    ensures { AnswersInTable (λ t. t) (spec.table_of (places.value_at (table_view keys.now) DeployKey.Latency) (places.value_at (table_view keys.now) DeployKey.Latencies)) result }
 {
-    match value_at(keys, "latency") {
-        Some(ticks) => match value_at(keys, "latencies") {
-            Some(_) => Ok(None),
+    match value_at(keys, DeployKey::Latency) {
+        Some(ticks) => match value_at(keys, DeployKey::Latencies) {
+            Some(_) => Err(TableError::At(TableFault::Both)),
             None => constant(alloc, ticks),
         },
-        None => match value_at(keys, "latencies") {
-            Some(table) => array::<LatencyDraft>(alloc, table),
-            None => Ok(None),
+        None => match value_at(keys, DeployKey::Latencies) {
+            Some(table) => array::<LatencyDraft>(alloc, table, DeployKey::Latencies),
+            None => Err(TableError::At(TableFault::Missing(DeployKey::Latency))),
         },
     }
 }
 
-impl Piece for LinkDraft {
+/// Two resources and the latencies from the one to the other, and no other key.
+#[tactic(auto, unfolding(crate::specs::Documents::read_link))]
+fn link_of(alloc: Global, keys: &Table) -> Result<LinkDraft, TableError>
+    ensures { AnswersInTable (λ l. l) (spec.read_link (table_view keys.now)) result }
+{
+    let start = name_at(alloc, keys, DeployKey::From)?;
+    let ends = beside(start, name_at(alloc, keys, DeployKey::To))?;
+    let (ends, table) = beside(ends, table_of(alloc, keys))?;
+    let (start, end) = ends;
+    if count_of(keys) != 3 {
+        return Err(TableError::At(TableFault::Further));
+    }
+    if start.is(&end) {
+        return Err(TableError::At(TableFault::Itself));
+    }
+    Ok(LinkDraft { start, end, table })
+}
+
+impl Entry for LinkDraft {
     ghost meaning = { spec.link };
 
-    #[tactic(auto, unfolding(crate::specs::Documents::link))]
-    fn read(alloc: Global, value: &Value) -> Result<Option<LinkDraft>, AllocError> {
-        let Some(keys) = value.as_table() else {
-            return Ok(None);
-        };
-        let Some(start) = name_at(alloc, keys, "from")? else {
-            return Ok(None);
-        };
-        let Some(ends) = paired(start, name_at(alloc, keys, "to"))? else {
-            return Ok(None);
-        };
-        let Some((ends, table)) = paired(ends, table_of(alloc, keys))? else {
-            return Ok(None);
-        };
-        let (start, end) = ends;
-        if count_of(keys) != 3 || start.is(&end) {
-            return Ok(None);
+    fn read(alloc: Global, value: &Value) -> Result<LinkDraft, TableError> {
+        match value.as_table() {
+            Some(keys) => link_of(alloc, keys),
+            None => Err(TableError::At(TableFault::NoTable)),
         }
-        Ok(Some(LinkDraft { start, end, table }))
+    }
+}
+
+/// What the tables of the array at a key represent.
+fn each_table<T: Entry>(
+    alloc: Global,
+    values: &[Value],
+    key: DeployKey,
+) -> Result<Items<T>, DeployFault>
+    ensures { AnswersInDocument (λ t. t) (lists.each_in (shape_in key) T.meaning 0 (map view values.now)) result }
+{
+    let mut found = Items::new(alloc);
+    for value in values {
+        let entry = placed(key, found.len(), T::read(alloc, value))?;
+        found.push(entry)?;
+    }
+    Ok(found)
+}
+
+/// The tables in the array at a key.
+fn tables<T: Entry>(alloc: Global, value: &Value, key: DeployKey) -> Result<Items<T>, DeployFault>
+    ensures { AnswersInDocument (λ t. t) (spec.tables_of key T.meaning (view value.now)) result }
+{
+    match value.as_array() {
+        Some(values) => each_table::<T>(alloc, values.as_slice(), key),
+        None => Err(at_top(TableFault::Wrong(key))),
+    }
+}
+
+/// The resources of a document.
+fn resources_at(alloc: Global, keys: &Table) -> Result<Items<ResourceEntry>, DeployFault>
+    ensures { AnswersInDocument (λ t. t) (spec.resources_in (places.value_at (table_view keys.now) DeployKey.Resource)) result }
+{
+    match value_at(keys, DeployKey::Resource) {
+        Some(resources) => tables::<ResourceEntry>(alloc, resources, DeployKey::Resource),
+        None => Err(at_top(TableFault::Missing(DeployKey::Resource))),
     }
 }
 
 /// The links of a document, if any.
-fn links_at(alloc: Global, keys: &Table) -> Result<Option<Items<LinkDraft>>, AllocError>
-    ensures { IfOk result (λ r. r ≡ spec.optional_array spec.link (get_member (codes "link") (table_view keys.now))) }
+fn links_at(alloc: Global, keys: &Table) -> Result<Items<LinkDraft>, DeployFault>
+    ensures { AnswersInDocument (λ t. t) (spec.links_in (places.value_at (table_view keys.now) DeployKey.Link)) result }
 {
-    match value_at(keys, "link") {
-        Some(links) => array::<LinkDraft>(alloc, links),
-        None => Ok(Some(Items::new(alloc))),
+    match value_at(keys, DeployKey::Link) {
+        Some(links) => tables::<LinkDraft>(alloc, links, DeployKey::Link),
+        None => Ok(Items::new(alloc)),
     }
 }
 
 fn known_keys(keys: &Table) -> usize
     ensures { result ≡ spec.known_keys (table_view keys.now) }
 {
-    if value_at(keys, "link").is_some() {
+    if value_at(keys, DeployKey::Link).is_some() {
         2
     } else {
         1
     }
 }
 
-/// The resources and links of a document, if its shape is right.
+/// The resources and links of a document.
 #[tactic(auto, unfolding(crate::specs::Documents::draft))]
-pub fn draft_of(alloc: Global, keys: &Table) -> Result<Option<PlanDraft>, AllocError>
-    ensures value { IfOk result (λ r. r ≡ spec.draft (table_view keys.now)) }
-    ensures some { IfOk result (λ r. IfSome r (λ d. 1 ≤ length d.resources)) }
+pub fn draft_of(alloc: Global, keys: &Table) -> Result<PlanDraft, DeployFault>
+    ensures value { AnswersInDocument (λ d. d) (spec.draft (table_view keys.now)) result }
+    ensures some { IfOk result (λ d. 1 ≤ length d.resources) }
 {
-    let Some(resources) = array_at::<ResourceEntry>(alloc, keys, "resource")? else {
-        return Ok(None);
-    };
-    let Some((resources, links)) = paired(resources, links_at(alloc, keys))? else {
-        return Ok(None);
-    };
-    if count_of(keys) != known_keys(keys) || resources.len() == 0 {
-        return Ok(None);
+    let resources = resources_at(alloc, keys)?;
+    let (resources, links) = beside(resources, links_at(alloc, keys))?;
+    if count_of(keys) != known_keys(keys) {
+        return Err(at_top(TableFault::Further));
     }
-    Ok(Some(PlanDraft { resources, links }))
+    if resources.len() == 0 {
+        return Err(at_top(TableFault::Empty));
+    }
+    Ok(PlanDraft { resources, links })
 }

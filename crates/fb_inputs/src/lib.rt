@@ -1,25 +1,29 @@
 //! The readers of deployments and stimuli.
 //!
 //! Guarantees to callers: `read_deploy` returns the plan that the definitions make of the TOML reader's document, and
-//! `read_stimuli` the stimuli that they make of the CSV reader's records, or the number of the refusal.
+//! `read_stimuli` the stimuli that they make of the CSV reader's records, or the number of the refusal. `locate_deploy` and
+//! `locate_stimuli` return where they are refused, and what is wrong there; `deployment_location` and `stimuli_location`
+//! return that alone, or `None` exactly if they are accepted.
 //!
-//! Read in this order: `deployment`, `document` and `table`; `stimuli` and `row`; `paired`; `text`, `number`, `keyword`
-//! and `error`.
+//! Read in this order: `deployment`, `deploy_location`, `document` and `table`; `stimuli`, `location` and `row`; `paired`;
+//! `text`, `number`, `keyword` and `error`.
 #![tactic(auto)]
 
+pub mod deploy_location;
 pub mod deployment;
 mod document;
 pub mod error;
 mod keyword;
+pub mod location;
 mod number;
 mod paired;
 mod row;
 pub mod stimuli;
-pub mod table;
+mod table;
 pub mod text;
 
-pub use deployment::read_deploy;
+pub use deploy_location::{DeployFault, DeployKey, DeployLocation, TableFault, TableLocation};
+pub use deployment::{deployment_location, locate_deploy, read_deploy};
 pub use error::InputError;
-pub use stimuli::{columns, is_heading, read_stimuli, records_of, rows_after_heading, stimulus_of};
-pub use table::{is_after, is_latency};
-pub use text::{name, parted};
+pub use location::{RowFault, StimuliFault, StimuliLocation};
+pub use stimuli::{locate_stimuli, read_stimuli, records_of, stimuli_location};

@@ -1,8 +1,10 @@
 //! What was found, with what is read after it.
 
 ghost use Rattle.std.specs.Prelude.{◌≡◌, IfOk, IfSome};
-ghost use Rattle.fb_inputs.specs.Paired.{second_of};
+ghost use Rattle.fb_inputs.specs.DeployPlaces.{IsPlaced};
+ghost use Rattle.fb_inputs.specs.Paired.{second, second_of};
 
+use crate::deploy_location::{DeployFault, DeployKey, TableError, in_table};
 use std::alloc::AllocError;
 
 /// Returns `found` with what was read after it, if that is something.
@@ -19,5 +21,30 @@ pub fn paired<A: Drop, B: Drop>(
     match read? {
         Some(read) => Ok(Some((found, read))),
         None => Ok(None),
+    }
+}
+
+/// Returns `found` with what was read after it.
+pub fn beside<A: Drop, B: Drop, E>(found: A, read: Result<B, E>) -> Result<(A, B), E>
+    ensures found { IfOk result (λ both. both.0 ≡ found) }
+    ensures read { read ≡ second result }
+{
+    match read {
+        Ok(read) => Ok((found, read)),
+        Err(error) => Err(error),
+    }
+}
+
+/// Returns what was read of the table at an index of the array at a key.
+pub fn placed<T: Drop>(
+    key: DeployKey,
+    index: usize,
+    read: Result<T, TableError>,
+) -> Result<T, DeployFault>
+    ensures { IsPlaced key index read result }
+{
+    match read {
+        Ok(read) => Ok(read),
+        Err(error) => Err(in_table(key, index, error)),
     }
 }

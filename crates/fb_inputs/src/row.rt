@@ -1,11 +1,13 @@
 //! Rows of stimuli.
 
 ghost use Rattle.std.specs.Prelude.{◌≡◌, ◌++◌, [], ◌∷◌, length, not, ◌==◌, if◌then◌else◌, IfOk, option_map};
-ghost use Rattle.fb_inputs.specs.Lists.{each};
+ghost use Rattle.fb_inputs.specs.Lists.{each_at};
+ghost use Rattle.fb_inputs.specs.Places.{AnswersInRow, value_at, word_at};
 ghost use Rattle.fb_inputs.specs.Rows as spec;
 
+use crate::location::{RowError, RowFault};
 use crate::number::value_of;
-use crate::paired::paired;
+use crate::paired::{beside, paired};
 use crate::text::{name, parted};
 use fb_types::{Items, Name, Setting, Value};
 use std::alloc::{AllocError, Global};
@@ -59,9 +61,9 @@ fn word_of(alloc: Global, text: &[u8]) -> Result<Option<Word>, AllocError>
     Ok(Some(Word { variable, value }))
 }
 
-/// The words between spaces.
-fn words(alloc: Global, text: &[u8]) -> Result<Option<Items<Word>>, AllocError>
-    ensures { IfOk result (λ r. r ≡ each spec.word (spec.words text.now)) }
+/// The words between spaces. The first one that is not `NAME=VALUE` is at fault.
+fn words(alloc: Global, text: &[u8]) -> Result<Items<Word>, RowError>
+    ensures { AnswersInRow (λ w. w) (each_at word_at spec.word 0 (spec.words text.now)) result }
 {
     let mut found = Items::new(alloc);
     for part in text.split(|b| *b == b' ') {
@@ -69,43 +71,41 @@ fn words(alloc: Global, text: &[u8]) -> Result<Option<Items<Word>>, AllocError>
             continue;
         }
         let Some(word) = word_of(alloc, part)? else {
-            return Ok(None);
+            return Err(RowError::At(RowFault::Word(found.len())));
         };
         found.push(word)?;
     }
-    Ok(Some(found))
+    Ok(found)
 }
 
 /// The parts of a row, each with its value, if that is a value.
 #[tactic(auto, unfolding(crate::specs::Rows::draft))]
-pub fn draft_of(alloc: Global, at: &[u8], values: &[u8]) -> Result<Option<Draft>, AllocError>
-    ensures { IfOk result (λ r. r ≡ spec.draft at.now values.now) }
+pub fn draft_of(alloc: Global, at: &[u8], values: &[u8]) -> Result<Draft, RowError>
+    ensures { AnswersInRow (λ d. d) (spec.draft at.now values.now) result }
 {
     let Some(ends) = event(alloc, at)? else {
-        return Ok(None);
+        return Err(RowError::At(RowFault::Event));
     };
-    let Some((ends, words)) = paired(ends, words(alloc, values))? else {
-        return Ok(None);
-    };
+    let (ends, words) = beside(ends, words(alloc, values))?;
     let (instance, event) = ends;
-    Ok(Some(Draft {
+    Ok(Draft {
         instance,
         event,
         words,
-    }))
+    })
 }
 
-/// The values for the slots, if all of them are values.
-pub fn settings(alloc: Global, words: Items<Word>) -> Result<Option<Items<Setting>>, AllocError>
-    ensures { IfOk result (λ r. r ≡ each spec.setting words) }
+/// The values for the slots. The first one that is not a value is at fault.
+pub fn settings(alloc: Global, words: Items<Word>) -> Result<Items<Setting>, RowError>
+    ensures { AnswersInRow (λ s. s) (each_at value_at spec.setting 0 words) result }
 {
     let mut found = Items::new(alloc);
     for word in words.into_vec() {
         let Word { variable, value } = word;
         let Some(value) = value else {
-            return Ok(None);
+            return Err(RowError::At(RowFault::Value(found.len())));
         };
         found.push(Setting { variable, value })?;
     }
-    Ok(Some(found))
+    Ok(found)
 }

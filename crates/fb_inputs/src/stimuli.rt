@@ -1,24 +1,28 @@
 //! Stimuli.
 
-ghost use Rattle.std.specs.Prelude.{◌≡◌, [], ◌∷◌, length, IfErr, option_map};
+ghost use Rattle.std.specs.Prelude.{◌≡◌, [], ◌∷◌, length, IfErr, IfOk, MatchOption, option_map};
 ghost use Rattle.csv.specs.Reading.{error_kind, strip_bom};
 ghost use Rattle.csv.specs.Records.{fields_of};
 ghost use Rattle.fb_inputs.specs.Readers.{IsAdded, IsAt, IsOpened, IsRead, Opens, kept_of, rows_from};
+ghost use Rattle.fb_inputs.specs.Faults.{AreTaken, IsRefusedAt};
+ghost use Rattle.fb_inputs.specs.Lists.{all_after};
+ghost use Rattle.fb_inputs.specs.Places.{AnswersAt, AnswersInRow, place_of};
 ghost use Rattle.fb_inputs.specs.Refusals.{Answers, number_of};
 ghost use Rattle.fb_inputs.specs.Stimuli as spec;
 ghost use Rattle.fb_inputs.specs.Words.{Text};
 
 use crate::error::InputError;
+use crate::location::{RowError, RowFault, StimuliFault, StimuliLocation, at_row, error_at};
 use crate::number::natural;
-use crate::paired::paired;
+use crate::paired::beside;
 use crate::row::{Draft, draft_of, settings};
 use csv::{ByteRecord, ByteRecordsIntoIter, Error, ErrorKind, ReaderBuilder};
 use fb_types::{Items, LATEST_TICK, MOST_STIMULI, MOST_STIMULI_BYTES, Stimulus};
-use std::alloc::Global;
+use std::alloc::{AllocError, Global};
 
 /// The tick, the event and the values of a record, if it has three fields.
 #[tactic(auto, using(crate::proofs::Fields::three_fields), unfolding(crate::specs::Stimuli::three))]
-pub fn columns(row: &ByteRecord) -> Option<(&[u8], &[u8], &[u8])>
+fn columns(row: &ByteRecord) -> Option<(&[u8], &[u8], &[u8])>
     ensures { option_map (λ f. (f.0.now, f.1.now, f.2.now)) result ≡ spec.three (fields_of row.now) }
 {
     if row.len() != 3 {
@@ -42,7 +46,7 @@ fn is_head(row: &ByteRecord) -> bool
 }
 
 /// Whether the record is `tick,event,values`. It is dropped here, so that no caller has to drop it at its exits.
-pub fn is_heading(row: ByteRecord) -> bool
+fn is_heading(row: ByteRecord) -> bool
     ensures { result ≡ spec.is_head (fields_of row) }
 {
     is_head(&row)
@@ -50,31 +54,30 @@ pub fn is_heading(row: ByteRecord) -> bool
 
 /// The stimulus of a row of three fields, after this number of rows.
 #[tactic(auto, unfolding(crate::specs::Stimuli::stimulus, crate::specs::Stimuli::three))]
-pub fn stimulus_of(
+fn stimulus_of(
     alloc: Global,
     before: usize,
     tick: &[u8],
     event: &[u8],
     values: &[u8],
-) -> Result<Stimulus, InputError>
-    ensures { Answers (λ s. s) (spec.stimulus before (tick.now ∷ event.now ∷ values.now ∷ [])) result }
+) -> Result<Stimulus, RowError>
+    ensures { AnswersInRow (λ s. s) (spec.stimulus before (tick.now ∷ event.now ∷ values.now ∷ [])) result }
 {
-    let Some(draft) = draft_of(alloc, event, values)? else {
-        return Err(InputError::Row);
-    };
+    let draft = draft_of(alloc, event, values)?;
     let Some(tick) = natural(tick, LATEST_TICK as u128) else {
-        return Err(InputError::Number);
+        return Err(RowError::At(RowFault::Tick));
     };
     let Draft {
         instance,
         event,
         words,
     } = draft;
-    let Some((ends, settings)) = paired((instance, event), settings(alloc, words))? else {
-        return Err(InputError::Number);
-    };
-    if tick > LATEST_TICK as u128 || before >= MOST_STIMULI {
-        return Err(InputError::Limit);
+    let (ends, settings) = beside((instance, event), settings(alloc, words))?;
+    if tick > LATEST_TICK as u128 {
+        return Err(RowError::At(RowFault::Late));
+    }
+    if before >= MOST_STIMULI {
+        return Err(RowError::At(RowFault::Crowded));
     }
     let (instance, event) = ends;
     Ok(Stimulus {
@@ -87,31 +90,37 @@ pub fn stimulus_of(
 
 /// The stimulus of a record, after this number of rows.
 #[tactic(auto, unfolding(crate::specs::Stimuli::stimulus))]
-fn stimulus_at(alloc: Global, before: usize, row: &ByteRecord) -> Result<Stimulus, InputError>
-    ensures { Answers (λ s. s) (spec.stimulus before (fields_of row.now)) result }
+fn stimulus_in(alloc: Global, before: usize, row: &ByteRecord) -> Result<Stimulus, RowError>
+    ensures { AnswersInRow (λ s. s) (spec.stimulus before (fields_of row.now)) result }
 {
     match columns(row) {
         Some((tick, event, values)) => stimulus_of(alloc, before, tick, event, values),
-        None => Err(InputError::Row),
+        None => Err(RowError::At(RowFault::Fields)),
     }
 }
 
 /// The stimulus of a record, after this number of rows. The record is dropped here, so that no caller has to drop it at
 /// its exits.
-fn stimulus(alloc: Global, before: usize, row: ByteRecord) -> Result<Stimulus, InputError>
-    ensures { Answers (λ s. s) (spec.stimulus before (fields_of row)) result }
+#[tactic(auto, unfolding(crate::specs::Stimuli::stimulus_at))]
+fn stimulus_at(alloc: Global, before: usize, row: ByteRecord) -> Result<Stimulus, StimuliFault>
+    ensures { AnswersAt (λ s. s) (spec.stimulus_at before (fields_of row)) result }
 {
-    stimulus_at(alloc, before, &row)
+    let read = stimulus_in(alloc, before, &row);
+    drop(row);
+    match read {
+        Ok(stimulus) => Ok(stimulus),
+        Err(error) => Err(at_row(before, error)),
+    }
 }
 
 /// The refusal for an error of the CSV reader. Records of bytes may have any length, so over a slice only memory can
 /// fail.
-fn refusal(error: Error) -> InputError
+fn refusal(error: Error) -> StimuliFault
     requires { spec.IsOfReading (error_kind error) }
-    ensures { result ≡ InputError.Memory }
+    ensures { result ≡ StimuliFault.Memory }
 {
     match error.kind() {
-        ErrorKind::OutOfMemory | ErrorKind::Io(_) => InputError::Memory,
+        ErrorKind::OutOfMemory | ErrorKind::Io(_) => StimuliFault::Memory,
         _ => unreachable!(),
     }
 }
@@ -128,7 +137,7 @@ pub fn records_of(alloc: Global, bytes: &[u8]) -> ByteRecordsIntoIter<&[u8]>
 }
 
 /// Whether the record is the heading.
-fn is_headed(read: Result<ByteRecord, Error>) -> Result<bool, InputError>
+fn is_headed(read: Result<ByteRecord, Error>) -> Result<bool, StimuliFault>
     requires { IfErr read (λ e. spec.IsOfReading (error_kind e)) }
     ensures { IsRead read result }
 {
@@ -139,7 +148,7 @@ fn is_headed(read: Result<ByteRecord, Error>) -> Result<bool, InputError>
 }
 
 /// Reads the heading, and returns whether there is any record.
-fn take_heading(rows: &mut ByteRecordsIntoIter<&[u8]>) -> Result<bool, InputError>
+fn take_heading(rows: &mut ByteRecordsIntoIter<&[u8]>) -> Result<bool, StimuliFault>
     requires { (left : Text) × IsOpened rows.old left }
     ensures { (bytes : Text) → IsOpened rows.old (strip_bom bytes) → Opens bytes (kept_of rows.new result) }
 {
@@ -149,23 +158,23 @@ fn take_heading(rows: &mut ByteRecordsIntoIter<&[u8]>) -> Result<bool, InputErro
     if is_headed(first)? {
         Ok(true)
     } else {
-        Err(InputError::Row)
+        Err(StimuliFault::At(StimuliLocation::Heading))
     }
 }
 
 /// The value, if a test was passed. A value of a type parameter is dropped by one call; the parts of a reader would be
 /// many.
-fn kept<T: Drop>(value: T, test: Result<bool, InputError>) -> Result<Option<T>, InputError>
+fn kept<T: Drop>(value: T, test: Result<bool, StimuliFault>) -> Result<Option<T>, StimuliFault>
     ensures { result ≡ kept_of value test }
 {
     if test? { Ok(Some(value)) } else { Ok(None) }
 }
 
 /// The reader of the records after the heading `tick,event,values`, if there is any record.
-pub fn rows_after_heading(
+fn rows_after_heading(
     alloc: Global,
     bytes: &[u8],
-) -> Result<Option<ByteRecordsIntoIter<&[u8]>>, InputError>
+) -> Result<Option<ByteRecordsIntoIter<&[u8]>>, StimuliFault>
     ensures { Opens bytes.now result }
 {
     let mut rows = records_of(alloc, bytes);
@@ -178,13 +187,13 @@ fn add(
     alloc: Global,
     read: Result<ByteRecord, Error>,
     found: &mut Items<Stimulus>,
-) -> Result<(), InputError>
+) -> Result<(), StimuliFault>
     requires { IfErr read (λ e. spec.IsOfReading (error_kind e)) }
     ensures { IsAdded read found.old found.new result }
 {
     match read {
         Ok(row) => {
-            found.push(stimulus(alloc, found.len(), row)?)?;
+            found.push(stimulus_at(alloc, found.len(), row)?)?;
             Ok(())
         }
         Err(error) => Err(refusal(error)),
@@ -196,14 +205,38 @@ fn add_all(
     alloc: Global,
     rows: &mut ByteRecordsIntoIter<&[u8]>,
     found: &mut Items<Stimulus>,
-) -> Result<(), InputError>
+) -> Result<(), StimuliFault>
     requires { (left : Text) × IsAt rows.old left }
-    ensures { (left : Text) → IsAt rows.old left → Answers (λ u. found.new) (spec.all_after found.old (spec.stimuli_from (length found.old) (rows_from rows.old.rdr.state left))) result }
+    ensures { (left : Text) → IsAt rows.old left → AnswersAt (λ u. found.new) (all_after found.old (spec.stimuli_from (length found.old) (rows_from rows.old.rdr.state left))) result }
 {
     for read in rows {
         add(alloc, read, found)?;
     }
     Ok(())
+}
+
+/// Reads stimuli in CSV as [`read_stimuli`] does.
+///
+/// # Errors
+///
+/// Where the stimuli are refused, or `Memory`.
+#[tactic(auto, unfolding(crate::specs::Stimuli::stimuli_in))]
+pub fn locate_stimuli(alloc: Global, bytes: &[u8]) -> Result<Vec<Stimulus>, StimuliFault>
+    ensures { AnswersAt (λ v. v.items) (spec.stimuli_in bytes.now) result }
+{
+    if bytes.len() > MOST_STIMULI_BYTES {
+        return Err(StimuliFault::At(StimuliLocation::Bytes));
+    }
+    let opened = rows_after_heading(alloc, bytes)?;
+    let Some(mut rows) = opened else {
+        return Ok(Vec::new(alloc));
+    };
+    let mut found = Items::new(alloc);
+    let added = add_all(alloc, &mut rows, &mut found);
+    // Drops with one call. Each exit would drop each part of the reader.
+    drop(rows);
+    added?;
+    Ok(found.into_vec())
 }
 
 /// Reads stimuli in CSV: none without a record, otherwise those of the rows after the heading `tick,event,values`. Ticks
@@ -217,17 +250,26 @@ fn add_all(
 pub fn read_stimuli(alloc: Global, bytes: &[u8]) -> Result<Vec<Stimulus>, InputError>
     ensures { Answers (λ v. v.items) (spec.stimuli_of bytes.now) result }
 {
-    if bytes.len() > MOST_STIMULI_BYTES {
-        return Err(InputError::Limit);
+    match locate_stimuli(alloc, bytes) {
+        Ok(stimuli) => Ok(stimuli),
+        Err(fault) => Err(error_at(fault)),
     }
-    let opened = rows_after_heading(alloc, bytes)?;
-    let Some(mut rows) = opened else {
-        return Ok(Vec::new(alloc));
-    };
-    let mut found = Items::new(alloc);
-    let added = add_all(alloc, &mut rows, &mut found);
-    // Drops with one call. Each exit would drop each part of the reader.
-    drop(rows);
-    added?;
-    Ok(found.into_vec())
+}
+
+/// Where stimuli in CSV are refused, or `None` if they are accepted.
+///
+/// # Errors
+///
+/// When memory runs out.
+pub fn stimuli_location(alloc: Global, bytes: &[u8]) -> Result<Option<StimuliLocation>, AllocError>
+    ensures { IfOk result (λ o. MatchOption o (AreTaken bytes.now) (IsRefusedAt bytes.now)) }
+{
+    match locate_stimuli(alloc, bytes) {
+        Ok(stimuli) => {
+            drop(stimuli);
+            Ok(None)
+        }
+        Err(StimuliFault::Memory) => Err(AllocError),
+        Err(StimuliFault::At(location)) => Ok(Some(location)),
+    }
 }

@@ -1,49 +1,37 @@
 //! Tables of latencies.
 
-ghost use Rattle.std.specs.Prelude.{◌≡◌, map, true, IfOk};
+ghost use Rattle.std.specs.Prelude.{◌≡◌, ◌==◌, length, map, false, true, None, IfOk, unsigned_abs};
 ghost use Rattle.fb_inputs.specs.Deployments as spec;
 
+use crate::deploy_location::DeployLocation;
 use crate::document::{LatencyDraft, LinkDraft};
 use fb_types::{Entry, Items, LATEST_TICK, Latency, Link, MOST_ENTRIES, MOST_LATENCY};
 use std::alloc::{AllocError, Global};
 
 /// Whether a latency is within 1 to 1,000,000 ticks.
-pub fn is_latency(ticks: i64) -> bool
-    ensures { result ≡ spec.is_latency ticks }
+fn has_latency(pair: &LatencyDraft) -> bool
+    ensures { result ≡ spec.has_latency pair.now }
 {
-    1 <= ticks && ticks <= MOST_LATENCY as i64
+    1 <= pair.ticks && pair.ticks <= MOST_LATENCY as i64
 }
 
-fn has_latencies(table: &[LatencyDraft]) -> bool
-    ensures { result ≡ spec.has_latencies table.now }
+/// The first entry whose latency is out of range.
+fn wrong_latency(table: &[LatencyDraft]) -> Option<usize>
+    ensures { result ≡ spec.first_failing spec.has_latency 0 table.now }
 {
-    for pair in table {
-        if !is_latency(pair.ticks) {
-            return false;
+    for (entry, pair) in table.iter().enumerate() {
+        if !has_latency(pair) {
+            return Some(entry);
         }
     }
-    true
+    None
 }
 
 /// Whether an entry may begin at a tick after one that begins at `last`.
-pub fn is_after(last: u64, start: i64) -> bool
+fn is_after(last: u64, start: i64) -> bool
     ensures { result ≡ spec.is_after last start }
 {
     0 <= start && last < start.unsigned_abs() && start <= LATEST_TICK as i64
-}
-
-/// Whether the ticks rise, each from the one before it.
-fn rises_after_zero(table: &[LatencyDraft]) -> bool
-    ensures { result ≡ spec.rises_from 0 table.now }
-{
-    let mut last = 0;
-    for pair in table {
-        if !is_after(last, pair.start) {
-            return false;
-        }
-        last = pair.start.unsigned_abs();
-    }
-    true
 }
 
 fn is_zero(start: i64) -> bool
@@ -52,56 +40,101 @@ fn is_zero(start: i64) -> bool
     start == 0
 }
 
-/// Whether the ticks begin at 0 and rise.
-fn rises(table: &[LatencyDraft]) -> bool
-    ensures { result ≡ spec.rises table.now }
+/// Whether an entry may follow the one that begins at `last`. The first one begins at 0.
+fn follows(last: Option<u64>, pair: &LatencyDraft) -> bool
+    ensures { result ≡ spec.follows last pair.now.start }
 {
-    match table {
-        [first, rest @ ..] => is_zero(first.start) && rises_after_zero(rest),
-        [] => false,
+    match last {
+        Some(last) => is_after(last, pair.start),
+        None => is_zero(pair.start),
     }
 }
 
-fn is_short(table: &[LatencyDraft]) -> bool
-    ensures { result ≡ spec.is_short table.now }
+/// The tick at which an entry begins.
+fn start_of(pair: &LatencyDraft) -> u64
+    ensures { result ≡ unsigned_abs pair.now.start }
 {
-    table.len() <= MOST_ENTRIES
+    pair.start.unsigned_abs()
 }
 
-/// Whether all latencies are within 1 to 1,000,000 ticks.
-pub(crate) fn all_have_latencies(links: &[LinkDraft]) -> bool
-    ensures { result ≡ spec.all_tables spec.has_latencies links.now }
+/// The first entry that does not follow the one before it.
+fn wrong_start(table: &[LatencyDraft]) -> Option<usize>
+    ensures { result ≡ spec.out_of_order None 0 table.now }
 {
-    for link in links {
-        if !has_latencies(link.table.as_slice()) {
-            return false;
+    let mut last = None;
+    for (entry, pair) in table.iter().enumerate() {
+        if !follows(last, pair) {
+            return Some(entry);
+        }
+        last = Some(start_of(pair));
+    }
+    None
+}
+
+/// Where a latency of a link is out of range.
+fn latency_of_link(link: usize, draft: &LinkDraft) -> Option<DeployLocation>
+    ensures { result ≡ spec.latency_of_link link draft.now }
+{
+    let entry = wrong_latency(draft.table.as_slice())?;
+    Some(DeployLocation::Latency { link, entry })
+}
+
+/// Where the ticks of a link do not begin at 0 or do not rise.
+fn start_of_link(link: usize, draft: &LinkDraft) -> Option<DeployLocation>
+    ensures { result ≡ spec.start_of_link link draft.now }
+{
+    if draft.table.len() == 0 {
+        return Some(DeployLocation::NoEntry { link });
+    }
+    let entry = wrong_start(draft.table.as_slice())?;
+    Some(DeployLocation::Entry { link, entry })
+}
+
+/// Where a link has too many entries.
+fn entries_of_link(link: usize, draft: &LinkDraft) -> Option<DeployLocation>
+    ensures { result ≡ spec.entries_of_link link draft.now }
+{
+    if draft.table.len() <= MOST_ENTRIES {
+        None
+    } else {
+        Some(DeployLocation::Entries { link })
+    }
+}
+
+/// Where a latency of the first link with one out of range is.
+pub(crate) fn latency_location(links: &[LinkDraft]) -> Option<DeployLocation>
+    ensures { result ≡ spec.among_links spec.latency_of_link 0 links.now }
+{
+    for (link, draft) in links.iter().enumerate() {
+        if let Some(location) = latency_of_link(link, draft) {
+            return Some(location);
         }
     }
-    true
+    None
 }
 
-/// Whether all tables rise from tick 0.
-pub(crate) fn all_rise(links: &[LinkDraft]) -> bool
-    ensures { result ≡ spec.all_tables spec.rises links.now }
+/// Where the ticks of the first link whose table does not rise from tick 0 are wrong.
+pub(crate) fn start_location(links: &[LinkDraft]) -> Option<DeployLocation>
+    ensures { result ≡ spec.among_links spec.start_of_link 0 links.now }
 {
-    for link in links {
-        if !rises(link.table.as_slice()) {
-            return false;
+    for (link, draft) in links.iter().enumerate() {
+        if let Some(location) = start_of_link(link, draft) {
+            return Some(location);
         }
     }
-    true
+    None
 }
 
-/// Whether no table has too many entries.
-pub(crate) fn all_are_short(links: &[LinkDraft]) -> bool
-    ensures { result ≡ spec.all_tables spec.is_short links.now }
+/// The first link with too many entries.
+pub(crate) fn entries_location(links: &[LinkDraft]) -> Option<DeployLocation>
+    ensures { result ≡ spec.among_links spec.entries_of_link 0 links.now }
 {
-    for link in links {
-        if !is_short(link.table.as_slice()) {
-            return false;
+    for (link, draft) in links.iter().enumerate() {
+        if let Some(location) = entries_of_link(link, draft) {
+            return Some(location);
         }
     }
-    true
+    None
 }
 
 fn entry_of(pair: LatencyDraft) -> Entry
@@ -125,8 +158,9 @@ fn entries_of(alloc: Global, table: &[LatencyDraft]) -> Result<Items<Entry>, All
 
 /// The latency of a table that was checked.
 fn latency_of(alloc: Global, table: &[LatencyDraft]) -> Result<Latency, AllocError>
-    requires latencies { spec.has_latencies table.now ≡ true }
-    requires rising { spec.rises table.now ≡ true }
+    requires latencies { spec.first_failing spec.has_latency 0 table.now ≡ None }
+    requires some { (length table.now == 0) ≡ false }
+    requires rising { spec.out_of_order None 0 table.now ≡ None }
     requires short { spec.is_short table.now ≡ true }
     ensures { IfOk result (λ l. l ≡ map spec.entry table.now) }
 {
@@ -136,9 +170,9 @@ fn latency_of(alloc: Global, table: &[LatencyDraft]) -> Result<Latency, AllocErr
 
 /// The links whose tables were checked.
 pub(crate) fn links_of(alloc: Global, drafts: Items<LinkDraft>) -> Result<Items<Link>, AllocError>
-    requires latencies { spec.all_tables spec.has_latencies drafts ≡ true }
-    requires rising { spec.all_tables spec.rises drafts ≡ true }
-    requires short { spec.all_tables spec.is_short drafts ≡ true }
+    requires latencies { spec.among_links spec.latency_of_link 0 drafts ≡ None }
+    requires rising { spec.among_links spec.start_of_link 0 drafts ≡ None }
+    requires short { spec.among_links spec.entries_of_link 0 drafts ≡ None }
     ensures { IfOk result (λ l. l ≡ map spec.link_of drafts) }
 {
     let mut found = Items::new(alloc);

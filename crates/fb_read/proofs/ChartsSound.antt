@@ -42,7 +42,7 @@ silent : (a : Option Name) (ts b : Tokens) (x : Action) (rest : Tokens) → IsNa
 silent (Some n) ts b x rest (a_name i) h = made IsAction (action_of (Some n) None) x ts b rest h (of_algorithm i)
 silent None ts b x rest i h = absurd cc
 
-action-sound : IsSound action IsAction
+pub action-sound : IsSound action IsAction
 unfolding action
 action-sound ts x rest h =
     let a = both_ok (name_if ts) _ (x, rest) h in

@@ -118,7 +118,7 @@ arguments-right below inner i (suc fuel) found depth ts read rest h =
 -- arguments begin as an expression does
 open-arguments : (below : ℕ) (inner : Inner) (ts : Tokens) (y : (List Expr × ℕ) × Tokens) → arguments below inner ts ≡ Ok y → arguments_from below inner (length ts) [] 0 ts ≡ Ok y
 unfolding arguments
-open-arguments below inner ts y h = elim (chosen (begins_expression ts) (arguments_from below inner (length ts) [] 0 ts) (Err syntax) (Ok y) h) [
+open-arguments below inner ts y h = elim (chosen (begins_expression ts) (arguments_from below inner (length ts) [] 0 ts) (Err (syntax ts)) (Ok y) h) [
   | inl w ↦ w.1
   | inr w ↦ absurd cc
 ]
@@ -257,7 +257,7 @@ level-right below inner i (suc n) ts x rest h =
     let c = climb-right below inner n (inner n) (i n) (length a_end) a a_end x rest first.counted first.fits a_then in
     record { derived = is_chain first.derived c.derived; counted = c.counted; fits = c.fits })
 
-nested-right : (d : ℕ) → IsRight d (nested_expression d)
+pub nested-right : (d : ℕ) → IsRight d (nested_expression d)
 unfolding nested_expression
 nested-right zero n ts x rest h = absurd cc
 nested-right (suc below) n ts x rest h = level-right below (nested_expression below) (nested-right below) n ts x rest h

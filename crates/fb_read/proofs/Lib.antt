@@ -2,7 +2,10 @@ pub mod Keywords
 pub mod Skips
 pub mod NumberLaws
 pub mod FrontLaws
+pub mod Ends
+pub mod Comments
 pub mod TokenLaws
+pub mod NextLaws
 pub mod Turns
 pub mod Joins
 pub mod Adding
@@ -35,7 +38,16 @@ pub mod ChartsSound
 pub mod ChartsComplete
 pub mod BlocksSound
 pub mod BlocksComplete
+pub mod Local
+pub mod LocalSteps
+pub mod LocalLoops
+pub mod LocalRules
+pub mod LocalExpressions
+pub mod LocalStatements
+pub mod LocalLibrary
 pub mod WholeLaws
+pub mod StopLaws
+pub mod RefusalLaws
 pub mod ByteLaws
 pub mod LongestLaws
 pub mod CutLaws

@@ -15,7 +15,7 @@ paired_reads outcome found read (Ok both) new r same second =
     rw done (ap (λ a. Ok ((a, both.1), new)) (sym same))
 paired_reads outcome found read (Err fault.Memory) new r same second = tt
 paired_reads outcome found read (Err fault.Syntax) new r same second =
-    let failed : outcome ≡ Err syntax = subst (λ q. Reads outcome q new) second r in
+    let failed : outcome ≡ Err (syntax new) = subst (λ q. Reads outcome q new) second r in
     rw failed refl
 paired_reads outcome found read (Err fault.Nesting) new r same second =
     let failed : outcome ≡ Err too_deep = subst (λ q. Reads outcome q new) second r in

@@ -39,7 +39,7 @@ bound-sound ts x rest h =
           made IsBound (pos a.0) x ts a.1 rest a.3 (is_bound (counted ts a.0 a.1 a.2))
     ]
 
-label-sound : IsSound label IsLabel
+pub label-sound : IsSound label IsLabel
 unfolding label
 label-sound ts x rest h =
     let a = both_ok (bound ts) _ (x, rest) h in

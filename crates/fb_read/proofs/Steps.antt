@@ -61,7 +61,7 @@ sees-mark {k = k} is_mark = same_mark-refl k
 
 pub expected : (k : Mark) (ts : Tokens) (rest : Tokens) → expect k ts ≡ Ok (tt, rest) → IsMark k ts rest
 unfolding expect
-expected k ts rest e = elim (chosen (sees k ts) (Ok (tt, rest_of ts)) (Err syntax) (Ok (tt, rest)) e) [
+expected k ts rest e = elim (chosen (sees k ts) (Ok (tt, rest_of ts)) (Err (syntax ts)) (Ok (tt, rest)) e) [
   | inl w ↦ subst (λ (r : Tokens). IsMark k ts r) (ap (λ (p : Unit {0} × Tokens). p.1) (pair_is (tt, rest_of ts) (tt, rest) w.1)) (seen k ts w.0)
   | inr w ↦ absurd cc
 ]
@@ -99,7 +99,7 @@ pub spelled : (text : Name) (ts rest : Tokens) → word text ts ≡ Ok (tt, rest
 unfolding word
 spelled text [] rest h = absurd cc
 spelled text (token.Name t ∷ ts) rest h =
-    elim (chosen (bytes_eq t text) (Ok (tt, ts)) (Err syntax) (Ok (tt, rest)) h) [
+    elim (chosen (bytes_eq t text) (Ok (tt, ts)) (Err (syntax (token.Name t ∷ ts))) (Ok (tt, rest)) h) [
       | inl w ↦
           let same : t ≡ text = (bytes_eq-Decides t text).0 w.0 in
           let left : ts ≡ rest = ap (λ (p : Unit {0} × Tokens). p.1) (pair_is (tt, ts) (tt, rest) w.1) in
@@ -115,7 +115,7 @@ unfolding ty_name
 typed_by [] t rest h = absurd cc
 typed_by (token.Mark k ∷ ts) t rest h = go (ty_of k) refl h
   where
-    go : (o : Option Ty) → ty_of k ≡ o → typed o ts ≡ Ok (t, rest) → IsType t (token.Mark k ∷ ts) rest
+    go : (o : Option Ty) → ty_of k ≡ o → typed o (token.Mark k) ts ≡ Ok (t, rest) → IsType t (token.Mark k ∷ ts) rest
     go (Some u) e r = made IsType u t (token.Mark k ∷ ts) ts rest r (is_type e is_mark)
     go None e r = absurd cc
 typed_by (token.Name s ∷ ts) t rest h = absurd cc
@@ -138,7 +138,7 @@ pub alone : (ts rest : Tokens) → one ts ≡ Ok (tt, rest) → IsWhole 1 ts res
 unfolding one
 alone [] rest h = absurd cc
 alone (token.Whole n ∷ ts) rest h =
-    elim (chosen (eqb n 1) (Ok (tt, ts)) (Err syntax) (Ok (tt, rest)) h) [
+    elim (chosen (eqb n 1) (Ok (tt, ts)) (Err (syntax (token.Whole n ∷ ts))) (Ok (tt, rest)) h) [
       | inl w ↦
           let same : n ≡ 1 = eqb-true n 1 w.0 in
           let left : ts ≡ rest = ap (λ (p : Unit {0} × Tokens). p.1) (pair_is (tt, ts) (tt, rest) w.1) in

@@ -60,8 +60,8 @@ fits-body x h = rw (le-leb _ most_nesting h.statements, le-leb _ most_nesting h.
 
 -- refused by syntax, it derives nothing
 pub nothing-derived : {A : Type 0} (p : Parser A) (R : A → Tokens → Tokens → Type 0) (Before : Tokens → Type 0) (fit : A → Bool) → IsComplete p R Before fit
-    → (x : A) (ts rest : Tokens) → p ts ≡ Err syntax → R x ts rest → Before rest → ⊥
-nothing-derived p R Before fit c x ts rest h r before = go (fit x) (c x ts rest r before)
+    → (x : A) (ts rest stuck : Tokens) → p ts ≡ Err (syntax stuck) → R x ts rest → Before rest → ⊥
+nothing-derived p R Before fit c x ts rest stuck h r before = go (fit x) (c x ts rest r before)
   where
     go : (b : Bool) → p ts ≡ picked b x rest → ⊥
     go true e = cc

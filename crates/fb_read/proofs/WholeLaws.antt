@@ -1,18 +1,24 @@
 -- A text has one list of tokens, or a first fault; what is read of its tokens is the one library that it declares.
-use Rattle.std.proofs.Common.{◌≡◌, ℕ, ◌≤◌, Bool, true, false, cond, [], ◌∷◌, length, drop, Result, Ok, Err, Some, refl, sym, ap, subst, ◌∙◌}
-use Rattle.std.specs.Prelude.{IfOk, IfErr}
+use Rattle.std.proofs.Common.{◌≡◌, ℕ, ◌<◌, Bool, true, false, cond, [], ◌∷◌, length, drop, Result, Ok, Err, Some, refl, sym, ap, subst, ◌∙◌, inl, inr, arith}
+use Rattle.std.specs.Prelude.{◌↔◌}
 use Rattle.fb_types.specs.declared.library.Library.{Library}
 use Rattle.fb_read.specs.declared.token.Token.{Token}
 use Rattle.fb_read.specs.declared.error.ReadError.{ReadError}
 use Rattle.fb_read.specs.declared.error.ReadError.TheVariants as error
 use Rattle.fb_read.specs.Blank.{Text, skip, start}
-use Rattle.fb_read.specs.Front.{TokenFault, bad_byte, Found, front}
-use Rattle.fb_read.specs.Tokens.{Tokens, after_mark, AreTokens, no_more, then_token, IsFirstFault, open_comment, is_here, is_later}
+use Rattle.fb_read.specs.Front.{TokenFault, bad_byte, bad_token, Found, front}
+use Rattle.fb_read.specs.Tokens.{Tokens, tokens_of, after_mark, AreTokens, no_more, then_token, IsFirstFault, open_comment, is_here, is_later}
 use Rattle.fb_read.specs.Parser.{Outcome, RuleFault, syntax, too_deep}
 use Rattle.fb_read.specs.Blocks.{library}
 use Rattle.fb_read.specs.BlocksGrammar.{IsLibrary}
 use Rattle.fb_read.specs.Fits.{fits_library}
-use Rattle.fb_read.specs.Whole.{most_bytes, IsDerived, IsLibraryText, IsNesting, HasTokenFault, HasTokens, RefusesWhere, IsMemory, IsGrammarFault, Parses, ended, DeclaresOne}
+use Rattle.fb_read.specs.Whole.{most_bytes, IsDerived, IsLibraryText, IsNesting, HasTokenFault, HasTokens, RefusesWhere, IsMemory, IsGrammarFault, ended, DeclaresOne}
+use Rattle.fb_read.specs.declared.refused.ReadFault.{ReadFault}
+use Rattle.fb_read.specs.declared.refused.ReadFault.TheVariants as fault
+use Rattle.fb_read.specs.declared.refused.TextFault.{TextFault}
+use Rattle.fb_read.specs.declared.refused.TextFault.TheVariants as text_fault
+use Rattle.fb_read.specs.Refusals.{IsFaultAt, IsRefused, IsErrorAt, IsErrorOf, too_long}
+use Rattle.fb_read.proofs.TokenLaws.{first-located, front_empty, tokens-located}
 use Rattle.fb_read.proofs.BlocksSound.{library-sound}
 use Rattle.fb_read.proofs.BlocksComplete.{library-complete}
 use Rattle.fb_read.proofs.Lists.{picked}
@@ -37,10 +43,6 @@ alike z h k a b t u m n eh ek et eu da db =
 
 no_front : (p : Token × ℕ) (f : TokenFault) (o : Found) → o ≡ Ok p → o ≡ Err f → ⊥
 no_front p f o e g = cc
-
-front_empty : front [] ≡ Err bad_byte
-unfolding front
-front_empty = refl
 
 -- a text that is at its end has no token
 end-not-token : (z here : Text) (t : Token) (n : ℕ) → skip start z ≡ Some [] → skip start z ≡ Some here → front here ≡ Ok (t, n) → ⊥
@@ -90,21 +92,21 @@ ended-ok (Ok (y, [])) x e = let same : y ≡ x = cc in rw same refl
 ended-ok (Ok (y, (t ∷ ts))) x e = absurd cc
 ended-ok (Err fault) x e = absurd cc
 
-abbrev answer : Bool → Library → Result Library RuleFault
+abbrev pub answer : Bool → Library → Result Library RuleFault
 answer b x = cond b (Ok x) (Err too_deep)
 
 -- what is derived is parsed if it keeps the limit of nesting, and refused for its nesting if it does not
-parsed : (ts : Tokens) (x : Library) → IsLibrary x ts [] → ended (library ts) ≡ answer (fits_library x) x
+pub parsed : (ts : Tokens) (x : Library) → IsLibrary x ts [] → ended (library ts) ≡ answer (fits_library x) x
 parsed ts x l = rw (library-complete x ts [] l refl) (go (fits_library x))
   where
     go : (b : Bool) → ended (picked b x []) ≡ answer b x
     go true = refl
     go false = refl
 
-parsed-derived : (ts : Tokens) (x : Library) → ended (library ts) ≡ Ok x → IsLibrary x ts []
+pub parsed-derived : (ts : Tokens) (x : Library) → ended (library ts) ≡ Ok x → IsLibrary x ts []
 parsed-derived ts x h = library-sound ts x [] (ended-ok (library ts) x h)
 
-parsed-fits : (ts : Tokens) (x : Library) → ended (library ts) ≡ Ok x → fits_library x ≡ true
+pub parsed-fits : (ts : Tokens) (x : Library) → ended (library ts) ≡ Ok x → fits_library x ≡ true
 parsed-fits ts x h = go (fits_library x) (sym (parsed ts x (parsed-derived ts x h)) ∙ h)
   where
     go : (b : Bool) → answer b x ≡ Ok x → b ≡ true
@@ -160,67 +162,124 @@ barren-faulty text f h x l = no-fault l.read h
 pub nothing-faulty : (text : Text) (f : TokenFault) → IsFirstFault f (after_mark text) → Nothing text
 nothing-faulty text f h x l = no-fault l.derived.read h
 
--- ---- the result, if the text has tokens
+-- ---- what is read, if something is
 
-module _ (text : Text) (ts : Tokens) (short : length text ≤ most_bytes) (a : AreTokens ts (after_mark text)) where
-  pub is-declared : (r : Result Library ReadError) → Parses r (ended (library ts)) → IfOk r (λ x. IsLibraryText text x)
-  is-declared (Ok x) h = record { derived = record { short = short; tokens = ts; read = a; derived = parsed-derived ts x h }; fits = parsed-fits ts x h }
-  is-declared (Err e) h = tt
+pub read-token : (text : Text) (x : Library) (e : ReadError) (f : TokenFault) → IsLibraryText text x → RefusesWhere (Ok x) e (HasTokenFault f text)
+read-token text x e f l = record { only = λ h. absurd cc; always = λ h. absurd (no-fault l.derived.read h.first) }
 
-  pub is-none : (r : Result Library ReadError) → Parses r (ended (library ts)) → IfErr r (λ e. ¬ IsMemory e → (x : Library) → IsLibraryText text x → ⊥)
-  is-none (Ok x) h = tt
-  is-none (Err error.Memory) h = λ n. absurd (n tt)
-  is-none (Err error.Byte) h = absurd h
-  is-none (Err error.Token) h = absurd h
-  is-none (Err (error.Syntax line)) h = λ n. nothing-parsed text ts syntax a h
-  is-none (Err error.TooLong) h = absurd h
-  is-none (Err error.Nesting) h = λ n. nothing-parsed text ts too_deep a h
+pub read-short : (text : Text) (x : Library) → IsLibraryText text x → most_bytes < length text → ⊥
+read-short text x l long = let short = l.derived.short in omega arith
 
-  pub is-nesting : (r : Result Library ReadError) → Parses r (ended (library ts)) → IfErr r (λ e. ¬ IsMemory e → (x : Library) → IsDerived text x → IsNesting e)
-  is-nesting (Ok x) h = tt
-  is-nesting (Err error.Memory) h = λ n. absurd (n tt)
-  is-nesting (Err error.Byte) h = absurd h
-  is-nesting (Err error.Token) h = absurd h
-  is-nesting (Err (error.Syntax line)) h = λ n x l. absurd (let e = too-deep text ts syntax x a h l in cc)
-  is-nesting (Err error.TooLong) h = absurd h
-  is-nesting (Err error.Nesting) h = λ n x l. tt
+-- ---- what is refused
 
-  pub is-parsed : (r : Result Library ReadError) → IfErr r (λ e. IsGrammarFault e → HasTokens text)
-  is-parsed (Ok x) = tt
-  is-parsed (Err e) = λ g. record { short = short; tokens = ts; read = a }
+-- the refusal of a text, with its number
+module _ (text : Text) where
+  none-at : (why : TextFault) (begin end : ℕ) → IsFaultAt why text begin end → Nothing text
+  none-at text_fault.Byte begin end h = nothing-faulty text bad_byte (first-located h.first)
+  none-at text_fault.Token begin end h = nothing-faulty text bad_token (first-located h.first)
+  none-at text_fault.Syntax begin end h = nothing-parsed text (tokens_of h.placed) (syntax h.left) (tokens-located h.located) h.refused
+  none-at text_fault.TooLong begin end h = λ x l. let long = h.long in read-short text x l long
+  none-at text_fault.Nesting begin end h = nothing-parsed text (tokens_of h.placed) too_deep (tokens-located h.located) h.refused
 
-  pub no-token-fault : (r : Result Library ReadError) (e : ReadError) (f : TokenFault) → (r ≡ Err e → ⊥) → RefusesWhere r e (HasTokenFault f text)
-  no-token-fault r e f other = record { only = λ h. absurd (other h); always = λ h. absurd (no-fault a h.first) }
+  pub is-none : (o : ReadFault) (e : ReadError) → IsRefused text o → IsErrorOf text o e → ¬ IsMemory e → Nothing text
+  is-none fault.Memory e h w n = absurd (n (subst IsMemory (sym w) tt))
+  is-none (fault.Refused r) e h w n = none-at r.fault r.start r.end h
 
-  pub not-byte : (r : Result Library ReadError) → Parses r (ended (library ts)) → r ≡ Err error.Byte → ⊥
-  not-byte (Ok x) h e = cc
-  not-byte (Err error.Memory) h e = cc
-  not-byte (Err error.Byte) h e = h
-  not-byte (Err error.Token) h e = cc
-  not-byte (Err (error.Syntax line)) h e = cc
-  not-byte (Err error.TooLong) h e = cc
-  not-byte (Err error.Nesting) h e = cc
+  nesting-at : (why : TextFault) (begin end : ℕ) (e : ReadError) → IsFaultAt why text begin end → IsErrorAt why text begin e → (x : Library) → IsDerived text x → IsNesting e
+  nesting-at text_fault.Byte begin end e h w x l = absurd (barren-faulty text bad_byte (first-located h.first) x l)
+  nesting-at text_fault.Token begin end e h w x l = absurd (barren-faulty text bad_token (first-located h.first) x l)
+  nesting-at text_fault.Syntax begin end e h w x l = absurd (no-syntax h.left (too-deep text (tokens_of h.placed) (syntax h.left) x (tokens-located h.located) h.refused l))
+    where
+      no-syntax : (left : Tokens) → syntax left ≡ too_deep → ⊥
+      no-syntax left g = cc
+  nesting-at text_fault.TooLong begin end e h w x l = absurd (let long = h.long in let short = l.short in omega arith)
+  nesting-at text_fault.Nesting begin end e h w x l = subst IsNesting (sym w) tt
 
-  pub not-token : (r : Result Library ReadError) → Parses r (ended (library ts)) → r ≡ Err error.Token → ⊥
-  not-token (Ok x) h e = cc
-  not-token (Err error.Memory) h e = cc
-  not-token (Err error.Byte) h e = cc
-  not-token (Err error.Token) h e = h
-  not-token (Err (error.Syntax line)) h e = cc
-  not-token (Err error.TooLong) h e = cc
-  not-token (Err error.Nesting) h e = cc
+  pub is-nesting : (o : ReadFault) (e : ReadError) → IsRefused text o → IsErrorOf text o e → ¬ IsMemory e → (x : Library) → IsDerived text x → IsNesting e
+  is-nesting fault.Memory e h w n = absurd (n (subst IsMemory (sym w) tt))
+  is-nesting (fault.Refused r) e h w n = nesting-at r.fault r.start r.end e h w
 
-  pub not-too-long : (r : Result Library ReadError) → Parses r (ended (library ts)) → r ≡ Err error.TooLong → ⊥
-  not-too-long (Ok x) h e = cc
-  not-too-long (Err error.Memory) h e = cc
-  not-too-long (Err error.Byte) h e = cc
-  not-too-long (Err error.Token) h e = cc
-  not-too-long (Err (error.Syntax line)) h e = cc
-  not-too-long (Err error.TooLong) h e = h
-  not-too-long (Err error.Nesting) h e = cc
+  grammar-at : (why : TextFault) (begin end : ℕ) (e : ReadError) → IsFaultAt why text begin end → IsErrorAt why text begin e → IsGrammarFault e → HasTokens text
+  grammar-at text_fault.Byte begin end e h w g = absurd (subst IsGrammarFault w g)
+  grammar-at text_fault.Token begin end e h w g = absurd (subst IsGrammarFault w g)
+  grammar-at text_fault.Syntax begin end e h w g = record { short = h.short; tokens = tokens_of h.placed; read = tokens-located h.located }
+  grammar-at text_fault.TooLong begin end e h w g = absurd (subst IsGrammarFault w g)
+  grammar-at text_fault.Nesting begin end e h w g = record { short = h.short; tokens = tokens_of h.placed; read = tokens-located h.located }
 
--- ---- the result, if it has a fault
+  pub is-grammar : (o : ReadFault) (e : ReadError) → IsRefused text o → IsErrorOf text o e → IsGrammarFault e → HasTokens text
+  is-grammar fault.Memory e h w g = absurd (subst IsGrammarFault w g)
+  is-grammar (fault.Refused r) e h w g = grammar-at r.fault r.start r.end e h w g
 
--- another fault than the first one
-pub other-fault : (text : Text) (e : ReadError) (r : Result Library ReadError) (f g : TokenFault) → IsFirstFault f (after_mark text) → (f ≡ g → ⊥) → (r ≡ Err e → ⊥) → RefusesWhere r e (HasTokenFault g text)
-other-fault text e r f g h apart other = record { only = λ k. absurd (other k); always = λ k. absurd (apart (fault-unique h k.first)) }
+  -- ---- a fault of a byte or of a token
+
+  abbrev Failed : ReadError → Result Library ReadError
+  Failed e = Err e
+
+  abbrev AtByte : ReadError → Type 0
+  AtByte e = RefusesWhere (Err e) error.Byte (HasTokenFault bad_byte text)
+
+  abbrev AtToken : ReadError → Type 0
+  AtToken e = RefusesWhere (Err e) error.Token (HasTokenFault bad_token text)
+
+  -- another refusal, where the fault is not there
+  other : (e g : ReadError) (P : Type 0) → (e ≡ g → ⊥) → (P → ⊥) → RefusesWhere (Err e) g P
+  other e g P apart none = record { only = λ h. absurd (apart (inside e g h)); always = λ p. absurd (none p) }
+    where
+      inside : (e g : ReadError) → Failed e ≡ Failed g → e ≡ g
+      inside e g h = cc
+
+  this : (e : ReadError) (P : Type 0) → P → RefusesWhere (Err e) e P
+  this e P p = record { only = λ h. p; always = λ p. inl refl }
+
+  memory : (g : ReadError) (P : Type 0) → (error.Memory ≡ g → ⊥) → RefusesWhere (Err error.Memory) g P
+  memory g P apart = record { only = λ h. absurd (apart (inside g h)); always = λ p. inr refl }
+    where
+      inside : (g : ReadError) → Failed error.Memory ≡ Failed g → error.Memory ≡ g
+      inside g h = cc
+
+  with-tokens : (ts : Tokens) (f : TokenFault) → AreTokens ts (after_mark text) → HasTokenFault f text → ⊥
+  with-tokens ts f a h = no-fault a h.first
+
+  too-much : (f : TokenFault) → most_bytes < length text → HasTokenFault f text → ⊥
+  too-much f long h = let short = h.short in omega arith
+
+  byte-at : (why : TextFault) (begin end : ℕ) (e : ReadError) → IsFaultAt why text begin end → IsErrorAt why text begin e → AtByte e
+  byte-at text_fault.Byte begin end e h w = subst AtByte (sym w) (this error.Byte _ (record { short = h.short; first = first-located h.first }))
+  byte-at text_fault.Token begin end e h w = subst AtByte (sym w) (other error.Token error.Byte _ (λ g. cc) (λ k. absurd (apart (fault-unique (first-located h.first) k.first))))
+    where
+      apart : bad_token ≡ bad_byte → ⊥
+      apart g = cc
+  byte-at text_fault.Syntax begin end e h w = subst AtByte (sym w) (other _ error.Byte _ (λ g. cc) (with-tokens (tokens_of h.placed) bad_byte (tokens-located h.located)))
+  byte-at text_fault.TooLong begin end e h w = subst AtByte (sym w) (other error.TooLong error.Byte _ (λ g. cc) (too-much bad_byte h.long))
+  byte-at text_fault.Nesting begin end e h w = subst AtByte (sym w) (other error.Nesting error.Byte _ (λ g. cc) (with-tokens (tokens_of h.placed) bad_byte (tokens-located h.located)))
+
+  pub is-byte : (o : ReadFault) (e : ReadError) → IsRefused text o → IsErrorOf text o e → AtByte e
+  is-byte fault.Memory e h w = subst AtByte (sym w) (memory error.Byte _ (λ g. cc))
+  is-byte (fault.Refused r) e h w = byte-at r.fault r.start r.end e h w
+
+  token-at : (why : TextFault) (begin end : ℕ) (e : ReadError) → IsFaultAt why text begin end → IsErrorAt why text begin e → AtToken e
+  token-at text_fault.Byte begin end e h w = subst AtToken (sym w) (other error.Byte error.Token _ (λ g. cc) (λ k. absurd (apart (fault-unique (first-located h.first) k.first))))
+    where
+      apart : bad_byte ≡ bad_token → ⊥
+      apart g = cc
+  token-at text_fault.Token begin end e h w = subst AtToken (sym w) (this error.Token _ (record { short = h.short; first = first-located h.first }))
+  token-at text_fault.Syntax begin end e h w = subst AtToken (sym w) (other _ error.Token _ (λ g. cc) (with-tokens (tokens_of h.placed) bad_token (tokens-located h.located)))
+  token-at text_fault.TooLong begin end e h w = subst AtToken (sym w) (other error.TooLong error.Token _ (λ g. cc) (too-much bad_token h.long))
+  token-at text_fault.Nesting begin end e h w = subst AtToken (sym w) (other error.Nesting error.Token _ (λ g. cc) (with-tokens (tokens_of h.placed) bad_token (tokens-located h.located)))
+
+  pub is-token : (o : ReadFault) (e : ReadError) → IsRefused text o → IsErrorOf text o e → AtToken e
+  is-token fault.Memory e h w = subst AtToken (sym w) (memory error.Token _ (λ g. cc))
+  is-token (fault.Refused r) e h w = token-at r.fault r.start r.end e h w
+
+  -- ---- a text that is too long
+
+  long-at : (why : TextFault) (begin end : ℕ) (e : ReadError) → IsFaultAt why text begin end → IsErrorAt why text begin e → (Failed e ≡ Failed error.TooLong) ↔ (most_bytes < length text)
+  long-at text_fault.Byte begin end e h w = (λ g. absurd cc, λ long. absurd (let short = h.short in omega arith))
+  long-at text_fault.Token begin end e h w = (λ g. absurd cc, λ long. absurd (let short = h.short in omega arith))
+  long-at text_fault.Syntax begin end e h w = (λ g. absurd cc, λ long. absurd (let short = h.short in omega arith))
+  long-at text_fault.TooLong begin end e h w = (λ g. h.long, λ long. ap Failed w)
+  long-at text_fault.Nesting begin end e h w = (λ g. absurd cc, λ long. absurd (let short = h.short in omega arith))
+
+  pub is-too-long : (o : ReadFault) (e : ReadError) → IsRefused text o → IsErrorOf text o e → (most_bytes < length text → o ≡ too_long) → (Failed e ≡ Failed error.TooLong) ↔ (most_bytes < length text)
+  is-too-long fault.Memory e h w long = (λ g. absurd cc, λ l. absurd (let g = long l in cc))
+  is-too-long (fault.Refused r) e h w long = long-at r.fault r.start r.end e h w

@@ -50,7 +50,7 @@ module _ (below : ℕ) (inner : ℕ → Parser Nested) where
   -- A call without arguments may be possible where one with arguments nests too deep, so what begins no argument is
   -- refused first.
   unfoldable pub arguments : Parser (List Expr × ℕ)
-  arguments = λ ts. if begins_expression ts then arguments_from (length ts) [] 0 ts else Err syntax
+  arguments = λ ts. if begins_expression ts then arguments_from (length ts) [] 0 ts else Err (syntax ts)
 
   -- after the opening parenthesis
   unfoldable pub call : Name → Parser Nested

@@ -30,6 +30,9 @@ pub mod Blocks
 pub mod Fits
 pub mod BlocksGrammar
 pub mod Whole
+pub mod Stops
+pub mod Located
+pub mod Refusals
 pub mod Longest
 pub mod Pauses
 pub mod TimeParts

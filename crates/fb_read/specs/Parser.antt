@@ -34,9 +34,9 @@ abbrev pub rest_of : Tokens → Tokens
 rest_of [] = []
 rest_of (t ∷ ts) = ts
 
--- why a rule refuses
+-- why a rule refuses: at the first of these tokens, or at the end where none is left; or for its nesting
 pub data RuleFault : Type 0 where
-  syntax : RuleFault
+  syntax : Tokens → RuleFault
   too_deep : RuleFault
 
 abbrev pub Outcome : Type 0 → Type 0
@@ -61,7 +61,7 @@ abbrev pub pure : {A : Type 0} → A → Parser A
 pure a = λ ts. Ok (a, ts)
 
 abbrev pub refuse : {A : Type 0} → Parser A
-refuse = λ ts. Err syntax
+refuse = λ ts. Err (syntax ts)
 
 unfoldable pub after : Mark → Tokens → Tokens
 after k ts = if sees k ts then rest_of ts else ts
@@ -71,12 +71,12 @@ abbrev pub eat : Mark → Parser Bool
 eat k = λ ts. Ok (sees k ts, after k ts)
 
 unfoldable pub expect : Mark → Parser (Unit {0})
-expect k = λ ts. if sees k ts then Ok (tt, rest_of ts) else Err syntax
+expect k = λ ts. if sees k ts then Ok (tt, rest_of ts) else Err (syntax ts)
 
 unfoldable pub name : Parser Name
-name [] = Err syntax
+name [] = Err (syntax [])
 name (token.Name text ∷ ts) = Ok (text, ts)
-name (_ ∷ ts) = Err syntax
+name (t ∷ ts) = Err (syntax (t ∷ ts))
 
 -- the next token, if it is a name
 unfoldable pub name_if : Parser (Option Name)
@@ -85,9 +85,9 @@ name_if ts = Ok (None, ts)
 
 -- a name with this spelling
 unfoldable pub word : Name → Parser (Unit {0})
-word text [] = Err syntax
-word text (token.Name found ∷ ts) = if bytes_eq found text then Ok (tt, ts) else Err syntax
-word text (_ ∷ ts) = Err syntax
+word text [] = Err (syntax [])
+word text (token.Name found ∷ ts) = if bytes_eq found text then Ok (tt, ts) else Err (syntax (token.Name found ∷ ts))
+word text (t ∷ ts) = Err (syntax (t ∷ ts))
 
 -- the elementary type that a keyword names
 abbrev pub ty_of : Mark → Option Ty
@@ -103,32 +103,33 @@ ty_of mark.Ulint = Some ty.Ulint
 ty_of mark.Time = Some ty.Time
 ty_of _ = None
 
-abbrev pub typed : Option Ty → Parser Ty
-typed (Some t) = pure t
-typed None = refuse
+-- the type that the token names, by the tokens after it
+abbrev pub typed : Option Ty → Token → Parser Ty
+typed (Some x) t ts = Ok (x, ts)
+typed None t ts = Err (syntax (t ∷ ts))
 
 unfoldable pub ty_name : Parser Ty
-ty_name [] = Err syntax
-ty_name (token.Mark k ∷ ts) = typed (ty_of k) ts
-ty_name (_ ∷ ts) = Err syntax
+ty_name [] = Err (syntax [])
+ty_name (token.Mark k ∷ ts) = typed (ty_of k) (token.Mark k) ts
+ty_name (t ∷ ts) = Err (syntax (t ∷ ts))
 
 unfoldable pub whole : Parser ℕ
-whole [] = Err syntax
+whole [] = Err (syntax [])
 whole (token.Whole n ∷ ts) = Ok (n, ts)
-whole (_ ∷ ts) = Err syntax
+whole (t ∷ ts) = Err (syntax (t ∷ ts))
 
 -- a whole literal whose value is 1
 unfoldable pub one : Parser (Unit {0})
-one [] = Err syntax
-one (token.Whole n ∷ ts) = if n == 1 then Ok (tt, ts) else Err syntax
-one (_ ∷ ts) = Err syntax
+one [] = Err (syntax [])
+one (token.Whole n ∷ ts) = if n == 1 then Ok (tt, ts) else Err (syntax (token.Whole n ∷ ts))
+one (t ∷ ts) = Err (syntax (t ∷ ts))
 
 -- a whole or a time literal
 unfoldable pub literal : Parser ℤ
-literal [] = Err syntax
+literal [] = Err (syntax [])
 literal (token.Whole n ∷ ts) = Ok (pos n, ts)
 literal (token.Time ticks ∷ ts) = Ok (ticks, ts)
-literal (_ ∷ ts) = Err syntax
+literal (t ∷ ts) = Err (syntax (t ∷ ts))
 
 -- what was found, and this mark after it
 abbrev pub ended : {A : Type 0} → Mark → A → Parser A
@@ -215,5 +216,5 @@ listed item begin = do
 abbrev pub Reads : {A : Type 0} → Outcome A → Result A ParseFault → Tokens → Type 0
 Reads outcome (Ok a) new = outcome ≡ Ok (a, new)
 Reads outcome (Err fault.Memory) new = Unit {0}
-Reads outcome (Err fault.Syntax) new = outcome ≡ Err syntax
+Reads outcome (Err fault.Syntax) new = outcome ≡ Err (syntax new)
 Reads outcome (Err fault.Nesting) new = outcome ≡ Err too_deep

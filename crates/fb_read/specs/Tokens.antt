@@ -2,10 +2,8 @@
 use Rattle.std.specs.Prelude.{◌≡◌, ℕ, ◌&&◌, if◌then◌else◌, ◌==◌, List, [], ◌∷◌, map, drop, Some, None, Ok, Err}
 use Rattle.fb_read.specs.declared.token.Token.{Token}
 use Rattle.fb_read.specs.declared.token.Placed.{Placed}
-use Rattle.fb_read.specs.declared.front.LexFault.{LexFault}
-use Rattle.fb_read.specs.declared.front.LexFault.TheVariants as fault
 use Rattle.fb_read.specs.Blank.{Text, at, skip, start}
-use Rattle.fb_read.specs.Front.{TokenFault, bad_byte, bad_token, front}
+use Rattle.fb_read.specs.Front.{TokenFault, bad_token, front}
 
 abbrev pub Tokens : Type 0
 Tokens = List Token
@@ -28,9 +26,3 @@ pub data IsFirstFault (f : TokenFault) : Text → Type 0 where
   is_here : {b : ℕ} {z here : Text} → skip start z ≡ Some (b ∷ here) → front (b ∷ here) ≡ Err f → IsFirstFault f z
   is_later : {t : Token} {n : ℕ} {z here rest : Text} → skip start z ≡ Some here → front here ≡ Ok (t, n) → drop n here ≡ rest
       → IsFirstFault f rest → IsFirstFault f z
-
--- why a function returns no tokens
-abbrev pub Tells : LexFault → Text → Type 0
-Tells fault.Memory z = Unit {0}
-Tells fault.Byte z = IsFirstFault bad_byte z
-Tells fault.Token z = IsFirstFault bad_token z

@@ -6,7 +6,7 @@ use Rattle.fb_read.specs.declared.error.ReadError.TheVariants as error
 use Rattle.fb_read.specs.Blank.{Text}
 use Rattle.fb_read.specs.Front.{TokenFault}
 use Rattle.fb_read.specs.Tokens.{Tokens, after_mark, AreTokens, IsFirstFault}
-use Rattle.fb_read.specs.Parser.{Outcome, RuleFault, syntax, too_deep}
+use Rattle.fb_read.specs.Parser.{Outcome, RuleFault, syntax}
 use Rattle.fb_read.specs.BlocksGrammar.{IsLibrary}
 use Rattle.fb_read.specs.Fits.{fits_library}
 
@@ -29,7 +29,7 @@ pub record IsLibraryText (text : Text) (library : Library) : Type 0 where
 -- nothing may be left
 abbrev pub ended : Outcome Library → Result Library RuleFault
 ended (Ok (x, [])) = Ok x
-ended (Ok (x, (t ∷ ts))) = Err syntax
+ended (Ok (x, (t ∷ ts))) = Err (syntax (t ∷ ts))
 ended (Err fault) = Err fault
 
 abbrev pub IsMemory : ReadError → Type 0
@@ -73,24 +73,6 @@ IsGrammarFault error.Token = ⊥
 IsGrammarFault (error.Syntax line) = Unit {0}
 IsGrammarFault error.TooLong = ⊥
 IsGrammarFault error.Nesting = Unit {0}
-
-abbrev pub IsSyntax : ReadError → Type 0
-IsSyntax error.Memory = ⊥
-IsSyntax error.Byte = ⊥
-IsSyntax error.Token = ⊥
-IsSyntax (error.Syntax line) = Unit {0}
-IsSyntax error.TooLong = ⊥
-IsSyntax error.Nesting = ⊥
-
--- a function that reads all tokens returns this, unless memory runs out
-abbrev pub Parses : Result Library ReadError → Result Library RuleFault → Type 0
-Parses (Ok x) outcome = outcome ≡ Ok x
-Parses (Err error.Memory) outcome = Unit {0}
-Parses (Err error.Byte) outcome = ⊥
-Parses (Err error.Token) outcome = ⊥
-Parses (Err (error.Syntax line)) outcome = outcome ≡ Err syntax
-Parses (Err error.TooLong) outcome = ⊥
-Parses (Err error.Nesting) outcome = outcome ≡ Err too_deep
 
 -- a text declares at most one library
 abbrev pub DeclaresOne : Type 0

@@ -1,7 +1,8 @@
 //! Blanks and comments.
 
-ghost use Rattle.std.specs.Prelude.{◌≡◌, ◌<◌, ◌≤◌, length, option_map, IfSome};
+ghost use Rattle.std.specs.Prelude.{◌≡◌, ◌<◌, ◌≤◌, length, drop, None, option_map, IfSome};
 ghost use Rattle.fb_read.specs.Blank as spec;
+ghost use Rattle.fb_read.specs.Located as located;
 
 /// What the next byte may be part of.
 #[derive(Clone, Copy)]
@@ -87,4 +88,33 @@ pub fn skip(bytes: &[u8]) -> Option<&[u8]>
         }
     }
     if may_end(position) { Some(&[]) } else { None }
+}
+
+/// The index at which the comment begins that goes on after a byte, if one does: the last index between comments.
+fn begun(position: Position, i: usize, before: usize) -> usize
+    ensures { result ≡ located.begun position i before }
+{
+    match position {
+        Position::Between => i,
+        _ => before,
+    }
+}
+
+/// The index at which the comment begins that is not closed.
+pub fn open_comment(bytes: &[u8]) -> usize
+    requires { spec.skip spec.start bytes.now ≡ None }
+    ensures within { result < length bytes.now }
+    ensures there { spec.at bytes.now result ≡ 40 }
+    ensures none { spec.skip spec.start (drop result bytes.now) ≡ None }
+{
+    let mut position = Position::Between;
+    let mut before = 0;
+    for i in 0..bytes.len() {
+        before = begun(position, i, before);
+        match step(position, bytes[i], at(bytes, i + 1)) {
+            Some(next) => position = next,
+            None => unreachable!(),
+        }
+    }
+    before
 }

@@ -1,18 +1,20 @@
 //! A cursor in a list of tokens.
 
-ghost use Rattle.std.specs.Prelude.{◌≡◌, ◌<◌, ◌^◌, ◌↔◌, [], length, IsNone};
+ghost use Rattle.std.specs.Prelude.{◌≡◌, ◌<◌, ◌^◌, [], length};
 ghost use Rattle.fb_read.specs.Parser as spec;
 ghost use Rattle.fb_read.specs.Parser.{Reads};
 ghost use Rattle.fb_read.specs.Tokens.{tokens_of};
 ghost use Rattle.fb_read.specs.Operators.{next_operator, begins_expression};
 ghost use Rattle.fb_read.specs.Statements.{begins_statement, begins_label, sees_whole};
 
+use crate::expected::{Expected, Sought};
 use crate::fault::ParseFault;
 use crate::operator::operator_of;
 use crate::rule::Rule;
 use crate::token::{Magnitude, Mark, Placed, Token};
 use fb_types::{BinaryOperator, Items, Name, Ty};
 use std::alloc::Global;
+use std::cell::Cell;
 use std::marker::Model;
 
 /// The tokens that are still to be read, and the allocator for what is read. Contracts see the tokens without their
@@ -21,6 +23,10 @@ use std::marker::Model;
 pub struct Cursor<'a> {
     alloc: Global,
     rest: &'a [Placed],
+    /// How many tokens are left at the token that is watched; `usize::MAX` if none is.
+    watched: usize,
+    /// What was looked for at that token and not found.
+    missed: Cell<Expected>,
 }
 
 impl<'a> Model for Cursor<'a> {
@@ -35,7 +41,7 @@ impl<'a> Model for Cursor<'a> {
 }
 
 /// The elementary type that a keyword names.
-fn ty_of(mark: Mark) -> Option<Ty>
+pub fn ty_of(mark: Mark) -> Option<Ty>
     ensures { result ≡ spec.ty_of mark }
 {
     match mark {
@@ -53,6 +59,15 @@ fn ty_of(mark: Mark) -> Option<Ty>
     }
 }
 
+/// The word with this spelling, which the grammar asks for.
+fn sought_word(text: &[u8]) -> Sought {
+    if text == b"IN".as_slice() {
+        Sought::In
+    } else {
+        Sought::St
+    }
+}
+
 impl<'a> Cursor<'a> {
     ghost use Rattle.fb_read.specs.Tokens.{tokens_of};
 
@@ -61,7 +76,40 @@ impl<'a> Cursor<'a> {
         requires { length rest.now < 2 ^ 32 }
         ensures { result ≡ tokens_of rest.now }
     {
-        Cursor { alloc, rest }
+        Cursor::watching(alloc, rest, usize::MAX)
+    }
+
+    /// A cursor before these tokens that notes what is missed at the one before which `watched` tokens are left.
+    pub fn watching(alloc: Global, rest: &'a [Placed], watched: usize) -> Cursor<'a>
+        requires { length rest.now < 2 ^ 32 }
+        ensures { result ≡ tokens_of rest.now }
+    {
+        Cursor {
+            alloc,
+            rest,
+            watched,
+            missed: Cell::new(Expected::none()),
+        }
+    }
+
+    /// What was looked for at the watched token and not found.
+    pub fn missed(&self) -> Expected {
+        self.missed.get()
+    }
+
+    /// Notes that a rule looked for this and did not find it.
+    fn miss(&self, sought: Sought) {
+        if self.rest.len() == self.watched {
+            self.missed.set(self.missed.get().with(sought));
+        }
+    }
+
+    /// The refusal of the next token, where a rule looked for this.
+    fn refusal(&self, sought: Sought) -> ParseFault
+        ensures { result ≡ ParseFault.Syntax }
+    {
+        self.miss(sought);
+        ParseFault::Syntax
     }
 
     /// The allocator for what is read.
@@ -90,19 +138,19 @@ impl<'a> Cursor<'a> {
         self.rest.len()
     }
 
-    /// The offset in bytes of the next token, if there is one.
-    pub fn index(&self) -> Option<usize>
-        ensures { IsNone result ↔ (self.now ≡ []) }
+    /// Whether this mark is next.
+    pub fn sees(&self, mark: Mark) -> bool
+        ensures { result ≡ spec.sees mark self.now }
     {
-        match self.rest {
-            [first, ..] => Some(first.index),
-            [] => None,
+        let found = self.is_next(mark);
+        if !found {
+            self.miss(Sought::Mark(mark));
         }
+        found
     }
 
-    /// Whether this mark is next.
     #[tactic(auto, unfolding(crate::specs::Parser::same_mark))]
-    pub fn sees(&self, mark: Mark) -> bool
+    fn is_next(&self, mark: Mark) -> bool
         ensures { result ≡ spec.sees mark self.now }
     {
         match self.rest {
@@ -161,9 +209,15 @@ impl<'a> Cursor<'a> {
                     self.rest = rest;
                     Ok(Some(name))
                 }
-                _ => Ok(None),
+                _ => {
+                    self.miss(Sought::Name);
+                    Ok(None)
+                }
             },
-            [] => Ok(None),
+            [] => {
+                self.miss(Sought::Name);
+                Ok(None)
+            }
         }
     }
 
@@ -179,12 +233,12 @@ impl<'a> Cursor<'a> {
                         self.rest = rest;
                         Ok(())
                     } else {
-                        Err(ParseFault::Syntax)
+                        Err(self.refusal(sought_word(text)))
                     }
                 }
-                _ => Err(ParseFault::Syntax),
+                _ => Err(self.refusal(sought_word(text))),
             },
-            [] => Err(ParseFault::Syntax),
+            [] => Err(self.refusal(sought_word(text))),
         }
     }
 
@@ -199,9 +253,9 @@ impl<'a> Cursor<'a> {
                     self.rest = rest;
                     Ok(value.copied())
                 }
-                _ => Err(ParseFault::Syntax),
+                _ => Err(self.refusal(Sought::Whole)),
             },
-            [] => Err(ParseFault::Syntax),
+            [] => Err(self.refusal(Sought::Whole)),
         }
     }
 
@@ -217,12 +271,12 @@ impl<'a> Cursor<'a> {
                         self.rest = rest;
                         Ok(())
                     } else {
-                        Err(ParseFault::Syntax)
+                        Err(self.refusal(Sought::Whole))
                     }
                 }
-                _ => Err(ParseFault::Syntax),
+                _ => Err(self.refusal(Sought::Whole)),
             },
-            [] => Err(ParseFault::Syntax),
+            [] => Err(self.refusal(Sought::Whole)),
         }
     }
 
@@ -241,14 +295,24 @@ impl<'a> Cursor<'a> {
                     self.rest = rest;
                     Ok(*ticks)
                 }
-                _ => Err(ParseFault::Syntax),
+                _ => Err(self.refusal(Sought::Literal)),
             },
-            [] => Err(ParseFault::Syntax),
+            [] => Err(self.refusal(Sought::Literal)),
         }
     }
 
     /// Whether a name is next.
     pub fn sees_name(&self) -> bool
+        ensures { result ≡ spec.sees_name self.now }
+    {
+        let found = self.is_name_next();
+        if !found {
+            self.miss(Sought::Name);
+        }
+        found
+    }
+
+    fn is_name_next(&self) -> bool
         ensures { result ≡ spec.sees_name self.now }
     {
         match self.rest {
@@ -262,6 +326,16 @@ impl<'a> Cursor<'a> {
 
     /// Whether the next token may begin an expression.
     pub fn begins_expression(&self) -> bool
+        ensures { result ≡ begins_expression self.now }
+    {
+        let found = self.is_expression_next();
+        if !found {
+            self.miss(Sought::Expression);
+        }
+        found
+    }
+
+    fn is_expression_next(&self) -> bool
         ensures { result ≡ begins_expression self.now }
     {
         match self.rest {
@@ -280,6 +354,16 @@ impl<'a> Cursor<'a> {
     pub fn operator(&self, level: u8) -> Option<BinaryOperator>
         ensures { result ≡ next_operator level self.now }
     {
+        let found = self.next_operator(level);
+        if found.is_none() {
+            self.miss(Sought::Operator(level));
+        }
+        found
+    }
+
+    fn next_operator(&self, level: u8) -> Option<BinaryOperator>
+        ensures { result ≡ next_operator level self.now }
+    {
         let [first, ..] = self.rest else {
             return None;
         };
@@ -291,8 +375,19 @@ impl<'a> Cursor<'a> {
             None => None,
         }
     }
+
     /// Whether the next token may begin a statement.
     pub fn begins_statement(&self) -> bool
+        ensures { result ≡ begins_statement self.now }
+    {
+        let found = self.is_statement_next();
+        if !found {
+            self.miss(Sought::Statement);
+        }
+        found
+    }
+
+    fn is_statement_next(&self) -> bool
         ensures { result ≡ begins_statement self.now }
     {
         match self.rest {
@@ -308,13 +403,23 @@ impl<'a> Cursor<'a> {
                     | Mark::Repeat => true,
                     _ => false,
                 },
-                _ => self.sees_name(),
+                _ => self.is_name_next(),
             },
             [] => false,
         }
     }
 
     fn sees_whole(&self) -> bool
+        ensures { result ≡ sees_whole self.now }
+    {
+        let found = self.is_whole_next();
+        if !found {
+            self.miss(Sought::Whole);
+        }
+        found
+    }
+
+    fn is_whole_next(&self) -> bool
         ensures { result ≡ sees_whole self.now }
     {
         match self.rest {
@@ -346,9 +451,9 @@ impl Rule for Name {
                     cursor.rest = rest;
                     Ok(name)
                 }
-                _ => Err(ParseFault::Syntax),
+                _ => Err(cursor.refusal(Sought::Name)),
             },
-            [] => Err(ParseFault::Syntax),
+            [] => Err(cursor.refusal(Sought::Name)),
         }
     }
 }
@@ -366,11 +471,11 @@ impl Rule for Ty {
                         cursor.rest = rest;
                         Ok(ty)
                     }
-                    None => Err(ParseFault::Syntax),
+                    None => Err(cursor.refusal(Sought::Type)),
                 },
-                _ => Err(ParseFault::Syntax),
+                _ => Err(cursor.refusal(Sought::Type)),
             },
-            [] => Err(ParseFault::Syntax),
+            [] => Err(cursor.refusal(Sought::Type)),
         }
     }
 }

@@ -199,12 +199,12 @@ impl<F: Fn(&mut Cursor<'_>, u32, u8) -> Result<Nested, ParseFault>> ExpressionRu
         requires nests { Nests self.now.below (F.pre self.now.inner) (F.post self.now.inner) }
         ensures { Reads (spec.joined self.now.below (spec.nested_expression self.now.below (level - 1)) left operator cursor.old) result cursor.new }
     {
+        cursor.take();
         // The operator nests too deep, whatever follows it.
         if left.nesting > self.below {
             drop(left);
             return Err(ParseFault::Nesting);
         }
-        cursor.take();
         let (left, right) = paired(left, self.part(cursor, level - 1))?;
         let depth = left.nesting.max(right.nesting);
         let (x, y) = both_boxed(cursor.alloc(), left.expr, right.expr)?;

@@ -231,3 +231,26 @@ pub fn front(alloc: Global, z: &[u8]) -> Result<(Token, usize), LexFault>
         }
     }
 }
+
+/// The length of the faulty token at the front of a text: a word or a literal as far as it goes, or one byte.
+pub fn faulty_len(z: &[u8]) -> usize
+    requires { 0 < length z.now }
+    ensures { (0 < result) × (result ≤ length z.now) }
+{
+    let word = word_len(z);
+    if word == 0 {
+        return 1;
+    }
+    if at(z, word) != b'#' {
+        return word;
+    }
+    let start = word + 1;
+    if is_letter(at(z, 0)) {
+        let first = parts_start(z, start);
+        first + word_len(&z[first..])
+    } else if base_of(&z[..word]).is_some() {
+        start + word_len(&z[start..])
+    } else {
+        word
+    }
+}

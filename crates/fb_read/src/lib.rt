@@ -6,7 +6,8 @@
 //!
 //! Read in this order: `read`, the entry, and `error`; `token`, `tokens` and `front`, from bytes to tokens, with `blank`,
 //! `word`, `keyword`, `number` and `time`; `cursor`, `rule` and `fault`, how a rule reads; `block`, `ports`, `network`,
-//! `chart`, `operator`, `expression` and `statement`, the rules; `laws`; `discarding`, which frees what was read.
+//! `chart`, `operator`, `expression` and `statement`, the rules; `refused`, where a text is refused; `expected`, what could
+//! be there instead; `laws`; `discarding`, which frees what was read.
 #![tactic(auto)]
 
 mod blank;
@@ -15,6 +16,7 @@ mod chart;
 mod cursor;
 pub mod discarding;
 pub mod error;
+pub mod expected;
 mod expression;
 mod fault;
 mod front;
@@ -25,6 +27,7 @@ mod number;
 mod operator;
 mod ports;
 pub mod read;
+pub mod refused;
 mod rule;
 mod statement;
 mod time;
@@ -34,4 +37,6 @@ mod word;
 
 pub use discarding::discard;
 pub use error::ReadError;
-pub use read::read_library;
+pub use expected::{Expected, expected_at};
+pub use read::{read_library, read_located};
+pub use refused::{ReadFault, Refusal, TextFault};

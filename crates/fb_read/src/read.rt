@@ -1,21 +1,127 @@
 //! Whole declaration texts.
 
-ghost use Rattle.std.specs.Prelude.{◌≡◌, ◌+◌, ◌≤◌, ◌<◌, ◌==◌, ◌↔◌, length, take, count_by, IfOk, IfErr, IsErrOf};
+ghost use Rattle.std.specs.Prelude.{◌≡◌, ◌+◌, ◌-◌, ◌≤◌, ◌<◌, ◌==◌, ◌↔◌, length, take, drop, count_by, Err, IfOk, IfErr, IsErrOf};
 ghost use Rattle.fb_types.specs.declared.library.Library.{Library};
 ghost use Rattle.fb_read.specs.Front.{bad_byte, bad_token};
-ghost use Rattle.fb_read.specs.Blocks.{library};
-ghost use Rattle.fb_read.specs.Tokens.{tokens_of};
-ghost use Rattle.fb_read.specs.Whole.{IsDerived, IsLibraryText, IsNesting, HasTokenFault, HasTokens, RefusesWhere, IsMemory, IsGrammarFault, IsSyntax, Parses, ended, most_bytes};
+ghost use Rattle.fb_read.specs.Tokens.{after_mark};
+ghost use Rattle.fb_read.specs.Located.{AreLocated, IsLocatedEnd};
+ghost use Rattle.fb_read.specs.Refusals.{IsAtNext, IsErrorAt, IsErrorOf, IsFaultAt, IsRefused, IsTokenLen, too_long};
+ghost use Rattle.fb_read.specs.Whole.{IsDerived, IsLibraryText, IsNesting, HasTokenFault, HasTokens, RefusesWhere, IsMemory, IsGrammarFault, most_bytes};
 
 use crate::cursor::Cursor;
 use crate::error::ReadError;
 use crate::fault::ParseFault;
-use crate::front::LexFault;
+use crate::front::{LexFault, front};
+use crate::refused::{ReadFault, Refusal, TextFault};
 use crate::rule::Rule;
 use crate::token::Placed;
 use crate::tokens::lex;
 use fb_types::{Library, MOST_BYTES};
 use std::alloc::Global;
+
+/// The length of the token at the front of a text. The token is dropped here, so that no caller has to drop it.
+fn token_len(alloc: Global, z: &[u8]) -> Result<usize, LexFault>
+    ensures { IfOk result (IsTokenLen z.now) }
+{
+    let (token, len) = front(alloc, z)?;
+    drop(token);
+    Ok(len)
+}
+
+/// The refusal of the first of these tokens, which are the last ones of the text, or of its end if there is none.
+fn refused_at(alloc: Global, text: &[u8], left: &[Placed], fault: TextFault) -> ReadFault
+    requires { IsLocatedEnd text.now left.now }
+    ensures { IsAtNext text.now left.now fault result }
+{
+    let [first, ..] = left else {
+        return ReadFault::Refused(Refusal {
+            fault,
+            start: text.len(),
+            end: text.len(),
+        });
+    };
+    let start = first.index;
+    let here = &text[start..];
+    // It has been read before, so it fails for memory alone.
+    match token_len(alloc, here) {
+        Ok(len) => {
+            let end = start + len;
+            ReadFault::Refused(Refusal { fault, start, end })
+        }
+        Err(_) => ReadFault::Memory,
+    }
+}
+
+/// The refusal at the token before which this number of tokens of the text is left, or at its end.
+fn refused_before(
+    alloc: Global,
+    text: &[u8],
+    tokens: &[Placed],
+    left: usize,
+    fault: TextFault,
+) -> ReadFault
+    requires { AreLocated text.now tokens.now (after_mark text.now) }
+    ensures { IsAtNext text.now (drop (length tokens.now - left) tokens.now) fault result }
+{
+    let index = tokens.len().saturating_sub(left);
+    refused_at(alloc, text, &tokens[index..], fault)
+}
+
+/// The library that all of the tokens form.
+fn parse(alloc: Global, text: &[u8], tokens: &[Placed]) -> Result<Library, ReadFault>
+    requires short { length text.now ≤ most_bytes }
+    requires few { length tokens.now ≤ most_bytes }
+    requires located { AreLocated text.now tokens.now (after_mark text.now) }
+    ensures declared { IfOk result (λ library. IsLibraryText text.now library) }
+    ensures refused { IfErr result (λ e. IsRefused text.now e) }
+{
+    let mut cursor = Cursor::new(alloc, tokens);
+    match Library::read(&mut cursor) {
+        Ok(library) => {
+            let left = cursor.left();
+            if left == 0 {
+                Ok(library)
+            } else {
+                drop(library);
+                Err(refused_before(alloc, text, tokens, left, TextFault::Syntax))
+            }
+        }
+        Err(ParseFault::Memory) => Err(ReadFault::Memory),
+        Err(ParseFault::Syntax) => {
+            let left = cursor.left();
+            Err(refused_before(alloc, text, tokens, left, TextFault::Syntax))
+        }
+        // A rule refuses its nesting after the first token that nests too deep.
+        Err(ParseFault::Nesting) => {
+            let left = cursor.left().saturating_add(1);
+            Err(refused_before(alloc, text, tokens, left, TextFault::Nesting))
+        }
+    }
+}
+
+/// Reads the library that a declaration text declares.
+///
+/// # Errors
+///
+/// Why the text is refused, and where it shows (E01 to E05), or `Memory`.
+pub fn read_located(alloc: Global, text: &[u8]) -> Result<Library, ReadFault>
+    // What is read is what the text declares.
+    ensures declared { IfOk result (λ library. IsLibraryText text.now library) }
+    // The refusal applies where it says.
+    ensures refused { IfErr result (λ e. IsRefused text.now e) }
+    // No memory is used for a text that is too long.
+    ensures too_long { most_bytes < length text.now → result ≡ Err too_long }
+{
+    if text.len() > MOST_BYTES {
+        return Err(ReadFault::Refused(Refusal {
+            fault: TextFault::TooLong,
+            start: MOST_BYTES,
+            end: MOST_BYTES + 1,
+        }));
+    }
+    let tokens = lex(alloc, text)?;
+    parse(alloc, text, tokens.as_slice())
+}
 
 /// The line of an offset, counted from 1 by line feeds.
 fn line_of(text: &[u8], index: usize) -> u32
@@ -30,36 +136,30 @@ fn line_of(text: &[u8], index: usize) -> u32
     1 + before.iter().filter(|b| **b == b'\n').count() as u32
 }
 
-/// The refusal of the next token, or of the end of the text.
-fn syntax_fault(text: &[u8], cursor: &Cursor<'_>) -> ReadError
-    requires { length text.now ≤ most_bytes }
-    ensures { IsSyntax result }
+/// The refusal by its number, with the line of its offset for a syntax fault.
+fn error_at(text: &[u8], refusal: Refusal) -> ReadError
+    requires { IsFaultAt refusal.fault text.now refusal.start refusal.end }
+    ensures { IsErrorAt refusal.fault text.now refusal.start result }
 {
-    let index = cursor.index().unwrap_or(text.len());
-    ReadError::Syntax {
-        line: line_of(text, index),
+    match refusal.fault {
+        TextFault::Byte => ReadError::Byte,
+        TextFault::Token => ReadError::Token,
+        TextFault::Syntax => ReadError::Syntax {
+            line: line_of(text, refusal.start),
+        },
+        TextFault::TooLong => ReadError::TooLong,
+        TextFault::Nesting => ReadError::Nesting,
     }
 }
 
-/// The library that all of the tokens form.
-fn parse(alloc: Global, text: &[u8], tokens: &[Placed]) -> Result<Library, ReadError>
-    requires text { length text.now ≤ most_bytes }
-    requires tokens { length tokens.now ≤ most_bytes }
-    ensures { Parses result (ended (library (tokens_of tokens.now))) }
+/// The refusal without its offsets.
+fn error_of(text: &[u8], fault: ReadFault) -> ReadError
+    requires { IsRefused text.now fault }
+    ensures { IsErrorOf text.now fault result }
 {
-    let mut cursor = Cursor::new(alloc, tokens);
-    match Library::read(&mut cursor) {
-        Ok(library) => {
-            if cursor.left() == 0 {
-                Ok(library)
-            } else {
-                drop(library);
-                Err(syntax_fault(text, &cursor))
-            }
-        }
-        Err(ParseFault::Memory) => Err(ReadError::Memory),
-        Err(ParseFault::Syntax) => Err(syntax_fault(text, &cursor)),
-        Err(ParseFault::Nesting) => Err(ReadError::Nesting),
+    match fault {
+        ReadFault::Memory => ReadError::Memory,
+        ReadFault::Refused(refusal) => error_at(text, refusal),
     }
 }
 
@@ -81,13 +181,8 @@ pub fn read_library(alloc: Global, text: &[u8]) -> Result<Library, ReadError>
     ensures token { RefusesWhere result ReadError.Token (HasTokenFault bad_token text.now) }
     ensures grammar { IfErr result (λ e. IsGrammarFault e → HasTokens text.now) }
 {
-    if text.len() > MOST_BYTES {
-        return Err(ReadError::TooLong);
-    }
-    match lex(alloc, text) {
-        Ok(tokens) => parse(alloc, text, tokens.as_slice()),
-        Err(LexFault::Memory) => Err(ReadError::Memory),
-        Err(LexFault::Byte) => Err(ReadError::Byte),
-        Err(LexFault::Token) => Err(ReadError::Token),
+    match read_located(alloc, text) {
+        Ok(library) => Ok(library),
+        Err(fault) => Err(error_of(text, fault)),
     }
 }

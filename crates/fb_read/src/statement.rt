@@ -293,6 +293,8 @@ fn nested_statement(cursor: &mut Cursor<'_>, depth: u32) -> Result<Stmt, ParseFa
     ensures { Reads (spec.nested_statement depth cursor.old) result cursor.new }
 {
     if depth == 0 {
+        // The first token of the statement is the one that nests too deep.
+        cursor.take();
         return Err(ParseFault::Nesting);
     }
     StatementRules {

@@ -35,14 +35,16 @@ use Rattle.fb_why.specs.Twice.{IsTwiceAt}
 use Rattle.fb_why.specs.Unlinked.{IsUnlinkedAt}
 use Rattle.fb_why.specs.Unmapped.{IsUnmappedAt}
 use Rattle.fb_why.specs.Unserved.{IsUnservedAt}
-use Rattle.fb_why_bytes.specs.Rows as rows
-use Rattle.fb_why_bytes.specs.Rows.{AreTaken}
-use Rattle.fb_why_bytes.specs.Tables as tables
-use Rattle.fb_why_bytes.specs.Tables.{IsShaped}
+use Rattle.fb_inputs.specs.Faults as rows
+use Rattle.fb_inputs.specs.Faults.{AreTaken}
+use Rattle.fb_inputs.specs.Places.{number_at}
+use Rattle.fb_inputs.specs.DeployFaults as tables
+use Rattle.fb_inputs.specs.DeployFaults.{IsPlanned}
+use Rattle.fb_inputs.specs.DeployPlaces as places
 use Rattle.fb_why.specs.Stimuli.{IsBadAt, IsOver}
 use Rattle.fb_why_bytes.specs.Faults.{TellsFault}
-use Rattle.fb_why_bytes.specs.declared.location.DeployLocation.{DeployLocation}
-use Rattle.fb_why_bytes.specs.declared.location.StimuliLocation.{StimuliLocation}
+use Rattle.fb_inputs.specs.declared.deploy_location.DeployLocation.{DeployLocation}
+use Rattle.fb_inputs.specs.declared.location.StimuliLocation.{StimuliLocation}
 use Rattle.fb_why_kinds.specs.Misfits.{IsMisfitAt}
 use Rattle.fb_why_kinds.specs.Misjoins.{IsMisjoinedAt}
 
@@ -124,14 +126,14 @@ FindsInText number declaration _ = ⊥
 
 -- ---- The bytes of the deployment and of the stimuli
 
--- What is reported has this number, and is wrong at the location.
+-- The deployment is refused with this number, for what is reported of the location.
 abbrev pub IsDeploymentSpot : (number : ℕ) → (bytes : List ℕ) → Spot → Type 0
-IsDeploymentSpot number bytes (spot.Deployment p) = (tables.number_of p ≡ number) × tables.IsFaultAt bytes p
+IsDeploymentSpot number bytes (spot.Deployment p) = (places.number_at p ≡ number) × tables.IsRefusedAt bytes p
 IsDeploymentSpot number bytes _ = ⊥
 
 -- The stimuli are refused with this number, for what is reported of the location.
 abbrev pub IsStimuliSpot : (number : ℕ) → (bytes : List ℕ) → Spot → Type 0
-IsStimuliSpot number bytes (spot.Stimuli p) = (rows.number_of p ≡ number) × rows.IsRefusedAt bytes p
+IsStimuliSpot number bytes (spot.Stimuli p) = (number_at p ≡ number) × rows.IsRefusedAt bytes p
 IsStimuliSpot number bytes _ = ⊥
 
 -- The deployment is given, and what has this number is wrong at the location.
@@ -145,21 +147,21 @@ FindsInStimuli number stimuli location = (bytes : List ℕ) × (stimuli ≡ Some
 abbrev pub FindsInBytes : (number : ℕ) → (deploy stimuli : Option (List ℕ)) → Spot → Type 0
 FindsInBytes number deploy stimuli location = FindsInDeployment number deploy location ⊎ FindsInStimuli number stimuli location
 
--- Something is wrong with the deployment at a location, and has another number.
-pub record HasOtherFault (number : ℕ) (bytes : List ℕ) : Type 0 where
+-- The deployment is refused with another number, for what is wrong at a location.
+pub record IsRefusedOtherwise (number : ℕ) (bytes : List ℕ) : Type 0 where
   pub location : DeployLocation
-  pub differs : tables.number_of location ≢ number
-  pub fault : tables.IsFaultAt bytes location
+  pub differs : places.number_at location ≢ number
+  pub refused : tables.IsRefusedAt bytes location
 
 -- The stimuli are refused with another number, for what is wrong at a location.
 pub record AreRefusedOtherwise (number : ℕ) (bytes : List ℕ) : Type 0 where
   pub location : StimuliLocation
-  pub differs : rows.number_of location ≢ number
+  pub differs : number_at location ≢ number
   pub refused : rows.IsRefusedAt bytes location
 
--- The deployment has the right shape, or a fault of another number.
+-- The deployment is accepted, or refused with another number.
 abbrev pub IsSilentOfDeployment : (number : ℕ) → (bytes : List ℕ) → Type 0
-IsSilentOfDeployment number bytes = IsShaped bytes ⊎ HasOtherFault number bytes
+IsSilentOfDeployment number bytes = IsPlanned bytes ⊎ IsRefusedOtherwise number bytes
 
 -- The stimuli are accepted, or refused with another number.
 abbrev pub IsSilentOfStimuli : (number : ℕ) → (bytes : List ℕ) → Type 0

@@ -5,11 +5,9 @@ ghost use Rattle.fb_why.specs.Findings.{IsDeploymentSpot, IsSilentOfBytes, IsSil
 
 use crate::cause::text_number;
 use crate::spot::{Finding, Spot, found};
+use fb_inputs::{deployment_location, stimuli_location};
 use fb_read::{discard, read_library};
-use fb_why_bytes::{
-    deployment_location, deployment_message, stimuli_location, stimuli_message, text_location,
-    text_message,
-};
+use fb_why_bytes::{deployment_message, stimuli_message, text_location, text_message};
 use std::alloc::{AllocError, Global};
 
 /// Where the text of a declaration is refused, if its refusal has this number.

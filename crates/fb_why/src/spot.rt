@@ -9,7 +9,8 @@ use crate::sources::Joined;
 use crate::twice::GivenTwice;
 use crate::unlinked::Unlinked;
 use crate::unmapped::Unmapped;
-use fb_why_bytes::{DeployLocation, StimuliLocation, TextLocation};
+use fb_inputs::{DeployLocation, StimuliLocation};
+use fb_why_bytes::TextLocation;
 use fb_why_kinds::{Misfit, Misjoin, UnknownName};
 use std::alloc::AllocError;
 

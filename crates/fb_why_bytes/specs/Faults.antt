@@ -1,60 +1,34 @@
 -- Where the refusals of a text apply (this project's own).
-use Rattle.std.specs.Prelude.{◌≡◌, ◌<◌, ℕ, suc, false, length, take, slice_range}
+use Rattle.std.specs.Prelude.{◌≡◌, ℕ, take}
+use Rattle.fb_types.specs.declared.library.Library.{Library}
 use Rattle.fb_read.specs.declared.error.ReadError.{ReadError}
 use Rattle.fb_read.specs.declared.error.ReadError.TheVariants as error
-use Rattle.fb_read.specs.Blank.{Text, at}
-use Rattle.fb_read.specs.Front.{bad_byte, bad_token, is_plain}
-use Rattle.fb_read.specs.Whole.{IsDerived, IsLibraryText, HasTokenFault, HasTokens, most_bytes}
+use Rattle.fb_read.specs.declared.refused.TextFault.{TextFault}
+use Rattle.fb_read.specs.declared.refused.TextFault.TheVariants as text_fault
+use Rattle.fb_read.specs.Blank.{Text}
+use Rattle.fb_read.specs.Whole.{HasTokens, IsLibraryText}
+use Rattle.fb_read.specs.Refusals.{IsFaultAt}
 use Rattle.fb_why_bytes.specs.declared.text_locations.TextLocation.{TextLocation}
 use Rattle.fb_why_bytes.specs.Locations.{IsLocation}
-use Rattle.fb_why_bytes.specs.TextVerdicts.{IsNoLibrary}
 
--- The first byte past the greatest length is there.
-pub record IsTooLongAt (text : Text) (location : TextLocation) : Type 0 where
-  pub long : most_bytes < length text
-  pub first : location.start ≡ most_bytes
+-- The fault is the one of the refusal; a syntax fault is on this line.
+abbrev pub Agrees : ReadError → TextFault → ℕ → Type 0
+Agrees error.Byte text_fault.Byte line = Unit {0}
+Agrees error.Token text_fault.Token line = Unit {0}
+Agrees (error.Syntax told) text_fault.Syntax line = told ≡ line
+Agrees error.TooLong text_fault.TooLong line = Unit {0}
+Agrees error.Nesting text_fault.Nesting line = Unit {0}
+Agrees _ found line = ⊥
 
--- One byte is there that may occur only in comments. The text before it has tokens, and with it the text is refused for
--- it.
-pub record IsByteAt (text : Text) (location : TextLocation) : Type 0 where
-  pub one : location.end ≡ suc location.start
-  pub unplain : is_plain (at text location.start) ≡ false
-  pub before : HasTokens (take location.start text)
-  pub up_to : HasTokenFault bad_byte (take location.end text)
+-- the text has tokens, and they are the tokens of no library
+pub record IsNoLibrary (text : Text) : Type 0 where
+  pub tokens : HasTokens text
+  pub none : (library : Library) → IsLibraryText text library → ⊥
 
--- The text before the location has tokens, the text at the location is refused by itself for a faulty token, and so is
--- the text up to its end.
-pub record IsFaultyTokenAt (text : Text) (location : TextLocation) : Type 0 where
-  pub before : HasTokens (take location.start text)
-  pub here : HasTokenFault bad_token (slice_range text location.start location.end)
-  pub up_to : HasTokenFault bad_token (take location.end text)
-
--- The line is the one that is reported. The text before the location has tokens, and so has the text up to its end and
--- the whole text, and these are the tokens of no library, regardless of nesting. At the end of the text the location is
--- empty.
-pub record IsSyntaxAt (text : Text) (line : ℕ) (location : TextLocation) : Type 0 where
-  pub told : location.line ≡ line
-  pub before : HasTokens (take location.start text)
-  pub up_to : IsNoLibrary IsDerived (take location.end text)
-  pub whole : IsNoLibrary IsDerived text
-
--- The text before the location has tokens, and so has the text up to its end and the whole text, and these are the tokens
--- of no library.
-pub record IsNestingAt (text : Text) (location : TextLocation) : Type 0 where
-  pub before : HasTokens (take location.start text)
-  pub up_to : IsNoLibrary IsLibraryText (take location.end text)
-  pub whole : IsNoLibrary IsLibraryText text
-
--- The refusal applies at the location.
-abbrev pub AppliesAt : Text → ReadError → TextLocation → Type 0
-AppliesAt text error.Memory location = ⊥
-AppliesAt text error.Byte location = IsByteAt text location
-AppliesAt text error.Token location = IsFaultyTokenAt text location
-AppliesAt text (error.Syntax line) location = IsSyntaxAt text line location
-AppliesAt text error.TooLong location = IsTooLongAt text location
-AppliesAt text error.Nesting location = IsNestingAt text location
-
--- The location is in the text, and the refusal applies there.
+-- The location is in the text, and the refusal applies there. If it is for nesting, the text up to there is no library.
 pub record TellsFault (text : Text) (fault : ReadError) (location : TextLocation) : Type 0 where
   pub is_location : IsLocation text location
-  pub applies : AppliesAt text fault location
+  pub found : TextFault
+  pub agrees : Agrees fault found location.line
+  pub applies : IsFaultAt found text location.start location.end
+  pub up_to : found ≡ text_fault.Nesting → IsNoLibrary (take location.end text)

@@ -1,10 +1,2 @@
 pub mod Locations
-pub mod TextVerdicts
 pub mod Faults
-pub mod Rows
-pub mod RowParts
-pub mod RowVerdicts
-pub mod Names
-pub mod Keys
-pub mod Numbers
-pub mod Tables

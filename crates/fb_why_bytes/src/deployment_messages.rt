@@ -1,10 +1,9 @@
 //! The texts that say where a deployment is refused.
 
-use crate::location::{DeployKey, DeployLocation, TableFault, TableLocation};
-use crate::table::{key_text, value_at};
 use crate::text::{ByteText, front};
+use fb_inputs::{DeployKey, DeployLocation, TableFault, TableLocation};
 use std::alloc::{AllocError, Global};
-use toml::Table;
+use toml::{Table, Value};
 
 /// Where a deployment is refused, and what was expected there.
 pub fn deployment_message(
@@ -74,14 +73,14 @@ fn push_fault(
         }
         TableFault::Missing(key) => {
             text.words("there is no ");
-            text.words(key_text(key));
+            text.words(key.text());
         }
         TableFault::Wrong(key) => {
-            text.words(key_text(key));
+            text.words(key.text());
             text.words(kind_of(key));
         }
         TableFault::Element(key, location) => {
-            text.words(key_text(key));
+            text.words(key.text());
             text.placed(": the ", location, kind_of_element(key));
         }
         TableFault::Empty => text.words("there is no resource"),
@@ -149,11 +148,16 @@ fn push_unknown(text: &mut ByteText, keys: &Table, table: TableLocation) {
 /// Whether a table may have a key.
 fn is_known(table: TableLocation, key: &str) -> bool {
     for known in known_keys(table) {
-        if key_text(*known) == key {
+        if known.text() == key {
             return true;
         }
     }
     false
+}
+
+/// The value at a key.
+fn value_at(keys: &Table, key: DeployKey) -> Option<&Value> {
+    keys.get(key.text())
 }
 
 /// The table at a location.

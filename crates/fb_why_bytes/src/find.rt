@@ -1,85 +1,83 @@
-//! The location at which a text is at fault.
+//! The location at which a text is refused.
 
-ghost use Rattle.std.specs.Prelude.{IfOk, IfSome};
-ghost use Rattle.fb_why_bytes.specs.Faults.{TellsFault};
+ghost use Rattle.std.specs.Prelude.{◌≡◌, IfOk, IfSome, IsTrue, take};
+ghost use Rattle.fb_read.specs.Refusals.{IsFaultAt};
+ghost use Rattle.fb_why_bytes.specs.Faults.{Agrees, IsNoLibrary, TellsFault};
+ghost use Rattle.fb_why_bytes.specs.Locations.{IsLocation};
 
-use crate::applies::applies;
-use crate::scan::{Stretch, stretches};
-use crate::text_locations::{TextLocation, line_feeds, location_at};
-use crate::text_verdict::{TextVerdict, verdict_on};
-use fb_read::ReadError;
-use fb_types::MOST_BYTES;
+use crate::text_locations::{TextLocation, location_at};
+use fb_read::{ReadError, ReadFault, Refusal, TextFault, discard, read_library, read_located};
 use std::alloc::{AllocError, Global};
 
-/// Whether a text is refused for its syntax before its end. With one more line feed, a fault at the end is on a line of
-/// its own. A text of the greatest length has no room for it, and counts as faulty at its end.
-fn breaks_syntax(alloc: Global, text: &[u8]) -> Result<bool, AllocError> {
-    let mut ended = Vec::from_slice(alloc, text)?;
-    ended.push(b'\n')?;
-    match verdict_on(alloc, ended.as_slice())? {
-        TextVerdict::Syntax { line } => Ok(line as usize <= line_feeds(text) + 1),
-        _ => Ok(false),
+/// Whether this is the fault, and on the line that is reported with it.
+fn agrees(fault: &ReadError, found: TextFault, line: usize) -> bool
+    ensures { IsTrue result → Agrees fault.now found line }
+{
+    match (fault, found) {
+        (ReadError::Byte, TextFault::Byte) => true,
+        (ReadError::Token, TextFault::Token) => true,
+        (ReadError::Syntax { line: told }, TextFault::Syntax) => *told as usize == line,
+        (ReadError::TooLong, TextFault::TooLong) => true,
+        (ReadError::Nesting, TextFault::Nesting) => true,
+        _ => false,
     }
 }
 
-/// Whether a text shows the fault.
-fn shows(alloc: Global, text: &[u8], fault: &ReadError) -> Result<bool, AllocError> {
-    if let ReadError::Syntax { .. } = fault {
-        return breaks_syntax(alloc, text);
-    }
-    match (verdict_on(alloc, text)?, fault) {
-        (TextVerdict::Byte, ReadError::Byte) => Ok(true),
-        (TextVerdict::Token, ReadError::Token) => Ok(true),
-        (TextVerdict::Nesting, ReadError::Nesting) => Ok(true),
-        _ => Ok(false),
+/// Whether a text is refused for its nesting.
+fn is_too_deep(alloc: Global, text: &[u8]) -> Result<bool, AllocError>
+    ensures { IfOk result (λ b. IsTrue b → IsNoLibrary text.now) }
+{
+    match read_library(alloc, text) {
+        Ok(library) => {
+            discard(library);
+            Ok(false)
+        }
+        Err(ReadError::Memory) => Err(AllocError),
+        Err(ReadError::Nesting) => Ok(true),
+        Err(_) => Ok(false),
     }
 }
 
-/// The index of the first token with which the text shows the fault, or the number of tokens. If a beginning of the text
-/// shows it, so does each longer beginning that ends after a token.
-fn first_faulty(
+/// Whether the text up to the end of the location is refused for its nesting, where the whole text is.
+fn is_refused_up_to(
     alloc: Global,
     text: &[u8],
-    found: &[Stretch],
+    found: TextFault,
+    location: TextLocation,
+) -> Result<bool, AllocError>
+    requires { IsLocation text.now location }
+    ensures { IfOk result (λ b. IsTrue b → found ≡ TextFault.Nesting → IsNoLibrary (take location.end text.now)) }
+{
+    match found {
+        TextFault::Nesting => is_too_deep(alloc, &text[..location.end]),
+        _ => Ok(true),
+    }
+}
+
+/// The location of a refusal, if it is for this fault.
+fn location_of(
+    alloc: Global,
+    text: &[u8],
     fault: &ReadError,
-) -> Result<usize, AllocError> {
-    let mut low = 0;
-    let mut high = found.len();
-    while low < high {
-        let middle = low + (high - low) / 2;
-        let front = match found.get(middle) {
-            Some(stretch) => text.get(..stretch.end).unwrap_or(text),
-            None => text,
-        };
-        if shows(alloc, front, fault)? {
-            high = middle;
-        } else {
-            low = middle + 1;
-        }
+    found: Refusal,
+) -> Result<Option<TextLocation>, AllocError>
+    requires { IsFaultAt found.fault text.now found.start found.end }
+    ensures { IfOk result (λ o. IfSome o (λ location. TellsFault text.now fault.now location)) }
+{
+    let Some(location) = location_at(text, found.start, found.end) else {
+        return Ok(None);
+    };
+    if !agrees(fault, found.fault, location.line) {
+        return Ok(None);
     }
-    Ok(low)
-}
-
-/// The bytes of the first token with which the text shows the fault. After the last token, the end of the text.
-fn faulty_stretch(alloc: Global, text: &[u8], fault: &ReadError) -> Result<Stretch, AllocError> {
-    if let ReadError::TooLong = fault {
-        return Ok(Stretch {
-            start: MOST_BYTES,
-            end: MOST_BYTES + 1,
-        });
-    }
-    let found = stretches(alloc, text)?;
-    let first = first_faulty(alloc, text, found.as_slice(), fault)?;
-    match found.get(first) {
-        Some(stretch) => Ok(*stretch),
-        None => Ok(Stretch {
-            start: text.len(),
-            end: text.len(),
-        }),
+    if is_refused_up_to(alloc, text, found.fault, location)? {
+        Ok(Some(location))
+    } else {
+        Ok(None)
     }
 }
 
-/// The first location at which the refusal of a text applies. `None` if the text is not refused for this.
+/// The location at which the text is refused for this fault. `None` if it is not refused for it.
 ///
 /// # Errors
 ///
@@ -91,13 +89,12 @@ pub fn text_location(
 ) -> Result<Option<TextLocation>, AllocError>
     ensures { IfOk result (λ o. IfSome o (λ location. TellsFault text.now fault.now location)) }
 {
-    let Stretch { start, end } = faulty_stretch(alloc, text, fault)?;
-    let Some(location) = location_at(text, start, end) else {
-        return Ok(None);
-    };
-    if applies(alloc, text, fault, location)? {
-        Ok(Some(location))
-    } else {
-        Ok(None)
+    match read_located(alloc, text) {
+        Ok(library) => {
+            discard(library);
+            Ok(None)
+        }
+        Err(ReadFault::Memory) => Err(AllocError),
+        Err(ReadFault::Refused(found)) => location_of(alloc, text, fault, found),
     }
 }

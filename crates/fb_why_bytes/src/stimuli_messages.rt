@@ -1,10 +1,8 @@
 //! The texts that say where stimuli are refused.
 
-use crate::location::{RowFault, StimuliLocation};
 use crate::text::ByteText;
-use crate::words::words_of;
 use csv::{ByteRecord, Error};
-use fb_inputs::records_of;
+use fb_inputs::{RowFault, StimuliLocation, records_of};
 use std::alloc::{AllocError, Global};
 
 /// Where stimuli are refused, and what was expected there.
@@ -39,20 +37,19 @@ fn row_at(alloc: Global, bytes: &[u8], location: usize) -> Option<Result<ByteRec
 /// Adds what is wrong with the row at a location. There is no text if the row was not read because memory ran out.
 fn push_row(alloc: Global, text: &mut ByteText, bytes: &[u8], location: usize, fault: RowFault) {
     match row_at(alloc, bytes, location) {
-        Some(Ok(row)) => push_fault(alloc, text, &row, fault),
+        Some(Ok(row)) => push_fault(text, &row, fault),
         Some(Err(_)) => text.give_up(),
         None => {}
     }
 }
 
-fn push_fault(alloc: Global, text: &mut ByteText, row: &ByteRecord, fault: RowFault) {
+fn push_fault(text: &mut ByteText, row: &ByteRecord, fault: RowFault) {
     match fault {
         RowFault::Fields => text.numbered("", row.len(), " instead of 3 fields"),
         RowFault::Event => push_field(text, "the event ", row.get(1), " is not INSTANCE.EVENT"),
-        RowFault::Word(location) => push_word(alloc, text, row, location, " is not NAME=VALUE"),
+        RowFault::Word(location) => push_word(text, row, location, " is not NAME=VALUE"),
         RowFault::Tick => push_field(text, "the tick ", row.get(0), " is not a number"),
         RowFault::Value(location) => push_word(
-            alloc,
             text,
             row,
             location,
@@ -63,13 +60,25 @@ fn push_fault(alloc: Global, text: &mut ByteText, row: &ByteRecord, fault: RowFa
     }
 }
 
-/// Adds a word of the last field, with what is wrong with it.
-fn push_word(alloc: Global, text: &mut ByteText, row: &ByteRecord, location: usize, after: &str) {
-    let values = row.get(2).unwrap_or(&[]);
-    match words_of(alloc, values) {
-        Ok(words) => push_field(text, "the word ", words.get(location).copied(), after),
-        Err(_) => text.give_up(),
+/// The word at this index among those between spaces.
+fn word_at(values: &[u8], location: usize) -> Option<&[u8]> {
+    let mut before = 0usize;
+    for part in values.split(|b| *b == b' ') {
+        if part.is_empty() {
+            continue;
+        }
+        if before == location {
+            return Some(part);
+        }
+        before = before.saturating_add(1);
     }
+    None
+}
+
+/// Adds a word of the last field, with what is wrong with it.
+fn push_word(text: &mut ByteText, row: &ByteRecord, location: usize, after: &str) {
+    let values = row.get(2).unwrap_or(&[]);
+    push_field(text, "the word ", word_at(values, location), after);
 }
 
 /// Adds a field, between words.

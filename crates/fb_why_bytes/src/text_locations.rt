@@ -40,7 +40,7 @@ pub fn after_mark(text: &[u8]) -> &[u8]
 }
 
 /// The number of line feeds of a text.
-pub(crate) fn line_feeds(text: &[u8]) -> usize
+fn line_feeds(text: &[u8]) -> usize
     ensures { result ≡ count_by (λ b. b == 10) text.now }
 {
     let mut ended = 0;

@@ -1,9 +1,8 @@
 //! The text for a location in a declaration.
 
-use crate::expected::expected;
 use crate::text::{ByteText, front};
 use crate::text_locations::TextLocation;
-use fb_read::ReadError;
+use fb_read::{ReadError, expected_at};
 use fb_types::MOST_BYTES;
 use std::alloc::{AllocError, Global};
 
@@ -36,9 +35,11 @@ fn push_fault(
         column,
     } = location;
     message.position(line, column);
-    let before = text.get(..start).unwrap_or(text);
     let here = token(text.get(start..end).unwrap_or(&[]));
-    push_matter(alloc, message, fault, before, here);
+    push_matter(message, fault, here);
+    if let ReadError::Syntax { .. } = fault {
+        push_expected(alloc, message, text, start);
+    }
 }
 
 /// What is shown of the token at a location: of an open comment its beginning.
@@ -49,19 +50,13 @@ fn token(here: &[u8]) -> &[u8] {
     }
 }
 
-/// Adds what is wrong there, after the beginning of the text.
-fn push_matter(
-    alloc: Global,
-    message: &mut ByteText,
-    fault: &ReadError,
-    before: &[u8],
-    here: &[u8],
-) {
+/// Adds what is wrong there.
+fn push_matter(message: &mut ByteText, fault: &ReadError, here: &[u8]) {
     match fault {
         ReadError::Memory => message.words("out of memory"),
         ReadError::Byte => push_about(message, "", here, " is allowed only in comments"),
         ReadError::Token => push_no_token(message, here),
-        ReadError::Syntax { .. } => push_syntax(alloc, message, before, here),
+        ReadError::Syntax { .. } => push_found(message, here),
         ReadError::TooLong => message.numbered("a text has at most ", MOST_BYTES, " bytes"),
         ReadError::Nesting => push_about(message, "with ", here, " more than 64 are nested"),
     }
@@ -81,31 +76,39 @@ fn push_about(message: &mut ByteText, before: &str, here: &[u8], after: &str) {
     message.words(after);
 }
 
-/// Adds what was expected after the beginning of a text, instead of what is there.
-fn push_syntax(alloc: Global, message: &mut ByteText, before: &[u8], here: &[u8]) {
+/// Adds the token that is there instead of an expected one.
+fn push_found(message: &mut ByteText, here: &[u8]) {
     message.words("found ");
     if here.is_empty() {
         message.words("the end of the text");
     } else {
         push_shown(message, here);
     }
-    match expected(alloc, before) {
-        Ok(wanted) => push_expected(message, wanted.as_str()),
+}
+
+/// Adds the tokens with which the text could go on at an offset.
+fn push_expected(alloc: Global, message: &mut ByteText, text: &[u8], start: usize) {
+    match expected_words(alloc, text, start) {
+        Ok(words) => push_words(message, words.as_str()),
         Err(_) => message.give_up(),
     }
 }
 
+fn expected_words(alloc: Global, text: &[u8], start: usize) -> Result<String, AllocError> {
+    expected_at(alloc, text, start)?.words(alloc)
+}
+
 /// Adds the tokens that were expected, if any are known.
-fn push_expected(message: &mut ByteText, wanted: &str) {
-    if wanted.is_empty() {
+fn push_words(message: &mut ByteText, words: &str) {
+    if words.is_empty() {
         return;
     }
-    message.words(if wanted.contains(" ") {
+    message.words(if words.contains(" ") {
         ", expected one of "
     } else {
         ", expected "
     });
-    message.words(wanted);
+    message.words(words);
 }
 
 /// Adds bytes as text, up to a limit. A byte that is not printable is shown by its number.

@@ -3,4 +3,5 @@ use Rattle.fb_inputs.proofs.Values.{array_view}
 use Rattle.fb_inputs.proofs.document.array.Goals as goal
 
 pub returns-in-Some : goal.returns-in-Some
-returns-in-Some g c = rw (array_view g.T.Piece.meaning (view c.args.value.now) c.in-Some.values.now.items c.in-Some.ensures) (rw c.as_slice.ensures.value at c.each.ensures)
+returns-in-Some g c =
+    rw (array_view c.args.key g.T.Piece.meaning (view c.args.value.now) c.in-Some.values.now.items c.in-Some.ensures) (rw c.as_slice.ensures.value at c.each.ensures)

@@ -1,8 +1,9 @@
-use Rattle.std.proofs.Common.{◌≡◌, drop, map}
+use Rattle.std.proofs.Common.{◌≡◌, drop, length, map}
 use Rattle.toml.specs.View.{view}
-use Rattle.fb_inputs.specs.Lists.{each}
-use Rattle.fb_inputs.proofs.Each.{with_front}
+use Rattle.fb_inputs.specs.DeployPlaces.{element_at}
+use Rattle.fb_inputs.specs.Lists.{all_after, each_at}
 use Rattle.fb_inputs.proofs.document.each.Given as goal
 
 abbrev pub invariant-loop-value : goal.invariant-loop-value
-invariant-loop-value g l = each g.T.Piece.meaning (map view l.values) ≡ with_front l.found (each g.T.Piece.meaning (map view (drop l.value-index l.values)))
+invariant-loop-value g l =
+    each_at (element_at l.key) g.T.Piece.meaning 0 (map view l.values) ≡ all_after l.found (each_at (element_at l.key) g.T.Piece.meaning (length l.found) (map view (drop l.value-index l.values)))

@@ -1,11 +1,11 @@
 use Rattle.std.proofs.Common.{◌≡◌, length}
-use Rattle.fb_inputs.specs.Lists.{each}
+use Rattle.fb_inputs.specs.Lists.{all_after, each_at}
+use Rattle.fb_inputs.specs.Places.{value_at}
 use Rattle.fb_inputs.specs.Rows.{setting}
-use Rattle.fb_inputs.proofs.Each.{with_front}
 use Rattle.fb_inputs.proofs.row.settings.Given as goal
 
 abbrev pub invariant-loop-word : goal.invariant-loop-word
 invariant-loop-word l = record {
-  found : each setting l.fn.words ≡ with_front l.found (each setting l.word-iterator.rest.items);
+  found : each_at value_at setting 0 l.fn.words ≡ all_after l.found (each_at value_at setting (length l.found) l.word-iterator.rest.items);
   counted : l.word-iterator.rest.len ≡ length l.word-iterator.rest.items;
 }

@@ -1,17 +1,18 @@
-use Rattle.std.proofs.Common.{◌≡◌, ◌+◌, not, ◌==◌, true, false, List, ℕ, [], length, nat_eq, drop, sym, ap, ◌∙◌, arith, refl, rules, tests}
+use Rattle.std.proofs.Common.{◌≡◌, not, ◌==◌, true, false, List, [], length, nat_eq, drop, sym, ap, ◌∙◌, arith, refl, rules, tests}
 use Rattle.std.specs.List.{filter, slice_split}
 use Rattle.std.proofs.lemmas.List.{length_push, drop_all}
 use Rattle.std.proofs.lemmas.Iterator.Splits.{YieldsList-from_slice_split}
 use Rattle.std.proofs.lemmas.Iterator.Consumers.{YieldsList-turn, YieldsList-end}
-use Rattle.fb_inputs.specs.Lists.{each}
+use Rattle.fb_inputs.specs.Lists.{all_after, each_at}
+use Rattle.fb_inputs.specs.Places.{word_at}
 use Rattle.fb_inputs.specs.Rows.{word, words}
 use Rattle.fb_inputs.specs.Words.{Text}
-use Rattle.fb_inputs.proofs.Each.{with_front, front_none, more, fails, done, filter_skips, filter_takes}
+use Rattle.fb_inputs.proofs.Each.{nothing_before, more_at, fails_at, done_at, filter_skips, filter_takes}
 use Rattle.fb_inputs.proofs.row.words.Goals as goal
 
 pub loop-part-init : goal.loop-part-init
 unfolding words
-loop-part-init c = rw c.new-found.ensures (search (rules, front_none))
+loop-part-init c = rw c.new-found.ensures (search (rules, nothing_before))
 
 pub loop-part-preserved-then-is_empty : goal.loop-part-preserved-then-is_empty
 loop-part-preserved-then-is_empty c =
@@ -21,7 +22,7 @@ loop-part-preserved-then-is_empty c =
     let t = YieldsList-turn all c.loop-part.yielded _ c.loop-part.yielded_by _ _ c.in-Some.part c.in-Some.is c.next.ensures.steps in
     let none : not (length c.in-Some.part.now == 0) ≡ false = search rules in
     let skips = filter_skips (λ w. not (length w == 0)) (slice_split (nat_eq 32) c.args.text.now) (length c.loop-part.yielded) c.in-Some.part.now t none in
-    rw (length_push c.loop-part.yielded c.in-Some.part) (c.loop-part.invariant ∙ ap (λ (rest : List Text). with_front c.loop-part.found (each word rest)) skips)
+    rw (length_push c.loop-part.yielded c.in-Some.part) (c.loop-part.invariant ∙ ap (λ (rest : List Text). all_after c.loop-part.found (each_at word_at word (length c.loop-part.found) rest)) skips)
 
 pub returns-in_default : goal.returns-in_default
 returns-in_default c =
@@ -31,7 +32,7 @@ returns-in_default c =
     let t = YieldsList-turn all c.loop-part.yielded _ c.loop-part.yielded_by _ _ c.in-Some.part c.in-Some.is c.next.ensures.steps in
     let some : not (length c.in-Some.part.now == 0) ≡ true = search rules in
     let takes = filter_takes (λ w. not (length w == 0)) (slice_split (nat_eq 32) c.args.text.now) (length c.loop-part.yielded) c.in-Some.part.now t some in
-    fails word c.loop-part.found c.in-Some.part.now _ _ _ takes (sym c.in_ok-word.ensures ∙ c.in_default.is) c.loop-part.invariant
+    rw c.len.ensures (fails_at word_at word c.loop-part.found c.in-Some.part.now _ _ _ takes (sym c.in_ok-word.ensures ∙ c.in_default.is) c.loop-part.invariant)
 
 pub loop-part-preserved : goal.loop-part-preserved
 loop-part-preserved c =
@@ -41,7 +42,7 @@ loop-part-preserved c =
     let t = YieldsList-turn all c.loop-part.yielded _ c.loop-part.yielded_by _ _ c.in-Some.part c.in-Some.is c.next.ensures.steps in
     let some : not (length c.in-Some.part.now == 0) ≡ true = search rules in
     let takes = filter_takes (λ w. not (length w == 0)) (slice_split (nat_eq 32) c.args.text.now) (length c.loop-part.yielded) c.in-Some.part.now t some in
-    rw (c.in_ok-push.ensures.ok, length_push c.loop-part.yielded c.in-Some.part) (more word c.loop-part.found c.in-Some.part.now _ _ _ _ takes (sym c.in_ok-word.ensures ∙ c.in-Some-2.is) c.loop-part.invariant)
+    rw (c.in_ok-push.ensures.ok, length_push c.loop-part.yielded c.in-Some.part) (more_at word_at word c.loop-part.found c.in-Some.part.now _ _ _ _ takes (sym c.in_ok-word.ensures ∙ c.in-Some-2.is) c.loop-part.invariant)
 
 pub returns : goal.returns
 returns c =
@@ -50,4 +51,4 @@ returns c =
     let all = YieldsList-from_slice_split _ (nat_eq 32) c.args.text.now (rw start split.rest) (rw start split.done) refl (λ x r q k. search (rules, tests)) in
     let t = YieldsList-end all c.loop-part.yielded _ c.loop-part.yielded_by _ _ c.in-None.is c.next.ensures.steps in
     let last : drop (length c.loop-part.yielded) (slice_split (nat_eq 32) c.args.text.now) ≡ [] = drop_all (length c.loop-part.yielded) (slice_split (nat_eq 32) c.args.text.now) (omega (arith, t.1)) in
-    done word c.loop-part.found (filter (λ w. not (length w == 0)) (drop (length c.loop-part.yielded) (slice_split (nat_eq 32) c.args.text.now))) _ (rw last (omega arith)) c.loop-part.invariant
+    done_at word_at word c.loop-part.found (filter (λ w. not (length w == 0)) (drop (length c.loop-part.yielded) (slice_split (nat_eq 32) c.args.text.now))) _ (rw last (omega arith)) c.loop-part.invariant

@@ -1,6 +1,7 @@
 use Rattle.std.proofs.Common.{refl, ap, ◌∙◌, length}
 use Rattle.std.proofs.lemmas.Result.{err_from_is_err_and}
-use Rattle.fb_inputs.specs.Stimuli.{all_after, stimuli_from}
+use Rattle.fb_inputs.specs.Lists.{all_after}
+use Rattle.fb_inputs.specs.Stimuli.{stimuli_from}
 use Rattle.fb_inputs.specs.Readers.{rows_from}
 use Rattle.fb_inputs.proofs.Records.{at_end, failed_reading}
 use Rattle.fb_inputs.proofs.Rows.{none_left}

@@ -1,11 +1,7 @@
-use Rattle.std.proofs.Common.{List, ℕ, sym, subst}
 use Rattle.csv.specs.Records.{fields_of}
-use Rattle.fb_inputs.specs.Refusals.{Answers}
-use Rattle.fb_inputs.specs.Stimuli.{stimulus}
-use Rattle.fb_inputs.proofs.Fields.{three_row}
+use Rattle.fb_inputs.proofs.Rows.{refused_at_row}
 use Rattle.fb_inputs.proofs.stimuli.stimulus_at.Goals as goal
 
-pub returns-in-Some : goal.returns-in-Some
-returns-in-Some c =
-    subst (λ (z : List (List ℕ)). Answers (λ s. s) (stimulus c.args.before z) c.stimulus_of.result)
-    (sym (three_row (fields_of c.args.row.now) c.in-Some.tick.now c.in-Some.event.now c.in-Some.values.now c.in-Some.ensures)) c.stimulus_of.ensures
+pub returns-in-Err : goal.returns-in-Err
+returns-in-Err c =
+    refused_at_row c.args.before (fields_of c.args.row) c.in-Err.error c.at_row.result c.at_row.ensures (rw c.in-Err.is at c.stimulus_in-read.ensures)

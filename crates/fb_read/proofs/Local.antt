@@ -1,0 +1,285 @@
+-- A rule looks one token ahead: what it does up to a token does not depend on what follows that token.
+use Rattle.std.proofs.Common.{◌≡◌, ◌≤◌, Bool, true, false, cond, [], ◌∷◌, ◌++◌, length, Ok, Err, refl, sym, ap, subst, ◌∙◌, append_assoc, arith}
+use Rattle.std.proofs.lemmas.List.{append_cancel_right, length-append}
+use Rattle.fb_read.specs.declared.token.Token.{Token}
+use Rattle.fb_read.specs.Tokens.{Tokens}
+use Rattle.fb_read.specs.Parser.{Outcome, Parser, RuleFault, syntax, too_deep, and_then, ◌>>=◌, pure, refuse}
+use Rattle.fb_read.proofs.Steps.{pair_is}
+
+-- the second list is an end of the first
+pub record IsLeft (rest ts : Tokens) : Type 0 where
+  pub before : Tokens
+  pub joined : before ++ rest ≡ ts
+
+pub left-all : (ts : Tokens) → IsLeft ts ts
+left-all ts = record { before = []; joined = refl }
+
+pub left-more : (t : Token) (rest ts : Tokens) → IsLeft rest ts → IsLeft rest (t ∷ ts)
+left-more t rest ts w = record { before = t ∷ w.before; joined = ap (λ (us : Tokens). t ∷ us) w.joined }
+
+pub left-left : (a b c : Tokens) → IsLeft a b → IsLeft b c → IsLeft a c
+left-left a b c v w = record { before = w.before ++ v.before; joined = append_assoc w.before v.before a ∙ ap (λ (us : Tokens). w.before ++ us) v.joined ∙ w.joined }
+
+pub left-length : (rest ts : Tokens) → IsLeft rest ts → length rest ≤ length ts
+left-length rest ts w = let e = ap (λ (us : Tokens). length us) w.joined in let l = length-append w.before rest in omega arith
+
+-- what is left is an end of what was given, and other tokens may follow the first one of it
+pub record Local {A : Type 0} (p : Parser A) : Type 0 where
+  pub left : (ts rest : Tokens) (x : A) → p ts ≡ Ok (x, rest) → IsLeft rest ts
+  pub stuck : (ts rest : Tokens) → p ts ≡ Err (syntax rest) → IsLeft rest ts
+  pub same : (before mid behind more : Tokens) (t : Token) (x : A) → p (before ++ t ∷ behind) ≡ Ok (x, mid ++ t ∷ behind) → p (before ++ t ∷ more) ≡ Ok (x, mid ++ t ∷ more)
+  pub refused : (before mid behind more : Tokens) (t : Token) → p (before ++ t ∷ behind) ≡ Err (syntax (mid ++ t ∷ behind)) → p (before ++ t ∷ more) ≡ Err (syntax (mid ++ t ∷ more))
+
+-- ---- one rule after another
+
+abbrev done : {A : Type 0} → A → Tokens → Outcome A
+done x ts = Ok (x, ts)
+
+abbrev failed : {A : Type 0} → Tokens → Outcome A
+failed ts = Err (syntax ts)
+
+-- what was read, or why nothing was
+pub data Sort {A : Type 0} (o : Outcome A) : Type 0 where
+  is_read : (x : A) (rest : Tokens) → o ≡ Ok (x, rest) → Sort o
+  is_stuck : (rest : Tokens) → o ≡ Err (syntax rest) → Sort o
+  is_deep : o ≡ Err too_deep → Sort o
+
+pub sort : {A : Type 0} (o : Outcome A) → Sort o
+sort (Ok p) = is_read p.0 p.1 refl
+sort (Err (syntax rest)) = is_stuck rest refl
+sort (Err too_deep) = is_deep refl
+
+stuck-is : {B : Type 0} (rest other : Tokens) → failed {A = B} rest ≡ failed other → rest ≡ other
+stuck-is rest other e = cc
+
+not-read : {B : Type 0} (f : RuleFault) (y : B × Tokens) (o : Outcome B) → o ≡ Err f → o ≡ Ok y → ⊥
+not-read f y o h k = cc
+
+not-deep : {B : Type 0} (rest : Tokens) (o : Outcome B) → o ≡ Err too_deep → o ≡ Err (syntax rest) → ⊥
+not-deep rest o h k = cc
+
+pub local-bind : {A B : Type 0} (p : Parser A) (f : A → Parser B) → Local p → ((x : A) → Local (f x)) → Local (p >>= f)
+local-bind {A = A} {B = B} p f l m = record {
+  left = λ ts rest y h. left-of ts rest y h (sort (p ts));
+  stuck = λ ts rest h. stuck-of ts rest h (sort (p ts));
+  same = λ before mid behind more t y h. same-of before mid behind more t y h (sort (p (before ++ t ∷ behind)));
+  refused = λ before mid behind more t h. refused-of before mid behind more t h (sort (p (before ++ t ∷ behind)));
+}
+  where
+    left-of : (ts rest : Tokens) (y : B) → and_then (p ts) f ≡ Ok (y, rest) → Sort (p ts) → IsLeft rest ts
+    left-of ts rest y h (is_read x r e) = left-left rest r ts ((m x).left r rest y (sym (ap (λ (o : Outcome A). and_then o f) e) ∙ h)) (l.left ts r x e)
+    left-of ts rest y h (is_stuck r e) = absurd (not-read (syntax r) (y, rest) (and_then (p ts) f) (ap (λ (o : Outcome A). and_then o f) e) h)
+    left-of ts rest y h (is_deep e) = absurd (not-read too_deep (y, rest) (and_then (p ts) f) (ap (λ (o : Outcome A). and_then o f) e) h)
+
+    stuck-of : (ts rest : Tokens) → and_then (p ts) f ≡ Err (syntax rest) → Sort (p ts) → IsLeft rest ts
+    stuck-of ts rest h (is_read x r e) = left-left rest r ts ((m x).stuck r rest (sym (ap (λ (o : Outcome A). and_then o f) e) ∙ h)) (l.left ts r x e)
+    stuck-of ts rest h (is_stuck r e) =
+        let same : r ≡ rest = stuck-is {B = B} r rest (sym (ap (λ (o : Outcome A). and_then o f) e) ∙ h) in
+        subst (λ (us : Tokens). IsLeft us ts) same (l.stuck ts r e)
+    stuck-of ts rest h (is_deep e) = absurd (not-deep rest (and_then (p ts) f) (ap (λ (o : Outcome A). and_then o f) e) h)
+
+    -- after the first rule, its rest in place of the whole
+    goes-on : (before mid behind more : Tokens) (t : Token) (x : A) (r : Tokens) → p (before ++ t ∷ behind) ≡ Ok (x, r) → IsLeft (mid ++ t ∷ behind) r
+        → (a : Tokens) × (r ≡ a ++ (mid ++ t ∷ behind)) × (p (before ++ t ∷ more) ≡ Ok (x, (a ++ mid) ++ t ∷ more))
+    goes-on before mid behind more t x r e w = (
+      w.before,
+      sym w.joined,
+      l.same before (w.before ++ mid) behind more t x (e ∙ ap (λ (us : Tokens). done x us) (sym w.joined ∙ sym (append_assoc w.before mid (t ∷ behind)))),
+    )
+
+    same-of : (before mid behind more : Tokens) (t : Token) (y : B) → and_then (p (before ++ t ∷ behind)) f ≡ Ok (y, mid ++ t ∷ behind) → Sort (p (before ++ t ∷ behind))
+        → and_then (p (before ++ t ∷ more)) f ≡ Ok (y, mid ++ t ∷ more)
+    same-of before mid behind more t y h (is_read x r e) =
+        let g = sym (ap (λ (o : Outcome A). and_then o f) e) ∙ h in
+        let w = goes-on before mid behind more t x r e ((m x).left r (mid ++ t ∷ behind) y g) in
+        let there : f x ((w.0 ++ mid) ++ t ∷ behind) ≡ Ok (y, mid ++ t ∷ behind) = ap (λ (us : Tokens). f x us) (append_assoc w.0 mid (t ∷ behind) ∙ sym w.1) ∙ g in
+        ap (λ (o : Outcome A). and_then o f) w.2 ∙ (m x).same (w.0 ++ mid) mid behind more t y there
+    same-of before mid behind more t y h (is_stuck r e) = absurd (not-read (syntax r) (y, mid ++ t ∷ behind) (and_then (p (before ++ t ∷ behind)) f) (ap (λ (o : Outcome A). and_then o f) e) h)
+    same-of before mid behind more t y h (is_deep e) = absurd (not-read too_deep (y, mid ++ t ∷ behind) (and_then (p (before ++ t ∷ behind)) f) (ap (λ (o : Outcome A). and_then o f) e) h)
+
+    refused-of : (before mid behind more : Tokens) (t : Token) → and_then (p (before ++ t ∷ behind)) f ≡ Err (syntax (mid ++ t ∷ behind)) → Sort (p (before ++ t ∷ behind))
+        → and_then (p (before ++ t ∷ more)) f ≡ Err (syntax (mid ++ t ∷ more))
+    refused-of before mid behind more t h (is_read x r e) =
+        let g = sym (ap (λ (o : Outcome A). and_then o f) e) ∙ h in
+        let w = goes-on before mid behind more t x r e ((m x).stuck r (mid ++ t ∷ behind) g) in
+        let there : f x ((w.0 ++ mid) ++ t ∷ behind) ≡ Err (syntax (mid ++ t ∷ behind)) = ap (λ (us : Tokens). f x us) (append_assoc w.0 mid (t ∷ behind) ∙ sym w.1) ∙ g in
+        ap (λ (o : Outcome A). and_then o f) w.2 ∙ (m x).refused (w.0 ++ mid) mid behind more t there
+    refused-of before mid behind more t h (is_stuck r e) =
+        let same : r ≡ mid ++ t ∷ behind = stuck-is {B = B} r (mid ++ t ∷ behind) (sym (ap (λ (o : Outcome A). and_then o f) e) ∙ h) in
+        ap (λ (o : Outcome A). and_then o f) (l.refused before mid behind more t (e ∙ ap (λ (us : Tokens). failed us) same))
+    refused-of before mid behind more t h (is_deep e) = absurd (not-deep (mid ++ t ∷ behind) (and_then (p (before ++ t ∷ behind)) f) (ap (λ (o : Outcome A). and_then o f) e) h)
+
+-- ---- rules of one token
+
+-- what is made of the next token: it is taken, left or refused
+pub data Step (A : Type 0) : Type 0 where
+  taken : A → Step A
+  kept : A → Step A
+  denied : Step A
+
+abbrev pub at_end : {A : Type 0} → Step A → Outcome A
+at_end (taken x) = Ok (x, [])
+at_end (kept x) = Ok (x, [])
+at_end denied = Err (syntax [])
+
+abbrev pub on : {A : Type 0} → Step A → Token → Tokens → Outcome A
+on (taken x) t ts = Ok (x, ts)
+on (kept x) t ts = Ok (x, t ∷ ts)
+on denied t ts = Err (syntax (t ∷ ts))
+
+abbrev pub stepped : {A : Type 0} → Step A → (Token → Step A) → Parser A
+stepped e f [] = at_end e
+stepped e f (t ∷ ts) = on (f t) t ts
+
+value-is : {A : Type 0} (x y : A) (ts us : Tokens) → done x ts ≡ done y us → x ≡ y
+value-is {A = A} x y ts us e = ap (λ (p : A × Tokens). p.0) (pair_is (x, ts) (y, us) e)
+
+rest-is : {A : Type 0} (x y : A) (ts us : Tokens) → done x ts ≡ done y us → ts ≡ us
+rest-is {A = A} x y ts us e = ap (λ (p : A × Tokens). p.1) (pair_is (x, ts) (y, us) e)
+
+no-done : {A : Type 0} (x : A) (ts us : Tokens) → done x ts ≡ failed us → ⊥
+no-done x ts us e = cc
+
+other-tail : (a mid behind more : Tokens) (t : Token) → a ++ t ∷ behind ≡ mid ++ t ∷ behind → a ++ t ∷ more ≡ mid ++ t ∷ more
+other-tail a mid behind more t e = ap (λ (us : Tokens). us ++ t ∷ more) (append_cancel_right a mid (t ∷ behind) e)
+
+keep : {A : Type 0} (x y : A) (a mid behind more : Tokens) (t : Token) → done x (a ++ t ∷ behind) ≡ done y (mid ++ t ∷ behind) → done x (a ++ t ∷ more) ≡ done y (mid ++ t ∷ more)
+keep x y a mid behind more t e =
+    let same = value-is x y (a ++ t ∷ behind) (mid ++ t ∷ behind) e in
+    let tail = other-tail a mid behind more t (rest-is x y (a ++ t ∷ behind) (mid ++ t ∷ behind) e) in
+    rw (same, tail) refl
+
+keep-failed : {A : Type 0} (a mid behind more : Tokens) (t : Token) → failed {A = A} (a ++ t ∷ behind) ≡ failed (mid ++ t ∷ behind) → failed {A = A} (a ++ t ∷ more) ≡ failed (mid ++ t ∷ more)
+keep-failed {A = A} a mid behind more t e = ap (λ (us : Tokens). failed {A = A} us) (other-tail a mid behind more t (stuck-is {B = A} (a ++ t ∷ behind) (mid ++ t ∷ behind) e))
+
+-- a list is not longer than itself
+no-shorter : (mid behind : Tokens) (t : Token) → behind ≡ mid ++ t ∷ behind → ⊥
+no-shorter mid behind t e = let l = ap (λ (us : Tokens). length us) e in let m = length-append mid (t ∷ behind) in omega arith
+
+pub local-step : {A : Type 0} (e : Step A) (f : Token → Step A) → Local (stepped e f)
+local-step {A = A} e f = record {
+  left = λ ts rest x h. left-of ts rest x h;
+  stuck = λ ts rest h. stuck-of ts rest h;
+  same = λ before mid behind more t x h. same-of before mid behind more t x h;
+  refused = λ before mid behind more t h. refused-of before mid behind more t h;
+}
+  where
+    left-end : (s : Step A) (rest : Tokens) (x : A) → at_end s ≡ Ok (x, rest) → IsLeft rest []
+    left-end (taken y) rest x h = subst (λ (us : Tokens). IsLeft us []) (rest-is y x [] rest h) (left-all [])
+    left-end (kept y) rest x h = subst (λ (us : Tokens). IsLeft us []) (rest-is y x [] rest h) (left-all [])
+    left-end denied rest x h = absurd (no-done x rest [] (sym h))
+
+    left-on : (s : Step A) (t : Token) (ts rest : Tokens) (x : A) → on s t ts ≡ Ok (x, rest) → IsLeft rest (t ∷ ts)
+    left-on (taken y) t ts rest x h = subst (λ (us : Tokens). IsLeft us (t ∷ ts)) (rest-is y x ts rest h) (left-more t ts ts (left-all ts))
+    left-on (kept y) t ts rest x h = subst (λ (us : Tokens). IsLeft us (t ∷ ts)) (rest-is y x (t ∷ ts) rest h) (left-all (t ∷ ts))
+    left-on denied t ts rest x h = absurd (no-done x rest (t ∷ ts) (sym h))
+
+    left-of : (ts rest : Tokens) (x : A) → stepped e f ts ≡ Ok (x, rest) → IsLeft rest ts
+    left-of [] rest x h = left-end e rest x h
+    left-of (t ∷ ts) rest x h = left-on (f t) t ts rest x h
+
+    stuck-end : (s : Step A) (rest : Tokens) → at_end s ≡ Err (syntax rest) → IsLeft rest []
+    stuck-end (taken y) rest h = absurd (no-done y [] rest h)
+    stuck-end (kept y) rest h = absurd (no-done y [] rest h)
+    stuck-end denied rest h = subst (λ (us : Tokens). IsLeft us []) (stuck-is {B = A} [] rest h) (left-all [])
+
+    stuck-on : (s : Step A) (t : Token) (ts rest : Tokens) → on s t ts ≡ Err (syntax rest) → IsLeft rest (t ∷ ts)
+    stuck-on (taken y) t ts rest h = absurd (no-done y ts rest h)
+    stuck-on (kept y) t ts rest h = absurd (no-done y (t ∷ ts) rest h)
+    stuck-on denied t ts rest h = subst (λ (us : Tokens). IsLeft us (t ∷ ts)) (stuck-is {B = A} (t ∷ ts) rest h) (left-all (t ∷ ts))
+
+    stuck-of : (ts rest : Tokens) → stepped e f ts ≡ Err (syntax rest) → IsLeft rest ts
+    stuck-of [] rest h = stuck-end e rest h
+    stuck-of (t ∷ ts) rest h = stuck-on (f t) t ts rest h
+
+    same-first : (s : Step A) (mid behind more : Tokens) (t : Token) (x : A) → on s t behind ≡ Ok (x, mid ++ t ∷ behind) → on s t more ≡ Ok (x, mid ++ t ∷ more)
+    same-first (taken y) mid behind more t x h = absurd (no-shorter mid behind t (rest-is y x behind (mid ++ t ∷ behind) h))
+    same-first (kept y) mid behind more t x h = keep y x [] mid behind more t h
+    same-first denied mid behind more t x h = absurd (no-done x (mid ++ t ∷ behind) (t ∷ behind) (sym h))
+
+    same-later : (s : Step A) (u : Token) (b mid behind more : Tokens) (t : Token) (x : A) → on s u (b ++ t ∷ behind) ≡ Ok (x, mid ++ t ∷ behind) → on s u (b ++ t ∷ more) ≡ Ok (x, mid ++ t ∷ more)
+    same-later (taken y) u b mid behind more t x h = keep y x b mid behind more t h
+    same-later (kept y) u b mid behind more t x h = keep y x (u ∷ b) mid behind more t h
+    same-later denied u b mid behind more t x h = absurd (no-done x (mid ++ t ∷ behind) (u ∷ (b ++ t ∷ behind)) (sym h))
+
+    same-of : (before mid behind more : Tokens) (t : Token) (x : A) → stepped e f (before ++ t ∷ behind) ≡ Ok (x, mid ++ t ∷ behind) → stepped e f (before ++ t ∷ more) ≡ Ok (x, mid ++ t ∷ more)
+    same-of [] mid behind more t x h = same-first (f t) mid behind more t x h
+    same-of (u ∷ b) mid behind more t x h = same-later (f u) u b mid behind more t x h
+
+    refused-first : (s : Step A) (mid behind more : Tokens) (t : Token) → on s t behind ≡ Err (syntax (mid ++ t ∷ behind)) → on s t more ≡ Err (syntax (mid ++ t ∷ more))
+    refused-first (taken y) mid behind more t h = absurd (no-done y behind (mid ++ t ∷ behind) h)
+    refused-first (kept y) mid behind more t h = absurd (no-done y (t ∷ behind) (mid ++ t ∷ behind) h)
+    refused-first denied mid behind more t h = keep-failed {A = A} [] mid behind more t h
+
+    refused-later : (s : Step A) (u : Token) (b mid behind more : Tokens) (t : Token) → on s u (b ++ t ∷ behind) ≡ Err (syntax (mid ++ t ∷ behind)) → on s u (b ++ t ∷ more) ≡ Err (syntax (mid ++ t ∷ more))
+    refused-later (taken y) u b mid behind more t h = absurd (no-done y (b ++ t ∷ behind) (mid ++ t ∷ behind) h)
+    refused-later (kept y) u b mid behind more t h = absurd (no-done y (u ∷ (b ++ t ∷ behind)) (mid ++ t ∷ behind) h)
+    refused-later denied u b mid behind more t h = keep-failed {A = A} (u ∷ b) mid behind more t h
+
+    refused-of : (before mid behind more : Tokens) (t : Token) → stepped e f (before ++ t ∷ behind) ≡ Err (syntax (mid ++ t ∷ behind)) → stepped e f (before ++ t ∷ more) ≡ Err (syntax (mid ++ t ∷ more))
+    refused-of [] mid behind more t h = refused-first (f t) mid behind more t h
+    refused-of (u ∷ b) mid behind more t h = refused-later (f u) u b mid behind more t h
+
+-- a rule that does the same everywhere
+pub local-as : {A : Type 0} (p q : Parser A) → ((ts : Tokens) → p ts ≡ q ts) → Local q → Local p
+local-as p q e l = record {
+  left = λ ts rest x h. l.left ts rest x (sym (e ts) ∙ h);
+  stuck = λ ts rest h. l.stuck ts rest (sym (e ts) ∙ h);
+  same = λ before mid behind more t x h. e (before ++ t ∷ more) ∙ l.same before mid behind more t x (sym (e (before ++ t ∷ behind)) ∙ h);
+  refused = λ before mid behind more t h. e (before ++ t ∷ more) ∙ l.refused before mid behind more t (sym (e (before ++ t ∷ behind)) ∙ h);
+}
+
+pub local-pure : {A : Type 0} (x : A) → Local (pure x)
+local-pure x = local-as (pure x) (stepped (kept x) (λ t. kept x)) go (local-step (kept x) (λ t. kept x))
+  where
+    go : (ts : Tokens) → pure x ts ≡ stepped (kept x) (λ t. kept x) ts
+    go [] = refl
+    go (t ∷ ts) = refl
+
+pub local-refuse : {A : Type 0} → Local (refuse {A = A})
+local-refuse {A = A} = local-as refuse (stepped denied (λ t. denied)) go (local-step denied (λ t. denied))
+  where
+    go : (ts : Tokens) → refuse {A = A} ts ≡ stepped denied (λ t. denied) ts
+    go [] = refl
+    go (t ∷ ts) = refl
+
+pub local-deep : {A : Type 0} → Local {A = A} (λ ts. Err too_deep)
+local-deep {A = A} = record {
+  left = λ ts rest x h. absurd (deep-read x rest h);
+  stuck = λ ts rest h. absurd (deep-stuck rest h);
+  same = λ before mid behind more t x h. absurd (deep-read x (mid ++ t ∷ behind) h);
+  refused = λ before mid behind more t h. absurd (deep-stuck (mid ++ t ∷ behind) h);
+}
+  where
+    deep-read : (x : A) (rest : Tokens) → Err too_deep ≡ done x rest → ⊥
+    deep-read x rest e = cc
+
+    deep-stuck : (rest : Tokens) → Err too_deep ≡ failed {A = A} rest → ⊥
+    deep-stuck rest e = cc
+
+-- a test of the next token alone
+abbrev pub HeadOnly : {X : Type 0} → (Tokens → X) → Type 0
+HeadOnly g = (t : Token) (ts : Tokens) → g (t ∷ ts) ≡ g (t ∷ [])
+
+abbrev pub peek : {X : Type 0} → (Tokens → X) → Parser X
+peek g = λ ts. Ok (g ts, ts)
+
+pub local-peek : {X : Type 0} (g : Tokens → X) → HeadOnly g → Local (peek g)
+local-peek g only = local-as (peek g) (stepped (kept (g [])) (λ t. kept (g (t ∷ [])))) go (local-step (kept (g [])) (λ t. kept (g (t ∷ []))))
+  where
+    go : (ts : Tokens) → peek g ts ≡ stepped (kept (g [])) (λ t. kept (g (t ∷ []))) ts
+    go [] = refl
+    go (t ∷ ts) = ap (λ x. done x (t ∷ ts)) (only t ts)
+
+pub local-cond : {A : Type 0} (b : Bool) (p q : Parser A) → Local p → Local q → Local (cond b p q)
+local-cond true p q l m = l
+local-cond false p q l m = m
+
+-- a rule chosen by a test of the next token
+pub local-if : {A : Type 0} (test : Tokens → Bool) (p q : Parser A) → HeadOnly test → Local p → Local q → Local (λ ts. cond (test ts) (p ts) (q ts))
+local-if test p q only l m =
+    local-as (λ ts. cond (test ts) (p ts) (q ts)) (peek test >>= (λ b. cond b p q)) (λ ts. go (test ts) ts) (local-bind (peek test) (λ b. cond b p q) (local-peek test only) (λ b. local-cond b p q l m))
+  where
+    go : (b : Bool) (ts : Tokens) → cond b (p ts) (q ts) ≡ (cond b p q) ts
+    go true ts = refl
+    go false ts = refl

@@ -1,0 +1,11 @@
+use Rattle.std.proofs.Common.{◌≡◌, drop}
+use Rattle.fb_read.specs.Blank.{at, skip, start}
+use Rattle.fb_read.proofs.Comments.{InComment}
+use Rattle.fb_read.proofs.blank.open_comment.Given as goal
+
+abbrev pub invariant-loop-i : goal.invariant-loop-i
+invariant-loop-i l = record {
+  walked : skip l.position (drop l.i l.bytes) ≡ skip start l.bytes;
+  since : skip l.position (drop l.i l.bytes) ≡ skip start (drop l.before l.bytes);
+  there : InComment l.position → at l.bytes l.before ≡ 40;
+}

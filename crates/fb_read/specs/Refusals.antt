@@ -1,0 +1,126 @@
+-- Where a declaration text is refused (this project's own).
+use Rattle.std.specs.Prelude.{◌≡◌, ◌<◌, ◌≤◌, ◌==◌, ℕ, suc, ◌+◌, ◌-◌, List, [], ◌∷◌, length, drop, take, count_by, None, Ok, Err}
+use Rattle.fb_read.specs.declared.token.Placed.{Placed}
+use Rattle.fb_read.specs.declared.token.Token.{Token}
+use Rattle.fb_read.specs.declared.error.ReadError.{ReadError}
+use Rattle.fb_read.specs.declared.error.ReadError.TheVariants as error
+use Rattle.fb_read.specs.declared.refused.ReadFault.{ReadFault}
+use Rattle.fb_read.specs.declared.refused.ReadFault.TheVariants as fault
+use Rattle.fb_read.specs.declared.refused.TextFault.{TextFault}
+use Rattle.fb_read.specs.declared.refused.TextFault.TheVariants as text_fault
+use Rattle.fb_read.specs.Blank.{Text, at, skip, start}
+use Rattle.fb_read.specs.declared.front.LexFault.{LexFault}
+use Rattle.fb_read.specs.declared.front.LexFault.TheVariants as lex_fault
+use Rattle.fb_read.specs.Front.{bad_byte, bad_token, Found, Gives, front}
+use Rattle.fb_read.specs.Tokens.{Tokens, tokens_of, after_mark}
+use Rattle.fb_read.specs.Located.{AreLocated, IsFirstFaultAt}
+use Rattle.fb_read.specs.Stops.{Stops}
+use Rattle.fb_read.specs.Parser.{syntax, too_deep}
+use Rattle.fb_read.specs.Blocks.{library}
+use Rattle.fb_read.specs.Whole.{most_bytes, ended}
+
+-- The first byte past the greatest length is there.
+pub record IsTooLongAt (text : Text) (begin end : ℕ) : Type 0 where
+  pub long : most_bytes < length text
+  pub begin_is : begin ≡ most_bytes
+  pub end_is : end ≡ suc most_bytes
+
+-- One byte is there, and it is the first fault of the text.
+pub record IsByteAt (text : Text) (begin end : ℕ) : Type 0 where
+  pub short : length text ≤ most_bytes
+  pub first : IsFirstFaultAt bad_byte text begin (after_mark text)
+  pub one : end ≡ suc begin
+  pub within : end ≤ length text
+
+-- The first fault of the text is there, and it is one of a token.
+pub record IsFaultyTokenAt (text : Text) (begin end : ℕ) : Type 0 where
+  pub short : length text ≤ most_bytes
+  pub first : IsFirstFaultAt bad_token text begin (after_mark text)
+  pub some : begin < end
+  pub within : end ≤ length text
+
+-- a token of this length is at the front of the text
+abbrev pub IsTokenLen : Text → ℕ → Type 0
+IsTokenLen z n = (t : Token) × (front z ≡ Ok (t, n)) × (0 < n) × (n ≤ length z)
+
+-- The first of these last tokens of the text is there. The end of the text is there if there is none.
+abbrev pub IsNext : List Placed → Text → ℕ → ℕ → Type 0
+IsNext [] text begin end = (begin ≡ length text) × (end ≡ length text)
+IsNext (p ∷ ps) text begin end = (begin ≡ p.index) × (front (drop begin text) ≡ Ok (p.token, end - begin)) × (begin < end) × (end ≤ length text)
+
+-- The tokens of the text form no library: the grammar stops at the token there, and no library begins with the tokens up
+-- to it. At the end of the text, the tokens are those of no library.
+pub record IsSyntaxAt (text : Text) (begin end : ℕ) : Type 0 where
+  pub short : length text ≤ most_bytes
+  pub placed : List Placed
+  pub located : AreLocated text placed (after_mark text)
+  pub left : Tokens
+  pub refused : ended (library (tokens_of placed)) ≡ Err (syntax left)
+  pub stops : Stops left (tokens_of placed)
+  pub next : IsNext (drop (length placed - length left) placed) text begin end
+
+-- The tokens of the text form no library because something nests too deep, and one of them is there.
+pub record IsNestingAt (text : Text) (begin end : ℕ) : Type 0 where
+  pub short : length text ≤ most_bytes
+  pub placed : List Placed
+  pub located : AreLocated text placed (after_mark text)
+  pub refused : ended (library (tokens_of placed)) ≡ Err too_deep
+  pub index : ℕ
+  pub next : IsNext (drop index placed) text begin end
+
+-- The text is refused for this between two offsets.
+abbrev pub IsFaultAt : TextFault → Text → ℕ → ℕ → Type 0
+IsFaultAt text_fault.Byte = IsByteAt
+IsFaultAt text_fault.Token = IsFaultyTokenAt
+IsFaultAt text_fault.Syntax = IsSyntaxAt
+IsFaultAt text_fault.TooLong = IsTooLongAt
+IsFaultAt text_fault.Nesting = IsNestingAt
+
+-- why a text is not read
+abbrev pub IsRefused : Text → ReadFault → Type 0
+IsRefused text fault.Memory = Unit {0}
+IsRefused text (fault.Refused r) = IsFaultAt r.fault text r.start r.end
+
+abbrev pub refused_at : TextFault → ℕ → ℕ → ReadFault
+refused_at why first last = fault.Refused (record { fault = why; start = first; end = last })
+
+-- the refusal of a text with this fault at an offset
+abbrev pub IsFaultOf : Text → ℕ → LexFault → ReadFault → Type 0
+IsFaultOf text k lex_fault.Memory e = e ≡ fault.Memory
+IsFaultOf text k lex_fault.Byte e = e ≡ refused_at text_fault.Byte k (suc k)
+IsFaultOf text k lex_fault.Token e = (last : ℕ) × (k < last) × (last ≤ length text) × (e ≡ refused_at text_fault.Token k last)
+
+-- the refusal of a text whose token at an offset is not read
+abbrev pub IsFoundAt : Text → ℕ → Found → ReadFault → Type 0
+IsFoundAt text k found e = (f : LexFault) × Gives (Err f) found × IsFaultOf text k f e
+
+-- the refusal of a text for the comment that is not closed in an end of it
+pub record IsUnclosed (text rest : Text) (e : ReadFault) : Type 0 where
+  pub index : ℕ
+  pub is : e ≡ refused_at text_fault.Token index (length text)
+  pub within : index < length text
+  pub there : at text index ≡ 40
+  pub none : skip start (drop index text) ≡ None
+  pub inside : length (drop index text) ≤ length rest
+
+-- the refusal is at the first of these tokens, or at the end of the text
+abbrev pub IsAtNext : Text → List Placed → TextFault → ReadFault → Type 0
+IsAtNext text ps why fault.Memory = Unit {0}
+IsAtNext text ps why (fault.Refused r) = (r.fault ≡ why) × IsNext ps text r.start r.end
+
+-- the refusal by its number, with the line of its offset for a syntax fault
+abbrev pub IsErrorAt : TextFault → Text → ℕ → ReadError → Type 0
+IsErrorAt text_fault.Byte text begin e = e ≡ error.Byte
+IsErrorAt text_fault.Token text begin e = e ≡ error.Token
+IsErrorAt text_fault.Syntax text begin e = e ≡ error.Syntax (1 + count_by (λ b. b == 10) (take begin text))
+IsErrorAt text_fault.TooLong text begin e = e ≡ error.TooLong
+IsErrorAt text_fault.Nesting text begin e = e ≡ error.Nesting
+
+-- the refusal without its offsets
+abbrev pub IsErrorOf : Text → ReadFault → ReadError → Type 0
+IsErrorOf text fault.Memory e = e ≡ error.Memory
+IsErrorOf text (fault.Refused r) e = IsErrorAt r.fault text r.start e
+
+-- the first byte past the greatest length
+abbrev pub too_long : ReadFault
+too_long = refused_at text_fault.TooLong most_bytes (suc most_bytes)

@@ -1,0 +1,22 @@
+-- Where the reader stops, no library goes on (this project's own).
+use Rattle.std.specs.Prelude.{◌≡◌, [], ◌∷◌, ◌++◌}
+use Rattle.fb_types.specs.declared.library.Library.{Library}
+use Rattle.fb_read.specs.declared.token.Token.{Token}
+use Rattle.fb_read.specs.Tokens.{Tokens}
+use Rattle.fb_read.specs.BlocksGrammar.{IsLibrary}
+
+-- No library begins with these tokens, whatever nests.
+abbrev pub BeginsNone : Tokens → Type 0
+BeginsNone front = (x : Library) (more : Tokens) → IsLibrary x (front ++ more) [] → ⊥
+
+-- These tokens end with the token at which they are refused, and no library begins with them.
+pub record IsRefusedToken (t : Token) (left ts : Tokens) : Type 0 where
+  pub before : Tokens
+  pub joined : before ++ t ∷ left ≡ ts
+  pub none : BeginsNone (before ++ t ∷ [])
+
+-- The last of these tokens are left. No library begins with those up to the first that is left. If none is left, they
+-- are those of no library.
+abbrev pub Stops : Tokens → Tokens → Type 0
+Stops [] ts = (x : Library) → IsLibrary x ts [] → ⊥
+Stops (t ∷ left) ts = IsRefusedToken t left ts

@@ -1,0 +1,350 @@
+//! What could have been at the token at which the grammar refuses a text.
+
+ghost use Rattle.std.specs.Prelude.{◌≤◌, ◌<◌, ◌^◌, length, IfOk};
+ghost use Rattle.fb_read.specs.Whole.{most_bytes};
+
+use crate::cursor::{Cursor, ty_of};
+use crate::discarding::discard;
+use crate::fault::ParseFault;
+use crate::operator::operator_of;
+use crate::refused::ReadFault;
+use crate::rule::Rule;
+use crate::token::{Mark, Placed, Token};
+use crate::tokens::lex;
+use fb_types::{Items, Library, MOST_BYTES};
+use std::alloc::{AllocError, Global};
+
+/// The spellings of the keywords and the signs, in the order in which they are listed.
+static SPELLINGS: [(Mark, &str); 82] = [
+    (Mark::FunctionBlock, "FUNCTION_BLOCK"),
+    (Mark::EndFunctionBlock, "END_FUNCTION_BLOCK"),
+    (Mark::Application, "APPLICATION"),
+    (Mark::EndApplication, "END_APPLICATION"),
+    (Mark::EventInput, "EVENT_INPUT"),
+    (Mark::EventOutput, "EVENT_OUTPUT"),
+    (Mark::EndEvent, "END_EVENT"),
+    (Mark::With, "WITH"),
+    (Mark::VarInput, "VAR_INPUT"),
+    (Mark::VarOutput, "VAR_OUTPUT"),
+    (Mark::Var, "VAR"),
+    (Mark::EndVar, "END_VAR"),
+    (Mark::Fbs, "FBS"),
+    (Mark::EndFbs, "END_FBS"),
+    (Mark::EventConnections, "EVENT_CONNECTIONS"),
+    (Mark::DataConnections, "DATA_CONNECTIONS"),
+    (Mark::EndConnections, "END_CONNECTIONS"),
+    (Mark::EcStates, "EC_STATES"),
+    (Mark::EndStates, "END_STATES"),
+    (Mark::EcTransitions, "EC_TRANSITIONS"),
+    (Mark::EndTransitions, "END_TRANSITIONS"),
+    (Mark::Algorithm, "ALGORITHM"),
+    (Mark::EndAlgorithm, "END_ALGORITHM"),
+    (Mark::To, "TO"),
+    (Mark::Bool, "BOOL"),
+    (Mark::Sint, "SINT"),
+    (Mark::Int, "INT"),
+    (Mark::Dint, "DINT"),
+    (Mark::Lint, "LINT"),
+    (Mark::Usint, "USINT"),
+    (Mark::Uint, "UINT"),
+    (Mark::Udint, "UDINT"),
+    (Mark::Ulint, "ULINT"),
+    (Mark::Time, "TIME"),
+    (Mark::True, "TRUE"),
+    (Mark::False, "FALSE"),
+    (Mark::If, "IF"),
+    (Mark::Then, "THEN"),
+    (Mark::Elsif, "ELSIF"),
+    (Mark::Else, "ELSE"),
+    (Mark::EndIf, "END_IF"),
+    (Mark::Case, "CASE"),
+    (Mark::Of, "OF"),
+    (Mark::EndCase, "END_CASE"),
+    (Mark::For, "FOR"),
+    (Mark::By, "BY"),
+    (Mark::Do, "DO"),
+    (Mark::EndFor, "END_FOR"),
+    (Mark::While, "WHILE"),
+    (Mark::EndWhile, "END_WHILE"),
+    (Mark::Repeat, "REPEAT"),
+    (Mark::Until, "UNTIL"),
+    (Mark::EndRepeat, "END_REPEAT"),
+    (Mark::Exit, "EXIT"),
+    (Mark::Return, "RETURN"),
+    (Mark::And, "AND"),
+    (Mark::Or, "OR"),
+    (Mark::Xor, "XOR"),
+    (Mark::Not, "NOT"),
+    (Mark::Mod, "MOD"),
+    (Mark::Semicolon, ";"),
+    (Mark::Colon, ":"),
+    (Mark::Comma, ","),
+    (Mark::Dot, "."),
+    (Mark::DotDot, ".."),
+    (Mark::Open, "("),
+    (Mark::Close, ")"),
+    (Mark::OpenSquare, "["),
+    (Mark::CloseSquare, "]"),
+    (Mark::Assign, ":="),
+    (Mark::Arrow, "->"),
+    (Mark::Equal, "="),
+    (Mark::NotEqual, "<>"),
+    (Mark::Less, "<"),
+    (Mark::Greater, ">"),
+    (Mark::LessOrEqual, "<="),
+    (Mark::GreaterOrEqual, ">="),
+    (Mark::Plus, "+"),
+    (Mark::Minus, "-"),
+    (Mark::Star, "*"),
+    (Mark::Slash, "/"),
+    (Mark::Ampersand, "&"),
+];
+
+fn spellings() -> &'static [(Mark, &'static str)] {
+    &SPELLINGS
+}
+
+/// The bits of the kinds of tokens that are no marks, in the order in which they are listed. The words `IN` and `ST` are
+/// names that the grammar asks for by their spelling.
+const NAME: u128 = 1;
+
+const WHOLE: u128 = 2;
+
+const TIME: u128 = 4;
+
+const IN: u128 = 8;
+
+const ST: u128 = 16;
+
+/// The bit of the first mark.
+const FIRST_MARK: u128 = 32;
+
+/// What a rule looks for.
+#[derive(Clone, Copy)]
+pub enum Sought {
+    Mark(Mark),
+    Name,
+    /// The name IN.
+    In,
+    /// The name ST.
+    St,
+    Whole,
+    /// A whole number or a time.
+    Literal,
+    /// The name of an elementary type.
+    Type,
+    /// What begins an expression.
+    Expression,
+    /// What begins a statement.
+    Statement,
+    /// A binary operator of this level.
+    Operator(u8),
+}
+
+fn begins_expression(mark: Mark) -> bool {
+    matches!(
+        mark,
+        Mark::Minus | Mark::Not | Mark::Open | Mark::True | Mark::False
+    )
+}
+
+fn begins_statement(mark: Mark) -> bool {
+    matches!(
+        mark,
+        Mark::Semicolon
+            | Mark::Exit
+            | Mark::Return
+            | Mark::If
+            | Mark::Case
+            | Mark::For
+            | Mark::While
+            | Mark::Repeat
+    )
+}
+
+fn has_level(mark: Mark, level: u8) -> bool {
+    match operator_of(mark) {
+        Some((found, _)) => found == level,
+        None => false,
+    }
+}
+
+/// Whether a mark is what a rule looks for.
+fn is_sought(sought: Sought, mark: Mark) -> bool {
+    match sought {
+        Sought::Mark(other) => other == mark,
+        Sought::Type => ty_of(mark).is_some(),
+        Sought::Expression => begins_expression(mark),
+        Sought::Statement => begins_statement(mark),
+        Sought::Operator(level) => has_level(mark, level),
+        _ => false,
+    }
+}
+
+/// The bits of what is looked for and no mark.
+fn kinds_of(sought: Sought) -> u128 {
+    match sought {
+        Sought::Name | Sought::Statement => NAME,
+        Sought::In => IN,
+        Sought::St => ST,
+        Sought::Whole => WHOLE,
+        Sought::Literal => WHOLE | TIME,
+        Sought::Expression => NAME | WHOLE | TIME,
+        _ => 0,
+    }
+}
+
+/// A set of kinds of tokens.
+#[derive(Clone, Copy)]
+pub struct Expected {
+    /// A bit for each kind.
+    kinds: u128,
+}
+
+impl Expected {
+    /// No kind.
+    pub fn none() -> Expected {
+        Expected { kinds: 0 }
+    }
+
+    /// These kinds, and what a rule looks for.
+    pub fn with(self, sought: Sought) -> Expected {
+        let mut kinds = self.kinds | kinds_of(sought);
+        let mut bit = FIRST_MARK;
+        for spelling in spellings() {
+            if is_sought(sought, spelling.0) {
+                kinds |= bit;
+            }
+            bit <<= 1;
+        }
+        Expected { kinds }
+    }
+
+    fn has(self, kind: u128) -> bool {
+        self.kinds & kind != 0
+    }
+
+    /// Their names and spellings, separated by blanks. Where any name may be, the words `IN` and `ST` are not listed.
+    ///
+    /// # Errors
+    ///
+    /// When memory runs out.
+    pub fn words(self, alloc: Global) -> Result<String, AllocError> {
+        let mut all = String::new(alloc);
+        self.add_kinds(&mut all)?;
+        let mut bit = FIRST_MARK;
+        for spelling in spellings() {
+            self.add_if(&mut all, bit, spelling.1)?;
+            bit <<= 1;
+        }
+        Ok(all)
+    }
+
+    /// Adds the kinds that are no marks.
+    fn add_kinds(self, all: &mut String) -> Result<(), AllocError> {
+        self.add_if(all, NAME, "name")?;
+        self.add_if(all, WHOLE, "whole")?;
+        self.add_if(all, TIME, "time")?;
+        if self.has(NAME) {
+            return Ok(());
+        }
+        self.add_if(all, IN, "IN")?;
+        self.add_if(all, ST, "ST")
+    }
+
+    /// Adds a word, if the kind is among these.
+    fn add_if(self, all: &mut String, kind: u128, word: &str) -> Result<(), AllocError> {
+        if !self.has(kind) {
+            return Ok(());
+        }
+        if !all.is_empty() {
+            all.push(' ')?;
+        }
+        all.push_str(word)
+    }
+}
+
+/// What was looked for at a token and not found, and whether the token was taken all the same.
+#[derive(Clone, Copy)]
+struct Watched {
+    missed: Expected,
+    taken: bool,
+}
+
+/// Reads the tokens and watches the one before which this number of tokens is left, itself included.
+fn watch(alloc: Global, tokens: &[Placed], left: usize) -> Result<Watched, AllocError>
+    requires { length tokens.now < 2 ^ 32 }
+{
+    let mut cursor = Cursor::watching(alloc, tokens, left);
+    match Library::read(&mut cursor) {
+        Ok(library) => discard(library),
+        Err(ParseFault::Memory) => return Err(AllocError),
+        Err(_) => {}
+    }
+    Ok(Watched {
+        missed: cursor.missed(),
+        taken: cursor.left() < left,
+    })
+}
+
+/// The tokens of a text that has some; none if it has a fault in them.
+fn tokens_of(alloc: Global, text: &[u8]) -> Result<Items<Placed>, AllocError>
+    requires { length text.now ≤ most_bytes }
+    ensures { IfOk result (λ found. length found ≤ most_bytes) }
+{
+    match lex(alloc, text) {
+        Ok(tokens) => Ok(tokens),
+        Err(ReadFault::Memory) => Err(AllocError),
+        Err(_) => Ok(Items::new(alloc)),
+    }
+}
+
+/// Watches a mark after the end of a text. Loops of the rules make no test where no token is left.
+fn watch_behind(alloc: Global, text: &[u8], mark: Mark) -> Result<Watched, AllocError>
+    requires { length text.now ≤ most_bytes }
+{
+    let mut tokens = tokens_of(alloc, text)?;
+    tokens.push(Placed {
+        token: Token::Mark(mark),
+        index: text.len(),
+    })?;
+    watch(alloc, tokens.as_slice(), 1)
+}
+
+/// What could follow a text. No place takes both of two marks that are tried.
+fn expected_behind(alloc: Global, text: &[u8]) -> Result<Expected, AllocError>
+    requires { length text.now ≤ most_bytes }
+{
+    let first = watch_behind(alloc, text, Mark::DotDot)?;
+    if !first.taken {
+        return Ok(first.missed);
+    }
+    let second = watch_behind(alloc, text, Mark::EndFunctionBlock)?;
+    Ok(second.missed)
+}
+
+/// The number of tokens that begin before this offset.
+fn tokens_before(tokens: &[Placed], start: usize) -> usize {
+    tokens.iter().filter(|token| token.index < start).count()
+}
+
+/// The kinds of tokens with which a text could go on in place of the token at `start`, at which its syntax is refused, or
+/// of its end. It is read once or twice more for that.
+///
+/// # Errors
+///
+/// When memory runs out.
+pub fn expected_at(alloc: Global, text: &[u8], start: usize) -> Result<Expected, AllocError> {
+    if text.len() > MOST_BYTES {
+        return Ok(Expected::none());
+    }
+    let tokens = tokens_of(alloc, text)?;
+    let before = tokens_before(tokens.as_slice(), start);
+    let left = tokens.len().saturating_sub(before);
+    if left == 0 {
+        drop(tokens);
+        return expected_behind(alloc, text);
+    }
+    let watched = watch(alloc, tokens.as_slice(), left)?;
+    Ok(watched.missed)
+}
