@@ -5,3 +5,4 @@ pub mod Indexing
 pub mod Links
 pub mod Soundness
 pub mod Trials
+pub mod Programs

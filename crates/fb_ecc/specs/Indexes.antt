@@ -14,7 +14,7 @@ use Rattle.fb_types.specs.declared.run.Halt.TheVariants as halt
 use Rattle.fb_types.specs.declared.value.Value.{Value}
 use Rattle.fb_st.specs.Frames.{values_of, declared_in}
 use Rattle.fb_st.specs.declared.frame.Slot.{Slot}
-use Rattle.fb_ecc.specs.Numbered.{chart_of}
+use Rattle.fb_ecc.specs.Programs.{IsSharedOf}
 use Rattle.fb_ecc.specs.Sound.{declared_by}
 use Rattle.fb_ecc.specs.declared.state.BasicState.{BasicState}
 
@@ -34,7 +34,7 @@ IsStateOf t i = (t.states ≡ []) ⊎ (i < length t.states)
 -- The block is one of this type.
 pub record IsBlockOf (t : BasicType) (s : BasicState) : Type 0 where
   pub state : IsStateOf t s.state
-  pub chart : s.chart ≡ chart_of t
+  pub chart : IsSharedOf t s.chart
   pub declared : declared_in s.frame ≡ declared_by t
 
 -- How a reaction ended. If memory ran out, nothing is said.

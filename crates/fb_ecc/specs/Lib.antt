@@ -6,3 +6,4 @@ pub mod Opened
 pub mod Indexes
 pub mod Sound
 pub mod Trials
+pub mod Programs

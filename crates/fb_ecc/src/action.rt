@@ -1,6 +1,6 @@
 //! The actions of a state.
 
-ghost use Rattle.std.specs.Prelude.{◌≡◌, ◌≤◌, ◌++◌, ◌∷◌, [], All, IfOk, IfSome, OnErr, OnOk, map, ℕ, List, Option, None};
+ghost use Rattle.std.specs.Prelude.{◌≡◌, ◌≤◌, ◌++◌, ◌∷◌, [], All, IfOk, OnErr, OnOk, map, ℕ, List, Option, None};
 ghost use Rattle.fb_types.specs.Names.{Name};
 ghost use Rattle.fb_types.specs.Charts.{Acts, Halts, Performs, Position, emitting};
 ghost use Rattle.fb_types.specs.declared.library.Action.{Action};
@@ -8,11 +8,13 @@ ghost use Rattle.fb_st.specs.Frames.{declared_in, values_of};
 ghost use Rattle.fb_ecc.specs.Actions.{AreActions, IsAction, IsAlgorithm, IsOutput, Stopped, with_slots};
 ghost use Rattle.fb_ecc.specs.Numbered.{names_with_each};
 ghost use Rattle.fb_ecc.specs.Indexes.{Ended, IsWellFormed, index};
+ghost use Rattle.fb_ecc.specs.Programs.{IsProgramOf};
 ghost use Rattle.fb_ecc.specs.Sound.{Each, IsSound, declared_by};
 
 use crate::chart::Act;
-use fb_st::{Frame, Meter, exec};
-use fb_types::{BasicType, Emission, Emits, Halt, Items, Reason, Reference, Value, Values};
+use crate::program::Program;
+use fb_st::{Frame, Meter, exec_compiled};
+use fb_types::{BasicType, Emission, Emits, Halt, Items, Reason, Reference, Values};
 use std::alloc::{AllocError, Global};
 
 /// What the variables hold, in their order.
@@ -31,17 +33,6 @@ fn shown_values(alloc: Global, variables: &[Reference], frame: &Frame) -> Result
     Ok(values)
 }
 
-/// The number that one variable alone holds, as mostly there is one. `None` says nothing.
-#[inline(always)]
-fn number_shown(variables: &[Reference], frame: &Frame) -> Option<i64>
-    ensures { IfSome result (λ z. map (values_of frame.now) variables.now ≡ Value.Whole z ∷ []) }
-{
-    match variables {
-        [variable] => frame.small_at_once(variable),
-        _ => None,
-    }
-}
-
 /// Emits the output event at an index with what the variables hold.
 #[inline(always)]
 fn emit_with(
@@ -54,10 +45,7 @@ fn emit_with(
     ensures err { OnErr result (emits.new ≡ emits.old) }
 {
     let alloc = emits.allocator();
-    let values = match number_shown(variables, frame) {
-        Some(number) => Values::from_slice(alloc, &[Value::Whole(i128::from(number))])?,
-        None => shown_values(alloc, variables, frame)?,
-    };
+    let values = shown_values(alloc, variables, frame)?;
     emits.push(Emission { event, values })
 }
 
@@ -90,11 +78,13 @@ fn emit(
 #[inline(always)]
 fn run(
     block: &BasicType,
+    program: &Program,
     algorithm: Option<usize>,
     frame: &mut Frame,
     meter: &mut Meter,
 ) -> Result<(), Reason>
     requires sound { IsSound block.now }
+    requires program { IsProgramOf block.now program.now }
     requires declared { declared_in frame.old ≡ declared_by block.now }
     requires algorithm { (name : Option Name) × IsAlgorithm block.now algorithm name }
     ensures performed { (name : Option Name) (p : Position) → IsAlgorithm block.now algorithm name →
@@ -103,7 +93,13 @@ fn run(
     ensures fewer { meter.new.left ≤ meter.old.left }
 {
     if let Some(algorithm) = algorithm {
-        exec(&block.algorithms.as_slice()[algorithm].body, frame, meter)?;
+        exec_compiled(
+            &block.algorithms.as_slice()[algorithm].body,
+            program.body(algorithm),
+            &program.layout,
+            frame,
+            meter,
+        )?;
     }
     Ok(())
 }
@@ -112,6 +108,7 @@ fn run(
 #[inline(always)]
 fn perform(
     block: &BasicType,
+    program: &Program,
     act: Act,
     shown: &[Items<Reference>],
     frame: &mut Frame,
@@ -119,6 +116,7 @@ fn perform(
     emits: &mut Emits,
 ) -> Result<(), Halt>
     requires sound { IsSound block.now }
+    requires program { IsProgramOf block.now program.now }
     requires declared { declared_in frame.old ≡ declared_by block.now }
     requires shown { shown.now ≡ names_with_each block.now.ports.event_outputs block.now.ports.outputs }
     requires act { (a : Action) × IsAction block.now act a }
@@ -129,7 +127,7 @@ fn perform(
     ensures well_formed { let IsFit = IsWellFormed block.now in All IsFit emits.old → All IsFit emits.new }
 {
     meter.step()?;
-    run(block, act.algorithm, frame, meter)?;
+    run(block, program, act.algorithm, frame, meter)?;
     emit(block, act.output, shown, frame, emits)?;
     Ok(())
 }
@@ -138,6 +136,7 @@ fn perform(
 #[inline(always)]
 pub(crate) fn perform_all(
     block: &BasicType,
+    program: &Program,
     acts: &[Act],
     shown: &[Items<Reference>],
     frame: &mut Frame,
@@ -145,6 +144,7 @@ pub(crate) fn perform_all(
     emits: &mut Emits,
 ) -> Result<(), Halt>
     requires sound { IsSound block.now }
+    requires program { IsProgramOf block.now program.now }
     requires declared { declared_in frame.old ≡ declared_by block.now }
     requires shown { shown.now ≡ names_with_each block.now.ports.event_outputs block.now.ports.outputs }
     requires acts { (actions : List Action) × AreActions block.now acts.now actions }
@@ -155,7 +155,7 @@ pub(crate) fn perform_all(
     ensures well_formed { let IsFit = IsWellFormed block.now in All IsFit emits.old → All IsFit emits.new }
 {
     for act in acts {
-        perform(block, *act, shown, frame, meter, emits)?;
+        perform(block, program, *act, shown, frame, meter, emits)?;
     }
     Ok(())
 }

@@ -2,15 +2,16 @@
 //!
 //! Guarantees to callers: `reaction::react` goes through the chain of states of the definitions: variables, emissions,
 //! steps, and the reason to stop; `state::BasicState::open` opens a block of a type of an accepted declaration, with the
-//! one chart that all blocks of the type share.
+//! one chart and program that all blocks of the type share.
 //!
-//! Read in this order: `state`, what a block is between reactions; `chart`, how it is made by `numbers`, and `shared`,
-//! how the blocks of its type share it; `reaction`; `trial` and `action`.
+//! Read in this order: `state`, what a block is between reactions; `chart`, how it is made by `numbers`; `program`, its
+//! algorithms and guards as they run; `shared`, how the blocks of its type share both; `reaction`; `trial` and `action`.
 #![tactic(auto)]
 
 mod action;
 mod chart;
 mod numbers;
+mod program;
 pub mod reaction;
 pub mod shared;
 pub mod state;

@@ -48,8 +48,9 @@ fn enter(
 {
     state.state = target;
     let acts = state.chart.rows()[target].acts.as_slice();
+    let program = state.chart.program();
     let shown = state.chart.shown();
-    perform_all(block, acts, shown, &mut state.frame, meter, emits)
+    perform_all(block, program, acts, shown, &mut state.frame, meter, emits)
 }
 
 /// One link of the chain: the first true transition, and the actions of the state to which it leads. Says
@@ -73,7 +74,8 @@ fn link(
     ensures well_formed { let IsFit = IsWellFormed block.now in All IsFit emits.old → All IsFit emits.new }
 {
     let exits = state.chart.leaving(state.state);
-    match cleared(block, exits, present, &state.frame, meter)? {
+    let program = state.chart.program();
+    match cleared(block, program, exits, present, &state.frame, meter)? {
         Some(target) => {
             enter(state, block, target, meter, emits)?;
             Ok(true)

@@ -3,15 +3,15 @@
 ghost use Rattle.std.specs.Prelude.{◌≡◌, ◌++◌, IfOk, OnOk, map};
 ghost use Rattle.fb_types.specs.Blocks.{variable_names, variables_of};
 ghost use Rattle.fb_types.specs.Repeated.{Twice};
-ghost use Rattle.fb_ecc.specs.Numbered.{chart_of};
 ghost use Rattle.fb_ecc.specs.Opened.{IsOfDeclaration, IsOpened, slot_of};
+ghost use Rattle.fb_ecc.specs.Programs.{IsSharedOf};
 
 use crate::shared::SharedChart;
-use fb_st::{Frame, Slot};
+use fb_st::{Frame, Slot, SlotList};
 use fb_types::{BasicType, Variable};
 use std::alloc::{AllocError, Global};
 
-/// A basic block: the state in which its chart is, its variables, and the chart of its type.
+/// A basic block: the state in which its chart is, its variables, and the chart and the program of its type.
 pub struct BasicState {
     /// The index of the state among the states of the type.
     pub state: usize,
@@ -31,9 +31,9 @@ impl Drop for BasicState {
     }
 }
 
-/// Puts variables after the others, each with its initial value.
-fn add_all(alloc: Global, variables: &[Variable], slots: &mut Vec<Slot>) -> Result<(), AllocError>
-    ensures { OnOk result (slots.new.items ≡ slots.old.items ++ map slot_of variables.now) }
+/// Adds variables after the others, each with its initial value.
+fn add_all(alloc: Global, variables: &[Variable], slots: &mut SlotList) -> Result<(), AllocError>
+    ensures { OnOk result (slots.new ≡ slots.old ++ map slot_of variables.now) }
 {
     for variable in variables {
         let name = variable.name.try_clone(alloc)?;
@@ -49,7 +49,7 @@ fn frame_of(alloc: Global, block: &BasicType) -> Result<Frame, AllocError>
     requires { ¬ (Twice (variable_names (variables_of block.now))) }
     ensures { IfOk result (λ frame. frame ≡ map slot_of (variables_of block.now)) }
 {
-    let mut slots = Vec::new(alloc);
+    let mut slots = SlotList::new(alloc);
     add_all(alloc, block.ports.inputs.as_slice(), &mut slots)?;
     add_all(alloc, block.ports.outputs.as_slice(), &mut slots)?;
     add_all(alloc, block.internals.as_slice(), &mut slots)?;
@@ -67,7 +67,7 @@ impl BasicState {
         chart: SharedChart,
     ) -> Result<BasicState, AllocError>
         requires declared { IsOfDeclaration block.now }
-        requires chart { chart ≡ chart_of block.now }
+        requires chart { IsSharedOf block.now chart }
         ensures { IfOk result (IsOpened block.now) }
     {
         let frame = frame_of(alloc, block)?;

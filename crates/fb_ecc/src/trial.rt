@@ -3,12 +3,14 @@
 ghost use Rattle.std.specs.Prelude.{◌≡◌, ◌≤◌, ◌<◌, length, option_map, IfOk, OnSome, IfSome, if◌then◌else◌, Ok, false};
 ghost use Rattle.fb_types.specs.Charts.{guard_value, trial_of};
 ghost use Rattle.fb_types.specs.Numbers.{event_at};
-ghost use Rattle.fb_st.specs.Frames.{values_of};
-ghost use Rattle.fb_ecc.specs.Sound.{Each, IsSound};
+ghost use Rattle.fb_st.specs.Frames.{declared_in, values_of};
+ghost use Rattle.fb_ecc.specs.Programs.{IsProgramOf};
+ghost use Rattle.fb_ecc.specs.Sound.{Each, IsSound, declared_by};
 ghost use Rattle.fb_ecc.specs.Trials.{IsExit, transition_at, transitions_at, is_number_present, trial};
 
 use crate::chart::Exit;
-use fb_st::{Frame, Meter, holds};
+use crate::program::Program;
+use fb_st::{Frame, Meter, holds_compiled};
 use fb_types::{BasicType, Reason};
 
 /// Whether the event at this index is the one that is present. No event at all always is.
@@ -25,8 +27,15 @@ fn is_present(event: Option<usize>, present: Option<usize>) -> bool
 
 /// Whether the guard of a transition is true. One that has none is not looked up.
 #[inline(always)]
-fn is_guard_true(block: &BasicType, exit: &Exit, frame: &Frame) -> Result<bool, Reason>
-    requires { IsExit block.now exit.now }
+fn is_guard_true(
+    block: &BasicType,
+    program: &Program,
+    exit: &Exit,
+    frame: &Frame,
+) -> Result<bool, Reason>
+    requires exit { IsExit block.now exit.now }
+    requires program { IsProgramOf block.now program.now }
+    requires declared { declared_in frame.now ≡ declared_by block.now }
     ensures { result ≡ guard_value (transition_at block.now exit.now.transition).condition.guard (values_of frame.now) }
 {
     if !exit.is_guarded {
@@ -34,7 +43,10 @@ fn is_guard_true(block: &BasicType, exit: &Exit, frame: &Frame) -> Result<bool, 
     }
     let transition = &block.transitions.as_slice()[exit.transition];
     match &transition.condition.guard {
-        Some(guard) => holds(guard, frame),
+        Some(guard) => {
+            let compiled = program.guard(exit.transition);
+            holds_compiled(guard, compiled, &program.layout, frame)
+        }
         None => Ok(true),
     }
 }
@@ -43,15 +55,18 @@ fn is_guard_true(block: &BasicType, exit: &Exit, frame: &Frame) -> Result<bool, 
 #[inline(always)]
 fn is_true(
     block: &BasicType,
+    program: &Program,
     exit: &Exit,
     present: Option<usize>,
     frame: &Frame,
 ) -> Result<bool, Reason>
-    requires { IsExit block.now exit.now }
+    requires exit { IsExit block.now exit.now }
+    requires program { IsProgramOf block.now program.now }
+    requires declared { declared_in frame.now ≡ declared_by block.now }
     ensures { result ≡ (if is_number_present exit.now.event present then guard_value (transition_at block.now exit.now.transition).condition.guard (values_of frame.now) else Ok false) }
 {
     if is_present(exit.event, present) {
-        is_guard_true(block, exit, frame)
+        is_guard_true(block, program, exit, frame)
     } else {
         Ok(false)
     }
@@ -62,12 +77,15 @@ fn is_true(
 #[inline(always)]
 pub(crate) fn cleared(
     block: &BasicType,
+    program: &Program,
     exits: &[Exit],
     present: Option<usize>,
     frame: &Frame,
     meter: &mut Meter,
 ) -> Result<Option<usize>, Reason>
     requires sound { IsSound block.now }
+    requires program { IsProgramOf block.now program.now }
+    requires declared { declared_in frame.now ≡ declared_by block.now }
     requires exits { Each (IsExit block.now) exits.now }
     requires present { IfSome present (λ event. event < length block.now.ports.event_inputs) }
     ensures trial { let event = option_map (event_at block.now.ports.event_inputs) present in
@@ -78,7 +96,7 @@ pub(crate) fn cleared(
 {
     for exit in exits {
         meter.step()?;
-        if is_true(block, exit, present, frame)? {
+        if is_true(block, program, exit, present, frame)? {
             return Ok(Some(exit.target));
         }
     }

@@ -1,5 +1,5 @@
 -- The charts that the blocks of a resource share.
-use Rattle.std.proofs.Common.{◌≡◌, ℕ, true, false, cond, [], ◌⊎◌, Some, None, refl, sym, ◌∙◌, ap, inl, inr}
+use Rattle.std.proofs.Common.{◌≡◌, ℕ, true, false, cond, [], ◌⊎◌, Some, None, refl, sym, ◌∙◌, ap, subst, inl, inr}
 use Rattle.std.specs.Prelude.{slice_get, IfSome}
 use Rattle.std.specs.BTreeMap.{get, is_at}
 use Rattle.std.specs.Map.{lookup}
@@ -7,8 +7,8 @@ use Rattle.std.specs.Ordering.{is_eq, nat_cmp}
 use Rattle.fb_types.specs.Headline.{Inputs}
 use Rattle.fb_types.specs.declared.library.BasicType.{BasicType}
 use Rattle.fb_types.specs.declared.library.BlockType.TheVariants as block
-use Rattle.fb_ecc.specs.Numbered.{chart_of}
-use Rattle.fb_ecc.specs.declared.chart.Chart.{Chart}
+use Rattle.fb_ecc.specs.Programs.{IsSharedOf}
+use Rattle.fb_ecc.specs.declared.shared.Shared.{Shared}
 use Rattle.fb_net.specs.Opening.{AreCharts, Charts, ChartsGrow}
 use Rattle.std.proofs.lemmas.Option.{same_Some}
 use Rattle.fb_net.proofs.Copies.{nat_same}
@@ -21,9 +21,9 @@ no_charts i charts empty index t c here there =
 -- the chart at the index of a type, if there is one, is that of the type
 pub known_chart :
     (i : Inputs) (charts : Charts) (index : ℕ) (t : BasicType) → AreCharts i charts → slice_get i.library.blocks index ≡ Some (block.Basic t)
-    → IfSome (get nat_cmp charts index) (λ c. c ≡ chart_of t)
+    → IfSome (get nat_cmp charts index) (IsSharedOf t)
 known_chart i charts index t are here =
-    elim (get nat_cmp charts index) as (λ o. get nat_cmp charts index ≡ o → IfSome o (λ c. c ≡ chart_of t)) [
+    elim (get nat_cmp charts index) as (λ o. get nat_cmp charts index ≡ o → IfSome o (IsSharedOf t)) [
       | None ↦ λ e. tt
       | Some c ↦ λ e. are index t c here e
     ] refl
@@ -34,11 +34,11 @@ charts_stay charts index t q c there = inl there
 
 -- a chart more, of the type at the index
 pub chart_more :
-    (old new : Charts) (index : ℕ) (t : BasicType) (kept : Chart) → kept ≡ chart_of t
+    (old new : Charts) (index : ℕ) (t : BasicType) (kept : Shared) → IsSharedOf t kept
     → ((q : ℕ) → get nat_cmp new q ≡ cond (is_eq (nat_cmp index q)) (Some kept) (get nat_cmp old q)) → ChartsGrow old index t new
 chart_more old new index t kept is written q c there =
-    elim (is_eq (nat_cmp index q)) as (λ b. is_eq (nat_cmp index q) ≡ b → cond b (Some kept) (get nat_cmp old q) ≡ Some c → (get nat_cmp old q ≡ Some c) ⊎ ((index ≡ q) × (c ≡ chart_of t))) [
-      | true ↦ λ e at. inr (nat_same index q e, sym (same_Some kept c at) ∙ is)
+    elim (is_eq (nat_cmp index q)) as (λ b. is_eq (nat_cmp index q) ≡ b → cond b (Some kept) (get nat_cmp old q) ≡ Some c → (get nat_cmp old q ≡ Some c) ⊎ ((index ≡ q) × (IsSharedOf t c))) [
+      | true ↦ λ e at. inr (nat_same index q e, subst (IsSharedOf t) (same_Some kept c at) is)
       | false ↦ λ e at. inl at
     ] refl (sym (written q) ∙ there)
 
@@ -53,5 +53,5 @@ charts_grow i old new index t are here grow q other c at there =
       | inl before ↦ are q other c at before
       | inr now ↦
           let same : t ≡ other = basic_is t other (sym here ∙ ap (slice_get i.library.blocks) now.0 ∙ at) in
-          now.1 ∙ ap chart_of same
+          subst (λ (x : BasicType). IsSharedOf x c) same now.1
     ]

@@ -14,8 +14,8 @@ use Rattle.fb_types.specs.declared.library.Instance.{Instance}
 use Rattle.fb_types.specs.declared.library.Network.{Network}
 use Rattle.fb_types.specs.declared.value.Value.{Value}
 use Rattle.fb_st.specs.Frames.{Declared, is_declared}
-use Rattle.fb_ecc.specs.Numbered.{chart_of}
-use Rattle.fb_ecc.specs.declared.chart.Chart.{Chart}
+use Rattle.fb_ecc.specs.Programs.{IsSharedOf}
+use Rattle.fb_ecc.specs.declared.shared.Shared.{Shared}
 use Rattle.fb_types.specs.declared.run.InstanceVariable.{InstanceVariable}
 use Rattle.fb_system.specs.Layouts.{AreNumbers}
 use Rattle.fb_system.specs.Ports.{IsVariable, variable_of}
@@ -39,15 +39,15 @@ begun_all (n ∷ ns) (v ∷ vs) m = begun_all ns vs (with_value n v m)
 -- ---- Charts
 
 abbrev pub Charts : Type 0
-Charts = BTreeMap ℕ Chart
+Charts = BTreeMap ℕ Shared
 
 -- Each chart that was made is that of the basic type at its index of the library.
 abbrev pub AreCharts : Inputs → Charts → Type 0
-AreCharts i charts = (index : ℕ) (t : BasicType) (c : Chart) → slice_get i.library.blocks index ≡ Some (block.Basic t) → get nat_cmp charts index ≡ Some c → c ≡ chart_of t
+AreCharts i charts = (index : ℕ) (t : BasicType) (c : Shared) → slice_get i.library.blocks index ≡ Some (block.Basic t) → get nat_cmp charts index ≡ Some c → IsSharedOf t c
 
 -- Each chart was there before, or is that of the type at the index.
 abbrev pub ChartsGrow : Charts → (index : ℕ) → BasicType → Charts → Type 0
-ChartsGrow old index t new = (q : ℕ) (c : Chart) → get nat_cmp new q ≡ Some c → (get nat_cmp old q ≡ Some c) ⊎ ((index ≡ q) × (c ≡ chart_of t))
+ChartsGrow old index t new = (q : ℕ) (c : Shared) → get nat_cmp new q ≡ Some c → (get nat_cmp old q ≡ Some c) ⊎ ((index ≡ q) × (IsSharedOf t c))
 
 -- ---- Trees
 

@@ -8,7 +8,7 @@ ghost use Rattle.fb_types.specs.Simulation.{opening_block};
 ghost use Rattle.fb_types.specs.declared.library.BlockType.TheVariants as types;
 ghost use Rattle.fb_types.specs.declared.library.CompositeType.{CompositeType};
 ghost use Rattle.fb_st.specs.Frames.{declared_in, values_of};
-ghost use Rattle.fb_ecc.specs.Numbered.{chart_of};
+ghost use Rattle.fb_ecc.specs.Programs.{IsSharedOf};
 ghost use Rattle.fb_net.specs.Blocks.{components_of, own_of};
 ghost use Rattle.fb_net.specs.Worlds.{BasicStands, StandsFor};
 ghost use Rattle.fb_net.specs.Opening.{AreCharts, AreDeclared, begun_all};
@@ -53,7 +53,7 @@ fn opened_of(
 ) -> Result<BasicState, AllocError>
     requires instance { instance < length (system_of system.now).paths }
     requires kind { (system_of system.now).kind (path_at (system_of system.now) instance) ≡ Some (Basic block.now) }
-    requires chart { chart ≡ chart_of block.now }
+    requires chart { IsSharedOf block.now chart }
     ensures { IfOk result (λ s. let b = opening_block (system_of system.now) (path_at (system_of system.now) instance) in BasicStands block.now s b.memory b.variables) }
 {
     system.facts();

@@ -3,8 +3,8 @@
 ghost use Rattle.std.specs.Prelude.{◌≡◌, IfOk, IfSome, OnOk};
 ghost use Rattle.std.specs.BTreeMap.{get};
 ghost use Rattle.std.specs.Ordering.{nat_cmp};
-ghost use Rattle.fb_ecc.specs.Numbered.{chart_of};
 ghost use Rattle.fb_ecc.specs.Opened.{IsOfDeclaration};
+ghost use Rattle.fb_ecc.specs.Programs.{IsSharedOf};
 ghost use Rattle.fb_net.specs.Opening.{ChartsGrow};
 
 use fb_ecc::SharedChart;
@@ -23,8 +23,8 @@ pub(crate) fn chart_at(
     charts: &mut Charts,
 ) -> Result<SharedChart, AllocError>
     requires declared { IsOfDeclaration block.now }
-    requires known { IfSome (get nat_cmp charts.old index) (λ chart. chart ≡ chart_of block.now) }
-    ensures chart { IfOk result (λ chart. chart ≡ chart_of block.now) }
+    requires known { IfSome (get nat_cmp charts.old index) (IsSharedOf block.now) }
+    ensures chart { IfOk result (IsSharedOf block.now) }
     ensures charts { OnOk result (ChartsGrow charts.old index block.now charts.new) }
 {
     if let Some(chart) = charts.get(&index) {

@@ -1,7 +1,6 @@
 pub mod Arguments
 pub mod Divided
 pub mod Faults
-pub mod Keys
 pub mod Knowing
 pub mod Wanted
 pub mod Once
@@ -10,3 +9,11 @@ pub mod Ranges
 pub mod Runs
 pub mod Says
 pub mod Slots
+pub mod Words
+pub mod Comes
+pub mod Assigning
+pub mod CodeRuns
+pub mod Making
+pub mod MakingCode
+pub mod KeptAs
+pub mod Sizes

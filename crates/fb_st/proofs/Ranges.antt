@@ -7,6 +7,8 @@ use Rattle.fb_types.specs.Values.{fits}
 use Rattle.fb_types.specs.declared.value.Ty.{Ty}
 use Rattle.fb_types.specs.declared.value.Ty.TheVariants.{Sint, Int, Dint, Lint, Usint, Uint, Udint, Ulint, Time, Bool as Boolean}
 use Rattle.fb_types.specs.declared.value.Value.TheVariants as value
+use Rattle.fb_st.specs.Compiled.{unsigned_of}
+use Rattle.fb_st.specs.Placed.{value_of_word}
 use Rattle.fb_st.specs.Variables.{least_of, most_of}
 
 first_part : (a b : Bool) → (a && b) ≡ true → a ≡ true
@@ -29,7 +31,7 @@ below_all z h = grind (arith, ints)
 none_between : (z : ℤ) → int_le (pos 1) z ≡ true → int_le z (pos 0) ≡ false
 none_between z h = grind (arith, ints)
 
-between : (t : Ty) (z : ℤ) → int_le (least_of t) z ≡ true → int_le z (most_of t) ≡ true → fits t (value.Whole z) ≡ true
+pub between : (t : Ty) (z : ℤ) → int_le (least_of t) z ≡ true → int_le z (most_of t) ≡ true → fits t (value.Whole z) ≡ true
 between Sint z low high = both _ _ low (below z (pos (2 ^ 7)) high)
 between Int z low high = both _ _ low (below z (pos (2 ^ 15)) high)
 between Dint z low high = both _ _ low (below z (pos (2 ^ 31)) high)
@@ -47,3 +49,21 @@ held_between t least z most is h =
     between t z
     (ap (λ x. int_le x z) (sym is.0) ∙ first_part (int_le least z) (int_le z most) h)
     (ap (λ x. int_le z x) (sym is.1) ∙ second_part (int_le least z) (int_le z most) h)
+
+-- ---- Words
+
+not_negative : (z : ℤ) → int_le (pos 0) z ≡ true → unsigned_of z ≡ z
+not_negative z h = grind (arith, ints)
+
+-- a number of 64 bits is its own word
+pub short_word : (t : Ty) (z : ℤ) → fits t (value.Whole z) ≡ true → value_of_word t z ≡ value.Whole z
+short_word Boolean z h = absurd (true≢false (sym h))
+short_word Ulint z h = ap (λ x. value.Whole x) (not_negative z (first_part (int_le (pos 0) z) (int_lt z (pos (2 ^ 64))) h))
+short_word Sint z h = refl
+short_word Int z h = refl
+short_word Dint z h = refl
+short_word Lint z h = refl
+short_word Usint z h = refl
+short_word Uint z h = refl
+short_word Udint z h = refl
+short_word Time z h = refl

@@ -171,7 +171,7 @@ pub assigns : (T : Types) (n : Name) (v : Value) (vars after : Values) (left : �
     → Assigns T n v (record { vars = vars; left = left }) Went (record { vars = after; left = left })
 assigns T n v vars after left fit is = rw fit (refl, ap (λ (vs : Values). record { vars = vs; left = left }) is)
 
-assigns_not : (T : Types) (n : Name) (v : Value) (vars : Values) (left : ℕ) → fits (T n) v ≡ false
+pub assigns_not : (T : Types) (n : Name) (v : Value) (vars : Values) (left : ℕ) → fits (T n) v ≡ false
     → Assigns T n v (record { vars = vars; left = left }) (Stopped reason.Range) (record { vars = vars; left = left })
 assigns_not T n v vars left fit = rw fit (refl, refl)
 

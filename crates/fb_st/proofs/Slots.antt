@@ -1,5 +1,5 @@
 -- What the variables hold, by the index of a name, and after a write there.
-use Rattle.std.proofs.Common.{◌≡◌, ℕ, zero, suc, ◌<◌, length, get_or, ◌||◌, Bool, true, false, cond, List, [], ◌∷◌, set, Option, Some, None, refl, sym, ◌∙◌, ap, subst, arith}
+use Rattle.std.proofs.Common.{◌≡◌, ℕ, zero, suc, ◌<◌, length, get_or, ◌||◌, Bool, true, false, cond, List, [], ◌∷◌, set, map, Option, Some, None, refl, sym, ◌∙◌, ap, subst, arith}
 use Rattle.std.proofs.Math.Path.{fun_ext}
 use Rattle.std.specs.Prelude.{slice_get, option_map, option_and_then}
 use Rattle.std.proofs.lemmas.Bool.{true≢false}
@@ -140,3 +140,25 @@ index_within (s ∷ slots) n i at = (position-Some (λ t. same_name n t.name) (s
 -- what was read of the fields was read of the frame
 pub read_at : (slots : List Slot) (n : Name) (i : ℕ) (s : Slot) → index_of n slots ≡ Some i → s ≡ get_or slots i s → slice_get slots i ≡ Some s
 read_at slots n i s at is = slice_get_read slots (length slots) i s refl (index_within slots n i at) is
+
+-- ---- The same, where the variable at the index is known
+
+pub slot_there : (slots : List Slot) (i : ℕ) → i < length slots → (s : Slot) × (slice_get slots i ≡ Some s)
+slot_there [] i within = absurd (omega (arith, within))
+slot_there (s ∷ slots) zero within = (s, refl)
+slot_there (s ∷ slots) (suc i) within = slot_there slots i (omega arith)
+
+pub set_declared : (slots : List Slot) (i : ℕ) (s : Slot) (v : Value) → slice_get slots i ≡ Some s → declared_in (set slots i (record s { value = v })) ≡ declared_in slots
+set_declared [] i s v at = absurd (cc)
+set_declared (t ∷ slots) zero s v at = let same : t ≡ s = cc in ap (λ (u : Slot). (u.name, u.ty) ∷ declared_in slots) (sym same)
+set_declared (t ∷ slots) (suc i) s v at = ap (λ ds. (t.name, t.ty) ∷ ds) (set_declared slots i s v at)
+
+pub set_names : (slots : List Slot) (i : ℕ) (s : Slot) (v : Value) → slice_get slots i ≡ Some s → names_of (set slots i (record s { value = v })) ≡ names_of slots
+set_names [] i s v at = absurd (cc)
+set_names (t ∷ slots) zero s v at = let same : t ≡ s = cc in ap (λ (u : Slot). u.name ∷ names_of slots) (sym same)
+set_names (t ∷ slots) (suc i) s v at = ap (λ ns. t.name ∷ ns) (set_names slots i s v at)
+
+-- the names of the variables are those of their layout
+pub names_declared : (slots : List Slot) → map (λ d. d.0) (declared_in slots) ≡ names_of slots
+names_declared [] = refl
+names_declared (s ∷ slots) = ap (λ ns. s.name ∷ ns) (names_declared slots)

@@ -4,3 +4,7 @@ pub mod Frames
 pub mod Wanted
 pub mod Known
 pub mod Variables
+pub mod Compiled
+pub mod Placed
+pub mod Made
+pub mod Kept

@@ -1,28 +1,7 @@
--- A variable with its type and its value, and the numbers of 64 bits that a type holds (this project's own).
-use Rattle.std.specs.Prelude.{◌≡◌, ℕ, nat_eq, if◌then◌else◌, ℤ, pos, neg_ℤ, ◌-ℤ◌, ◌^◌}
-use Rattle.fb_types.specs.Names.{Name}
-use Rattle.fb_types.specs.Words.{word_of}
+-- The numbers of 64 bits that a type holds (this project's own).
+use Rattle.std.specs.Prelude.{ℤ, pos, neg_ℤ, ◌-ℤ◌, ◌^◌}
 use Rattle.fb_types.specs.declared.value.Ty.{Ty}
-use Rattle.fb_types.specs.declared.value.Ty.TheVariants.{Sint, Int, Dint, Lint, Usint, Uint, Udint, Ulint, Time, Bool as Boolean}
-use Rattle.fb_types.specs.declared.value.Value.{Value}
-use Rattle.fb_types.specs.declared.value.Value.TheVariants as value
-
-pub record Held : Type 0 where
-  pub name : Name
-  pub ty : Ty
-  pub value : Value
-
--- what is the number of no name
-abbrev pub apart : ℕ
-apart = 2
-
--- a value is a number that is kept by the number of a name, or else any other value
-abbrev pub value_held : ℕ → ℤ → Value → Value
-value_held key z v = if nat_eq key apart then v else value.Whole z
-
--- by what a name's number is kept
-abbrev pub IsKeyOf : Name → ℕ → Type 0
-IsKeyOf n key = ¬ (key ≡ apart) → (key ≡ word_of n) × ¬ (key ≡ 0)
+use Rattle.fb_types.specs.declared.value.Ty.TheVariants.{Sint, Int, Dint, Lint, Usint, Uint, Udint, Time, Bool as Boolean}
 
 -- the least number of 64 bits that a type holds
 abbrev pub least_of : Ty → ℤ

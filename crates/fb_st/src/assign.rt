@@ -1,6 +1,6 @@
 //! The parts of statements that hold no statements: assignments, labels, and the values of FOR.
 
-ghost use Rattle.std.specs.Prelude.{◌≡◌, ℕ, suc, true, false, int_le, ◌&&◌, ◌+ℤ◌, IfOk, IfSome};
+ghost use Rattle.std.specs.Prelude.{◌≡◌, ℕ, suc, true, false, int_le, ◌&&◌, IfOk};
 ghost use Rattle.std.specs.List.{list_any};
 ghost use Rattle.fb_types.specs.Syntax.{Assign, expr_of, step_of};
 ghost use Rattle.fb_types.specs.Values.{value_of, whole};
@@ -9,28 +9,14 @@ ghost use Rattle.fb_st.specs.Frames.{declared_in, is_declared, types_in, values_
 ghost use Rattle.fb_st.specs.Flows.{end_of};
 
 use crate::evaluation::eval;
-use crate::frame::{Frame, small_of};
+use crate::frame::Frame;
 use crate::meter::Flow;
 use crate::operator::whole_of;
-use crate::small::small_number;
 use fb_types::{Expr, Label, Reason, Reference, Value};
 
 /// An assignment, once its step is begun.
 #[inline(always)]
 pub fn run_assignment(variable: &Reference, expr: &Expr, frame: &mut Frame) -> Result<Flow, Reason>
-    requires known { is_declared (declared_in frame.old) variable.now ≡ true }
-    ensures run { (left : ℕ) → Runs (types_in (declared_in frame.old)) (Assign variable.now (expr_of expr.now)) (record { vars = values_of frame.old; left = suc left }) (end_of result) (record { vars = values_of frame.new; left = left }) }
-    ensures declared { declared_in frame.new ≡ declared_in frame.old }
-{
-    match small_number(expr, frame) {
-        Some(number) if frame.takes(variable, number) => Ok(Flow::Went),
-        _ => assign_any(variable, expr, frame),
-    }
-}
-
-/// The same, whatever the value of the expression is and wherever the variable is.
-#[inline(never)]
-fn assign_any(variable: &Reference, expr: &Expr, frame: &mut Frame) -> Result<Flow, Reason>
     requires known { is_declared (declared_in frame.old) variable.now ≡ true }
     ensures run { (left : ℕ) → Runs (types_in (declared_in frame.old)) (Assign variable.now (expr_of expr.now)) (record { vars = values_of frame.old; left = suc left }) (end_of result) (record { vars = values_of frame.new; left = left }) }
     ensures declared { declared_in frame.new ≡ declared_in frame.old }
@@ -48,7 +34,7 @@ pub fn has_label(labels: &[Label], value: Value) -> bool
     is_any_around(labels, whole_of(value))
 }
 
-fn is_any_around(labels: &[Label], number: i128) -> bool
+pub(crate) fn is_any_around(labels: &[Label], number: i128) -> bool
     ensures { result ≡ list_any (λ l. int_le l.first number && int_le number l.last) labels.now }
 {
     labels
@@ -92,41 +78,10 @@ fn is_past(end: i128, step: i128, number: i128) -> bool
     }
 }
 
-/// The next value of the variable of FOR, where the numbers are of 64 bits and it has not passed the end. `None` says
-/// nothing of it.
-#[inline(always)]
-fn small_next(variable: &Reference, count: Count, frame: &Frame) -> Option<i64>
-    ensures next { IfSome result (λ z. whole (values_of frame.now variable.now) +ℤ whole count.step ≡ z) }
-    ensures within { IfSome result (λ z. passed (whole count.end) (whole count.step) z ≡ false) }
-{
-    let end = small_of(count.end)?;
-    let step = small_of(count.step)?;
-    let next = frame.small_at_once(variable)?.checked_add(step)?;
-    if is_past(i128::from(end), i128::from(step), i128::from(next)) {
-        return None;
-    }
-    Some(next)
-}
-
 /// The next value of the variable of FOR, or the end of the loop, where the variable keeps its value. A value that it
 /// gives has not passed the end.
 #[inline(always)]
 pub fn advance(variable: &Reference, count: Count, frame: &mut Frame) -> Result<Flow, Reason>
-    requires known { is_declared (declared_in frame.old) variable.now ≡ true }
-    ensures run { (left : ℕ) → Advances (types_in (declared_in frame.old)) variable.now (whole count.end) (whole count.step) (record { vars = values_of frame.old; left = left }) (end_of result) (record { vars = values_of frame.new; left = left }) }
-    ensures declared { declared_in frame.new ≡ declared_in frame.old }
-    ensures within { IfOk result (λ flow. flow ≡ Flow.Went → passed (whole count.end) (whole count.step) (whole (values_of frame.new variable.now)) ≡ false) }
-{
-    match small_next(variable, count, frame) {
-        Some(next) if frame.takes(variable, next) => Ok(Flow::Went),
-        _ => advance_any(variable, count, frame),
-    }
-}
-
-/// The same, whatever the numbers are and wherever the variable is.
-// Written into `advance`: a call would have the end and the step put together in memory in each turn.
-#[inline(always)]
-fn advance_any(variable: &Reference, count: Count, frame: &mut Frame) -> Result<Flow, Reason>
     requires known { is_declared (declared_in frame.old) variable.now ≡ true }
     ensures run { (left : ℕ) → Advances (types_in (declared_in frame.old)) variable.now (whole count.end) (whole count.step) (record { vars = values_of frame.old; left = left }) (end_of result) (record { vars = values_of frame.new; left = left }) }
     ensures declared { declared_in frame.new ≡ declared_in frame.old }

@@ -14,32 +14,19 @@ use crate::function::{call_with_one, call_with_three, call_with_two};
 use crate::operator::{
     are_same, is_arithmetic, joined, negated, number_of_two, truth_value, whole_of,
 };
-use crate::small::{small_number, small_truth};
 use fb_types::{BinaryOperator, Expr, Function, Name, Reason, UnaryOperator, Value};
 
 /// The value of an expression, or the first reason that is met. All operands and arguments are evaluated,
-/// from left to right. What is computed is mostly a number, and goes to where it is required without a call between.
+/// from left to right.
 #[cycle(eval)]
-#[inline(always)]
 pub fn eval(expr: &Expr, frame: &Frame) -> Result<Value, Reason>
-    ensures { result ≡ value_of (expr_of expr.now) (values_of frame.now) }
-{
-    match small_number(expr, frame) {
-        Some(number) => Ok(Value::Whole(i128::from(number))),
-        None => value(expr, frame),
-    }
-}
-
-/// The value of any expression.
-#[cycle(eval)]
-fn value(expr: &Expr, frame: &Frame) -> Result<Value, Reason>
     ensures { result ≡ value_of (expr_of expr.now) (values_of frame.now) }
 {
     match expr {
         Expr::Whole(number) => Ok(Value::Whole(*number)),
         Expr::Truth(truth) => Ok(Value::Bool(*truth)),
         Expr::Variable(variable) => Ok(frame.value(variable)),
-        Expr::Group(inner) => value(inner.get(), frame),
+        Expr::Group(inner) => eval(inner.get(), frame),
         Expr::Unary(UnaryOperator::Negate, _) => number(expr, frame),
         Expr::Unary(UnaryOperator::Not, _) => bool_value(expr, frame),
         Expr::Binary(operator, _, _) if is_arithmetic(*operator) => number(expr, frame),
@@ -232,8 +219,5 @@ fn call(name: &Name, arguments: &[Expr], frame: &Frame) -> Result<Value, Reason>
 pub fn holds(condition: &Expr, frame: &Frame) -> Result<bool, Reason>
     ensures { result ≡ truth_of (expr_of condition.now) (values_of frame.now) }
 {
-    match small_truth(condition, frame) {
-        Some(is_true) => Ok(is_true),
-        None => truth(condition, frame),
-    }
+    truth(condition, frame)
 }

@@ -1,26 +1,42 @@
 //! Structured Text (IEC 61131-3, 7.3): values of expressions and runs of statements.
 //!
 //! Guarantees to callers: `evaluation::eval` gives the value of an expression, or the reason for which it has none;
-//! `execution::exec` runs an algorithm as the definitions say, steps counted; a `frame::Frame` keeps variables within their
-//! types.
+//! `execution::exec` runs an algorithm as the definitions say, steps counted; `algorithm::exec_compiled` runs it in the form
+//! into which `compile_body` puts it once for each type, and says the same; a `frame::Frame` keeps variables within their types.
 //!
-//! Read in this order: `frame`, the variables; `evaluation` with `operator`, `fault` and `function`; `small`, the common way
-//! of expressions whose numbers fit 64 bits; `meter`, the steps; `execution` with `assign`; `known`.
+//! Read in this order: `frame` and `slot_list`, the variables; `evaluation` with `operator`, `fault` and `function`; `meter`, the
+//! steps; `execution` with `assign`; `known`. Then `layout` and `compiled`; `scope`, `compile_expr` and `compile_stmt`; `short`,
+//! the common way of expressions whose numbers fit 64 bits, and `exact`; `running`; `algorithm`.
 #![tactic(auto)]
 
+pub mod algorithm;
 mod assign;
+mod compile_expr;
+mod compile_stmt;
+pub mod compiled;
 pub mod evaluation;
+mod exact;
 pub mod execution;
 mod fault;
 pub mod frame;
 mod function;
 pub mod known;
+pub mod layout;
 pub mod meter;
 mod operator;
-mod small;
+mod running;
+pub mod scope;
+mod short;
+pub mod slot_list;
 
+pub use algorithm::{exec_compiled, holds_compiled};
+pub use compile_expr::{CompileError, compile_guard};
+pub use compile_stmt::compile_body;
 pub use evaluation::{eval, holds};
 pub use execution::exec;
 pub use frame::{Frame, Slot};
 pub use known::knows;
+pub use layout::Layout;
 pub use meter::{Flow, Meter};
+pub use scope::Scope;
+pub use slot_list::SlotList;

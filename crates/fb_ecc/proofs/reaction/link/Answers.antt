@@ -1,4 +1,4 @@
-use Rattle.std.proofs.Common.{ℕ, Option, Result, Ok, ◌∙◌, ap, subst}
+use Rattle.std.proofs.Common.{ℕ, Option, Result, Ok, sym, ◌∙◌, ap, subst}
 use Rattle.std.specs.Prelude.{option_map}
 use Rattle.std.proofs.lemmas.Result.{err_from_is_err_and}
 use Rattle.fb_types.specs.Names.{Name}
@@ -6,18 +6,23 @@ use Rattle.fb_types.specs.Charts.{Acts, Position, actions_of}
 use Rattle.fb_types.specs.Numbers.{event_at}
 use Rattle.fb_types.specs.declared.run.Halt.{Halt}
 use Rattle.fb_ecc.specs.Indexes.{Ended, index, state_at}
+use Rattle.fb_ecc.specs.Programs.{IsProgramOf}
 use Rattle.fb_ecc.specs.Trials.{trial}
+use Rattle.fb_ecc.specs.declared.program.Program.{Program}
 use Rattle.fb_ecc.proofs.Links.{exits_read, trial_here, linked_early, goes_on, stops_in, rests, fails}
 use Rattle.fb_ecc.proofs.reaction.link.Goals as goal
 
+pub cleared-requires-clause-program : goal.cleared-requires-clause-program
+cleared-requires-clause-program c = subst (λ (p : Program). IsProgramOf c.args.block.now p) (sym c.program-program.ensures) c.requires.block.chart.program
+
 pub cleared-requires-clause-exits : goal.cleared-requires-clause-exits
 cleared-requires-clause-exits c =
-    let has = exits_read c.args.block.now c.args.state.now.chart c.args.state.now.state c.leaving-exits.result.now c.requires.sound c.requires.block.chart c.requires.block.state c.leaving-exits.ensures in
+    let has = exits_read c.args.block.now c.args.state.now.chart.chart c.args.state.now.state c.leaving-exits.result.now c.requires.sound c.requires.block.chart.chart c.requires.block.state c.leaving-exits.ensures in
     has.each
 
 pub returns-in_err-enter-in-Some-clause-linked : goal.returns-in_err-enter-in-Some-clause-linked
 returns-in_err-enter-in-Some-clause-linked c =
-    let has = exits_read c.args.block.now c.args.state.now.chart c.args.state.now.state c.leaving-exits.result.now c.requires.sound c.requires.block.chart c.requires.block.state c.leaving-exits.ensures in
+    let has = exits_read c.args.block.now c.args.state.now.chart.chart c.args.state.now.state c.leaving-exits.result.now c.requires.sound c.requires.block.chart.chart c.requires.block.state c.leaving-exits.ensures in
     let event : Option Name = option_map (event_at c.args.block.now.ports.event_inputs) c.args.present in
     let p : Position = index c.args.block.now c.args.state.now.state c.args.state.now.frame c.args.meter.now.left c.args.emits.now in
     let target : Name = state_at c.args.block.now c.in-Some.target in
@@ -33,7 +38,7 @@ returns-in_err-enter-in-Some-clause-linked c =
 
 pub returns-in_ok-enter-in-Some-clause-linked : goal.returns-in_ok-enter-in-Some-clause-linked
 returns-in_ok-enter-in-Some-clause-linked c =
-    let has = exits_read c.args.block.now c.args.state.now.chart c.args.state.now.state c.leaving-exits.result.now c.requires.sound c.requires.block.chart c.requires.block.state c.leaving-exits.ensures in
+    let has = exits_read c.args.block.now c.args.state.now.chart.chart c.args.state.now.state c.leaving-exits.result.now c.requires.sound c.requires.block.chart.chart c.requires.block.state c.leaving-exits.ensures in
     let event : Option Name = option_map (event_at c.args.block.now.ports.event_inputs) c.args.present in
     let p : Position = index c.args.block.now c.args.state.now.state c.args.state.now.frame c.args.meter.now.left c.args.emits.now in
     let target : Name = state_at c.args.block.now c.in-Some.target in
@@ -47,7 +52,7 @@ returns-in_ok-enter-in-Some-clause-linked c =
 
 pub returns-in-None-clause-linked : goal.returns-in-None-clause-linked
 returns-in-None-clause-linked c =
-    let has = exits_read c.args.block.now c.args.state.now.chart c.args.state.now.state c.leaving-exits.result.now c.requires.sound c.requires.block.chart c.requires.block.state c.leaving-exits.ensures in
+    let has = exits_read c.args.block.now c.args.state.now.chart.chart c.args.state.now.state c.leaving-exits.result.now c.requires.sound c.requires.block.chart.chart c.requires.block.state c.leaving-exits.ensures in
     let event : Option Name = option_map (event_at c.args.block.now.ports.event_inputs) c.args.present in
     let p : Position = index c.args.block.now c.args.state.now.state c.args.state.now.frame c.args.meter.now.left c.args.emits.now in
     let tried = trial_here c.args.block.now c.leaving-exits.result.now event p _ has.leaving_is (c.in_ok-target.ensures.trial ∙ ap (λ (o : Option ℕ). trial c.args.block.now (Ok o) c.cleared.new.meter.left) c.in-None.is) in
@@ -55,7 +60,7 @@ returns-in-None-clause-linked c =
 
 pub returns-in_err-target-clause-linked : goal.returns-in_err-target-clause-linked
 returns-in_err-target-clause-linked c =
-    let has = exits_read c.args.block.now c.args.state.now.chart c.args.state.now.state c.leaving-exits.result.now c.requires.sound c.requires.block.chart c.requires.block.state c.leaving-exits.ensures in
+    let has = exits_read c.args.block.now c.args.state.now.chart.chart c.args.state.now.state c.leaving-exits.result.now c.requires.sound c.requires.block.chart.chart c.requires.block.state c.leaving-exits.ensures in
     let event : Option Name = option_map (event_at c.args.block.now.ports.event_inputs) c.args.present in
     let p : Position = index c.args.block.now c.args.state.now.state c.args.state.now.frame c.args.meter.now.left c.args.emits.now in
     let tried = trial_here c.args.block.now c.leaving-exits.result.now event p _ has.leaving_is c.in_err-target.ensures.trial in

@@ -16,14 +16,14 @@ use Rattle.fb_ecc.proofs.reaction.react.Goals as goal
 pub sample-requires : goal.sample-requires
 sample-requires c =
     let name : Name = event_at c.args.block.now.ports.event_inputs c.args.event in
-    let is = variables_here c.args.block.now c.args.state.now.chart c.sampled.result.now c.args.event c.as_slice-variables.result.now c.index-sampled-event.result c.requires.block.chart
+    let is = variables_here c.args.block.now c.args.state.now.chart.chart c.sampled.result.now c.args.event c.as_slice-variables.result.now c.index-sampled-event.result c.requires.block.chart.chart
     c.sampled.ensures c.requires.event (c.as_slice-variables.ensures ∙ c.index-sampled-event.is) in
     declared_each c.args.block.now (declared_in c.args.state.now.frame) name c.as_slice-variables.result.now c.requires.block.declared is
 
 pub returns-in_err-link-clause-reacted : goal.returns-in_err-link-clause-reacted
 returns-in_err-link-clause-reacted c =
     let name : Name = event_at c.args.block.now.ports.event_inputs c.args.event in
-    let is = variables_here c.args.block.now c.args.state.now.chart c.sampled.result.now c.args.event c.as_slice-variables.result.now c.index-sampled-event.result c.requires.block.chart
+    let is = variables_here c.args.block.now c.args.state.now.chart.chart c.sampled.result.now c.args.event c.as_slice-variables.result.now c.index-sampled-event.result c.requires.block.chart.chart
     c.sampled.ensures c.requires.event (c.as_slice-variables.ensures ∙ c.index-sampled-event.is) in
     let event : Option Name = option_map (event_at c.args.block.now.ports.event_inputs) c.loop-present.present in
     let p : Position = index c.args.block.now c.args.state.now.state c.sample.new.frame c.args.meter.now.left c.args.emits.now in
@@ -58,7 +58,7 @@ loop-present-preserved c =
 pub returns-clause-reacted : goal.returns-clause-reacted
 returns-clause-reacted c =
     let name : Name = event_at c.args.block.now.ports.event_inputs c.args.event in
-    let is = variables_here c.args.block.now c.args.state.now.chart c.sampled.result.now c.args.event c.as_slice-variables.result.now c.index-sampled-event.result c.requires.block.chart
+    let is = variables_here c.args.block.now c.args.state.now.chart.chart c.sampled.result.now c.args.event c.as_slice-variables.result.now c.index-sampled-event.result c.requires.block.chart.chart
     c.sampled.ensures c.requires.event (c.as_slice-variables.ensures ∙ c.index-sampled-event.is) in
     let event : Option Name = option_map (event_at c.args.block.now.ports.event_inputs) c.loop-present.present in
     let p : Position = index c.args.block.now c.args.state.now.state c.sample.new.frame c.args.meter.now.left c.args.emits.now in

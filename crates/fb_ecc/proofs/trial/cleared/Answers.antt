@@ -14,8 +14,8 @@ use Rattle.fb_ecc.proofs.trial.cleared.Goals as goal
 abbrev unread : Exit
 unread = record { transition = 0; event = None; is_guarded = false; target = 0 }
 
-pub is_true-requires : goal.is_true-requires
-is_true-requires c = exit_here c.args.block.now c.args.exits.now c.loop-exit.exit-index unread c.requires.exits c.loop-exit-test.true
+pub is_true-requires-clause-exit : goal.is_true-requires-clause-exit
+is_true-requires-clause-exit c = exit_here c.args.block.now c.args.exits.now c.loop-exit.exit-index unread c.requires.exits c.loop-exit-test.true
 
 pub returns-in_err-step-clause-trial : goal.returns-in_err-step-clause-trial
 returns-in_err-step-clause-trial c =

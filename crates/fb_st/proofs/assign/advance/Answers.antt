@@ -1,12 +1,8 @@
-use Rattle.std.proofs.Common.{rules, to_z-of_z}
-use mir.Syntax.{w64}
-use mir.Val.{SFits}
+use Rattle.std.proofs.Common.{rules}
 use Rattle.fb_st.proofs.Runs.{written}
 use Rattle.fb_st.proofs.assign.advance.Goals as goal
 
-pub returns-in-Some-clause-within : goal.returns-in-Some-clause-within
-returns-in-Some-clause-within c = λ went.
-    let fit : SFits w64 c.in-Some.next = search rules in
-    let taken = rw (to_z-of_z fit) at (c.takes.ensures.taken c.if-takes.true) in
-    let told = written c.args.variable.now _ _ _ taken.1 in
-    rw told c.in-Some.ensures.within
+pub returns-in_ok-assign-in-Some-clause-within : goal.returns-in_ok-assign-in-Some-clause-within
+returns-in_ok-assign-in-Some-clause-within c = λ went.
+    let told = written c.args.variable.now _ _ _ c.in_ok-assign-in-Some.ensures.ok.1 in
+    rw (told) (search rules)

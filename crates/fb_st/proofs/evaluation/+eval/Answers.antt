@@ -1,4 +1,4 @@
-use Rattle.std.proofs.Common.{◌≡◌, ◌++◌, ◌∷◌, [], List, map, Bool, Ok, length-append, arith, refl, sym, ap, ◌∙◌, rules}
+use Rattle.std.proofs.Common.{◌≡◌, ◌++◌, ◌∷◌, [], List, map, Bool, Ok, length-append, arith, sym, ap, ◌∙◌, rules}
 use Rattle.std.proofs.lemmas.Result.{err_from_is_err_and}
 use Rattle.fb_types.specs.Syntax.{Binary, expr_of, exprs}
 use Rattle.fb_types.specs.Values.{value_of, values_of as values_of_all, and_then, truth, value_if_known, function_named}
@@ -12,14 +12,14 @@ use Rattle.fb_st.proofs.Says.{binary_is, whole_comes, truth_comes, variable_come
 use Rattle.fb_st.proofs.Wanted.{compares_of, gives_of, number_again, number_untrue, truth_again, or_told, xor_told, and_told, same_told, other_told}
 use Rattle.fb_st.proofs.evaluation.+eval.Goals as goal
 
-pub value-returns-in-Binary : goal.value-returns-in-Binary
-value-returns-in-Binary t c =
+pub eval-returns-in-Binary : goal.eval-returns-in-Binary
+eval-returns-in-Binary t c =
     let is : expr_of c.args.expr.now ≡ Binary c.in-Binary.operator (expr_of c.in-Binary.field-1) (expr_of c.in-Binary.field-2) = binary_is _ _ _ _ c.in-Binary.is in
     c.number-in-Binary.ensures
     ∙ number_again (expr_of c.args.expr.now) c.in-Binary.operator _ _ is (values_of c.args.frame.now) (sym c.is_arithmetic.ensures ∙ c.if-is_arithmetic.true)
 
-pub value-returns-in-Binary-2 : goal.value-returns-in-Binary-2
-value-returns-in-Binary-2 t c =
+pub eval-returns-in-Binary-2 : goal.eval-returns-in-Binary-2
+eval-returns-in-Binary-2 t c =
     let is : expr_of c.args.expr.now ≡ Binary c.in-Binary.operator (expr_of c.in-Binary.field-1) (expr_of c.in-Binary.field-2) = binary_is _ _ _ _ c.in-Binary.is in
     c.bool_value-in-Binary-2.ensures
     ∙ truth_again (expr_of c.args.expr.now) c.in-Binary.operator _ _ is (values_of c.args.frame.now) (sym c.is_arithmetic.ensures ∙ c.if-is_arithmetic.false)
@@ -88,20 +88,20 @@ call-loop-argument-preserved t c =
 
 -- ---- What has one part or none
 
-pub value-returns-in-Truth : goal.value-returns-in-Truth
-value-returns-in-Truth t c =
+pub eval-returns-in-Truth : goal.eval-returns-in-Truth
+eval-returns-in-Truth t c =
     truth_comes c.args.expr.now (values_of c.args.frame.now) _ c.in-Truth.is
 
-pub value-returns-in-Variable : goal.value-returns-in-Variable
-value-returns-in-Variable t c =
+pub eval-returns-in-Variable : goal.eval-returns-in-Variable
+eval-returns-in-Variable t c =
     ap (λ (v : Value). Ok v) c.value.ensures ∙ variable_comes c.args.expr.now (values_of c.args.frame.now) _ c.in-Variable.is
 
-pub value-returns-in-Group : goal.value-returns-in-Group
-value-returns-in-Group t c =
-    c.value-in-Group.ensures ∙ ap (λ e. value_of (expr_of e) (values_of c.args.frame.now)) c.get.ensures ∙ group_comes c.args.expr.now (values_of c.args.frame.now) _ c.in-Group.is
+pub eval-returns-in-Group : goal.eval-returns-in-Group
+eval-returns-in-Group t c =
+    c.eval.ensures ∙ ap (λ e. value_of (expr_of e) (values_of c.args.frame.now)) c.get.ensures ∙ group_comes c.args.expr.now (values_of c.args.frame.now) _ c.in-Group.is
 
-pub value-returns-in-Call : goal.value-returns-in-Call
-value-returns-in-Call t c =
+pub eval-returns-in-Call : goal.eval-returns-in-Call
+eval-returns-in-Call t c =
     c.call.ensures ∙ ap (λ (es : List Expr). and_then (values_of_all (exprs (map expr_of es)) (values_of c.args.frame.now)) (value_if_known (function_named c.in-Call.name))) c.as_slice.ensures ∙ call_comes c.args.expr.now (values_of c.args.frame.now) _ _ c.in-Call.is
 
 pub truth-returns-in-Whole : goal.truth-returns-in-Whole

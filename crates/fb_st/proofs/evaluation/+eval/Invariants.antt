@@ -33,9 +33,6 @@ decreases-truth l = 16 * expr.the_size l.expr.now + 3
 abbrev pub decreases-bool_value : goal.decreases-bool_value
 decreases-bool_value l = 16 * expr.the_size l.expr.now + 4
 
-abbrev pub decreases-value : goal.decreases-value
-decreases-value l = 16 * expr.the_size l.expr.now + 5
-
 abbrev pub decreases-eval : goal.decreases-eval
 decreases-eval l = 16 * expr.the_size l.expr.now + 6
 

@@ -6,6 +6,6 @@ use Rattle.fb_st.proofs.frame.Frame.has.Goals as goal
 
 pub returns : goal.returns
 returns c =
-    c.has_name.ensures
-    ∙ ap (λ l. list_any (λ s. same_name c.args.name.now s.name) l) (c.as_slice.ensures.value ∙ c.self.view_is)
+    c.has.ensures
+    ∙ ap (λ l. list_any (λ s. same_name c.args.name.now s.name) l) c.self.view_is
     ∙ sym (tested c.args.self.now c.args.name.now)

@@ -1,0 +1,22 @@
+use Rattle.std.proofs.Common.{◌≡◌, ◌<◌, ℕ, List, true, refl, sym, ◌∙◌, ap, length, get_or, subst}
+use Rattle.std.proofs.lemmas.Option.{slice_get_read}
+use Rattle.fb_types.specs.Names.{same_name}
+use Rattle.fb_types.specs.Repeated.{Twice}
+use Rattle.fb_st.specs.declared.frame.Slot.{Slot}
+use Rattle.fb_st.specs.declared.slot_list.Kept.{Kept}
+use Rattle.fb_st.specs.Frames.{index_of, names_of}
+use Rattle.fb_st.proofs.KeptAs.{kept_named}
+use Rattle.fb_st.proofs.slot_list.SlotList.is_named.Goals as goal
+
+pub returns-in-Some : goal.returns-in-Some
+returns-in-Some c = λ told.
+    let ks : List Kept = c.self.inside.kept.items in
+    let i : ℕ = c.args.index in
+    let k : Kept = c.in-Some.kept.now in
+    let Reads : List Kept → Type 0 = λ l. (i < length l) × (k ≡ get_or l i k) in
+    let read : Reads ks = subst Reads c.deref.ensures.value (c.in-Some.ensures.lookup.3.0, c.in-Some.ensures.lookup.1) in
+    let Once : List Slot → Type 0 = λ l. ¬ (Twice (names_of l)) in
+    let same : same_name c.args.name.now k.name ≡ true = sym c.is.ensures ∙ told in
+    ap (index_of c.args.name.now) (sym c.self.view_is)
+    ∙ kept_named c.args.name.now ks c.self.inside.words.items i k c.self.invariant.0 (subst Once (sym c.self.view_is) c.requires)
+    (slice_get_read ks (length ks) i k refl read.0 read.1) same

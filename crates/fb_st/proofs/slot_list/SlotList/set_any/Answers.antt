@@ -1,0 +1,32 @@
+use Rattle.std.proofs.Common.{◌<◌, ℕ, ℤ, List, set, refl, sym, ◌∙◌, ap, length, subst, arith, rules, to_z-of_z}
+use Rattle.std.specs.Prelude.{slice_get}
+use mir.Syntax.{w64}
+use mir.Val.{SFits}
+use Rattle.std.proofs.lemmas.Option.{slice_get_read}
+use Rattle.fb_st.specs.declared.frame.Slot.{Slot}
+use Rattle.fb_st.specs.declared.slot_list.Kept.{Kept}
+use Rattle.fb_st.proofs.KeptAs.{kept_within, set_both}
+use Rattle.fb_st.proofs.slot_list.SlotList.set_any.Goals as goal
+
+pub index_mut-kept-requires : goal.index_mut-kept-requires
+index_mut-kept-requires c =
+    let Within : ℕ → Type 0 = λ n. c.args.index < n in
+    subst Within (sym c.self.inside.kept.ok.0) (kept_within c.self.inside.kept.items c.self.inside.words.items c.args.self.now c.args.index c.self.invariant.0 c.self.view_is c.requires)
+
+pub index_mut-requires : goal.index_mut-requires
+index_mut-requires c =
+    let within = kept_within c.self.inside.kept.items c.self.inside.words.items c.args.self.now c.args.index c.self.invariant.0 c.self.view_is c.requires in
+    omega (arith, c.self.invariant.0)
+
+pub returns : goal.returns
+returns c = λ s at.
+    let ks : List Kept = c.self.inside.kept.items in
+    let zs : List ℤ = c.self.inside.words.items in
+    let i : ℕ = c.args.index in
+    let k : Kept = c.index_mut-kept.result.now in
+    let fit : SFits w64 c.parted-word.result.0 = search rules in
+    let within = kept_within ks zs c.args.self.now i c.self.invariant.0 c.self.view_is c.requires in
+    rw (to_z-of_z fit)
+    (set_both ks zs i k s c.parted-word.result.0 c.parted-word.result.1 c.args.value c.self.invariant.0 (slice_get_read ks (length ks) i k refl within c.index_mut-kept.ensures.value)
+    (ap (λ l. slice_get l i) c.self.view_is ∙ at) c.parted-word.ensures
+    ∙ ap (λ (l : List Slot). set l i (record s { value = c.args.value })) c.self.view_is)
