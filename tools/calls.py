@@ -171,7 +171,7 @@ REPORT = b"TAP version 14\n1..1\nok 1 - the cycle answers\n"
 REPORT_OF_TWO = b"TAP version 14\n1..2\nok 1 - the cycle answers (trace)\nok 2 - the cycle answers (keyed_trace)\n"
 # The cycle starts in the second line, at tick 0, and its answer comes at 3.
 BROKEN_REPORT = (
-    b"TAP version 14\n1..1\nnot ok 1 - the cycle answers\n  ---\n  message: \"nothing that is to be seen follows in time\"\n  trace: \"trace\"\n"
+    b"TAP version 14\n1..1\nnot ok 1 - the cycle answers\n  ---\n  message: \"the expected event does not follow in time\"\n  trace: \"trace\"\n"
     b"  line: 2\n  tick: 0\n  ...\n"
 )
 # The line about the slip, after its fault.
@@ -181,11 +181,11 @@ PIPES = {"trace_pipe": LONG_TRACE, "pipe": CYCLE, "cut_pipe": CYCLE[:40], "empty
 
 # Parts of the help of `run` and `check`: each argument's name and words of its sentence, with the range, and an example.
 HELP_OF_FILES = (
-    "DECL", "declaration of the types", "--deploy", "in TOML", "at most 1 MiB", "--stim", "in CSV", "at most 16 MiB", "--why", "shows its place",
+    "DECL", "declaration of the types", "--deploy", "in TOML", "at most 1 MiB", "--stim", "in CSV", "at most 16 MiB", "--why", "location of a refusal",
 )
 HELP_OF_RUN = (
-    *HELP_OF_FILES, "--horizon", "in milliseconds, at which the run ends, 1 to 1000000000000", "--steps", "most steps", "1 to 10000000",
-    "--workers", "How many workers", "1 to 64", "--serial", "on one thread", "--progress", "each hundredth of the horizon", "--trace", "form of the trace",
+    *HELP_OF_FILES, "--horizon", "in milliseconds, at which the run ends, 1 to 1000000000000", "--steps", "number of steps", "1 to 10000000",
+    "--workers", "number of threads", "1 to 64", "--serial", "on one thread", "--progress", "each hundredth of the horizon", "--trace", "form of the trace",
     "Example: fbsim run ",
 )
 HELP_OF_CHECK = (*HELP_OF_FILES, "Example: fbsim check ")
@@ -193,14 +193,15 @@ HELP_OF_WAVE = (
     "DECL", "declaration of the types", "TRACE", "file with the trace", "--deploy", "in TOML", "at most 1 MiB", "Example: fbsim wave ",
 )
 HELP_OF_EXPECT = (
-    "RULES", "in TOML", "1000 rules", "TRACE", "--decl", "all names of the rules", "--deploy", "--strict", "undecided as broken", "--cut", "cut off",
+    "RULES", "in TOML", "1000 rules", "TRACE", "--decl", "all names of the rules", "--deploy", "--strict", "undecided as broken", "--cut", "without a last line",
     "Example: fbsim expect ",
 )
 HELP_OF_DIFF = ("first trace", "second trace", "Example: fbsim diff ")
 HELP_OF_DRAW = ("DECL", "declaration of the types", "--deploy", "in TOML", "--type", "type to draw", "network of a composite", "Example: fbsim draw ")
-HELP_OF_EXPLAIN = ("NAME", "name of the refusal", "E01 to E45", "Example: fbsim explain E21")
+HELP_OF_EXPLAIN = ("NAME", "name of the refusal", "E01 to E45", "steps, divide or range", "Example: fbsim explain E21")
 HELP_OF_ALL = (
-    "run", "writes the trace", "check", "which fault comes first", "wave", "value change dump", "expect", "rules hold", "diff", "the same bytes", "draw", "graphviz", "explain", "what a refusal means", "a millisecond", "Example: fbsim run ",
+    "run", "writes its trace", "check", "the first fault", "wave", "value change dump", "expect", "Checks rules", "diff", "the same bytes", "draw", "graphviz", "explain",
+    "what a refusal or the reason of a stop means", "a millisecond", "Example: fbsim run ",
 )
 
 # The ways to run an example.
@@ -382,14 +383,20 @@ REFUSED = [
     (b"APPLICATION A\nFBS END_FBS\n", b"refused E03 line 3\n"),
     (b"APPLICATION A FBS X : E_NONE; END_FBS END_APPLICATION", b"refused E21\n"),
 ]
-# All refusals, and a name that is none. The line of the fault has the name as it was given.
-EXPLAINED = (*(f"E{at:02}" for at in (*range(1, 6), *range(10, 17), *range(20, 31), *range(40, 46))), "file fault")
-NOT_EXPLAINED = ("", "E", "E00", "E06", "E17", "E31", "E46", "E021", "e21", "E21 ", "file")
+# All refusals and reasons of stops, and names that are none. The line of the fault has the name as it was given.
+EXPLAINED = (*(f"E{at:02}" for at in (*range(1, 6), *range(10, 17), *range(20, 31), *range(40, 46))), "steps", "divide", "range", "file fault")
+NOT_EXPLAINED = ("", "E", "E00", "E06", "E17", "E31", "E46", "E021", "e99", "E21 ", "file", "stop", "Steps ")
 SLIP_EXPLAINED = b"""E21: Nothing of the required kind has this name.
 For example:
 - `F.EO TO W.EJ;` where `W` is an E_SWITCH: it has no event input `EJ`.
 - `S.COLD TO C;` in an application: only composites have ports that are named without an instance.
 Look at: Typing errors; an input where an output is required, or the other way round; an event among the data connections; an instance that a resource lists and the application does not have.
+"""
+DIVIDE_EXPLAINED = b"""divide: A divisor was 0 in an algorithm or a guard, and the run stopped.
+For example:
+- `Q := GOOD / TOTAL;` before `TOTAL` has counted anything.
+- `A / (B - C)` where `B` equals `C`.
+Look at: The last line `>` of the trace: the block of that line stopped. Test each divisor of `/` with IF, or in the guard, before it divides. MOD never stops a run: `A MOD 0` is 0.
 """
 # Arguments that are no call.
 FAULTS = [
@@ -465,8 +472,12 @@ CALLS += [
     of("run nowhere --horizon 1", 3, err=b"file fault\n"),
     *(Call(words, 5, err=None) for words in FAULTS),
     *(Call(["explain", name], 0, out=None, has=(f"{name}: ", "\nFor example:\n- ", "\nLook at: ")) for name in EXPLAINED),
-    *(Call(["explain", name], 5, err=f"error: no refusal is called {name}\n".encode()) for name in NOT_EXPLAINED),
+    *(Call(["explain", name], 5, err=f"error: no refusal or stop is called {name}\n".encode()) for name in NOT_EXPLAINED),
     of("explain E21", 0, out=SLIP_EXPLAINED),
+    of("explain e21", 0, out=SLIP_EXPLAINED),
+    of("explain divide", 0, out=DIVIDE_EXPLAINED),
+    of("explain DIvide", 0, out=DIVIDE_EXPLAINED),
+    Call(["explain", "File Fault"], 0, out=None, has=("file fault: A file can't be read.",)),
     # Numbers at their limits, other forms of a number, and another order of the arguments.
     of("run cycle --horizon 8 --trace 1", 0, out=TO_8),
     of("run cycle --horizon 8 --trace=1", 0, out=TO_8),

@@ -2,12 +2,14 @@
 """tools/documents.py: checks that everything that the documents name exists.
 
 - docs/ARCHITECTURE.md has each crate of crates.txt in one table row, with all its modules.
-- docs/PROOFS.md has each crate, except those of tests, and names only functions, clauses and definitions that exist.
+- docs/PROOFS.md has each crate, except those of tests, in a row for each promise, and names only functions, clauses and definitions
+  that exist.
 - Each block of docs/READING.md is word for word in the file named before it.
 - docs/DEFINITIONS.md has every file of definitions.
 - The example in the comment of a public item is the body of the test that it names.
-- Every function like `fb_sim::run::run` and every file like `docs/FORMATS.md` that a page names exists.
-- README.md has at most 1,800 words, each entry of docs/DECISIONS.md at most 80.
+- Every function like `fb_sim::run::run` and every file like `docs/FORMATS.md` that a page names exists, and so does every type or
+  definition like `HasTaken`. If a page says in which file a definition is, it is there.
+- README.md has at most 1,800 words, each entry of docs/DECISIONS.md at most 80, each row of docs/PROOFS.md at most 100.
 
 It prints what is wrong and then ends with status 1. ./gate runs it."""
 
@@ -23,6 +25,7 @@ ROW = re.compile(r"\| `(fb\w+)` \|.*\|")
 TEXTS = re.compile(r"`([^`\n]+)`")
 MOST_WORDS = 1800
 MOST_WORDS_OF_AN_ENTRY = 80
+MOST_WORDS_OF_A_ROW = 100
 # A file or a folder of the repository, as a page names it.
 MENTION = re.compile(r"(?:docs|crates|cases|tools|examples|bench)/[\w./+]*\w")
 
@@ -49,10 +52,11 @@ def rows(page):
     return [(ROW.fullmatch(it)[1], it.strip("| ").split(" | ")[1:]) for it in lines]
 
 
-def has_all(page, wanted):
-    """Returns the faults of a page that must have each of these crates in one row."""
+def has_all(page, wanted, may_repeat=False):
+    """Returns the faults of a page that must have each of these crates in a row, and in no other one unless crates may repeat."""
     named = [crate for crate, _ in rows(page)]
-    return [f"{page}: {it} is in {named.count(it)} rows" for it in sorted({*wanted, *named}) if named.count(it) != (it in wanted)]
+    counts = {it: bool(named.count(it)) if may_repeat else named.count(it) for it in {*wanted, *named}}
+    return [f"{page}: {it} is in {named.count(it)} rows" for it in sorted(counts) if counts[it] != (it in wanted)]
 
 
 def module_faults():
@@ -123,6 +127,17 @@ def name_faults(page):
     return faults
 
 
+def definition_name_faults(page, known):
+    """Returns the types and definitions that a page names, of which no source and no definition has the name."""
+    text, faults = re.sub(r"```.*?```", "", text_of(page), flags=re.S), []
+    # (`HasX` is no name, but a way to make names)
+    faults += [f"{page}: there is no {it}" for it in sorted(set(re.findall(r"`([A-Z][a-z]\w*)`", text)) - known) if it[-1] != "X"]
+    for name, place in re.findall(r"`([A-Z]\w+)` in\s+`(?:crates/)?(fb_\w+/(?:specs|proofs)/\w+)(?:\.antt)?`", text):
+        if not re.search(rf"\b{name}\b", text_of(f"crates/{place}.antt")):
+            faults.append(f"{page}: {place} has no {name}")
+    return faults
+
+
 def block_faults():
     """Returns the blocks of docs/READING.md that are not in the file of crates/ that was named last."""
     page, named, faults = "docs/READING.md", None, []
@@ -162,22 +177,27 @@ def example_faults():
 
 
 def length_faults():
-    """Returns the faults of README.md and docs/DECISIONS.md if they have more words than they may."""
+    """Returns the faults of README.md, docs/DECISIONS.md and docs/PROOFS.md if they have more words than they may."""
     page, entries = "docs/DECISIONS.md", re.split(r"\n(?=- \*\*|## )", text_of("docs/DECISIONS.md"))
     words = len(text_of("README.md").split())
     faults = [f"README.md: {words} words are more than {MOST_WORDS}"] if words > MOST_WORDS else []
     long = [it for it in entries if it.startswith("- **") and len(it.split()) > MOST_WORDS_OF_AN_ENTRY]
-    return faults + [f"{page}: {len(it.split())} words are more than {MOST_WORDS_OF_AN_ENTRY}: {it.splitlines()[0]}" for it in long]
+    faults += [f"{page}: {len(it.split())} words are more than {MOST_WORDS_OF_AN_ENTRY}: {it.splitlines()[0]}" for it in long]
+    wide = [it for it in text_of("docs/PROOFS.md").splitlines() if it.startswith("|") and len(it.split()) > MOST_WORDS_OF_A_ROW]
+    return faults + [f"docs/PROOFS.md: {len(it.split())} words are more than {MOST_WORDS_OF_A_ROW}: {it[:60]}" for it in wide]
 
 
 def main():
     """Checks the documents and returns the status."""
     pages = ["README.md", "CONTRIBUTING.md", "CHANGELOG.md", *[f"docs/{it}" for it in sorted(os.listdir(f"{TOP}/docs")) if it.endswith(".md")], "bench/README.md", "examples/README.md"]
     proved = [it for it in crates() if it != "fbsim" and not it.endswith("_tests")]
-    faults = has_all("docs/ARCHITECTURE.md", crates()) + has_all("docs/PROOFS.md", proved)
+    faults = has_all("docs/ARCHITECTURE.md", crates()) + has_all("docs/PROOFS.md", proved, may_repeat=True)
     faults += module_faults() + proof_faults() + definition_faults() + block_faults() + example_faults() + length_faults()
+    places = [it for kind in ("src/**/*.rt", "specs/**/*.antt", "proofs/**/*.antt") for it in glob.glob(f"{TOP}/crates/*/{kind}", recursive=True)]
+    known = {word for it in places for word in re.findall(r"[A-Z]\w+", text_of(os.path.relpath(it, TOP)))}
+    known |= {os.path.basename(it).removesuffix(".antt") for it in places}
     for page in pages:
-        faults += name_faults(page)
+        faults += name_faults(page) + definition_name_faults(page, known)
     for it in faults:
         print(it, file=sys.stderr)
     print(f"documents: {len(faults)} faults" if faults else "documents: everything that they name exists")

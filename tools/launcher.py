@@ -138,7 +138,8 @@ def answer_unbuilt(it):
     it.call(["help", "run"], 0, texts["run"])
     it.call(["wave", "-h"], 0, texts["wave"])
     it.call(["explain", refusal], 0, unbuilt.explanations()[refusal])
-    it.call(["explain", "E06"], 5, err="error: no refusal is called E06\n")
+    it.call(["explain", "Divide"], 0, unbuilt.explanations()["divide"])
+    it.call(["explain", "E06"], 5, err="error: no refusal or stop is called E06\n")
     it.call(["--version"], 0, f"fbsim {unbuilt.version()}\n")
     it.call(["check", "-"], 126, err="a build\n")
     it.call(["install", f"{it.folder}/to"], 126, err="a build\n")
@@ -146,7 +147,7 @@ def answer_unbuilt(it):
 
 def keep_unproved(it):
     """Without proofs: built once, and again when a source has changed."""
-    it.call(["--unproved", "explain", "E06"], 5, err=NOT_PROVED + "error: no refusal is called E06\n")
+    it.call(["--unproved", "explain", "E06"], 5, err=NOT_PROVED + "error: no refusal or stop is called E06\n")
     it.call(["--unproved", "check", "-"], 0, "accepted\n", NOT_PROVED + "a build\n")
     it.call(["--unproved", "check", "-"], 0, "accepted\n", NOT_PROVED)
     it.is_changed(it.unproved)

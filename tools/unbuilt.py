@@ -53,7 +53,7 @@ def entries(table):
 
 
 def explanations():
-    """Returns the explanations of the refusals by name, as the program prints them."""
+    """Returns the explanations of refusals and reasons by name, as the program prints them."""
     form = "{0}: {1}\nFor example:\n- {2}\n- {3}\nLook at: {4}\n"
     return {row[0]: form.format(*row) for row in entries(content(TABLE))}
 
@@ -75,9 +75,9 @@ def answer(words):
         case ["--version" | "-V"]:
             print(f"fbsim {version()}{commit()}")
         case ["explain", name] if not name.startswith("-"):
-            text = explanations().get(name)
+            text = {it.lower(): text for it, text in explanations().items()}.get(name.lower())
             if text is None:
-                print(f"error: no refusal is called {name}", file=sys.stderr)
+                print(f"error: no refusal or stop is called {name}", file=sys.stderr)
                 return 5
             print(text, end="")
         case _ if command is not None:

@@ -84,7 +84,11 @@ fn put_guard(alloc: Global, text: &mut Vec<u8>, guard: &Expr) -> Result<(), Allo
 }
 
 /// Adds the condition of a transition, as it was written.
-fn put_condition(alloc: Global, text: &mut Vec<u8>, condition: &Condition) -> Result<(), AllocError>
+pub fn put_condition(
+    alloc: Global,
+    text: &mut Vec<u8>,
+    condition: &Condition,
+) -> Result<(), AllocError>
     ensures { OnOk result (text.new.items ≡ text.old.items ++ spec.condition_text condition.now.event condition.now.guard) }
 {
     match (&condition.event, &condition.guard) {

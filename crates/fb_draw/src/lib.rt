@@ -8,12 +8,14 @@
 #![tactic(auto)]
 
 mod block;
-mod chart;
+pub mod chart;
 mod connection;
 mod expression;
 pub mod graph;
 mod network;
-mod pieces;
+pub mod pieces;
 mod resource;
 
+pub use chart::put_condition;
 pub use graph::draw;
+pub use pieces::{put_all, put_number, put_value};

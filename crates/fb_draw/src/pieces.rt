@@ -8,7 +8,7 @@ use fb_types::{Name, Value};
 use std::alloc::{AllocError, Global};
 
 /// Adds pieces to a text.
-pub(crate) fn put_all(text: &mut Vec<u8>, pieces: &[&[u8]]) -> Result<(), AllocError>
+pub fn put_all(text: &mut Vec<u8>, pieces: &[&[u8]]) -> Result<(), AllocError>
     ensures { OnOk result (text.new.items ≡ text.old.items ++ spec.joined (map (λ p. p.now) pieces.entry.now)) }
 {
     for piece in pieces {
@@ -18,7 +18,7 @@ pub(crate) fn put_all(text: &mut Vec<u8>, pieces: &[&[u8]]) -> Result<(), AllocE
 }
 
 /// Adds the decimal digits of a number.
-pub(crate) fn put_number(alloc: Global, text: &mut Vec<u8>, number: u64) -> Result<(), AllocError>
+pub fn put_number(alloc: Global, text: &mut Vec<u8>, number: u64) -> Result<(), AllocError>
     ensures { OnOk result (text.new.items ≡ text.old.items ++ decimal number) }
 {
     let digits = format!(in alloc; "{number}")?;
@@ -26,7 +26,7 @@ pub(crate) fn put_number(alloc: Global, text: &mut Vec<u8>, number: u64) -> Resu
 }
 
 /// Adds a value, as a trace has it.
-pub(crate) fn put_value(alloc: Global, text: &mut Vec<u8>, value: Value) -> Result<(), AllocError>
+pub fn put_value(alloc: Global, text: &mut Vec<u8>, value: Value) -> Result<(), AllocError>
     ensures { OnOk result (text.new.items ≡ text.old.items ++ value_text value) }
 {
     match value {

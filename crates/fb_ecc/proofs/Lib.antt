@@ -4,5 +4,6 @@ pub mod Charts
 pub mod Indexing
 pub mod Links
 pub mod Soundness
+pub mod Stepwise
 pub mod Trials
 pub mod Programs

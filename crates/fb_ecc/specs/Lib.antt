@@ -6,4 +6,5 @@ pub mod Opened
 pub mod Indexes
 pub mod Sound
 pub mod Trials
+pub mod Steps
 pub mod Programs

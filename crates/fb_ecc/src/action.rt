@@ -106,7 +106,7 @@ fn run(
 
 /// One action: its algorithm, and then its output event.
 #[inline(always)]
-fn perform(
+pub(crate) fn perform(
     block: &BasicType,
     program: &Program,
     act: Act,

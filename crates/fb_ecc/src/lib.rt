@@ -5,7 +5,8 @@
 //! one chart and program that all blocks of the type share.
 //!
 //! Read in this order: `state`, what a block is between reactions; `chart`, how it is made by `numbers`; `program`, its
-//! algorithms and guards as they run; `shared`, how the blocks of its type share both; `reaction`; `trial` and `action`.
+//! algorithms and guards as they run; `shared`, how the blocks of its type share both; `reaction`; `trial` and `action`;
+//! `steps`, the same chain step by step.
 #![tactic(auto)]
 
 mod action;
@@ -15,8 +16,10 @@ mod program;
 pub mod reaction;
 pub mod shared;
 pub mod state;
+pub mod steps;
 mod trial;
 
 pub use reaction::react;
 pub use shared::SharedChart;
 pub use state::BasicState;
+pub use steps::{act, action_count, begin, clear};

@@ -16,7 +16,7 @@ use fb_st::{Frame, Meter};
 use fb_types::{BasicType, Emits, Halt, Reference, Value};
 
 /// Gives the variables WITH an event the values that were sampled.
-fn sample(variables: &[Reference], values: &[Value], frame: &mut Frame)
+pub(crate) fn sample(variables: &[Reference], values: &[Value], frame: &mut Frame)
     requires { Each (λ n. is_declared (declared_in frame.old) n ≡ true) variables.now }
     ensures sampled { values_of frame.new ≡ with_values (pair_up variables.now values.now) (values_of frame.old) }
     ensures declared { declared_in frame.new ≡ declared_in frame.old }

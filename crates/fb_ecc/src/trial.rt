@@ -53,7 +53,7 @@ fn is_guard_true(
 
 /// Whether the condition of a transition is true. A guard after an event is evaluated only when that event is present.
 #[inline(always)]
-fn is_true(
+pub(crate) fn is_true(
     block: &BasicType,
     program: &Program,
     exit: &Exit,

@@ -3,3 +3,4 @@ pub mod Reactions
 pub mod Block
 pub mod Step
 pub mod Emissions
+pub mod Seen

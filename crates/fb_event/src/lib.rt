@@ -8,10 +8,12 @@
 #![tactic(auto)]
 
 mod emission;
+pub mod memory;
 pub mod reaction;
 pub mod state;
 mod step;
 
 pub use fb_types::{EventKind, TimerAsk};
+pub use memory::{EventMemory, memory_of};
 pub use reaction::{expire, react};
 pub use state::EventState;

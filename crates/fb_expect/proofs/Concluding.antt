@@ -28,13 +28,13 @@ there-line hs end k lt = ap (λ (b : Bool). if b then tick_at hs k else tick_of 
 met-is-answered : (within : ℕ) (hs : List Hit) (end : End) (i : ℕ) → IsMet within hs i → IsUnanswered within hs end i → ⊥
 met-is-answered within hs end i m x =
     let soon = m.soon in
-    let far = x.unmet.none m.answer m.behind m.second in
+    let far = x.unmet.none m.answer m.after m.second in
     omega arith
 
 met-is-no-pending : (within : ℕ) (hs : List Hit) (end : End) (i : ℕ) → IsMet within hs i → IsPending within hs end i → ⊥
 met-is-no-pending within hs end i m x =
     let soon = m.soon in
-    let far = x.unmet.none m.answer m.behind m.second in
+    let far = x.unmet.none m.answer m.after m.second in
     omega arith
 
 -- only what breaks later breaks such a rule
@@ -68,7 +68,7 @@ see-late within hs end b below l =
     (record { unmet = record { first = l.first; none = l.none }; over = omega arith })
 
 waits-unmet : (within : ℕ) (hs : List Hit) (m : Mark) (w : Waits within hs m) → (j : ℕ) → w.place < j → (hit_at hs j).second ≡ true → tick_at hs w.place + within < tick_at hs j
-waits-unmet within hs m w j behind is = absurd (w.none j behind is)
+waits-unmet within hs m w j after is = absurd (w.none j after is)
 
 pub see-over :
     (within : ℕ) (hs : List Hit) (end : End) (m : Mark) → m.tick + within < tick_of end → Waits within hs m
@@ -90,12 +90,12 @@ see-amid within hs end m amid w =
         let same = w.tick in
         elim (cases_lt k w.place) [
           | inl before ↦ met-is-answered within hs end k (w.before k before u.unmet.first) u
-          | inr le ↦ behind (cases_lt w.place k) le
+          | inr le ↦ after (cases_lt w.place k) le
         ]
       where
-        behind : (w.place < k) ⊎ (k ≤ w.place) → w.place ≤ k → ⊥
-        behind (inl more) le = let up = w.behind k more u.unmet.first in omega (arith, u.over, w.tick)
-        behind (inr less) le =
+        after : (w.place < k) ⊎ (k ≤ w.place) → w.place ≤ k → ⊥
+        after (inl more) le = let up = w.after k more u.unmet.first in omega (arith, u.over, w.tick)
+        after (inr less) le =
             let at : k ≡ w.place = omega arith in
             let tick : tick_at hs k ≡ tick_at hs w.place = ap (tick_at hs) at in
             omega (arith, u.over, w.tick)
@@ -149,12 +149,12 @@ abbrev counts : (least : ℕ) (most every : Option ℕ) → Need
 counts least most every = Count least most every
 
 -- what breaks at a line comes before the end
-fewer-is-behind : (e : Option ℕ) (least : ℕ) (hs : List Hit) (end : End) (k : ℕ) → k < length hs → IsFewerAtEnd e least hs end k → ⊥
-fewer-is-behind e least hs end k lt x = let at = x.behind in omega arith
+fewer-is-after : (e : Option ℕ) (least : ℕ) (hs : List Hit) (end : End) (k : ℕ) → k < length hs → IsFewerAtEnd e least hs end k → ⊥
+fewer-is-after e least hs end k lt x = let at = x.after in omega arith
 
 pub count-broken :
     (least : ℕ) (most every : Option ℕ) (hs : List Hit) (end : End) (b : Breach) → IsBroken (Count least most every) hs b → IsVerdict (Count least most every) hs end (Broken b)
-count-broken least most every hs end b x = broken-here (Count least most every) hs end b (λ k f lt y. fewer-is-behind every least hs end k lt y.1) x
+count-broken least most every hs end b x = broken-here (Count least most every) hs end b (λ k f lt y. fewer-is-after every least hs end k lt y.1) x
 
 all-lines : (hs : List Hit) → take (length hs) hs ≡ hs
 all-lines hs = take_all (length hs) hs (omega arith)
@@ -172,7 +172,7 @@ count-fewer least most every hs end window count line number knows clean lacks =
       breaks = inr (
         refl,
         record {
-          behind = refl;
+          after = refl;
           fewer = record {
             window = w.0;
             is_over = w.1;
@@ -191,7 +191,7 @@ count-fewer least most every hs end window count line number knows clean lacks =
 
     either : (k : ℕ) (f : Fault) → k < length hs → Breaks (Count least most every) hs end k f → ⊥
     either k f less (inl y) = clean k f y
-    either k f less (inr y) = fewer-is-behind every least hs end k less y.1
+    either k f less (inr y) = fewer-is-after every least hs end k less y.1
 
 count-nowhere :
     (least : ℕ) (most every : Option ℕ) (hs : List Hit) (end : End) (window count : ℕ) → KnowsCount every least hs window count
@@ -203,7 +203,7 @@ count-nowhere least most every hs end window count knows clean fine =
     none k x =
         let f = x.fewer in
         let few : count_in every f.window hs < least =
-        subst (λ (zs : List Hit). count_in every f.window zs < least) (ap (λ (i : ℕ). take i hs) x.behind ∙ all-lines hs) f.few
+        subst (λ (zs : List Hit). count_in every f.window zs < least) (ap (λ (i : ℕ). take i hs) x.after ∙ all-lines hs) f.few
         in
         let enough = enough-over every least hs window count (windows_over every end) f.window knows fine f.is_over in
         omega arith

@@ -190,7 +190,7 @@ more-back e most hs h x = many-back e most hs h x.many
 pub no-more : (e most : Option ℕ) (hs : List Hit) (h : Hit) → h.first ≡ false → IsMore e most (hs ++ h ∷ []) (length hs) → ⊥
 no-more e most hs h off x = test-none h.first (new-back first hs h x.first) off
 
--- ---- What is known behind it
+-- ---- What is known after it
 
 pub counts-on :
     (e : Option ℕ) (least : ℕ) (hs : List Hit) (h : Hit) (window count after : ℕ) → IsBelow hs h.tick → KnowsCount e least hs window count

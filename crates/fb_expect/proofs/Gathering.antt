@@ -59,15 +59,15 @@ pub followed :
     → IsLast cut line end → EndsAfter tick end → IsAtEnd left → IsFollowed cut input ws number end
 followed form cut input left line tick number end ws r is after over =
     let last = r.last in
-    let behind : EndsAfter (last_tick 0 r.events) end = subst (λ (t : ℕ). EndsAfter t end) last after in
+    let ends : EndsAfter (last_tick 0 r.events) end = subst (λ (t : ℕ). EndsAfter t end) last after in
     record {
       events = r.events;
       counted = r.counted;
       follow = r.follow;
-      below = below-later r.events (last_tick 0 r.events) (tick_of end) (ends-above (last_tick 0 r.events) end behind) (all-below 0 r.events r.rise);
+      below = below-later r.events (last_tick 0 r.events) (tick_of end) (ends-above (last_tick 0 r.events) end ends) (all-below 0 r.events r.rise);
       trace =
           Consumes-whole input left (r.lines ++ line) (λ text. IsTrace cut text r.events end) r.read over
-          (record { form = form; lines = r.lines; last = line; are_lines = r.are_lines; rise = r.rise; is_last = is; ends = behind; parts = refl });
+          (record { form = form; lines = r.lines; last = line; are_lines = r.are_lines; rise = r.rise; is_last = is; ends = ends; parts = refl });
     }
 
 on-some : (o : Option Text) (P Q : Text → Type 0) → ((t : Text) → P t → Q t) → IfSome o P → IfSome o Q

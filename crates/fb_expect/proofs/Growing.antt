@@ -1,4 +1,4 @@
--- What breaks a rule at a place, whatever comes behind it: it stays when lines come, and comes with none of them.
+-- What breaks a rule at a place, whatever comes after it: it stays when lines come, and comes with none of them.
 use Rattle.std.proofs.Common.{◌≡◌, ℕ, ◌+◌, ◌<◌, ◌≤◌, Bool, List, [], ◌∷◌, ◌++◌, length, take, refl, sym, subst, ◌∙◌, arith, inl, inr}
 use Rattle.std.specs.Prelude.{Option}
 use Rattle.std.proofs.lemmas.Bool.{cases_lt}

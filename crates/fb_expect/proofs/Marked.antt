@@ -37,7 +37,7 @@ not-of p e closed other =
       | inr off ↦ off
     ]
 
--- a mark that is set is on, and so is one behind all
+-- a mark that is set is on, and so is one after all
 set-on : (marks : List Bool) (i : ℕ) → get_or (set marks i true) i true ≡ true
 set-on marks i =
     elim (cases_lt i (length marks)) [

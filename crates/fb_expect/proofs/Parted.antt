@@ -14,7 +14,7 @@ rest-more : (n : ℕ) (text : Text) → rest_at (suc n) text ≡ drop_through 10
 rest-more zero text = refl
 rest-more (suc n) text = rest-more n (drop_through 10 text)
 
--- a text is its first line and what is behind it
+-- a text is its first line and what is after it
 joined : (text : Text) → take_through 10 text ++ drop_through 10 text ≡ text
 joined [] = refl
 joined (b ∷ text) = by (b == 10) (joined text)

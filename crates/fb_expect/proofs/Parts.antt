@@ -1,22 +1,22 @@
--- The parts of a text before and behind a mark.
+-- The parts of a text before and after a mark.
 use Rattle.std.proofs.Common.{◌≡◌, ℕ, ◌+◌, ◌-◌, ◌<◌, ◌≤◌, ltb, nat_eq, true, false, [], ◌∷◌, length, get_or, take, drop, Some, None, refl, arith}
 use Rattle.std.proofs.lemmas.List.{take_all, length-drop}
 use Rattle.std.proofs.lemmas.Bool.{lt-ltb}
 use Rattle.std.proofs.lemmas.List.Sums.{position_or_len_is}
 use Rattle.std.specs.List.{position_or_len, slice_split}
-use Rattle.fb_expect.specs.Words.{Text, parted, words_after}
+use Rattle.fb_expect.specs.Words.{Text, split_at_mark, words_after}
 use Rattle.fb_expect.specs.Written.{at_comparison, is_sign}
 
 pub parted_at : (mark : ℕ) (z : Text) (i : ℕ) → i < length z → ((k : ℕ) → k < i → nat_eq mark (get_or z k 0) ≡ false) → nat_eq mark (get_or z i 0) ≡ true
-    → Some (take i z, take (length z - (i + 1)) (drop (i + 1) z)) ≡ parted mark z
-unfolding parted
+    → Some (take i z, take (length z - (i + 1)) (drop (i + 1) z)) ≡ split_at_mark mark z
+unfolding split_at_mark
 parted_at mark z i lt before here =
     let e : position_or_len (nat_eq mark) z ≡ i = position_or_len_is (nat_eq mark) z i 0 (omega arith) before (λ _. here) in
     let short : length (drop (i + 1) z) ≤ length z - (i + 1) = omega (arith, length-drop (i + 1) z) in
     rw (e, lt-ltb i (length z) lt, take_all (length z - (i + 1)) (drop (i + 1) z) short) refl
 
-pub parted_none : (mark : ℕ) (z : Text) → ((k : ℕ) → k < length z → nat_eq mark (get_or z k 0) ≡ false) → None ≡ parted mark z
-unfolding parted
+pub parted_none : (mark : ℕ) (z : Text) → ((k : ℕ) → k < length z → nat_eq mark (get_or z k 0) ≡ false) → None ≡ split_at_mark mark z
+unfolding split_at_mark
 parted_none mark z before =
     let e : position_or_len (nat_eq mark) z ≡ length z = position_or_len_is (nat_eq mark) z (length z) 0 (omega arith) before (λ lt. absurd (omega arith)) in
     let never : ltb (length z) (length z) ≡ false = grind arith in
@@ -38,7 +38,7 @@ sign_none z before =
     let never : ltb (length z) (length z) ≡ false = grind arith in
     rw (e, never) refl
 
--- the words behind the first byte of a text
+-- the words after the first byte of a text
 pub words_from : (z : Text) → 0 < length z → words_after z ≡ slice_split (nat_eq 32) (drop 1 z)
 words_from [] some = absurd (omega arith)
 words_from (b ∷ z) some = refl

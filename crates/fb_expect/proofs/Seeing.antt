@@ -25,12 +25,12 @@ second-in hs i is = inside second hs i refl is
 
 met-kept : (within : ℕ) (hs : List Hit) (h : Hit) (i : ℕ) → IsMet within hs i → IsMet within (hs ++ h ∷ []) i
 met-kept within hs h i m =
-    let behind = m.behind in
+    let after = m.after in
     let soon = m.soon in
     let lt = second-in hs m.answer m.second in
     let a = tick-old hs h m.answer lt in
     let b = tick-old hs h i (omega arith) in
-    record { answer = m.answer; behind = behind; second = kept second hs h m.answer lt m.second; soon = omega arith }
+    record { answer = m.answer; after = after; second = kept second hs h m.answer lt m.second; soon = omega arith }
 
 are-met-kept : (within : ℕ) (hs : List Hit) (h : Hit) (place : ℕ) → place ≤ length hs → AreMet within hs place → AreMet within (hs ++ h ∷ []) place
 are-met-kept within hs h place le are i lt is = met-kept within hs h i (are i lt (back first hs h i (omega arith) is))
@@ -53,15 +53,15 @@ late within hs h m w over =
       fault = refl;
       inside = omega arith;
       first = kept first hs h place lt w.first;
-      none = λ j behind is. by j behind (found second hs h j refl is);
+      none = λ j after is. by j after (found second hs h j refl is);
       before = are-met-kept within hs h place (omega arith) w.before;
       later = length hs;
       over = omega arith;
     }
   where
     by : (j : ℕ) → w.place < j → Found second hs h j → tick_at (hs ++ h ∷ []) w.place + within < tick_at (hs ++ h ∷ []) j
-    by j behind (inl old) = absurd (w.none j behind old.1)
-    by j behind (inr new) =
+    by j after (inl old) = absurd (w.none j after old.1)
+    by j after (inr new) =
         let lt = first-in hs w.place w.first in
         let here = tick-old hs h w.place lt in
         let there : tick_at (hs ++ h ∷ []) j ≡ h.tick = ap (tick_at (hs ++ h ∷ [])) new.0 ∙ tick-new hs h in
@@ -82,19 +82,19 @@ late-kept within hs h b below l =
       fault = l.fault;
       inside = omega arith;
       first = kept first hs h l.place lt l.first;
-      none = λ j behind is. by j behind (found second hs h j refl is);
+      none = λ j after is. by j after (found second hs h j refl is);
       before = are-met-kept within hs h l.place (omega arith) l.before;
       later = length hs;
       over = (let most = below l.later in let new = tick-new hs h in omega arith);
     }
   where
     by : (j : ℕ) → l.place < j → Found second hs h j → tick_at (hs ++ h ∷ []) l.place + within < tick_at (hs ++ h ∷ []) j
-    by j behind (inl old) =
+    by j after (inl old) =
         let here = tick-old hs h l.place l.inside in
         let there = tick-old hs h j old.0 in
-        let far = l.none j behind old.1 in
+        let far = l.none j after old.1 in
         omega arith
-    by j behind (inr new) =
+    by j after (inr new) =
         let here = tick-old hs h l.place l.inside in
         let there : tick_at (hs ++ h ∷ []) j ≡ h.tick = ap (tick_at (hs ++ h ∷ [])) new.0 ∙ tick-new hs h in
         let far = l.over in
@@ -111,18 +111,18 @@ answers within hs h None is time knows i lt p = met-kept within hs h i (knows i 
 answers within hs h (Some m) is time w i lt p =
     elim (cases_lt i w.place) as (λ _. IsMet within (hs ++ h ∷ []) i) [
       | inl before ↦ met-kept within hs h i (w.before i before (back first hs h i lt p))
-      | inr behind ↦
-          (let own = rises i (back first hs h i lt p) behind in
+      | inr after ↦
+          (let own = rises i (back first hs h i lt p) after in
           let here = tick-old hs h i lt in
           let new = tick-new hs h in
           let same = w.tick in
-          record { answer = length hs; behind = lt; second = at-new second hs h is; soon = omega arith })
+          record { answer = length hs; after = lt; second = at-new second hs h is; soon = omega arith })
     ]
   where
     rises : (i : ℕ) → IsFirst hs i → w.place ≤ i → tick_at hs w.place ≤ tick_at hs i
     rises i q le =
         elim (cases_lt w.place i) as (λ _. tick_at hs w.place ≤ tick_at hs i) [
-          | inl more ↦ w.behind i more q
+          | inl more ↦ w.after i more q
           | inr less ↦ (let same : i ≡ w.place = omega arith in subst (λ (k : ℕ). tick_at hs w.place ≤ tick_at hs k) (sym same) (omega arith))
         ]
 
@@ -141,9 +141,9 @@ waits-new within line hs h number is are =
       line = number;
       tick = sym (tick-new hs h);
       first = at-new first hs h is;
-      none = λ j behind q. (let lt = second-in (hs ++ h ∷ []) j q in absurd (omega arith));
+      none = λ j after q. (let lt = second-in (hs ++ h ∷ []) j q in absurd (omega arith));
       before = are;
-      behind = λ j behind q. (let lt = first-in (hs ++ h ∷ []) j q in absurd (omega arith));
+      after = λ j after q. (let lt = first-in (hs ++ h ∷ []) j q in absurd (omega arith));
     }
 
 -- a line that is none does not
@@ -163,21 +163,21 @@ waits-on within hs h m below off w =
       line = w.line;
       tick = w.tick ∙ sym (tick-old hs h w.place lt);
       first = kept first hs h w.place lt w.first;
-      none = λ j behind is. other j behind (found second hs h j refl is);
+      none = λ j after is. other j after (found second hs h j refl is);
       before = are-met-kept within hs h w.place (omega arith) w.before;
-      behind = λ i more is. rise i more (found first hs h i refl is);
+      after = λ i more is. rise i more (found first hs h i refl is);
     }
   where
     other : (j : ℕ) → w.place < j → Found second hs h j → ⊥
-    other j behind (inl old) = w.none j behind old.1
-    other j behind (inr new) = test-none h.second new.1 off
+    other j after (inl old) = w.none j after old.1
+    other j after (inr new) = test-none h.second new.1 off
 
     rise : (i : ℕ) → w.place < i → Found first hs h i → tick_at (hs ++ h ∷ []) w.place ≤ tick_at (hs ++ h ∷ []) i
     rise i more (inl old) =
         let lt = first-in hs w.place w.first in
         let here = tick-old hs h w.place lt in
         let there = tick-old hs h i old.0 in
-        let up = w.behind i more old.1 in
+        let up = w.after i more old.1 in
         omega arith
     rise i more (inr new) =
         let lt = first-in hs w.place w.first in

@@ -47,14 +47,14 @@ pub no-third : (f : Bool) (hs : List Hit) (h : Hit) → h.third ≡ true → IsW
 no-third f hs h is (inl s) = s.none (length hs) (omega arith) (at-new third hs h is)
 no-third f hs h is (inr s) = s.none (length hs) s.before (omega arith) (at-new third hs h is)
 
--- ---- What lies behind the new line
+-- ---- What lies after the new line
 
 -- where a stretch has it, or a new one begins with it
-pub behind-new : (f : Bool) (hs : List Hit) (h : Hit) → IsWithin f (hs ++ h ∷ []) (length hs) ⊎ (h.second ≡ true) → IsWithin f (hs ++ h ∷ []) (length (hs ++ h ∷ []))
-behind-new f hs h (inl (inl s)) =
+pub after-new : (f : Bool) (hs : List Hit) (h : Hit) → IsWithin f (hs ++ h ∷ []) (length hs) ⊎ (h.second ≡ true) → IsWithin f (hs ++ h ∷ []) (length (hs ++ h ∷ []))
+after-new f hs h (inl (inl s)) =
     let long = length_push hs h in
     inl (record { counts = s.counts; none = λ j le is. (let lt = inside third (hs ++ h ∷ []) j refl is in s.none j (omega arith) is) })
-behind-new f hs h (inl (inr s)) =
+after-new f hs h (inl (inr s)) =
     let long = length_push hs h in
     let before = s.before in
     inr (record {
@@ -63,7 +63,7 @@ behind-new f hs h (inl (inr s)) =
       second = s.second;
       none = λ j more le is. (let lt = inside third (hs ++ h ∷ []) j refl is in s.none j more (omega arith) is);
     })
-behind-new f hs h (inr is) =
+after-new f hs h (inr is) =
     let long = length_push hs h in
     inr (record {
       start = length hs;
@@ -73,13 +73,13 @@ behind-new f hs h (inr is) =
     })
 
 -- else nothing does
-pub nothing-behind :
+pub nothing-after :
     (f : Bool) (hs : List Hit) (h : Hit) → (IsWithin f (hs ++ h ∷ []) (length hs) → ⊥) → h.second ≡ false
     → IsWithin f (hs ++ h ∷ []) (length (hs ++ h ∷ [])) → ⊥
-nothing-behind f hs h none off (inl s) =
+nothing-after f hs h none off (inl s) =
     let long = length_push hs h in
     none (inl (record { counts = s.counts; none = λ j le is. s.none j (omega arith) is }))
-nothing-behind f hs h none off (inr s) =
+nothing-after f hs h none off (inr s) =
     let long = length_push hs h in
     elim (cases_lt s.start (length hs)) [
       | inl lt ↦ none (inr (record { start = s.start; before = lt; second = s.second; none = λ j more le is. s.none j more (omega arith) is }))
@@ -101,10 +101,10 @@ stays f hs h false true is knows = no-third f hs h is
 stays f hs h false false off knows = λ s. knows (within-back f hs h s)
 
 pub goes-on : (f : Bool) (hs : List Hit) (h : Hit) (here second : Bool) → h.second ≡ second → KnowsHere f hs h here → KnowsStretch f (hs ++ h ∷ []) (here || second)
-goes-on f hs h true true is knows = behind-new f hs h (inl knows)
-goes-on f hs h true false off knows = behind-new f hs h (inl knows)
-goes-on f hs h false true is knows = behind-new f hs h (inr is)
-goes-on f hs h false false off knows = nothing-behind f hs h knows off
+goes-on f hs h true true is knows = after-new f hs h (inl knows)
+goes-on f hs h true false off knows = after-new f hs h (inl knows)
+goes-on f hs h false true is knows = after-new f hs h (inr is)
+goes-on f hs h false false off knows = nothing-after f hs h knows off
 
 -- ---- A line that is forbidden
 

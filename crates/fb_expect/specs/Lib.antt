@@ -19,4 +19,4 @@ pub mod Passing
 pub mod Judging
 pub mod Parting
 pub mod Reports
-pub mod Telling
+pub mod DifferenceReport

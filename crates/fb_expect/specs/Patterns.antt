@@ -6,7 +6,7 @@ use Rattle.std.specs.Str.{bytes_eq}
 use Rattle.fb_types.specs.Values.{same_whole}
 use Rattle.fb_types.specs.declared.value.Value.{Value}
 use Rattle.fb_types.specs.declared.value.Value.TheVariants as value
-use Rattle.fb_expect.specs.Words.{Text, parted, value_of, words_after}
+use Rattle.fb_expect.specs.Words.{Text, split_at_mark, value_of, words_after}
 use Rattle.fb_expect.specs.Events.{Event}
 use Rattle.fb_expect.specs.declared.pattern.Comparison.{Comparison}
 use Rattle.fb_expect.specs.declared.pattern.Comparison.TheVariants.{Equal, Unequal, Less, AtMost, Greater, AtLeast}
@@ -43,12 +43,12 @@ compares c (value.Whole a) (value.Bool b) = false
 
 -- whether a word is of the variable of a condition
 unfoldable pub is_named_by : Condition → (word : Text) → Bool
-is_named_by c w = option_map_or (λ p. bytes_eq p.0 c.variable) (parted 61 w) false
+is_named_by c w = option_map_or (λ p. bytes_eq p.0 c.variable) (split_at_mark 61 w) false
 
 -- whether a word says what a condition asks for
 unfoldable pub is_met_by : Condition → (word : Text) → Bool
 is_met_by c w =
-    option_map_or (λ p. bytes_eq p.0 c.variable && option_map_or (λ v. compares c.comparison v c.value) (value_of p.1) false) (parted 61 w) false
+    option_map_or (λ p. bytes_eq p.0 c.variable && option_map_or (λ v. compares c.comparison v c.value) (value_of p.1) false) (split_at_mark 61 w) false
 
 -- whether one of the values after a port is of the variable, or says what is asked for
 abbrev pub is_named : Condition → (values : Text) → Bool

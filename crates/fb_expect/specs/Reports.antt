@@ -44,11 +44,11 @@ numbered key n = joined (codes "  " ∷ key ∷ codes ": " ∷ decimal n ∷ cod
 
 -- what is said of a fault
 abbrev pub message_of : Fault → Text
-message_of Unanswered = codes "nothing that is to be seen follows in time"
+message_of Unanswered = codes "the expected event does not follow in time"
 message_of Answered = codes "this follows too soon"
-message_of Unprepared = codes "nothing that is to be seen comes in time before"
-message_of Forbidden = codes "this may not be here"
-message_of Fewer = codes "too few up to here"
+message_of Unprepared = codes "the expected event does not come before in time"
+message_of Forbidden = codes "this event is not allowed here"
+message_of Fewer = codes "too few events up to this line"
 message_of More = codes "too many with this"
 
 -- what broke a rule, in which trace, and at which line and tick

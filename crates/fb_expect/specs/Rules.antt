@@ -118,7 +118,7 @@ pub record IsFewerAtLine (every : Option ℕ) (least : ℕ) (hs : List Hit) (k :
   pub fewer : HasFewer every least (window_of every (tick_at hs k)) hs k
 
 pub record IsFewerAtEnd (every : Option ℕ) (least : ℕ) (hs : List Hit) (end : End) (k : ℕ) : Type 0 where
-  pub behind : k ≡ length hs
+  pub after : k ≡ length hs
   pub fewer : HasFewer every least (windows_over every end) hs k
 
 abbrev pub IsOver : (most : Option ℕ) → ℕ → Type 0

@@ -28,7 +28,7 @@ IsClean n hs = (k : ℕ) (fault : Fault) → BreaksHere n hs k fault → ⊥
 -- a Q follows a place in time
 pub record IsMet (within : ℕ) (hs : List Hit) (i : ℕ) : Type 0 where
   pub answer : ℕ
-  pub behind : i < answer
+  pub after : i < answer
   pub second : IsSecond hs answer
   pub soon : tick_at hs answer ≤ tick_at hs i + within
 
@@ -44,7 +44,7 @@ pub record Waits (within : ℕ) (hs : List Hit) (m : Mark) : Type 0 where
   pub first : IsFirst hs place
   pub none : (j : ℕ) → place < j → IsSecond hs j → ⊥
   pub before : AreMet within hs place
-  pub behind : (i : ℕ) → place < i → IsFirst hs i → tick_at hs place ≤ tick_at hs i
+  pub after : (i : ℕ) → place < i → IsFirst hs i → tick_at hs place ≤ tick_at hs i
 
 abbrev pub KnowsSee : (within : ℕ) → List Hit → Option Mark → Type 0
 KnowsSee within hs None = (i : ℕ) → IsFirst hs i → IsMet within hs i

@@ -14,15 +14,15 @@ abbrev pub ◌>>=◌ : {A B : Type 0} → Option A → (A → Option B) → Opti
 o >>= f = option_and_then f o
 
 -- what comes after a front, and what comes before an end
-abbrev pub behind : (front : Text) → Text → Option Text
-behind front z = if bytes_eq (take (length front) z) front then Some (drop (length front) z) else None
+abbrev pub after_front : (front : Text) → Text → Option Text
+after_front front z = if bytes_eq (take (length front) z) front then Some (drop (length front) z) else None
 
 abbrev pub before : (end : Text) → Text → Option Text
 before end z = if bytes_eq (drop (length z - length end) z) end then Some (take (length z - length end) z) else None
 
 -- what comes before the first place of a mark, and what comes after it
-unfoldable pub parted : ℕ → Text → Option (Text × Text)
-parted mark z = option_map (λ i. (take i z, drop (i + 1) z)) (position (nat_eq mark) z)
+unfoldable pub split_at_mark : ℕ → Text → Option (Text × Text)
+split_at_mark mark z = option_map (λ i. (take i z, drop (i + 1) z)) (position (nat_eq mark) z)
 
 -- ---- Names
 
@@ -90,7 +90,7 @@ value_of z =
 
 -- a name, an equals sign and a value
 unfoldable pub is_binding : Text → Bool
-is_binding w = is_some (parted 61 w >>= λ p. if is_name p.0 then value_of p.1 else None)
+is_binding w = is_some (split_at_mark 61 w >>= λ p. if is_name p.0 then value_of p.1 else None)
 
 -- the words after the blank that a text begins with
 abbrev pub words_after : Text → List Text

@@ -6,7 +6,7 @@ use Rattle.std.specs.Str.{bytes_eq}
 use Rattle.fb_types.specs.declared.value.Value.{Value}
 use Rattle.fb_types.specs.declared.value.Value.TheVariants as value
 use Rattle.fb_expect.specs.Lists.{◌>>=◌, each}
-use Rattle.fb_expect.specs.Words.{Text, behind, before, is_name, is_path, is_port, value_of}
+use Rattle.fb_expect.specs.Words.{Text, after_front, before, is_name, is_path, is_port, value_of}
 use Rattle.fb_expect.specs.declared.pattern.Comparison.{Comparison}
 use Rattle.fb_expect.specs.declared.pattern.Comparison.TheVariants.{Equal, Unequal, Less, AtMost, Greater, AtLeast}
 use Rattle.fb_expect.specs.declared.pattern.Condition.{Condition}
@@ -72,10 +72,10 @@ with_rest c None other = other
 -- the comparison that a text begins with, and what comes after it
 unfoldable pub comparison_of : Text → Option (Comparison × Text)
 comparison_of z =
-    with_rest Unequal (behind (codes "<>") z)
-    (with_rest AtMost (behind (codes "<=") z)
-    (with_rest Less (behind (codes "<") z)
-    (with_rest AtLeast (behind (codes ">=") z) (with_rest Greater (behind (codes ">") z) (with_rest Equal (behind (codes "=") z) None)))))
+    with_rest Unequal (after_front (codes "<>") z)
+    (with_rest AtMost (after_front (codes "<=") z)
+    (with_rest Less (after_front (codes "<") z)
+    (with_rest AtLeast (after_front (codes ">=") z) (with_rest Greater (after_front (codes ">") z) (with_rest Equal (after_front (codes "=") z) None)))))
 
 -- truth values have no order
 abbrev pub is_equation : Comparison → Bool

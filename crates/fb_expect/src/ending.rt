@@ -5,7 +5,7 @@ ghost use Rattle.fb_expect.specs.Traces.{EndsAfter, IsEndOf, IsReason, IsStopTex
 
 use crate::names::is_name;
 use crate::number::magnitude;
-use crate::words::{before, behind, cut};
+use crate::words::{after_front, before, cut};
 
 /// How a trace ends. Ticks are milliseconds.
 #[derive(Clone, Copy)]
@@ -42,8 +42,8 @@ fn stop_of(text: &[u8]) -> Option<u64>
 {
     let (digits, text) = cut(text)?;
     let tick = magnitude(digits)?;
-    let (resource, text) = cut(behind(text, b" ")?)?;
-    let reason = behind(text, b" ")?;
+    let (resource, text) = cut(after_front(text, b" ")?)?;
+    let reason = after_front(text, b" ")?;
     if !is_name(resource) || !is_reason(reason) {
         return None;
     }
@@ -55,10 +55,10 @@ pub(crate) fn read_end(text: &[u8]) -> Option<End>
     ensures { IfSome result (IsEndOf text.now) }
 {
     let text = before(text, b"\n")?;
-    if let Some(digits) = behind(text, b"end ") {
+    if let Some(digits) = after_front(text, b"end ") {
         return Some(End::Horizon(magnitude(digits)?));
     }
-    Some(End::Stop(stop_of(behind(text, b"stop ")?)?))
+    Some(End::Stop(stop_of(after_front(text, b"stop ")?)?))
 }
 
 /// Whether a trace whose last line is of a tick can end so.

@@ -8,7 +8,7 @@ ghost use Rattle.fb_expect.specs.Words as spec;
 use crate::entry::Entry;
 use crate::names::{is_name, is_port};
 use crate::number::{is_number, magnitude, value_of};
-use crate::words::{after_blank, before, behind, cut, parted};
+use crate::words::{after_blank, after_front, before, cut, split_at_mark};
 use fb_types::Form;
 
 /// The greatest class of a key that 8 bits have.
@@ -20,7 +20,7 @@ fn after_number(text: &[u8], most: u128) -> Option<&[u8]>
     ensures { IfSome result (λ rest. (head : List ℕ) × IsNumberText most head × (text.now ≡ head ++ rest.now)) }
 {
     let (digits, rest) = cut(text)?;
-    let rest = behind(rest, b" ")?;
+    let rest = after_front(rest, b" ")?;
     if is_number(digits, most) {
         Some(rest)
     } else {
@@ -51,9 +51,9 @@ fn after_head(form: Form, text: &[u8]) -> Option<&[u8]>
 fn side_of(text: &[u8]) -> Option<(bool, &[u8])>
     ensures { IfSome result (λ p. text.now ≡ side_text p.0 ++ p.1.now) }
 {
-    match behind(text, b" > ") {
+    match after_front(text, b" > ") {
         Some(rest) => Some((true, rest)),
-        None => Some((false, behind(text, b" < ")?)),
+        None => Some((false, after_front(text, b" < ")?)),
     }
 }
 
@@ -62,7 +62,7 @@ fn side_of(text: &[u8]) -> Option<(bool, &[u8])>
 fn is_binding(word: &[u8]) -> bool
     ensures { result ≡ spec.is_binding word.now }
 {
-    match parted(word, b'=') {
+    match split_at_mark(word, b'=') {
         Some((name, value)) => is_name(name) && value_of(value).is_some(),
         None => false,
     }
@@ -86,7 +86,7 @@ pub(crate) fn read_entry(form: Form, text: &[u8]) -> Option<Entry<'_>>
 {
     let (digits, text) = cut(after_head(form, text)?)?;
     let tick = magnitude(digits)?;
-    let (resource, text) = cut(behind(text, b" ")?)?;
+    let (resource, text) = cut(after_front(text, b" ")?)?;
     let (taken, text) = side_of(text)?;
     let (port, text) = cut(text)?;
     let values = before(text, b"\n")?;

@@ -1,4 +1,4 @@
-//! Rules over traces, and where two traces part.
+//! Rules over traces, and where two traces differ.
 //!
 //! Guarantees to callers: `read_rules` gives the rules that the definitions make of the tree of the TOML reader, or the
 //! number of the refusal. `judge` gives for each rule whether it holds of the lines of a trace, breaks, and at which first
@@ -11,9 +11,10 @@
 //! `document` and `rules`, how rules are read; `place`, where they are refused; `event` and `ending`, what a line of a
 //! trace says; `meeting`, whether it meets a pattern; `hit`, `watch` and `verdict`, what comes of a rule; `sight`, what a
 //! trace never has; `print` and `port_set`, which lines are passed over; `judging`, a trace line by line; `tap`, what is
-//! reported; `parting` and `telling`, where two texts part.
+//! reported; `parting` and `difference_report`, where two texts differ first.
 #![tactic(auto)]
 
+pub mod difference_report;
 mod document;
 mod ending;
 pub mod entry;
@@ -36,11 +37,11 @@ pub mod rule;
 pub mod rules;
 pub mod sight;
 pub mod tap;
-pub mod telling;
 pub mod verdict;
 mod watch;
 mod words;
 
+pub use difference_report::difference_text;
 pub use entry::Entry;
 pub use error::RulesError;
 pub use fault::TraceError;
@@ -54,5 +55,4 @@ pub use port_pattern::PortPattern;
 pub use rule::{Need, Rule};
 pub use rules::{MOST_RULES, read_rules};
 pub use tap::{Of, are_well, plan, put_points};
-pub use telling::difference_text;
 pub use verdict::{Breach, Fault, Verdict};

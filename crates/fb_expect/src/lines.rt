@@ -1,4 +1,4 @@
-//! The lines of a text, one after another.
+//! Reads a text line by line.
 
 ghost use Rattle.std.specs.Prelude.{◌≡◌, [], IfOk, IfSome, OnOk, IsTrue};
 ghost use Rattle.std.specs.Io.BufRead.{DropsThrough, take_through};
@@ -7,11 +7,11 @@ ghost use Rattle.fb_expect.specs.Lines.{IsOneLine};
 
 use std::io::BufRead;
 
-/// The reader of a text gave an error.
+/// The reader of a text failed.
 #[derive(Debug, Drop)]
 pub struct ReadFault;
 
-/// Reads the next line into a buffer, with its line feed. It is empty where there is none.
+/// Reads the next line into a buffer, with its line feed. At the end of the text the buffer is empty.
 pub(crate) fn next_line<R: BufRead>(input: &mut R, line: &mut Vec<u8>) -> Result<(), ReadFault>
     ensures read { OnOk result (Consumes (R.remaining input.old) (R.remaining input.new) line.new.items) }
     ensures one { OnOk result (IsOneLine line.new.items) }
@@ -26,7 +26,7 @@ pub(crate) fn next_line<R: BufRead>(input: &mut R, line: &mut Vec<u8>) -> Result
     }
 }
 
-/// Whether nothing is left to read.
+/// Whether the text is at its end. Otherwise this reads a line.
 pub(crate) fn is_over<R: BufRead>(input: &mut R, line: &mut Vec<u8>) -> Result<bool, ReadFault>
     ensures { IfOk result (λ over. IsTrue over → IsAtEnd (R.remaining input.old)) }
 {

@@ -9,7 +9,7 @@ use crate::entry::Entry;
 use crate::number::value_of;
 use crate::pattern::{Comparison, Condition, Pattern, Way};
 use crate::port_pattern::PortPattern;
-use crate::words::{after_blank, parted};
+use crate::words::{after_blank, split_at_mark};
 use fb_types::{Name, Value};
 
 fn compares_truth(comparison: Comparison, found: bool, wanted: bool) -> bool
@@ -52,7 +52,7 @@ fn compares(comparison: Comparison, found: Value, wanted: Value) -> bool
 fn is_met_by(condition: &Condition, word: &[u8]) -> bool
     ensures { result ≡ spec.is_met_by condition.now word.now }
 {
-    let Some((name, value)) = parted(word, b'=') else {
+    let Some((name, value)) = split_at_mark(word, b'=') else {
         return false;
     };
     if name != condition.variable.as_bytes() {
@@ -69,7 +69,7 @@ fn is_met_by(condition: &Condition, word: &[u8]) -> bool
 fn is_named_by(condition: &Condition, word: &[u8]) -> bool
     ensures { result ≡ spec.is_named_by condition.now word.now }
 {
-    match parted(word, b'=') {
+    match split_at_mark(word, b'=') {
         Some((name, _)) => name == condition.variable.as_bytes(),
         None => false,
     }

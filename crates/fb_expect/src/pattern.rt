@@ -8,7 +8,7 @@ ghost use Rattle.fb_expect.specs.Written as spec;
 use crate::names::{is_name, is_path, is_port};
 use crate::number::value_of;
 use crate::port_pattern::PortPattern;
-use crate::words::{before, behind};
+use crate::words::{after_front, before};
 use fb_types::{Items, Name, Value};
 use std::alloc::{AllocError, Global};
 
@@ -128,22 +128,22 @@ fn at_comparison(word: &[u8]) -> Option<(&[u8], &[u8])>
 fn comparison_of(text: &[u8]) -> Option<(Comparison, &[u8])>
     ensures { option_map (λ p. (p.0, p.1.now)) result ≡ spec.comparison_of text.now }
 {
-    if let Some(rest) = behind(text, b"<>") {
+    if let Some(rest) = after_front(text, b"<>") {
         return Some((Comparison::Unequal, rest));
     }
-    if let Some(rest) = behind(text, b"<=") {
+    if let Some(rest) = after_front(text, b"<=") {
         return Some((Comparison::AtMost, rest));
     }
-    if let Some(rest) = behind(text, b"<") {
+    if let Some(rest) = after_front(text, b"<") {
         return Some((Comparison::Less, rest));
     }
-    if let Some(rest) = behind(text, b">=") {
+    if let Some(rest) = after_front(text, b">=") {
         return Some((Comparison::AtLeast, rest));
     }
-    if let Some(rest) = behind(text, b">") {
+    if let Some(rest) = after_front(text, b">") {
         return Some((Comparison::Greater, rest));
     }
-    Some((Comparison::Equal, behind(text, b"=")?))
+    Some((Comparison::Equal, after_front(text, b"=")?))
 }
 
 /// Whether a comparison asks for no order.

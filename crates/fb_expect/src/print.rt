@@ -1,9 +1,9 @@
-//! Prints of texts: numbers by which most texts are distinguished without reading their bytes.
+//! Fingerprints: numbers that distinguish most texts without a comparison of their bytes.
 
 ghost use Rattle.std.specs.Prelude.{◌≡◌};
 ghost use Rattle.fb_expect.specs.Prints.{print};
 
-/// The print of a text. Texts with two prints are two texts.
+/// The fingerprint of a text. Texts with different fingerprints are different.
 pub(crate) fn print_of(text: &[u8]) -> u64
     ensures { result ≡ print text.now }
 {

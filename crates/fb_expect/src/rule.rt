@@ -1,20 +1,20 @@
-//! What is asked of a trace.
+//! Rules: what a trace must satisfy.
 
 use crate::pattern::Pattern;
 use fb_types::Items;
 
-/// What a rule asks for. P is the first pattern of its rule, Q the second and R the third. Ticks are milliseconds.
+/// What a rule demands. P is the first pattern of its rule, Q the second and R the third. Ticks are milliseconds.
 #[derive(Clone, Copy)]
 pub enum Need {
-    /// Each P is followed by a Q at most this many ticks later.
+    /// Each P is followed by a Q at most `within` ticks later.
     See {
         within: u64,
     },
-    /// No P is followed by a Q at most this many ticks later.
+    /// No P is followed by a Q at most `within` ticks later.
     Not {
         within: u64,
     },
-    /// Each P has a Q at most this many ticks before it.
+    /// Each P has a Q at most `within` ticks before it.
     Before {
         within: u64,
     },
@@ -22,7 +22,7 @@ pub enum Need {
     Never {
         from_start: bool,
     },
-    /// This many P in the whole trace, or in each window of this many ticks.
+    /// At least `least` and at most `most` P in the whole trace, or in each window of `every` ticks.
     Count {
         least: u64,
         most: Option<u64>,
@@ -30,10 +30,10 @@ pub enum Need {
     },
 }
 
-/// A rule: what it asks for, of lines that meet its patterns.
+/// A rule: what it demands of the lines that match its patterns.
 #[derive(Drop)]
 pub struct Rule {
-    /// What it is called, in UTF-8.
+    /// Its name, in UTF-8.
     pub name: Items<u8>,
     pub need: Need,
     pub first: Pattern,

@@ -79,30 +79,30 @@ fn numbered(alloc: Global, key: &[u8], value: u64) -> Result<Vec<u8>, AllocError
     join(alloc, &[b"  ", key, b": ", digits.as_bytes(), b"\n"])
 }
 
-/// What is said of a fault.
+/// The message of a fault.
 fn message_of(fault: Fault) -> &'static [u8]
     ensures { result.now ≡ spec.message_of fault }
 {
     match fault {
-        Fault::Unanswered => b"nothing that is to be seen follows in time",
+        Fault::Unanswered => b"the expected event does not follow in time",
         Fault::Answered => b"this follows too soon",
-        Fault::Unprepared => b"nothing that is to be seen comes in time before",
-        Fault::Forbidden => b"this may not be here",
-        Fault::Fewer => b"too few up to here",
+        Fault::Unprepared => b"the expected event does not come before in time",
+        Fault::Forbidden => b"this event is not allowed here",
+        Fault::Fewer => b"too few events up to this line",
         Fault::More => b"too many with this",
     }
 }
 
-/// Which trace a point is of.
+/// The trace that a point is about.
 #[derive(Clone, Copy)]
 pub struct Of<'a> {
     /// The name of its file.
     pub trace: &'a str,
-    /// Whether points have its name, as they do where there are several traces.
+    /// Whether points show its name. They do if there are several traces.
     pub is_named: bool,
 }
 
-/// The name of the trace, where points have it.
+/// The name of the trace, if points show it.
 #[tactic(auto, unfolding(crate::specs::Reports::trace_mark))]
 fn trace_mark(alloc: Global, of: Of<'_>) -> Result<Vec<u8>, AllocError>
     ensures { IfOk result (λ t. t.items ≡ spec.trace_mark of.entry) }
@@ -114,7 +114,7 @@ fn trace_mark(alloc: Global, of: Of<'_>) -> Result<Vec<u8>, AllocError>
     join(alloc, &[b" (", trace.as_slice(), b")"])
 }
 
-/// What a point begins with.
+/// The first word of a point.
 fn first_word(is_well: bool) -> &'static [u8]
     ensures { result.now ≡ spec.first_word is_well }
 {
@@ -294,7 +294,7 @@ fn point(
     )
 }
 
-/// The beginning of a report: the version, and how many points follow.
+/// The beginning of a report: the version and the count of points.
 #[tactic(auto, unfolding(crate::specs::Reports::plan))]
 pub fn plan(alloc: Global, count: u128) -> Result<Vec<u8>, AllocError>
     ensures { IfOk result (λ t. t.items ≡ spec.plan count) }
@@ -303,8 +303,8 @@ pub fn plan(alloc: Global, count: u128) -> Result<Vec<u8>, AllocError>
     join(alloc, &[b"TAP version 14\n1..", digits.as_bytes(), b"\n"])
 }
 
-/// Puts the points of all rules at a trace after a text, numbered after those of other traces. There is what came of
-/// each rule.
+/// Appends the points of all rules at a trace to a text, numbered after those of other traces. `judged` has the result
+/// of each rule.
 pub fn put_points(
     alloc: Global,
     text: &mut Vec<u8>,

@@ -1,4 +1,4 @@
-//! What is known of a rule when a part of the trace was read.
+//! The state of a rule after a part of the trace.
 
 ghost use Rattle.std.specs.Prelude.{◌≡◌, ◌+◌, ◌<◌, ◌↔◌, ◌&&◌, ◌||◌, [], IsTrue, MatchOption, not};
 ghost use Rattle.fb_expect.specs.Rules as spec;
@@ -16,10 +16,10 @@ pub struct Mark {
     pub tick: u64,
 }
 
-/// What is known of a rule when a part of the trace was read. P is its first pattern, Q the second and R the third.
+/// The state of a rule after a part of the trace. P is its first pattern, Q the second and R the third.
 #[derive(Clone, Copy)]
 pub enum Watch {
-    /// The first P that no Q followed yet, where there is one. A Q that comes in time for it does for all after it.
+    /// The first P that no Q has followed yet, if there is one. A Q in time for it is in time for all later ones.
     See(Option<Mark>),
     /// The tick of the last P.
     Not(Option<u64>),
@@ -27,13 +27,13 @@ pub enum Watch {
     Before(Option<u64>),
     /// Whether the next line is after a Q, or the beginning, with no R since.
     Never(bool),
-    /// The window of the last line, and how many P are in it.
+    /// The window of the last line, and the count of P in it.
     Count { window: u64, count: u64 },
-    /// It breaks.
+    /// The rule is broken.
     Broken(Breach),
 }
 
-/// What is known before the first line.
+/// The state before the first line.
 pub(crate) fn begin(need: Need) -> Watch
     ensures { Knows need [] result }
 {
@@ -49,14 +49,14 @@ pub(crate) fn begin(need: Need) -> Watch
     }
 }
 
-/// Whether a tick is more than this many ticks after another.
+/// Whether a tick is more than `within` ticks after another.
 pub(crate) fn is_past(from: u64, within: u64, tick: u64) -> bool
     ensures { IsTrue result ↔ (from + within < tick) }
 {
     u128::from(from) + u128::from(within) < u128::from(tick)
 }
 
-/// The same, where there is a tick to count from.
+/// The same, if there is a tick to count from; true without one.
 fn is_long_past(from: Option<u64>, within: u64, tick: u64) -> bool
     ensures { IsTrue result ↔ IsPast from within tick }
 {
@@ -72,7 +72,7 @@ fn broken(line: u64, tick: u64, fault: Fault) -> Watch
     Watch::Broken(Breach { line, tick, fault })
 }
 
-/// What waits after a line, where this waited before it.
+/// What waits after a line, if `mark` waited before it.
 fn waiting(mark: Option<Mark>, line: u64, hit: Hit) -> Option<Mark>
     ensures { WaitsNext mark line hit result }
 {
@@ -100,7 +100,7 @@ fn fresh(line: u64, hit: Hit) -> Option<Mark>
     }
 }
 
-/// What waited, where it is too late for it at a tick.
+/// What waited, if at a tick it is too late for it.
 fn missed(mark: Option<Mark>, within: u64, tick: u64) -> Option<Mark>
     ensures { MatchOption result (InTime within mark tick) (λ m. (mark ≡ Some m) × (m.tick + within < tick)) }
 {
@@ -185,7 +185,7 @@ pub(crate) fn window_of(every: Option<u64>, tick: u64) -> u64
     }
 }
 
-/// Whether a window before that of this number has too few P, where the last with a line is `window` and has this many.
+/// Whether a window before `next` has too few P. `window` is the last one with a line, and `count` is its count of P.
 pub(crate) fn lacks(least: u64, window: u64, count: u64, next: u64) -> bool
     ensures { IsTrue result ↔ Lacks least window count next }
 {
@@ -204,8 +204,8 @@ fn is_over(most: Option<u64>, count: u64) -> bool
     }
 }
 
-/// What is known of counts with one more line, where windows before its own have enough. This many P of its own are
-/// before it.
+/// The state of a count after one more line, if the windows before its own have enough. `before` is the count of P in its
+/// window before it.
 fn count_on(most: Option<u64>, window: u64, before: u64, line: u64, hit: Hit) -> Watch
     ensures { CountsOn most window before line hit result }
 {
@@ -288,7 +288,7 @@ fn step_count(bounds: Bounds, watch: Watch, line: u64, hit: Hit) -> Watch
     }
 }
 
-/// What is known with one more line, of this number.
+/// The state after one more line, which has this number.
 pub(crate) fn step(need: Need, watch: Watch, line: u64, hit: Hit) -> Watch
     ensures { Steps need watch line hit result }
 {

@@ -22,9 +22,9 @@ pub(crate) fn cut(text: &[u8]) -> Option<(&[u8], &[u8])>
 }
 
 /// What comes after a front.
-pub(crate) fn behind<'a>(text: &'a [u8], front: &[u8]) -> Option<&'a [u8]>
+pub(crate) fn after_front<'a>(text: &'a [u8], front: &[u8]) -> Option<&'a [u8]>
     ensures parts { IfSome result (λ rest. text.now ≡ front.now ++ rest.now) }
-    ensures exact { option_map (λ rest. rest.now) result ≡ spec.behind front.now text.now }
+    ensures exact { option_map (λ rest. rest.now) result ≡ spec.after_front front.now text.now }
 {
     text.strip_prefix(front)
 }
@@ -50,9 +50,9 @@ pub(crate) fn after_blank(text: &[u8]) -> Option<&[u8]>
 }
 
 /// What comes before the first place of a mark, and what comes after it.
-#[tactic(auto, unfolding(crate::specs::Words::parted))]
-pub(crate) fn parted(text: &[u8], mark: u8) -> Option<(&[u8], &[u8])>
-    ensures { option_map (λ p. (p.0.now, p.1.now)) result ≡ spec.parted mark text.now }
+#[tactic(auto, unfolding(crate::specs::Words::split_at_mark))]
+pub(crate) fn split_at_mark(text: &[u8], mark: u8) -> Option<(&[u8], &[u8])>
+    ensures { option_map (λ p. (p.0.now, p.1.now)) result ≡ spec.split_at_mark mark text.now }
 {
     for at in 0..text.len() {
         if text[at] == mark {

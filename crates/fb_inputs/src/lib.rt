@@ -27,3 +27,4 @@ pub use deployment::{deployment_location, locate_deploy, read_deploy};
 pub use error::InputError;
 pub use location::{RowFault, StimuliFault, StimuliLocation};
 pub use stimuli::{locate_stimuli, read_stimuli, records_of, stimuli_location};
+pub use text::name;

@@ -176,7 +176,12 @@ impl Taking<'_> {
     }
 
     /// Writes the line of an event that was taken at an event input of a basic block, and emits what its reaction emits.
-    fn tell(&mut self, at: Target, values: Values, emits: &mut Emits) -> Result<(), AllocError>
+    fn write_and_emit(
+        &mut self,
+        at: Target,
+        values: Values,
+        emits: &mut Emits,
+    ) -> Result<(), AllocError>
         requires index { MayArrive self.old at }
         requires input { at.is_output ≡ false }
         requires counted { length values ≡ length (names_in (system_in self.old) at) }
@@ -228,7 +233,7 @@ impl Taking<'_> {
             meter,
             emits,
         );
-        self.tell(at, values, emits)?;
+        self.write_and_emit(at, values, emits)?;
         end
     }
 

@@ -88,7 +88,7 @@ fn basic_of(
 
 /// The block of an instance. Where it is a composite, the components are inside it; for others there are none. The
 /// charts are those of the types of the basic blocks that were made before.
-pub(crate) fn block_of(
+pub fn block_of(
     alloc: Global,
     system: &System,
     instance: u32,

@@ -13,7 +13,7 @@ use std::alloc::{AllocError, Global};
 use std::collections::BTreeMap;
 
 /// The charts that were made so far, by the indexes of their types in the library.
-pub(crate) type Charts = BTreeMap<usize, SharedChart, Global>;
+pub type Charts = BTreeMap<usize, SharedChart, Global>;
 
 /// The chart of the type at an index of the library. It is made with the first block of the type, and shared by all.
 pub(crate) fn chart_at(

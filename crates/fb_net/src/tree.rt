@@ -101,7 +101,8 @@ impl Tree {
     /// };
     /// let mut meter = Meter { left: 100 };
     /// assert!(rt; system.count() == 1 && system.resource(0) == 0);
-    /// tree.take(&system, Arrival::Timer(0), 0, &mut meter, &mut outbox).expect(&rt, "taken");
+    /// tree.take(&system, Arrival::Timer(0), 0, &mut meter, &mut outbox)
+    ///     .expect(&rt, "taken");
     /// assert!(rt; outbox.lines.len() == 1 && outbox.outs.is_empty());
     /// forget((tree, outbox));
     /// discard_system(system);

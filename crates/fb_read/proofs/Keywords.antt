@@ -1,8 +1,17 @@
 -- One table of all keywords.
-use Rattle.std.proofs.Common.{◌≡◌, Bool, true, false, cond, [], ◌∷◌, ◌++◌, Some, refl, ap, ◌∙◌}
+use Rattle.std.proofs.Common.{◌≡◌, Bool, true, false, cond, [], ◌∷◌, ◌++◌, length, Some, refl, ap, ◌∙◌}
+use Rattle.std.proofs.lemmas.Slice.Eq.{bytes_eq-Decides}
 use Rattle.std.specs.Str.{bytes_eq}
 use Rattle.fb_read.specs.Blank.{Text}
 use Rattle.fb_read.specs.Words.{Table, look_up, or_else, block_words, section_words, type_words, statement_words, loop_words, operator_words, keyword}
+
+-- texts of different lengths
+pub differing : (a b : Text) → ¬ (length a ≡ length b) → bytes_eq a b ≡ false
+differing a b apart = go (bytes_eq a b) refl
+  where
+    go : (t : Bool) → bytes_eq a b ≡ t → t ≡ false
+    go true e = absurd (apart (ap length ((bytes_eq-Decides a b).0 e)))
+    go false e = refl
 
 look_up-append : (a b : Table) (w : Text) → look_up (a ++ b) w ≡ or_else (look_up a w) (look_up b w)
 look_up-append [] b w = refl

@@ -2,7 +2,7 @@
 use Rattle.std.proofs.Common.{◌≡◌, ℕ, zero, suc, ◌+◌, ◌-◌, ◌<◌, ◌≤◌, List, [], ◌∷◌, length, get_or, drop, take, Ok, Err, refl, sym, ap, subst, ◌∙◌, inl, inr, arith}
 use Rattle.std.proofs.lemmas.List.{drop_all, length-drop, take_all}
 use Rattle.std.proofs.lemmas.Bool.{cases_lt}
-use Rattle.fb_read.specs.declared.token.Placed.{Placed}
+use Rattle.fb_read.specs.declared.token.Located.{Located}
 use Rattle.fb_read.specs.declared.token.Token.{Token}
 use Rattle.fb_read.specs.declared.refused.ReadFault.{ReadFault}
 use Rattle.fb_read.specs.declared.refused.TextFault.{TextFault}
@@ -13,27 +13,27 @@ use Rattle.fb_read.specs.Refusals.{IsAtNext, refused_at}
 use Rattle.fb_read.proofs.TokenLaws.{front_empty}
 
 -- the tokens that are left are those of an end of the text
-pub located-drop : (text : Text) (k : ℕ) (ps : List Placed) (z : Text) → AreLocated text ps z → IsLocatedEnd text (drop k ps)
+pub located-drop : (text : Text) (k : ℕ) (ps : List Located) (z : Text) → AreLocated text ps z → IsLocatedEnd text (drop k ps)
 located-drop text zero ps z a = record { rest = z; located = a }
 located-drop text (suc k) [] z a = record { rest = z; located = a }
 located-drop text (suc k) (p ∷ ps) z (then_token {rest = rest} h e d l a) = located-drop text k ps rest a
 
 -- the first token of an end
-pub record Begins (text : Text) (p : Placed) : Type 0 where
+pub record Begins (text : Text) (p : Located) : Type 0 where
   pub len : ℕ
   pub token : front (drop p.index text) ≡ Ok (p.token, len)
 
-pub begins : (text : Text) (p : Placed) (ps : List Placed) → IsLocatedEnd text (p ∷ ps) → Begins text p
+pub begins : (text : Text) (p : Located) (ps : List Located) → IsLocatedEnd text (p ∷ ps) → Begins text p
 begins text p ps e = go e.rest e.located
   where
     go : (z : Text) → AreLocated text (p ∷ ps) z → Begins text p
     go z (then_token {n = n} h e d l a) = record { len = n; token = ap (λ (y : Text). front y) l ∙ e }
 
-not_both : (o : Found) → o ≡ Err bad_byte → (p : Placed) (n : ℕ) → o ≡ Ok (p.token, n) → ⊥
+not_both : (o : Found) → o ≡ Err bad_byte → (p : Located) (n : ℕ) → o ≡ Ok (p.token, n) → ⊥
 not_both o h p n e = cc
 
 -- it begins in the text
-pub begins-within : (text : Text) (p : Placed) → Begins text p → length text ≤ p.index → ⊥
+pub begins-within : (text : Text) (p : Located) → Begins text p → length text ≤ p.index → ⊥
 begins-within text p b le = not_both (front (drop p.index text)) (ap (λ (y : Text). front y) (drop_all p.index text le) ∙ front_empty) p b.len b.token
 
 abbrev found : Token × ℕ → Found
@@ -45,11 +45,11 @@ same-found p q e = cc
 same-length : (o : Found) (t u : Token) (m n : ℕ) → o ≡ Ok (t, m) → o ≡ Ok (u, n) → m ≡ n
 same-length o t u m n h k = ap (λ (p : Token × ℕ). p.1) (same-found (t, m) (u, n) (sym h ∙ k))
 
-pub begins-before : (text : Text) (p : Placed) → Begins text p → p.index < length text
+pub begins-before : (text : Text) (p : Located) → Begins text p → p.index < length text
 begins-before text p b = elim (cases_lt p.index (length text)) [ inl lt ↦ lt | inr le ↦ absurd (begins-within text p b le) ]
 
 -- the refusal at the first of the tokens that are left
-at-first : (text : Text) (p : Placed) (ps : List Placed) (t : Token) (len : ℕ) (why : TextFault) → IsLocatedEnd text (p ∷ ps) → front (drop p.index text) ≡ Ok (t, len) → 0 < len
+at-first : (text : Text) (p : Located) (ps : List Located) (t : Token) (len : ℕ) (why : TextFault) → IsLocatedEnd text (p ∷ ps) → front (drop p.index text) ≡ Ok (t, len) → 0 < len
     → len ≤ length (drop p.index text) → IsAtNext text (p ∷ ps) why (refused_at why p.index (p.index + len))
 at-first text p ps t len why e h some fits =
     let b = begins text p ps e in
@@ -67,37 +67,37 @@ rest_at n text = take (length text - n) (drop n text)
 rest-whole : (n : ℕ) (text : Text) → rest_at n text ≡ drop n text
 rest-whole n text = take_all (length text - n) (drop n text) (omega (arith, length-drop n text))
 
-pub first-before : (text : Text) (left : List Placed) (p d : Placed) → IsLocatedEnd text left → 1 ≤ length left → p ≡ get_or left 0 d → p.index < length text
+pub first-before : (text : Text) (left : List Located) (p d : Located) → IsLocatedEnd text left → 1 ≤ length left → p ≡ get_or left 0 d → p.index < length text
 first-before text [] p d e some same = absurd (omega arith)
 first-before text (q ∷ qs) p d e some same =
     let is : p ≡ q = same in
-    subst (λ (x : Placed). x.index < length text) (sym is) (begins-before text q (begins text q qs e))
+    subst (λ (x : Located). x.index < length text) (sym is) (begins-before text q (begins text q qs e))
 
-pub at-front : (text : Text) (left : List Placed) (p d : Placed) (t : Token) (len : ℕ) (why : TextFault) → IsLocatedEnd text left → 1 ≤ length left → p ≡ get_or left 0 d
+pub at-front : (text : Text) (left : List Located) (p d : Located) (t : Token) (len : ℕ) (why : TextFault) → IsLocatedEnd text left → 1 ≤ length left → p ≡ get_or left 0 d
     → front (rest_at p.index text) ≡ Ok (t, len) → 0 < len → len ≤ length (rest_at p.index text) → IsAtNext text left why (refused_at why p.index (p.index + len))
 at-front text [] p d t len why e some same h positive fits = absurd (omega arith)
 at-front text (q ∷ qs) p d t len why e some same h positive fits =
     let is : p ≡ q = same in
     let whole = rest-whole q.index text in
-    subst (λ (x : Placed). IsAtNext text (q ∷ qs) why (refused_at why x.index (x.index + len))) (sym is)
+    subst (λ (x : Located). IsAtNext text (q ∷ qs) why (refused_at why x.index (x.index + len))) (sym is)
     (at-first text q qs t len why e
-    (ap (λ (y : Text). front y) (sym whole) ∙ subst (λ (x : Placed). front (rest_at x.index text) ≡ Ok (t, len)) is h)
+    (ap (λ (y : Text). front y) (sym whole) ∙ subst (λ (x : Located). front (rest_at x.index text) ≡ Ok (t, len)) is h)
     positive
-    (subst (λ (y : Text). len ≤ length y) whole (subst (λ (x : Placed). len ≤ length (rest_at x.index text)) is fits)))
+    (subst (λ (y : Text). len ≤ length y) whole (subst (λ (x : Located). len ≤ length (rest_at x.index text)) is fits)))
 
-pub at-end : (text : Text) (left : List Placed) (why : TextFault) → length left < 1 → IsAtNext text left why (refused_at why (length text) (length text))
+pub at-end : (text : Text) (left : List Located) (why : TextFault) → length left < 1 → IsAtNext text left why (refused_at why (length text) (length text))
 at-end text [] why none = (refl, (refl, refl))
 at-end text (p ∷ ps) why none = absurd (omega arith)
 
-abbrev left_at : ℕ → List Placed → List Placed
+abbrev left_at : ℕ → List Located → List Located
 left_at n ps = take (length ps - n) (drop n ps)
 
-left-whole : (n : ℕ) (ps : List Placed) → left_at n ps ≡ drop n ps
+left-whole : (n : ℕ) (ps : List Located) → left_at n ps ≡ drop n ps
 left-whole n ps = take_all (length ps - n) (drop n ps) (omega (arith, length-drop n ps))
 
-pub located-left : (text : Text) (k : ℕ) (ps : List Placed) (z : Text) → AreLocated text ps z → IsLocatedEnd text (left_at k ps)
-located-left text k ps z a = subst (λ (qs : List Placed). IsLocatedEnd text qs) (sym (left-whole k ps)) (located-drop text k ps z a)
+pub located-left : (text : Text) (k : ℕ) (ps : List Located) (z : Text) → AreLocated text ps z → IsLocatedEnd text (left_at k ps)
+located-left text k ps z a = subst (λ (qs : List Located). IsLocatedEnd text qs) (sym (left-whole k ps)) (located-drop text k ps z a)
 
-pub at-left : (text : Text) (ps : List Placed) (k j : ℕ) (why : TextFault) (e : ReadFault) → k ≡ j → IsAtNext text (left_at k ps) why e → IsAtNext text (drop j ps) why e
+pub at-left : (text : Text) (ps : List Located) (k j : ℕ) (why : TextFault) (e : ReadFault) → k ≡ j → IsAtNext text (left_at k ps) why e → IsAtNext text (drop j ps) why e
 at-left text ps k j why e same h =
-    subst (λ (n : ℕ). IsAtNext text (drop n ps) why e) same (subst (λ (qs : List Placed). IsAtNext text qs why e) (left-whole k ps) h)
+    subst (λ (n : ℕ). IsAtNext text (drop n ps) why e) same (subst (λ (qs : List Located). IsAtNext text qs why e) (left-whole k ps) h)

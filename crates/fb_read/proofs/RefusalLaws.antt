@@ -2,7 +2,7 @@
 use Rattle.std.proofs.Common.{◌≡◌, ℕ, ◌-◌, ◌≤◌, List, [], ◌∷◌, length, drop, Ok, Err, refl, sym, ap, subst, ◌∙◌}
 use Rattle.std.proofs.lemmas.List.{nil_from_length}
 use Rattle.fb_types.specs.declared.library.Library.{Library}
-use Rattle.fb_read.specs.declared.token.Placed.{Placed}
+use Rattle.fb_read.specs.declared.token.Located.{Located}
 use Rattle.fb_read.specs.declared.refused.ReadFault.{ReadFault}
 use Rattle.fb_read.specs.declared.refused.ReadFault.TheVariants as fault
 use Rattle.fb_read.specs.declared.refused.TextFault.{TextFault}
@@ -18,7 +18,7 @@ use Rattle.fb_read.proofs.TokenLaws.{tokens-located}
 use Rattle.fb_read.proofs.WholeLaws.{parsed-derived, parsed-fits}
 use Rattle.fb_read.proofs.StopLaws.{stops}
 
-module _ (text : Text) (ps : List Placed) (short : length text ≤ most_bytes) (a : AreLocated text ps (after_mark text)) where
+module _ (text : Text) (ps : List Located) (short : length text ≤ most_bytes) (a : AreLocated text ps (after_mark text)) where
   pub whole-declared : (x : Library) (left : Tokens) → library (tokens_of ps) ≡ Ok (x, left) → length left ≡ 0 → IsLibraryText text x
   whole-declared x left h none =
       let e : ended (library (tokens_of ps)) ≡ Ok x = ap ended h ∙ ap (λ (l : Tokens). ended (Ok (x, l))) (nil_from_length left none) in

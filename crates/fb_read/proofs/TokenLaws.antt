@@ -1,7 +1,7 @@
 -- A text is read a token at a time.
 use Rattle.std.proofs.Common.{◌≡◌, ℕ, ◌+◌, ◌-◌, ◌<◌, ◌≤◌, List, [], ◌∷◌, ◌++◌, length, drop, Some, None, Ok, Err, refl, sym, subst, ap, ◌∙◌, append_assoc, append-nil, arith}
 use Rattle.std.proofs.lemmas.List.{drop-drop, get_or-drop, length-drop, nil_from_length}
-use Rattle.fb_read.specs.declared.token.Placed.{Placed}
+use Rattle.fb_read.specs.declared.token.Located.{Located}
 use Rattle.fb_read.specs.declared.front.LexFault.{LexFault}
 use Rattle.fb_read.specs.declared.front.LexFault.TheVariants as fault
 use Rattle.fb_read.specs.declared.refused.ReadFault.{ReadFault}
@@ -21,31 +21,31 @@ unfolding front
 front_empty = refl
 
 -- what is still to be read of a text of which these tokens were found
-pub record Reading (found : List Placed) (text rest : Text) : Type 0 where
-  pub goes_on : (ps : List Placed) → AreLocated text ps rest → AreLocated text (found ++ ps) (after_mark text)
+pub record Reading (found : List Located) (text rest : Text) : Type 0 where
+  pub goes_on : (ps : List Located) → AreLocated text ps rest → AreLocated text (found ++ ps) (after_mark text)
   pub first : (f : TokenFault) (k : ℕ) → IsFirstFaultAt f text k rest → IsFirstFaultAt f text k (after_mark text)
 
-pub begun : (found : List Placed) (text rest : Text) → found ≡ [] → rest ≡ after_mark text → Reading found text rest
+pub begun : (found : List Located) (text rest : Text) → found ≡ [] → rest ≡ after_mark text → Reading found text rest
 begun found text rest none same = rw (none, same) (record { goes_on = λ ps a. a; first = λ f k l. l })
 
-pub ended : (found : List Placed) (text rest here : Text) → Reading found text rest → skip start rest ≡ Some here → length here ≡ 0 → AreLocated text found (after_mark text)
+pub ended : (found : List Located) (text rest here : Text) → Reading found text rest → skip start rest ≡ Some here → length here ≡ 0 → AreLocated text found (after_mark text)
 ended found text rest here r h none = let e = nil_from_length here none in ended_at (rw e at h)
   where
     ended_at : skip start rest ≡ Some [] → AreLocated text found (after_mark text)
-    ended_at h = subst (λ (ps : List Placed). AreLocated text ps (after_mark text)) (append-nil found) (r.goes_on [] (located.no_more h))
+    ended_at h = subst (λ (ps : List Located). AreLocated text ps (after_mark text)) (append-nil found) (r.goes_on [] (located.no_more h))
 
-one_more_token : (found : List Placed) (p : Placed) (text rest here : Text) (n : ℕ) → Reading found text rest → skip start rest ≡ Some here → front here ≡ Ok (p.token, n)
+one_more_token : (found : List Located) (p : Located) (text rest here : Text) (n : ℕ) → Reading found text rest → skip start rest ≡ Some here → front here ≡ Ok (p.token, n)
     → drop p.index text ≡ here → Reading (found ++ p ∷ []) text (drop n here)
 one_more_token found p text rest here n r h e d = record {
-  goes_on = λ ps a. subst (λ (qs : List Placed). AreLocated text qs (after_mark text)) (sym (append_assoc found (p ∷ []) ps)) (r.goes_on (p ∷ ps) (located.then_token h e refl d a));
+  goes_on = λ ps a. subst (λ (qs : List Located). AreLocated text qs (after_mark text)) (sym (append_assoc found (p ∷ []) ps)) (r.goes_on (p ∷ ps) (located.then_token h e refl d a));
   first = λ f k l. r.first f k (located.is_later h e refl l);
 }
 
-pub one_more : (found next : List Placed) (p : Placed) (text rest here behind : Text) (n : ℕ) → next ≡ found ++ p ∷ [] → behind ≡ drop n here
+pub one_more : (found next : List Located) (p : Located) (text rest here behind : Text) (n : ℕ) → next ≡ found ++ p ∷ [] → behind ≡ drop n here
     → Reading found text rest → skip start rest ≡ Some here → front here ≡ Ok (p.token, n) → drop p.index text ≡ here → Reading next text behind
 one_more found next p text rest here behind n more moved r h e d = rw (more, moved) (one_more_token found p text rest here n r h e d)
 
-pub unclosed : (found : List Placed) (text rest : Text) (e : ReadFault) → length text ≤ most_bytes → Reading found text rest → skip start rest ≡ None → IsUnclosed text rest e → IsRefused text e
+pub unclosed : (found : List Located) (text rest : Text) (e : ReadFault) → length text ≤ most_bytes → Reading found text rest → skip start rest ≡ None → IsUnclosed text rest e → IsRefused text e
 unclosed found text rest e short r h w = rw w.is (record {
   short = short;
   first = r.first bad_token w.index (located.open_comment refl h w.there w.none w.inside);
@@ -53,7 +53,7 @@ unclosed found text rest e short r h w = rw w.is (record {
   within = omega arith;
 })
 
-pub faulty : (found : List Placed) (text rest here : Text) (k : ℕ) (o : ReadFault) → length text ≤ most_bytes → Reading found text rest → skip start rest ≡ Some here
+pub faulty : (found : List Located) (text rest here : Text) (k : ℕ) (o : ReadFault) → length text ≤ most_bytes → Reading found text rest → skip start rest ≡ Some here
     → 0 < length here → drop k text ≡ here → k < length text → IsFoundAt text k (front here) o → IsRefused text o
 faulty found text rest [] k o short r h some d lt w = absurd (omega arith)
 faulty found text rest (b ∷ here) k o short r h some d lt w = go w.0 w.1 w.2
@@ -92,7 +92,7 @@ unclosed-in text rest k e w lt there none is =
 
 -- ---- without offsets
 
-pub tokens-located : {text : Text} {ps : List Placed} {z : Text} → AreLocated text ps z → AreTokens (tokens_of ps) z
+pub tokens-located : {text : Text} {ps : List Located} {z : Text} → AreLocated text ps z → AreTokens (tokens_of ps) z
 tokens-located (located.no_more h) = no_more h
 tokens-located (located.then_token h e d l a) = then_token h e d (tokens-located a)
 

@@ -1,7 +1,7 @@
 -- The tokens of a text with the offsets at which they begin, and the first fault with its offset (this project's own).
 use Rattle.std.specs.Prelude.{◌≡◌, ◌≤◌, ℕ, List, [], ◌∷◌, ◌++◌, drop, length, Some, None, Ok, Err}
 use Rattle.fb_read.specs.declared.token.Token.{Token}
-use Rattle.fb_read.specs.declared.token.Placed.{Placed}
+use Rattle.fb_read.specs.declared.token.Located.{Located}
 use Rattle.fb_read.specs.declared.blank.Position.{Position}
 use Rattle.fb_read.specs.declared.blank.Position.TheVariants.{Between, Opening, Inside, Closing, Line}
 use Rattle.fb_read.specs.Blank.{Text, at, skip, start}
@@ -13,9 +13,9 @@ pub record IsEnd (end text : Text) : Type 0 where
   pub joined : before ++ end ≡ text
 
 -- the tokens of an end of the text, each with its offset in the text
-pub data AreLocated (text : Text) : List Placed → Text → Type 0 where
+pub data AreLocated (text : Text) : List Located → Text → Type 0 where
   no_more : {z : Text} → skip start z ≡ Some [] → AreLocated text [] z
-  then_token : {p : Placed} {n : ℕ} {ps : List Placed} {z here rest : Text} → skip start z ≡ Some here → front here ≡ Ok (p.token, n) → drop n here ≡ rest
+  then_token : {p : Located} {n : ℕ} {ps : List Located} {z here rest : Text} → skip start z ≡ Some here → front here ≡ Ok (p.token, n) → drop n here ≡ rest
       → drop p.index text ≡ here → AreLocated text ps rest → AreLocated text (p ∷ ps) z
 
 -- The first fault of an end of the text is at this offset of the text. A comment that is not closed is at fault where it
@@ -28,7 +28,7 @@ pub data IsFirstFaultAt (f : TokenFault) (text : Text) (offset : ℕ) : Text →
       → IsFirstFaultAt f text offset z
 
 -- the tokens are those of some end of the text
-pub record IsLocatedEnd (text : Text) (ps : List Placed) : Type 0 where
+pub record IsLocatedEnd (text : Text) (ps : List Located) : Type 0 where
   pub rest : Text
   pub located : AreLocated text ps rest
 

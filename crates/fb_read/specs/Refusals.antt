@@ -1,6 +1,6 @@
 -- Where a declaration text is refused (this project's own).
 use Rattle.std.specs.Prelude.{◌≡◌, ◌<◌, ◌≤◌, ◌==◌, ℕ, suc, ◌+◌, ◌-◌, List, [], ◌∷◌, length, drop, take, count_by, None, Ok, Err}
-use Rattle.fb_read.specs.declared.token.Placed.{Placed}
+use Rattle.fb_read.specs.declared.token.Located.{Located}
 use Rattle.fb_read.specs.declared.token.Token.{Token}
 use Rattle.fb_read.specs.declared.error.ReadError.{ReadError}
 use Rattle.fb_read.specs.declared.error.ReadError.TheVariants as error
@@ -44,7 +44,7 @@ abbrev pub IsTokenLen : Text → ℕ → Type 0
 IsTokenLen z n = (t : Token) × (front z ≡ Ok (t, n)) × (0 < n) × (n ≤ length z)
 
 -- The first of these last tokens of the text is there. The end of the text is there if there is none.
-abbrev pub IsNext : List Placed → Text → ℕ → ℕ → Type 0
+abbrev pub IsNext : List Located → Text → ℕ → ℕ → Type 0
 IsNext [] text begin end = (begin ≡ length text) × (end ≡ length text)
 IsNext (p ∷ ps) text begin end = (begin ≡ p.index) × (front (drop begin text) ≡ Ok (p.token, end - begin)) × (begin < end) × (end ≤ length text)
 
@@ -52,7 +52,7 @@ IsNext (p ∷ ps) text begin end = (begin ≡ p.index) × (front (drop begin tex
 -- to it. At the end of the text, the tokens are those of no library.
 pub record IsSyntaxAt (text : Text) (begin end : ℕ) : Type 0 where
   pub short : length text ≤ most_bytes
-  pub placed : List Placed
+  pub placed : List Located
   pub located : AreLocated text placed (after_mark text)
   pub left : Tokens
   pub refused : ended (library (tokens_of placed)) ≡ Err (syntax left)
@@ -62,7 +62,7 @@ pub record IsSyntaxAt (text : Text) (begin end : ℕ) : Type 0 where
 -- The tokens of the text form no library because something nests too deep, and one of them is there.
 pub record IsNestingAt (text : Text) (begin end : ℕ) : Type 0 where
   pub short : length text ≤ most_bytes
-  pub placed : List Placed
+  pub placed : List Located
   pub located : AreLocated text placed (after_mark text)
   pub refused : ended (library (tokens_of placed)) ≡ Err too_deep
   pub index : ℕ
@@ -104,7 +104,7 @@ pub record IsUnclosed (text rest : Text) (e : ReadFault) : Type 0 where
   pub inside : length (drop index text) ≤ length rest
 
 -- the refusal is at the first of these tokens, or at the end of the text
-abbrev pub IsAtNext : Text → List Placed → TextFault → ReadFault → Type 0
+abbrev pub IsAtNext : Text → List Located → TextFault → ReadFault → Type 0
 IsAtNext text ps why fault.Memory = Unit {0}
 IsAtNext text ps why (fault.Refused r) = (r.fault ≡ why) × IsNext ps text r.start r.end
 

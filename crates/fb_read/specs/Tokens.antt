@@ -1,14 +1,14 @@
 -- The tokens of a text (this project's profile): at each offset the longest one, with blanks and comments between them.
 use Rattle.std.specs.Prelude.{◌≡◌, ℕ, ◌&&◌, if◌then◌else◌, ◌==◌, List, [], ◌∷◌, map, drop, Some, None, Ok, Err}
 use Rattle.fb_read.specs.declared.token.Token.{Token}
-use Rattle.fb_read.specs.declared.token.Placed.{Placed}
+use Rattle.fb_read.specs.declared.token.Located.{Located}
 use Rattle.fb_read.specs.Blank.{Text, at, skip, start}
 use Rattle.fb_read.specs.Front.{TokenFault, bad_token, front}
 
 abbrev pub Tokens : Type 0
 Tokens = List Token
 
-abbrev pub tokens_of : List Placed → Tokens
+abbrev pub tokens_of : List Located → Tokens
 tokens_of = map (λ p. p.token)
 
 -- what follows one leading byte order mark

@@ -11,7 +11,7 @@ use crate::expected::{Expected, Sought};
 use crate::fault::ParseFault;
 use crate::operator::operator_of;
 use crate::rule::Rule;
-use crate::token::{Magnitude, Mark, Placed, Token};
+use crate::token::{Located, Magnitude, Mark, Token};
 use fb_types::{BinaryOperator, Items, Name, Ty};
 use std::alloc::Global;
 use std::cell::Cell;
@@ -22,7 +22,7 @@ use std::marker::Model;
 #[derive(Drop)]
 pub struct Cursor<'a> {
     alloc: Global,
-    rest: &'a [Placed],
+    rest: &'a [Located],
     /// How many tokens are left at the token that is watched; `usize::MAX` if none is.
     watched: usize,
     /// What was looked for at that token and not found.
@@ -72,7 +72,7 @@ impl<'a> Cursor<'a> {
     ghost use Rattle.fb_read.specs.Tokens.{tokens_of};
 
     /// A cursor before these tokens. `alloc` is for what is read.
-    pub fn new(alloc: Global, rest: &'a [Placed]) -> Cursor<'a>
+    pub fn new(alloc: Global, rest: &'a [Located]) -> Cursor<'a>
         requires { length rest.now < 2 ^ 32 }
         ensures { result ≡ tokens_of rest.now }
     {
@@ -80,7 +80,7 @@ impl<'a> Cursor<'a> {
     }
 
     /// A cursor before these tokens that notes what is missed at the one before which `watched` tokens are left.
-    pub fn watching(alloc: Global, rest: &'a [Placed], watched: usize) -> Cursor<'a>
+    pub fn watching(alloc: Global, rest: &'a [Located], watched: usize) -> Cursor<'a>
         requires { length rest.now < 2 ^ 32 }
         ensures { result ≡ tokens_of rest.now }
     {

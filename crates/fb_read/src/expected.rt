@@ -9,7 +9,7 @@ use crate::fault::ParseFault;
 use crate::operator::operator_of;
 use crate::refused::ReadFault;
 use crate::rule::Rule;
-use crate::token::{Mark, Placed, Token};
+use crate::token::{Located, Mark, Token};
 use crate::tokens::lex;
 use fb_types::{Items, Library, MOST_BYTES};
 use std::alloc::{AllocError, Global};
@@ -272,7 +272,7 @@ struct Watched {
 }
 
 /// Reads the tokens and watches the one before which this number of tokens is left, itself included.
-fn watch(alloc: Global, tokens: &[Placed], left: usize) -> Result<Watched, AllocError>
+fn watch(alloc: Global, tokens: &[Located], left: usize) -> Result<Watched, AllocError>
     requires { length tokens.now < 2 ^ 32 }
 {
     let mut cursor = Cursor::watching(alloc, tokens, left);
@@ -288,7 +288,7 @@ fn watch(alloc: Global, tokens: &[Placed], left: usize) -> Result<Watched, Alloc
 }
 
 /// The tokens of a text that has some; none if it has a fault in them.
-fn tokens_of(alloc: Global, text: &[u8]) -> Result<Items<Placed>, AllocError>
+fn tokens_of(alloc: Global, text: &[u8]) -> Result<Items<Located>, AllocError>
     requires { length text.now ≤ most_bytes }
     ensures { IfOk result (λ found. length found ≤ most_bytes) }
 {
@@ -304,7 +304,7 @@ fn watch_behind(alloc: Global, text: &[u8], mark: Mark) -> Result<Watched, Alloc
     requires { length text.now ≤ most_bytes }
 {
     let mut tokens = tokens_of(alloc, text)?;
-    tokens.push(Placed {
+    tokens.push(Located {
         token: Token::Mark(mark),
         index: text.len(),
     })?;
@@ -324,7 +324,7 @@ fn expected_behind(alloc: Global, text: &[u8]) -> Result<Expected, AllocError>
 }
 
 /// The number of tokens that begin before this offset.
-fn tokens_before(tokens: &[Placed], start: usize) -> usize {
+fn tokens_before(tokens: &[Located], start: usize) -> usize {
     tokens.iter().filter(|token| token.index < start).count()
 }
 

@@ -1,6 +1,7 @@
 //! Keywords.
 
 ghost use Rattle.std.specs.Prelude.{◌≡◌, map};
+ghost use Rattle.std.specs.Str.{bytes_eq};
 ghost use Rattle.fb_read.specs.Words as spec;
 
 use crate::token::Mark;
@@ -68,12 +69,23 @@ static KEYWORDS: [(&[u8], Mark); 60] = [
     (b"MOD", Mark::Mod),
 ];
 
+/// Whether two words are the same. Most differ in their length, which is compared first.
+#[tactic(auto, using(crate::proofs::Keywords::differing))]
+fn is_same(a: &[u8], b: &[u8]) -> bool
+    ensures { result ≡ bytes_eq a.now b.now }
+{
+    if a.len() != b.len() {
+        return false;
+    }
+    a == b
+}
+
 /// The mark of the first entry with this word.
 fn look_up(mut table: &[(&[u8], Mark)], word: &[u8]) -> Option<Mark>
     ensures { result ≡ spec.look_up (map (λ k. (k.0.now, k.1)) table.entry.now) word.now }
 {
     while let [entry, rest @ ..] = table {
-        if word == entry.0 {
+        if is_same(word, entry.0) {
             return Some(entry.1);
         }
         table = rest;

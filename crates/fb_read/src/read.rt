@@ -14,7 +14,7 @@ use crate::fault::ParseFault;
 use crate::front::{LexFault, front};
 use crate::refused::{ReadFault, Refusal, TextFault};
 use crate::rule::Rule;
-use crate::token::Placed;
+use crate::token::Located;
 use crate::tokens::lex;
 use fb_types::{Library, MOST_BYTES};
 use std::alloc::Global;
@@ -29,7 +29,7 @@ fn token_len(alloc: Global, z: &[u8]) -> Result<usize, LexFault>
 }
 
 /// The refusal of the first of these tokens, which are the last ones of the text, or of its end if there is none.
-fn refused_at(alloc: Global, text: &[u8], left: &[Placed], fault: TextFault) -> ReadFault
+fn refused_at(alloc: Global, text: &[u8], left: &[Located], fault: TextFault) -> ReadFault
     requires { IsLocatedEnd text.now left.now }
     ensures { IsAtNext text.now left.now fault result }
 {
@@ -56,7 +56,7 @@ fn refused_at(alloc: Global, text: &[u8], left: &[Placed], fault: TextFault) -> 
 fn refused_before(
     alloc: Global,
     text: &[u8],
-    tokens: &[Placed],
+    tokens: &[Located],
     left: usize,
     fault: TextFault,
 ) -> ReadFault
@@ -68,7 +68,7 @@ fn refused_before(
 }
 
 /// The library that all of the tokens form.
-fn parse(alloc: Global, text: &[u8], tokens: &[Placed]) -> Result<Library, ReadFault>
+fn parse(alloc: Global, text: &[u8], tokens: &[Located]) -> Result<Library, ReadFault>
     requires short { length text.now ≤ most_bytes }
     requires few { length tokens.now ≤ most_bytes }
     requires located { AreLocated text.now tokens.now (after_mark text.now) }

@@ -102,7 +102,7 @@ pub enum Token {
 
 /// A token, and the offset in bytes at which it begins.
 #[derive(Drop)]
-pub struct Placed {
+pub struct Located {
     /// The token.
     pub token: Token,
     /// The offset in bytes.

@@ -11,7 +11,7 @@ ghost use Rattle.fb_read.specs.Whole.{most_bytes};
 use crate::blank::{at, open_comment, skip};
 use crate::front::{LexFault, faulty_len, front};
 use crate::refused::{ReadFault, Refusal, TextFault};
-use crate::token::{Placed, Token};
+use crate::token::{Located, Token};
 use fb_types::Items;
 use std::alloc::Global;
 
@@ -85,7 +85,7 @@ fn token_at(
 }
 
 /// The tokens of a text, each with its offset.
-pub fn lex(alloc: Global, text: &[u8]) -> Result<Items<Placed>, ReadFault>
+pub fn lex(alloc: Global, text: &[u8]) -> Result<Items<Located>, ReadFault>
     requires { length text.now ≤ most_bytes }
     ensures found { IfOk result (λ found. AreLocated text.now found (spec.after_mark text.now)) }
     // A token takes a byte.
@@ -103,7 +103,7 @@ pub fn lex(alloc: Global, text: &[u8]) -> Result<Items<Placed>, ReadFault>
         }
         let index = text.len() - here.len();
         let (token, len) = token_at(alloc, text, index, here)?;
-        found.push(Placed { token, index })?;
+        found.push(Located { token, index })?;
         rest = here.split_at(len).1;
     }
 }

@@ -27,7 +27,9 @@ use Rattle.fb_system.proofs.kept.Kept.TheSendSync as kept
 use Rattle.fb_system.proofs.links.Links.TheSendSync as links
 use Rattle.fb_system.proofs.interfaces.Interfaces.TheSendSync as interfaces
 use Rattle.fb_system.proofs.rows.StimulusRow.TheSendSync as row
-use Rattle.fb_ecc.proofs.state.BasicState.TheSendSync as basic
+use Rattle.fb_st.proofs.frame.Frame.TheSendSync as frame
+use Rattle.fb_st.proofs.layout.Layout.TheSendSync as layout
+use Rattle.fb_ecc.proofs.chart.Chart.TheSendSync as chart
 use Rattle.fb_event.proofs.state.EventState.TheSendSync as event
 use Rattle.fb_net.proofs.shell.Shell.TheSendSync as shell
 use Rattle.fb_agenda.proofs.agenda.Agenda.TheSendSync as agenda
@@ -45,11 +47,21 @@ use Rattle.fb_system.specs.contracts.netlist.Netlist as Netlist
 use Rattle.fb_system.specs.contracts.whole.Whole as Whole
 use Rattle.fb_system.specs.contracts.system.System as System
 use Rattle.fb_system.specs.contracts.system.System.TheInside as I
+use Rattle.fb_st.specs.contracts.compiled.NumberExpr as NumberExpr
+use Rattle.fb_st.specs.contracts.compiled.TruthExpr as TruthExpr
+use Rattle.fb_st.specs.contracts.compiled.CompiledStmt as CompiledStmt
+use Rattle.fb_ecc.specs.contracts.program.Program as Program
+use Rattle.fb_ecc.specs.contracts.shared.Shared as Shared
+use Rattle.fb_ecc.specs.contracts.shared.SharedChart as SharedChart
+use Rattle.fb_ecc.specs.contracts.shared.SharedChart.TheInside as C
+use Rattle.fb_ecc.specs.contracts.state.BasicState as BasicState
 use Rattle.fb_net.specs.contracts.block.Block as Block
 use Rattle.fb_net.specs.contracts.resource.Forest as Forest
 use Rattle.fb_net.specs.contracts.tree.Tree as Tree
 use Rattle.fb_types.proofs.text.Expr.TheLaws.TheKnot as expr
 use Rattle.fb_types.proofs.text.Stmt.TheLaws.TheKnot as stmt
+use Rattle.fb_st.proofs.compiled.NumberExpr.TheLaws.TheKnot as number
+use Rattle.fb_st.proofs.compiled.CompiledStmt.TheLaws.TheKnot as compiled
 use Rattle.fb_net.proofs.block.Block.TheLaws.TheKnot as block
 use Rattle.fb_resource.specs.contracts.resource.Resource as Resource
 use Rattle.fb_resource.specs.contracts.resource.WindowDone as WindowDone
@@ -134,8 +146,52 @@ system_send =
     view_send I.the_row _ _ _ _
     (recorded_send (I.the_field).row _ _ (I.the_type).to_one (struct_send (shape I.the_type) (Arc-send Whole.the_row whole whole_seen, tt)))
 
+-- ---- Compiled algorithms and guards, which the blocks of a type share
+
+pub number_send : IsSend (NumberExpr.the_field).row
+number_send = search (sendable, crosses, number.crosses, items.the_send, boxed.the_send, binary.the_field_send) depth 40
+
+pub number_sync : IsSync (NumberExpr.the_field).row
+number_sync = search (sendable, crosses, number.crosses, items.the_sync, boxed.the_sync, binary.the_field_sync) depth 40
+
+pub truth_send : IsSend (TruthExpr.the_field).row
+truth_send = search (sendable, crosses, number.crosses, items.the_send, boxed.the_send, binary.the_field_send) depth 40
+
+pub truth_sync : IsSync (TruthExpr.the_field).row
+truth_sync = search (sendable, crosses, number.crosses, items.the_sync, boxed.the_sync, binary.the_field_sync) depth 40
+
+pub compiled_send : IsSend (CompiledStmt.the_field).row
+compiled_send = search (sendable, crosses, compiled.crosses, number_send, truth_send, items.the_send, boxed.the_send, label.the_field_send) depth 40
+
+pub compiled_sync : IsSync (CompiledStmt.the_field).row
+compiled_sync = search (sendable, crosses, compiled.crosses, number_sync, truth_sync, items.the_sync, boxed.the_sync, label.the_field_sync) depth 40
+
+pub program_send : IsSend (Program.the_field).row
+program_send = search (sendable, crosses, compiled_send, truth_send, layout.the_send, items.the_send) depth 40
+
+pub program_sync : IsSync (Program.the_field).row
+program_sync = search (sendable, crosses, compiled_sync, truth_sync, layout.the_sync, items.the_sync) depth 40
+
+pub shared_send : IsSend (Shared.the_field).row
+shared_send = search (sendable, crosses, chart.the_field_send, program_send) depth 40
+
+pub shared_sync : IsSync (Shared.the_field).row
+shared_sync = search (sendable, crosses, chart.the_field_sync, program_sync) depth 40
+
+pub chart_send : IsSend SharedChart.the_row
+chart_send =
+    let all = recorded_send (Shared.the_field).row _ _ (Shared.the_type).to_one shared_send in
+    let all_seen = recorded_sync (Shared.the_field).row _ _ (Shared.the_type).to_one shared_sync in
+    view_send C.the_row _ _ _ _
+    (recorded_send (C.the_field).row _ _ (C.the_type).to_one (struct_send (shape C.the_type) (Arc-send Shared.the_row all all_seen, tt)))
+
+pub basic_send : IsSend (BasicState.the_field).row
+basic_send = search (sendable, crosses, chart_send, frame.the_send) depth 40
+
+-- ---- Blocks
+
 pub block_send : IsSend (Block.the_field).row
-block_send = search (sendable, crosses, block.crosses, basic.the_field_send, event.the_send, items.the_send) depth 40
+block_send = search (sendable, crosses, block.crosses, basic_send, event.the_send, items.the_send) depth 40
 
 pub forest_send : IsSend (Forest.the_field).row
 forest_send = search (sendable, crosses, maps.crosses, block_send, shell.the_field_send, items.the_send, value.the_field_send) depth 40

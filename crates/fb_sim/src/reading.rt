@@ -75,7 +75,7 @@ fn stimuli_of(
 ///
 /// A value of a type parameter is dropped by one call, so what was found is dropped here where the next reading fails, and no
 /// reading is followed by the drop of all that was read before.
-fn beside<A: Drop, B: Drop>(found: A, read: Result<B, RunError>) -> Result<(A, B), RunError>
+fn paired<A: Drop, B: Drop>(found: A, read: Result<B, RunError>) -> Result<(A, B), RunError>
     ensures found { IfOk result (λ both. both.0 ≡ found) }
     ensures read { IfOk result (λ both. read ≡ Ok both.1) }
     ensures error { IfErr result (λ error. read ≡ Err error) }
@@ -90,9 +90,9 @@ fn read(alloc: Global, inputs: &Inputs<'_>) -> Result<Reading, RunError>
 {
     let library = library_of(alloc, inputs)?;
     let deploy = deploy_of(alloc, inputs, &library);
-    let (library, deploy) = beside(library, deploy)?;
+    let (library, deploy) = paired(library, deploy)?;
     let stimuli = stimuli_of(alloc, inputs, &library, &deploy);
-    let ((library, deploy), stimuli) = beside((library, deploy), stimuli)?;
+    let ((library, deploy), stimuli) = paired((library, deploy), stimuli)?;
     Ok(Reading {
         library,
         deploy,

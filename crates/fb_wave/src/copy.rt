@@ -27,7 +27,7 @@ use std::alloc::Global;
 use std::io::{BufRead, Write};
 
 /// Reads the next line into a buffer, with its line feed. It is empty where there is none.
-fn next_line<R: BufRead>(input: &mut R, line: &mut Vec<u8>) -> Result<(), WaveError>
+pub fn next_line<R: BufRead>(input: &mut R, line: &mut Vec<u8>) -> Result<(), WaveError>
     ensures read { OnOk result (Consumes (R.remaining input.old) (R.remaining input.new) line.new.items) }
     ensures line { OnOk result (IsFirstLine line.new.items (R.remaining input.old)) }
     ensures end { OnOk result (line.new.items ≡ [] → IsAtEnd (R.remaining input.old)) }
@@ -52,7 +52,7 @@ fn form_after(rest: &[u8]) -> Form
 
 /// The form of the lines of a trace that begins with this one. In form two the second word is a number, and in form one
 /// it is a name.
-fn form_of(line: &[u8]) -> Form
+pub fn form_of(line: &[u8]) -> Form
     ensures { (word rest : List ℕ) (b : ℕ) → is_word word ≡ true → line.now ≡ word ++ 32 ∷ (b ∷ rest)
         → result ≡ (if named.is_digit b then Form.Two else Form.One) }
 {
@@ -63,7 +63,7 @@ fn form_of(line: &[u8]) -> Form
 }
 
 /// Whether a trace whose last line is of a tick can end so.
-fn can_end(tick: u64, end: Outcome) -> bool
+pub fn can_end(tick: u64, end: Outcome) -> bool
     ensures { IsTrue result ↔ IsAfter tick end }
 {
     match end {
@@ -73,7 +73,7 @@ fn can_end(tick: u64, end: Outcome) -> bool
 }
 
 /// Whether nothing is left to read.
-fn is_over<R: BufRead>(input: &mut R, line: &mut Vec<u8>) -> Result<bool, WaveError>
+pub fn is_over<R: BufRead>(input: &mut R, line: &mut Vec<u8>) -> Result<bool, WaveError>
     ensures over { IfOk result (λ over. IsTrue over → IsAtEnd (R.remaining input.old)) }
     ensures more { IfOk result (λ over. over ≡ false → IfSome (R.remaining input.old) (λ rest. 0 < length rest)) }
     ensures fault { IfErr result (λ e. e ≡ WaveError.Read) }

@@ -14,7 +14,7 @@ pub enum WaveError {
     Refused(u64),
     /// A resource, an instance or a port has a name of other bytes than letters in upper case, digits and underscores, so
     /// that lines may not tell the ports. No declaration or deployment that was read from a text has such a name.
-    #[error("names of the declaration do not tell its ports")]
+    #[error("two ports of the declaration are written alike")]
     Names,
     #[error("out of memory")]
     Memory,

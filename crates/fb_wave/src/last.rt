@@ -73,7 +73,7 @@ fn stop_of(system: &System, text: &[u8]) -> Option<StopMark>
 }
 
 /// The end in a text, with its line feed.
-pub(crate) fn read_last(system: &System, text: &[u8]) -> Option<Outcome>
+pub fn read_last(system: &System, text: &[u8]) -> Option<Outcome>
     ensures last { IfSome result (IsLast (system_of system.now) text.now) }
     ensures none { HasNames (system_of system.now) → IfNone result (IsNoLast (system_of system.now) text.now) }
 {

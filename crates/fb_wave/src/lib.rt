@@ -15,26 +15,31 @@
 
 mod begun;
 mod change;
-mod copy;
+pub mod copy;
 mod declared;
 mod digits;
 mod dump;
 pub mod error;
 mod firsts;
 mod head;
-mod last;
+pub mod last;
 mod levels;
-mod line;
+pub mod line;
 mod names;
 mod number;
 mod page;
-mod ports;
+pub mod ports;
 mod scopes;
 mod signals;
-mod table;
+pub mod table;
 mod values;
 pub mod wave;
-mod words;
+pub mod words;
 
+pub use copy::{can_end, form_of, is_over, next_line};
 pub use error::WaveError;
+pub use last::read_last;
+pub use line::read_line;
+pub use ports::{Port, ports_of};
+pub use table::{Guess, PortTable, texts_of};
 pub use wave::write_wave;

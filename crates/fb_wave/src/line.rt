@@ -86,7 +86,7 @@ fn port_values(
 }
 
 /// The line of the system that a text is in a form, with its line feed.
-pub(crate) fn read_line(
+pub fn read_line(
     alloc: Global,
     table: &PortTable,
     guess: &mut Guess,

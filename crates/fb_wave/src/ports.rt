@@ -14,12 +14,12 @@ use std::alloc::{AllocError, Global};
 
 /// An event port.
 #[derive(Clone, Copy)]
-pub(crate) struct Port {
-    pub(crate) instance: u32,
+pub struct Port {
+    pub instance: u32,
     /// The index of the event among the event inputs, or outputs.
-    pub(crate) event: u32,
+    pub event: u32,
     /// Set where it is an event input.
-    pub(crate) taken: bool,
+    pub taken: bool,
 }
 
 /// Lines have room for the numbers of this many events of one interface.
@@ -50,7 +50,7 @@ fn push_events(
 }
 
 /// All event ports of a system.
-pub(crate) fn ports_of(alloc: Global, system: &System) -> Result<Vec<Port>, AllocError>
+pub fn ports_of(alloc: Global, system: &System) -> Result<Vec<Port>, AllocError>
     ensures are { IfOk result (λ v. All (IsPortOf (system_of system.now)) v.items) }
     ensures all { IfOk result (λ v. (p : Port) → IsPortOf (system_of system.now) p → Contains v.items p) }
     ensures once { IfOk result (λ v. ¬ (Twice v.items)) }
@@ -86,7 +86,7 @@ fn event_name(ports: &Ports, taken: bool, event: u32) -> &[u8]
 }
 
 /// The number of the resource that holds a port.
-pub(crate) fn holder_of(system: &System, port: Port) -> u32
+pub fn holder_of(system: &System, port: Port) -> u32
     requires { IsPortOf (system_of system.now) port }
     ensures held { result ≡ (system_of system.now).resource (path_at (system_of system.now) port.instance) }
     ensures within { result < length (system_of system.now).resource_names }
@@ -104,7 +104,7 @@ fn sign(taken: bool) -> &'static [u8]
 }
 
 /// What a line of a port has between its tick and its values: `RESOURCE > PATH.EVENT`, or with `<`.
-pub(crate) fn port_text(alloc: Global, system: &System, port: Port) -> Result<Name, AllocError>
+pub fn port_text(alloc: Global, system: &System, port: Port) -> Result<Name, AllocError>
     requires { IsPortOf (system_of system.now) port }
     ensures { IfOk result (λ n. n ≡ spec.port_text (system_of system.now) port) }
 {

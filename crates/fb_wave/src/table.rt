@@ -19,9 +19,9 @@ use std::alloc::{AllocError, Global};
 
 /// The ports of a system, and the indexes of their texts among those of all.
 #[derive(Drop)]
-pub(crate) struct PortTable<'a> {
+pub struct PortTable<'a> {
     /// The system.
-    pub(crate) system: &'a System,
+    pub system: &'a System,
     ports: &'a [Port],
     texts: &'a [Name],
     indexes: Indexes<'a>,
@@ -30,7 +30,7 @@ pub(crate) struct PortTable<'a> {
 /// Where the port of a line is looked for first: at the port that came last after that of the line before. A guess
 /// that is wrong costs time alone, so nothing is promised of it.
 #[derive(Drop)]
-pub(crate) struct Guess {
+pub struct Guess {
     /// For each port the index of the one that came last after it.
     next: Vec<usize>,
     /// The index of the port of the line before.
@@ -39,7 +39,7 @@ pub(crate) struct Guess {
 
 impl Guess {
     /// The guess before the first line.
-    pub(crate) fn new(alloc: Global, table: &PortTable<'_>) -> Result<Guess, AllocError> {
+    pub fn new(alloc: Global, table: &PortTable<'_>) -> Result<Guess, AllocError> {
         let mut next = Vec::new(alloc);
         for index in 0..table.ports.len() {
             next.push(index)?;
@@ -75,11 +75,7 @@ fn ends_word(rest: &[u8]) -> bool
 }
 
 /// The texts of ports, each at the index of its port.
-pub(crate) fn texts_of(
-    alloc: Global,
-    system: &System,
-    ports: &[Port],
-) -> Result<Vec<Name>, AllocError>
+pub fn texts_of(alloc: Global, system: &System, ports: &[Port]) -> Result<Vec<Name>, AllocError>
     requires { All (IsPortOf (system_of system.now)) ports.now }
     ensures { IfOk result (λ v. v.items ≡ map (spec.port_text (system_of system.now)) ports.now) }
 {
@@ -113,7 +109,7 @@ fn port_len(text: &[u8]) -> Option<usize>
 
 impl<'a> PortTable<'a> {
     /// A table of ports, of which these are the texts, or `None` where two are written alike.
-    pub(crate) fn of(
+    pub fn of(
         alloc: Global,
         system: &'a System,
         ports: &'a [Port],
@@ -156,7 +152,7 @@ impl<'a> PortTable<'a> {
 
     /// The port with whose text a text begins, and what comes after it. Its index is guessed, and looked up where the
     /// guess is wrong.
-    pub(crate) fn find<'b>(&self, guess: &mut Guess, text: &'b [u8]) -> Option<(Port, &'b [u8])>
+    pub fn find<'b>(&self, guess: &mut Guess, text: &'b [u8]) -> Option<(Port, &'b [u8])>
         requires { IsTable self.now }
         ensures found { IfSome result (λ p. BeginsWith (system_of self.now.system.now) text.now p.0 p.1.now) }
         ensures none { HasNames (system_of self.now.system.now) → IfNone result (HasNoPort (system_of self.now.system.now) text.now) }

@@ -6,21 +6,21 @@ ghost use Rattle.fb_wave.specs.Words as spec;
 ghost use Rattle.fb_wave.specs.Words.{IsCut};
 
 /// Whether a byte ends a word: a blank or a line feed.
-pub(crate) fn is_end(byte: u8) -> bool
+pub fn is_end(byte: u8) -> bool
     ensures { result ≡ spec.is_end byte }
 {
     byte == b' ' || byte == b'\n'
 }
 
 /// Whether a byte is a decimal digit.
-pub(crate) fn is_digit(byte: u8) -> bool
+pub fn is_digit(byte: u8) -> bool
     ensures { result ≡ named.is_digit byte }
 {
     byte.is_ascii_digit()
 }
 
 /// The bytes before the first that ends a word, and the rest from that one on.
-pub(crate) fn cut(text: &[u8]) -> Option<(&[u8], &[u8])>
+pub fn cut(text: &[u8]) -> Option<(&[u8], &[u8])>
     ensures { MatchOption result (spec.is_word text.now ≡ true) (λ p. IsCut text.now p.0.now p.1.now) }
 {
     for (index, byte) in text.iter().enumerate() {
@@ -32,7 +32,7 @@ pub(crate) fn cut(text: &[u8]) -> Option<(&[u8], &[u8])>
 }
 
 /// What comes after a front.
-pub(crate) fn behind<'a>(text: &'a [u8], front: &[u8]) -> Option<&'a [u8]>
+pub fn behind<'a>(text: &'a [u8], front: &[u8]) -> Option<&'a [u8]>
     ensures { MatchOption result ((rest : List ℕ) → text.now ≡ front.now ++ rest → ⊥) (λ rest. text.now ≡ front.now ++ rest.now) }
 {
     text.strip_prefix(front)

@@ -1,12 +1,12 @@
-//! The explanation of a refusal.
+//! The explanation of a refusal or of the reason of a stop.
 
-ghost use Rattle.std.specs.Prelude.{◌≡◌, ◌++◌, ◌∷◌, [], Contains, IfSome, codes, is_some, map};
+ghost use Rattle.std.specs.Prelude.{◌≡◌, ◌++◌, ◌∷◌, ◌||◌, [], true, Contains, IfSome, codes, is_some, map};
 ghost use Rattle.std.specs.List.{list_any};
-ghost use Rattle.fb_types.specs.Names.{same_name};
+ghost use Rattle.std.specs.Str.{str_eq_ignore_ascii_case};
 ghost use Rattle.fb_why.specs.Explained as spec;
 ghost use Rattle.fb_why.specs.Explained.{explained};
 
-use crate::table::{Explanation, OF_CHECKS, OF_DECLARATIONS, OF_INPUTS, OF_RULES};
+use crate::table::{Explanation, OF_CHECKS, OF_DECLARATIONS, OF_INPUTS, OF_RULES, OF_STOPS};
 
 // A search needs only the names in a table. So each table is lent by a function whose contract is about the names only.
 
@@ -34,37 +34,54 @@ fn of_rules() -> &'static [Explanation]
     &OF_RULES
 }
 
-/// The first explanation with the name.
-fn look_up(table: &[Explanation], name: &[u8]) -> Option<Explanation>
-    ensures named { IfSome result (λ e. e.name.now ≡ name.now) }
-    ensures found { is_some result ≡ list_any (λ e. same_name e.name.now name.now) table.now }
+fn of_stops() -> &'static [Explanation]
+    ensures { map (λ e. e.name.now) result.now ≡ spec.of_stops }
+{
+    &OF_STOPS
+}
+
+/// Whether two names differ in letter case at most.
+fn is_called(name: &str, asked: &str) -> bool
+    ensures { result ≡ str_eq_ignore_ascii_case name.now asked.now }
+{
+    name.eq_ignore_ascii_case(asked)
+}
+
+/// The first explanation with the name, in any letter case.
+fn look_up(table: &[Explanation], name: &str) -> Option<Explanation>
+    ensures named { IfSome result (λ e. str_eq_ignore_ascii_case e.name.now name.now ≡ true) }
+    ensures found { is_some result ≡ list_any (λ e. str_eq_ignore_ascii_case e.name.now name.now) table.now }
     ensures whole { IfSome result (Contains table.now) }
 {
     for explanation in table {
-        if explanation.name.as_bytes() == name {
+        if is_called(explanation.name, name) {
             return Some(*explanation);
         }
     }
     None
 }
 
-/// The explanation of a refusal by its name in the fault's line, such as `E21` or `file fault`.
-pub fn explain(name: &str) -> Option<Explanation>
-    ensures named { IfSome result (λ e. e.name.now ≡ name.now) }
-    ensures all { is_some result ≡ list_any (λ n. same_name n name.now) explained }
+/// What was found, or else the first explanation with the name in one more table.
+fn or_look_up(found: Option<Explanation>, table: &[Explanation], name: &str) -> Option<Explanation>
+    requires { IfSome found (λ e. str_eq_ignore_ascii_case e.name.now name.now ≡ true) }
+    ensures named { IfSome result (λ e. str_eq_ignore_ascii_case e.name.now name.now ≡ true) }
+    ensures found { is_some result ≡ (is_some found || list_any (λ e. str_eq_ignore_ascii_case e.name.now name.now) table.now) }
 {
-    let name = name.as_bytes();
-    let found = look_up(of_declarations(), name);
-    if found.is_some() {
-        return found;
+    match found {
+        Some(explanation) => Some(explanation),
+        None => look_up(table, name),
     }
-    let found = look_up(of_inputs(), name);
-    if found.is_some() {
-        return found;
-    }
-    let found = look_up(of_checks(), name);
-    if found.is_some() {
-        return found;
-    }
-    look_up(of_rules(), name)
+}
+
+/// The explanation of a refusal by its name in the fault's line, such as `E21` or `file fault`, or of a reason by its name
+/// in the last line of a trace, such as `divide`. Letter case makes no difference.
+pub fn explain(name: &str) -> Option<Explanation>
+    ensures named { IfSome result (λ e. str_eq_ignore_ascii_case e.name.now name.now ≡ true) }
+    ensures all { is_some result ≡ list_any (λ n. str_eq_ignore_ascii_case n name.now) explained }
+{
+    let declared = look_up(of_declarations(), name);
+    let given = or_look_up(declared, of_inputs(), name);
+    let checked = or_look_up(given, of_checks(), name);
+    let ruled = or_look_up(checked, of_rules(), name);
+    or_look_up(ruled, of_stops(), name)
 }

@@ -1,9 +1,10 @@
-//! Explains refusals: what each refusal means, and, for most numbers, a location at which it applies.
+//! Explains refusals and stops: what each refusal and each reason means, and, for most numbers, a location at which the
+//! refusal applies.
 //!
-//! Guarantees to callers: `explanation::explain` has an explanation for each refusal and for nothing else. The location
-//! that `finding::finding_of` reports is in the bytes or in what they declare, and the refusal applies there. For E20 to
-//! E28 it reports none only if the refusal does not apply or the bytes can't be read; for E29 and E30 only if the inputs
-//! are refused for something else. The wording of the texts is not part of any contract.
+//! Guarantees to callers: `explanation::explain` has an explanation for each refusal and each reason of a stop, and for
+//! nothing else. The location that `finding::finding_of` reports is in the bytes or in what they declare, and the refusal
+//! applies there. For E20 to E28 it reports none only if the refusal does not apply or the bytes can't be read; for E29
+//! and E30 only if the inputs are refused for something else. The wording of the texts is not part of any contract.
 //!
 //! This crate finds the locations for which names, connections and the mapping are searched: `twice::twice_location`
 //! something that is given twice (E20), `sources::joined_location` two data connections that lead to one port (E24),

@@ -1,19 +1,19 @@
-//! What each refusal means, with examples of it and what to look at.
+//! What each refusal and each reason of a stop means, with examples of it and what to look at.
 
-/// The explanation of a refusal, or of a fault of a file.
+/// The explanation of a refusal, of a fault of a file, or of the reason of a stop.
 #[derive(Clone, Copy)]
 pub struct Explanation {
-    /// Its name in the line of the fault.
+    /// Its name in the line of the fault, or in the last line of a trace.
     pub name: &'static str,
-    /// What the refusal means.
+    /// What it means.
     pub meaning: &'static str,
-    /// Two inputs that are refused for it.
+    /// Two inputs that are refused for it, or that stop a run.
     pub examples: [&'static str; 2],
     /// What to check.
     pub look: &'static str,
 }
 
-// Four tables, since the proof of the function that lends one takes time in the square of its text. docs/FORMATS.md
+// Five tables, since the proof of the function that lends one takes time in the square of its text. docs/FORMATS.md
 // shows them one after another; `tools/explained.py` compares.
 
 /// Refusals of the text of a declaration.
@@ -244,7 +244,7 @@ pub static OF_CHECKS: [Explanation; 12] = [
     },
 ];
 
-/// Of what rules over traces are refused for.
+/// Refusals of rules over traces.
 pub static OF_RULES: [Explanation; 6] = [
     Explanation {
         name: "E40",
@@ -299,5 +299,36 @@ pub static OF_RULES: [Explanation; 6] = [
             "`* < VALVE.CLOSED Q=TRUE` where `Q` is not WITH the event.",
         ],
         look: "Typing errors; the resource of the instance; `>` for an event output, or `<` for an event input. Without `--decl` the report lists the patterns that no line of a trace matches.",
+    },
+];
+
+/// Reasons of a stop.
+pub static OF_STOPS: [Explanation; 3] = [
+    Explanation {
+        name: "steps",
+        meaning: "A resource used up its steps in one tick, and the run stopped.",
+        examples: [
+            "`WHILE TRUE DO X := X + 1; END_WHILE`: the loop does not end.",
+            "Two blocks that raise each other's events with no delay between them.",
+        ],
+        look: "Event connections that lead in a circle without an E_DELAY or a link; charts that go round by transitions without an event; loops. Each event, tried transition, action, statement and turn of a loop is a step. If the work of a tick is just large, give `--steps`: the default is 10,000 for each tick of a resource.",
+    },
+    Explanation {
+        name: "divide",
+        meaning: "A divisor was 0 in an algorithm or a guard, and the run stopped.",
+        examples: [
+            "`Q := GOOD / TOTAL;` before `TOTAL` has counted anything.",
+            "`A / (B - C)` where `B` equals `C`.",
+        ],
+        look: "The last line `>` of the trace: the block of that line stopped. Test each divisor of `/` with IF, or in the guard, before it divides. MOD never stops a run: `A MOD 0` is 0.",
+    },
+    Explanation {
+        name: "range",
+        meaning: "A number did not fit in an algorithm or a guard, and the run stopped.",
+        examples: [
+            "`N := N + 1;` where `N` is a USINT that holds 255.",
+            "`D := A - B;` where `D` is a UINT and `B` is greater than `A`.",
+        ],
+        look: "The last line `>` of the trace: the block of that line stopped. Compare the assigned values with the ranges of their variables. Between assignments numbers have 128 bits.",
     },
 ];

@@ -1,5 +1,5 @@
-//! Finds where the text of a declaration is refused (E01 to E05), and has the texts for that, for deployments (E10 to E12, E15
-//! and E16), for stimuli (E13 to E15) and for the places that `fb_expect` finds in rules.
+//! Finds where the text of a declaration is refused (E01 to E05). Has the texts for that, for deployments (E10 to E12,
+//! E15 and E16), for stimuli (E13 to E15), and for the places that `fb_expect` finds in rules.
 //!
 //! Guarantees to callers: `text_location` returns a location in the text, with its line and column, at which the
 //! refusal applies. The wording of the texts is not part of any contract.

@@ -6,10 +6,9 @@
 //! knows nothing of this code, says what the rounds lead to.
 //!
 //! Read in this order: `laws`; `cores`, `links` and `open`, what a core is; `bounds`; `leave` and `job`; `settle`, with
-//! `home`, `post`, `frontier`, `cut`, `ends` and `beside`; `walk`, with `nexts`; `discarding`.
+//! `home`, `post`, `frontier`, `cut`, `ends` and `paired`; `walk`, with `nexts`; `discarding`.
 #![tactic(auto)]
 
-mod beside;
 pub mod bounds;
 pub mod cores;
 mod cut;
@@ -23,6 +22,7 @@ mod leave;
 pub mod links;
 mod nexts;
 mod open;
+mod paired;
 mod post;
 pub mod settle;
 mod walk;

@@ -14,13 +14,13 @@ ghost use Rattle.fb_window.specs.Reached.{IsBehind};
 ghost use Rattle.fb_window.specs.Settling.{Settles, lists_of};
 ghost use Rattle.fb_window.specs.Standing.{IsAt};
 
-use crate::beside::beside;
 use crate::bounds::least_next;
 use crate::cores::{Away, AwayState, Core, CoreState, Failed, Settled};
 use crate::cut::final_lines;
 use crate::ends::{End, end_of};
 use crate::frontier::frontier_of;
 use crate::home::come_home;
+use crate::paired::paired;
 use crate::post::post;
 use fb_resource::WindowDone;
 use fb_system::System;
@@ -48,10 +48,10 @@ impl AwayState {
         system.facts();
         let home = come_home(alloc, self.resting, self.pending, dones)?;
         let posted = post(alloc, system, home.resources, home.outboxes);
-        let (kept, resources) = beside(home.pending, posted)?;
+        let (kept, resources) = paired(home.pending, posted)?;
         let least = least_next(&resources, self.horizon);
         let frontier = frontier_of(&resources, least);
-        let (resources, cut) = beside(resources, final_lines(alloc, kept, &frontier))?;
+        let (resources, cut) = paired(resources, final_lines(alloc, kept, &frontier))?;
         let (lines, pending) = cut;
         let end = end_of(&resources, self.horizon);
         let state = CoreState {

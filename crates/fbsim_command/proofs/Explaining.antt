@@ -1,7 +1,8 @@
 -- What an output gets of an explanation.
-use Rattle.std.proofs.Common.{◌≡◌, ◌∙◌, ℕ, List, Option, Result, Ok, Err, sym, subst}
+use Rattle.std.proofs.Common.{◌≡◌, ◌∙◌, ℕ, true, List, Option, Result, Ok, Err, sym, subst}
 use Rattle.std.specs.Prelude.{IsErrAnd}
 use Rattle.std.specs.Io.KnownBytes.{Appends}
+use Rattle.std.specs.Str.{str_eq_ignore_ascii_case}
 use Rattle.fb_why.specs.declared.table.Explanation.{Explanation}
 use Rattle.fbsim_command.specs.Command.{ExplainsRefusal, IsRefusalName}
 use Rattle.fbsim_command.specs.Failures.{IsPartWritten, WritesPart, explained_text}
@@ -12,10 +13,10 @@ use Rattle.fbsim_command.specs.declared.statuses.Done.TheVariants.{Explained}
 
 module _
     (e : Explanation) (name : List ℕ) (old new : Option (List ℕ)) (bytes text first second : List ℕ)
-    (is : text ≡ explained_text e.name.now e.meaning.now first second e.look.now) (named : e.name.now ≡ name) (there : IsRefusalName name) (same : bytes ≡ text)
+    (is : text ≡ explained_text e.name.now e.meaning.now first second e.look.now) (named : str_eq_ignore_ascii_case e.name.now name ≡ true) (there : IsRefusalName name) (same : bytes ≡ text)
   where
-    shown : bytes ≡ explained_text name e.meaning.now first second e.look.now
-    shown = subst (λ (n : List ℕ). bytes ≡ explained_text n e.meaning.now first second e.look.now) named (same ∙ is)
+    shown : bytes ≡ explained_text e.name.now e.meaning.now first second e.look.now
+    shown = same ∙ is
 
     -- all of it
     pub explains : Appends old new bytes → ExplainsRefusal name old new (Ok Explained)

@@ -4,7 +4,7 @@ use Rattle.std.specs.Prelude.{IsErrAnd}
 use Rattle.std.specs.Io.KnownBytes.{Appends}
 use Rattle.clap.specs.Words.{Text}
 use Rattle.fb_expect.specs.Parting.{MayPart}
-use Rattle.fb_expect.specs.Telling.{Tells}
+use Rattle.fb_expect.specs.DifferenceReport.{ShowsDifference}
 use Rattle.fb_expect.specs.declared.parting.Difference.{Difference}
 use Rattle.fbsim_command.specs.declared.statuses.Done.TheVariants.{Different}
 use Rattle.fbsim_command.specs.Comparing.{AreUnopened, Compares, Differs, IsReported}
@@ -23,7 +23,7 @@ parted d first second a b (Err g) f same is = subst (λ (h : Failure). Differs d
 
 -- what is reported of two lines
 pub told-of :
-    (d : Diff) (first second : Held) (o : Option Difference) (x : Difference) (text : Text) → o ≡ Some x → MayPart first second o → Tells d.first.now d.second.now x text
+    (d : Diff) (first second : Held) (o : Option Difference) (x : Difference) (text : Text) → o ≡ Some x → MayPart first second o → ShowsDifference d.first.now d.second.now x text
     → IsReported d first second text
 told-of d first second o x text is part tells = record { difference = x; part = subst (λ (p : Option Difference). MayPart first second p) is part; tells = tells }
 

@@ -3,8 +3,8 @@ use Rattle.std.specs.Prelude.{◌≡◌, ◌⊎◌, ℕ, Bool, true, false, List
 use Rattle.std.specs.Borrow.{Bor}
 use Rattle.std.specs.List.{list_any}
 use Rattle.std.specs.Io.KnownBytes.{Appends}
+use Rattle.std.specs.Str.{str_eq_ignore_ascii_case}
 use Rattle.clap.specs.Words.{Text}
-use Rattle.fb_types.specs.Names.{same_name}
 use Rattle.fb_types.specs.Simulation.{AtHorizon, AtStop}
 use Rattle.fb_types.specs.declared.value.Reason.{Reason}
 use Rattle.fb_sim.specs.Given.{Given}
@@ -139,14 +139,17 @@ pub record IsFileFault {S : Type 0} (reads : Reading S) (from to : S) (c : Task)
 abbrev pub Performs : {S : Type 0} → Reading S → (from to : S) → Task → (old new : Held) → End → (reports : Text) → (note : Option Text) → Type 0
 Performs reads from to c old new end reports note = AreReadAndDone reads from to c old new end reports note ⊎ IsFileFault reads from to c old new end reports note
 
--- there is a refusal of this name
-abbrev pub IsRefusalName : (name : Text) → Type 0
-IsRefusalName name = list_any (λ n. same_name n name) explained ≡ true
+-- whether a refusal or a reason has this name, in any letter case
+abbrev pub is_explained : (name : Text) → Bool
+is_explained name = list_any (λ n. str_eq_ignore_ascii_case n name) explained
 
--- the words ask what a refusal means
+abbrev pub IsRefusalName : (name : Text) → Type 0
+IsRefusalName name = is_explained name ≡ true
+
+-- the words ask what a refusal or a reason means
 abbrev pub ExplainsRefusal : (name : Text) → (old new : Held) → End → Type 0
 ExplainsRefusal name old new (Ok Explained) =
-    IsRefusalName name × (e : Explanation) × (first : Text) × (second : Text) × (e.name.now ≡ name) × Appends old new (explained_text name e.meaning.now first second e.look.now)
+    IsRefusalName name × (e : Explanation) × (first : Text) × (second : Text) × (str_eq_ignore_ascii_case e.name.now name ≡ true) × Appends old new (explained_text e.name.now e.meaning.now first second e.look.now)
 ExplainsRefusal name old new (Ok Helped) = ⊥
 ExplainsRefusal name old new (Ok Accepted) = ⊥
 ExplainsRefusal name old new (Ok Ended) = ⊥
@@ -157,9 +160,9 @@ ExplainsRefusal name old new (Ok Unmet) = ⊥
 ExplainsRefusal name old new (Ok Same) = ⊥
 ExplainsRefusal name old new (Ok Different) = ⊥
 ExplainsRefusal name old new (Err (Write n)) =
-    IsRefusalName name × (e : Explanation) × (first : Text) × (second : Text) × (e.name.now ≡ name) × IsPartWritten old new (explained_text name e.meaning.now first second e.look.now) n
+    IsRefusalName name × (e : Explanation) × (first : Text) × (second : Text) × (str_eq_ignore_ascii_case e.name.now name ≡ true) × IsPartWritten old new (explained_text e.name.now e.meaning.now first second e.look.now) n
 ExplainsRefusal name old new (Err (Line message)) =
-    (list_any (λ n. same_name n name) explained ≡ false) × (string_bytes message ≡ no_refusal name) × (new ≡ old)
+    (is_explained name ≡ false) × (string_bytes message ≡ no_refusal name) × (new ≡ old)
 ExplainsRefusal name old new (Err Memory) = new ≡ old
 ExplainsRefusal name old new (Err (Refused refusal)) = ⊥
 ExplainsRefusal name old new (Err File) = ⊥

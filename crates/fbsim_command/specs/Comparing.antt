@@ -1,9 +1,9 @@
--- What a call that compares two traces does (docs/FORMATS.md, "Where two traces part"; this project's own).
+-- What a call that compares two traces does (docs/FORMATS.md, "Where two traces differ"; this project's own).
 use Rattle.std.specs.Prelude.{◌≡◌, ◌⊎◌, ℕ, Some, None, Ok, Err}
 use Rattle.std.specs.Io.KnownBytes.{Appends}
 use Rattle.clap.specs.Words.{Text}
 use Rattle.fb_expect.specs.Parting.{MayPart}
-use Rattle.fb_expect.specs.Telling.{Tells}
+use Rattle.fb_expect.specs.DifferenceReport.{ShowsDifference}
 use Rattle.fb_expect.specs.declared.parting.Difference.{Difference}
 use Rattle.fbsim_command.specs.Failures.{IsPartWritten, failure_of_source}
 use Rattle.fbsim_command.specs.Outcomes.{End, Held}
@@ -17,7 +17,7 @@ use Rattle.fbsim_command.specs.declared.statuses.Done.TheVariants.{Helped, Expla
 pub record IsReported (d : Diff) (first second : Held) (text : Text) : Type 0 where
   pub difference : Difference
   pub part : MayPart first second (Some difference)
-  pub tells : Tells d.first.now d.second.now difference text
+  pub tells : ShowsDifference d.first.now d.second.now difference text
 
 -- two files, of which these bytes are known, are compared
 abbrev pub Differs : Diff → (first second : Held) → (old new : Held) → End → Type 0

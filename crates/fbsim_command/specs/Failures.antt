@@ -105,15 +105,15 @@ told_of (Err failure) (Some text) = told failure ++ text ++ codes "\n"
 
 -- ---- Explanations
 
--- what a refusal means, with two examples of it, and what to look at
+-- what a refusal or a reason means, with two examples of it, and what to look at
 abbrev pub explained_text : (name meaning first second look : List ℕ) → List ℕ
 explained_text name meaning first second look =
     name
     ++ (codes ": " ++ (meaning ++ (codes "\nFor example:\n- " ++ (first ++ (codes "\n- " ++ (second ++ (codes "\nLook at: " ++ (look ++ codes "\n"))))))))
 
--- the words ask for a refusal that there is not
+-- the words ask for what is no refusal and no reason
 abbrev pub no_refusal : (name : List ℕ) → List ℕ
-no_refusal name = codes "error: no refusal is called " ++ name ++ codes "\n"
+no_refusal name = codes "error: no refusal or stop is called " ++ name ++ codes "\n"
 
 -- ---- The statuses
 

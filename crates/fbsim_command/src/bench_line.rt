@@ -41,12 +41,13 @@ pub struct Diff<'a> {
 }
 
 const EXPECT_ABOUT: &str =
-    "Says whether rules hold of traces, in the form of the Test Anything Protocol.";
+    "Checks rules against traces, and reports in the Test Anything Protocol.";
 
 const EXPECT_EXAMPLE: &str =
     "Example: fbsim expect cell.rules cell.trace --decl cell.iec --deploy cell.toml";
 
-const DIFF_ABOUT: &str = "Says whether two traces are the same bytes, or where they part first.";
+const DIFF_ABOUT: &str =
+    "Prints the first line in which two traces differ, or nothing if they are the same bytes.";
 
 const DIFF_EXAMPLE: &str = "Example: fbsim diff cell.reference cell.trace";
 
@@ -56,18 +57,17 @@ const RULES_HELP: &str =
 const TRACES_HELP: &str = "The files with the traces, of any length and in either form.";
 
 const DECL_HELP: &str =
-    "The file with a declaration, at most 1 MiB, which has to have all names of the rules.";
+    "The file with a declaration, at most 1 MiB, which must have all names of the rules.";
 
 const DEPLOY_HELP: &str =
     "The file with the deployment of the declaration, in TOML, at most 1 MiB; without it one resource MAIN has every instance.";
 
 const STRICT_HELP: &str = "Counts a rule that a trace leaves undecided as broken.";
 
-const CUT_HELP: &str =
-    "Takes traces that are cut off, without a last line or within a line, as far as they go.";
+const CUT_HELP: &str = "Accepts traces that end without a last line or within a line.";
 
 const WHY_HELP: &str =
-    "After the line of a refusal or of a file fault, shows its place on another line, where that is known.";
+    "Prints the location of a refusal or a file fault on another line, if it is known.";
 
 const FIRST_HELP: &str = "The file with the first trace; `-` is standard input, here and below.";
 

@@ -24,7 +24,7 @@ use std::alloc::{AllocError, Global};
 /// One call of the program: its subcommand with the file names, numbers and flags.
 #[derive(Drop)]
 pub enum Call<'a> {
-    /// Explains what the refusal of this name means, as `E21`.
+    /// Explains what the refusal or the reason of this name means, as `E21` or `divide`, in any letter case.
     Explain(&'a str),
     /// Checks or runs an application.
     Task(Task<'a>),
@@ -115,35 +115,34 @@ const ABOUT: &str =
 const EXAMPLE: &str =
     "Example: fbsim run cell.iec --deploy cell.toml --stim cell.csv --horizon 1000";
 
-const RUN_ABOUT: &str =
-    "Runs an application and writes the trace of its events to standard output.";
+const RUN_ABOUT: &str = "Runs an application and writes its trace to standard output.";
 
 const RUN_EXAMPLE: &str =
     "Example: fbsim run cell.iec --deploy cell.toml --stim cell.csv --horizon 1000 --workers 4";
 
-const CHECK_ABOUT: &str = "Says whether a run would take these files, or which fault comes first.";
+const CHECK_ABOUT: &str =
+    "Prints `accepted` if a run would accept these files, otherwise the first fault.";
 
 const CHECK_EXAMPLE: &str =
     "Example: fbsim check cell.iec --deploy cell.toml --stim cell.csv --why";
 
-const WAVE_ABOUT: &str =
-    "Writes a trace to standard output as a value change dump, which viewers of waveforms show.";
+const WAVE_ABOUT: &str = "Converts a trace to a value change dump, which waveform viewers read.";
 
 const WAVE_EXAMPLE: &str = "Example: fbsim wave cell.iec --deploy cell.toml cell.trace";
 
 const EXPLAIN_ABOUT: &str =
-    "Says what a refusal means, with two examples of it and what to look at.";
+    "Prints what a refusal or the reason of a stop means, two examples, and what to look at.";
 
 const EXPLAIN_EXAMPLE: &str = "Example: fbsim explain E21";
 
 const NAME_HELP: &str =
-    "The name of the refusal in its line, E01 to E45; or \"file fault\", as one word.";
+    "The name of the refusal in its line, E01 to E45; \"file fault\", as one word; or the reason of a stop: steps, divide or range. Letter case makes no difference.";
 
 const DECLARATION_HELP: &str =
     "The file with the declaration of the types and the application, at most 1 MiB; `-` is standard input, here and below.";
 
 const TRACE_FILE_HELP: &str =
-    "The file with the trace, of any length and in either form, as run writes it of these files.";
+    "The file with the trace, of any length and in either form, of a run of these files.";
 
 const DEPLOY_HELP: &str =
     "The file with the deployment, in TOML, at most 1 MiB; without it one resource MAIN has every instance.";
@@ -154,22 +153,21 @@ const STIMULI_HELP: &str =
 const HORIZON_HELP: &str = "The tick, in milliseconds, at which the run ends, 1 to 1000000000000.";
 
 const STEPS_HELP: &str =
-    "The most steps that a resource makes in one tick, 1 to 10000000; it stops at the next one.";
+    "The greatest number of steps of a resource in one tick, 1 to 10000000; at the next step it stops.";
 
-const WORKERS_HELP: &str =
-    "How many workers run the resources, 1 to 64; the trace is the same with any number.";
+const WORKERS_HELP: &str = "The number of threads, 1 to 64; the trace does not depend on it.";
 
 const SERIAL_HELP: &str =
     "Runs all resources from one agenda on one thread; the trace is the same.";
 
 const PROGRESS_HELP: &str =
-    "Reports on standard error each hundredth of the horizon that the run reaches, with the lines so far; with --serial nothing.";
+    "Reports each hundredth of the horizon on standard error, with the count of lines; not with --serial.";
 
 const TRACE_HELP: &str =
-    "The form of the trace; with 2 each line but the last begins with its event's class, a and b.";
+    "The form of the trace; in form 2 each line except the last begins with the class, a and b of its event.";
 
 const WHY_HELP: &str =
-    "After the line of a refusal or of a file fault, shows its place on another line, where that is known.";
+    "Prints the location of a refusal or a file fault on another line, if it is known.";
 
 /// What the forms of the trace are called.
 const FORM_WORDS: &[&str] = &["1", "2"];
@@ -319,7 +317,7 @@ fn wave_command<'a>(alloc: Global) -> Result<Command<'a>, AllocError>
     with_arg(command, required(alloc, "TRACE", TRACE_FILE_HELP))
 }
 
-/// The command that explains a refusal.
+/// The command that explains a refusal or a reason.
 fn explain<'a>(alloc: Global) -> Result<Command<'a>, AllocError>
     ensures app { IfOk result (λ c. app_of c ≡ spec.explain) }
     ensures globals { IfOk result (λ c. (fields_of c).has_globals ≡ false) }

@@ -184,7 +184,8 @@ fn perform<R: Threads + Wait + Sync, S: Source, W: Write, E: Write>(
     }
 }
 
-/// The lines of an explanation: what the refusal of this name means, two examples of it, and what to look at.
+/// The lines of an explanation: what the refusal or the reason of this name means, two examples of it, and what to look
+/// at.
 fn explained(
     alloc: Global,
     name: &str,
@@ -200,12 +201,12 @@ fn explained(
     )?)
 }
 
-/// Writes what the refusal of this name means.
+/// Writes what the refusal or the reason of this name means.
 fn explain_to<W: Write>(alloc: Global, name: &str, out: &mut W) -> Result<Done, Failure>
     ensures { ExplainsRefusal name.now (W.contents out.old) (W.contents out.new) result }
 {
     let Some(explanation) = explain(name) else {
-        let line = format!(in alloc; "error: no refusal is called {name}\n")?;
+        let line = format!(in alloc; "error: no refusal or stop is called {name}\n")?;
         return Err(Failure::Line(line));
     };
     let Explanation {
@@ -264,7 +265,7 @@ fn obey<'w, R: Threads + Wait + Sync, S: Source + Streams, W: Write, E: Write>(
 ///
 /// # Errors
 /// That of the writer, which may have got a part.
-fn tell<E: Write>(err: &mut E, failure: &Failure) -> io::Result<()>
+fn report<E: Write>(err: &mut E, failure: &Failure) -> io::Result<()>
     ensures { OnOk result (Appends (E.contents err.old) (E.contents err.new) (told failure.now)) }
 {
     match failure {
@@ -282,7 +283,7 @@ fn report_end<E: Write>(err: &mut E, end: &Result<Done, Failure>, note: &Option<
     let Err(failure) = end else {
         return true;
     };
-    if tell(err, failure).is_err() {
+    if report(err, failure).is_err() {
         return false;
     }
     match note {

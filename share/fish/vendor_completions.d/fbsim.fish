@@ -1,7 +1,7 @@
 # Completion for fbsim in fish.
 
 set -l commands run check wave expect diff draw explain help
-set -l refusals E01 E02 E03 E04 E05 E10 E11 E12 E13 E14 E15 E16 E20 E21 E22 E23 E24 E25 E26 E27 E28 E29 E30 E40 E41 E42 E43 E44 E45 "'file fault'"
+set -l refusals E01 E02 E03 E04 E05 E10 E11 E12 E13 E14 E15 E16 E20 E21 E22 E23 E24 E25 E26 E27 E28 E29 E30 E40 E41 E42 E43 E44 E45 steps divide range "'file fault'"
 
 complete -c fbsim -n "not __fish_seen_subcommand_from $commands" -f
 complete -c fbsim -n "not __fish_seen_subcommand_from $commands" -a run -d "Run an application and write its trace"
@@ -10,7 +10,7 @@ complete -c fbsim -n "not __fish_seen_subcommand_from $commands" -a wave -d "Con
 complete -c fbsim -n "not __fish_seen_subcommand_from $commands" -a expect -d "Check rules against traces"
 complete -c fbsim -n "not __fish_seen_subcommand_from $commands" -a diff -d "Show where two traces first differ"
 complete -c fbsim -n "not __fish_seen_subcommand_from $commands" -a draw -d "Draw the application or a type"
-complete -c fbsim -n "not __fish_seen_subcommand_from $commands" -a explain -d "Explain a refusal"
+complete -c fbsim -n "not __fish_seen_subcommand_from $commands" -a explain -d "Explain a refusal or a stop"
 complete -c fbsim -n "not __fish_seen_subcommand_from $commands" -a help -d "Print help"
 complete -c fbsim -s h -l help -d "Print help"
 complete -c fbsim -n "not __fish_seen_subcommand_from $commands" -s V -l version -d "Print the version"

@@ -1,7 +1,9 @@
 //! What a body leaves where it stops, and which names a frame has. The expected values are worked by hand.
 
+ghost use Rattle.std.specs.Prelude.{◌≡◌, ◌++◌, ◌∷◌, []};
+
 use fb_read::read_library;
-use fb_st::{Flow, Frame, Meter, exec, knows};
+use fb_st::{Flow, Frame, Meter, Slot, SlotList, exec, knows};
 use fb_types::{Algorithm, BlockType, Name, Reason, Reference, Ty, Value};
 use std::alloc::Global;
 use std::mem::forget;
@@ -46,15 +48,34 @@ fn named(rt: &impl Abort, alloc: Global, text: &str) -> Name {
     Name::from_text(alloc, text).expect(rt, "memory")
 }
 
+/// Adds a variable after the others.
+fn add(rt: &impl Abort, slots: &mut SlotList, name: Name, ty: Ty, value: Value)
+    ensures { slots.new ≡ slots.old ++ record { name = name; ty = ty; value = value } ∷ [] }
+{
+    slots.push(Slot::new(name, ty, value)).expect(rt, "memory");
+}
+
 /// A frame with X : INT, which is 0.
 fn frame(rt: &impl Abort, alloc: Global) -> Frame {
-    let mut frame = Frame::new(alloc);
-    let x = named(rt, alloc, "X");
-    let is_new = frame
-        .declare(x, Ty::Int, Value::Whole(0))
-        .expect(rt, "memory");
-    assert!(rt; is_new);
-    frame
+    let mut slots = SlotList::new(alloc);
+    add(
+        rt,
+        &mut slots,
+        named(rt, alloc, "X"),
+        Ty::Int,
+        Value::Whole(0),
+    );
+    Frame::of(slots)
+}
+
+/// A frame with X : INT, which is 0, and Y : UINT, which is 7.
+fn frame_of_two(rt: &impl Abort, alloc: Global) -> Frame {
+    let (x, y) = (named(rt, alloc, "X"), named(rt, alloc, "Y"));
+    assert!(rt; !y.is(&x));
+    let mut slots = SlotList::new(alloc);
+    add(rt, &mut slots, x, Ty::Int, Value::Whole(0));
+    add(rt, &mut slots, y, Ty::Uint, Value::Whole(7));
+    Frame::of(slots)
 }
 
 /// The body of an algorithm goes as the row says.
@@ -96,29 +117,20 @@ fn bodies_leave_what_they_did_before_a_stop(rt: HostRuntime) {
 
 /// Wherever a reference expects its variable, the name alone decides.
 #[test]
-fn names_are_declared_once(rt: HostRuntime) {
+fn the_name_decides_which_variable_is_meant(rt: HostRuntime) {
     let alloc = rt.alloc();
-    let mut frame = frame(&rt, alloc);
     let (x, y) = (named(&rt, alloc, "X"), named(&rt, alloc, "Y"));
-    assert!(rt; frame.has(&x) && !frame.has(&y));
-    let is_new = frame
-        .declare(y, Ty::Uint, Value::Whole(7))
-        .expect(&rt, "memory");
-    assert!(rt; is_new);
-    let is_new = frame
-        .declare(x, Ty::Lint, Value::Whole(7))
-        .expect(&rt, "memory");
-    assert!(rt; !is_new);
-    let (x, y) = (
-        Reference::new(named(&rt, alloc, "X")),
-        Reference::new(named(&rt, alloc, "Y")),
-    );
-    assert!(rt; frame.value(&x) == Value::Whole(0));
+    let one = frame(&rt, alloc);
+    assert!(rt; one.has(&x) && !one.has(&y));
+    let two = frame_of_two(&rt, alloc);
+    assert!(rt; two.has(&x) && two.has(&y));
+    let (x, y) = (Reference::new(x), Reference::new(y));
+    assert!(rt; two.value(&x) == Value::Whole(0));
     for index in [0, 1, 9] {
         y.expect_at(index);
-        assert!(rt; frame.value(&y) == Value::Whole(7));
+        assert!(rt; two.value(&y) == Value::Whole(7));
     }
-    forget(frame);
+    forget((one, two));
     forget(x);
     forget(y);
 }

@@ -13,7 +13,7 @@ const TRACE: &[u8] =
     b"3 R1 > F.S\n3 R1 < F.EO Q=TRUE\n5 R2 > W.EI G=FALSE\n5 R2 < W.EO0\n5 R2 > W.EI G=TRUE\n5 R2 < W.EO1\nend 6\n";
 
 const REPORT: &[u8] =
-    b"TAP version 14\n1..4\nok 1 - a\nok 2 - b\nnot ok 3 - c\n  ---\n  message: \"too few up to here\"\n  trace: \"cell\"\n  line: 7\n  tick: 6\n  ...\nok 4 - d # SKIP undecided\n# no line of the trace is of: * * X.Y\n";
+    b"TAP version 14\n1..4\nok 1 - a\nok 2 - b\nnot ok 3 - c\n  ---\n  message: \"too few events up to this line\"\n  trace: \"cell\"\n  line: 7\n  tick: 6\n  ...\nok 4 - d # SKIP undecided\n# no line of the trace is of: * * X.Y\n";
 
 #[test]
 fn rules_are_reported(rt: HostRuntime) {

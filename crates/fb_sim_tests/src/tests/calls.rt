@@ -24,13 +24,13 @@ const HELP: &str =
     "Simulates IEC 61499-1 control applications in virtual time; one tick is a millisecond of it.\n\n\
     Usage: fbsim <COMMAND>\n\n\
     Commands:\n\
-    \x20 run      Runs an application and writes the trace of its events to standard output.\n\
-    \x20 check    Says whether a run would take these files, or which fault comes first.\n\
-    \x20 wave     Writes a trace to standard output as a value change dump, which viewers of waveforms show.\n\
-    \x20 expect   Says whether rules hold of traces, in the form of the Test Anything Protocol.\n\
-    \x20 diff     Says whether two traces are the same bytes, or where they part first.\n\
+    \x20 run      Runs an application and writes its trace to standard output.\n\
+    \x20 check    Prints `accepted` if a run would accept these files, otherwise the first fault.\n\
+    \x20 wave     Converts a trace to a value change dump, which waveform viewers read.\n\
+    \x20 expect   Checks rules against traces, and reports in the Test Anything Protocol.\n\
+    \x20 diff     Prints the first line in which two traces differ, or nothing if they are the same bytes.\n\
     \x20 draw     Writes the application or a type to standard output as a graph that graphviz draws.\n\
-    \x20 explain  Says what a refusal means, with two examples of it and what to look at.\n\
+    \x20 explain  Prints what a refusal or the reason of a stop means, two examples, and what to look at.\n\
     \x20 help     Print this message or the help of the given subcommand(s)\n\n\
     Options:\n\
     \x20 -h, --help     Print help\n\
@@ -122,7 +122,11 @@ static FAILED: [(&str, u8, &str); 18] = [
     ),
     ("fbsim run cycle --horizon 8 --workers 65", 5, WORKERS_OVER),
     ("fbsim run cycle --horizon 8 --trace 3", 5, NO_FORM),
-    ("fbsim explain E99", 5, "error: no refusal is called E99\n"),
+    (
+        "fbsim explain E99",
+        5,
+        "error: no refusal or stop is called E99\n",
+    ),
 ];
 
 /// Makes a call over the files in memory, and returns its status.

@@ -1,6 +1,6 @@
 use Rattle.std.proofs.Common.{Some, None, sym, ◌∙◌, ap}
 use Rattle.std.specs.Option.{option_copied}
-use Rattle.fb_types.specs.Blocks.{among, event_block_named, outputs_with}
+use Rattle.fb_types.specs.Blocks.{among, event_block_named, outputs_with, ports_of_event_block}
 use Rattle.fb_types.specs.declared.library.Ports.{Ports}
 use Rattle.fb_why.proofs.Carried.{declared_carries, event_carries}
 use Rattle.fb_why.proofs.unserved.type_carries.Goals as goal
@@ -8,6 +8,7 @@ use Rattle.fb_why.proofs.unserved.type_carries.Goals as goal
 pub returns-in-Some : goal.returns-in-Some
 returns-in-Some c =
     c.event_block_carries.ensures
+    ∙ (λ i. among (outputs_with (ports_of_event_block c.in-Some.kind) (c.as_bytes-in-Some.ensures i)) (c.as_bytes-in-Some-2.ensures i))
     ∙ event_carries c.args.library.now c.args.name.now c.args.event.now c.args.variable.now c.in-Some.kind
     (sym (ap event_block_named c.as_bytes.ensures) ∙ sym c.kind_named.ensures ∙ c.in-Some.is)
 

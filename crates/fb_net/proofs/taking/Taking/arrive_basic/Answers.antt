@@ -13,9 +13,9 @@ returns-clause-reacted c =
     let end = c.react_basic-end in
     let ended = subst (λ (vs : List Value). ChartEnded i c.args.self.now.forest.now c.args.at c.args.block.now vs c.args.meter.now.left end.result end.new.forest end.new.meter.left end.new.emits)
     c.as_slice.ensures end.ensures.reacted in
-    chart-reacts i c.args.self.now.key.now c.args.at c.args.block.now c.requires.kind c.requires.input c.args.self.now.forest.now end.new.forest c.tell.new.self.forest.now
-    c.args.self.now.outbox.now c.tell.new.self.outbox.now c.requires.index.ready c.requires.index.here c.in_ok-values.values c.in_ok-values.ensures.sampled c.args.meter.now.left end.new.meter.left end.new.emits
-    c.in_ok-tell.ensures.told end.result ended
+    chart-reacts i c.args.self.now.key.now c.args.at c.args.block.now c.requires.kind c.requires.input c.args.self.now.forest.now end.new.forest c.write_and_emit.new.self.forest.now
+    c.args.self.now.outbox.now c.write_and_emit.new.self.outbox.now c.requires.index.ready c.requires.index.here c.in_ok-values.values c.in_ok-values.ensures.sampled c.args.meter.now.left end.new.meter.left end.new.emits
+    c.in_ok-write_and_emit.ensures.told end.result ended
 
 pub returns-in_err-values-clause-kept : goal.returns-in_err-values-clause-kept
 returns-in_err-values-clause-kept c =
@@ -24,21 +24,21 @@ returns-in_err-values-clause-kept c =
 pub returns-clause-kept : goal.returns-clause-kept
 returns-clause-kept c =
     let end = c.react_basic-end in
-    kept-then c.args.self.now.system.now c.args.self.now.forest.now end.new.forest c.tell.new.self.forest.now (kept-world c.args.self.now.system.now c.args.self.now.forest.now end.new.forest end.ensures.resource end.ensures.whole) c.tell.ensures.kept
+    kept-then c.args.self.now.system.now c.args.self.now.forest.now end.new.forest c.write_and_emit.new.self.forest.now (kept-world c.args.self.now.system.now c.args.self.now.forest.now end.new.forest end.ensures.resource end.ensures.whole) c.write_and_emit.ensures.kept
 
-pub returns-in_err-tell-clause-kept : goal.returns-in_err-tell-clause-kept
-returns-in_err-tell-clause-kept c =
+pub returns-in_err-write_and_emit-clause-kept : goal.returns-in_err-write_and_emit-clause-kept
+returns-in_err-write_and_emit-clause-kept c =
     let end = c.react_basic-end in
-    kept-then c.args.self.now.system.now c.args.self.now.forest.now end.new.forest c.tell.new.self.forest.now (kept-world c.args.self.now.system.now c.args.self.now.forest.now end.new.forest end.ensures.resource end.ensures.whole) c.tell.ensures.kept
+    kept-then c.args.self.now.system.now c.args.self.now.forest.now end.new.forest c.write_and_emit.new.self.forest.now (kept-world c.args.self.now.system.now c.args.self.now.forest.now end.new.forest end.ensures.resource end.ensures.whole) c.write_and_emit.ensures.kept
 
-pub tell-requires-clause-counted : goal.tell-requires-clause-counted
-tell-requires-clause-counted c = c.in_ok-values.ensures.counted
+pub write_and_emit-requires-clause-counted : goal.write_and_emit-requires-clause-counted
+write_and_emit-requires-clause-counted c = c.in_ok-values.ensures.counted
 
 pub returns-clause-fewer : goal.returns-clause-fewer
 returns-clause-fewer c = c.react_basic-end.ensures.fewer
 
-pub tell-requires-clause-index : goal.tell-requires-clause-index
-tell-requires-clause-index c =
+pub write_and_emit-requires-clause-index : goal.write_and_emit-requires-clause-index
+write_and_emit-requires-clause-index c =
     let index = c.requires.index in
     let same = c.react_basic-end.ensures.resource in
     record {

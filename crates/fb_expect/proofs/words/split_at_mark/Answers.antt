@@ -1,6 +1,6 @@
 use Rattle.std.proofs.Common.{arith, rules}
 use Rattle.fb_expect.proofs.Parts.{parted_at, parted_none}
-use Rattle.fb_expect.proofs.words.parted.Goals as goal
+use Rattle.fb_expect.proofs.words.split_at_mark.Goals as goal
 
 pub returns-then-text-at : goal.returns-then-text-at
 returns-then-text-at c = parted_at c.args.mark c.args.text.now c.loop-at.at c.loop-at-test.true c.loop-at.invariant (search rules)

@@ -3,7 +3,7 @@ use Rattle.std.specs.Prelude.{IfSome, MatchOption, Option, Some, None}
 use Rattle.std.specs.Borrow.{Bor}
 use Rattle.std.proofs.lemmas.Bool.Decides.{Decides-eqb}
 use Rattle.std.proofs.lemmas.Slice.Eq.{strip_prefix_is}
-use Rattle.fb_expect.proofs.words.behind.Goals as goal
+use Rattle.fb_expect.proofs.words.after_front.Goals as goal
 
 some_of : (o : Option (Bor (List ℕ))) (P : Type 0) (Q : Bor (List ℕ) → Type 0) → MatchOption o P Q → IfSome o Q
 some_of None P Q m = tt

@@ -1,4 +1,4 @@
--- What two lines differ in, as it is reported (docs/FORMATS.md, "Where two traces part"; this project's own).
+-- How two lines differ, as it is reported (docs/FORMATS.md, "Where two traces differ"; this project's own).
 use Rattle.std.specs.Prelude.{◌≡◌, ℕ, Bool, true, false, not, ◌&&◌, ◌||◌, ◌==◌, nat_lt, if◌then◌else◌, List, [], ◌∷◌, length, drop, unwrap_or, codes, decimal}
 use Rattle.std.specs.Str.{bytes_eq}
 use Rattle.fb_types.specs.declared.run.Form.{Form}
@@ -9,8 +9,8 @@ use Rattle.fb_expect.specs.Words.{Text, before}
 use Rattle.fb_expect.specs.declared.ending.End.{End}
 use Rattle.fb_expect.specs.declared.entry.Entry.{Entry}
 use Rattle.fb_expect.specs.declared.parting.Difference.{Difference}
-use Rattle.fb_expect.specs.declared.telling.LineKind.{LineKind}
-use Rattle.fb_expect.specs.declared.telling.LineKind.TheVariants as kind
+use Rattle.fb_expect.specs.declared.difference_report.LineKind.{LineKind}
+use Rattle.fb_expect.specs.declared.difference_report.LineKind.TheVariants as kind
 
 -- what a line is: that of an event, a last line of a tick, no line, or another one
 abbrev pub IsKind : Text → LineKind → Type 0
@@ -70,8 +70,8 @@ difference_text first second d left right =
     joined (codes "line " ∷ decimal d.number ∷ codes " differs in: " ∷ what left right ∷ codes "\n" ∷ shown_line first d.left.items left
     ∷ shown_line second d.right.items right ∷ [])
 
--- The text says in what two files differ.
-pub record Tells (first second : Text) (d : Difference) (text : Text) : Type 0 where
+-- The text shows how two files differ.
+pub record ShowsDifference (first second : Text) (d : Difference) (text : Text) : Type 0 where
   pub left : LineKind
   pub right : LineKind
   pub is_left : IsKind d.left.items left

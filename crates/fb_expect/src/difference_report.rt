@@ -1,8 +1,8 @@
-//! What two lines differ in, as it is reported.
+//! Reports how two lines differ.
 
 ghost use Rattle.std.specs.Prelude.{◌≡◌, IfOk};
-ghost use Rattle.fb_expect.specs.Telling as spec;
-ghost use Rattle.fb_expect.specs.Telling.{IsKind, Tells};
+ghost use Rattle.fb_expect.specs.DifferenceReport as spec;
+ghost use Rattle.fb_expect.specs.DifferenceReport.{IsKind, ShowsDifference};
 
 use crate::ending::read_end;
 use crate::entry::Entry;
@@ -13,7 +13,7 @@ use crate::tap::{digits_of, join};
 use crate::words::before;
 use std::alloc::{AllocError, Global};
 
-/// What a line of a text is.
+/// The kind of a line of a text.
 #[derive(Clone, Copy)]
 pub(crate) enum LineKind<'a> {
     Event(Entry<'a>),
@@ -40,7 +40,7 @@ fn kind_of(line: &[u8]) -> LineKind<'_>
     }
 }
 
-/// A word, unless two parts are the same.
+/// The word, unless two parts are the same.
 fn unless(same: bool, word: &'static [u8]) -> &'static [u8]
     ensures { result.now ≡ spec.unless same word.entry.now }
 {
@@ -48,7 +48,7 @@ fn unless(same: bool, word: &'static [u8]) -> &'static [u8]
 }
 
 /// The parts in which two events differ, each after a comma and a blank: their ticks, resources, ports and values.
-#[tactic(auto, unfolding(crate::specs::Telling::parts))]
+#[tactic(auto, unfolding(crate::specs::DifferenceReport::parts))]
 fn parts(alloc: Global, left: &Entry<'_>, right: &Entry<'_>) -> Result<Vec<u8>, AllocError>
     ensures { IfOk result (λ t. t.items ≡ spec.parts left.now right.now) }
 {
@@ -141,9 +141,9 @@ fn shown_line(
     }
 }
 
-/// What two files differ in, whose lines are of these kinds: the number of the line and the parts that differ, and then
-/// both lines.
-#[tactic(auto, unfolding(crate::specs::Telling::difference_text))]
+/// Reports how two files differ: the number of the line and the parts that differ, and then both lines, which are of
+/// these kinds.
+#[tactic(auto, unfolding(crate::specs::DifferenceReport::difference_text))]
 fn text_of(
     alloc: Global,
     first: &str,
@@ -172,14 +172,17 @@ fn text_of(
     )
 }
 
-/// What two files differ in: the number of the line and the parts that differ, and then both lines.
+/// Reports how two files differ: the number of the line and the parts that differ, and then both lines.
+///
+/// # Errors
+/// Out of memory.
 pub fn difference_text(
     alloc: Global,
     first: &str,
     second: &str,
     difference: &Difference,
 ) -> Result<Vec<u8>, AllocError>
-    ensures { IfOk result (λ t. Tells first.now second.now difference.now t.items) }
+    ensures { IfOk result (λ t. ShowsDifference first.now second.now difference.now t.items) }
 {
     let left = kind_of(difference.left.as_slice());
     let right = kind_of(difference.right.as_slice());

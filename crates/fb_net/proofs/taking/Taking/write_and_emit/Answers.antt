@@ -4,7 +4,7 @@ use Rattle.fb_types.specs.Headline.{system_of}
 use Rattle.fb_types.specs.Numbers.{emission_of, line_of, path_at, ports_at}
 use Rattle.fb_net.proofs.Arriving.{told-so}
 use Rattle.fb_net.proofs.Sampling.{taken_line}
-use Rattle.fb_net.proofs.taking.Taking.tell.Goals as goal
+use Rattle.fb_net.proofs.taking.Taking.write_and_emit.Goals as goal
 
 pub returns-clause-told : goal.returns-clause-told
 returns-clause-told c =

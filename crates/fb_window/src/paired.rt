@@ -8,7 +8,7 @@ use std::alloc::AllocError;
 ///
 /// A value of a type parameter is dropped by one call. Where `?` is next to owned values of other types, the drop of
 /// each is written out at each exit, and proved there.
-pub(crate) fn beside<A: Drop, B: Drop>(
+pub(crate) fn paired<A: Drop, B: Drop>(
     kept: A,
     made: Result<B, AllocError>,
 ) -> Result<(A, B), AllocError>

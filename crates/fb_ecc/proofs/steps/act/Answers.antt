@@ -1,0 +1,41 @@
+use Rattle.std.proofs.Common.{List, None, arith, subst, sym}
+use Rattle.fb_types.specs.Charts.{actions_of}
+use Rattle.fb_types.specs.declared.library.Action.{Action}
+use Rattle.fb_types.proofs.ByIndex.{element_at}
+use Rattle.fb_ecc.specs.Indexes.{state_at}
+use Rattle.fb_ecc.specs.Programs.{IsProgramOf}
+use Rattle.fb_ecc.specs.declared.chart.Act.{Act}
+use Rattle.fb_ecc.specs.declared.program.Program.{Program}
+use Rattle.fb_ecc.proofs.Stepwise.{act_at, acts_read, acts_within}
+use Rattle.fb_ecc.proofs.steps.act.Goals as goal
+
+abbrev unread : Act
+unread = record { algorithm = None; output = None }
+
+pub bounds-acts-index : goal.bounds-acts-index
+bounds-acts-index c =
+    let are = acts_read c.args.block.now c.args.state.now.chart.chart c.rows.result.now c.args.state.now.state c.acts_of-acts.result.now c.requires.sound c.requires.block.chart.chart c.requires.block.state c.rows.ensures c.acts_of-acts.ensures in
+    acts_within c.args.block.now c.acts_of-acts.result.now (actions_of c.args.block.now (state_at c.args.block.now c.args.state.now.state)) c.args.index are c.requires.within
+
+pub offset_bounds-acts-index : goal.offset_bounds-acts-index
+offset_bounds-acts-index c =
+    let are = acts_read c.args.block.now c.args.state.now.chart.chart c.rows.result.now c.args.state.now.state c.acts_of-acts.result.now c.requires.sound c.requires.block.chart.chart c.requires.block.state c.rows.ensures c.acts_of-acts.ensures in
+    let within = acts_within c.args.block.now c.acts_of-acts.result.now (actions_of c.args.block.now (state_at c.args.block.now c.args.state.now.state)) c.args.index are c.requires.within in
+    let sized = c.acts_of-acts.type_inv in
+    omega arith
+
+pub perform-requires-clause-program : goal.perform-requires-clause-program
+perform-requires-clause-program c = subst (λ (p : Program). IsProgramOf c.args.block.now p) (sym c.program-program.ensures) c.requires.block.chart.program
+
+pub perform-requires-clause-act : goal.perform-requires-clause-act
+perform-requires-clause-act c =
+    let are = acts_read c.args.block.now c.args.state.now.chart.chart c.rows.result.now c.args.state.now.state c.acts_of-acts.result.now c.requires.sound c.requires.block.chart.chart c.requires.block.state c.rows.ensures c.acts_of-acts.ensures in
+    let actions : List Action = actions_of c.args.block.now (state_at c.args.block.now c.args.state.now.state) in
+    let a = element_at actions c.args.index c.requires.within in
+    (a.0, act_at c.args.block.now c.acts_of-acts.result.now actions c.args.index unread a.0 are a.1)
+
+pub returns-clause-performed : goal.returns-clause-performed
+returns-clause-performed c = λ a at.
+    let are = acts_read c.args.block.now c.args.state.now.chart.chart c.rows.result.now c.args.state.now.state c.acts_of-acts.result.now c.requires.sound c.requires.block.chart.chart c.requires.block.state c.rows.ensures c.acts_of-acts.ensures in
+    let actions : List Action = actions_of c.args.block.now (state_at c.args.block.now c.args.state.now.state) in
+    c.perform.ensures.performed a c.args.state.now.state (act_at c.args.block.now c.acts_of-acts.result.now actions c.args.index unread a are at)

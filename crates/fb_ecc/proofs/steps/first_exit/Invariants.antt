@@ -1,0 +1,19 @@
+use Rattle.std.proofs.Common.{◌≡◌, ◌≤◌, drop}
+use Rattle.std.specs.Prelude.{option_map}
+use Rattle.fb_types.specs.Charts.{trial_of}
+use Rattle.fb_types.specs.Numbers.{event_at}
+use Rattle.fb_st.specs.Frames.{values_of}
+use Rattle.fb_ecc.specs.Steps.{first_true}
+use Rattle.fb_ecc.specs.Trials.{transitions_at}
+use Rattle.fb_ecc.proofs.steps.first_exit.Given as goal
+
+-- trying all from the start comes to what trying the rest comes to from here
+abbrev pub invariant-loop-exit : goal.invariant-loop-exit
+invariant-loop-exit l = record {
+  run : let event = option_map (event_at l.block.ports.event_inputs) l.present in
+      trial_of (transitions_at l.block l.exits) event (values_of l.frame) l.initial.meter.left
+      ≡ trial_of (transitions_at l.block (drop l.exit-index l.exits)) event (values_of l.frame) l.meter.left;
+  first : let event = option_map (event_at l.block.ports.event_inputs) l.present in
+      first_true (transitions_at l.block l.exits) event (values_of l.frame) ≡ first_true (transitions_at l.block (drop l.exit-index l.exits)) event (values_of l.frame);
+  fewer : l.meter.left ≤ l.initial.meter.left;
+}
