@@ -76,10 +76,12 @@ b0 n2
 b0 n3
 b0 n4
 b0 n5
-bx v6
+b11 v6
 $end
 """
 WAVE_TO_8 = SIGNALS + b"1e0\nb1 n0\n1e3\nb1 n3\nb11 v6\n#3\n1e5\nb1 n5\n#6\n1e5\nb10 n5\n#8\n"
+CUT = b"$comment cut $end\n"
+WAVE_CUT = WAVE_TO_8.removesuffix(b"#8\n") + CUT
 WAVE_STOPPED = SIGNALS + b"1e0\nb1 n0\n$comment stop MAIN steps $end\n"
 # The graph of the same application, in its one resource.
 GRAPH = b"""digraph "A" {
@@ -190,7 +192,7 @@ HELP_OF_RUN = (
 )
 HELP_OF_CHECK = (*HELP_OF_FILES, "Example: fbsim check ")
 HELP_OF_WAVE = (
-    "DECL", "declaration of the types", "TRACE", "file with the trace", "--deploy", "in TOML", "at most 1 MiB", "Example: fbsim wave ",
+    "DECL", "declaration of the types", "TRACE", "file with the trace", "--deploy", "in TOML", "at most 1 MiB", "--cut", "cut off", "--why", "Prints the location", "Example: fbsim wave ",
 )
 HELP_OF_EXPECT = (
     "RULES", "in TOML", "1000 rules", "TRACE", "--decl", "all names of the rules", "--deploy", "--strict", "undecided as broken", "--cut", "without a last line",
@@ -257,6 +259,13 @@ CALLS = [
     Call(["wave", "pipe", "-"], 0, out=LONG_WAVE, given=LONG_TRACE),
     # A text that is no trace is refused with its line, but after the declaration and the deployment.
     Call(["wave", "cycle", "cut_trace"], 2, err=b"refused trace line 5\n"),
+    Call(["wave", "cycle", "cut_trace", "--cut"], 0, out=WAVE_CUT),
+    Call(["wave", "cycle", "-", "--cut"], 0, out=WAVE_CUT, given=KEYED_TO_8[:-1]),
+    Call(["wave", "cycle", "no_trace", "--cut"], 0, out=SIGNALS + CUT),
+    Call(["wave", "cycle", "trace", "--cut"], 0, out=WAVE_TO_8),
+    Call(["wave", "cycle", "strange_trace", "--cut"], 2, err=b"refused trace line 4\n"),
+    Call(["wave", "cycle", "longer_trace", "--cut"], 2, err=b"refused trace line 3\n"),
+    Call(["wave", "cycle", "cut_trace", "--cut"], 3, err=b"write fault after 0 bytes\n", to="full"),
     Call(["wave", "cycle", "strange_trace"], 2, err=b"refused trace line 4\n"),
     Call(["wave", "cycle", "no_trace"], 2, err=b"refused trace line 1\n"),
     Call(["wave", "ring", "trace"], 2, err=b"refused trace line 2\n"),
@@ -264,7 +273,11 @@ CALLS = [
     Call(["wave", "twice", "no_trace"], 2, err=b"refused E20\n"),
     Call(["wave", "cycle", "--deploy", "cut_pipe", "trace"], 2, err=b"refused E10\n"),
     # Files that are missing or can't be read.
+    Call(["wave", "twice", "no_trace", "--why"], 2, err=b"refused E20\napplication A: instance S is given twice\n"),
     Call(["wave", "nowhere", "trace"], 3, err=b"file fault\n"),
+    Call(["wave", "nowhere", "trace", "--why"], 3, err=b"file fault\ndeclaration nowhere: no file of this name can be read\n"),
+    Call(["wave", "cycle", "nowhere", "--why"], 3, err=b"file fault\ntrace nowhere: no file of this name can be read\n"),
+    Call(["wave", "-", "-", "--why"], 3, err=b"file fault\ntrace -: standard input can't be read, or was read before\n", given=CYCLE),
     Call(["wave", "twice", "nowhere"], 3, err=b"file fault\n"),
     Call(["wave", "cycle", "."], 3, err=b"file fault\n"),
     Call(["wave", "cycle", "locked"], 3, err=b"file fault\n"),

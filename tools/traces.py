@@ -1,12 +1,13 @@
 #!/usr/bin/env python3
-"""tools/traces.py: makes waveforms of traces that are cut off, or changed in a byte or a line.
+"""tools/traces.py: makes waveforms of traces that are cut off, or changed in a byte or a line, with --cut and without.
 
 The expected result of each text is worked out here from docs/FORMATS.md, "What is no trace", without the program. A text that is
-still a trace has the dump of its lines (tools/waves.py). Any other is refused with the number of the line at which that shows first.
-These calls show it for some thousands of texts.
+still a trace has the dump of its lines (tools/waves.py); with --cut, so has one that is cut off. Any other is refused with the number
+of the line at which that shows first. These calls show it for some thousands of texts.
 
 ./gate makes them each time it has run the program. Without ./gate they use the program that ./simulate built."""
 
+import itertools
 import re
 import sys
 from typing import NamedTuple, Optional
@@ -100,8 +101,8 @@ def least_end(line, ports):
     return None
 
 
-def refused_at(text, ports):
-    """The number of the line at which a text shows first that it is no trace, or None if it is one."""
+def refused_at(text, ports, may_cut=False):
+    """The number of the line at which a text shows first that it is no trace, or None if it is one. It may be cut off, or not."""
     *lines, cut = text.split("\n")
     second = (lines + [cut])[0].split(" ")[1:2]
     form = 2 if re.match("[0-9]", "".join(second)) else 1
@@ -114,7 +115,7 @@ def refused_at(text, ports):
         if tick is None or tick < last:
             return count
         last = tick
-    return len(lines) + 1
+    return None if may_cut else len(lines) + 1
 
 
 # ---- Texts
@@ -133,26 +134,34 @@ def changed(text):
             yield b"".join([*lines[:at], *before, *lines[at + 1 : -1], *behind, *lines[max(at + 1, len(lines) - 1) :]])
 
 
-def fault(it, text, ran):
+def faults_of_dump(it, text, dump):
+    """What is wrong with the dump of a text, of which the whole lines count."""
+    whole = text[: text.rfind(b"\n") + 1]
+    # (the first line of form two has a digit where that of form one has a name)
+    is_second = whole.split(b" ")[1:2] and whole.split(b" ")[1][:1].isdigit() and not waves.is_last(whole)
+    deployment = FILES[it.words[3]] if "--deploy" in it.words else None
+    case = waves.Case("", FILES[it.words[1]], deployment, (waves.form_one(whole) if is_second else whole,))
+    return waves.faults(case, dump, False)
+
+
+def fault(it, text, may_cut, ran):
     """What is wrong with the result of a text, or None."""
-    refused: Optional[int] = refused_at(text.decode("latin-1"), it.ports)
+    refused: Optional[int] = refused_at(text.decode("latin-1"), it.ports, may_cut)
     if refused is not None:
         is_well = (ran.returncode, ran.stdout, ran.stderr) == (2, b"", b"refused trace line %d\n" % refused)
         return None if is_well else f"{text!r}: line {refused}, and not {ran.returncode} {ran.stdout[-200:]!r} {ran.stderr!r}"
-    # (the first line of form two has a digit where that of form one has a name)
-    is_second = text.split(b" ")[1][:1].isdigit() and not text.startswith(b"end")
-    wrong = [str(ran.stderr)] if ran.returncode else waves.faults(waves.form_one(text) if is_second else text, ran.stdout, False)
-    return f"{text!r}: a trace, and {wrong}" if wrong else None
+    wrong = [str(ran.stderr)] if ran.returncode else faults_of_dump(it, text, ran.stdout)
+    return f"{text!r}: a trace{', which may be cut off,' * may_cut} and {wrong}" if wrong else None
 
 
 def try_all(program):
     """Returns whether each text has the expected result."""
     made, faults = 0, []
     with Room(program, FILES) as room:
-        for it in TEXTS:
+        for it, may_cut in itertools.product(TEXTS, (False, True)):
             texts = sorted({it.trace, *changed(it.trace)})
-            runs = side_by_side(lambda text: room.call(it.words, text), texts)
-            found = [fault(it, text, ran) for text, ran in zip(texts, runs)]
+            runs = side_by_side(lambda text: room.call([*it.words, *["--cut"] * may_cut], text), texts)
+            found = [fault(it, text, may_cut, ran) for text, ran in zip(texts, runs)]
             made, faults = made + len(texts), faults + [one for one in found if one]
     for it in faults[:SHOWN]:
         print(it)

@@ -7,7 +7,8 @@ The dump is read by tools/vcd.py, which knows only the standard, and by GTKWave'
 and fst2vcd prints the contents of the database. Both are compared with the trace, of which only the lines are used:
 - in each tick the ports that had an event fire, and no others;
 - the register of a port counts its events;
-- a variable has the last value of a line, and is unknown before its first;
+- a variable has the last value of a line, and before its first the initial value that tools/interpreter.py takes from the
+  declaration;
 - the last time is that of the last line, and a stop has its comment.
 
 If vcd2fst is missing, this installs the system's package gtkwave. If that fails, for example without a network, it says so, and only
@@ -21,9 +22,11 @@ import shutil
 import subprocess
 import sys
 import tempfile
+import tomllib
 from typing import NamedTuple, Optional
 
 import calls
+import interpreter
 import vcd
 from kit import TOP
 from program import Room
@@ -72,8 +75,10 @@ class Case(NamedTuple):
 
 
 class Told(NamedTuple):
-    """What a trace says: when each event port fires, the values of each other signal with their times, and the end."""
+    """What a trace says: when each event port fires, the values of each other signal with their times, and the end. Before that,
+    what the variables of the declaration begin with."""
 
+    begun: dict
     fired: dict
     values: dict
     end: int
@@ -83,10 +88,14 @@ class Told(NamedTuple):
 # ---- What a trace says
 
 
+def is_last(line):
+    """Whether a line is the last one of a trace that is not cut off."""
+    return line.split(b" ")[0] in (b"end", b"stop")
+
+
 def form_one(trace):
-    """A trace of form two in form one: each line except the last has three words fewer."""
-    *lines, last = trace.splitlines(keepends=True)
-    return b"".join([it.split(b" ", 3)[3] for it in lines] + [last])
+    """A trace of form two in form one: each line except the last one has three words fewer."""
+    return b"".join(it if is_last(it) else it.split(b" ", 3)[3] for it in trace.splitlines(keepends=True))
 
 
 def bits_of(word):
@@ -96,36 +105,47 @@ def bits_of(word):
     return format(int(word) % 2**BITS, f"0{BITS}b")
 
 
-def told_by(trace):
-    """Returns what a trace of form one says."""
-    fired, counts, values = {}, {}, {}
-    *lines, last = trace.decode().splitlines()
+def begun_by(case):
+    """Returns the initial bits of each variable of what is declared."""
+    deployment = case.deployment and tomllib.loads(case.deployment.decode())
+    system, found = interpreter.System(case.declaration.decode("utf-8-sig"), deployment), {}
+    for block in system.blocks:
+        place = f"{system.resources[block.home][0]}.{block.path}"
+        found |= {f"{place}.{name}": bits_of(str(value).upper()) for name, value in (block.slots | block.published).items()}
+    return found
+
+
+def told_by(trace, begun):
+    """Returns what a trace of form one says, where the variables begin with these bits. It may be cut off after a line."""
+    fired, counts, values, end = {}, {}, {}, 0
+    *lines, last = [*trace.splitlines(), b""] if not is_last((trace.splitlines() or [b""])[-1]) else trace.splitlines()
     for line in lines:
-        tick, resource, _, port, *words = line.split(" ")
+        tick, resource, _, port, *words = line.decode().split(" ")
         name, tick = f"{resource}.{port}", int(tick)
+        end = tick
         counts[name] = counts.get(name, 0) + 1
         fired.setdefault(name, {})[tick] = True
         values.setdefault(name + COUNT, {})[tick] = bits_of(counts[name])
         for word in words:
             variable, _, value = word.partition("=")
             values.setdefault(f"{name.rpartition('.')[0]}.{variable}", {})[tick] = bits_of(value)
-    end, tick, *stop = last.split(" ")
-    comments = [(int(tick), " ".join([end, *stop]))] if end == "stop" else []
-    return Told({name: [*ticks] for name, ticks in fired.items()}, values, int(tick), comments)
+    kind, tick, *stop = last.decode().split(" ") if last else ("cut", end)
+    comments = [] if kind == "end" else [(int(tick), " ".join([kind, *stop]))]
+    return Told(begun, {name: [*ticks] for name, ticks in fired.items()}, values, int(tick), comments)
 
 
 # ---- What a dump says
 
 
-def begins(name, size):
-    """The initial bits of a signal: a count is 0, a variable unknown."""
-    return ("0" if name.endswith(COUNT) else "x") * size
+def begins(told, name, size):
+    """The initial bits of a signal: a count is 0, a variable has its initial value."""
+    return "0" * size if name.endswith(COUNT) else told.begun[name]
 
 
-def steps_of(values, name, size):
+def steps_of(told, name, size):
     """The times at which a signal changes, with its bits from then on. The first is 0."""
-    found = [(0, begins(name, size))]
-    for tick, bits in sorted(values.items()):
+    found = [(0, begins(told, name, size))]
+    for tick, bits in sorted(told.values.get(name, {}).items()):
         if tick == 0:
             found = []
         if not found or found[-1][1] != bits:
@@ -152,7 +172,7 @@ def differences(told, dump):
         if signal.kind == "event":
             seen, wanted = dump.fired.get(name, []), told.fired.get(name, [])
         else:
-            seen, wanted = dump.values.get(name, []), steps_of(told.values.get(name, {}), name, signal.size)
+            seen, wanted = dump.values.get(name, []), steps_of(told, name, signal.size)
         if seen != wanted:
             yield f"{name} has {seen[:9]} and not {wanted[:9]}"
     if dump.end != told.end:
@@ -166,7 +186,7 @@ def faults_of_form(told, dump):
     if dump.comments != told.comments:
         yield f"the comments are {dump.comments} and not {told.comments}"
     for name, signal in dump.signals.items():
-        if signal.kind != "event" and dump.begun.get(name) != begins(name, signal.size):
+        if signal.kind != "event" and dump.begun.get(name) != begins(told, name, signal.size):
             yield f"{name} begins with {dump.begun.get(name)}"
         if signal.kind == "event" and (name in dump.begun or dump.signals.get(name + COUNT) != vcd.Signal("reg", BITS)):
             yield f"{name} fires in $dumpvars, or has no count"
@@ -195,9 +215,9 @@ def faults_by(text_of, told, look):
         return [str(fault)]
 
 
-def faults(trace, dump, with_gtkwave):
-    """What is wrong with the dump of a trace of form one."""
-    told = told_by(trace)
+def faults(case, dump, with_gtkwave):
+    """What is wrong with the dump of the trace of form one of a case."""
+    told = told_by(case.forms[0], begun_by(case))
     found = faults_by(lambda: dump.decode("ascii"), told, [faults_of_form, differences])
     if with_gtkwave:
         found += [f"by GTKWave: {it}" for it in faults_by(lambda: by_gtkwave(dump), told, [differences])]
@@ -262,18 +282,18 @@ def faults_of(room, case, with_gtkwave):
     except vcd.Fault as fault:
         return [str(fault)]
     found = ["the dumps of the two forms differ"] if any(it != first for it in others) else []
-    return found + faults(case.forms[0], first, with_gtkwave)
+    return found + faults(case, first, with_gtkwave)
 
 
 def unseen(room, case, with_gtkwave):
     """The changes of a dump that can be removed, or moved to twice their time, without a fault here. There must be none."""
     lines = dump_of(room, case, case.forms[0]).splitlines(keepends=True)
     for place in range(lines.index(b"$end\n") + 1, len(lines)):
-        if not faults(case.forms[0], b"".join(lines[:place] + lines[place + 1 :]), False):
+        if not faults(case, b"".join(lines[:place] + lines[place + 1 :]), False):
             yield f"that the line {lines[place].decode().strip()} is gone is not seen"
     if with_gtkwave:
         late = re.sub(rb"^#5$", b"#4", b"".join(lines), flags=re.M)
-        if not any(it.startswith("by GTKWave") for it in faults(case.forms[0], late, True)):
+        if not any(it.startswith("by GTKWave") for it in faults(case, late, True)):
             yield "that GTKWave reads another time is not seen"
 
 

@@ -49,7 +49,7 @@ name_dotless (b ∷ bs) h =
     let low = letter_low b parts.0 in
     and_from (not (b == 46)) (is_dotless bs) (not_from_false (b == 46) (ne_eqb b 46 (λ e. omega (arith, e, low)))) (more_dotless bs parts.1)
 
--- ---- Names joined by full stops tell each name
+-- ---- Names joined by full stops distinguish each name
 
 has_dot : (n xs m : List ℕ) → is_dotless n ≡ true → n ≡ xs ++ 46 ∷ m → ⊥
 has_dot n xs m free e =

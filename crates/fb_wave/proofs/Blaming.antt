@@ -39,7 +39,7 @@ last_small sys t (l ∷ ls) small all =
     last_small sys l.key.tick ls (All-head (IsLineOf sys) l ls all).range.tick (All-tail (IsLineOf sys) l ls all)
 
 -- what is known of a text whose lines were read, and of the text behind them
-known :
+pub known :
     (input left : Option (List ℕ)) (before next : List ℕ) (P : List ℕ → Type 0) → Consumes input left (before ++ next)
     → ((text rest : List ℕ) → input ≡ Some text → left ≡ Some rest → text ≡ before ++ (next ++ rest) → P text) → IfSome input P
 known None left before next P read then = tt

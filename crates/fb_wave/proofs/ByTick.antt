@@ -140,9 +140,9 @@ time_same t u later =
     ap (λ (b : Bool). cond b [] (line (35 ∷ decimal u))) (ne_eqb u t (λ e. omega (arith, e, later)))
     ∙ ap (λ (b : Bool). cond b [] (line (35 ∷ decimal u))) (sym (ne_eqb u 0 (λ e. omega (arith, e, later))))
 
--- What is told from a tick on: what its lines change, those that came and those that come, and then each later tick.
-abbrev ToldFrom : System → (tick : ℕ) → (before now rest : List Line) → List ℕ
-ToldFrom sys t before now rest =
+-- What is shown from a tick on: what its lines change, those that came and those that come, and then each later tick.
+abbrev ShownFrom : System → (tick : ℕ) → (before now rest : List Line) → List ℕ
+ShownFrom sys t before now rest =
     tick_changes sys before (of_tick t (now ++ rest)) ++ flat_map (tick_text sys ((before ++ now) ++ rest)) (later_ticks t rest)
 
 one_more : (before now : List Line) (l : Line) (ls : List Line) → (before ++ (now ++ l ∷ [])) ++ ls ≡ (before ++ now) ++ l ∷ ls
@@ -160,8 +160,8 @@ module _ (sys : System) (t : ℕ) (before now : List Line) (l : Line) (ls : List
   all = (before ++ now) ++ l ∷ ls
 
   step_same :
-      (u == t) ≡ true → ticks_text sys t before (now ++ l ∷ []) ls ≡ ToldFrom sys t before (now ++ l ∷ []) ls
-      → ticks_text sys t before now (l ∷ ls) ≡ ToldFrom sys t before now (l ∷ ls)
+      (u == t) ≡ true → ticks_text sys t before (now ++ l ∷ []) ls ≡ ShownFrom sys t before (now ++ l ∷ []) ls
+      → ticks_text sys t before now (l ∷ ls) ≡ ShownFrom sys t before now (l ∷ ls)
   step_same e more =
       ap (λ (b : Bool). cond b (ticks_text sys t before (now ++ l ∷ []) ls)
       ((tick_changes sys before now ++ time_text t u) ++ ticks_text sys u (before ++ now) (l ∷ []) ls)) e
@@ -172,8 +172,8 @@ module _ (sys : System) (t : ℕ) (before now : List Line) (l : Line) (ls : List
       ∙ ap (λ (b : Bool). tick_changes sys before (of_tick t (now ++ l ∷ ls)) ++ flat_map (tick_text sys all) (cond b (later_ticks t ls) (u ∷ later_ticks u ls))) (sym e)
 
   step_next :
-      (u == t) ≡ false → t < u → ticks_text sys u (before ++ now) (l ∷ []) ls ≡ ToldFrom sys u (before ++ now) (l ∷ []) ls
-      → ticks_text sys t before now (l ∷ ls) ≡ ToldFrom sys t before now (l ∷ ls)
+      (u == t) ≡ false → t < u → ticks_text sys u (before ++ now) (l ∷ []) ls ≡ ShownFrom sys u (before ++ now) (l ∷ []) ls
+      → ticks_text sys t before now (l ∷ ls) ≡ ShownFrom sys t before now (l ∷ ls)
   step_next e later more =
       let A = tick_changes sys before now in
       let F = flat_map (tick_text sys all) (later_ticks u ls) in
@@ -200,26 +200,26 @@ module _ (sys : System) (t : ℕ) (before now : List Line) (l : Line) (ls : List
       ∙ ap (λ (b : Bool). tick_changes sys before (of_tick t (now ++ l ∷ ls)) ++ flat_map (tick_text sys all) (cond b (later_ticks t ls) (u ∷ later_ticks u ls))) (sym e)
 
   step :
-      ((u ≡ t) → ticks_text sys t before (now ++ l ∷ []) ls ≡ ToldFrom sys t before (now ++ l ∷ []) ls)
-      → (t < u → ticks_text sys u (before ++ now) (l ∷ []) ls ≡ ToldFrom sys u (before ++ now) (l ∷ []) ls) → (b : Bool) → (u == t) ≡ b
-      → ticks_text sys t before now (l ∷ ls) ≡ ToldFrom sys t before now (l ∷ ls)
+      ((u ≡ t) → ticks_text sys t before (now ++ l ∷ []) ls ≡ ShownFrom sys t before (now ++ l ∷ []) ls)
+      → (t < u → ticks_text sys u (before ++ now) (l ∷ []) ls ≡ ShownFrom sys u (before ++ now) (l ∷ []) ls) → (b : Bool) → (u == t) ≡ b
+      → ticks_text sys t before now (l ∷ ls) ≡ ShownFrom sys t before now (l ∷ ls)
   step same next true e = step_same e (same (eqb-true u t e))
   step same next false e = let later = above t u up (eqb-false u t e) in step_next e later (next later)
 
-told_from :
-    (sys : System) (t : ℕ) (before now rest : List Line) → AreBelow t before → AreAt t now → RiseFrom t rest → ticks_text sys t before now rest ≡ ToldFrom sys t before now rest
-told_from sys t before now [] below at rise =
+shown_from :
+    (sys : System) (t : ℕ) (before now rest : List Line) → AreBelow t before → AreAt t now → RiseFrom t rest → ticks_text sys t before now rest ≡ ShownFrom sys t before now rest
+shown_from sys t before now [] below at rise =
     ap (tick_changes sys before) (sym (ap (of_tick t) (append-nil now) ∙ at_all t now at)) ∙ sym (append-nil (tick_changes sys before (of_tick t (now ++ []))))
-told_from sys t before now (l ∷ ls) below at rise =
+shown_from sys t before now (l ∷ ls) below at rise =
     step sys t before now l ls below at rise.0 rise.1
-    (λ e. told_from sys t before (now ++ l ∷ []) ls below (at_more t now l at e) (subst (λ (k : ℕ). RiseFrom k ls) e rise.1))
-    (λ later. told_from sys l.key.tick (before ++ now) (l ∷ []) ls
+    (λ e. shown_from sys t before (now ++ l ∷ []) ls below (at_more t now l at e) (subst (λ (k : ℕ). RiseFrom k ls) e rise.1))
+    (λ later. shown_from sys l.key.tick (before ++ now) (l ∷ []) ls
     (below_both l.key.tick before now (below_later t l.key.tick before later below) (at_later t l.key.tick now later at)) (refl, tt) rise.1)
     (l.key.tick == t) refl
 
 -- The law.
 pub ticks_are : AreTickByTick
 ticks_are sys ls rise =
-    told_from sys 0 [] [] ls tt tt rise
+    shown_from sys 0 [] [] ls tt tt rise
     ∙ ap (λ (xs : List Line). tick_changes sys xs (of_tick 0 ls) ++ flat_map (tick_text sys ls) (later_ticks 0 ls)) (sym (rise_not_before 0 0 ls (omega arith) rise))
     ∙ ap (flat_map (tick_text sys ls)) (sym (noted_later [] 0 ls (λ v high. refl) rise))

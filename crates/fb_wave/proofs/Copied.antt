@@ -1,4 +1,4 @@
--- Lines that are read and told one after another.
+-- Lines that are read and shown one after another.
 use Rattle.std.proofs.Common.{◌≡◌, ℕ, ◌+◌, ◌<◌, ◌≤◌, List, [], ◌∷◌, ◌++◌, length, map, take, refl, sym, ap, subst, ◌∙◌, arith, append_assoc, append-nil, length-append}
 use Rattle.std.specs.Prelude.{IfSome, Option, None, Some}
 use Rattle.std.specs.Io.BufRead.{take_through}
@@ -13,7 +13,7 @@ use Rattle.fb_types.specs.Text.{line_text, lines_text, trace_text}
 use Rattle.fb_types.specs.declared.run.Form.{Form}
 use Rattle.fb_types.specs.declared.run.Line.{Line}
 use Rattle.fb_trace.specs.End.{ending_of}
-use Rattle.fb_trace.specs.Progress.{bounded}
+use Rattle.fb_trace.specs.Progress.{IsPartWritten, bounded}
 use Rattle.fb_trace.specs.declared.last.Outcome.{Outcome}
 use Rattle.fb_trace.specs.declared.last.Outcome.TheVariants.{End, Stop}
 use Rattle.fb_wave.specs.Scopes.{head_text}
@@ -49,7 +49,7 @@ text-one form sys (m ∷ ls) l =
 
 -- ---- Counts, which stop at the greatest
 
-count_more : (w : ℕ) (s t : List ℕ) (n : ℕ) → bounded w ≡ bounded (length s) → n ≡ bounded (w + length t) → n ≡ bounded (length (s ++ t))
+pub count_more : (w : ℕ) (s t : List ℕ) (n : ℕ) → bounded w ≡ bounded (length s) → n ≡ bounded (w + length t) → n ≡ bounded (length (s ++ t))
 count_more w s t n before more = rw length-append (omega arith)
 
 count_kept : (v w z : ℕ) (s t : List ℕ) → bounded w ≡ bounded (length s) → v ≡ w → bounded z ≡ bounded (v + length t) → bounded z ≡ bounded (length (s ++ t))
@@ -82,7 +82,7 @@ are_one sys form number x y line input left old new is taken =
       rise = rise-one 0 is.lines taken.line is.are.rise (subst (λ (t : ℕ). t ≤ taken.line.key.tick) is.last taken.rises);
     }
 
--- one more line was read and told, some of the text was sent, and the next line was read
+-- one more line was read and shown, some of the text was sent, and the next line was read
 pub copied_one :
     (sys : System) (form : Form) (number : ℕ) (x y z : Progress) (line next : List ℕ) (input left new old mid got : Option (List ℕ)) → IsCopied sys form number x line input left old mid
     → IsTaken sys form line x y → z.tick ≡ y.tick → z.dump ≡ y.dump → IsFlushed mid got y.page z.page → Consumes left new next → IsFirstLine next left
@@ -90,7 +90,7 @@ pub copied_one :
 copied_one sys form number x y z line next input left new old mid got is taken tick dump flushed read one =
     let l = taken.line in
     let more : List ℕ = lines_text form sys (map (line_of sys) is.lines) in
-    let told : HasShown sys (is.lines ++ l ∷ []) (is.sent ++ y.page.text.items) y.dump = taken.told is.lines is.sent is.told in
+    let shown : HasShown sys (is.lines ++ l ∷ []) (is.sent ++ y.page.text.items) y.dump = taken.shown is.lines is.sent is.shown in
     let sends : is.sent ++ y.page.text.items ≡ (is.sent ++ flushed.sent) ++ z.page.text.items =
     ap (λ (t : List ℕ). is.sent ++ t) flushed.parts ∙ sym (append_assoc is.sent flushed.sent z.page.text.items)
     in
@@ -106,22 +106,22 @@ copied_one sys form number x y z line next input left new old mid got is taken t
       are = are_one sys form number x y line input left old mid is taken;
       last = tick ∙ taken.tick ∙ sym (last-one 0 is.lines l);
       numbers = subst (IsDump sys) (sym dump) taken.numbers;
-      told = told_with sys (is.lines ++ l ∷ []) y z (is.sent ++ y.page.text.items) ((is.sent ++ flushed.sent) ++ z.page.text.items) dump sends told;
+      shown = shown_with sys (is.lines ++ l ∷ []) y z (is.sent ++ y.page.text.items) ((is.sent ++ flushed.sent) ++ z.page.text.items) dump sends shown;
       read = subst (λ (t : List ℕ). Consumes input new (t ++ next)) grown (Consumes-trans input left new (more ++ line) next is.read read);
       got = Appends-trans old mid got is.sent flushed.sent is.got flushed.got;
       counted = count_kept y.page.written x.page.written z.page.written is.sent flushed.sent is.counted taken.kept flushed.counted;
     }
   where
-    told_with :
+    shown_with :
         (sys : System) (ls : List Line) (y z : Progress) (a b : List ℕ) → z.dump ≡ y.dump → a ≡ b → HasShown sys ls a y.dump → HasShown sys ls b z.dump
-    told_with sys ls y z a b same is told = subst (λ d. HasShown sys ls b d) (sym same) (subst (λ (t : List ℕ). HasShown sys ls t y.dump) is told)
+    shown_with sys ls y z a b same is shown = subst (λ d. HasShown sys ls b d) (sym same) (subst (λ (t : List ℕ). HasShown sys ls t y.dump) is shown)
 
 -- before the first line
 pub copied_none :
     (sys : System) (form : Form) (number : ℕ) (x : Progress) (next : List ℕ) (input left old : Option (List ℕ)) → x.tick ≡ 0 → IsDump sys x.dump
     → HasShown sys [] x.page.text.items x.dump → x.page.written ≡ 0 → Consumes input left next → IsFirstLine next input → number ≡ 1
     → (HasNames sys → (f : Form) (l : Line) → IsTextOf sys f l next → f ≡ form) → IsCopied sys form number x next input left old old
-copied_none sys form number x next input left old tick numbers told written read one counts formed =
+copied_none sys form number x next input left old tick numbers shown written read one counts formed =
     record {
       lines = [];
       numbered = counts;
@@ -131,7 +131,7 @@ copied_none sys form number x next input left old tick numbers told written read
       are = record { each = All-nil (IsLineOf sys); rise = tt };
       last = tick;
       numbers = numbers;
-      told = told;
+      shown = shown;
       read = read;
       got = Appends-nil old;
       counted = ap bounded written;
@@ -141,7 +141,7 @@ pub ends_after : (t u : ℕ) (end : Outcome) → t ≡ u → IsAfter t end → E
 ends_after t u (End h) same after = subst (λ (k : ℕ). k < h) same after
 ends_after t u (Stop m) same after = subst (λ (k : ℕ). k ≤ m.tick) same after
 
--- the end was read and told
+-- the end was read and shown
 pub copied_all :
     (sys : System) (form : Form) (number : ℕ) (x : Progress) (line : List ℕ) (input left old mid new : Option (List ℕ)) (end : Outcome) → IsCopied sys form number x line input left old mid
     → IsLast sys line end → IsFinished sys end x left mid new → IfSome input (λ text. IsWave sys text old new)
@@ -162,7 +162,7 @@ copied_all sys form number x line input left old mid new end is last finished = 
             ends = ends_after x.tick (last_tick 0 lines) end is.last finished.after;
             is = parts;
           };
-          got = subst (Appends old new) (finished.whole lines is.sent is.told) (Appends-trans old mid new is.sent finished.sent is.got finished.got);
+          got = subst (Appends old new) (finished.whole lines is.sent is.shown) (Appends-trans old mid new is.sent finished.sent is.got finished.got);
         }
 
     by :
@@ -184,18 +184,18 @@ glued head ticks ls end sent waits last is =
     sym (append_assoc sent waits (last ++ end)) ∙ sym (append_assoc (sent ++ waits) last end)
     ∙ ap (λ (t : List ℕ). t ++ end) (is ∙ ap (λ (m : List Line). head ++ ticks m) (append-nil ls))
 
--- what was sent goes on to the dump of the lines that were told, by way of the text that waits
+-- what was sent goes on to the dump of the lines that were shown, by way of the text that waits
 goes_on :
     (sys : System) (ls : List Line) (sent waits : List ℕ) (x : Dump) → HasShown sys ls (sent ++ waits) x
     → (more : List ℕ) × (sent ++ (waits ++ more) ≡ dump_text sys ls (AtHorizon 0))
-goes_on sys ls sent waits x told =
-    let last : List ℕ = ticks_text sys x.tick told.before told.now [] in
+goes_on sys ls sent waits x shown =
+    let last : List ℕ = ticks_text sys x.tick shown.before shown.now [] in
     let end : List ℕ = end_text sys (last_tick 0 ls) (AtHorizon 0) in
-    (last ++ end, glued (head_text sys) (ticks_text sys 0 [] []) ls end sent waits last (told.text []))
+    (last ++ end, glued (head_text sys) (ticks_text sys 0 [] []) ls end sent waits last (shown.text []))
 
 begun_of : (sys : System) (ls : List Line) (sent waits : List ℕ) (x : Dump) → HasShown sys ls (sent ++ waits) x → IsBegun sys ls sent
-begun_of sys ls sent waits x told =
-    let on : (more : List ℕ) × (sent ++ (waits ++ more) ≡ dump_text sys ls (AtHorizon 0)) = goes_on sys ls sent waits x told in
+begun_of sys ls sent waits x shown =
+    let on : (more : List ℕ) × (sent ++ (waits ++ more) ≡ dump_text sys ls (AtHorizon 0)) = goes_on sys ls sent waits x shown in
     record { end = AtHorizon 0; rest = waits ++ on.0; parts = on.1 }
 
 -- before anything is sent
@@ -213,17 +213,17 @@ front_none sys old =
 pub front_copied :
     (sys : System) (form : Form) (number : ℕ) (x : Progress) (next : List ℕ) (input left old new : Option (List ℕ)) → IsCopied sys form number x next input left old new → WritesFront sys old new
 front_copied sys form number x next input left old new is =
-    record { bytes = is.sent; got = is.got; lines = is.lines; are = is.are; begun = begun_of sys is.lines is.sent x.page.text.items x.dump is.told }
+    record { bytes = is.sent; got = is.got; lines = is.lines; are = is.are; begun = begun_of sys is.lines is.sent x.page.text.items x.dump is.shown }
 
--- a line more was told, and of what waited then a front was sent
-told_cut :
+-- a line more was shown, and of what waited then a front was sent
+shown_cut :
     (sys : System) (form : Form) (number : ℕ) (x y : Progress) (line sent rest : List ℕ) (input left old new : Option (List ℕ)) (is : IsCopied sys form number x line input left old new)
     (taken : IsTaken sys form line x y) → y.page.text.items ≡ sent ++ rest → HasShown sys (is.lines ++ taken.line ∷ []) ((is.sent ++ sent) ++ rest) y.dump
-told_cut sys form number x y line sent rest input left old new is taken parts =
+shown_cut sys form number x y line sent rest input left old new is taken parts =
     subst (λ (t : List ℕ). HasShown sys (is.lines ++ taken.line ∷ []) t y.dump)
-    (ap (λ (t : List ℕ). is.sent ++ t) parts ∙ sym (append_assoc is.sent sent rest)) (taken.told is.lines is.sent is.told)
+    (ap (λ (t : List ℕ). is.sent ++ t) parts ∙ sym (append_assoc is.sent sent rest)) (taken.shown is.lines is.sent is.shown)
 
--- a line more was told, some of the text was sent, and no line could be read
+-- a line more was shown, some of the text was sent, and no line could be read
 pub front_flushed :
     (sys : System) (form : Form) (number : ℕ) (x y : Progress) (after : DumpPage) (line : List ℕ) (input left old mid got : Option (List ℕ)) → IsCopied sys form number x line input left old mid
     → IsTaken sys form line x y → IsFlushed mid got y.page after → WritesFront sys old got
@@ -234,7 +234,7 @@ front_flushed sys form number x y after line input left old mid got is taken flu
       lines = is.lines ++ taken.line ∷ [];
       are = are_one sys form number x y line input left old mid is taken;
       begun = begun_of sys (is.lines ++ taken.line ∷ []) (is.sent ++ flushed.sent) after.text.items y.dump
-          (told_cut sys form number x y line flushed.sent after.text.items input left old mid is taken flushed.parts);
+          (shown_cut sys form number x y line flushed.sent after.text.items input left old mid is taken flushed.parts);
     }
 
 -- ---- Failures
@@ -247,24 +247,25 @@ fails_front sys old new Names other front = front
 fails_front sys old new Memory other front = front
 fails_front sys old new Read other front = front
 
--- the writer failed when it had got the first bytes of a dump
+-- the writer failed when it had got the first bytes of a text
+pub part_written :
+    (all : List ℕ) (old new : Option (List ℕ)) (sent rest : List ℕ) (n : ℕ) → Appends old new sent → sent ++ rest ≡ all → 0 < length rest
+    → n ≡ bounded (length sent) → IsPartWritten old new all n
+part_written all old new sent rest n got parts short counted =
+    record {
+      count = length sent;
+      short = subst (λ (t : List ℕ). length sent < length t) parts (rw length-append (omega arith));
+      got = subst (λ (t : List ℕ). Appends old new (take (length sent) t)) parts (subst (Appends old new) (sym (take-append_seam sent rest)) got);
+      counted = counted;
+    }
+
 part_of :
     (sys : System) (ls : List Line) (end : Ending) (old new : Option (List ℕ)) (sent rest : List ℕ) (n : ℕ) → AreLinesOf sys ls → Appends old new sent
     → sent ++ rest ≡ dump_text sys ls end → 0 < length rest → n ≡ bounded (length sent) → WritesPart sys old new n
 part_of sys ls end old new sent rest n are got parts short counted =
-    record {
-      lines = ls;
-      end = end;
-      are = are;
-      got = record {
-        count = length sent;
-        short = subst (λ (t : List ℕ). length sent < length t) parts (rw length-append (omega arith));
-        got = subst (λ (t : List ℕ). Appends old new (take (length sent) t)) parts (subst (Appends old new) (sym (take-append_seam sent rest)) got);
-        counted = counted;
-      };
-    }
+    record { lines = ls; end = end; are = are; got = part_written (dump_text sys ls end) old new sent rest n got parts short counted }
 
--- a line more was told, and the writer failed before it got all that waited then
+-- a line more was shown, and the writer failed before it got all that waited then
 pub fails_taken :
     (sys : System) (form : Form) (number : ℕ) (x y : Progress) (line : List ℕ) (input left old mid got : Option (List ℕ)) → IsCopied sys form number x line input left old mid
     → IsTaken sys form line x y → (e : WaveError) → IsCutShort mid got y.page e → FailsWave sys old got e
@@ -272,7 +273,7 @@ fails_taken sys form number x y line input left old mid got is taken (Write n) c
     let ls : List Line = is.lines ++ taken.line ∷ [] in
     let sent : List ℕ = is.sent ++ cut.sent in
     let on : (more : List ℕ) × (sent ++ (cut.missing ++ more) ≡ dump_text sys ls (AtHorizon 0)) =
-    goes_on sys ls sent cut.missing y.dump (told_cut sys form number x y line cut.sent cut.missing input left old mid is taken cut.parts)
+    goes_on sys ls sent cut.missing y.dump (shown_cut sys form number x y line cut.sent cut.missing input left old mid is taken cut.parts)
     in
     let some : 0 < length cut.missing = cut.short in
     part_of sys ls (AtHorizon 0) old got sent (cut.missing ++ on.0) n (are_one sys form number x y line input left old mid is taken)
@@ -286,7 +287,7 @@ pub fails_unfinished :
     → (e : WaveError) → IsUnfinished sys x mid new e → FailsWave sys old new e
 fails_unfinished sys form number x line input left old mid new is (Write n) cut =
     part_of sys is.lines cut.end old new (is.sent ++ cut.sent) cut.missing n is.are (Appends-trans old mid new is.sent cut.sent is.got cut.got)
-    (cut.parts is.lines is.sent is.told) cut.short (count_more x.page.written is.sent cut.sent n is.counted cut.counted)
+    (cut.parts is.lines is.sent is.shown) cut.short (count_more x.page.written is.sent cut.sent n is.counted cut.counted)
 fails_unfinished sys form number x line input left old mid new is e same =
     fails_front sys old new e tt (subst (WritesFront sys old) (sym same) (front_copied sys form number x line input left old mid is))
 
@@ -303,7 +304,7 @@ unfinished_part sys x page end old new kept whole (Write n) cut =
       got = cut.got;
       short = cut.short;
       counted = cut.counted ∙ ap (λ (w : ℕ). bounded (w + length cut.sent)) kept;
-      parts = λ ls front told.
-          append_assoc front cut.sent cut.missing ∙ ap (λ (t : List ℕ). front ++ t) (sym cut.parts) ∙ whole ls front told;
+      parts = λ ls front shown.
+          append_assoc front cut.sent cut.missing ∙ ap (λ (t : List ℕ). front ++ t) (sym cut.parts) ∙ whole ls front shown;
     }
 unfinished_part sys x page end old new kept whole e cut = absurd cut

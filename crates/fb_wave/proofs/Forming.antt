@@ -19,8 +19,8 @@ pub chosen : (t : Bool) (x b : ℕ) (f : Form) → f ≡ (if t then Two else One
 chosen t x b f is digit same = is ∙ ap (λ (s : Bool). if s then Two else One) (digit ∙ ap is_digit same)
 
 -- what a function is promised to answer for a line by its second word
-abbrev pub TellsForm : Form → List ℕ → Type 0
-TellsForm f text =
+abbrev pub ShowsForm : Form → List ℕ → Type 0
+ShowsForm f text =
     (word rest : List ℕ) (b : ℕ) → is_word word ≡ true → text ≡ word ++ 32 ∷ (b ∷ rest) → f ≡ (if is_digit b then Two else One)
 
 letter_no_digit : (b : ℕ) → 65 ≤ b → is_digit b ≡ false
@@ -39,9 +39,9 @@ begun : (text : List ℕ) → 0 < length text → IsBegun text
 begun [] some = absurd (omega (arith, some))
 begun (b ∷ bs) some = record { first = b; rest = bs; is = refl }
 
--- the form that is told is that of the line
-pub form_told : (sys : System) (f g : Form) (l : Line) (text : List ℕ) → HasNames sys → TellsForm f text → IsTextOf sys g l text → g ≡ f
-form_told sys f One l text names tells is =
+-- the form that is shown is that of the line
+pub form_shown : (sys : System) (f g : Form) (l : Line) (text : List ℕ) → HasNames sys → ShowsForm f text → IsTextOf sys g l text → g ≡ f
+form_shown sys f One l text names sets is =
     let tick = is.line.range.tick in
     let h = holder_name sys l.instance in
     let b : ℕ = get_or (h ++ behind_holder sys l) 0 0 in
@@ -52,7 +52,7 @@ form_told sys f One l text names tells is =
     is.is ∙ line_parts sys One l is.line.held ∙ number_cut l.key.tick (port_text sys (port_of_line l) ++ line_end sys l)
     ∙ ap (λ (t : List ℕ). decimal l.key.tick ++ 32 ∷ t) (port_spread sys l ∙ more.is)
     in
-    sym (tells (decimal l.key.tick) more.rest more.first (digits_of l.key.tick (omega (arith, tick))).word parts
+    sym (sets (decimal l.key.tick) more.rest more.first (digits_of l.key.tick (omega (arith, tick))).word parts
     ∙ ap (λ (t : Bool). if t then Two else One) (letter_no_digit more.first (omega (arith, first, low))))
   where
     some_of : (n rest : List ℕ) → 65 ≤ get_or (n ++ rest) 0 0 → 0 < length (n ++ rest)
@@ -61,7 +61,7 @@ form_told sys f One l text names tells is =
         by : (t : List ℕ) → 65 ≤ get_or t 0 0 → 0 < length t
         by [] low = absurd (omega (arith, low))
         by (c ∷ t) low = omega arith
-form_told sys f Two l text names tells is =
+form_shown sys f Two l text names sets is =
     let class = is.line.range.class in
     let are = digits_of l.key.a is.line.range.a in
     let more = begun (decimal l.key.a) are.some in
@@ -74,5 +74,5 @@ form_told sys f Two l text names tells is =
     in
     let low = one.low in
     let high = one.high in
-    sym (tells (decimal l.key.class) (more.rest ++ behind) more.first (digits_of l.key.class (omega (arith, class))).word parts
+    sym (sets (decimal l.key.class) (more.rest ++ behind) more.first (digits_of l.key.class (omega (arith, class))).word parts
     ∙ ap (λ (t : Bool). if t then Two else One) (digit_is more.first (omega (arith, first, low)) (omega (arith, first, high))))

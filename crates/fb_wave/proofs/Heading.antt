@@ -9,7 +9,7 @@ use Rattle.fb_types.specs.Numbers.{path_at, ports_at}
 use Rattle.fb_types.specs.Text.{path_text}
 use Rattle.fb_types.specs.declared.library.Library.{Library}
 use Rattle.fb_system.specs.Layouts.{route_to, index_at}
-use Rattle.fb_wave.specs.Scopes.{closed, opened, own_name, ports_declared, ports_begun, instances_declared, instances_begun, resources_declared}
+use Rattle.fb_wave.specs.Scopes.{closed, opened, own_name, ports_declared, ports_begun, initial_in, instances_declared, instances_begun, resources_declared}
 use Rattle.fb_wave.specs.Signals.{size_of, first_signal}
 use Rattle.fb_wave.proofs.Numbering.{first_signal-next, paths_from}
 
@@ -88,7 +88,7 @@ declared_all sys r depth i s text all past soFar =
 
 pub begun_on :
     (sys : System) (i : ℕ) (text new all : List ℕ) → i < length sys.paths
-    → new ≡ text ++ ports_begun (first_signal sys i) (ports_at sys (path_at sys i))
+    → new ≡ text ++ ports_begun (initial_in sys (path_at sys i)) (first_signal sys i) (ports_at sys (path_at sys i))
     → text ++ instances_begun sys (first_signal sys i) (drop i sys.paths) ≡ all
     → new ++ instances_begun sys (first_signal sys (i + 1)) (drop (i + 1) sys.paths) ≡ all
 begun_on sys i text new all within put soFar =
@@ -96,7 +96,7 @@ begun_on sys i text new all within put soFar =
     let its = ports_at sys (path_at sys i) in
     let rest : List ℕ = instances_begun sys (s + size_of its) (drop (i + 1) sys.paths) in
     ap (λ (k : ℕ). new ++ instances_begun sys k (drop (i + 1) sys.paths)) (first_signal-next sys i within)
-    ∙ ap (λ (l : List ℕ). l ++ rest) put ∙ append_assoc text (ports_begun s its) rest
+    ∙ ap (λ (l : List ℕ). l ++ rest) put ∙ append_assoc text (ports_begun (initial_in sys (path_at sys i)) s its) rest
     ∙ ap (λ (l : List ℕ). text ++ l) (sym (ap (instances_begun sys s) (paths_from sys i within))) ∙ soFar
 
 pub begun_all : (sys : System) (i s : ℕ) (text all : List ℕ) → length sys.paths ≤ i → text ++ instances_begun sys s (drop i sys.paths) ≡ all → text ≡ all

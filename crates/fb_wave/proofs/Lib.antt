@@ -5,7 +5,8 @@ pub mod Marking
 pub mod Numbering
 pub mod Pairing
 pub mod Placing
-pub mod Telling
+pub mod Showing
+pub mod Severed
 pub mod Declaring
 pub mod Listing
 pub mod Noting

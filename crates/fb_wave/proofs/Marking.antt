@@ -14,12 +14,12 @@ use Rattle.fb_system.specs.Stands.{AreIndexes}
 use Rattle.fb_wave.specs.Signals.{first_signal}
 use Rattle.fb_system.specs.Lines.{BelongsTo, line_variables}
 use Rattle.fb_wave.specs.Lines.{line_side}
-use Rattle.fb_wave.specs.Told.{fired, pairs, index_of, told, changed_signals, touched}
+use Rattle.fb_wave.specs.LineSignals.{fired, pairs, index_of, set_by, changed_signals, touched}
 use Rattle.fb_wave.specs.Writing.{AreFirsts, AreMarks}
 use Rattle.fb_wave.specs.declared.dump.Marks.{Marks}
 use Rattle.fb_wave.proofs.Numbering.{signals_within}
 use Rattle.fb_wave.proofs.Known.{inputs_once, outputs_once}
-use Rattle.fb_wave.proofs.Placing.{names_told}
+use Rattle.fb_wave.proofs.Placing.{names_shown}
 
 pub line_once : (i : Inputs) (l : Line) → AreAccepted i → ¬ (Twice (variable_names (line_side (system_of i) l)))
 line_once i l accepted = by l.taken
@@ -33,22 +33,22 @@ line_once i l accepted = by l.taken
 
 signals_are : (sys : System) (l : Line) (m : Marks) → ¬ (Twice (variable_names (line_side sys l))) → AreMarks sys l m → map (λ k. m.first + k) m.indexes.now ≡ changed_signals sys l
 signals_are sys l m once are =
-    names_told (line_side sys l) m.first (line_variables sys l) m.indexes.now once are.indexes_are
+    names_shown (line_side sys l) m.first (line_variables sys l) m.indexes.now once are.indexes_are
     ∙ ap (λ (f : ℕ). map (λ n. f + index_of (line_side sys l) n) (line_variables sys l)) are.first_is
 
-pub marks_told :
+pub marks_shown :
     (sys : System) (l : Line) (m : Marks) (n : ℕ) (f u : List ℕ) (t : List (ℕ × Value)) (y : Levels) → ¬ (Twice (variable_names (line_side sys l))) → AreMarks sys l m
     → AreLevels n (f ++ m.event ∷ []) (t ++ pairs (map (λ k. m.first + k) m.indexes.now) l.values)
     ((u ++ m.event ∷ []) ++ map (λ p. p.0) (pairs (map (λ k. m.first + k) m.indexes.now) l.values)) y
-    → AreLevels n (f ++ fired sys l ∷ []) (t ++ told sys l) (u ++ touched sys l) y
-marks_told sys l m n f u t y once are is =
+    → AreLevels n (f ++ fired sys l ∷ []) (t ++ set_by sys l) (u ++ touched sys l) y
+marks_shown sys l m n f u t y once are is =
     let at : (e : ℕ) → (ss : List ℕ) → Type 0 =
     λ e ss. AreLevels n (f ++ e ∷ []) (t ++ pairs ss l.values) ((u ++ e ∷ []) ++ map (λ p. p.0) (pairs ss l.values)) y
     in
     let one : at m.event (changed_signals sys l) = subst (at m.event) (signals_are sys l m once are) is in
     let two : at (fired sys l) (changed_signals sys l) = subst (λ (e : ℕ). at e (changed_signals sys l)) are.event_is one in
-    subst (λ (us : List ℕ). AreLevels n (f ++ fired sys l ∷ []) (t ++ told sys l) us y)
-    (append_assoc u (fired sys l ∷ []) (map (λ (p : ℕ × Value). p.0) (told sys l))) two
+    subst (λ (us : List ℕ). AreLevels n (f ++ fired sys l ∷ []) (t ++ set_by sys l) us y)
+    (append_assoc u (fired sys l ∷ []) (map (λ (p : ℕ × Value). p.0) (set_by sys l))) two
 
 -- ---- Where the signals of a line are
 

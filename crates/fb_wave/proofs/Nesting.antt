@@ -60,8 +60,8 @@ module _ (i : Inputs) (numbered : AreNumbered (system_of i)) (r : ℕ) where
   abbrev lib : Library
   lib = i.library
 
-  abbrev told : (depth first : ℕ) → List Path → List ℕ
-  told depth s ps = instances_declared sys r depth s ps
+  abbrev shown : (depth first : ℕ) → List Path → List ℕ
+  shown depth s ps = instances_declared sys r depth s ps
 
   abbrev inner_text : ℕ → Path → Option Network → List ℕ
   inner_text d q o = elim o [ None ↦ [] | Some net ↦ scopes_inside d i q net ]
@@ -71,27 +71,27 @@ module _ (i : Inputs) (numbered : AreNumbered (system_of i)) (r : ℕ) where
 
   -- Before these paths all scopes above a level are closed.
   abbrev Closes : (level first : ℕ) → List Path → Type 0
-  Closes level s ps = (depth : ℕ) → level ≤ depth → told depth s ps ≡ closed (depth - level) ++ told level s ps
+  Closes level s ps = (depth : ℕ) → level ≤ depth → shown depth s ps ≡ closed (depth - level) ++ shown level s ps
 
-  -- The paths inside an instance are told as the scopes inside it.
+  -- The paths inside an instance are shown as the scopes inside it.
   abbrev IsInside : ℕ → Path → Option Network → Type 0
   IsInside d q o =
       (depth : ℕ) (done rest : List Path) → length q ≤ depth → sys.paths ≡ done ++ (below d lib q o ++ rest)
       → Closes (length q) (sizes_of sys (done ++ below d lib q o)) rest
-      → told depth (sizes_of sys done) (below d lib q o ++ rest)
-      ≡ closed (depth - length q) ++ (inner_text d q o ++ told (length q) (sizes_of sys (done ++ below d lib q o)) rest)
+      → shown depth (sizes_of sys done) (below d lib q o ++ rest)
+      ≡ closed (depth - length q) ++ (inner_text d q o ++ shown (length q) (sizes_of sys (done ++ below d lib q o)) rest)
 
   none_inside : (depth level : ℕ) (done rest : List Path) → level ≤ depth → Closes level (sizes_of sys (done ++ [])) rest
-      → told depth (sizes_of sys done) rest ≡ closed (depth - level) ++ told level (sizes_of sys (done ++ [])) rest
+      → shown depth (sizes_of sys done) rest ≡ closed (depth - level) ++ shown level (sizes_of sys (done ++ [])) rest
   none_inside depth level done rest deep closes =
-      ap (λ (ps : List Path). told depth (sizes_of sys ps) rest) (sym (append-nil done)) ∙ closes depth deep
+      ap (λ (ps : List Path). shown depth (sizes_of sys ps) rest) (sym (append-nil done)) ∙ closes depth deep
 
   declared : (depth s : ℕ) (q : Path) (ps : List Path) → sys.resource q ≡ r
-      → told depth s (q ∷ ps) ≡ ((closed (depth + 1 - length q) ++ opened (own_name q)) ++ ports_declared s (ports_at sys q)) ++ told (length q) (s + size_of (ports_at sys q)) ps
+      → shown depth s (q ∷ ps) ≡ ((closed (depth + 1 - length q) ++ opened (own_name q)) ++ ports_declared s (ports_at sys q)) ++ shown (length q) (s + size_of (ports_at sys q)) ps
   declared depth s q ps held =
       ap
-      (λ (b : Bool). cond b (((closed (depth + 1 - length q) ++ opened (own_name q)) ++ ports_declared s (ports_at sys q)) ++ told (length q) (s + size_of (ports_at sys q)) ps)
-      (told depth (s + size_of (ports_at sys q)) ps)) (eq-eqb (sys.resource q) r held)
+      (λ (b : Bool). cond b (((closed (depth + 1 - length q) ++ opened (own_name q)) ++ ports_declared s (ports_at sys q)) ++ shown (length q) (s + size_of (ports_at sys q)) ps)
+      (shown depth (s + size_of (ports_at sys q)) ps)) (eq-eqb (sys.resource q) r held)
 
   sum_one : (done : List Path) (q : Path) → sizes_of sys done + size_of (ports_at sys q) ≡ sizes_of sys (done ++ q ∷ [])
   sum_one done q = sym (sizes_of-append sys done (q ∷ []) ∙ omega arith)
@@ -103,23 +103,23 @@ module _ (i : Inputs) (numbered : AreNumbered (system_of i)) (r : ℕ) where
   one_scope :
       (d : ℕ) (x : Instance) (p : Path) (depth : ℕ) (done others : List Path) (more : List ℕ) → sys.resource (x.name ∷ p) ≡ r → length p ≤ depth
       → IsInside d (x.name ∷ p) (inside lib x) → sys.paths ≡ done ++ (paths_from d lib p x ++ others)
-      → ((deep : ℕ) → length p ≤ deep → told deep (sizes_of sys (done ++ paths_from d lib p x)) others ≡ closed (deep - length p) ++ more)
-      → told depth (sizes_of sys done) (paths_from d lib p x ++ others) ≡ closed (depth - length p) ++ (scope_from d p x ++ more)
+      → ((deep : ℕ) → length p ≤ deep → shown deep (sizes_of sys (done ++ paths_from d lib p x)) others ≡ closed (deep - length p) ++ more)
+      → shown depth (sizes_of sys done) (paths_from d lib p x ++ others) ≡ closed (depth - length p) ++ (scope_from d p x ++ more)
   one_scope d x p depth done others more held deep inner all rest =
       let q : Path = x.name ∷ p in
       let B : List Path = below d lib q (inside lib x) in
       let past : List Path = done ++ q ∷ [] in
       let grown : done ++ (q ∷ B) ≡ past ++ B = sym (append_assoc done (q ∷ []) B) in
-      let told_rest : (k : ℕ) → length p ≤ k → told k (sizes_of sys (past ++ B)) others ≡ closed (k - length p) ++ more =
-      λ k far. ap (λ (ps : List Path). told k (sizes_of sys ps) others) (sym grown) ∙ rest k far
+      let shown_rest : (k : ℕ) → length p ≤ k → shown k (sizes_of sys (past ++ B)) others ≡ closed (k - length p) ++ more =
+      λ k far. ap (λ (ps : List Path). shown k (sizes_of sys ps) others) (sym grown) ∙ rest k far
       in
       let closes : Closes (length q) (sizes_of sys (past ++ B)) others =
       λ k far.
       let sum : k - length p ≡ (k - length q) + 1 = omega (arith, far) in
       let own : length q - length p ≡ 1 = omega arith in
-      told_rest k (omega (arith, far)) ∙ ap (λ (j : ℕ). closed j ++ more) sum ∙ ap (λ (t : List ℕ). t ++ more) (closed_both (k - length q) 1)
+      shown_rest k (omega (arith, far)) ∙ ap (λ (j : ℕ). closed j ++ more) sum ∙ ap (λ (t : List ℕ). t ++ more) (closed_both (k - length q) 1)
       ∙ append_assoc (closed (k - length q)) (closed 1) more
-      ∙ ap (λ (t : List ℕ). closed (k - length q) ++ t) (ap (λ (j : ℕ). closed j ++ more) (sym own) ∙ sym (told_rest (length q) (omega arith)))
+      ∙ ap (λ (t : List ℕ). closed (k - length q) ++ t) (ap (λ (j : ℕ). closed j ++ more) (sym own) ∙ sym (shown_rest (length q) (omega arith)))
       in
       let within : sys.paths ≡ past ++ (B ++ others) = all ∙ sym (append_assoc done (q ∷ []) (B ++ others)) in
       let inside_is = inner (length q) past others (omega arith) within closes in
@@ -127,10 +127,10 @@ module _ (i : Inputs) (numbered : AreNumbered (system_of i)) (r : ℕ) where
       let one : length q - length p ≡ 1 = omega arith in
       let same : depth + 1 - length q ≡ depth - length p = omega arith in
       declared depth (sizes_of sys done) q (B ++ others) held
-      ∙ ap (λ (k : ℕ). ((closed (depth + 1 - length q) ++ opened (own_name q)) ++ ports_declared (sizes_of sys done) (ports_at sys q)) ++ told (length q) k (B ++ others)) (sum_one done q)
+      ∙ ap (λ (k : ℕ). ((closed (depth + 1 - length q) ++ opened (own_name q)) ++ ports_declared (sizes_of sys done) (ports_at sys q)) ++ shown (length q) k (B ++ others)) (sum_one done q)
       ∙ ap (λ (t : List ℕ). ((closed (depth + 1 - length q) ++ opened (own_name q)) ++ ports_declared (sizes_of sys done) (ports_at sys q)) ++ t)
-      (inside_is ∙ ap (λ (k : ℕ). closed k ++ (inner_text d q (inside lib x) ++ told (length q) (sizes_of sys (past ++ B)) others)) none
-      ∙ ap (λ (t : List ℕ). inner_text d q (inside lib x) ++ t) (told_rest (length q) (omega arith) ∙ ap (λ (k : ℕ). closed k ++ more) one))
+      (inside_is ∙ ap (λ (k : ℕ). closed k ++ (inner_text d q (inside lib x) ++ shown (length q) (sizes_of sys (past ++ B)) others)) none
+      ∙ ap (λ (t : List ℕ). inner_text d q (inside lib x) ++ t) (shown_rest (length q) (omega arith) ∙ ap (λ (k : ℕ). closed k ++ more) one))
       ∙ ap (λ (k : ℕ). ((closed k ++ opened (own_name q)) ++ ports_declared (sizes_of sys done) (ports_at sys q)) ++ (inner_text d q (inside lib x) ++ (closed 1 ++ more))) same
       ∙ ap (λ (k : ℕ). ((closed (depth - length p) ++ opened (own_name q)) ++ ports_declared k (ports_at sys q)) ++ (inner_text d q (inside lib x) ++ (closed 1 ++ more)))
       (first_is sys done (B ++ others) q numbered all)
@@ -145,24 +145,24 @@ module _ (i : Inputs) (numbered : AreNumbered (system_of i)) (r : ℕ) where
       (d : ℕ) (n : Name) (p : Path) (held : sys.resource (n ∷ p) ≡ r) (inner : (x : Instance) → IsInside d (x.name ∷ n ∷ p) (inside lib x)) (xs : List Instance)
       (depth : ℕ) (done rest : List Path) → length (n ∷ p) ≤ depth → sys.paths ≡ done ++ (paths_beside d (n ∷ p) xs ++ rest)
       → Closes (length (n ∷ p)) (sizes_of sys (done ++ paths_beside d (n ∷ p) xs)) rest
-      → told depth (sizes_of sys done) (paths_beside d (n ∷ p) xs ++ rest)
-      ≡ closed (depth - length (n ∷ p)) ++ (flat_map (scope_from d (n ∷ p)) xs ++ told (length (n ∷ p)) (sizes_of sys (done ++ paths_beside d (n ∷ p) xs)) rest)
+      → shown depth (sizes_of sys done) (paths_beside d (n ∷ p) xs ++ rest)
+      ≡ closed (depth - length (n ∷ p)) ++ (flat_map (scope_from d (n ∷ p)) xs ++ shown (length (n ∷ p)) (sizes_of sys (done ++ paths_beside d (n ∷ p) xs)) rest)
   beside d n p held inner [] depth done rest deep all closes = none_inside depth (length (n ∷ p)) done rest deep closes
   beside d n p held inner (x ∷ xs) depth done rest deep all closes =
       let here : List Path = paths_from d lib (n ∷ p) x in
       let others : List Path = paths_beside d (n ∷ p) xs in
-      let last : List ℕ = told (length (n ∷ p)) (sizes_of sys (done ++ (here ++ others))) rest in
+      let last : List ℕ = shown (length (n ∷ p)) (sizes_of sys (done ++ (here ++ others))) rest in
       let more : List ℕ = flat_map (scope_from d (n ∷ p)) xs ++ last in
       let grown : done ++ (here ++ others) ≡ (done ++ here) ++ others = sym (append_assoc done here others) in
       let split : (here ++ others) ++ rest ≡ here ++ (others ++ rest) = append_assoc here others rest in
       let whole : sys.paths ≡ done ++ (here ++ (others ++ rest)) = all ∙ ap (λ (ps : List Path). done ++ ps) split in
-      let next : (k : ℕ) → length (n ∷ p) ≤ k → told k (sizes_of sys (done ++ here)) (others ++ rest) ≡ closed (k - length (n ∷ p)) ++ more =
+      let next : (k : ℕ) → length (n ∷ p) ≤ k → shown k (sizes_of sys (done ++ here)) (others ++ rest) ≡ closed (k - length (n ∷ p)) ++ more =
       λ k far.
       beside d n p held inner xs k (done ++ here) rest far (whole ∙ sym (append_assoc done here (others ++ rest)))
       (subst (λ (ps : List Path). Closes (length (n ∷ p)) (sizes_of sys ps) rest) grown closes)
-      ∙ ap (λ (ps : List Path). closed (k - length (n ∷ p)) ++ (flat_map (scope_from d (n ∷ p)) xs ++ told (length (n ∷ p)) (sizes_of sys ps) rest)) (sym grown)
+      ∙ ap (λ (ps : List Path). closed (k - length (n ∷ p)) ++ (flat_map (scope_from d (n ∷ p)) xs ++ shown (length (n ∷ p)) (sizes_of sys ps) rest)) (sym grown)
       in
-      ap (told depth (sizes_of sys done)) split
+      ap (shown depth (sizes_of sys done)) split
       ∙ one_scope d x (n ∷ p) depth done (others ++ rest) more held deep (inner x) whole next
       ∙ ap (λ (t : List ℕ). closed (depth - length (n ∷ p)) ++ t) (sym (append_assoc (scope_from d (n ∷ p) x) (flat_map (scope_from d (n ∷ p)) xs) last))
 
@@ -174,15 +174,15 @@ module _ (i : Inputs) (numbered : AreNumbered (system_of i)) (r : ℕ) where
 
   -- ---- The instances of the application
 
-  left_out : (ps : List Path) (depth s : ℕ) (rest : List Path) → ((z : Path) → Contains ps z → (sys.resource z == r) ≡ false) → told depth s (ps ++ rest) ≡ told depth (s + sizes_of sys ps) rest
-  left_out [] depth s rest others = let same : s ≡ s + 0 = omega arith in ap (λ (k : ℕ). told depth k rest) same
+  left_out : (ps : List Path) (depth s : ℕ) (rest : List Path) → ((z : Path) → Contains ps z → (sys.resource z == r) ≡ false) → shown depth s (ps ++ rest) ≡ shown depth (s + sizes_of sys ps) rest
+  left_out [] depth s rest others = let same : s ≡ s + 0 = omega arith in ap (λ (k : ℕ). shown depth k rest) same
   left_out (q ∷ ps) depth s rest others =
       let its = ports_at sys q in
       let sum : (s + size_of its) + sizes_of sys ps ≡ s + (size_of its + sizes_of sys ps) = omega arith in
       ap
-      (λ (b : Bool). cond b (((closed (depth + 1 - length q) ++ opened (own_name q)) ++ ports_declared s its) ++ told (length q) (s + size_of its) (ps ++ rest))
-      (told depth (s + size_of its) (ps ++ rest))) (others q (Contains-here q ps))
-      ∙ left_out ps depth (s + size_of its) rest (λ z c. others z (Contains-there q ps z c)) ∙ ap (λ (k : ℕ). told depth k rest) sum
+      (λ (b : Bool). cond b (((closed (depth + 1 - length q) ++ opened (own_name q)) ++ ports_declared s its) ++ shown (length q) (s + size_of its) (ps ++ rest))
+      (shown depth (s + size_of its) (ps ++ rest))) (others q (Contains-here q ps))
+      ∙ left_out ps depth (s + size_of its) rest (λ z c. others z (Contains-there q ps z c)) ∙ ap (λ (k : ℕ). shown depth k rest) sum
 
   elsewhere : (x : Instance) → (holder i.plan x.name == r) ≡ false → (z : Path) → Contains (paths_from 16 lib [] x) z → (sys.resource z == r) ≡ false
   elsewhere x other z c =
@@ -197,7 +197,7 @@ module _ (i : Inputs) (numbered : AreNumbered (system_of i)) (r : ℕ) where
   abbrev Tops : List Instance → Type 0
   Tops xs =
       (depth : ℕ) (done : List Path) → sys.paths ≡ done ++ paths_beside 16 [] xs
-      → told depth (sizes_of sys done) (paths_beside 16 [] xs) ≡ closed depth ++ flat_map (scope_from 16 []) (filter (λ x. holder i.plan x.name == r) xs)
+      → shown depth (sizes_of sys done) (paths_beside 16 [] xs) ≡ closed depth ++ flat_map (scope_from 16 []) (filter (λ x. holder i.plan x.name == r) xs)
 
   top_step : (x : Instance) (xs : List Instance) → Tops xs → (b : Bool) → (holder i.plan x.name == r) ≡ b → Tops (x ∷ xs)
   top_step x xs more true e depth done all =
@@ -213,7 +213,7 @@ module _ (i : Inputs) (numbered : AreNumbered (system_of i)) (r : ℕ) where
       let here : List Path = paths_from 16 lib [] x in
       let others : List Path = paths_beside 16 [] xs in
       left_out here depth (sizes_of sys done) others (elsewhere x e)
-      ∙ ap (λ (k : ℕ). told depth k others) (sym (sizes_of-append sys done here))
+      ∙ ap (λ (k : ℕ). shown depth k others) (sym (sizes_of-append sys done here))
       ∙ more depth (done ++ here) (all ∙ sym (append_assoc done here others))
       ∙ ap (λ (b : Bool). closed depth ++ flat_map (scope_from 16 []) (cond b (x ∷ filter (λ x. holder i.plan x.name == r) xs) (filter (λ x. holder i.plan x.name == r) xs))) (sym e)
 

@@ -7,7 +7,7 @@ use Rattle.std.proofs.lemmas.List.Folds.{list_any-append}
 use Rattle.std.proofs.lemmas.List.Sums.{sum_by-append}
 use borrow.Author.Tests.{eq-eqb, ne_eqb}
 use Rattle.fb_types.specs.declared.value.Value.{Value}
-use Rattle.fb_wave.specs.Levels.{or_else, last_told, count_in, shows, shown_of, after_event, is_in, with_one, noted, IsCell, AreLevels}
+use Rattle.fb_wave.specs.Levels.{or_else, last_shown, count_in, shows, shown_of, after_event, is_in, with_one, noted, IsCell, AreLevels}
 use Rattle.fb_wave.specs.declared.levels.Cell.{Cell}
 use Rattle.fb_wave.specs.declared.levels.Levels as code
 use Rattle.fb_wave.specs.declared.levels.Level.{Level}
@@ -19,11 +19,11 @@ or_else-cond : (b : Bool) (v : Value) (o u : Option Value) → or_else (cond b (
 or_else-cond true v o u = refl
 or_else-cond false v o u = refl
 
-last_told-more : (s : ℕ) (ts : List (ℕ × Value)) (k : ℕ) (v : Value) → last_told s (ts ++ (k, v) ∷ []) ≡ cond (k == s) (Some v) (last_told s ts)
-last_told-more s [] k v = refl
-last_told-more s (t ∷ ts) k v =
-    ap (λ (o : Option Value). or_else o (cond (t.0 == s) (Some t.1) None)) (last_told-more s ts k v)
-    ∙ or_else-cond (k == s) v (last_told s ts) (cond (t.0 == s) (Some t.1) None)
+last_shown-more : (s : ℕ) (ts : List (ℕ × Value)) (k : ℕ) (v : Value) → last_shown s (ts ++ (k, v) ∷ []) ≡ cond (k == s) (Some v) (last_shown s ts)
+last_shown-more s [] k v = refl
+last_shown-more s (t ∷ ts) k v =
+    ap (λ (o : Option Value). or_else o (cond (t.0 == s) (Some t.1) None)) (last_shown-more s ts k v)
+    ∙ or_else-cond (k == s) v (last_shown s ts) (cond (t.0 == s) (Some t.1) None)
 
 count_by-more : (s : ℕ) (fs : List ℕ) (k : ℕ) → count_by (λ (j : ℕ). j == s) (fs ++ k ∷ []) ≡ count_by (λ (j : ℕ). j == s) fs + cond (k == s) 1 0
 count_by-more s fs k = sum_by-append (λ (j : ℕ). cond (j == s) 1 0) fs (k ∷ []) ∙ ap (λ (m : ℕ). count_by (λ (j : ℕ). j == s) fs + m) (zeroth (cond (k == s) 1 0))
@@ -46,7 +46,7 @@ fresh = record { shown = Count 0; is_marked = false }
 is_fresh : (s : ℕ) → IsCell [] [] [] s fresh
 is_fresh s = record { shown = refl; is_marked = refl }
 
--- a signal of which no line told
+-- a signal of which no line shown
 pub one_more_signal :
     (n : ℕ) (x y : code.Levels) → AreLevels n [] [] [] x → y.cells.items ≡ x.cells.items ++ fresh ∷ [] → y.noted.items ≡ x.noted.items
     → AreLevels (n + 1) [] [] [] y
@@ -160,14 +160,14 @@ reshown n f g t w u x y s d v all within others is cells listed =
       noted = listed ∙ all.noted;
     }
 
-pub told_one :
+pub shown_one :
     (n : ℕ) (f : List ℕ) (t : List (ℕ × Value)) (u : List ℕ) (x y : code.Levels) (s : ℕ) (d : Cell) (v : Value) → AreLevels n f t u x → s < length x.cells.items
     → y.cells.items ≡ set x.cells.items s (record { shown = Last v; is_marked = (get_or x.cells.items s d).is_marked })
     → y.noted.items ≡ x.noted.items → AreLevels n f (t ++ (s, v) ∷ []) u y
-told_one n f t u x y s d v all within cells listed =
+shown_one n f t u x y s d v all within cells listed =
     reshown n f f t (t ++ (s, v) ∷ []) u x y s d (Last v) all within
-    (λ k differ. ap (λ (o : Option Value). shows o (count_in k f)) (sym (last_told-more k t s v ∙ ap (λ (b : Bool). cond b (Some v) (last_told k t)) (ne_eqb s k (λ e. differ (sym e))))))
-    (ap (λ (o : Option Value). shows o (count_in s f)) (sym (last_told-more s t s v ∙ ap (λ (b : Bool). cond b (Some v) (last_told s t)) (eq-eqb s s refl))))
+    (λ k differ. ap (λ (o : Option Value). shows o (count_in k f)) (sym (last_shown-more k t s v ∙ ap (λ (b : Bool). cond b (Some v) (last_shown k t)) (ne_eqb s k (λ e. differ (sym e))))))
+    (ap (λ (o : Option Value). shows o (count_in s f)) (sym (last_shown-more s t s v ∙ ap (λ (b : Bool). cond b (Some v) (last_shown s t)) (eq-eqb s s refl))))
     cells listed
 
 count_same : (f : List ℕ) (s k : ℕ) → k ≢ s → count_in k f ≡ count_in k (f ++ s ∷ [])
@@ -193,8 +193,8 @@ pub fired_one :
     → y.noted.items ≡ x.noted.items → AreLevels n (f ++ s ∷ []) t u y
 fired_one n f t u x y s d e v all within is cells listed =
     reshown n f (f ++ s ∷ []) t t u x y s d v all within
-    (λ k differ. ap (shows (last_told k t)) (count_same f s k differ))
-    (is ∙ ap after_event ((all.cells s e within).shown) ∙ after-shows (last_told s t) (count_in s f) ∙ ap (shows (last_told s t)) (count_next f s))
+    (λ k differ. ap (shows (last_shown k t)) (count_same f s k differ))
+    (is ∙ ap after_event ((all.cells s e within).shown) ∙ after-shows (last_shown s t) (count_in s f) ∙ ap (shows (last_shown s t)) (count_next f s))
     cells listed
 
 -- ---- The beginning

@@ -1,10 +1,10 @@
--- Signals told one after another.
+-- Signals shown one after another.
 use Rattle.std.proofs.Common.{◌≡◌, ℕ, zero, suc, ◌+◌, ◌<◌, List, [], ◌∷◌, ◌++◌, length, map, take, get_or, min, sym, ap, subst, ◌∙◌, arith, append_assoc, append-nil, add-one}
 use Rattle.std.proofs.lemmas.List.{map-append}
 use Rattle.fb_types.specs.declared.value.Value.{Value}
 use Rattle.fb_wave.specs.Levels.{AreLevels}
 use Rattle.fb_wave.specs.declared.levels.Levels.{Levels}
-use Rattle.fb_wave.specs.Told.{pairs}
+use Rattle.fb_wave.specs.LineSignals.{pairs}
 
 -- the first pairs, and one more
 pairs-suc :
@@ -28,21 +28,21 @@ length-pairs (s ∷ ss) [] = omega arith
 length-pairs (s ∷ ss) (v ∷ vs) = let e = length-pairs ss vs in omega arith
 
 -- the levels after some of the pairs
-abbrev pub AreTold : (from to : Levels) (ps : List (ℕ × Value)) → Type 0
-AreTold from to ps =
+abbrev pub AreShown : (from to : Levels) (ps : List (ℕ × Value)) → Type 0
+AreShown from to ps =
     (n : ℕ) (f : List ℕ) (t : List (ℕ × Value)) (u : List ℕ) → AreLevels n f t u from → AreLevels n f (t ++ ps) (u ++ map (λ p. p.0) ps) to
 
-pub told-none : (from : Levels) → AreTold from from []
-told-none from n f t u are =
+pub shown-none : (from : Levels) → AreShown from from []
+shown-none from n f t u are =
     subst (λ (ts : List (ℕ × Value)). AreLevels n f ts (u ++ []) from) (sym (append-nil t))
     (subst (λ (us : List ℕ). AreLevels n f t us from) (sym (append-nil u)) are)
 
-pub told-more :
-    (from to past : Levels) (ps qs : List (ℕ × Value)) (s : ℕ) (v : Value) → AreTold from to ps → qs ≡ ps ++ (s, v) ∷ []
+pub shown-more :
+    (from to past : Levels) (ps qs : List (ℕ × Value)) (s : ℕ) (v : Value) → AreShown from to ps → qs ≡ ps ++ (s, v) ∷ []
     → ((n : ℕ) (f : List ℕ) (t : List (ℕ × Value)) (u : List ℕ) → AreLevels n f t u to → AreLevels n f (t ++ (s, v) ∷ []) (u ++ s ∷ []) past)
-    → AreTold from past qs
-told-more from to past ps qs s v told grown one n f t u are =
-    let next = one n f (t ++ ps) (u ++ map (λ p. p.0) ps) (told n f t u are) in
+    → AreShown from past qs
+shown-more from to past ps qs s v shown grown one n f t u are =
+    let next = one n f (t ++ ps) (u ++ map (λ p. p.0) ps) (shown n f t u are) in
     subst (λ (rs : List (ℕ × Value)). AreLevels n f (t ++ rs) (u ++ map (λ p. p.0) rs) past) (sym grown)
     (subst (λ (us : List ℕ). AreLevels n f (t ++ (ps ++ (s, v) ∷ [])) us past)
     (append_assoc u (map (λ p. p.0) ps) (s ∷ []) ∙ ap (λ (us : List ℕ). u ++ us) (sym (map-append (λ (p : ℕ × Value). p.0) ps ((s, v) ∷ []))))

@@ -36,10 +36,10 @@ pub one_line : (text rest : List ℕ) → IsOneLine text → lines_in (text ++ r
 one_line text rest one =
     ap (λ (t : List ℕ). lines_in (t ++ rest)) one.is ∙ flat_line one.body rest one.flat ∙ ap (λ (t : List ℕ). t ∷ lines_in rest) (sym one.is)
 
-abbrev text_in : System → Form → Line → List ℕ
+abbrev pub text_in : System → Form → Line → List ℕ
 text_in sys form l = line_text form sys (line_of sys l)
 
-abbrev all_text : System → Form → List Line → List ℕ
+abbrev pub all_text : System → Form → List Line → List ℕ
 all_text sys form ls = lines_text form sys (map (line_of sys) ls)
 
 -- a text that begins with that of lines has these lines

@@ -17,16 +17,16 @@ pub record IsLater (gone : List ℕ) (k : ℕ) (old new : Cell) : Type 0 where
   pub shown : new.shown ≡ old.shown
   pub is_marked : new.is_marked ≡ (old.is_marked && not (is_in gone k))
 
--- what signals tell, by their cells
-abbrev pub told_by : List Cell → Cell → List ℕ → List ℕ
-told_by cells d ss = flat_map (λ s. changed s (get_or cells s d).shown) ss
+-- what signals show, by their cells
+abbrev pub shown_by : List Cell → Cell → List ℕ → List ℕ
+shown_by cells d ss = flat_map (λ s. changed s (get_or cells s d).shown) ss
 
 -- The changes of the noted signals before an index are put.
 pub record IsTurned (old text : List ℕ) (from to : code.Levels) (index : ℕ) : Type 0 where
   pub counted : length to.cells.items ≡ length from.cells.items
   pub noted : to.noted.items ≡ from.noted.items
   pub cells : (k : ℕ) (d e : Cell) → k < length from.cells.items → IsLater (take index from.noted.items) k (get_or from.cells.items k d) (get_or to.cells.items k e)
-  pub told : (d : Cell) → text ++ told_by from.cells.items d (drop index from.noted.items) ≡ old ++ told_by from.cells.items d from.noted.items
+  pub shown : (d : Cell) → text ++ shown_by from.cells.items d (drop index from.noted.items) ≡ old ++ shown_by from.cells.items d from.noted.items
 
 and_true : (b : Bool) → b ≡ (b && true)
 and_true true = refl
@@ -59,7 +59,7 @@ turned_none old from =
             shown = ap (λ (c : Cell). c.shown) same;
             is_marked = ap (λ (c : Cell). c.is_marked) same ∙ and_true _;
           };
-      told = λ d. refl;
+      shown = λ d. refl;
     }
 
 pub turned_more :
@@ -103,26 +103,26 @@ turned_more old text grown from to past p s x y turned within at there cell put 
       cells = λ k d e h.
           subst (λ (l : List Cell). k < length l → IsLater all k (get_or from.cells.items k d) (get_or l k e)) (sym cells) (λ g. set_all k e g d h)
           (omega (arith, sized, h));
-      told = λ d.
-          ap (λ (l : List ℕ). l ++ told_by from.cells.items d (drop (p + 1) from.noted.items)) put
-          ∙ append_assoc text (changed s x.shown) (told_by from.cells.items d (drop (p + 1) from.noted.items))
-          ∙ ap (λ (l : List ℕ). text ++ (l ++ told_by from.cells.items d (drop (p + 1) from.noted.items)))
+      shown = λ d.
+          ap (λ (l : List ℕ). l ++ shown_by from.cells.items d (drop (p + 1) from.noted.items)) put
+          ∙ append_assoc text (changed s x.shown) (shown_by from.cells.items d (drop (p + 1) from.noted.items))
+          ∙ ap (λ (l : List ℕ). text ++ (l ++ shown_by from.cells.items d (drop (p + 1) from.noted.items)))
           (ap (λ (c : Cell). changed s c.shown) cell ∙ ap (changed s) ((turned.cells s d x there).shown))
-          ∙ ap (λ (l : List ℕ). text ++ told_by from.cells.items d l) (sym next) ∙ turned.told d;
+          ∙ ap (λ (l : List ℕ). text ++ shown_by from.cells.items d l) (sym next) ∙ turned.shown d;
     }
 
-told_same : (F G : ℕ → List ℕ) (P : ℕ → Type 0) (ss : List ℕ) → All P ss → ((s : ℕ) → P s → F s ≡ G s) → flat_map F ss ≡ flat_map G ss
-told_same F G P [] all same = refl
-told_same F G P (s ∷ ss) all same =
-    ap (λ (l : List ℕ). l ++ flat_map F ss) (same s (All-head P s ss all)) ∙ ap (λ (l : List ℕ). G s ++ l) (told_same F G P ss (All-tail P s ss all) same)
+shown_same : (F G : ℕ → List ℕ) (P : ℕ → Type 0) (ss : List ℕ) → All P ss → ((s : ℕ) → P s → F s ≡ G s) → flat_map F ss ≡ flat_map G ss
+shown_same F G P [] all same = refl
+shown_same F G P (s ∷ ss) all same =
+    ap (λ (l : List ℕ). l ++ flat_map F ss) (same s (All-head P s ss all)) ∙ ap (λ (l : List ℕ). G s ++ l) (shown_same F G P ss (All-tail P s ss all) same)
 
 pub turned_text :
     (n : ℕ) (f : List ℕ) (t : List (ℕ × Value)) (u : List ℕ) (old text : List ℕ) (from to : code.Levels) (p : ℕ) (d : Cell) → AreLevels n f t u from
     → All (λ s. s < length from.cells.items) from.noted.items → IsTurned old text from to p → length from.noted.items ≤ p → text ≡ old ++ changes f t u
 turned_text n f t u old text from to p d are within turned past =
-    sym (append-nil text) ∙ ap (λ (l : List ℕ). text ++ told_by from.cells.items d l) (sym (drop_all p from.noted.items past)) ∙ turned.told d
+    sym (append-nil text) ∙ ap (λ (l : List ℕ). text ++ shown_by from.cells.items d l) (sym (drop_all p from.noted.items past)) ∙ turned.shown d
     ∙ ap (λ (l : List ℕ). old ++ l)
-    (told_same (λ s. changed s (get_or from.cells.items s d).shown) (λ s. changed s (shown_of s f t)) (λ s. s < length from.cells.items) from.noted.items within
+    (shown_same (λ s. changed s (get_or from.cells.items s d).shown) (λ s. changed s (shown_of s f t)) (λ s. s < length from.cells.items) from.noted.items within
     (λ s h. ap (changed s) ((are.cells s d h).shown))
     ∙ ap (flat_map (λ (s : ℕ). changed s (shown_of s f t))) are.noted)
 

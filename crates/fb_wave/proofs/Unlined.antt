@@ -27,7 +27,7 @@ use Rattle.fb_wave.proofs.Finding.{begins_once, same_port}
 use Rattle.fb_wave.proofs.Gluing.{port_at}
 use Rattle.fb_wave.proofs.Lining.{behind_key, key_parts, line_begins, line_end, line_parts, port_of_line, with_sign}
 use Rattle.fb_wave.proofs.Numerals.{number_once}
-use Rattle.fb_wave.proofs.Placing.{names_told}
+use Rattle.fb_wave.proofs.Placing.{names_shown}
 
 -- ---- Heads
 
@@ -124,7 +124,7 @@ plain_sums (k ∷ ks) =
 -- names stand at the same indexes, where each stands at one
 indexes_once : (vs : List Variable) (names : List Name) (ks js : List ℕ) → ¬ (Twice (variable_names vs)) → AreIndexes vs names ks → AreIndexes vs names js → js ≡ ks
 indexes_once vs names ks js once stand other =
-    sym (plain_sums js) ∙ names_told vs 0 names js once other ∙ sym (names_told vs 0 names ks once stand) ∙ plain_sums ks
+    sym (plain_sums js) ∙ names_shown vs 0 names js once other ∙ sym (names_shown vs 0 names ks once stand) ∙ plain_sums ks
 
 read_so :
     (vs : List Variable) (names : List Name) (ks js text : List ℕ) (values : List Value) → ¬ (Twice (variable_names vs)) → AreIndexes vs names ks → AreIndexes vs names js

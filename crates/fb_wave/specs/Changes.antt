@@ -54,9 +54,9 @@ changed s (Count n) = event_changed s n
 -- ---- Ticks
 
 -- What changes in a tick: each signal that its lines touch, once, with what it shows by then.
-abbrev pub changes : (fires : List ℕ) → (tells : List (ℕ × Value)) → (touches : List ℕ) → List ℕ
-changes fires tells touches = flat_map (λ s. changed s (shown_of s fires tells)) (noted [] touches)
+abbrev pub changes : (fires : List ℕ) → (sets : List (ℕ × Value)) → (touches : List ℕ) → List ℕ
+changes fires sets touches = flat_map (λ s. changed s (shown_of s fires sets)) (noted [] touches)
 
 -- the time, unless it is reported already
-abbrev pub time_text : (told tick : ℕ) → List ℕ
-time_text told tick = if tick == told then [] else line (codes "#" ++ decimal tick)
+abbrev pub time_text : (shown tick : ℕ) → List ℕ
+time_text shown tick = if tick == shown then [] else line (codes "#" ++ decimal tick)

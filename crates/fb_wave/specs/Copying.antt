@@ -12,6 +12,7 @@ use Rattle.fb_trace.specs.End.{ending_of}
 use Rattle.fb_trace.specs.Progress.{Fails, bounded}
 use Rattle.fb_trace.specs.declared.last.Outcome.{Outcome}
 use Rattle.fb_trace.specs.declared.last.Outcome.TheVariants.{End, Stop}
+use Rattle.fb_wave.specs.CutOff.{cut_text}
 use Rattle.fb_wave.specs.Dumps.{dump_text, last_tick}
 use Rattle.fb_wave.specs.Writing.{HasShown, IsDump}
 use Rattle.fb_wave.specs.Lines.{IsTextOf}
@@ -85,7 +86,7 @@ pub record IsTaken (sys : System) (form : Form) (text : List ℕ) (old new : Pro
   pub tick : new.tick ≡ line.key.tick
   pub numbers : IsDump sys new.dump
   pub kept : new.page.written ≡ old.page.written
-  pub told :
+  pub shown :
       (ls : List Line) (sent : List ℕ) → HasShown sys ls (sent ++ old.page.text.items) old.dump
       → HasShown sys (ls ++ line ∷ []) (sent ++ new.page.text.items) new.dump
 
@@ -111,6 +112,33 @@ pub record IsCutOff (sys : System) (before : Progress) (old new : Option (List �
       (ls : List Line) (front : List ℕ) → HasShown sys ls (front ++ before.page.text.items) before.dump
       → (front ++ sent) ++ missing ≡ dump_text sys ls end
 
+-- All that waited and the rest of the dump of a trace that is cut off was sent.
+pub record IsCutFinished (sys : System) (before : Progress) (old new : Option (List ℕ)) : Type 0 where
+  pub sent : List ℕ
+  pub got : Appends old new sent
+  pub whole :
+      (ls : List Line) (front : List ℕ) → HasShown sys ls (front ++ before.page.text.items) before.dump
+      → front ++ sent ≡ cut_text sys ls
+
+-- The same, but the writer failed before it got all of it.
+pub record IsCutPart (sys : System) (before : Progress) (old new : Option (List ℕ)) (written : ℕ) : Type 0 where
+  pub sent : List ℕ
+  pub missing : List ℕ
+  pub got : Appends old new sent
+  pub short : 0 < length missing
+  pub counted : written ≡ bounded (before.page.written + length sent)
+  pub parts :
+      (ls : List Line) (front : List ℕ) → HasShown sys ls (front ++ before.page.text.items) before.dump
+      → (front ++ sent) ++ missing ≡ cut_text sys ls
+
+-- what was sent where that did not end well
+abbrev pub IsCutUnfinished : System → Progress → (old new : Option (List ℕ)) → WaveError → Type 0
+IsCutUnfinished sys before old new (Refused line) = ⊥
+IsCutUnfinished sys before old new Names = ⊥
+IsCutUnfinished sys before old new Memory = new ≡ old
+IsCutUnfinished sys before old new Read = ⊥
+IsCutUnfinished sys before old new (Write n) = IsCutPart sys before old new n
+
 -- the end was not sent, or not all of it
 abbrev pub IsUnfinished : System → Progress → (old new : Option (List ℕ)) → WaveError → Type 0
 IsUnfinished sys before old new (Refused line) = new ≡ old
@@ -129,7 +157,7 @@ pub record IsCopied (sys : System) (form : Form) (number : ℕ) (x : Progress) (
   pub are : AreLinesOf sys lines
   pub last : x.tick ≡ last_tick 0 lines
   pub numbers : IsDump sys x.dump
-  pub told : HasShown sys lines (sent ++ x.page.text.items) x.dump
+  pub shown : HasShown sys lines (sent ++ x.page.text.items) x.dump
   pub read : Consumes input left (lines_text form sys (map (line_of sys) lines) ++ next)
   pub got : Appends old new sent
   pub counted : bounded x.page.written ≡ bounded (length sent)

@@ -8,7 +8,7 @@ use Rattle.fb_types.specs.declared.run.Line.{Line}
 use Rattle.fb_types.specs.declared.value.Reason.{Reason}
 use Rattle.fb_wave.specs.Changes.{line, changes, time_text}
 use Rattle.fb_wave.specs.Scopes.{head_text}
-use Rattle.fb_wave.specs.Told.{fires_of, has_signal, touches_of}
+use Rattle.fb_wave.specs.LineSignals.{fires_of, has_signal, touches_of}
 
 -- ---- Ticks
 

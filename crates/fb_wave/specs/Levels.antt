@@ -14,9 +14,9 @@ or_else (Some v) o = Some v
 or_else None o = o
 
 -- the last value that is reported of a signal
-abbrev pub last_told : (signal : ℕ) → List (ℕ × Value) → Option Value
-last_told s [] = None
-last_told s (t ∷ ts) = or_else (last_told s ts) (if t.0 == s then Some t.1 else None)
+abbrev pub last_shown : (signal : ℕ) → List (ℕ × Value) → Option Value
+last_shown s [] = None
+last_shown s (t ∷ ts) = or_else (last_shown s ts) (if t.0 == s then Some t.1 else None)
 
 -- how many of the events are those of a signal, in 64 bits
 abbrev pub count_in : (signal : ℕ) → List ℕ → ℕ
@@ -27,8 +27,8 @@ shows (Some v) n = Last v
 shows None n = Count n
 
 -- After events and values, each of a signal: a variable shows its last value, an event port the count of its events.
-abbrev pub shown_of : (signal : ℕ) → (fires : List ℕ) → (tells : List (ℕ × Value)) → Level
-shown_of s fires tells = shows (last_told s tells) (count_in s fires)
+abbrev pub shown_of : (signal : ℕ) → (fires : List ℕ) → (sets : List (ℕ × Value)) → Level
+shown_of s fires sets = shows (last_shown s sets) (count_in s fires)
 
 -- what is shown after one more event
 abbrev pub after_event : Level → Level
@@ -52,12 +52,12 @@ noted before (s ∷ ss) = noted (with_one before s) ss
 -- ---- The table of the code
 
 -- A cell of a signal.
-pub record IsCell (fires : List ℕ) (tells : List (ℕ × Value)) (touches : List ℕ) (s : ℕ) (x : Cell) : Type 0 where
-  pub shown : x.shown ≡ shown_of s fires tells
+pub record IsCell (fires : List ℕ) (sets : List (ℕ × Value)) (touches : List ℕ) (s : ℕ) (x : Cell) : Type 0 where
+  pub shown : x.shown ≡ shown_of s fires sets
   pub is_marked : x.is_marked ≡ is_in (noted [] touches) s
 
 -- This many signals, with what they show after events and values, and those of a tick.
-pub record AreLevels (count : ℕ) (fires : List ℕ) (tells : List (ℕ × Value)) (touches : List ℕ) (x : code.Levels) : Type 0 where
+pub record AreLevels (count : ℕ) (fires : List ℕ) (sets : List (ℕ × Value)) (touches : List ℕ) (x : code.Levels) : Type 0 where
   pub counted : length x.cells.items ≡ count
-  pub cells : (s : ℕ) (d : Cell) → s < length x.cells.items → IsCell fires tells touches s (slice_index_or x.cells.items s d)
+  pub cells : (s : ℕ) (d : Cell) → s < length x.cells.items → IsCell fires sets touches s (slice_index_or x.cells.items s d)
   pub noted : x.noted.items ≡ noted [] touches

@@ -1,4 +1,4 @@
-pub mod Told
+pub mod LineSignals
 pub mod Dumps
 pub mod Writing
 pub mod Levels
@@ -16,3 +16,4 @@ pub mod Refusals
 pub mod ByTick
 pub mod Nested
 pub mod Copying
+pub mod CutOff

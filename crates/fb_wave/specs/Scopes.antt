@@ -10,9 +10,10 @@ use Rattle.fb_types.specs.declared.library.Ports.{Ports}
 use Rattle.fb_types.specs.declared.library.Variable.{Variable}
 use Rattle.fb_types.specs.declared.value.Ty.{Ty}
 use Rattle.fb_types.specs.declared.value.Ty.TheVariants.{Bool as Boolean}
+use Rattle.fb_types.specs.declared.value.Value.{Value}
 use Rattle.fb_wave.specs.declared.signals.HeadPart.{HeadPart}
 use Rattle.fb_wave.specs.declared.signals.HeadPart.TheVariants.{Declarations, Beginnings}
-use Rattle.fb_wave.specs.Changes.{line, event_code, count_code, variable_code}
+use Rattle.fb_wave.specs.Changes.{line, event_code, count_code, variable_code, value_changed}
 use Rattle.fb_wave.specs.Signals.{size_of}
 
 -- ---- Declarations of signals
@@ -39,9 +40,14 @@ variable_declared s n ty = declares (variable_kind ty) (variable_code s) n
 abbrev pub event_begun : ℕ → List ℕ
 event_begun s = line (codes "b0 " ++ count_code s)
 
-abbrev pub variable_begun : ℕ → Ty → List ℕ
-variable_begun s Boolean = line (codes "x" ++ variable_code s)
-variable_begun s _ = line (codes "bx " ++ variable_code s)
+-- a variable begins with its initial value
+abbrev pub variable_begun : (initial : Name → Value) → ℕ → Name → Ty → List ℕ
+variable_begun initial s n ty = value_changed s (initial n)
+
+-- which text of an event this is, in each of the two parts of the head
+abbrev pub event_in : HeadPart → ℕ → Name → List ℕ
+event_in Declarations = event_declared
+event_in Beginnings = λ s n. event_begun s
 
 -- ---- The signals of an interface, by the text of an event and that of a variable
 
@@ -71,19 +77,10 @@ port_declarations event variable s its =
     ++ variable_declarations variable its.event_inputs ins its.inputs ++ variable_declarations variable its.event_outputs (ins + length its.inputs) its.outputs
 
 abbrev pub ports_declared : ℕ → Ports → List ℕ
-ports_declared s its = port_declarations event_declared variable_declared s its
+ports_declared s its = port_declarations (event_in Declarations) variable_declared s its
 
-abbrev pub ports_begun : ℕ → Ports → List ℕ
-ports_begun s its = port_declarations (λ s n. event_begun s) (λ s n ty. variable_begun s ty) s its
-
--- which texts these are, in each of the two parts of the head
-abbrev pub event_in : HeadPart → ℕ → Name → List ℕ
-event_in Declarations = event_declared
-event_in Beginnings = λ s n. event_begun s
-
-abbrev pub variable_in : HeadPart → ℕ → Name → Ty → List ℕ
-variable_in Declarations = variable_declared
-variable_in Beginnings = λ s n ty. variable_begun s ty
+abbrev pub ports_begun : (initial : Name → Value) → ℕ → Ports → List ℕ
+ports_begun initial s its = port_declarations (event_in Beginnings) (variable_begun initial) s its
 
 -- ---- Scopes
 
@@ -118,9 +115,13 @@ resources_declared sys r (n ∷ ns) =
 
 -- ---- Beginnings
 
+-- the initial values of an instance's variables: the parameter, else the declared value, else 0 or FALSE
+abbrev pub initial_in : System → Path → Name → Value
+initial_in sys p n = sys.initial (record { at = p; name = n })
+
 abbrev pub instances_begun : System → ℕ → List Path → List ℕ
 instances_begun sys s [] = []
-instances_begun sys s (p ∷ ps) = let its = ports_at sys p in ports_begun s its ++ instances_begun sys (s + size_of its) ps
+instances_begun sys s (p ∷ ps) = let its = ports_at sys p in ports_begun (initial_in sys p) s its ++ instances_begun sys (s + size_of its) ps
 
 -- ---- The head
 

@@ -12,7 +12,7 @@ use Rattle.fb_wave.specs.Dumps.{last_tick, ticks_text}
 use Rattle.fb_wave.specs.declared.dump.Dump.{Dump}
 use Rattle.fb_wave.specs.declared.dump.Marks.{Marks}
 use Rattle.fb_wave.specs.Lines.{line_side}
-use Rattle.fb_wave.specs.Told.{fired, fires_of, has_signal, touches_of}
+use Rattle.fb_wave.specs.LineSignals.{fired, fires_of, has_signal, touches_of}
 
 -- The number of the first signal of each instance, and after them how many signals there are.
 pub record AreFirsts (sys : System) (firsts : List ℕ) : Type 0 where
@@ -40,24 +40,24 @@ pub record IsDump (sys : System) (x : Dump) : Type 0 where
 
 -- Lines were written: the text so far is that of their dump, but for what the last tick changes. Whatever lines come, it grows
 -- to the dump of all.
-pub record Tells (sys : System) (ls : List Line) (told : List ℕ) (last : ℕ) (x : Levels) : Type 0 where
+pub record Shows (sys : System) (ls : List Line) (shown : List ℕ) (last : ℕ) (x : Levels) : Type 0 where
   pub before : List Line
   pub now : List Line
   pub parts : ls ≡ before ++ now
   pub tick : last ≡ last_tick 0 ls
   pub levels : AreLevels (sizes_of sys sys.paths) (fires_of sys ls) (has_signal sys ls) (touches_of sys now) x
-  pub text : (rest : List Line) → told ++ ticks_text sys last before now rest ≡ head_text sys ++ ticks_text sys 0 [] [] (ls ++ rest)
+  pub text : (rest : List Line) → shown ++ ticks_text sys last before now rest ≡ head_text sys ++ ticks_text sys 0 [] [] (ls ++ rest)
 
 -- The same where the next line is one of this tick.
-pub record Turns (sys : System) (ls : List Line) (told : List ℕ) (next : ℕ) (x : Levels) : Type 0 where
+pub record Turns (sys : System) (ls : List Line) (shown : List ℕ) (next : ℕ) (x : Levels) : Type 0 where
   pub before : List Line
   pub now : List Line
   pub parts : ls ≡ before ++ now
   pub levels : AreLevels (sizes_of sys sys.paths) (fires_of sys ls) (has_signal sys ls) (touches_of sys now) x
   pub text :
       (l : Line) (rest : List Line) → l.key.tick ≡ next
-      → told ++ ticks_text sys next before (now ++ l ∷ []) rest ≡ head_text sys ++ ticks_text sys 0 [] [] (ls ++ l ∷ rest)
+      → shown ++ ticks_text sys next before (now ++ l ∷ []) rest ≡ head_text sys ++ ticks_text sys 0 [] [] (ls ++ l ∷ rest)
 
 -- A dump has shown these lines, and this is its text so far.
 abbrev pub HasShown : System → List Line → List ℕ → Dump → Type 0
-HasShown sys ls told x = Tells sys ls told x.tick x.levels
+HasShown sys ls shown x = Shows sys ls shown x.tick x.levels

@@ -1,11 +1,20 @@
-//! What signals begin with.
+//! What signals begin with: no event, and the initial values of variables.
 
-ghost use Rattle.std.specs.Prelude.{◌≡◌, ◌++◌, OnOk};
+ghost use Rattle.std.specs.Prelude.{◌≡◌, ◌<◌, ◌+◌, ◌^◌, ◌++◌, OnOk, length, map};
+ghost use Rattle.fb_types.specs.Blocks.{variable_names};
+ghost use Rattle.fb_types.specs.Headline.{system_of};
+ghost use Rattle.fb_types.specs.Names.{Name};
+ghost use Rattle.fb_types.specs.Numbers.{path_at, ports_at};
+ghost use Rattle.fb_types.specs.declared.value.Value.{Value};
 ghost use Rattle.fb_wave.specs.Scopes as spec;
+ghost use Rattle.fb_wave.specs.Signals.{size_of};
 
+use crate::change::put_value;
 use crate::digits::put_line;
-use fb_types::Ty;
-use std::alloc::AllocError;
+use crate::signals::{HeadPart, is_carried, put_port_events};
+use fb_system::System;
+use fb_types::{EventPort, Ports, Value, Variable};
+use std::alloc::{AllocError, Global};
 
 /// Puts that a port has had no event.
 pub(crate) fn put_event(text: &mut Vec<u8>, signal: usize) -> Result<(), AllocError>
@@ -14,13 +23,97 @@ pub(crate) fn put_event(text: &mut Vec<u8>, signal: usize) -> Result<(), AllocEr
     put_line(text, b"b0 n", signal as u64)
 }
 
-/// Puts that a variable is unknown.
-pub(crate) fn put_variable(text: &mut Vec<u8>, signal: usize, ty: Ty) -> Result<(), AllocError>
-    ensures { OnOk result (text.new.items ≡ text.old.items ++ spec.variable_begun signal ty) }
+/// Puts the value of a variable, if lines carry it.
+fn put_carried(
+    text: &mut Vec<u8>,
+    events: &[EventPort],
+    signal: usize,
+    variable: &Variable,
+    value: Value,
+) -> Result<(), AllocError>
+    ensures { (initial : Name → Value) → value ≡ initial variable.now.name
+        → OnOk result (text.new.items ≡ text.old.items ++ spec.carried_declarations (spec.variable_begun initial) events.now signal variable.now) }
 {
-    let front: &[u8] = match ty {
-        Ty::Bool => b"xv",
-        _ => b"bx v",
-    };
-    put_line(text, front, signal as u64)
+    if !is_carried(events, variable) {
+        return Ok(());
+    }
+    put_value(text, signal, value)
+}
+
+/// Puts the values of the variables that lines carry, the first variable with this number.
+fn put_values(
+    text: &mut Vec<u8>,
+    events: &[EventPort],
+    first: usize,
+    variables: &[Variable],
+    values: &[Value],
+) -> Result<(), AllocError>
+    requires numbers { first + length variables.now < 2 ^ 64 }
+    requires values { length values.now ≡ length variables.now }
+    ensures { (initial : Name → Value) → values.now ≡ map initial (variable_names variables.now)
+        → OnOk result (text.new.items ≡ text.old.items ++ spec.variable_declarations (spec.variable_begun initial) events.now first variables.now) }
+{
+    let mut signal = first;
+    for (index, variable) in variables.iter().enumerate() {
+        put_carried(text, events, signal, variable, values[index])?;
+        signal += 1;
+    }
+    Ok(())
+}
+
+/// Puts what the signals of an interface begin with, where its variables have these values. The first signal has this
+/// number.
+fn put_ports(
+    text: &mut Vec<u8>,
+    first: usize,
+    ports: &Ports,
+    inputs: &[Value],
+    outputs: &[Value],
+) -> Result<(), AllocError>
+    requires numbers { first + size_of ports.now < 2 ^ 64 }
+    requires inputs { length inputs.now ≡ length ports.now.inputs }
+    requires outputs { length outputs.now ≡ length ports.now.outputs }
+    ensures { (initial : Name → Value) → inputs.now ≡ map initial (variable_names ports.now.inputs) → outputs.now ≡ map initial (variable_names ports.now.outputs)
+        → OnOk result (text.new.items ≡ text.old.items ++ spec.ports_begun initial first ports.now) }
+{
+    let variables = first + ports.event_inputs.len() + ports.event_outputs.len();
+    put_port_events(text, HeadPart::Beginnings, first, ports)?;
+    put_values(
+        text,
+        ports.event_inputs.as_slice(),
+        variables,
+        ports.inputs.as_slice(),
+        inputs,
+    )?;
+    put_values(
+        text,
+        ports.event_outputs.as_slice(),
+        variables + ports.inputs.len(),
+        ports.outputs.as_slice(),
+        outputs,
+    )
+}
+
+/// Puts what the signals of an instance begin with. The first of them has this number.
+pub(crate) fn put_instance(
+    alloc: Global,
+    text: &mut Vec<u8>,
+    system: &System,
+    first: usize,
+    instance: u32,
+) -> Result<(), AllocError>
+    requires instance { instance < length (system_of system.now).paths }
+    requires first { first + size_of (ports_at (system_of system.now) (path_at (system_of system.now) instance)) < 2 ^ 64 }
+    ensures { OnOk result (let sys = system_of system.now in let p = path_at sys instance in
+        text.new.items ≡ text.old.items ++ spec.ports_begun (spec.initial_in sys p) first (ports_at sys p)) }
+{
+    let inputs = system.initial_inputs(alloc, instance)?;
+    let outputs = system.initial_outputs(alloc, instance)?;
+    put_ports(
+        text,
+        first,
+        system.ports(instance),
+        inputs.as_slice(),
+        outputs.as_slice(),
+    )
 }

@@ -30,7 +30,8 @@ fn put_bits(text: &mut Vec<u8>, bits: u64, letter: &[u8], signal: usize) -> Resu
     put_line(text, letter, signal as u64)
 }
 
-fn put_value(text: &mut Vec<u8>, signal: usize, value: Value) -> Result<(), AllocError>
+/// Puts the value of a variable.
+pub(crate) fn put_value(text: &mut Vec<u8>, signal: usize, value: Value) -> Result<(), AllocError>
     ensures { OnOk result (text.new.items ≡ text.old.items ++ value_changed signal value) }
 {
     match value {
@@ -60,10 +61,10 @@ fn put_change(text: &mut Vec<u8>, signal: usize, shown: Level) -> Result<(), All
 }
 
 /// Puts a time after a text, unless it is reported already.
-pub(crate) fn put_time(text: &mut Vec<u8>, told: u64, tick: u64) -> Result<(), AllocError>
-    ensures { OnOk result (text.new.items ≡ text.old.items ++ time_text told tick) }
+pub(crate) fn put_time(text: &mut Vec<u8>, shown: u64, tick: u64) -> Result<(), AllocError>
+    ensures { OnOk result (text.new.items ≡ text.old.items ++ time_text shown tick) }
 {
-    if tick == told {
+    if tick == shown {
         return Ok(());
     }
     put_line(text, b"#", tick)
@@ -74,10 +75,10 @@ pub(crate) fn put_changes(text: &mut Vec<u8>, levels: &mut Levels) -> Result<(),
     requires { All (λ s. s < length levels.old.cells.items) levels.old.noted.items }
     ensures counted { length levels.new.cells.items ≡ length levels.old.cells.items }
     ensures none { OnOk result (levels.new.noted.items ≡ []) }
-    ensures text { (n : ℕ) (fires : List ℕ) (tells : List (ℕ × Value)) (touches : List ℕ) → AreLevels n fires tells touches levels.old
-        → OnOk result (text.new.items ≡ text.old.items ++ changes fires tells touches) }
-    ensures levels { (n : ℕ) (fires : List ℕ) (tells : List (ℕ × Value)) (touches : List ℕ) → AreLevels n fires tells touches levels.old
-        → OnOk result (AreLevels n fires tells [] levels.new) }
+    ensures text { (n : ℕ) (fires : List ℕ) (sets : List (ℕ × Value)) (touches : List ℕ) → AreLevels n fires sets touches levels.old
+        → OnOk result (text.new.items ≡ text.old.items ++ changes fires sets touches) }
+    ensures levels { (n : ℕ) (fires : List ℕ) (sets : List (ℕ × Value)) (touches : List ℕ) → AreLevels n fires sets touches levels.old
+        → OnOk result (AreLevels n fires sets [] levels.new) }
 {
     for index in 0..levels.noted.len() {
         let signal = levels.noted[index];

@@ -1,16 +1,16 @@
 //! From the lines of a trace to its dump.
 
-ghost use Rattle.std.specs.Prelude.{◌≡◌, ◌<◌, ◌↔◌, ℕ, ◌+◌, ◌^◌, List, [], ◌∷◌, ◌++◌, true, false, length, if◌then◌else◌, IfErr, IfOk, IfSome, OnOk, IsTrue};
+ghost use Rattle.std.specs.Prelude.{◌≡◌, ◌<◌, ◌↔◌, ℕ, ◌+◌, ◌^◌, List, [], ◌∷◌, ◌++◌, true, false, length, if◌then◌else◌, All, IfErr, IfOk, IfSome, OnOk, IsTrue};
 ghost use Rattle.std.specs.Io.KnownBytes.{Consumes, IsAtEnd};
 ghost use Rattle.fb_types.specs.Headline.{system_of};
+ghost use Rattle.fb_types.specs.Systems.{System as Flat};
 ghost use Rattle.fb_wave.specs.Lines.{IsLast};
 ghost use Rattle.fb_wave.specs.Tables.{IsTable};
 ghost use Rattle.fb_wave.specs.Writing.{HasShown, IsDump};
-ghost use Rattle.fb_wave.specs.Copying.{IsAfter, IsFinished, IsFirstLine, IsNoWriteFault, IsTaken, IsUnfinished, RefusesEnd, RefusesLine};
+ghost use Rattle.fb_wave.specs.Copying.{IsAfter, IsCutFinished, IsCutUnfinished, IsFinished, IsFirstLine, IsNoWriteFault, IsTaken, IsUnfinished, RefusesEnd, RefusesLine};
+ghost use Rattle.fb_wave.specs.CutOff.{BlamesShown, FailsShown, IsShown};
 ghost use Rattle.fb_wave.specs.Named as named;
 ghost use Rattle.fb_wave.specs.Named.{HasNames};
-ghost use Rattle.fb_wave.specs.Refusals.{Blames};
-ghost use Rattle.fb_wave.specs.Waves.{FailsWave, IsWave};
 ghost use Rattle.fb_wave.specs.Words.{is_word};
 
 use crate::dump::Dump;
@@ -19,6 +19,7 @@ use crate::last::read_last;
 use crate::line::read_line;
 use crate::page::DumpPage;
 use crate::table::{Guess, PortTable};
+use crate::truncation::{Cut, is_cut};
 use crate::words::{cut, is_digit};
 use fb_system::System;
 use fb_trace::Outcome;
@@ -147,12 +148,23 @@ impl Progress {
         self.page.flush(out)
     }
 
+    /// Shows that the trace is cut off, and writes all that waits.
+    fn finish_cut<W: Write>(&mut self, out: &mut W) -> Result<(), WaveError>
+        requires { All (λ s. s < length self.old.dump.levels.cells.items) self.old.dump.levels.noted.items }
+        ensures whole { (sys : Flat) → OnOk result (IsCutFinished sys self.old (W.contents out.old) (W.contents out.new)) }
+        ensures part { (sys : Flat) → IfErr result (IsCutUnfinished sys self.old (W.contents out.old) (W.contents out.new)) }
+    {
+        self.dump.cut_off(&mut self.page.text)?;
+        self.page.flush(out)
+    }
+
     /// Reads a trace, and writes its dump. The buffer is for the line that was read last: it is lent, so that no way out of
     /// the loop lets one go.
     pub(crate) fn copy<R: BufRead, W: Write>(
         &mut self,
         alloc: Global,
         table: &PortTable,
+        cut: Cut,
         line: &mut Vec<u8>,
         input: &mut R,
         out: &mut W,
@@ -160,18 +172,21 @@ impl Progress {
         requires table { IsTable table.now }
         requires dump { IsDump (system_of table.now.system.now) self.old.dump }
         requires tick { self.old.tick ≡ 0 }
-        requires told { HasShown (system_of table.now.system.now) [] self.old.page.text.items self.old.dump }
+        requires shown { HasShown (system_of table.now.system.now) [] self.old.page.text.items self.old.dump }
         requires written { self.old.page.written ≡ 0 }
-        ensures whole { OnOk result (IfSome (R.remaining input.old) (λ text. IsWave (system_of table.now.system.now) text (W.contents out.old) (W.contents out.new))) }
-        ensures part { IfErr result (FailsWave (system_of table.now.system.now) (W.contents out.old) (W.contents out.new)) }
+        ensures whole { OnOk result (IfSome (R.remaining input.old) (λ text. IsShown cut (system_of table.now.system.now) text (W.contents out.old) (W.contents out.new))) }
+        ensures part { IfErr result (FailsShown cut (system_of table.now.system.now) (W.contents out.old) (W.contents out.new)) }
         ensures refused { HasNames (system_of table.now.system.now)
-            → IfErr result (Blames (system_of table.now.system.now) (R.remaining input.old)) }
+            → IfErr result (BlamesShown cut (system_of table.now.system.now) (R.remaining input.old)) }
     {
         next_line(input, line)?;
         let form = form_of(line.as_slice());
         for number in 1..u64::MAX {
             if let Some(end) = read_last(table.system, line.as_slice()) {
                 return self.finish(table.system, end, number, line, input, out);
+            }
+            if is_cut(cut, line.as_slice()) {
+                return self.finish_cut(out);
             }
             self.take(alloc, table, form, number, line.as_slice())?;
             self.page.flush_much(out)?;

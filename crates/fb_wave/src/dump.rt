@@ -7,9 +7,10 @@ ghost use Rattle.fb_types.specs.Text.{reason_text};
 ghost use Rattle.fb_system.specs.Lines.{BelongsTo};
 ghost use Rattle.fb_trace.specs.End.{EndsIn, ending_of};
 ghost use Rattle.fb_wave.specs.Levels.{AreLevels};
+ghost use Rattle.fb_wave.specs.CutOff.{cut_text};
 ghost use Rattle.fb_wave.specs.Dumps.{dump_text, end_text, stop_comment};
-ghost use Rattle.fb_wave.specs.Told.{pairs};
-ghost use Rattle.fb_wave.specs.Writing.{AreFirsts, AreMarks, HasShown, IsDump, Tells, Turns};
+ghost use Rattle.fb_wave.specs.LineSignals.{pairs};
+ghost use Rattle.fb_wave.specs.Writing.{AreFirsts, AreMarks, HasShown, IsDump, Shows, Turns};
 
 use crate::change::{put_changes, put_time};
 use crate::firsts::firsts_of;
@@ -41,14 +42,14 @@ fn reason_text(reason: Reason) -> &'static [u8]
 }
 
 /// Puts the time of an end after a text, and why a resource stopped.
-fn put_end(text: &mut Vec<u8>, system: &System, told: u64, end: Outcome) -> Result<(), AllocError>
+fn put_end(text: &mut Vec<u8>, system: &System, shown: u64, end: Outcome) -> Result<(), AllocError>
     requires { EndsIn (system_of system.now) end }
-    ensures { OnOk result (text.new.items ≡ text.old.items ++ end_text (system_of system.now) told (ending_of end)) }
+    ensures { OnOk result (text.new.items ≡ text.old.items ++ end_text (system_of system.now) shown (ending_of end)) }
 {
     match end {
-        Outcome::End(horizon) => put_time(text, told, horizon),
+        Outcome::End(horizon) => put_time(text, shown, horizon),
         Outcome::Stop(mark) => {
-            put_time(text, told, mark.tick)?;
+            put_time(text, shown, mark.tick)?;
             let resource = system.resource_name(mark.resource as usize);
             put_stop(text, resource, mark.reason)
         }
@@ -103,18 +104,18 @@ fn marks_of<'a>(firsts: &[usize], system: &'a System, line: &Line) -> Marks<'a>
 }
 
 /// Goes on to a tick: puts what changed in the one before after a text, unless it is the same.
-fn turn(levels: &mut Levels, told: u64, tick: u64, text: &mut Vec<u8>) -> Result<(), AllocError>
+fn turn(levels: &mut Levels, shown: u64, tick: u64, text: &mut Vec<u8>) -> Result<(), AllocError>
     requires { All (λ s. s < length levels.old.cells.items) levels.old.noted.items }
     ensures counted { length levels.new.cells.items ≡ length levels.old.cells.items }
     ensures within { OnOk result (All (λ s. s < length levels.new.cells.items) levels.new.noted.items) }
-    ensures turned { (sys : Flat) (ls : List Line) (sent : List ℕ) → Tells sys ls (sent ++ text.old.items) told levels.old
+    ensures turned { (sys : Flat) (ls : List Line) (sent : List ℕ) → Shows sys ls (sent ++ text.old.items) shown levels.old
         → OnOk result (Turns sys ls (sent ++ text.new.items) tick levels.new) }
 {
-    if tick == told {
+    if tick == shown {
         return Ok(());
     }
     put_changes(text, levels)?;
-    put_time(text, told, tick)
+    put_time(text, shown, tick)
 }
 
 /// The variables at some indexes have these values, each as a signal whose number is that of the first and its index.
@@ -128,18 +129,18 @@ fn show_values(
     requires within { All (λ s. s < length levels.old.cells.items) levels.old.noted.items }
     ensures counted { length levels.new.cells.items ≡ length levels.old.cells.items }
     ensures within { All (λ s. s < length levels.new.cells.items) levels.new.noted.items }
-    ensures levels { (n : ℕ) (fires : List ℕ) (tells : List (ℕ × Value)) (touches : List ℕ) → AreLevels n fires tells touches levels.old
+    ensures levels { (n : ℕ) (fires : List ℕ) (sets : List (ℕ × Value)) (touches : List ℕ) → AreLevels n fires sets touches levels.old
         → OnOk result (let more = pairs (map (λ k. first + k) indexes.now) values.now in
-        AreLevels n fires (tells ++ more) (touches ++ map (λ t. t.0) more) levels.new) }
+        AreLevels n fires (sets ++ more) (touches ++ map (λ t. t.0) more) levels.new) }
 {
     for index in 0..indexes.len().min(values.len()) {
-        levels.tell(first + indexes[index] as usize, values[index])?;
+        levels.show(first + indexes[index] as usize, values[index])?;
     }
     Ok(())
 }
 
 /// Notes an event, and values at some indexes after the first variable.
-fn tell(
+fn show(
     levels: &mut Levels,
     event: usize,
     first: usize,
@@ -151,9 +152,9 @@ fn tell(
     requires within { All (λ s. s < length levels.old.cells.items) levels.old.noted.items }
     ensures counted { length levels.new.cells.items ≡ length levels.old.cells.items }
     ensures within { All (λ s. s < length levels.new.cells.items) levels.new.noted.items }
-    ensures levels { (n : ℕ) (fires : List ℕ) (tells : List (ℕ × Value)) (touches : List ℕ) → AreLevels n fires tells touches levels.old
+    ensures levels { (n : ℕ) (fires : List ℕ) (sets : List (ℕ × Value)) (touches : List ℕ) → AreLevels n fires sets touches levels.old
         → OnOk result (let more = pairs (map (λ k. first + k) indexes.now) values.now in
-        AreLevels n (fires ++ event ∷ []) (tells ++ more) (touches ++ event ∷ [] ++ map (λ t. t.0) more) levels.new) }
+        AreLevels n (fires ++ event ∷ []) (sets ++ more) (touches ++ event ∷ [] ++ map (λ t. t.0) more) levels.new) }
 {
     levels.fire(event)?;
     show_values(levels, first, indexes, values)
@@ -167,11 +168,11 @@ impl Dump {
         text: &mut Vec<u8>,
     ) -> Result<Dump, AllocError>
         ensures numbers { IfOk result (IsDump (system_of system.now)) }
-        ensures told { text.old.items ≡ [] → IfOk result (HasShown (system_of system.now) [] text.new.items) }
+        ensures shown { text.old.items ≡ [] → IfOk result (HasShown (system_of system.now) [] text.new.items) }
     {
         let mut levels = Levels::new(alloc);
         let firsts = firsts_of(alloc, system, &mut levels)?;
-        put_head(text, system, firsts.as_slice())?;
+        put_head(alloc, text, system, firsts.as_slice())?;
         Ok(Dump {
             firsts,
             levels,
@@ -189,7 +190,7 @@ impl Dump {
         requires dump { IsDump (system_of system.now) self.old }
         requires line { BelongsTo (system_of system.now) line.now }
         ensures numbers { OnOk result (IsDump (system_of system.now) self.new) }
-        ensures told { (ls : List Line) (sent : List ℕ) → HasShown (system_of system.now) ls (sent ++ text.old.items) self.old
+        ensures shown { (ls : List Line) (sent : List ℕ) → HasShown (system_of system.now) ls (sent ++ text.old.items) self.old
             → OnOk result (HasShown (system_of system.now) (ls ++ line.now ∷ []) (sent ++ text.new.items) self.new) }
     {
         system.facts();
@@ -197,13 +198,23 @@ impl Dump {
         turn(&mut self.levels, self.tick, line.key.tick, text)?;
         self.tick = line.key.tick;
         let values = line.values.as_slice();
-        tell(
+        show(
             &mut self.levels,
             marks.event,
             marks.first,
             marks.indexes,
             values,
         )
+    }
+
+    /// Puts what changed in the last tick, and that the trace is cut off, after a text.
+    pub(crate) fn cut_off(&mut self, text: &mut Vec<u8>) -> Result<(), AllocError>
+        requires { All (λ s. s < length self.old.levels.cells.items) self.old.levels.noted.items }
+        ensures { (sys : Flat) (ls : List Line) (sent : List ℕ) → HasShown sys ls (sent ++ text.old.items) self.old
+            → OnOk result (sent ++ text.new.items ≡ cut_text sys ls) }
+    {
+        put_changes(text, &mut self.levels)?;
+        text.extend_from_slice(b"$comment cut $end\n")
     }
 
     /// Puts what changed in the last tick, and the end, after a text.

@@ -7,10 +7,11 @@ ghost use Rattle.fb_wave.specs.Scopes as spec;
 ghost use Rattle.fb_wave.specs.Signals.{size_of};
 ghost use Rattle.fb_wave.specs.Writing.{AreFirsts};
 
+use crate::begun;
 use crate::scopes::{put_closed, put_opened};
-use crate::signals::{HeadPart, put_ports};
+use crate::signals::put_ports;
 use fb_system::System;
-use std::alloc::AllocError;
+use std::alloc::{AllocError, Global};
 
 /// What follows after the given number of bytes.
 fn rest_from(text: &[u8], count: usize) -> &[u8]
@@ -53,7 +54,7 @@ fn put_instance(
     let ended = depth.saturating_sub(outside);
     put_closed(text, ended)?;
     put_opened(text, own_name(system, instance))?;
-    put_ports(text, HeadPart::Declarations, first, system.ports(instance))?;
+    put_ports(text, first, system.ports(instance))?;
     Ok(height)
 }
 
@@ -80,19 +81,19 @@ fn put_instances(
 }
 
 /// Puts what the signals of all instances begin with.
-fn put_begun(text: &mut Vec<u8>, system: &System, firsts: &[usize]) -> Result<(), AllocError>
+fn put_begun(
+    alloc: Global,
+    text: &mut Vec<u8>,
+    system: &System,
+    firsts: &[usize],
+) -> Result<(), AllocError>
     requires { AreFirsts (system_of system.now) firsts.now }
     ensures { OnOk result (text.new.items ≡ text.old.items
         ++ spec.instances_begun (system_of system.now) 0 (system_of system.now).paths) }
 {
     system.facts();
     for index in 0..system.count() {
-        put_ports(
-            text,
-            HeadPart::Beginnings,
-            firsts[index],
-            system.ports(index as u32),
-        )?;
+        begun::put_instance(alloc, text, system, firsts[index], index as u32)?;
     }
     Ok(())
 }
@@ -113,6 +114,7 @@ fn put_resources(text: &mut Vec<u8>, system: &System, firsts: &[usize]) -> Resul
 
 /// Puts the head of a dump: the time scale, the scopes of the resources, the first time and what signals begin with.
 pub(crate) fn put_head(
+    alloc: Global,
     text: &mut Vec<u8>,
     system: &System,
     firsts: &[usize],
@@ -123,6 +125,6 @@ pub(crate) fn put_head(
     text.extend_from_slice(b"$timescale 1 ms $end\n")?;
     put_resources(text, system, firsts)?;
     text.extend_from_slice(b"$enddefinitions $end\n#0\n$dumpvars\n")?;
-    put_begun(text, system, firsts)?;
+    put_begun(alloc, text, system, firsts)?;
     text.extend_from_slice(b"$end\n")
 }

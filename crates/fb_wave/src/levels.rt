@@ -84,8 +84,8 @@ impl Levels {
         requires within { All (λ s. s < length self.old.cells.items) self.old.noted.items }
         ensures counted { length self.new.cells.items ≡ length self.old.cells.items }
         ensures within { All (λ s. s < length self.new.cells.items) self.new.noted.items }
-        ensures levels { (n : ℕ) (fires : List ℕ) (tells : List (ℕ × Value)) (touches : List ℕ) → AreLevels n fires tells touches self.old
-            → OnOk result (AreLevels n fires tells (touches ++ signal ∷ []) self.new) }
+        ensures levels { (n : ℕ) (fires : List ℕ) (sets : List (ℕ × Value)) (touches : List ℕ) → AreLevels n fires sets touches self.old
+            → OnOk result (AreLevels n fires sets (touches ++ signal ∷ []) self.new) }
     {
         if self.cells[signal].is_marked {
             return Ok(());
@@ -101,8 +101,8 @@ impl Levels {
         requires within { All (λ s. s < length self.old.cells.items) self.old.noted.items }
         ensures counted { length self.new.cells.items ≡ length self.old.cells.items }
         ensures within { All (λ s. s < length self.new.cells.items) self.new.noted.items }
-        ensures levels { (n : ℕ) (fires : List ℕ) (tells : List (ℕ × Value)) (touches : List ℕ) → AreLevels n fires tells touches self.old
-            → OnOk result (AreLevels n (fires ++ signal ∷ []) tells (touches ++ signal ∷ []) self.new) }
+        ensures levels { (n : ℕ) (fires : List ℕ) (sets : List (ℕ × Value)) (touches : List ℕ) → AreLevels n fires sets touches self.old
+            → OnOk result (AreLevels n (fires ++ signal ∷ []) sets (touches ++ signal ∷ []) self.new) }
     {
         let shown = after_event(self.cells[signal].shown);
         self.cells[signal].shown = shown;
@@ -110,13 +110,13 @@ impl Levels {
     }
 
     /// A variable got a value.
-    pub(crate) fn tell(&mut self, signal: usize, value: Value) -> Result<(), AllocError>
+    pub(crate) fn show(&mut self, signal: usize, value: Value) -> Result<(), AllocError>
         requires signal { signal < length self.old.cells.items }
         requires within { All (λ s. s < length self.old.cells.items) self.old.noted.items }
         ensures counted { length self.new.cells.items ≡ length self.old.cells.items }
         ensures within { All (λ s. s < length self.new.cells.items) self.new.noted.items }
-        ensures levels { (n : ℕ) (fires : List ℕ) (tells : List (ℕ × Value)) (touches : List ℕ) → AreLevels n fires tells touches self.old
-            → OnOk result (AreLevels n fires (tells ++ (signal, value) ∷ []) (touches ++ signal ∷ []) self.new) }
+        ensures levels { (n : ℕ) (fires : List ℕ) (sets : List (ℕ × Value)) (touches : List ℕ) → AreLevels n fires sets touches self.old
+            → OnOk result (AreLevels n fires (sets ++ (signal, value) ∷ []) (touches ++ signal ∷ []) self.new) }
     {
         self.cells[signal].shown = Level::Last(value);
         self.note(signal)

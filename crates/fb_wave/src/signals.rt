@@ -1,4 +1,4 @@
-//! The signals of an interface in the head of a dump: where they are declared, and where it says what they begin with.
+//! The signals of an interface in the head of a dump, where they are declared.
 
 ghost use Rattle.std.specs.Prelude.{◌≡◌, ◌<◌, ◌+◌, ◌^◌, ◌++◌, OnOk, length};
 ghost use Rattle.fb_types.specs.Blocks.{among};
@@ -9,12 +9,12 @@ use crate::{begun, declared};
 use fb_types::{EventPort, Name, Ports, Variable};
 use std::alloc::AllocError;
 
-/// What a part of the head says of each signal.
+/// What a part of the head has of each event.
 #[derive(Clone, Copy)]
 pub(crate) enum HeadPart {
     /// Its declaration.
     Declarations,
-    /// What it begins with.
+    /// That it has not occurred.
     Beginnings,
 }
 
@@ -50,7 +50,7 @@ fn put_events(
 }
 
 /// Whether lines carry a variable: where it is WITH one of the events.
-fn is_carried(events: &[EventPort], variable: &Variable) -> bool
+pub(crate) fn is_carried(events: &[EventPort], variable: &Variable) -> bool
     ensures { result ≡ spec.is_carried events.now variable.now }
 {
     for event in events {
@@ -72,69 +72,69 @@ fn is_among(names: &[Name], name: &Name) -> bool
     false
 }
 
-/// Puts a variable, if lines carry it.
+/// Declares a variable, if lines carry it.
 fn put_variable(
     text: &mut Vec<u8>,
-    part: HeadPart,
     events: &[EventPort],
     signal: usize,
     variable: &Variable,
 ) -> Result<(), AllocError>
-    ensures { OnOk result (text.new.items ≡ text.old.items ++ spec.carried_declarations (spec.variable_in part) events.now signal variable.now) }
+    ensures { OnOk result (text.new.items ≡ text.old.items ++ spec.carried_declarations spec.variable_declared events.now signal variable.now) }
 {
     if !is_carried(events, variable) {
         return Ok(());
     }
-    match part {
-        HeadPart::Declarations => {
-            declared::put_variable(text, signal, variable.name.as_bytes(), variable.ty)
-        }
-        HeadPart::Beginnings => begun::put_variable(text, signal, variable.ty),
-    }
+    declared::put_variable(text, signal, variable.name.as_bytes(), variable.ty)
 }
 
 fn put_variables(
     text: &mut Vec<u8>,
-    part: HeadPart,
     events: &[EventPort],
     first: usize,
     variables: &[Variable],
 ) -> Result<(), AllocError>
     requires { first + length variables.now < 2 ^ 64 }
-    ensures { OnOk result (text.new.items ≡ text.old.items ++ spec.variable_declarations (spec.variable_in part) events.now first variables.now) }
+    ensures { OnOk result (text.new.items ≡ text.old.items ++ spec.variable_declarations spec.variable_declared events.now first variables.now) }
 {
     let mut signal = first;
     for variable in variables {
-        put_variable(text, part, events, signal, variable)?;
+        put_variable(text, events, signal, variable)?;
         signal += 1;
     }
     Ok(())
 }
 
-/// Puts the signals of an interface, the first with this number.
-pub(crate) fn put_ports(
+/// Puts the events of an interface, its inputs and then its outputs. The first signal has this number.
+pub(crate) fn put_port_events(
     text: &mut Vec<u8>,
     part: HeadPart,
     first: usize,
     ports: &Ports,
 ) -> Result<(), AllocError>
-    requires { first + size_of ports.now < 2 ^ 64 }
-    ensures { OnOk result (text.new.items ≡ text.old.items ++ spec.port_declarations (spec.event_in part) (spec.variable_in part) first ports.now) }
+    requires { first + length ports.now.event_inputs + length ports.now.event_outputs < 2 ^ 64 }
+    ensures { OnOk result (text.new.items ≡ text.old.items ++ (spec.event_declarations (spec.event_in part) first ports.now.event_inputs
+        ++ spec.event_declarations (spec.event_in part) (first + length ports.now.event_inputs) ports.now.event_outputs)) }
 {
-    let outputs = first + ports.event_inputs.len();
-    let variables = outputs + ports.event_outputs.len();
     put_events(text, part, first, ports.event_inputs.as_slice())?;
-    put_events(text, part, outputs, ports.event_outputs.as_slice())?;
+    let outputs = first + ports.event_inputs.len();
+    put_events(text, part, outputs, ports.event_outputs.as_slice())
+}
+
+/// Declares the signals of an interface, the first with this number.
+pub(crate) fn put_ports(text: &mut Vec<u8>, first: usize, ports: &Ports) -> Result<(), AllocError>
+    requires { first + size_of ports.now < 2 ^ 64 }
+    ensures { OnOk result (text.new.items ≡ text.old.items ++ spec.ports_declared first ports.now) }
+{
+    let variables = first + ports.event_inputs.len() + ports.event_outputs.len();
+    put_port_events(text, HeadPart::Declarations, first, ports)?;
     put_variables(
         text,
-        part,
         ports.event_inputs.as_slice(),
         variables,
         ports.inputs.as_slice(),
     )?;
     put_variables(
         text,
-        part,
         ports.event_outputs.as_slice(),
         variables + ports.inputs.len(),
         ports.outputs.as_slice(),

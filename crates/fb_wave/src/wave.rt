@@ -2,6 +2,7 @@
 
 ghost use Rattle.std.specs.Prelude.{IfErr, IfSome, OnOk};
 ghost use Rattle.fb_types.specs.Headline.{system_of};
+ghost use Rattle.fb_wave.specs.CutOff.{BlamesShown, FailsShown, IsShown};
 ghost use Rattle.fb_wave.specs.Refusals.{Blames};
 ghost use Rattle.fb_wave.specs.Waves.{FailsWave, IsWave};
 
@@ -12,6 +13,7 @@ use crate::names::has_names;
 use crate::page::DumpPage;
 use crate::ports::ports_of;
 use crate::table::{Guess, PortTable, texts_of};
+use crate::truncation::Cut;
 use fb_system::System;
 use std::alloc::Global;
 use std::io::{BufRead, Write};
@@ -50,6 +52,25 @@ pub fn write_wave<R: BufRead, W: Write>(
     ensures part { IfErr result (FailsWave (system_of system.now) (W.contents out.old) (W.contents out.new)) }
     ensures refused { IfErr result (Blames (system_of system.now) (R.remaining input.old)) }
 {
+    write_wave_with(alloc, system, Cut::Refused, input, out)
+}
+
+/// The same of a trace that may be cut off: end without a last line, or within a line, which then does not count. Its dump
+/// ends in a comment that says so.
+///
+/// # Errors
+/// As those of `write_wave`, but no trace is refused because it is cut off.
+pub fn write_wave_with<R: BufRead, W: Write>(
+    alloc: Global,
+    system: &System,
+    cut: Cut,
+    input: &mut R,
+    out: &mut W,
+) -> Result<(), WaveError>
+    ensures whole { OnOk result (IfSome (R.remaining input.old) (λ text. IsShown cut (system_of system.now) text (W.contents out.old) (W.contents out.new))) }
+    ensures part { IfErr result (FailsShown cut (system_of system.now) (W.contents out.old) (W.contents out.new)) }
+    ensures refused { IfErr result (BlamesShown cut (system_of system.now) (R.remaining input.old)) }
+{
     system.facts();
     if !has_names(system) {
         return Err(WaveError::Names);
@@ -69,5 +90,5 @@ pub fn write_wave<R: BufRead, W: Write>(
         tick: 0,
     };
     let mut line = Vec::new(alloc);
-    progress.copy(alloc, &table, &mut line, input, out)
+    progress.copy(alloc, &table, cut, &mut line, input, out)
 }

@@ -12,27 +12,33 @@ use Rattle.fb_sim.specs.declared.outcome.Refusal as sim
 use Rattle.fb_sim.specs.declared.outcome.Refusal.TheVariants as of
 use Rattle.fb_sim.specs.declared.outcome.RunError.{RunError}
 use Rattle.fb_sim.specs.declared.outcome.RunError.TheVariants as run
-use Rattle.fb_wave.specs.Refusals.{Blames}
-use Rattle.fb_wave.specs.Waves.{FailsWave}
+use Rattle.fb_wave.specs.CutOff.{BlamesShown, FailsCut, FailsShown}
+use Rattle.fb_wave.specs.Waves.{WritesFront}
 use Rattle.fb_wave.specs.declared.error.WaveError.{WaveError}
 use Rattle.fb_wave.specs.declared.error.WaveError.TheVariants as wave
+use Rattle.fb_wave.specs.declared.truncation.Cut.{Cut}
+use Rattle.fb_wave.specs.declared.truncation.Cut.TheVariants as cut
+use Rattle.clap.specs.Words.{Text}
+use Rattle.fbsim_command.specs.declared.line.Task.{Task}
 use Rattle.fbsim_command.specs.declared.line.Wave.{Wave}
 use Rattle.fbsim_command.specs.Failures.{failure_of, failure_of_source, failure_of_wave, numbered_input}
 use Rattle.fbsim_command.specs.declared.failure.Failure.{Failure}
 use Rattle.fbsim_command.specs.Outcomes.{End, Held}
-use Rattle.fbsim_command.specs.Reading.{Reading, AreRead}
-use Rattle.fbsim_command.specs.Showing.{Dumps, Opening, Shows, files_of}
+use Rattle.fbsim_command.specs.Notes.{IsFileNote, Notes, NotesOf}
+use Rattle.fbsim_command.specs.Reading.{Reading, AreRead, IsUnread}
+use Rattle.fbsim_command.specs.Showing.{Dumps, IsTraceFileNote, Opening, Shows, cut_of, files_of}
 use Rattle.fbsim_command.specs.declared.sources.SourceFault.{SourceFault}
+use Rattle.fbsim_command.specs.declared.texts.Part.{Part}
 
 -- nothing is written where the inputs are refused
-pub dumps_none : (given : Given) (trace old : Held) (error : RunError) → IsRefusal given error → Dumps given trace old old (Err (failure_of error))
-dumps_none given trace old (run.Refused r) is = refusal r is
+pub dumps_none : (may : Cut) (given : Given) (trace old : Held) (error : RunError) → IsRefusal given error → Dumps may given trace old old (Err (failure_of error))
+dumps_none may given trace old (run.Refused r) is = refusal r is
   where
-    numbered : (r : sim.Refusal) → IsRightly given r → (o : Option ℕ) → failure_of (run.Refused r) ≡ numbered_input o → Dumps given trace old old (Err (numbered_input o))
+    numbered : (r : sim.Refusal) → IsRightly given r → (o : Option ℕ) → failure_of (run.Refused r) ≡ numbered_input o → Dumps may given trace old old (Err (numbered_input o))
     numbered r is (Some n) told = inl (record { error = run.Refused r; refused = is; told = told }, refl)
     numbered r is None told = inl refl
 
-    unread : (e : ReadError) → IsRightly given (of.Declaration e) → Dumps given trace old old (Err (failure_of (run.Refused (of.Declaration e))))
+    unread : (e : ReadError) → IsRightly given (of.Declaration e) → Dumps may given trace old old (Err (failure_of (run.Refused (of.Declaration e))))
     unread read.Memory is = inl refl
     unread read.Byte is = inl (record { error = run.Refused (of.Declaration read.Byte); refused = is; told = refl }, refl)
     unread read.Token is = inl (record { error = run.Refused (of.Declaration read.Token); refused = is; told = refl }, refl)
@@ -40,37 +46,94 @@ dumps_none given trace old (run.Refused r) is = refusal r is
     unread read.TooLong is = inl (record { error = run.Refused (of.Declaration read.TooLong); refused = is; told = refl }, refl)
     unread read.Nesting is = inl (record { error = run.Refused (of.Declaration read.Nesting); refused = is; told = refl }, refl)
 
-    refusal : (r : sim.Refusal) → IsRightly given r → Dumps given trace old old (Err (failure_of (run.Refused r)))
+    refusal : (r : sim.Refusal) → IsRightly given r → Dumps may given trace old old (Err (failure_of (run.Refused r)))
     refusal (of.Declaration e) is = unread e is
     refusal (of.Deployment e) is = numbered (of.Deployment e) is (input.number_of e) refl
     refusal (of.Stimuli e) is = numbered (of.Stimuli e) is (input.number_of e) refl
     refusal (of.Check e) is = numbered (of.Check e) is (check.number_of e) refl
-dumps_none given trace old run.Memory is = inl refl
-dumps_none given trace old (run.Write n) is = absurd is
-dumps_none given trace old run.BadOption is = absurd is
-dumps_none given trace old run.Failed is = absurd is
+dumps_none may given trace old run.Memory is = inl refl
+dumps_none may given trace old (run.Write n) is = absurd is
+dumps_none may given trace old run.BadOption is = absurd is
+dumps_none may given trace old run.Failed is = absurd is
+
+-- what a writer got where it did not fail
+front_of : (may : Cut) (i : Inputs) (old new : Held) (e : WaveError) → (FailsShown cut.Refused (system_of i) old new e → WritesFront (system_of i) old new) → ¬ (FailsCut (system_of i) old new e)
+    → FailsShown may (system_of i) old new e → WritesFront (system_of i) old new
+front_of cut.Refused i old new e front other fails = front fails
+front_of cut.Allowed i old new e front other (inl fails) = front fails
+front_of cut.Allowed i old new e front other (inr fails) = absurd (other fails)
 
 -- a beginning is written where the trace is refused, or where reading it, writing or memory fails
 pub dumps_front :
-    (given : Given) (trace old new : Held) (i : Inputs) → Declares given i → (e : WaveError) → FailsWave (system_of i) old new e
-    → Blames (system_of i) trace e → Dumps given trace old new (Err (failure_of_wave e))
-dumps_front given trace old new i is (wave.Refused line) front blames = inr (line, refl, (i, is, front, blames))
-dumps_front given trace old new i is wave.Memory front blames = inr (i, is, front)
-dumps_front given trace old new i is wave.Read front blames = (i, is, front)
-dumps_front given trace old new i is (wave.Write n) part blames = (i, is, part)
-dumps_front given trace old new i is wave.Names front blames = inr (i, is, front)
+    (may : Cut) (given : Given) (trace old new : Held) (i : Inputs) → Declares given i → (e : WaveError) → FailsShown may (system_of i) old new e
+    → BlamesShown may (system_of i) trace e → Dumps may given trace old new (Err (failure_of_wave e))
+dumps_front may given trace old new i is (wave.Refused line) fails blames =
+    inr (line, refl, (i, is, front_of may i old new (wave.Refused line) (λ f. f) (λ f. f) fails, blames))
+dumps_front may given trace old new i is wave.Memory fails blames = inr (i, is, front_of may i old new wave.Memory (λ f. f) (λ f. f) fails)
+dumps_front may given trace old new i is wave.Read fails blames = (i, is, front_of may i old new wave.Read (λ f. f) (λ f. f) fails)
+dumps_front may given trace old new i is (wave.Write n) fails blames = (i, is, fails)
+dumps_front may given trace old new i is wave.Names fails blames = inr (i, is, front_of may i old new wave.Names (λ f. f) (λ f. f) fails)
 
 -- a failure that is passed on
-pub passed : (given : Given) (trace old new : Held) (r : End) (f : Failure) → IsErrAnd r (λ g. g ≡ f) → Dumps given trace old new (Err f) → Dumps given trace old new r
-passed given trace old new (Ok d) f bad ends = absurd bad
-passed given trace old new (Err g) f is ends = subst (λ (h : Failure). Dumps given trace old new (Err h)) (sym is) ends
+pub passed : (may : Cut) (given : Given) (trace old new : Held) (r : End) (f : Failure) → IsErrAnd r (λ g. g ≡ f) → Dumps may given trace old new (Err f) → Dumps may given trace old new r
+passed may given trace old new (Ok d) f bad ends = absurd bad
+passed may given trace old new (Err g) f is ends = subst (λ (h : Failure). Dumps may given trace old new (Err h)) (sym is) ends
 
--- a trace that is not opened
+-- ---- What was read
+
+-- the trace is opened, and its dump is written
+pub read_and_shown :
+    {S : Type 0} (reads : Reading S) (opens : Opening S) (from between to : S) (w : Wave) (old new : Held) (given : Given) (task : Task) (may : Cut) (trace : Held) (x : Given)
+    (end : End) (note : Option Text) → task ≡ files_of w → may ≡ cut_of w → x ≡ given → AreRead reads task from between given → opens between w.trace.now (Ok trace) to
+    → Dumps may x trace old new end → NotesOf given w.why end note → Shows reads opens from to w old new end note
+read_and_shown reads opens from between to w old new given task may trace x end note as_task as_cut as_given was_read opened done noted =
+    inl
+    (record {
+      given = given;
+      between = between;
+      read = subst (λ (k : Task). AreRead reads k from between given) as_task was_read;
+      trace = trace;
+      opened = opened;
+      done = subst (λ (m : Cut). Dumps m given trace old new end) as_cut (subst (λ (z : Given). Dumps may z trace old new end) as_given done);
+      noted = noted;
+    })
+
+-- a file is not read that the trace is of
+pub unread_for :
+    {S : Type 0} (reads : Reading S) (opens : Opening S) (from to : S) (w : Wave) (same : Held) (task : Task) (part : Part) (fault : SourceFault) (failed : Failure) (note : Option Text)
+    → task ≡ files_of w → failed ≡ failure_of_source fault → IsUnread reads task from to part fault → Notes task.why (IsFileNote task part fault) note
+    → Shows reads opens from to w same same (Err failed) note
+unread_for reads opens from to w same task part fault failed note as_task is unread noted =
+    let told : ◌≡◌ {A = End} (Err failed) (Err (failure_of_source fault)) = ap (λ (f : Failure). Err f) is in
+    inr (
+      fault,
+      inl
+          (record {
+            part = part;
+            unread = subst (λ (k : Task). IsUnread reads k from to part fault) as_task unread;
+            noted = subst (λ (k : Task). Notes k.why (IsFileNote k part fault) note) as_task noted;
+          }),
+      told,
+      refl,
+    )
+
+-- the trace is not opened
 pub unopened :
-    {S : Type 0} (reads : Reading S) (opens : Opening S) (from between to : S) (w : Wave) (given : Given) (same : Held) (fault : SourceFault) (r : End)
-    → AreRead reads (files_of w) from between given → opens between w.trace.now (Err fault) to → IsErrAnd r (λ g. g ≡ failure_of_source fault)
-    → Shows reads opens from to w same same r
-unopened reads opens from between to w given same fault (Ok d) read unread bad = absurd bad
-unopened reads opens from between to w given same fault (Err g) read unread is =
-    let told : ◌≡◌ {A = End} (Err g) (Err (failure_of_source fault)) = ap (λ (f : Failure). Err f) is in
-    inr (fault, inr (record { given = given; between = between; read = read; unread = unread }), told, refl)
+    {S : Type 0} (reads : Reading S) (opens : Opening S) (from between to : S) (w : Wave) (same : Held) (given : Given) (task : Task) (fault : SourceFault) (failed : Failure)
+    (note : Option Text) → task ≡ files_of w → failed ≡ failure_of_source fault → AreRead reads task from between given → opens between w.trace.now (Err fault) to
+    → Notes w.why (IsTraceFileNote w fault) note → Shows reads opens from to w same same (Err failed) note
+unopened reads opens from between to w same given task fault failed note as_task is was_read unread noted =
+    let told : ◌≡◌ {A = End} (Err failed) (Err (failure_of_source fault)) = ap (λ (f : Failure). Err f) is in
+    inr (
+      fault,
+      inr
+          (record {
+            given = given;
+            between = between;
+            read = subst (λ (k : Task). AreRead reads k from between given) as_task was_read;
+            unread = unread;
+            noted = noted;
+          }),
+      told,
+      refl,
+    )

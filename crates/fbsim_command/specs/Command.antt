@@ -20,7 +20,7 @@ use Rattle.fb_why.specs.Explained.{explained}
 use Rattle.fb_why.specs.declared.table.Explanation.{Explanation}
 use Rattle.fbsim_command.specs.Line.{AreCall, AreNoCall, AskHelp, IsTaken}
 use Rattle.fbsim_command.specs.Failures.{IsPartWritten, explained_text, failure_of, failure_of_source, no_refusal}
-use Rattle.fbsim_command.specs.Notes.{IsFileNote, IsNote, Notes}
+use Rattle.fbsim_command.specs.Notes.{IsFileNote, Notes, NotesOf}
 use Rattle.fbsim_command.specs.Outcomes.{End, Held, IsRefused}
 use Rattle.fbsim_command.specs.Reading.{Reading, AreRead, IsUnread}
 use Rattle.fbsim_command.specs.Showing.{Opening, Shows}
@@ -113,11 +113,6 @@ Reports given (Run horizon steps workers serial form progress) old new end repor
 
 -- ---- The call
 
--- where a call has failed, such a note
-abbrev pub NotesOf : Given → (why : Bool) → End → Option Text → Type 0
-NotesOf given why (Ok d) note = note ≡ None
-NotesOf given why (Err failure) note = Notes why (IsNote given failure) note
-
 -- The files are read, and what the task asks for is done with them.
 pub record AreReadAndDone {S : Type 0} (reads : Reading S) (from to : S) (c : Task) (old new : Held) (end : End) (reports : Text) (note : Option Text) : Type 0 where
   pub given : Given
@@ -198,7 +193,7 @@ ReportsNoMore from to reports note = (to ≡ from) × (reports ≡ []) × (note 
 abbrev pub Does : {S : Type 0} → Reading S → Opening S → (from to : S) → List Text → (old new : Held) → End → (reports : Text) → (note : Option Text) → Type 0
 Does reads opens from to words old new end reports note =
     ((c : Task) × AreCall words (call.Task c) × IsTaken words × Performs reads from to c old new end reports note)
-    ⊎ ((w : Wave) × AreCall words (call.Wave w) × IsTaken words × Shows reads opens from to w old new end × (reports ≡ []) × (note ≡ None))
+    ⊎ ((w : Wave) × AreCall words (call.Wave w) × IsTaken words × Shows reads opens from to w old new end note × (reports ≡ []))
     ⊎ ((name : Bor Text) × AreCall words (call.Explain name) × IsTaken words × ExplainsRefusal name.now old new end × ReportsNoMore from to reports note)
     ⊎ ((x : Expect) × AreCall words (call.Expect x) × IsTaken words × Expects reads opens from to x old new end note × (reports ≡ []))
     ⊎ ((d : Diff) × AreCall words (call.Diff d) × IsTaken words × Compares opens from to d old new end × (reports ≡ []) × (note ≡ None))

@@ -97,9 +97,14 @@ with_run_options values a = with_rule (with_rule (with_rule (with_numbers a)
     (flag (codes "progress")))
     (record (limited (codes "trace") values) { defaults = word_of One ∷ [] })
 
--- a command with the names of a declaration, of its deployment and of its trace
+-- a command with the names of a declaration, of its deployment and of its trace, whether that may be cut off, and whether a
+-- refusal is reported with its place
 abbrev pub wave : App
-wave = with_rule (deployed (codes "wave")) (required (codes "TRACE"))
+wave =
+    with_rule (with_rule (with_rule (deployed (codes "wave"))
+    (required (codes "TRACE")))
+    (flag (codes "cut")))
+    (flag (codes "why"))
 
 -- a command with the names of rules and of traces, of a declaration and of its deployment, and how the rules are held
 abbrev pub expect : App
@@ -194,6 +199,8 @@ pub record AsksWave (rows : List Row) (w : Wave) : Type 0 where
   pub declaration : first_of (codes "DECL") rows ≡ Some w.declaration.now
   pub deploy : first_of (codes "deploy") rows ≡ option_map (λ n. n.now) w.deploy
   pub trace : first_of (codes "TRACE") rows ≡ Some w.trace.now
+  pub cut : IsFlag rows (codes "cut") w.is_cut
+  pub why : IsFlag rows (codes "why") w.why
 
 -- a deployment is named, and no declaration
 abbrev pub deploys_nothing : (declaration deploy : Option Text) → Bool

@@ -1,5 +1,5 @@
 -- What is reported after the line of a failure (this project's own).
-use Rattle.std.specs.Prelude.{◌≡◌, ◌≢◌, ℕ, List, ◌++◌, Bool, IsTrue, Option, Some, None, option_map, codes, string_bytes}
+use Rattle.std.specs.Prelude.{◌≡◌, ◌≢◌, ℕ, List, ◌++◌, Bool, IsTrue, Option, Some, None, Ok, Err, option_map, codes, string_bytes}
 use Rattle.fbsim_command.specs.declared.line.Task.{Task}
 use Rattle.fb_sim.specs.Given.{Given}
 use Rattle.fb_why.specs.Findings.{Tells}
@@ -10,6 +10,7 @@ use Rattle.fbsim_command.specs.declared.failure.RefusalLine.TheVariants.{Numbere
 use Rattle.fbsim_command.specs.declared.sources.SourceFault.{SourceFault}
 use Rattle.fbsim_command.specs.declared.sources.SourceFault.TheVariants.{File}
 use Rattle.fbsim_command.specs.declared.texts.Part.{Part}
+use Rattle.fbsim_command.specs.Outcomes.{End}
 use Rattle.fbsim_command.specs.declared.texts.Part.TheVariants.{Declaration, Deployment, Stimuli}
 
 -- ---- Files
@@ -63,3 +64,8 @@ IsNote given failure note = (number : ℕ) × (number_of failure ≡ Some number
 abbrev pub Notes : (why : Bool) → (List ℕ → Type 0) → Option (List ℕ) → Type 0
 Notes why is None = Unit {0}
 Notes why is (Some note) = IsTrue why × is note
+
+-- where a call has failed, such a note
+abbrev pub NotesOf : Given → (why : Bool) → End → Option (List ℕ) → Type 0
+NotesOf given why (Ok d) note = note ≡ None
+NotesOf given why (Err failure) note = Notes why (IsNote given failure) note

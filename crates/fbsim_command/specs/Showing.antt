@@ -1,21 +1,26 @@
 -- What a call for the waveforms of a trace does (this project's own).
-use Rattle.std.specs.Prelude.{◌≡◌, ◌⊎◌, ℕ, false, None, Option, Result, Ok, Err, IfSome}
+use Rattle.std.specs.Prelude.{◌≡◌, ◌⊎◌, ℕ, None, Option, Result, Ok, Err, IfSome, if◌then◌else◌, codes}
 use Rattle.clap.specs.Words.{Text}
 use Rattle.fb_types.specs.Headline.{Inputs, system_of}
 use Rattle.fb_sim.specs.Given.{Given}
 use Rattle.fb_sim.specs.Serial.{Declares}
-use Rattle.fb_wave.specs.Refusals.{IsFirstBad}
-use Rattle.fb_wave.specs.Waves.{IsWave, WritesFront, WritesPart}
+use Rattle.fb_wave.specs.CutOff.{BlamesShown, FailsShown, IsShown}
+use Rattle.fb_wave.specs.Waves.{WritesFront}
+use Rattle.fb_wave.specs.declared.error.WaveError.TheVariants as wave
+use Rattle.fb_wave.specs.declared.truncation.Cut.{Cut}
+use Rattle.fb_wave.specs.declared.truncation.Cut.TheVariants as cut
 use Rattle.fbsim_command.specs.declared.line.Task.{Task}
 use Rattle.fbsim_command.specs.declared.line.Action.TheVariants.{Check}
 use Rattle.fbsim_command.specs.declared.line.Wave.{Wave}
 use Rattle.fbsim_command.specs.Failures.{failure_of_source}
+use Rattle.fbsim_command.specs.Notes.{IsFileNote, IsNoteOfName, Notes, NotesOf}
 use Rattle.fbsim_command.specs.Outcomes.{End, Held, IsRefused}
 use Rattle.fbsim_command.specs.Reading.{Reading, AreRead, IsUnread}
 use Rattle.fbsim_command.specs.declared.failure.Failure.TheVariants.{Refused, RefusedTrace, File, Write, Memory, Line, BadOption}
 use Rattle.fbsim_command.specs.declared.failure.RefusalLine.{RefusalLine}
 use Rattle.fbsim_command.specs.declared.failure.RefusalLine.TheVariants.{Trace}
 use Rattle.fbsim_command.specs.declared.sources.SourceFault.{SourceFault}
+use Rattle.fbsim_command.specs.declared.sources.SourceFault.TheVariants as source
 use Rattle.fbsim_command.specs.declared.statuses.Done.TheVariants.{Helped, Explained, Accepted, Shown, Ended, Stopped, Met, Unmet, Same, Different}
 use Rattle.fbsim_command.specs.declared.texts.Part.{Part}
 
@@ -25,7 +30,11 @@ Opening S = S → Text → Result (Option Text) SourceFault → S → Type 0
 
 -- the call that checks what a trace is of
 abbrev pub files_of : Wave → Task
-files_of w = record { action = Check; declaration = w.declaration; deploy = w.deploy; stimuli = None; why = false }
+files_of w = record { action = Check; declaration = w.declaration; deploy = w.deploy; stimuli = None; why = w.why }
+
+-- whether the trace may be cut off
+abbrev pub cut_of : Wave → Cut
+cut_of w = if w.is_cut then cut.Allowed else cut.Refused
 
 -- ---- What is written
 
@@ -34,63 +43,76 @@ abbrev pub DumpsFront : Given → (old new : Held) → Type 0
 DumpsFront given old new = (i : Inputs) × Declares given i × WritesFront (system_of i) old new
 
 -- The inputs are accepted, and the writer got the first bytes of such a dump, but not all, and `written` is how many.
-abbrev pub DumpsPart : Given → (old new : Held) → (written : ℕ) → Type 0
-DumpsPart given old new written = (i : Inputs) × Declares given i × WritesPart (system_of i) old new written
+abbrev pub DumpsPart : Cut → Given → (old new : Held) → (written : ℕ) → Type 0
+DumpsPart may given old new written = (i : Inputs) × Declares given i × FailsShown may (system_of i) old new (wave.Write written)
 
 -- The inputs are accepted, the writer got the first bytes of the dump of lines of their system, and the line is the first that
--- no trace of it has after the lines before it.
-abbrev pub RefusesTrace : Given → (trace : Held) → (old new : Held) → (line : ℕ) → Type 0
-RefusesTrace given trace old new line =
-    (i : Inputs) × Declares given i × WritesFront (system_of i) old new × IfSome trace (IsFirstBad (system_of i) line)
+-- no trace of it has after the lines before it. No trace is refused because it is cut off, where it may be.
+abbrev pub RefusesTrace : Cut → Given → (trace : Held) → (old new : Held) → (line : ℕ) → Type 0
+RefusesTrace may given trace old new line =
+    (i : Inputs) × Declares given i × WritesFront (system_of i) old new × BlamesShown may (system_of i) trace (wave.Refused line)
 
 -- the inputs are refused, as a check refuses them, or the trace is, in this line
-abbrev pub IsRefusedFor : Given → (trace : Held) → (old new : Held) → RefusalLine → Type 0
-IsRefusedFor given trace old new refusal =
-    (IsRefused given refusal × (new ≡ old)) ⊎ ((line : ℕ) × (refusal ≡ Trace line) × RefusesTrace given trace old new line)
+abbrev pub IsRefusedFor : Cut → Given → (trace : Held) → (old new : Held) → RefusalLine → Type 0
+IsRefusedFor may given trace old new refusal =
+    (IsRefused given refusal × (new ≡ old)) ⊎ ((line : ℕ) × (refusal ≡ Trace line) × RefusesTrace may given trace old new line)
 
 -- a trace of what the inputs declare is read, of which these bytes are known, and its dump is written
-abbrev pub Dumps : Given → (trace : Held) → (old new : Held) → End → Type 0
-Dumps given trace old new (Ok Shown) = (i : Inputs) × Declares given i × IfSome trace (λ text. IsWave (system_of i) text old new)
-Dumps given trace old new (Ok Helped) = ⊥
-Dumps given trace old new (Ok Explained) = ⊥
-Dumps given trace old new (Ok Accepted) = ⊥
-Dumps given trace old new (Ok Ended) = ⊥
-Dumps given trace old new (Ok Stopped) = ⊥
-Dumps given trace old new (Ok Met) = ⊥
-Dumps given trace old new (Ok Unmet) = ⊥
-Dumps given trace old new (Ok Same) = ⊥
-Dumps given trace old new (Ok Different) = ⊥
-Dumps given trace old new (Err (Refused refusal)) = IsRefusedFor given trace old new refusal
-Dumps given trace old new (Err File) = DumpsFront given old new
-Dumps given trace old new (Err (Write n)) = DumpsPart given old new n
-Dumps given trace old new (Err Memory) = (new ≡ old) ⊎ DumpsFront given old new
-Dumps given trace old new (Err (Line message)) = ⊥
-Dumps given trace old new (Err BadOption) = ⊥
-Dumps given trace old new (Err (RefusedTrace text)) = ⊥
+abbrev pub Dumps : Cut → Given → (trace : Held) → (old new : Held) → End → Type 0
+Dumps may given trace old new (Ok Shown) = (i : Inputs) × Declares given i × IfSome trace (λ text. IsShown may (system_of i) text old new)
+Dumps may given trace old new (Ok Helped) = ⊥
+Dumps may given trace old new (Ok Explained) = ⊥
+Dumps may given trace old new (Ok Accepted) = ⊥
+Dumps may given trace old new (Ok Ended) = ⊥
+Dumps may given trace old new (Ok Stopped) = ⊥
+Dumps may given trace old new (Ok Met) = ⊥
+Dumps may given trace old new (Ok Unmet) = ⊥
+Dumps may given trace old new (Ok Same) = ⊥
+Dumps may given trace old new (Ok Different) = ⊥
+Dumps may given trace old new (Err (Refused refusal)) = IsRefusedFor may given trace old new refusal
+Dumps may given trace old new (Err File) = DumpsFront given old new
+Dumps may given trace old new (Err (Write n)) = DumpsPart may given old new n
+Dumps may given trace old new (Err Memory) = (new ≡ old) ⊎ DumpsFront given old new
+Dumps may given trace old new (Err (Line message)) = ⊥
+Dumps may given trace old new (Err BadOption) = ⊥
+Dumps may given trace old new (Err (RefusedTrace text)) = ⊥
 
 -- ---- What is read
 
+-- The note of a trace that can't be opened.
+pub record IsTraceFileNote (w : Wave) (fault : SourceFault) (note : Text) : Type 0 where
+  pub unread : fault ≡ source.File
+  pub is : IsNoteOfName (codes "trace") w.trace.now note
+
 -- All is read that the trace is of, the trace is opened, and its dump is written.
-pub record IsReadAndShown {S : Type 0} (reads : Reading S) (opens : Opening S) (from to : S) (w : Wave) (old new : Held) (end : End) : Type 0 where
+pub record IsReadAndShown {S : Type 0} (reads : Reading S) (opens : Opening S) (from to : S) (w : Wave) (old new : Held) (end : End) (note : Option Text) : Type 0 where
   pub given : Given
   pub between : S
   pub read : AreRead reads (files_of w) from between given
   pub trace : Held
   pub opened : opens between w.trace.now (Ok trace) to
-  pub done : Dumps given trace old new end
+  pub done : Dumps (cut_of w) given trace old new end
+  pub noted : NotesOf given w.why end note
 
 -- All is read that the trace is of, and the trace is not opened.
-pub record IsUnopened {S : Type 0} (reads : Reading S) (opens : Opening S) (from to : S) (w : Wave) (fault : SourceFault) : Type 0 where
+pub record IsUnopened {S : Type 0} (reads : Reading S) (opens : Opening S) (from to : S) (w : Wave) (fault : SourceFault) (note : Option Text) : Type 0 where
   pub given : Given
   pub between : S
   pub read : AreRead reads (files_of w) from between given
   pub unread : opens between w.trace.now (Err fault) to
+  pub noted : Notes w.why (IsTraceFileNote w fault) note
+
+-- A file is not read that the trace is of.
+pub record IsUnreadFor {S : Type 0} (reads : Reading S) (from to : S) (w : Wave) (fault : SourceFault) (note : Option Text) : Type 0 where
+  pub part : Part
+  pub unread : IsUnread reads (files_of w) from to part fault
+  pub noted : Notes w.why (IsFileNote (files_of w) part fault) note
 
 -- this fault keeps a file from being read
-abbrev pub IsUnshown : {S : Type 0} → Reading S → Opening S → (from to : S) → Wave → SourceFault → Type 0
-IsUnshown reads opens from to w fault = ((part : Part) × IsUnread reads (files_of w) from to part fault) ⊎ IsUnopened reads opens from to w fault
+abbrev pub IsUnshown : {S : Type 0} → Reading S → Opening S → (from to : S) → Wave → SourceFault → Option Text → Type 0
+IsUnshown reads opens from to w fault note = IsUnreadFor reads from to w fault note ⊎ IsUnopened reads opens from to w fault note
 
-abbrev pub Shows : {S : Type 0} → Reading S → Opening S → (from to : S) → Wave → (old new : Held) → End → Type 0
-Shows reads opens from to w old new end =
-    IsReadAndShown reads opens from to w old new end
-    ⊎ ((fault : SourceFault) × IsUnshown reads opens from to w fault × (end ≡ Err (failure_of_source fault)) × (new ≡ old))
+abbrev pub Shows : {S : Type 0} → Reading S → Opening S → (from to : S) → Wave → (old new : Held) → End → Option Text → Type 0
+Shows reads opens from to w old new end note =
+    IsReadAndShown reads opens from to w old new end note
+    ⊎ ((fault : SourceFault) × IsUnshown reads opens from to w fault note × (end ≡ Err (failure_of_source fault)) × (new ≡ old))

@@ -47,6 +47,10 @@ pub struct Wave<'a> {
     pub deploy: Option<&'a str>,
     /// The name of the file with the trace.
     pub trace: &'a str,
+    /// Whether the trace may be cut off.
+    pub is_cut: bool,
+    /// Whether a refusal is reported with its place, where that is known.
+    pub why: bool,
 }
 
 /// What to do with an application, and the files that it is in.
@@ -143,6 +147,9 @@ const DECLARATION_HELP: &str =
 
 const TRACE_FILE_HELP: &str =
     "The file with the trace, of any length and in either form, of a run of these files.";
+
+const CUT_TRACE_HELP: &str =
+    "Accepts a trace that is cut off, without a last line or within a line; the dump says so at its end.";
 
 const DEPLOY_HELP: &str =
     "The file with the deployment, in TOML, at most 1 MiB; without it one resource MAIN has every instance.";
@@ -314,7 +321,9 @@ fn wave_command<'a>(alloc: Global) -> Result<Command<'a>, AllocError>
     ensures globals { IfOk result (λ c. (fields_of c).has_globals ≡ false) }
 {
     let command = deployed(alloc, "wave", WAVE_ABOUT, WAVE_EXAMPLE);
-    with_arg(command, required(alloc, "TRACE", TRACE_FILE_HELP))
+    let command = with_arg(command, required(alloc, "TRACE", TRACE_FILE_HELP));
+    let command = with_arg(command, flag(alloc, "cut", CUT_TRACE_HELP));
+    with_arg(command, flag(alloc, "why", WHY_HELP))
 }
 
 /// The command that explains a refusal or a reason.
@@ -462,6 +471,8 @@ fn wave_of<'a>(found: &ArgMatches<'a>) -> Option<Call<'a>>
         declaration,
         deploy,
         trace,
+        is_cut: has_flag(found, "cut"),
+        why: has_flag(found, "why"),
     }))
 }
 

@@ -3,7 +3,8 @@
 ghost use Rattle.std.specs.Io.KnownBytes.{Appends};
 ghost use Rattle.std.specs.Prelude.{◌≡◌, ◌++◌, ℕ, List, [], Option, None, false, true, map, option_map, Result, IfOk, IfErr, IsTrue, OnOk, string_bytes};
 ghost use Rattle.fb_sim.specs.Reports.{Hears};
-ghost use Rattle.fbsim_command.specs.Command.{Checks, Does, ExplainsRefusal, IsDoneOf, Meets, NotesOf, Performs, Reports, ReportsOn, Runs};
+ghost use Rattle.fbsim_command.specs.Command.{Checks, Does, ExplainsRefusal, IsDoneOf, Meets, Performs, Reports, ReportsOn, Runs};
+ghost use Rattle.fbsim_command.specs.Notes.{NotesOf};
 ghost use Rattle.fbsim_command.specs.Texts.{given_of};
 ghost use Rattle.fbsim_command.specs.Failures.{WritesPart, explained_text, status_of, told, told_of};
 ghost use Rattle.fbsim_command.specs.declared.failure.Failure.{Failure};
@@ -145,7 +146,12 @@ fn meet<R: Threads + Wait + Sync, W: Write, E: Write>(
 }
 
 /// The note to a call that ends so, where one is asked for.
-fn note_to(alloc: Global, why: bool, end: &Result<Done, Failure>, texts: &Texts) -> Option<String>
+pub(crate) fn note_to(
+    alloc: Global,
+    why: bool,
+    end: &Result<Done, Failure>,
+    texts: &Texts,
+) -> Option<String>
     ensures { NotesOf (given_of texts.now) why end.now (option_map string_bytes result) }
 {
     match end {
@@ -244,7 +250,14 @@ fn obey<'w, R: Threads + Wait + Sync, S: Source + Streams, W: Write, E: Write>(
     match parse(alloc, words) {
         Ok(Call::Task(task)) => perform(rt, alloc, &task, source, out, err),
         Ok(Call::Explain(name)) => ended(explain_to(alloc, name, out)),
-        Ok(Call::Wave(wave)) => ended(show(alloc, &wave, source, out)),
+        Ok(Call::Wave(wave)) => {
+            let (end, note) = show(alloc, &wave, source, out);
+            Answer {
+                end,
+                is_heard: true,
+                note,
+            }
+        }
         Ok(Call::Expect(call)) => {
             let (end, note) = expect(alloc, &call, source, out);
             Answer {

@@ -1,15 +1,18 @@
 //! The waveforms of a trace.
 
-ghost use Rattle.std.specs.Prelude.{◌≡◌};
-ghost use Rattle.fbsim_command.specs.Showing.{Dumps, Shows, files_of};
+ghost use Rattle.std.specs.Prelude.{◌≡◌, option_map, string_bytes};
+ghost use Rattle.fbsim_command.specs.Notes.{Notes};
+ghost use Rattle.fbsim_command.specs.Showing.{Dumps, IsTraceFileNote, Shows, cut_of, files_of};
 
 use crate::failure::Failure;
 use crate::line::{Action, Task, Wave};
-use crate::sources::{Source, Streams};
+use crate::notes::{note_of_file, note_of_name};
+use crate::program::note_to;
+use crate::sources::{Source, SourceFault, Streams};
 use crate::statuses::Done;
 use crate::texts::read_files;
 use fb_sim::{Inputs, discard, open};
-use fb_wave::write_wave;
+use fb_wave::{Cut, write_wave_with};
 use std::alloc::Global;
 use std::io::{BufRead, Write};
 
@@ -22,40 +25,78 @@ fn files_of<'a>(wave: &Wave<'a>) -> Task<'a>
         declaration: wave.declaration,
         deploy: wave.deploy,
         stimuli: None,
-        why: false,
+        why: wave.why,
+    }
+}
+
+/// Whether the trace may be cut off.
+fn cut_of(wave: &Wave<'_>) -> Cut
+    ensures { result ≡ cut_of wave.now }
+{
+    if wave.is_cut {
+        Cut::Allowed
+    } else {
+        Cut::Refused
     }
 }
 
 /// Reads a trace of what is declared, and writes its waveforms.
 fn dump<R: BufRead, W: Write>(
     alloc: Global,
+    cut: Cut,
     inputs: &Inputs<'_>,
     trace: &mut R,
     out: &mut W,
 ) -> Result<Done, Failure>
-    ensures { Dumps inputs.now (R.remaining trace.old) (W.contents out.old) (W.contents out.new) result }
+    ensures { Dumps cut inputs.now (R.remaining trace.old) (W.contents out.old) (W.contents out.new) result }
 {
     let system = open(alloc, inputs)?;
-    let written = write_wave(alloc, &system, trace, out);
+    let written = write_wave_with(alloc, &system, cut, trace, out);
     // Dropped by one call: the end of its scope would prove the drop part by part.
     discard(system);
     written?;
     Ok(Done::Shown)
 }
 
-/// Reads what a trace is of, and the trace, and writes its waveforms.
+/// The note to the file of the trace, which is not opened, where one is asked for.
+fn note_of_trace(alloc: Global, wave: &Wave<'_>, fault: SourceFault) -> Option<String>
+    ensures { Notes wave.now.why (IsTraceFileNote wave.now fault) (option_map string_bytes result) }
+{
+    if !wave.why {
+        return None;
+    }
+    if let SourceFault::Memory = fault {
+        return None;
+    }
+    Some(note_of_name(alloc, "trace", wave.trace)?)
+}
+
+/// Reads what a trace is of, and the trace, and writes its waveforms. It says how that ends, and what is reported after
+/// the line of a failure.
 pub fn show<S: Source + Streams, W: Write>(
     alloc: Global,
     wave: &Wave<'_>,
     source: &mut S,
     out: &mut W,
-) -> Result<Done, Failure>
-    ensures { Shows S.gives S.opens source.old source.new wave.now (W.contents out.old) (W.contents out.new) result }
+) -> (Result<Done, Failure>, Option<String>)
+    ensures { Shows S.gives S.opens source.old source.new wave.now (W.contents out.old) (W.contents out.new) result.0 (option_map string_bytes result.1) }
 {
-    let texts = match read_files(alloc, &files_of(wave), source) {
+    let task = files_of(wave);
+    let texts = match read_files(alloc, &task, source) {
         Ok(texts) => texts,
-        Err(unread) => return Err(Failure::from(unread.fault)),
+        Err(unread) => {
+            let note = note_of_file(alloc, &task, unread);
+            return (Err(Failure::from(unread.fault)), note);
+        }
     };
-    let mut trace = source.open(alloc, wave.trace)?;
-    dump(alloc, &texts.inputs(), &mut trace, out)
+    let mut trace = match source.open(alloc, wave.trace) {
+        Ok(trace) => trace,
+        Err(fault) => {
+            let note = note_of_trace(alloc, wave, fault);
+            return (Err(Failure::from(fault)), note);
+        }
+    };
+    let end = dump(alloc, cut_of(wave), &texts.inputs(), &mut trace, out);
+    let note = note_to(alloc, wave.why, &end, &texts);
+    (end, note)
 }

@@ -17,7 +17,7 @@ complete -c fbsim -n "not __fish_seen_subcommand_from $commands" -s V -l version
 
 complete -c fbsim -n "__fish_seen_subcommand_from run check wave expect draw" -l deploy -r -F -d "Deployment in TOML"
 complete -c fbsim -n "__fish_seen_subcommand_from run check" -l stim -r -F -d "Stimuli in CSV"
-complete -c fbsim -n "__fish_seen_subcommand_from run check expect" -l why -d "Print the location of a refusal"
+complete -c fbsim -n "__fish_seen_subcommand_from run check wave expect" -l why -d "Print the location of a refusal"
 complete -c fbsim -n "__fish_seen_subcommand_from run" -l horizon -x -d "Tick at which the run ends"
 complete -c fbsim -n "__fish_seen_subcommand_from run" -l steps -x -d "Most steps of a resource in one tick"
 complete -c fbsim -n "__fish_seen_subcommand_from run" -l workers -x -d "Number of threads"
@@ -26,7 +26,7 @@ complete -c fbsim -n "__fish_seen_subcommand_from run" -l progress -d "Report ea
 complete -c fbsim -n "__fish_seen_subcommand_from run" -l trace -x -a "1 2" -d "Form of the trace"
 complete -c fbsim -n "__fish_seen_subcommand_from expect" -l decl -r -F -d "Declaration that has all names of the rules"
 complete -c fbsim -n "__fish_seen_subcommand_from expect" -l strict -d "Count undecided rules as broken"
-complete -c fbsim -n "__fish_seen_subcommand_from expect" -l cut -d "Accept traces that are cut off"
+complete -c fbsim -n "__fish_seen_subcommand_from wave expect" -l cut -d "Accept traces that are cut off"
 complete -c fbsim -n "__fish_seen_subcommand_from draw" -l type -x -d "Name of a declared type"
 complete -c fbsim -n "__fish_seen_subcommand_from explain" -f -a "$refusals"
 complete -c fbsim -n "__fish_seen_subcommand_from help" -f -a "run check wave expect diff draw explain"

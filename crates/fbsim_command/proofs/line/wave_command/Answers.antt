@@ -6,7 +6,9 @@ use Rattle.fbsim_command.proofs.line.wave_command.Goals as goal
 made : (c : goal.After-with_arg) → IfOk c.with_arg.result (λ r. Stands r spec.wave)
 made c =
     let deployed = stands_well _ _ c.deployed-command.ensures.app c.deployed-command.ensures.globals in
-    grown_on _ _ _ _ _ c.with_arg.ensures c.required.ensures.local c.required.ensures.rule deployed
+    let traced = grown_on _ _ _ _ _ c.with_arg-command.ensures c.required.ensures.local c.required.ensures.rule deployed in
+    let cut = grown_on _ _ _ _ _ c.with_arg-command-2.ensures c.flag.ensures.local c.flag.ensures.rule traced in
+    grown_on _ _ _ _ _ c.with_arg.ensures c.flag-2.ensures.local c.flag-2.ensures.rule cut
 
 pub returns-clause-app : goal.returns-clause-app
 returns-clause-app c = app_well _ _ (made c)

@@ -13,6 +13,8 @@ returns-clause-rows c =
       declaration = sym (first_value-rows m (codes "DECL")) ∙ named;
       deploy = sym (first_value-rows m (codes "deploy")) ∙ sym c.get_str-deploy.ensures;
       trace = sym (first_value-rows m (codes "TRACE")) ∙ traced;
+      cut = c.has_flag.ensures;
+      why = c.has_flag-2.ensures;
     }
 
 pub returns-in_err-declaration-clause-none : goal.returns-in_err-declaration-clause-none

@@ -29,12 +29,8 @@ returns-in-Ok-Explain g c =
 pub returns-in-Ok-Wave : goal.returns-in-Ok-Wave
 returns-in-Ok-Wave g c =
     let words = map (λ (w : Bor (List ℕ)). w.now) c.args.words.now in
-    let old = g.W.Write.contents c.args.out.now in
-    let new = g.W.Write.contents c.show.new.out in
     let asked = subst (λ (r : Call). AreCall words r) c.in-Ok-Wave.field-0-is c.in-Ok-Wave.ensures.call in
-    ended_so c.ended-in-Ok-Wave.result c.show.result c.ended-in-Ok-Wave.ensures (g.E.Write.contents c.args.err.now)
-    (λ (end : End) (reports : Text) (note : Option Text). Does g.S.Source.gives g.S.Streams.opens c.args.source.now c.show.new.source words old new end reports note)
-    (inr (inl (c.in-Ok-Wave.wave, asked, c.in-Ok-Wave.ensures.taken, c.show.ensures, refl, refl)))
+    ([], quiet (g.E.Write.contents c.args.err.now), inr (inl (c.in-Ok-Wave.wave, asked, c.in-Ok-Wave.ensures.taken, c.show-end.ensures, refl)))
 
 pub returns-in-Ok-Expect : goal.returns-in-Ok-Expect
 returns-in-Ok-Expect g c =

@@ -1,27 +1,27 @@
-use Rattle.std.proofs.Common.{ℕ, List, refl, subst, sym}
+use Rattle.std.proofs.Common.{◌≡◌, ◌∙◌, ℕ, true, false, List, refl, subst, sym}
 use Rattle.fb_types.specs.Headline.{system_of}
 use Rattle.fb_wave.specs.Lines.{IsLast, IsNoLast}
 use Rattle.fb_wave.specs.Copying.{IsNoWriteFault, IsTaken, RefusesLine}
-use Rattle.fb_wave.specs.Refusals.{Blames}
-use Rattle.fb_wave.specs.Waves.{FailsWave}
+use Rattle.fb_wave.specs.CutOff.{BlamesShown, FailsShown, is_cut, is_unended}
 use Rattle.fb_wave.proofs.Copied.{copied_all, copied_none, copied_one, fails_front, fails_taken, fails_unfinished, front_copied, front_flushed, front_none}
-use Rattle.fb_wave.proofs.Blaming.{end_blamed, line_blamed, some_resource, write_blamed}
-use Rattle.fb_wave.proofs.Forming.{TellsForm, form_told}
+use Rattle.fb_wave.proofs.Blaming.{end_blamed, line_blamed, some_resource}
+use Rattle.fb_wave.proofs.Forming.{ShowsForm, form_shown}
 use Rattle.fb_wave.proofs.Handing.{on_fault, on_ok, on_passed}
+use Rattle.fb_wave.proofs.Severed.{blames_in, blames_read, cut_blames, cut_fails, cut_shown, end_no_cut, fails_in, line_no_cut, shown_in, uncut_line, write_blames}
 use Rattle.fb_wave.proofs.copy.Progress.copy.Goals as goal
 
 pub loop-number-init : goal.loop-number-init
 loop-number-init g c =
-    copied_none (system_of c.args.table.now.system.now) _ _ c.args.self.now _ _ _ _ c.requires.tick c.requires.dump c.requires.told c.requires.written c.in_ok-next_line.ensures.read c.in_ok-next_line.ensures.line refl
-    (λ names f l is. form_told (system_of c.args.table.now.system.now) c.form_of-form.result f l c.next_line.new.line.items names
-    (subst (λ (t : List ℕ). TellsForm c.form_of-form.result t) c.as_slice.ensures.value c.form_of-form.ensures) is)
+    copied_none (system_of c.args.table.now.system.now) _ _ c.args.self.now _ _ _ _ c.requires.tick c.requires.dump c.requires.shown c.requires.written c.in_ok-next_line.ensures.read c.in_ok-next_line.ensures.line refl
+    (λ names f l is. form_shown (system_of c.args.table.now.system.now) c.form_of-form.result f l c.next_line.new.line.items names
+    (subst (λ (t : List ℕ). ShowsForm c.form_of-form.result t) c.as_slice.ensures.value c.form_of-form.ensures) is)
 
 pub loop-number-preserved : goal.loop-number-preserved
 loop-number-preserved g c =
     let sys = system_of c.args.table.now.system.now in
     let form = c.form_of-form.result in
     copied_one sys form c.loop-number.number c.loop-number.self c.take.new.self _ c.loop-number.line.items c.next_line-in-loop-number.new.line.items _ _ _ _ _ _ c.loop-number.invariant
-    (subst (λ (l : List ℕ). IsTaken sys form l c.loop-number.self c.take.new.self) c.as_slice-in-loop-number-2.ensures.value c.in_ok-take.ensures.taken) refl refl
+    (subst (λ (l : List ℕ). IsTaken sys form l c.loop-number.self c.take.new.self) c.as_slice-in-loop-number-3.ensures.value c.in_ok-take.ensures.taken) refl refl
     c.in_ok-flush_much.ensures.whole c.in_ok-next_line-2.ensures.read c.in_ok-next_line-2.ensures.line
 
 pub finish-requires-clause-dump : goal.finish-requires-clause-dump
@@ -34,70 +34,116 @@ pub returns-in-Some-clause-whole : goal.returns-in-Some-clause-whole
 returns-in-Some-clause-whole g c =
     let sys = system_of c.args.table.now.system.now in
     on_ok c.finish.result _ _ c.finish.ensures.whole
+    (λ finished.
+    shown_in c.args.cut sys _ _ _
     (copied_all sys c.form_of-form.result c.loop-number.number c.loop-number.self c.loop-number.line.items _ _ _ _ _ c.in-Some.end c.loop-number.invariant
-    (subst (λ (l : List ℕ). IsLast sys l c.in-Some.end) c.as_slice-in-loop-number.ensures.value c.in-Some.ensures.last))
+    (subst (λ (l : List ℕ). IsLast sys l c.in-Some.end) c.as_slice-in-loop-number.ensures.value c.in-Some.ensures.last) finished))
 
 pub returns-in_err-next_line-clause-part : goal.returns-in_err-next_line-clause-part
 returns-in_err-next_line-clause-part g c =
-    on_passed _ _ _ c.from_residual.ensures.1 (fails_front _ _ _ _ (subst IsNoWriteFault (sym c.in_err-next_line.ensures.fault) tt) (front_none _ _))
+    on_passed _ _ (FailsShown c.args.cut (system_of c.args.table.now.system.now) _ _) c.from_residual.ensures.1
+    (fails_in c.args.cut _ _ _ _ (fails_front _ _ _ _ (subst IsNoWriteFault (sym c.in_err-next_line.ensures.fault) tt) (front_none _ _)))
 
 pub returns-in-Some-clause-part : goal.returns-in-Some-clause-part
 returns-in-Some-clause-part g c =
-    on_fault c.finish.result _ _ c.finish.ensures.part (fails_unfinished _ _ _ _ _ _ _ _ _ _ c.loop-number.invariant)
+    on_fault c.finish.result _ _ c.finish.ensures.part (λ e unfinished. fails_in c.args.cut _ _ _ e (fails_unfinished _ _ _ _ _ _ _ _ _ _ c.loop-number.invariant e unfinished))
 
 pub returns-in_err-take-clause-part : goal.returns-in_err-take-clause-part
 returns-in_err-take-clause-part g c =
-    on_passed _ _ _ c.from_residual-in_err-take.ensures.1 (fails_front _ _ _ _ c.in_err-take.ensures.fault (front_copied _ _ _ _ _ _ _ _ _ c.loop-number.invariant))
+    on_passed _ _ (FailsShown c.args.cut (system_of c.args.table.now.system.now) _ _) c.from_residual-in_err-take.ensures.1
+    (fails_in c.args.cut _ _ _ _ (fails_front _ _ _ _ c.in_err-take.ensures.fault (front_copied _ _ _ _ _ _ _ _ _ c.loop-number.invariant)))
 
 pub returns-in_err-flush_much-clause-part : goal.returns-in_err-flush_much-clause-part
 returns-in_err-flush_much-clause-part g c =
     let sys = system_of c.args.table.now.system.now in
-    on_passed _ _ (FailsWave sys (g.W.Write.contents c.args.out.now) (g.W.Write.contents c.flush_much.new.out)) c.from_residual-in_err-flush_much.ensures.1
+    on_passed _ _ (FailsShown c.args.cut sys (g.W.Write.contents c.args.out.now) (g.W.Write.contents c.flush_much.new.out)) c.from_residual-in_err-flush_much.ensures.1
+    (fails_in c.args.cut sys _ _ _
     (fails_taken sys _ _ _ _ _ _ _ _ _ _ c.loop-number.invariant
-    (subst (λ (l : List ℕ). IsTaken sys c.form_of-form.result l c.loop-number.self c.take.new.self) c.as_slice-in-loop-number-2.ensures.value c.in_ok-take.ensures.taken) _
-    c.in_err-flush_much.ensures.part)
+    (subst (λ (l : List ℕ). IsTaken sys c.form_of-form.result l c.loop-number.self c.take.new.self) c.as_slice-in-loop-number-3.ensures.value c.in_ok-take.ensures.taken) _
+    c.in_err-flush_much.ensures.part))
 
 pub returns-in_err-next_line-2-clause-part : goal.returns-in_err-next_line-2-clause-part
 returns-in_err-next_line-2-clause-part g c =
     let sys = system_of c.args.table.now.system.now in
-    on_passed _ _ (FailsWave sys (g.W.Write.contents c.args.out.now) (g.W.Write.contents c.flush_much.new.out)) c.from_residual-in_err-next_line-2.ensures.1
+    on_passed _ _ (FailsShown c.args.cut sys (g.W.Write.contents c.args.out.now) (g.W.Write.contents c.flush_much.new.out)) c.from_residual-in_err-next_line-2.ensures.1
+    (fails_in c.args.cut sys _ _ _
     (fails_front _ _ _ _ (subst IsNoWriteFault (sym c.in_err-next_line-2.ensures.fault) tt)
     (front_flushed sys _ _ _ _ _ _ _ _ _ _ _ c.loop-number.invariant
-    (subst (λ (l : List ℕ). IsTaken sys c.form_of-form.result l c.loop-number.self c.take.new.self) c.as_slice-in-loop-number-2.ensures.value c.in_ok-take.ensures.taken)
-    c.in_ok-flush_much.ensures.whole))
+    (subst (λ (l : List ℕ). IsTaken sys c.form_of-form.result l c.loop-number.self c.take.new.self) c.as_slice-in-loop-number-3.ensures.value c.in_ok-take.ensures.taken)
+    c.in_ok-flush_much.ensures.whole)))
 
 pub returns-clause-part : goal.returns-clause-part
-returns-clause-part g c = front_copied _ _ _ _ _ _ _ _ _ c.loop-number.invariant
+returns-clause-part g c = fails_in c.args.cut _ _ _ _ (front_copied _ _ _ _ _ _ _ _ _ c.loop-number.invariant)
 
 pub returns-in-Some-clause-refused : goal.returns-in-Some-clause-refused
 returns-in-Some-clause-refused g c names =
     let sys = system_of c.args.table.now.system.now in
+    let last : IsLast sys c.loop-number.line.items c.in-Some.end = subst (λ (l : List ℕ). IsLast sys l c.in-Some.end) c.as_slice-in-loop-number.ensures.value c.in-Some.ensures.last in
     on_fault c.finish.result _ _ c.finish.ensures.refused
-    (end_blamed sys _ _ _ _ _ _ _ _ c.loop-number.invariant names (some_resource c.args.table.now.system.now c.requires.table.limits) c.in-Some.end
-    (subst (λ (l : List ℕ). IsLast sys l c.in-Some.end) c.as_slice-in-loop-number.ensures.value c.in-Some.ensures.last))
+    (λ e refuses.
+    blames_in c.args.cut sys _ e
+    (end_blamed sys c.form_of-form.result c.loop-number.number c.loop-number.self c.loop-number.line.items (g.R.Read.remaining c.args.input.now) (g.R.Read.remaining c.loop-number.input)
+    (g.W.Write.contents c.args.out.now) (g.W.Write.contents c.loop-number.out) c.loop-number.invariant names (some_resource c.args.table.now.system.now c.requires.table.limits) c.in-Some.end last e refuses)
+    (λ same. end_no_cut sys c.form_of-form.result c.loop-number.number c.loop-number.self c.loop-number.line.items (g.R.Read.remaining c.args.input.now) (g.R.Read.remaining c.loop-number.input)
+    (g.W.Write.contents c.args.out.now) (g.W.Write.contents c.loop-number.out) c.loop-number.invariant names c.in-Some.end last e refuses))
 
 pub returns-in_err-take-clause-refused : goal.returns-in_err-take-clause-refused
 returns-in_err-take-clause-refused g c names =
     let sys = system_of c.args.table.now.system.now in
+    let e = c.in_err-take.field-0.0 in
+    let refuses : RefusesLine sys c.form_of-form.result c.loop-number.self.tick c.loop-number.number c.loop-number.line.items e =
+    subst (λ (l : List ℕ). RefusesLine sys c.form_of-form.result c.loop-number.self.tick c.loop-number.number l e) c.as_slice-in-loop-number-3.ensures.value (c.in_err-take.ensures.refused names)
+    in
     on_passed _ _ _ c.from_residual-in_err-take.ensures.1
-    (line_blamed sys _ _ _ _ _ _ _ _ c.loop-number.invariant names (some_resource c.args.table.now.system.now c.requires.table.limits)
-    (subst (λ (l : List ℕ). IsNoLast sys l) c.as_slice-in-loop-number.ensures.value (c.in_default.ensures.none names)) c.in_err-take.field-0.0
-    (subst (λ (l : List ℕ). RefusesLine sys c.form_of-form.result c.loop-number.self.tick c.loop-number.number l c.in_err-take.field-0.0) c.as_slice-in-loop-number-2.ensures.value (c.in_err-take.ensures.refused names)))
+    (blames_in c.args.cut sys _ e
+    (line_blamed sys c.form_of-form.result c.loop-number.number c.loop-number.self c.loop-number.line.items (g.R.Read.remaining c.args.input.now) (g.R.Read.remaining c.loop-number.input)
+    (g.W.Write.contents c.args.out.now) (g.W.Write.contents c.loop-number.out) c.loop-number.invariant names (some_resource c.args.table.now.system.now c.requires.table.limits)
+    (subst (λ (l : List ℕ). IsNoLast sys l) c.as_slice-in-loop-number.ensures.value (c.in_default.ensures.none names)) e refuses)
+    (λ same.
+    line_no_cut sys c.form_of-form.result c.loop-number.number c.loop-number.self c.loop-number.line.items (g.R.Read.remaining c.args.input.now) (g.R.Read.remaining c.loop-number.input)
+    (g.W.Write.contents c.args.out.now) (g.W.Write.contents c.loop-number.out) c.loop-number.invariant names
+    (subst (λ (l : List ℕ). is_unended l ≡ false) c.as_slice-in-loop-number-2.ensures.value (uncut_line c.args.cut c.as_slice-in-loop-number-2.result.now (sym c.is_cut.ensures ∙ c.if-is_cut.false) same)) e refuses))
 
 pub returns-in_err-next_line-clause-refused : goal.returns-in_err-next_line-clause-refused
 returns-in_err-next_line-clause-refused g c names =
     let sys = system_of c.args.table.now.system.now in
     let input = g.R.Read.remaining c.args.input.now in
-    on_passed _ _ (Blames sys input) c.from_residual.ensures.1 (subst (Blames sys input) (sym c.in_err-next_line.ensures.fault) tt)
+    on_passed _ _ (BlamesShown c.args.cut sys input) c.from_residual.ensures.1 (subst (BlamesShown c.args.cut sys input) (sym c.in_err-next_line.ensures.fault) (blames_read c.args.cut sys input))
 
 pub returns-in_err-next_line-2-clause-refused : goal.returns-in_err-next_line-2-clause-refused
 returns-in_err-next_line-2-clause-refused g c names =
     let sys = system_of c.args.table.now.system.now in
     let input = g.R.Read.remaining c.args.input.now in
-    on_passed _ _ (Blames sys input) c.from_residual-in_err-next_line-2.ensures.1 (subst (Blames sys input) (sym c.in_err-next_line-2.ensures.fault) tt)
+    on_passed _ _ (BlamesShown c.args.cut sys input) c.from_residual-in_err-next_line-2.ensures.1 (subst (BlamesShown c.args.cut sys input) (sym c.in_err-next_line-2.ensures.fault) (blames_read c.args.cut sys input))
 
 pub returns-in_err-flush_much-clause-refused : goal.returns-in_err-flush_much-clause-refused
 returns-in_err-flush_much-clause-refused g c names =
     let sys = system_of c.args.table.now.system.now in
     let input = g.R.Read.remaining c.args.input.now in
-    on_passed _ _ (Blames sys input) c.from_residual-in_err-flush_much.ensures.1 (write_blamed sys input _ _ c.take.new.self.page c.in_err-flush_much.field-0.0 c.in_err-flush_much.ensures.part)
+    on_passed _ _ (BlamesShown c.args.cut sys input) c.from_residual-in_err-flush_much.ensures.1
+    (write_blames c.args.cut sys input _ _ c.take.new.self.page c.in_err-flush_much.field-0.0 c.in_err-flush_much.ensures.part)
+
+pub finish_cut-requires : goal.finish_cut-requires
+finish_cut-requires g c = c.loop-number.invariant.numbers.fit.within
+
+pub returns-then-is_cut-clause-whole : goal.returns-then-is_cut-clause-whole
+returns-then-is_cut-clause-whole g c =
+    let sys = system_of c.args.table.now.system.now in
+    on_ok c.finish_cut.result _ _ (c.finish_cut.ensures.whole sys)
+    (cut_shown sys c.form_of-form.result c.loop-number.number c.loop-number.self c.loop-number.line.items (g.R.Read.remaining c.args.input.now) (g.R.Read.remaining c.loop-number.input)
+    (g.W.Write.contents c.args.out.now) (g.W.Write.contents c.loop-number.out) c.loop-number.invariant _ c.args.cut
+    (subst (λ (l : List ℕ). is_cut c.args.cut l ≡ true) c.as_slice-in-loop-number-2.ensures.value (sym c.is_cut.ensures ∙ c.if-is_cut.true)))
+
+pub returns-then-is_cut-clause-part : goal.returns-then-is_cut-clause-part
+returns-then-is_cut-clause-part g c =
+    let sys = system_of c.args.table.now.system.now in
+    on_fault c.finish_cut.result _ _ (c.finish_cut.ensures.part sys)
+    (cut_fails sys c.form_of-form.result c.loop-number.number c.loop-number.self c.loop-number.line.items (g.R.Read.remaining c.args.input.now) (g.R.Read.remaining c.loop-number.input)
+    (g.W.Write.contents c.args.out.now) (g.W.Write.contents c.loop-number.out) c.loop-number.invariant _ c.args.cut
+    (subst (λ (l : List ℕ). is_cut c.args.cut l ≡ true) c.as_slice-in-loop-number-2.ensures.value (sym c.is_cut.ensures ∙ c.if-is_cut.true)))
+
+pub returns-then-is_cut-clause-refused : goal.returns-then-is_cut-clause-refused
+returns-then-is_cut-clause-refused g c names =
+    let sys = system_of c.args.table.now.system.now in
+    on_fault c.finish_cut.result _ _ (c.finish_cut.ensures.part sys) (cut_blames sys c.form_of-form.result c.loop-number.number c.loop-number.self c.loop-number.line.items (g.R.Read.remaining c.args.input.now) (g.R.Read.remaining c.loop-number.input)
+    (g.W.Write.contents c.args.out.now) (g.W.Write.contents c.loop-number.out) c.loop-number.invariant _ c.args.cut)

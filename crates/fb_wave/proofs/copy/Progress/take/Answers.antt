@@ -18,7 +18,7 @@ returns-clause-taken c =
       tick = refl;
       numbers = c.in_ok-take.ensures.numbers;
       kept = refl;
-      told = c.in_ok-take.ensures.told;
+      shown = c.in_ok-take.ensures.shown;
     }
 
 pub returns-in_err-line-clause-fault : goal.returns-in_err-line-clause-fault

@@ -3,7 +3,7 @@ use Rattle.std.specs.Prelude.{All}
 use Rattle.std.proofs.lemmas.List.Elements.{All-nil}
 use Rattle.fb_types.specs.Headline.{system_of}
 use Rattle.fb_wave.specs.Scopes.{head_text}
-use Rattle.fb_wave.proofs.Telling.{tells_none}
+use Rattle.fb_wave.proofs.Showing.{sets_none}
 use Rattle.fb_wave.proofs.dump.Dump.begin.Goals as goal
 
 pub returns-clause-numbers : goal.returns-clause-numbers
@@ -18,7 +18,7 @@ returns-clause-numbers c =
       };
     }
 
-pub returns-clause-told : goal.returns-clause-told
-returns-clause-told c none =
+pub returns-clause-shown : goal.returns-clause-shown
+returns-clause-shown c none =
     let sys = system_of c.args.system.now in
-    tells_none sys c.put_head.new.text.items c.firsts_of.new.levels (c.in_ok-put_head.ensures ∙ ap (λ (t : List ℕ). t ++ head_text sys) none) c.in_ok-firsts.ensures.levels
+    sets_none sys c.put_head.new.text.items c.firsts_of.new.levels (c.in_ok-put_head.ensures ∙ ap (λ (t : List ℕ). t ++ head_text sys) none) c.in_ok-firsts.ensures.levels

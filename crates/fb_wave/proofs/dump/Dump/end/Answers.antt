@@ -1,8 +1,8 @@
 use Rattle.fb_types.specs.Headline.{system_of}
 use Rattle.fb_trace.specs.End.{ending_of}
 use Rattle.fb_wave.specs.Signals.{sizes_of}
-use Rattle.fb_wave.specs.Told.{fires_of, has_signal, touches_of}
-use Rattle.fb_wave.proofs.Telling.{tells_all}
+use Rattle.fb_wave.specs.LineSignals.{fires_of, has_signal, touches_of}
+use Rattle.fb_wave.proofs.Showing.{sets_all}
 use Rattle.fb_wave.proofs.Handing.{on_ok}
 use Rattle.fb_wave.proofs.dump.Dump.end.Goals as goal
 
@@ -10,5 +10,5 @@ pub returns : goal.returns
 returns c ls sent t =
     let sys = system_of c.args.system.now in
     on_ok c.put_end.result _ _ c.put_end.ensures
-    (tells_all sys ls sent c.args.text.now.items c.put_changes.new.text.items c.put_end.new.text.items c.args.self.now.tick (ending_of c.args.end) c.args.self.now.levels t
+    (sets_all sys ls sent c.args.text.now.items c.put_changes.new.text.items c.put_end.new.text.items c.args.self.now.tick (ending_of c.args.end) c.args.self.now.levels t
     (c.in_ok-put_changes.ensures.text (sizes_of sys sys.paths) (fires_of sys ls) (has_signal sys ls) (touches_of sys t.now) t.levels))

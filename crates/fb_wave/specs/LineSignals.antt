@@ -30,19 +30,19 @@ abbrev pub changed_signals : System → Line → List ℕ
 changed_signals sys l =
     map (λ n. first_variable sys l.instance l.taken + index_of (line_side sys l) n) (line_variables sys l)
 
-abbrev pub told : System → Line → List (ℕ × Value)
-told sys l = pairs (changed_signals sys l) l.values
+abbrev pub set_by : System → Line → List (ℕ × Value)
+set_by sys l = pairs (changed_signals sys l) l.values
 
 -- the signals of a line
 abbrev pub touched : System → Line → List ℕ
-touched sys l = fired sys l ∷ map (λ t. t.0) (told sys l)
+touched sys l = fired sys l ∷ map (λ t. t.0) (set_by sys l)
 
 -- the events of lines, and their values
 abbrev pub fires_of : System → List Line → List ℕ
 fires_of sys = map (fired sys)
 
 abbrev pub has_signal : System → List Line → List (ℕ × Value)
-has_signal sys = flat_map (told sys)
+has_signal sys = flat_map (set_by sys)
 
 -- the signals of lines
 abbrev pub touches_of : System → List Line → List ℕ

@@ -6,14 +6,15 @@ use Rattle.fb_types.specs.Repeated.{Twice}
 use Rattle.fb_wave.specs.Ports.{port_text}
 use Rattle.fb_wave.specs.Writing.{HasShown, IsDump}
 use Rattle.fb_wave.specs.Tables.{IsTable}
+use Rattle.fb_wave.specs.declared.error.WaveError.TheVariants.{Names}
 use Rattle.fb_wave.specs.declared.table.PortTable.{PortTable}
 use Rattle.fb_wave.specs.Named.{HasNames}
-use Rattle.fb_wave.specs.Refusals.{Blames}
-use Rattle.fb_wave.specs.Waves.{FailsWave, IsWave}
+use Rattle.fb_wave.specs.CutOff.{BlamesShown, FailsShown, IsShown}
 use Rattle.fb_wave.proofs.Alike.{texts_differ}
 use Rattle.fb_wave.proofs.Copied.{front_none}
+use Rattle.fb_wave.proofs.Severed.{blames_memory, blames_names, fails_in}
 use Rattle.fb_wave.proofs.Handing.{on_passed}
-use Rattle.fb_wave.proofs.wave.write_wave.Goals as goal
+use Rattle.fb_wave.proofs.wave.write_wave_with.Goals as goal
 
 of_table : (o : Option PortTable) (t : PortTable) (s : Inputs) → o ≡ Some t → IfSome o (λ t. IsTable t × (t.system.now ≡ s)) → t.system.now ≡ s
 of_table o t s is are = (subst (λ (o : Option PortTable). IfSome o (λ t. IsTable t × (t.system.now ≡ s))) is are).1
@@ -26,68 +27,68 @@ pub copy-requires-clause-dump : goal.copy-requires-clause-dump
 copy-requires-clause-dump g c =
     subst (λ (s : Inputs). IsDump (system_of s) c.in_ok-dump.dump) (sym (of_table _ c.in-Some.table c.args.system.now c.in-Some.is c.in_ok-table.ensures.table)) c.in_ok-dump.ensures.numbers
 
-pub copy-requires-clause-told : goal.copy-requires-clause-told
-copy-requires-clause-told g c =
+pub copy-requires-clause-shown : goal.copy-requires-clause-shown
+copy-requires-clause-shown g c =
     subst (λ (s : Inputs). HasShown (system_of s) [] c.begin.new.text.items c.in_ok-dump.dump) (sym (of_table _ c.in-Some.table c.args.system.now c.in-Some.is c.in_ok-table.ensures.table))
-    (c.in_ok-dump.ensures.told c.new-page.ensures.empty)
+    (c.in_ok-dump.ensures.shown c.new-page.ensures.empty)
 
 pub returns-clause-whole : goal.returns-clause-whole
 returns-clause-whole g c =
     subst
     (λ (s : Inputs).
     OnOk c.copy.result
-    (IfSome (g.R.Read.remaining c.args.input.now) (λ text. IsWave (system_of s) text (g.W.Write.contents c.args.out.now) (g.W.Write.contents c.copy.new.out))))
+    (IfSome (g.R.Read.remaining c.args.input.now) (λ text. IsShown c.args.cut (system_of s) text (g.W.Write.contents c.args.out.now) (g.W.Write.contents c.copy.new.out))))
     (of_table _ c.in-Some.table c.args.system.now c.in-Some.is c.in_ok-table.ensures.table) c.copy.ensures.whole
 
 pub returns-clause-part : goal.returns-clause-part
 returns-clause-part g c =
     subst
-    (λ (s : Inputs). IfErr c.copy.result (FailsWave (system_of s) (g.W.Write.contents c.args.out.now) (g.W.Write.contents c.copy.new.out)))
+    (λ (s : Inputs). IfErr c.copy.result (FailsShown c.args.cut (system_of s) (g.W.Write.contents c.args.out.now) (g.W.Write.contents c.copy.new.out)))
     (of_table _ c.in-Some.table c.args.system.now c.in-Some.is c.in_ok-table.ensures.table) c.copy.ensures.part
 
 pub returns-in_err-ports-clause-part : goal.returns-in_err-ports-clause-part
-returns-in_err-ports-clause-part g c = on_passed _ _ _ c.from_residual.ensures.1 (front_none _ _)
+returns-in_err-ports-clause-part g c = on_passed _ _ _ c.from_residual.ensures.1 (fails_in c.args.cut (system_of c.args.system.now) _ _ _ (front_none _ _))
 
 pub returns-in_err-texts-clause-part : goal.returns-in_err-texts-clause-part
-returns-in_err-texts-clause-part g c = on_passed _ _ _ c.from_residual-in_err-texts.ensures.1 (front_none _ _)
+returns-in_err-texts-clause-part g c = on_passed _ _ _ c.from_residual-in_err-texts.ensures.1 (fails_in c.args.cut (system_of c.args.system.now) _ _ _ (front_none _ _))
 
 pub returns-in_err-table-clause-part : goal.returns-in_err-table-clause-part
-returns-in_err-table-clause-part g c = on_passed _ _ _ c.from_residual-in_err-table.ensures.1 (front_none _ _)
+returns-in_err-table-clause-part g c = on_passed _ _ _ c.from_residual-in_err-table.ensures.1 (fails_in c.args.cut (system_of c.args.system.now) _ _ _ (front_none _ _))
 
 pub returns-then-not-has_names-clause-part : goal.returns-then-not-has_names-clause-part
-returns-then-not-has_names-clause-part g c = front_none _ _
+returns-then-not-has_names-clause-part g c = fails_in c.args.cut (system_of c.args.system.now) _ _ Names (front_none _ _)
 
 pub returns-then-not-has_names-clause-refused : goal.returns-then-not-has_names-clause-refused
-returns-then-not-has_names-clause-refused g c = c.has_names.ensures.unnamed c.if-not-has_names.true
+returns-then-not-has_names-clause-refused g c = blames_names c.args.cut _ _ (c.has_names.ensures.unnamed c.if-not-has_names.true)
 
 pub returns-in_err-guess-clause-part : goal.returns-in_err-guess-clause-part
-returns-in_err-guess-clause-part g c = on_passed _ _ _ c.from_residual-in_err-guess.ensures.1 (front_none _ _)
+returns-in_err-guess-clause-part g c = on_passed _ _ _ c.from_residual-in_err-guess.ensures.1 (fails_in c.args.cut (system_of c.args.system.now) _ _ _ (front_none _ _))
 
 pub returns-in_err-dump-clause-part : goal.returns-in_err-dump-clause-part
-returns-in_err-dump-clause-part g c = on_passed _ _ _ c.from_residual-in_err-dump.ensures.1 (front_none _ _)
+returns-in_err-dump-clause-part g c = on_passed _ _ _ c.from_residual-in_err-dump.ensures.1 (fails_in c.args.cut (system_of c.args.system.now) _ _ _ (front_none _ _))
 
 pub returns-clause-refused : goal.returns-clause-refused
 returns-clause-refused g c =
     subst
     (λ (s : Inputs).
-    HasNames (system_of s) → IfErr c.copy.result (Blames (system_of s) (g.R.Read.remaining c.args.input.now)))
+    HasNames (system_of s) → IfErr c.copy.result (BlamesShown c.args.cut (system_of s) (g.R.Read.remaining c.args.input.now)))
     (of_table _ c.in-Some.table c.args.system.now c.in-Some.is c.in_ok-table.ensures.table) c.copy.ensures.refused
     (names_so c.has_names.result c.if-not-has_names.false c.has_names.ensures.named)
 
 pub returns-in_err-ports-clause-refused : goal.returns-in_err-ports-clause-refused
-returns-in_err-ports-clause-refused g c = on_passed _ _ (Blames (system_of c.args.system.now) (g.R.Read.remaining c.args.input.now)) c.from_residual.ensures.1 tt
+returns-in_err-ports-clause-refused g c = on_passed _ _ (BlamesShown c.args.cut (system_of c.args.system.now) (g.R.Read.remaining c.args.input.now)) c.from_residual.ensures.1 (blames_memory c.args.cut _ _)
 
 pub returns-in_err-texts-clause-refused : goal.returns-in_err-texts-clause-refused
-returns-in_err-texts-clause-refused g c = on_passed _ _ (Blames (system_of c.args.system.now) (g.R.Read.remaining c.args.input.now)) c.from_residual-in_err-texts.ensures.1 tt
+returns-in_err-texts-clause-refused g c = on_passed _ _ (BlamesShown c.args.cut (system_of c.args.system.now) (g.R.Read.remaining c.args.input.now)) c.from_residual-in_err-texts.ensures.1 (blames_memory c.args.cut _ _)
 
 pub returns-in_err-table-clause-refused : goal.returns-in_err-table-clause-refused
-returns-in_err-table-clause-refused g c = on_passed _ _ (Blames (system_of c.args.system.now) (g.R.Read.remaining c.args.input.now)) c.from_residual-in_err-table.ensures.1 tt
+returns-in_err-table-clause-refused g c = on_passed _ _ (BlamesShown c.args.cut (system_of c.args.system.now) (g.R.Read.remaining c.args.input.now)) c.from_residual-in_err-table.ensures.1 (blames_memory c.args.cut _ _)
 
 pub returns-in_err-guess-clause-refused : goal.returns-in_err-guess-clause-refused
-returns-in_err-guess-clause-refused g c = on_passed _ _ (Blames (system_of c.args.system.now) (g.R.Read.remaining c.args.input.now)) c.from_residual-in_err-guess.ensures.1 tt
+returns-in_err-guess-clause-refused g c = on_passed _ _ (BlamesShown c.args.cut (system_of c.args.system.now) (g.R.Read.remaining c.args.input.now)) c.from_residual-in_err-guess.ensures.1 (blames_memory c.args.cut _ _)
 
 pub returns-in_err-dump-clause-refused : goal.returns-in_err-dump-clause-refused
-returns-in_err-dump-clause-refused g c = on_passed _ _ (Blames (system_of c.args.system.now) (g.R.Read.remaining c.args.input.now)) c.from_residual-in_err-dump.ensures.1 tt
+returns-in_err-dump-clause-refused g c = on_passed _ _ (BlamesShown c.args.cut (system_of c.args.system.now) (g.R.Read.remaining c.args.input.now)) c.from_residual-in_err-dump.ensures.1 (blames_memory c.args.cut _ _)
 
 -- no two ports are written alike, so there is a table
 pub unreachable-requires : goal.unreachable-requires

@@ -1,4 +1,4 @@
--- What one more line tells, and how the text grows.
+-- What one more line sets, and how the text grows.
 use Rattle.std.proofs.Common.{◌≡◌, ℕ, Bool, cond, List, [], ◌∷◌, ◌++◌, refl, sym, ap, subst, ◌∙◌, append_assoc, append-nil}
 use Rattle.std.proofs.lemmas.Grind.{flat_map-append}
 use Rattle.std.proofs.lemmas.List.{map-append}
@@ -13,14 +13,14 @@ use Rattle.fb_wave.specs.Changes.{changes, time_text}
 use Rattle.fb_wave.specs.Scopes.{head_text}
 use Rattle.fb_wave.specs.Signals.{sizes_of}
 use Rattle.fb_wave.specs.Dumps.{dump_text, end_text, last_tick, tick_changes, ticks_text}
-use Rattle.fb_wave.specs.Told.{fired, told, touched, fires_of, has_signal, touches_of}
-use Rattle.fb_wave.specs.Writing.{Tells, Turns}
+use Rattle.fb_wave.specs.LineSignals.{fired, set_by, touched, fires_of, has_signal, touches_of}
+use Rattle.fb_wave.specs.Writing.{Shows, Turns}
 
 pub fires-one : (sys : System) (ls : List Line) (l : Line) → fires_of sys (ls ++ l ∷ []) ≡ fires_of sys ls ++ fired sys l ∷ []
 fires-one sys ls l = map-append (fired sys) ls (l ∷ [])
 
-pub tells-one : (sys : System) (ls : List Line) (l : Line) → has_signal sys (ls ++ l ∷ []) ≡ has_signal sys ls ++ told sys l
-tells-one sys ls l = flat_map-append (told sys) ls (l ∷ []) ∙ ap (λ (ts : List (ℕ × Value)). has_signal sys ls ++ ts) (append-nil (told sys l))
+pub sets-one : (sys : System) (ls : List Line) (l : Line) → has_signal sys (ls ++ l ∷ []) ≡ has_signal sys ls ++ set_by sys l
+sets-one sys ls l = flat_map-append (set_by sys) ls (l ∷ []) ∙ ap (λ (ts : List (ℕ × Value)). has_signal sys ls ++ ts) (append-nil (set_by sys l))
 
 pub touches-one : (sys : System) (ls : List Line) (l : Line) → touches_of sys (ls ++ l ∷ []) ≡ touches_of sys ls ++ touched sys l
 touches-one sys ls l = flat_map-append (touched sys) ls (l ∷ []) ∙ ap (λ (ts : List ℕ). touches_of sys ls ++ ts) (append-nil (touched sys l))
@@ -37,10 +37,10 @@ rest_text sys last before now l rest b =
     cond b (ticks_text sys last before (now ++ l ∷ []) rest)
     (tick_changes sys before now ++ time_text last l.key.tick ++ ticks_text sys l.key.tick (before ++ now) (l ∷ []) rest)
 
--- no line was told
-pub tells_none :
-    (sys : System) (new : List ℕ) (x : Levels) → new ≡ head_text sys → AreLevels (sizes_of sys sys.paths) [] [] [] x → Tells sys [] new 0 x
-tells_none sys new x is are =
+-- no line was shown
+pub sets_none :
+    (sys : System) (new : List ℕ) (x : Levels) → new ≡ head_text sys → AreLevels (sizes_of sys sys.paths) [] [] [] x → Shows sys [] new 0 x
+sets_none sys new x is are =
     record {
       before = [];
       now = [];
@@ -52,7 +52,7 @@ tells_none sys new x is are =
 
 -- a line of the same tick comes
 pub turn_same :
-    (sys : System) (ls : List Line) (text : List ℕ) (last tick : ℕ) (x : Levels) → tick ≡ last → Tells sys ls text last x → Turns sys ls text tick x
+    (sys : System) (ls : List Line) (text : List ℕ) (last tick : ℕ) (x : Levels) → tick ≡ last → Shows sys ls text last x → Turns sys ls text tick x
 turn_same sys ls text last tick x same t =
     record {
       before = t.before;
@@ -70,7 +70,7 @@ regroup s o c k r = simp append_assoc
 
 -- a line of another tick comes
 pub turn_next :
-    (sys : System) (ls : List Line) (sent old mid new : List ℕ) (last tick : ℕ) (x y : Levels) → (tick ≡ last → ⊥) → (t : Tells sys ls (sent ++ old) last x)
+    (sys : System) (ls : List Line) (sent old mid new : List ℕ) (last tick : ℕ) (x y : Levels) → (tick ≡ last → ⊥) → (t : Shows sys ls (sent ++ old) last x)
     → mid ≡ old ++ changes (fires_of sys ls) (has_signal sys ls) (touches_of sys t.now) → new ≡ mid ++ time_text last tick
     → AreLevels (sizes_of sys sys.paths) (fires_of sys ls) (has_signal sys ls) [] y → Turns sys ls (sent ++ new) tick y
 turn_next sys ls sent old mid new last tick x y other t put time are =
@@ -98,18 +98,18 @@ turn_next sys ls sent old mid new last tick x y other t put time are =
 
 -- ---- Lines
 
--- one more line was told
-pub tells_more :
+-- one more line was shown
+pub sets_more :
     (sys : System) (ls : List Line) (text : List ℕ) (l : Line) (x y : Levels) (t : Turns sys ls text l.key.tick x)
-    → AreLevels (sizes_of sys sys.paths) (fires_of sys ls ++ fired sys l ∷ []) (has_signal sys ls ++ told sys l) (touches_of sys t.now ++ touched sys l) y
-    → Tells sys (ls ++ l ∷ []) text l.key.tick y
-tells_more sys ls text l x y t are =
+    → AreLevels (sizes_of sys sys.paths) (fires_of sys ls ++ fired sys l ∷ []) (has_signal sys ls ++ set_by sys l) (touches_of sys t.now ++ touched sys l) y
+    → Shows sys (ls ++ l ∷ []) text l.key.tick y
+sets_more sys ls text l x y t are =
     let n = sizes_of sys sys.paths in
-    let one : AreLevels n (fires_of sys (ls ++ l ∷ [])) (has_signal sys ls ++ told sys l) (touches_of sys t.now ++ touched sys l) y =
-    subst (λ (fs : List ℕ). AreLevels n fs (has_signal sys ls ++ told sys l) (touches_of sys t.now ++ touched sys l) y) (sym (fires-one sys ls l)) are
+    let one : AreLevels n (fires_of sys (ls ++ l ∷ [])) (has_signal sys ls ++ set_by sys l) (touches_of sys t.now ++ touched sys l) y =
+    subst (λ (fs : List ℕ). AreLevels n fs (has_signal sys ls ++ set_by sys l) (touches_of sys t.now ++ touched sys l) y) (sym (fires-one sys ls l)) are
     in
     let two : AreLevels n (fires_of sys (ls ++ l ∷ [])) (has_signal sys (ls ++ l ∷ [])) (touches_of sys t.now ++ touched sys l) y =
-    subst (λ (ts : List (ℕ × Value)). AreLevels n (fires_of sys (ls ++ l ∷ [])) ts (touches_of sys t.now ++ touched sys l) y) (sym (tells-one sys ls l)) one
+    subst (λ (ts : List (ℕ × Value)). AreLevels n (fires_of sys (ls ++ l ∷ [])) ts (touches_of sys t.now ++ touched sys l) y) (sym (sets-one sys ls l)) one
     in
     record {
       before = t.before;
@@ -122,20 +122,27 @@ tells_more sys ls text l x y t are =
 
 -- ---- The end
 
--- the last tick and the end make the text whole
-pub tells_all :
-    (sys : System) (ls : List Line) (sent old mid new : List ℕ) (last : ℕ) (end : Ending) (x : Levels) (t : Tells sys ls (sent ++ old) last x)
-    → mid ≡ old ++ changes (fires_of sys ls) (has_signal sys ls) (touches_of sys t.now) → new ≡ mid ++ end_text sys last end
-    → sent ++ new ≡ dump_text sys ls end
-tells_all sys ls sent old mid new last end x t put ended =
+-- the last tick and the rest make the text whole
+pub sets_cut :
+    (sys : System) (ls : List Line) (sent old mid new rest : List ℕ) (last : ℕ) (x : Levels) (t : Shows sys ls (sent ++ old) last x)
+    → mid ≡ old ++ changes (fires_of sys ls) (has_signal sys ls) (touches_of sys t.now) → new ≡ mid ++ rest
+    → sent ++ new ≡ (head_text sys ++ ticks_text sys 0 [] [] ls) ++ rest
+sets_cut sys ls sent old mid new rest last x t put ended =
     let C = tick_changes sys t.before t.now in
-    let E = end_text sys last end in
-    let is : new ≡ (old ++ C) ++ E =
-    ended ∙ ap (λ (m : List ℕ). m ++ E) (put ∙ ap (λ (zs : List Line). old ++ changes (fires_of sys zs) (has_signal sys zs) (touches_of sys t.now)) t.parts)
+    let is : new ≡ (old ++ C) ++ rest =
+    ended ∙ ap (λ (m : List ℕ). m ++ rest) (put ∙ ap (λ (zs : List Line). old ++ changes (fires_of sys zs) (has_signal sys zs) (touches_of sys t.now)) t.parts)
     in
-    ap (λ (m : List ℕ). sent ++ m) is ∙ regroup_end sent old C E
-    ∙ ap (λ (m : List ℕ). m ++ E) (t.text [] ∙ ap (λ (zs : List Line). head_text sys ++ ticks_text sys 0 [] [] zs) (append-nil ls))
-    ∙ ap (λ (k : ℕ). (head_text sys ++ ticks_text sys 0 [] [] ls) ++ end_text sys k end) t.tick
+    ap (λ (m : List ℕ). sent ++ m) is ∙ regroup_end sent old C rest
+    ∙ ap (λ (m : List ℕ). m ++ rest) (t.text [] ∙ ap (λ (zs : List Line). head_text sys ++ ticks_text sys 0 [] [] zs) (append-nil ls))
   where
     regroup_end : (s o c e : List ℕ) → s ++ ((o ++ c) ++ e) ≡ ((s ++ o) ++ c) ++ e
     regroup_end s o c e = simp append_assoc
+
+-- the last tick and the end make the text whole
+pub sets_all :
+    (sys : System) (ls : List Line) (sent old mid new : List ℕ) (last : ℕ) (end : Ending) (x : Levels) (t : Shows sys ls (sent ++ old) last x)
+    → mid ≡ old ++ changes (fires_of sys ls) (has_signal sys ls) (touches_of sys t.now) → new ≡ mid ++ end_text sys last end
+    → sent ++ new ≡ dump_text sys ls end
+sets_all sys ls sent old mid new last end x t put ended =
+    sets_cut sys ls sent old mid new (end_text sys last end) last x t put ended
+    ∙ ap (λ (k : ℕ). (head_text sys ++ ticks_text sys 0 [] [] ls) ++ end_text sys k end) t.tick

@@ -1,13 +1,13 @@
 use Rattle.std.proofs.Common.{◌++◌, [], ◌∷◌, set, refl, ap}
 use Rattle.fb_wave.specs.declared.levels.Cell.{Cell}
 use Rattle.fb_wave.specs.declared.levels.Level.TheVariants.{Last}
-use Rattle.fb_wave.proofs.Noting.{told_one}
-use Rattle.fb_wave.proofs.levels.Levels.tell.Goals as goal
+use Rattle.fb_wave.proofs.Noting.{shown_one}
+use Rattle.fb_wave.proofs.levels.Levels.show.Goals as goal
 
 pub returns-clause-levels : goal.returns-clause-levels
 returns-clause-levels c n f t u all =
     let items = c.args.self.now.cells.items in
     let s = c.args.signal in
     c.note.ensures.levels n f (t ++ (s, c.args.value) ∷ []) u
-    (told_one n f t u c.args.self.now _ s c.index_mut.result.now c.args.value all c.requires.signal
+    (shown_one n f t u c.args.self.now _ s c.index_mut.result.now c.args.value all c.requires.signal
     (ap (λ (x : Cell). set items s (record { shown = Last c.args.value; is_marked = x.is_marked })) c.index_mut.ensures.value) refl)
