@@ -17,15 +17,22 @@ use fb_st::{Frame, Meter, exec_compiled};
 use fb_types::{BasicType, Emission, Emits, Halt, Items, Reason, Reference, Values};
 use std::alloc::{AllocError, Global};
 
-/// What the variables hold, in their order.
+/// What the variables hold, in their order. Mostly there is one variable, and then there is no call.
+#[inline(always)]
+fn shown(alloc: Global, variables: &[Reference], frame: &Frame) -> Result<Values, AllocError>
+    ensures { IfOk result (λ values. values ≡ map (values_of frame.now) variables.now) }
+{
+    match variables {
+        [variable] => Values::from_slice(alloc, &[frame.value(variable)]),
+        _ => shown_values(alloc, variables, frame),
+    }
+}
+
+/// The same as `shown`, for any variables.
 #[inline(never)]
 fn shown_values(alloc: Global, variables: &[Reference], frame: &Frame) -> Result<Values, AllocError>
     ensures { IfOk result (λ values. values ≡ map (values_of frame.now) variables.now) }
 {
-    // Mostly there is one variable, and there is nothing to walk over.
-    if let [variable] = variables {
-        return Values::from_slice(alloc, &[frame.value(variable)]);
-    }
     let mut values = Values::new(alloc);
     for variable in variables {
         values.push(frame.value(variable))?;
@@ -45,7 +52,7 @@ fn emit_with(
     ensures err { OnErr result (emits.new ≡ emits.old) }
 {
     let alloc = emits.allocator();
-    let values = shown_values(alloc, variables, frame)?;
+    let values = shown(alloc, variables, frame)?;
     emits.push(Emission { event, values })
 }
 

@@ -1,23 +1,29 @@
 -- What a reaction reads of the data inputs.
-use Rattle.std.proofs.Common.{◌≡◌, ℕ, List, [], ◌∷◌, refl, arith, rules, IsTrue, ◌^◌, ◌<ℤ◌, pos, ℤ}
+use Rattle.std.proofs.Common.{◌≡◌, ℕ, true, false, cond, List, [], ◌∷◌, refl, arith, IsTrue, ◌^◌, ◌-◌, pos, ℤ, ap, sym, ◌∙◌, subst}
+use Rattle.std.specs.Int.{int_min}
 use Rattle.std.proofs.lemmas.Int.{ints}
-use Rattle.fb_types.specs.Values.{in_range}
+use Rattle.std.specs.Prelude.{codes}
+use Rattle.fb_types.specs.Names.{Name}
+use Rattle.fb_types.specs.Values.{in_range, whole}
+use Rattle.fb_types.specs.declared.run.TimerAsk.TheVariants.{Clear}
 use Rattle.fb_types.specs.declared.value.Ty.TheVariants.{Time}
 use Rattle.fb_types.specs.Blocks.{ports_of_event_block}
-use Rattle.fb_types.specs.EventBlocks.{Memory}
+use Rattle.fb_types.specs.EventBlocks.{Memory, Idle, Marks, Flag, Running, Count, Reaction, is, started, ticks, timed}
+use Rattle.fb_types.specs.Numbers.{event_at}
 use Rattle.fb_types.specs.declared.event_kind.EventKind.{EventKind}
 use Rattle.fb_types.specs.declared.event_kind.EventKind.TheVariants as kind
 use Rattle.fb_types.specs.declared.value.Value.{Value}
 use Rattle.fb_types.specs.declared.value.Value.TheVariants as value
 use Rattle.fb_event.specs.State.{State}
-use Rattle.fb_event.specs.Block.{state_of, IsInTime}
-use Rattle.fb_event.specs.Reactions.{FitTheirTypes, reaction_to, first_value}
-use Rattle.fb_event.specs.Step.{reaction_with}
+use Rattle.fb_event.specs.Block.{state_of, as_time, input_of, memory_of_timer}
+use Rattle.fb_event.specs.Reactions.{FitInputs, reaction_to, first_value}
+use Rattle.fb_event.specs.Step.{Performs, reaction_with}
 use Rattle.fb_event.specs.declared.state.KindState.{KindState}
 use Rattle.fb_event.specs.declared.state.KindState.TheVariants.{Delay, Cycle}
+use Rattle.fb_event.specs.declared.step.Step.{Step}
 
 -- a reaction reads the first data input alone
-pub reaction_to-first : (s : State) (event tick : ℕ) (inputs : List Value) → reaction_to s event tick inputs ≡ reaction_with s event tick (first_value inputs)
+reaction_to-first : (s : State) (event tick : ℕ) (inputs : List Value) → reaction_to s event tick inputs ≡ reaction_with s event tick (first_value inputs)
 reaction_to-first s event tick inputs = read s.kind s.memory event tick inputs where
   read : (k : EventKind) (m : Memory) (event tick : ℕ) (inputs : List Value)
       → reaction_to (record { kind = k; memory = m }) event tick inputs ≡ reaction_with (record { kind = k; memory = m }) event tick (first_value inputs)
@@ -25,18 +31,68 @@ reaction_to-first s event tick inputs = read s.kind s.memory event tick inputs w
   read _ m event tick [] = refl
   read _ m event tick (v ∷ vs) = refl
 
--- a number that fits TIME is in its range
-in_time : (z : ℤ) → IsTrue (in_range Time z) → z <ℤ pos (2 ^ 63)
-in_time z h = grind (arith, ints, h)
+-- ---- A time
 
 -- what fits TIME is in its range
-pub first_value-IsInTime : (b : KindState) (inputs : List Value) → FitTheirTypes (ports_of_event_block (state_of b).kind).inputs inputs → IsInTime b (first_value inputs)
-first_value-IsInTime (Delay t) [] h = search rules
-first_value-IsInTime (Delay t) (value.Bool b ∷ vs) h = search rules
-first_value-IsInTime (Delay t) (value.Whole z ∷ vs) h = in_time z h.0
-first_value-IsInTime (Cycle t) [] h = search rules
-first_value-IsInTime (Cycle t) (value.Bool b ∷ vs) h = search rules
-first_value-IsInTime (Cycle t) (value.Whole z ∷ vs) h = in_time z h.0
-first_value-IsInTime _ inputs h = tt
+in_time : (z : ℤ) → IsTrue (in_range Time z) → int_min z (pos (2 ^ 63 - 1)) ≡ z
+in_time z h = grind (arith, ints, h)
 
-pub ruleset inputs = (reaction_to-first, first_value-IsInTime)
+as_time-typed : (inputs : List Value) → FitInputs kind.Delay inputs → whole (as_time (first_value inputs)) ≡ whole (first_value inputs)
+as_time-typed [] h = refl
+as_time-typed (value.Bool b ∷ vs) h = refl
+as_time-typed (value.Whole z ∷ vs) h = in_time z h.0
+
+-- a reaction of a timer reads a time alone
+timed-by : (m : Memory) (e : Name) (tick : ℕ) (v w : Value) → whole v ≡ whole w → timed m e tick (λ n. v) ≡ timed m e tick (λ n. w)
+timed-by m e tick v w same = ap (λ (z : ℤ). timed m e tick (λ n. value.Whole z)) same
+
+-- ---- Where the inputs fit their types
+
+with_inputs :
+    (b : KindState) (event tick : ℕ) (inputs : List Value) → FitInputs (state_of b).kind inputs
+    → reaction_with (state_of b) event tick (input_of b (first_value inputs)) ≡ reaction_with (state_of b) event tick (first_value inputs)
+with_inputs (Delay t) event tick inputs h =
+    timed-by (memory_of_timer t) (event_at (ports_of_event_block kind.Delay).event_inputs event) tick (as_time (first_value inputs)) (first_value inputs) (as_time-typed inputs h)
+with_inputs (Cycle t) event tick inputs h =
+    timed-by (memory_of_timer t) (event_at (ports_of_event_block kind.Cycle).event_inputs event) tick (as_time (first_value inputs)) (first_value inputs) (as_time-typed inputs h)
+with_inputs _ event tick inputs h = refl
+
+pub performs_typed :
+    (b : KindState) (event tick : ℕ) (inputs : List Value) (after : KindState) (step : Step)
+    → Performs (state_of b) (reaction_with (state_of b) event tick (input_of b (first_value inputs))) after step
+    → FitInputs (state_of b).kind inputs
+    → Performs (state_of b) (reaction_to (state_of b) event tick inputs) after step
+performs_typed b event tick inputs after step h typed =
+    subst (λ (r : Reaction). Performs (state_of b) r after step)
+    (with_inputs b event tick inputs typed ∙ sym (reaction_to-first (state_of b) event tick inputs)) h
+
+-- ---- Of any inputs
+
+started_silent : (m : Memory) (tick time : ℕ) → (started m tick time).emits ≡ []
+started_silent Idle tick time = refl
+started_silent (Marks a b) tick time = refl
+started_silent (Flag q) tick time = refl
+started_silent (Running before) tick time = refl
+started_silent (Count cv q) tick time = refl
+
+timed_silent : (m : Memory) (e : Name) (tick : ℕ) (v : Value) → (timed m e tick (λ n. v)).emits ≡ []
+timed_silent m e tick v =
+    elim (is e (codes "START")) as (λ b. (cond b (started m tick (ticks (whole v))) (record { memory = Idle; emits = []; timer = Clear })).emits ≡ []) [
+      | true ↦ started_silent m tick (ticks (whole v))
+      | false ↦ refl
+    ]
+
+same_emits : (b : KindState) (event tick : ℕ) (v : Value) → (reaction_with (state_of b) event tick (input_of b v)).emits ≡ (reaction_with (state_of b) event tick v).emits
+same_emits (Delay t) event tick v =
+    let e = event_at (ports_of_event_block kind.Delay).event_inputs event in timed_silent (memory_of_timer t) e tick (as_time v) ∙ sym (timed_silent (memory_of_timer t) e tick v)
+same_emits (Cycle t) event tick v =
+    let e = event_at (ports_of_event_block kind.Cycle).event_inputs event in timed_silent (memory_of_timer t) e tick (as_time v) ∙ sym (timed_silent (memory_of_timer t) e tick v)
+same_emits _ event tick v = refl
+
+pub silent_inputs :
+    (b : KindState) (event tick : ℕ) (inputs : List Value) → (reaction_to (state_of b) event tick inputs).emits ≡ []
+    → (reaction_with (state_of b) event tick (input_of b (first_value inputs))).emits ≡ []
+silent_inputs b event tick inputs h =
+    same_emits b event tick (first_value inputs) ∙ sym (ap (λ (r : Reaction). r.emits) (reaction_to-first (state_of b) event tick inputs)) ∙ h
+
+pub ruleset inputs = (performs_typed, silent_inputs)

@@ -1,7 +1,9 @@
 -- What the program's own form of an event block represents (this project's profile).
-use Rattle.std.specs.Prelude.{◌<◌, ◌^◌, pos, ◌<ℤ◌}
+use Rattle.std.specs.Prelude.{◌<◌, ◌-◌, ◌^◌, pos}
+use Rattle.std.specs.Int.{int_min}
 use Rattle.fb_types.specs.Values.{whole}
 use Rattle.fb_types.specs.declared.value.Value.{Value}
+use Rattle.fb_types.specs.declared.value.Value.TheVariants as value
 use Rattle.fb_types.specs.EventBlocks.{Memory, Idle, Marks, Flag, Running, Count}
 use Rattle.fb_types.specs.declared.event_kind.EventKind.{EventKind}
 use Rattle.fb_types.specs.declared.event_kind.EventKind.TheVariants as kind
@@ -48,8 +50,12 @@ IsInRange (Delay t) = IsTimeInRange t
 IsInRange (Cycle t) = IsTimeInRange t
 IsInRange _ = Unit {0}
 
--- an input that a timer is set by has the range of TIME
-abbrev pub IsInTime : KindState → Value → Type 0
-IsInTime (Delay t) dt = whole dt <ℤ pos (2 ^ 63)
-IsInTime (Cycle t) dt = whole dt <ℤ pos (2 ^ 63)
-IsInTime _ dt = Unit {0}
+-- a time past the range of TIME counts as the last in it
+abbrev pub as_time : Value → Value
+as_time dt = value.Whole (int_min (whole dt) (pos (2 ^ 63 - 1)))
+
+-- the input that a block reacts to: the same but where it sets a timer
+abbrev pub input_of : KindState → Value → Value
+input_of (Delay t) dt = as_time dt
+input_of (Cycle t) dt = as_time dt
+input_of _ input = input

@@ -17,6 +17,10 @@ abbrev pub FitTheirTypes : List Variable → List Value → Type 0
 FitTheirTypes (x ∷ xs) (v ∷ vs) = IsTrue (fits x.ty v) × FitTheirTypes xs vs
 FitTheirTypes _ _ = Unit {0}
 
+-- Each data input of a block of this kind has a value of its type.
+abbrev pub FitInputs : EventKind → List Value → Type 0
+FitInputs k inputs = FitTheirTypes (ports_of_event_block k).inputs inputs
+
 -- the value of the first variable
 abbrev pub first_value : List Value → Value
 first_value [] = zero_value

@@ -1,10 +1,9 @@
 //! The reactions of event blocks, to an event and to their timer.
 
 ghost use Rattle.std.specs.Prelude.{◌≡◌, ◌++◌, ◌≤◌, ◌^◌, [], All, IfErr, IsOk, OnOk, map};
-ghost use Rattle.fb_types.specs.Blocks.{ports_of_event_block};
 ghost use Rattle.fb_event.specs.Block.{state_of, IsInRange};
 ghost use Rattle.fb_event.specs.Emissions.{emission_at};
-ghost use Rattle.fb_event.specs.Reactions.{BeginsWith, EmitsBehind, FitTheirTypes, reaction_to, expiry_of, emissions_of, first_value, meanings, IsEventOutput, IsWellFormed};
+ghost use Rattle.fb_event.specs.Reactions.{BeginsWith, EmitsBehind, FitInputs, reaction_to, expiry_of, emissions_of, first_value, meanings, IsEventOutput, IsWellFormed};
 
 use crate::emission::emit_all;
 use crate::state::EventState;
@@ -13,8 +12,8 @@ use fb_types::{Emits, Halt, TimerAsk, Value};
 
 /// The reaction of an event block to the event input at an index of its event inputs, in a tick that is at most
 /// 10^12. `inputs` are the values of all its data inputs, in the order of the declaration, as they are
-/// after the sampling. What it emits is put after the other emissions, which stay as they are, by the allocator that
-/// they keep.
+/// after the sampling. Where each fits its type, the reaction is the defined one. What it emits is put after the other
+/// emissions, which stay as they are, by the allocator that they keep.
 ///
 /// # Errors
 /// `Halt::Memory` where memory ran out, and never a stop. Nothing is said of what the block remembers then.
@@ -30,18 +29,19 @@ pub fn react(
     ask: &mut TimerAsk,
 ) -> Result<(), Halt>
     requires early { tick ≤ 10 ^ 12 }
-    requires typed { FitTheirTypes (ports_of_event_block state.old.kind).inputs inputs.now }
+
+    // Where each input fits its type.
     ensures memory { let reaction = reaction_to state.old event tick inputs.now in
-        OnOk result (state.new.memory ≡ reaction.memory) }
+        FitInputs state.old.kind inputs.now → OnOk result (state.new.memory ≡ reaction.memory) }
     ensures timer { let reaction = reaction_to state.old event tick inputs.now in
-        OnOk result (ask.new ≡ reaction.timer) }
+        FitInputs state.old.kind inputs.now → OnOk result (ask.new ≡ reaction.timer) }
     ensures emitted { let reaction = reaction_to state.old event tick inputs.now in
-        OnOk result (meanings state.old.kind emits.new
+        FitInputs state.old.kind inputs.now → OnOk result (meanings state.old.kind emits.new
         ≡ meanings state.old.kind emits.old ++ emissions_of state.old.kind reaction) }
     ensures behind { let reaction = reaction_to state.old event tick inputs.now in
-        OnOk result (EmitsBehind state.old.kind reaction emits.old emits.new) }
+        FitInputs state.old.kind inputs.now → OnOk result (EmitsBehind state.old.kind reaction emits.old emits.new) }
 
-    // Also where memory runs out.
+    // Of any inputs, also where memory runs out.
     ensures kind { state.new.kind ≡ state.old.kind }
     ensures well_formed { let IsFit = IsWellFormed state.old.kind in All IsFit emits.old → All IsFit emits.new }
     ensures kept { BeginsWith emits.old emits.new }

@@ -3,7 +3,7 @@
 ghost use Rattle.std.specs.Prelude.{false, ◌≡◌, ◌≤◌, ◌<◌, ◌^◌, [], ◌∷◌, pos, if◌then◌else◌, ◌<ℤ◌};
 ghost use Rattle.fb_types.specs.Values.{truth, whole as whole_of};
 ghost use Rattle.fb_types.specs.EventBlocks.{ticks as ticks_of};
-ghost use Rattle.fb_event.specs.Block.{state_of, IsInRange, IsInTime, IsTimeInRange};
+ghost use Rattle.fb_event.specs.Block.{state_of, as_time, input_of, IsInRange, IsTimeInRange};
 ghost use Rattle.fb_event.specs.Reactions.{expiry_of};
 ghost use Rattle.fb_event.specs.Step.{IsTimerAfter, Performs, reaction_with, timed_with};
 
@@ -24,6 +24,9 @@ const START: u32 = 0;
 const S_OF_SET_RESET: u32 = 0;
 
 const R_OF_COUNT_UP: u32 = 1;
+
+/// The last time in the range of TIME.
+const LONGEST: i128 = i64::MAX as i128;
 
 /// The result of a reaction of an event block, apart from what the block is then: what it emits, and what it asks of
 /// its timer.
@@ -75,8 +78,7 @@ impl Step {
 pub(crate) fn reaction(block: &mut KindState, event: u32, tick: u64, input: Value) -> Step
     requires early { tick ≤ 10 ^ 12 }
     requires running { IsInRange block.old }
-    requires in_range { IsInTime block.old input }
-    ensures { Performs (state_of block.old) (reaction_with (state_of block.old) event tick input) block.new result }
+    ensures { Performs (state_of block.old) (reaction_with (state_of block.old) event tick (input_of block.old input)) block.new result }
 {
     match *block {
         KindState::Restart => Step::silent(),
@@ -175,12 +177,12 @@ fn rendezvous(first: bool, second: bool, event: u32) -> (KindState, Step)
     }
 }
 
-/// The timer of E_DELAY and E_CYCLE after START or STOP, and what is asked of it.
+/// The timer of E_DELAY and E_CYCLE after START or STOP, and what is asked of it. A time past the range of TIME, which
+/// no input of that type has, counts as the longest.
 fn timed(timer: Timer, event: u32, tick: u64, input: Value) -> (Timer, TimerAsk)
     requires early { tick ≤ 10 ^ 12 }
     requires running { IsTimeInRange timer }
-    requires in_range { whole_of input <ℤ pos (2 ^ 63) }
-    ensures { IsTimerAfter (timed_with timer event tick input) result.0 result.1 }
+    ensures { IsTimerAfter (timed_with timer event tick (as_time input)) result.0 result.1 }
 {
     if event != START {
         return (Timer::Idle, TimerAsk::Clear);
@@ -188,7 +190,7 @@ fn timed(timer: Timer, event: u32, tick: u64, input: Value) -> (Timer, TimerAsk)
     match timer {
         Timer::Running(_) => (timer, TimerAsk::Keep),
         Timer::Idle => {
-            let time = ticks(whole(input));
+            let time = ticks(whole(input).min(LONGEST));
             (Timer::Running(time), TimerAsk::At(tick + time))
         }
     }

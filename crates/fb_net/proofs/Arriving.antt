@@ -162,7 +162,7 @@ sent-of i r at before after =
     ++ spread (system_of i) r (map (carried_of (system_of i)) []) ((system_of i).targets (port_of (system_of i) at))
 
 -- An event has gone on inside.
-pub enters : (i : Inputs) (k : Key) (at : Target) (old mid : Forest) (x y z : Outbox) → ComesTo i (sampling i k at) old x mid y → IsReady i k mid y
+pub enters : (i : Inputs) (k : Key) (at : Target) (old mid : Forest) (x y z : Outbox) → ComesTo i (sampling i k at) old x mid y → IsReady k mid
     → z.lines.items ≡ y.lines.items → z.timer ≡ y.timer
     → sent-of i mid.resource at y.outs.items z.outs.items → ComesTo i (entering i k at) old x mid z
 enters i k at old mid x y z taken ready lines timer sent w left h =
@@ -179,7 +179,7 @@ enters i k at old mid x y z taken ready lines timer sent w left h =
 
 -- An event has left, with what the composite shows.
 pub leaves : (i : Inputs) (k : Key) (at : Target) (old new : Forest) (x y : Outbox) (values : List Value) (emits : List run.Emission)
-    → IsReady i k old x → at.is_output ≡ true → InForest i old at.instance → AreShown i old at values
+    → IsReady k old → at.is_output ≡ true → InForest i old at.instance → AreShown i old at values
     → emits ≡ record { event = at.event; values = values } ∷ []
     → ((before : Gathered) (o : Outcome) → Stands i before old x o → Stands i before new y
     (emitted_all (system_of i) k (path_at (system_of i) at.instance) (map (emission_of (ports_at (system_of i) (path_at (system_of i) at.instance))) emits) o))

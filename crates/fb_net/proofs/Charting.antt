@@ -69,7 +69,7 @@ start_at b left = record { state = state_of b.memory; vars = b.variables; left =
 
 -- A basic block t has reacted to an event with values that it sampled, and line and emissions were told.
 module _ (i : Inputs) (k : Key) (at : Target) (t : BasicType) (is : (system_of i).kind (path_at (system_of i) at.instance) ≡ Some (Basic t))
-    (input : at.is_output ≡ false) (old mid new : Forest) (x y : Outbox) (ready : IsReady i k old x) (here : InForest i old at.instance)
+    (input : at.is_output ≡ false) (old mid new : Forest) (x y : Outbox) (ready : IsReady k old) (here : InForest i old at.instance)
     (values : List Value) (are : AreSampled i old at values) (before after : ℕ) (emits : List run.Emission)
     (told : Tells i k at.instance (line_of (system_of i) (taken_line k at values))
     (map (emission_of (ports_at (system_of i) (path_at (system_of i) at.instance))) emits) mid x new y) where

@@ -23,7 +23,7 @@ use Rattle.fb_net.specs.Changes.{Changes}
 use Rattle.fb_net.specs.Worlds.{IsForest}
 use Rattle.fb_net.specs.declared.resource.Forest.{Forest}
 use Rattle.fb_net.specs.Emitting.{HasEmitted, carried_by, outputs_at, outputs_shown}
-use Rattle.fb_net.specs.Outs.{AreOuts, Gathered, IsOut, Stands, out_of}
+use Rattle.fb_net.specs.Outs.{Gathered, IsOut, Stands, out_of}
 use Rattle.fb_net.specs.declared.outbox.Outbox.{Outbox}
 
 -- ---- What messages carry
@@ -71,8 +71,8 @@ emitted_all-append sys key p [] ds o = refl
 emitted_all-append sys key p (e ∷ es) ds o = emitted_all-append sys key p es ds (emitted sys key p e o)
 
 pub nothing_emitted :
-    (i : Inputs) (key : Key) (k : ℕ) (f : Forest) (x : Outbox) → AreOuts (system_of i) f.resource x → HasEmitted i key k f x [] f x
-nothing_emitted i key k f x outs = record { emitted = λ before o h. h; outs = outs; resource = refl }
+    (i : Inputs) (key : Key) (k : ℕ) (f : Forest) (x : Outbox) → HasEmitted i key k f x [] f x
+nothing_emitted i key k f x = record { emitted = λ before o h. h; outs = λ were. were; resource = refl }
 
 pub more_emitted :
     (i : Inputs) (key : Key) (k : ℕ) (f g h : Forest) (x y z : Outbox) (es ds : List run.Emission)
@@ -86,7 +86,7 @@ more_emitted i key k f g h x y z es ds first then =
           subst (λ (o : Outcome). Stands i before h z o)
           (sym (ap (λ (ms : List Emission). emitted_all sys key p ms o) (map-append said es ds) ∙ emitted_all-append sys key p (map said es) (map said ds) o))
           (then.emitted before (emitted_all sys key p (map said es) o) (first.emitted before o s));
-      outs = then.outs;
+      outs = λ were. then.outs (first.outs were);
       resource = then.resource ∙ first.resource;
     }
 
@@ -104,7 +104,7 @@ pub record Doing (i : Inputs) (key : Key) (k : ℕ) (f : Forest) (x : Outbox) (e
   pub published : Changes i f k (outputs_shown (outputs_at (system_of i) k indexes e.values)) g
   pub sent : map (out_of (system_of i)) y.outs.items ≡ map (out_of (system_of i)) x.outs.items
       ++ spread (system_of i) g.resource (map (carried_of (system_of i)) (carried_by k indexes e.values)) ((system_of i).targets (event_output (system_of i) k e.event))
-  pub belong : All (IsOut (system_of i) g.resource) y.outs.items
+  pub belong : All (IsOut (system_of i) g.resource) x.outs.items → All (IsOut (system_of i) g.resource) y.outs.items
   pub lines : y.lines.items ≡ x.lines.items ++ line_by key k e ∷ []
   pub timer : y.timer ≡ x.timer
 
@@ -158,14 +158,14 @@ module _ (i : Inputs) (key : Key) (k : ℕ) (f : Forest) (x : Outbox) (e : run.E
   }
 
   pub has_emitted : k < length sys.paths → sys.resource p ≡ f.resource → key.resource ≡ f.resource → key.resource < length sys.resource_names
-      → IsEmission (ports_at sys p) e → AreOuts sys f.resource x → HasEmitted i key k f x (e ∷ []) g y
-  has_emitted number here resource named emission were =
+      → IsEmission (ports_at sys p) e → HasEmitted i key k f x (e ∷ []) g y
+  has_emitted number here resource named emission =
       let line : BelongsTo sys (line_by key k e) = record { instance = number; resource = named; event = emission.event; values = emission.values } in
       record {
         emitted = stands here resource;
-        outs = record {
+        outs = λ were. record {
           lines = subst (λ (ls : List Line). All (BelongsTo sys) ls) (sym done.lines) (All-push (BelongsTo sys) x.lines.items (line_by key k e) were.lines line);
-          outs = done.belong;
+          outs = done.belong (subst (λ (r : ℕ). All (IsOut sys r) x.outs.items) (sym done.published.resource) were.outs);
         };
         resource = done.published.resource;
       }

@@ -18,7 +18,7 @@ use Rattle.fb_types.specs.declared.run.Halt.{Halt}
 use Rattle.fb_types.specs.declared.run.Target.{Target}
 use Rattle.fb_types.specs.declared.run.TimerAsk.{TimerAsk}
 use Rattle.fb_types.specs.declared.value.Value.{Value}
-use Rattle.fb_event.specs.Reactions.{FitTheirTypes, IsWellFormed, emissions_of, expiry_of, meanings, reaction_to}
+use Rattle.fb_event.specs.Reactions.{FitInputs, IsWellFormed, emissions_of, expiry_of, meanings, reaction_to}
 use Rattle.fb_event.specs.State.{State}
 use Rattle.fb_net.specs.Blocks.{components_of, own_of}
 use Rattle.fb_net.specs.Changes.{block_in, remembered, with_instance}
@@ -111,8 +111,8 @@ module _ (i : Inputs) (old : Forest) (k : ℕ) (kind : EventKind) (of_kind : (sy
         state = s.0;
         stood = s.1;
         typed =
-            subst (λ (j : EventKind). FitTheirTypes (ports_of_event_block j).inputs shell.inputs) (sym s.2.is_kind)
-            (subst (λ (vs : List Value). FitTheirTypes (ports_of_event_block kind).inputs vs) hold fit);
+            subst (λ (j : EventKind). FitInputs j shell.inputs) (sym s.2.is_kind)
+            (subst (λ (vs : List Value). FitInputs kind vs) hold fit);
       }
 
 -- no instance of the resource is without a shell
@@ -208,6 +208,13 @@ none_emitted P n d lt = absurd (omega arith)
 -- where nothing was emitted before, all emissions are well-formed
 pub all_new : (k : EventKind) (old new : List run.Emission) → old ≡ [] → (All (IsWellFormed k) old → All (IsWellFormed k) new) → All (IsWellFormed k) new
 all_new k old new fresh kept = kept (subst (λ (es : List run.Emission). All (IsWellFormed k) es) (sym fresh) (none_emitted (IsWellFormed k)))
+
+-- the block at the index is the one whose inputs fit their types
+pub typed_here :
+    (slot : Block) (s t : State) (inputs : List Value) → slot ≡ block.Event t → Some slot ≡ Some (block.Event s)
+    → FitInputs s.kind inputs → FitInputs t.kind inputs
+typed_here slot s t inputs is stood fit =
+    let same : s ≡ t = cc in subst (λ (r : State). FitInputs r.kind inputs) same fit
 
 -- .. and they are the reaction's
 pub has_answered : (r : Result (Unit {0}) Halt) (k : EventKind) (x : Reaction) (s : State) (ask : TimerAsk) (old new : List run.Emission) → old ≡ []

@@ -67,16 +67,15 @@ pub record HaveGone (sys : System) (r : ℕ) (carried : List (Port × Value)) (t
   pub within : index ≤ length targets
   pub counted : length outs ≡ length before + index
   pub sent : map (out_of sys) outs ≡ map (out_of sys) before ++ spread sys r carried (take index targets)
-  pub belong : All (IsOut sys r) outs
+  pub belong : All (IsOut sys r) before → All (IsOut sys r) outs
 
 pub none_gone :
-    (sys : System) (r : ℕ) (carried : List (Port × Value)) (targets : List Port) (outs : List Out) → All (IsOut sys r) outs
-    → HaveGone sys r carried targets outs 0 outs
-none_gone sys r carried targets outs belong = record {
+    (sys : System) (r : ℕ) (carried : List (Port × Value)) (targets : List Port) (outs : List Out) → HaveGone sys r carried targets outs 0 outs
+none_gone sys r carried targets outs = record {
   within = omega arith;
   counted = omega arith;
   sent = sym (append-nil (map (out_of sys) outs));
-  belong = belong;
+  belong = λ were. were;
 }
 
 -- where the connection at an index leads, if there is one
@@ -108,7 +107,7 @@ one_more_gone sys r carried targets before index outs o t out gone leads is goes
           (ap (λ (x : reactions.Out). spread sys r carried (take index targets) ++ x ∷ []) goes.is
           ∙ sym (spread-append sys r carried (take index targets) (q ∷ []))
           ∙ ap (spread sys r carried) (sym taken));
-      belong = All-push (IsOut sys r) outs out gone.belong goes.belongs;
+      belong = λ were. All-push (IsOut sys r) outs out (gone.belong were) goes.belongs;
     }
 
 behind : (targets : List Port) (index : ℕ) → slice_get targets index ≡ None → length targets ≤ index

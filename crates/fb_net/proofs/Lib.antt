@@ -34,3 +34,4 @@ pub mod Basics
 pub mod Events
 pub mod Keys
 pub mod Leaves
+pub mod PutOut

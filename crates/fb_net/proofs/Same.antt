@@ -4,8 +4,10 @@ use Rattle.fb_types.specs.Headline.{Inputs, system_of}
 use Rattle.fb_types.specs.declared.key.Key.{Key}
 use Rattle.fb_types.specs.declared.run.Emission.{Emission}
 use Rattle.fb_net.specs.Emitting.{HasEmitted}
-use Rattle.fb_net.specs.Outs.{AreOuts}
-use Rattle.fb_net.specs.Steps.{AreKept, EmitsWell, IsKept, IsSame, MayEmit, system_in}
+use Rattle.fb_net.specs.Outs.{AreOuts, StillAreOuts}
+use Rattle.fb_net.specs.Steps.{AreKept, ArePutOut, EmitsWell, IsKept, IsSame, MayEmit}
+use Rattle.fb_net.specs.declared.outbox.Outbox.{Outbox}
+use Rattle.fb_net.specs.declared.resource.Forest.{Forest}
 use Rattle.fb_net.specs.declared.taking.Taking.{Taking}
 use Rattle.fb_net.proofs.Emitting.{more_emitted}
 use Rattle.fb_net.proofs.Wholes.{kept-then}
@@ -35,11 +37,12 @@ may-emit-again a b n es same may emitted = record {
   number = still (λ (i : Inputs) (k : Key). n < length (system_of i).paths) a b same may.number;
   here = still (λ (i : Inputs) (k : Key). InForest i b.forest.now n) a b same (may.here ∙ sym emitted.resource);
   resource = ap (λ (k : Key). k.resource) same.key ∙ may.resource ∙ sym emitted.resource;
-  outs = outs-again a b n es same emitted;
 }
-  where
-    outs-again : (a b : Taking) (n : ℕ) (es : List Emission) → IsSame a b → EmitsWell a n es b → AreOuts (system_in b) b.forest.now.resource b.outbox.now
-    outs-again a b n es same emitted = still (λ (i : Inputs) (k : Key). AreOuts (system_of i) b.forest.now.resource b.outbox.now) a b same emitted.outs
+
+pub put-out-after : (a b : Taking) (f : Forest) (x : Outbox) → IsSame a b → ArePutOut a b → StillAreOuts b.system.now b.forest.now b.outbox.now f x → StillAreOuts a.system.now a.forest.now a.outbox.now f x
+put-out-after a b f x same first next were =
+    already (λ (i : Inputs) (k : Key). AreOuts (system_of i) f.resource x) a b same
+    (next (still (λ (i : Inputs) (k : Key). AreOuts (system_of i) b.forest.now.resource b.outbox.now) a b same (first were)))
 
 -- Of some emissions those before the rest were made.
 pub record EmittedSoFar (a b : Taking) (n : ℕ) (all rest : List Emission) : Type 0 where

@@ -147,7 +147,7 @@ module _ (i : Inputs) (k : Key) (at : Target) (its : Ports) (ports : ports_at (s
 
 -- An event block or a composite has taken the event.
 pub sampling-stands : (i : Inputs) (k : Key) (at : Target) (old new : Forest) (x y : Outbox) (values : List Value)
-    → IsReady i k old x → at.is_output ≡ false → InForest i old at.instance → AreSampled i old at values
+    → IsReady k old → at.is_output ≡ false → InForest i old at.instance → AreSampled i old at values
     → Changes i old at.instance (all_sampled (names_in (system_of i) at) values) new
     → map (line_of (system_of i)) y.lines.items ≡ map (line_of (system_of i)) x.lines.items ++ line_of (system_of i) (taken_line k at values) ∷ []
     → y.outs.items ≡ x.outs.items → y.timer ≡ x.timer → ComesTo i (sampling i k at) old x new y

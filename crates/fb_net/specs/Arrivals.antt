@@ -13,7 +13,7 @@ use Rattle.fb_types.specs.declared.run.Halt.TheVariants as halt
 use Rattle.fb_types.specs.declared.run.Target.{Target}
 use Rattle.fb_types.specs.declared.run.TimerAsk.TheVariants.{Keep}
 use Rattle.fb_types.specs.declared.value.Reason.{Reason}
-use Rattle.fb_net.specs.Outs.{AreOuts, Gathered, Stands, gathered}
+use Rattle.fb_net.specs.Outs.{Gathered, Stands, gathered}
 use Rattle.fb_net.specs.declared.outbox.Outbox.{Outbox}
 use Rattle.fb_net.specs.Worlds.{IsForest}
 use Rattle.fb_net.specs.declared.resource.Forest.{Forest}
@@ -22,9 +22,8 @@ use Rattle.fb_laws.specs.Typed.{AreTyped}
 -- ---- Before
 
 -- An event of the resource may be taken under the key.
-pub record IsReady (i : Inputs) (k : Key) (f : Forest) (x : Outbox) : Type 0 where
+pub record IsReady (k : Key) (f : Forest) : Type 0 where
   pub resource : k.resource ≡ f.resource
-  pub outs : AreOuts (system_of i) f.resource x
 
 -- The blocks represent a world in which each variable holds a value of its type.
 abbrev pub AreTypedAt : Inputs → Forest → Type 0

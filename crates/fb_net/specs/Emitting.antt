@@ -15,7 +15,7 @@ use Rattle.fb_types.specs.declared.run.Carried.{Carried}
 use Rattle.fb_types.specs.declared.run.Emission as run
 use Rattle.fb_types.specs.declared.value.Value.{Value}
 use Rattle.fb_net.specs.declared.resource.Forest.{Forest}
-use Rattle.fb_net.specs.Outs.{AreOuts, Gathered, IsOut, Stands, out_of}
+use Rattle.fb_net.specs.Outs.{Gathered, StillAreOuts, IsOut, Stands, out_of}
 use Rattle.fb_net.specs.declared.outbox.Out.{Out}
 use Rattle.fb_net.specs.declared.outbox.Outbox.{Outbox}
 
@@ -62,5 +62,5 @@ EmitsSo i key k f x es g y =
 -- An instance has emitted so.
 pub record HasEmitted (i : Inputs) (key : Key) (k : ℕ) (f : Forest) (x : Outbox) (es : List run.Emission) (g : Forest) (y : Outbox) : Type 0 where
   pub emitted : EmitsSo i key k f x es g y
-  pub outs : AreOuts (system_of i) g.resource y
+  pub outs : StillAreOuts i f x g y
   pub resource : g.resource ≡ f.resource

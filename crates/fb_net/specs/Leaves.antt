@@ -20,7 +20,7 @@ use Rattle.fb_types.specs.declared.value.Value.{Value}
 use Rattle.fb_st.specs.Frames.{values_of}
 use Rattle.fb_ecc.specs.Indexes.{Ended, IsBlockOf, sampled, index as chart_at}
 use Rattle.fb_ecc.specs.declared.state.BasicState.{BasicState}
-use Rattle.fb_event.specs.Reactions.{FitTheirTypes, IsWellFormed, emissions_of, meanings}
+use Rattle.fb_event.specs.Reactions.{FitInputs, IsWellFormed, emissions_of, meanings}
 use Rattle.fb_event.specs.State.{State}
 use Rattle.fb_net.specs.Changes.{block_in, with_instance}
 use Rattle.fb_net.specs.Trees.{block_at}
@@ -92,7 +92,7 @@ IsEventAt blocks way = (s : State) × (block_at blocks way ≡ Some (block.Event
 pub record IsTypedAt (inputs : List Value) (blocks : List Block) (way : List ℕ) : Type 0 where
   pub state : State
   pub stood : block_at blocks way ≡ Some (block.Event state)
-  pub typed : FitTheirTypes (ports_of_event_block state.kind).inputs inputs
+  pub typed : FitInputs state.kind inputs
 
 -- An event block remembers, asks and emits what a reaction says.
 pub record HasAnswered (kind : EventKind) (x : Reaction) (s : State) (ask : TimerAsk) (emits : List run.Emission) : Type 0 where
@@ -130,4 +130,4 @@ expiry_reaction i kind k tick w = expiry kind (memory_of (block_in i w k).memory
 -- The values of the data inputs of an event block are of their types.
 abbrev pub HasTypedInputs : Inputs → EventKind → (instance : ℕ) → World → Type 0
 HasTypedInputs i kind k w =
-    FitTheirTypes (ports_of_event_block kind).inputs (map (block_in i w k).variables (input_names (system_of i) (path_at (system_of i) k)))
+    FitInputs kind (map (block_in i w k).variables (input_names (system_of i) (path_at (system_of i) k)))

@@ -44,6 +44,10 @@ pub record AreOuts (sys : System) (r : ℕ) (x : Outbox) : Type 0 where
   pub lines : All (BelongsTo sys) x.lines.items
   pub outs : All (IsOut sys r) x.outs.items
 
+-- What is put out belongs to the system, if what was put out before does.
+abbrev pub StillAreOuts : Inputs → Forest → Outbox → Forest → Outbox → Type 0
+StillAreOuts i old before new x = AreOuts (system_of i) old.resource before → AreOuts (system_of i) new.resource x
+
 -- ---- What an outbox gathers
 
 -- What an outbox has, in the model.

@@ -14,7 +14,7 @@ use Rattle.fb_laws.specs.Typed.{IsTypedEvent}
 use Rattle.fb_net.specs.Arrivals.{Arrives, ComesTo, HasReacted, IsReady, AreTypedAt, Tells}
 use Rattle.fb_net.specs.Emitting.{EmitsSo, HasEmitted}
 use Rattle.fb_net.specs.Events.{HasTaken, IsEventIn, Remembered, event_of}
-use Rattle.fb_net.specs.Outs.{AreOuts}
+use Rattle.fb_net.specs.Outs.{StillAreOuts}
 use Rattle.fb_net.specs.declared.taking.Taking.{Taking}
 use Rattle.fb_system.specs.Ports.{IsPort}
 use Rattle.fb_net.specs.Worlds.{InForest, IsForest}
@@ -31,14 +31,13 @@ ports_in t k = ports_at (system_in t) (path_at (system_in t) k)
 
 -- An event may be taken.
 abbrev pub MayBegin : Taking → Type 0
-MayBegin t = IsReady t.system.now t.key.now t.forest.now t.outbox.now
+MayBegin t = IsReady t.key.now t.forest.now
 
 -- An instance of the resource may put out under a key of the resource.
 pub record MayEmit (t : Taking) (instance : ℕ) : Type 0 where
   pub number : instance < length (system_in t).paths
   pub here : InForest t.system.now t.forest.now instance
   pub resource : t.key.now.resource ≡ t.forest.now.resource
-  pub outs : AreOuts (system_in t) t.forest.now.resource t.outbox.now
 
 -- An event may be taken at a port of an instance of the resource.
 pub record MayArrive (t : Taking) (at : Target) : Type 0 where
@@ -55,9 +54,9 @@ pub record MayTake (t : Taking) (e : Event) : Type 0 where
 
 -- ---- After
 
--- All that was put out belongs to the system.
+-- All that was put out belongs to the system, if what was put out before does.
 abbrev pub ArePutOut : Taking → Taking → Type 0
-ArePutOut old new = AreOuts (system_in old) new.forest.now.resource new.outbox.now
+ArePutOut old new = StillAreOuts old.system.now old.forest.now old.outbox.now new.forest.now new.outbox.now
 
 -- A step has the result that the model gives it.
 abbrev pub HasDone : (World → ℕ → Outcome) → Taking → Taking → Type 0

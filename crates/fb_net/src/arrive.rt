@@ -39,6 +39,7 @@ impl Taking<'_> {
         requires no_basic { (t : BasicType) → (system_in self.old).kind (path_at (system_in self.old) at.instance) ≢ Some (Basic t) }
         ensures taken { OnOk result (HasDone (sampling self.old.system.now self.old.key.now at) self.old self.new) }
         ensures ready { OnOk result (MayBegin self.new) }
+        ensures outs { OnOk result (ArePutOut self.old self.new) }
 
         // Also where memory runs out.
         ensures kept { IsKept self.old self.new }
@@ -62,6 +63,7 @@ impl Taking<'_> {
         requires indexes { AreIndexes (ports_in self.old at.instance).inputs (names_in (system_in self.old) at) indexes.now }
         ensures taken { OnOk result (HasDone (sampling self.old.system.now self.old.key.now at) self.old self.new) }
         ensures ready { OnOk result (MayBegin self.new) }
+        ensures outs { OnOk result (ArePutOut self.old self.new) }
 
         // Also where memory runs out.
         ensures kept { IsKept self.old self.new }
@@ -86,6 +88,7 @@ impl Taking<'_> {
         requires stands { AreIndexes (ports_in self.old at.instance).inputs (names_in (system_in self.old) at) (variable ∷ []) }
         ensures taken { OnOk result (HasDone (sampling self.old.system.now self.old.key.now at) self.old self.new) }
         ensures ready { OnOk result (MayBegin self.new) }
+        ensures outs { OnOk result (ArePutOut self.old self.new) }
 
         // Also where memory runs out.
         ensures kept { IsKept self.old self.new }

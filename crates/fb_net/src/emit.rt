@@ -94,10 +94,9 @@ pub fn send_out(
     requires resource { forest.now.resource < length (system_of system.now).resource_names }
     requires port { IsPort (system_of system.now) from }
     requires carried { All (IsCarried (system_of system.now)) (carried_by from.instance indexes.now values.now) }
-    requires outs { All (IsOut (system_of system.now) forest.now.resource) outs.old.items }
     ensures sent { OnOk result (map (out_of (system_of system.now)) outs.new.items ≡ map (out_of (system_of system.now)) outs.old.items
         ++ spread (system_of system.now) forest.now.resource (map (carried_of (system_of system.now)) (carried_by from.instance indexes.now values.now)) ((system_of system.now).targets (port_of (system_of system.now) from))) }
-    ensures outs { OnOk result (All (IsOut (system_of system.now) forest.now.resource) outs.new.items) }
+    ensures outs { OnOk result (All (IsOut (system_of system.now) forest.now.resource) outs.old.items → All (IsOut (system_of system.now) forest.now.resource) outs.new.items) }
 {
     let resource = forest.resource;
     let Some(reached) = system.reached(from, 0) else {
@@ -133,10 +132,9 @@ fn send_others(
     requires resource { resource < length (system_of system.now).resource_names }
     requires port { IsPort (system_of system.now) from }
     requires carried { All (IsCarried (system_of system.now)) (carried_by from.instance indexes.now values.now) }
-    requires outs { All (IsOut (system_of system.now) resource) outs.old.items }
     ensures sent { OnOk result (map (out_of (system_of system.now)) outs.new.items ≡ map (out_of (system_of system.now)) outs.old.items
         ++ spread (system_of system.now) resource (map (carried_of (system_of system.now)) (carried_by from.instance indexes.now values.now)) (others ((system_of system.now).targets (port_of (system_of system.now) from)))) }
-    ensures outs { OnOk result (All (IsOut (system_of system.now) resource) outs.new.items) }
+    ensures outs { OnOk result (All (IsOut (system_of system.now) resource) outs.old.items → All (IsOut (system_of system.now) resource) outs.new.items) }
 {
     let mut index = 0;
     while let Some(reached) = system.reached(from, index + 1) {
@@ -169,10 +167,9 @@ pub fn write_taken(
 ) -> Result<(), AllocError>
     requires port { IsPort (system_of system.now) at }
     requires line { BelongsTo (system_of system.now) (record { key = key.now; taken = true; instance = at.instance; event = at.event; values = values }) }
-    requires lines { All (BelongsTo (system_of system.now)) outbox.old.lines.items }
     ensures written { OnOk result (map (line_of (system_of system.now)) outbox.new.lines.items ≡ map (line_of (system_of system.now)) outbox.old.lines.items
         ++ line_of (system_of system.now) (record { key = key.now; taken = true; instance = at.instance; event = at.event; values = values }) ∷ []) }
-    ensures lines { OnOk result (All (BelongsTo (system_of system.now)) outbox.new.lines.items) }
+    ensures lines { OnOk result (All (BelongsTo (system_of system.now)) outbox.old.lines.items → All (BelongsTo (system_of system.now)) outbox.new.lines.items) }
     ensures outs { outbox.new.outs.items ≡ outbox.old.outs.items }
     ensures timer { outbox.new.timer ≡ outbox.old.timer }
 {

@@ -5,7 +5,7 @@ ghost use Rattle.fb_types.specs.Headline.{system_of};
 ghost use Rattle.fb_types.specs.Reactions.{World};
 ghost use Rattle.fb_types.specs.Simulation.{opening_state};
 ghost use Rattle.fb_types.specs.Takes.{world_of};
-ghost use Rattle.fb_net.specs.Outs.{AreOuts};
+ghost use Rattle.fb_net.specs.Outs.{StillAreOuts};
 ghost use Rattle.fb_net.specs.Worlds.{IsForest};
 ghost use Rattle.fb_laws.specs.Typed.{AreTyped, IsTypedEvent};
 ghost use Rattle.fb_net.specs.Events.{HasTaken, IsEventIn, Remembered, event_in, event_of, key_at};
@@ -120,9 +120,8 @@ impl Tree {
         requires early { tick ≤ 10 ^ 12 }
         requires belongs { (w : World) × IsForest system.now self.old w × AreTyped (system_of system.now) w }
         requires typed { IsTypedEvent (system_of system.now) (event_of system.now (event_in arrival)) }
-        requires outs { AreOuts (system_of system.now) self.old.resource outbox.old }
         ensures taken { HasTaken system.now (key_at tick self.old.resource arrival.entry) (event_in arrival.entry) self.old outbox.old meter.old.left result self.new meter.new.left outbox.new }
-        ensures outs { Remembered result (AreOuts (system_of system.now) self.new.resource outbox.new) }
+        ensures outs { Remembered result (StillAreOuts system.now self.old outbox.old self.new outbox.new) }
         ensures fewer { meter.new.left ≤ meter.old.left }
         ensures resource { self.new.resource ≡ self.old.resource }
 
@@ -154,9 +153,8 @@ impl Tree {
         requires early { tick ≤ 10 ^ 12 }
         requires belongs { (w : World) × IsForest system.now self.old w × AreTyped (system_of system.now) w }
         requires typed { IsTypedEvent (system_of system.now) (event_of system.now (event_in arrival)) }
-        requires outs { AreOuts (system_of system.now) self.old.resource outbox.old }
         ensures taken { HasTaken system.now (key_at tick self.old.resource arrival.entry) (event_in arrival.entry) self.old outbox.old meter.old.left result self.new meter.new.left outbox.new }
-        ensures outs { Remembered result (AreOuts (system_of system.now) self.new.resource outbox.new) }
+        ensures outs { Remembered result (StillAreOuts system.now self.old outbox.old self.new outbox.new) }
         ensures fewer { meter.new.left ≤ meter.old.left }
         ensures resource { self.new.resource ≡ self.old.resource }
 

@@ -215,7 +215,7 @@ fn call(name: &Name, arguments: &[Expr], frame: &Frame) -> Result<Value, Reason>
 }
 
 /// Whether a condition or a guard is true. A whole number, as no accepted text has there, counts as FALSE.
-#[inline(always)]
+#[inline(never)]
 pub fn holds(condition: &Expr, frame: &Frame) -> Result<bool, Reason>
     ensures { result ≡ truth_of (expr_of condition.now) (values_of frame.now) }
 {

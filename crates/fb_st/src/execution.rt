@@ -17,7 +17,7 @@ use fb_types::{Body, Branch, Choice, Expr, Reason, Reference, Stmt, Value};
 /// A run of the statements of an algorithm. RETURN gives `Returned`, which ends the algorithm as its last
 /// statement does. EXIT outside of loops, as no accepted text has it, gives `Left`. After a reason the frame
 /// holds what the statements before it left. A caller without an accepted text asks `knows` first.
-#[inline(always)]
+#[inline(never)]
 pub fn exec(body: &Body, frame: &mut Frame, meter: &mut Meter) -> Result<Flow, Reason>
     requires known { AllKnown (declared_in frame.old) (body_of body.now) }
     ensures run { RunsAll (types_in (declared_in frame.old)) (body_of body.now) (point frame.old meter.old) (end_of result) (point frame.new meter.new) }

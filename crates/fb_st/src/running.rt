@@ -100,7 +100,7 @@ pub(crate) fn is_true(condition: &TruthExpr, words: &[i64]) -> Result<bool, Reas
 }
 
 /// An assignment of a truth value, once its step is begun.
-#[inline(always)]
+#[inline(never)]
 #[tactic(auto, using(crate::proofs::Assigning::truth_slot_within))]
 fn assign_truth(
     slot: usize,
@@ -281,7 +281,7 @@ fn run(
 
 /// Runs the statements of the first condition that is true, or those of ELSE.
 #[cycle(running)]
-#[inline(always)]
+#[inline(never)]
 fn run_choice(
     choices: &[CompiledChoice],
     others: &[CompiledStmt],
@@ -307,7 +307,7 @@ fn run_choice(
 
 /// Runs the statements of the first label that fits, or those of ELSE.
 #[cycle(running)]
-#[inline(always)]
+#[inline(never)]
 fn run_branch(
     branches: &[CompiledBranch],
     others: &[CompiledStmt],

@@ -115,29 +115,10 @@ fn leaf(expr: &NumberExpr, words: &[i64]) -> Option<i64>
     }
 }
 
-/// The number of any expression. Mostly there is no call, even if the second operand of `+` or `-` is an operator.
-#[inline(always)]
-pub(crate) fn number(expr: &NumberExpr, words: &[i64]) -> Option<i64>
-    requires { fits_number (length words.now) (number_said expr.now) ≡ true }
-    ensures { IfSome result (λ z. number_at (number_said expr.now) words.now ≡ Ok z) }
-{
-    match expr {
-        NumberExpr::AddNested(i, right) => {
-            let y = operand(right.get(), words)?;
-            sum(word(words, *i), y)
-        }
-        NumberExpr::SubtractNested(i, right) => {
-            let y = operand(right.get(), words)?;
-            difference(word(words, *i), y)
-        }
-        _ => operand(expr, words),
-    }
-}
-
-/// The same as `number`, for an operand.
+/// The number of any expression. An operator between variables and numbers needs no call.
 #[cycle(short)]
 #[inline(always)]
-fn operand(expr: &NumberExpr, words: &[i64]) -> Option<i64>
+pub(crate) fn number(expr: &NumberExpr, words: &[i64]) -> Option<i64>
     requires { fits_number (length words.now) (number_said expr.now) ≡ true }
     ensures { IfSome result (λ z. number_at (number_said expr.now) words.now ≡ Ok z) }
 {
@@ -157,45 +138,45 @@ fn any_number(expr: &NumberExpr, words: &[i64]) -> Option<i64>
     match expr {
         NumberExpr::UnsignedSlot(i) => unsigned(word(words, *i)),
         NumberExpr::AddNested(i, right) => {
-            let y = operand(right.get(), words)?;
+            let y = number(right.get(), words)?;
             sum(word(words, *i), y)
         }
         NumberExpr::SubtractNested(i, right) => {
-            let y = operand(right.get(), words)?;
+            let y = number(right.get(), words)?;
             difference(word(words, *i), y)
         }
         NumberExpr::MultiplyNested(i, right) => {
-            let y = operand(right.get(), words)?;
+            let y = number(right.get(), words)?;
             product(word(words, *i), y)
         }
         NumberExpr::DivideNested(i, right) => {
-            let y = operand(right.get(), words)?;
+            let y = number(right.get(), words)?;
             quotient(word(words, *i), y)
         }
         NumberExpr::ModuloNested(i, right) => {
-            let y = operand(right.get(), words)?;
+            let y = number(right.get(), words)?;
             remainder(word(words, *i), y)
         }
         NumberExpr::Binary(operator, left, right) => {
-            let x = operand(left.get(), words)?;
-            let y = operand(right.get(), words)?;
+            let x = number(left.get(), words)?;
+            let y = number(right.get(), words)?;
             of_two(*operator, x, y)
         }
         NumberExpr::Lesser(left, right) => {
-            let x = operand(left.get(), words)?;
-            let y = operand(right.get(), words)?;
+            let x = number(left.get(), words)?;
+            let y = number(right.get(), words)?;
             Some(x.min(y))
         }
         NumberExpr::Greater(left, right) => {
-            let x = operand(left.get(), words)?;
-            let y = operand(right.get(), words)?;
+            let x = number(left.get(), words)?;
+            let y = number(right.get(), words)?;
             Some(x.max(y))
         }
         NumberExpr::Limited(least, inner, most) => {
-            let least = operand(least.get(), words)?;
-            let number = operand(inner.get(), words)?;
-            let most = operand(most.get(), words)?;
-            Some(number.max(least).min(most))
+            let least = number(least.get(), words)?;
+            let x = number(inner.get(), words)?;
+            let most = number(most.get(), words)?;
+            Some(x.max(least).min(most))
         }
         _ => None,
     }

@@ -1,9 +1,5 @@
 //! What is asked of the timers of a delay and of a cycle with the longest time, at the latest tick, which no trace shows.
 
-ghost use Rattle.std.specs.Prelude.{IsTrue};
-ghost use Rattle.fb_types.specs.Blocks.{ports_of_event_block};
-ghost use Rattle.fb_event.specs.Reactions.{FitTheirTypes};
-
 use fb_event::{EventState, expire, react};
 use fb_types::{Emission, Emits, EventKind, TimerAsk, Value, Values};
 use std::alloc::Global;
@@ -19,18 +15,6 @@ const LAST: TimerAsk = TimerAsk::At(9_223_373_036_854_775_807);
 
 const START: u32 = 0;
 
-/// Whether there is one value, which is of the type of the data input of a delay or of a cycle.
-fn fit(kind: EventKind, inputs: &[Value]) -> bool
-    ensures { IsTrue result → FitTheirTypes (ports_of_event_block kind).inputs inputs.now }
-{
-    match (kind, inputs) {
-        (EventKind::Delay | EventKind::Cycle, [Value::Whole(time)]) => {
-            i64::MIN as i128 <= *time && *time < 9_223_372_036_854_775_808
-        }
-        _ => false,
-    }
-}
-
 /// What is asked of the timer as the block takes an event with the longest time, and emits nothing.
 fn asked(
     rt: &impl Abort,
@@ -42,8 +26,6 @@ fn asked(
     let mut emits = Emits::new(alloc);
     let mut ask = TimerAsk::At(77);
     assert!(rt; tick <= LATEST);
-    let fit = fit(state.kind(), &LONGEST);
-    assert!(rt; fit);
     let reacted = react(state, event, tick, &LONGEST, &mut emits, &mut ask);
     assert!(rt; reacted.is_ok());
     assert!(rt; emits.is_empty());

@@ -1,19 +1,22 @@
 use Rattle.std.proofs.Common.{length}
 use Rattle.std.proofs.lemmas.Result.{on_ok_weaker}
+use Rattle.std.specs.Prelude.{All}
 use Rattle.fb_types.specs.Headline.{system_of}
 use Rattle.fb_types.specs.Numbers.{port_of}
+use Rattle.fb_net.specs.Outs.{IsOut}
 use Rattle.fb_net.proofs.Going.{last_gone, none_behind, none_gone, none_to_go, one_more_gone, others_gone}
 use Rattle.fb_net.proofs.emit.send_out.Goals as goal
 
-pub send_others-requires-clause-outs : goal.send_others-requires-clause-outs
-send_others-requires-clause-outs c =
+pub returns-clause-outs : goal.returns-clause-outs
+returns-clause-outs c =
     let put = c.in_ok-put_out.ensures in
     let sys = system_of c.args.system.now in
     let r = c.args.forest.now.resource in
     let outs = c.args.outs.now.items in
     let gone = one_more_gone sys r _ (sys.targets (port_of sys c.args.from)) outs 0 outs c.reached.result c.in-Some.reached put.0
-    (none_gone sys r _ _ outs c.requires.outs) c.reached.ensures.leads c.in-Some.is put.1 in
-    rw put.2 gone.belong
+    (none_gone sys r _ _ outs) c.reached.ensures.leads c.in-Some.is put.1 in
+    let first : All (IsOut sys r) outs → All (IsOut sys r) c.put_out.new.outs.items = rw put.2 gone.belong in
+    on_ok_weaker c.send_others.result (λ others were. others (first were)) c.send_others.ensures.outs
 
 pub returns-clause-sent : goal.returns-clause-sent
 returns-clause-sent c =
@@ -23,7 +26,7 @@ returns-clause-sent c =
     let outs = c.args.outs.now.items in
     let targets = sys.targets (port_of sys c.args.from) in
     let gone = one_more_gone sys r _ targets outs 0 outs c.reached.result c.in-Some.reached put.0
-    (none_gone sys r _ _ outs c.requires.outs) c.reached.ensures.leads c.in-Some.is put.1 in
+    (none_gone sys r _ _ outs) c.reached.ensures.leads c.in-Some.is put.1 in
     on_ok_weaker c.send_others.result (others_gone sys r _ targets outs c.put_out.new.outs.items c.send_others.new.outs.items (rw put.2 gone)) c.send_others.ensures.sent
 
 pub returns-in_default-clause-sent : goal.returns-in_default-clause-sent
@@ -40,7 +43,7 @@ returns-then-not-reached-clause-sent c =
     let outs = c.args.outs.now.items in
     let targets = sys.targets (port_of sys c.args.from) in
     let gone = one_more_gone sys r _ targets outs 0 outs c.reached.result c.in-Some.reached put.0
-    (none_gone sys r _ _ outs c.requires.outs) c.reached.ensures.leads c.in-Some.is put.1 in
+    (none_gone sys r _ _ outs) c.reached.ensures.leads c.in-Some.is put.1 in
     rw put.2 (last_gone sys r _ _ outs 1 _ gone (none_behind c.in-Some.reached.more 1 (length targets) c.in-Some.ensures.more c.if-not-reached.true))
 
 pub returns-then-not-reached-clause-outs : goal.returns-then-not-reached-clause-outs
@@ -50,5 +53,5 @@ returns-then-not-reached-clause-outs c =
     let r = c.args.forest.now.resource in
     let outs = c.args.outs.now.items in
     let gone = one_more_gone sys r _ (sys.targets (port_of sys c.args.from)) outs 0 outs c.reached.result c.in-Some.reached put.0
-    (none_gone sys r _ _ outs c.requires.outs) c.reached.ensures.leads c.in-Some.is put.1 in
+    (none_gone sys r _ _ outs) c.reached.ensures.leads c.in-Some.is put.1 in
     rw put.2 gone.belong

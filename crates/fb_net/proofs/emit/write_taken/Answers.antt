@@ -12,8 +12,8 @@ returns-clause-lines c =
     let old = c.args.outbox.now.lines.items in
     let line : Line = record { key = c.args.key.now; taken = true; instance = c.args.at.instance; event = c.args.at.event; values = c.args.values } in
     let belong : List Line → Type 0 = λ ls. All (BelongsTo (system_of c.args.system.now)) ls in
-    subst belong (sym (c.push_reserved.ensures.items ∙ ap (λ (ls : List Line). ls ++ line ∷ []) c.in_ok-reserve.ensures.items))
-    (All-push (BelongsTo (system_of c.args.system.now)) old line c.requires.lines c.requires.line)
+    λ were. subst belong (sym (c.push_reserved.ensures.items ∙ ap (λ (ls : List Line). ls ++ line ∷ []) c.in_ok-reserve.ensures.items))
+    (All-push (BelongsTo (system_of c.args.system.now)) old line were c.requires.line)
 
 pub returns-clause-written : goal.returns-clause-written
 returns-clause-written c =

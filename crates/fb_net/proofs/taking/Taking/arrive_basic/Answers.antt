@@ -1,9 +1,9 @@
 use Rattle.std.proofs.Common.{List, ◌∙◌, subst, sym}
 use Rattle.fb_types.specs.declared.value.Value.{Value}
-use Rattle.fb_types.specs.Headline.{system_of}
 use Rattle.fb_net.specs.Leaves.{ChartEnded}
-use Rattle.fb_net.specs.Outs.{AreOuts}
 use Rattle.fb_net.proofs.Charting.{chart-reacts}
+use Rattle.fb_net.specs.Outs.{StillAreOuts}
+use Rattle.fb_net.proofs.PutOut.{blocks-changed, remembered-always}
 use Rattle.fb_net.proofs.Wholes.{kept-same, kept-then, kept-world}
 use Rattle.fb_net.proofs.taking.Taking.arrive_basic.Goals as goal
 
@@ -44,8 +44,11 @@ write_and_emit-requires-clause-index c =
     record {
       port = index.port;
       here = index.here ∙ sym same;
-      ready = record {
-        resource = index.ready.resource ∙ sym same;
-        outs = subst (λ r. AreOuts (system_of c.args.self.now.system.now) r c.args.self.now.outbox.now) (sym same) index.ready.outs;
-      };
+      ready = record { resource = index.ready.resource ∙ sym same };
     }
+
+pub returns-clause-outs : goal.returns-clause-outs
+returns-clause-outs c =
+    remembered-always (StillAreOuts c.args.self.now.system.now c.args.self.now.forest.now c.args.self.now.outbox.now c.write_and_emit.new.self.forest.now c.write_and_emit.new.self.outbox.now) c.react_basic-end.result
+    (λ were. c.in_ok-write_and_emit.ensures.outs
+    (blocks-changed c.args.self.now.system.now c.args.self.now.forest.now c.react_basic-end.new.forest c.args.self.now.outbox.now c.react_basic-end.ensures.resource were))

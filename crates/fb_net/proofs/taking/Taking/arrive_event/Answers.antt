@@ -10,11 +10,12 @@ use Rattle.fb_system.specs.Ports.{IsPort}
 use Rattle.fb_net.specs.Worlds.{InForest, IsForest}
 use Rattle.fb_net.specs.Emitting.{EmitsSo}
 use Rattle.fb_net.specs.Leaves.{EventCame, HasTypedInputs, taken_reaction}
-use Rattle.fb_net.specs.Outs.{AreOuts, IsOut, asked}
+use Rattle.fb_net.specs.Outs.{asked}
 use Rattle.fb_net.specs.declared.outbox.Outbox.{Outbox}
-use Rattle.fb_net.specs.Steps.{AreKept, system_in}
+use Rattle.fb_net.specs.Steps.{AreKept}
 use Rattle.fb_net.proofs.Arriving.{event-reacts, event-typed, ports-of_event}
-use Rattle.fb_net.proofs.Same.{already, still}
+use Rattle.fb_net.proofs.PutOut.{timer-asked}
+use Rattle.fb_net.proofs.Same.{already, put-out-after, still}
 use Rattle.fb_net.proofs.Wholes.{kept-then, kept-world}
 use Rattle.fb_net.proofs.taking.Taking.arrive_event.Goals as goal
 
@@ -46,8 +47,6 @@ emit_all-requires-clause-index c =
       number = still (λ (i : Inputs) (k : Key). c.args.at.instance < length (system_of i).paths) a b c.take_samples.ensures.same c.requires.index.port.instance;
       here = still (λ (i : Inputs) (k : Key). InForest i g c.args.at.instance) a b c.take_samples.ensures.same (c.requires.index.here ∙ sym c.take_samples.ensures.kept.resource ∙ resource);
       resource = ready.resource ∙ resource;
-      outs = subst (λ (x : Outbox). AreOuts (system_in b) g.resource x) (sym c.ask_timer.ensures)
-          (record { lines = ready.outs.lines; outs = subst (λ r. All (IsOut (system_in b) r) b.outbox.now.outs.items) resource ready.outs.outs });
     }
 
 pub emit_all-requires-clause-emissions : goal.emit_all-requires-clause-emissions
@@ -76,8 +75,11 @@ returns-clause-reacted c =
 
 pub returns-clause-outs : goal.returns-clause-outs
 returns-clause-outs c =
+    let b = c.take_samples.new.self in
     let z = c.emit_all.new.self in
-    already (λ (i : Inputs) (k : Key). AreOuts (system_of i) z.forest.now.resource z.outbox.now) c.args.self.now c.take_samples.new.self c.take_samples.ensures.same c.in_ok-emit_all.ensures.outs
+    put-out-after c.args.self.now b z.forest.now z.outbox.now c.take_samples.ensures.same c.in_ok-take_samples.ensures.outs
+    (λ were. c.in_ok-emit_all.ensures.outs
+    (timer-asked b.system.now b.forest.now c.react_event.new.forest b.outbox.now _ _ c.react_event.ensures.resource c.ask_timer.ensures were))
 
 pub returns-clause-kept : goal.returns-clause-kept
 returns-clause-kept c =

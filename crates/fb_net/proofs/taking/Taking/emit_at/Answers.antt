@@ -38,7 +38,7 @@ returns-clause-emitted c =
       lines = c.push_reserved.ensures.items ∙ ap (λ (ls : List Line). ls ++ line_by c.args.self.now.key.now k e ∷ []) c.in_ok-reserve.ensures.items;
       timer = refl;
     } in
-    has_emitted i c.args.self.now.key.now k f x e g y done c.requires.index.number c.requires.index.here c.requires.index.resource c.args.self.now.named c.requires.emission c.requires.index.outs
+    has_emitted i c.args.self.now.key.now k f x e g y done c.requires.index.number c.requires.index.here c.requires.index.resource c.args.self.now.named c.requires.emission
 
 pub returns-in_err-send_out-clause-kept : goal.returns-in_err-send_out-clause-kept
 returns-in_err-send_out-clause-kept c = kept-changed c.args.self.now.system.now c.args.self.now.forest.now c.publish_all.new.forest c.args.instance _ c.publish_all.ensures c.requires.index.here

@@ -29,7 +29,7 @@ returns-clause-emitted c =
           ∙ ap (λ (ls : List Line). ls ++ line_by key k e ∷ []) c.in_ok-reserve.ensures.items;
       timer = refl;
     } in
-    has_emitted i key k f x e f y done c.requires.index.number c.requires.index.here c.requires.index.resource c.args.self.now.named c.requires.emission c.requires.index.outs
+    has_emitted i key k f x e f y done c.requires.index.number c.requires.index.here c.requires.index.resource c.args.self.now.named c.requires.emission
 
 pub returns-in_err-send_out-clause-kept : goal.returns-in_err-send_out-clause-kept
 returns-in_err-send_out-clause-kept c = kept-same c.args.self.now.system.now c.args.self.now.forest.now

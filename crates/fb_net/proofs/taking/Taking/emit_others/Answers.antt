@@ -15,7 +15,7 @@ pub loop-emission-init : goal.loop-emission-init
 loop-emission-init c = record {
   done = [];
   parts = refl;
-  emitted = nothing_emitted c.args.self.now.system.now c.args.self.now.key.now c.args.instance c.args.self.now.forest.now c.args.self.now.outbox.now c.requires.index.outs;
+  emitted = nothing_emitted c.args.self.now.system.now c.args.self.now.key.now c.args.instance c.args.self.now.forest.now c.args.self.now.outbox.now;
   kept = kept-same c.args.self.now.system.now c.args.self.now.forest.now;
   same = record { system = refl; key = refl; forest = refl; outbox = refl };
 }

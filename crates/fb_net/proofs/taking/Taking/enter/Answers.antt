@@ -4,9 +4,8 @@ use Rattle.fb_types.specs.Headline.{Inputs, system_of}
 use Rattle.fb_types.specs.declared.key.Key.{Key}
 use Rattle.fb_system.specs.Ports.{IsPort}
 use Rattle.fb_net.specs.Arrivals.{IsReady}
-use Rattle.fb_net.specs.Outs.{AreOuts}
 use Rattle.fb_net.proofs.Arriving.{enters, sent-of}
-use Rattle.fb_net.proofs.Same.{already, still}
+use Rattle.fb_net.proofs.Same.{already, put-out-after, still}
 use Rattle.fb_net.proofs.taking.Taking.enter.Goals as goal
 
 pub send_out-requires-clause-port : goal.send_out-requires-clause-port
@@ -18,7 +17,7 @@ returns-clause-entered c =
     let a = c.args.self.now in
     let b = c.take_samples.new.self in
     let same = c.take_samples.ensures.same in
-    let ready = already (λ (i : Inputs) (k : Key). IsReady i k b.forest.now b.outbox.now) a b same c.in_ok-take_samples.ensures.ready in
+    let ready = already (λ (i : Inputs) (k : Key). IsReady k b.forest.now) a b same c.in_ok-take_samples.ensures.ready in
     on_ok_weaker c.send_out.result
     (λ sent. enters a.system.now a.key.now c.args.at a.forest.now b.forest.now a.outbox.now b.outbox.now _
     c.in_ok-take_samples.ensures.taken ready refl refl (already (λ (i : Inputs) (k : Key). sent-of i b.forest.now.resource c.args.at b.outbox.now.outs.items c.send_out.new.outs.items) a b same sent))
@@ -28,5 +27,5 @@ pub returns-clause-outs : goal.returns-clause-outs
 returns-clause-outs c =
     let b = c.take_samples.new.self in
     on_ok_weaker c.send_out.result
-    (λ outs. already (λ (i : Inputs) (k : Key). AreOuts (system_of i) b.forest.now.resource (record b.outbox.now { outs = c.send_out.new.outs })) c.args.self.now b c.take_samples.ensures.same
-    (record { lines = c.in_ok-take_samples.ensures.ready.outs.lines; outs = outs })) c.send_out.ensures.outs
+    (λ outs. put-out-after c.args.self.now b b.forest.now (record b.outbox.now { outs = c.send_out.new.outs }) c.take_samples.ensures.same c.in_ok-take_samples.ensures.outs
+    (λ were. record { lines = were.lines; outs = outs were.outs })) c.send_out.ensures.outs

@@ -1,10 +1,8 @@
 use Rattle.std.proofs.Common.{◌∙◌, sym, subst}
 use Rattle.fb_net.specs.Emitting.{EmitsSo}
-use Rattle.fb_net.specs.Outs.{AreOuts, IsOut}
-use Rattle.fb_net.specs.Steps.{system_in}
 use Rattle.fb_net.specs.declared.outbox.Outbox.{Outbox}
-use Rattle.std.specs.Prelude.{All}
 use Rattle.fb_net.proofs.ByEvent.{timer-expires}
+use Rattle.fb_net.proofs.PutOut.{timer-asked}
 use Rattle.fb_net.proofs.Wholes.{kept-then, kept-world}
 use Rattle.fb_net.proofs.taking.Taking.expire.Goals as goal
 
@@ -21,16 +19,17 @@ returns-clause-expired c =
 
 pub emit_all-requires-clause-index : goal.emit_all-requires-clause-index
 emit_all-requires-clause-index c =
-    let a = c.args.self.now in
-    let g = c.expire_event.new.forest in
     let resource = sym c.expire_event.ensures.resource in
     record {
       number = c.requires.instance;
       here = c.requires.here ∙ resource;
       resource = c.requires.ready.resource ∙ resource;
-      outs = subst (λ (x : Outbox). AreOuts (system_in a) g.resource x) (sym c.ask_timer.ensures)
-          (record { lines = c.requires.ready.outs.lines; outs = subst (λ r. All (IsOut (system_in a) r) a.outbox.now.outs.items) resource c.requires.ready.outs.outs });
     }
+
+pub returns-clause-outs : goal.returns-clause-outs
+returns-clause-outs c =
+    λ were. c.in_ok-emit_all.ensures.outs
+    (timer-asked c.args.self.now.system.now c.args.self.now.forest.now c.expire_event.new.forest c.args.self.now.outbox.now _ _ c.expire_event.ensures.resource c.ask_timer.ensures were)
 
 pub returns-clause-kept : goal.returns-clause-kept
 returns-clause-kept c =

@@ -2,6 +2,8 @@ use Rattle.std.proofs.Common.{List, subst}
 use Rattle.fb_types.specs.declared.run.Carried.{Carried}
 use Rattle.fb_net.specs.Samples.{HoldsAll}
 use Rattle.fb_net.proofs.ByEvent.{arrival-taken, arrival-typed}
+use Rattle.fb_net.specs.Outs.{StillAreOuts}
+use Rattle.fb_net.proofs.PutOut.{blocks-changed, remembered-then}
 use Rattle.fb_net.proofs.Wholes.{kept-held, kept-then}
 use Rattle.fb_net.proofs.taking.Taking.take_message.Goals as goal
 
@@ -21,7 +23,10 @@ returns-clause-taken c =
       taken =
           arrival-taken i c.args.self.now.key.now c.args.message.now f mid holds done.new.self.forest.now c.args.self.now.outbox.now done.new.self.outbox.now
           c.args.meter.now.left done.new.meter.left done.result done.ensures.reacted;
-      outs = done.ensures.outs;
+      outs =
+          remembered-then (StillAreOuts i mid c.args.self.now.outbox.now done.new.self.forest.now done.new.self.outbox.now)
+          (StillAreOuts i f c.args.self.now.outbox.now done.new.self.forest.now done.new.self.outbox.now) done.result
+          (λ outs were. outs (blocks-changed i f mid c.args.self.now.outbox.now (kept-held i f mid _ c.hold_carried.ensures).resource were)) done.ensures.outs;
       fewer = done.ensures.fewer;
       kept = kept-then i f mid done.new.self.forest.now (kept-held i f mid _ c.hold_carried.ensures) done.ensures.kept;
     }

@@ -1,9 +1,10 @@
-use Rattle.std.proofs.Common.{length, sym, ap, ◌∙◌}
+use Rattle.std.proofs.Common.{length, refl, sym, ap, ◌∙◌}
 use Rattle.std.proofs.lemmas.Bool.{eqb-true}
 use Rattle.std.proofs.lemmas.Result.{on_ok_weaker}
 use Rattle.fb_types.specs.Headline.{system_of}
 use Rattle.fb_net.specs.Samples.{names_in}
 use Rattle.fb_net.proofs.Changing.{samples_none}
+use Rattle.fb_net.proofs.PutOut.{lines-put}
 use Rattle.fb_net.proofs.Sampling.{none-sampled, sampling-stands}
 use Rattle.fb_net.proofs.Wholes.{kept-same}
 use Rattle.fb_net.proofs.taking.Taking.take_samples.Goals as goal
@@ -27,5 +28,8 @@ returns-then-is_empty-clause-kept c =
 pub write_taken-requires-clause-port : goal.write_taken-requires-clause-port
 write_taken-requires-clause-port c = c.requires.index.port
 
-pub write_taken-requires-clause-lines : goal.write_taken-requires-clause-lines
-write_taken-requires-clause-lines c = c.requires.index.ready.outs.lines
+pub returns-then-is_empty-clause-outs : goal.returns-then-is_empty-clause-outs
+returns-then-is_empty-clause-outs c =
+    let f = c.args.self.now.forest.now in
+    on_ok_weaker c.write_taken.result
+    (lines-put c.args.self.now.system.now f f c.args.self.now.outbox.now c.write_taken.new.outbox refl c.write_taken.ensures.outs) c.write_taken.ensures.lines

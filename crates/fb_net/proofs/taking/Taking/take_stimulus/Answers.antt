@@ -1,4 +1,6 @@
 use Rattle.fb_net.proofs.ByEvent.{stimulus-kept, stimulus-taken, stimulus-typed}
+use Rattle.fb_net.specs.Outs.{StillAreOuts}
+use Rattle.fb_net.proofs.PutOut.{blocks-changed, remembered-then}
 use Rattle.fb_net.proofs.Wholes.{kept-then}
 use Rattle.fb_net.proofs.taking.Taking.take_stimulus.Goals as goal
 
@@ -18,7 +20,10 @@ returns-clause-taken c =
       taken =
           stimulus-taken i c.args.self.now.key.now c.args.row row.result row.ensures f mid c.set_slots.ensures c.requires.event.here done.new.self.forest.now
           c.args.self.now.outbox.now done.new.self.outbox.now c.args.meter.now.left done.new.meter.left done.result done.ensures.reacted;
-      outs = done.ensures.outs;
+      outs =
+          remembered-then (StillAreOuts i mid c.args.self.now.outbox.now done.new.self.forest.now done.new.self.outbox.now)
+          (StillAreOuts i f c.args.self.now.outbox.now done.new.self.forest.now done.new.self.outbox.now) done.result
+          (λ outs were. outs (blocks-changed i f mid c.args.self.now.outbox.now (stimulus-kept i c.args.self.now.key.now c.args.row row.result row.ensures f mid c.set_slots.ensures c.requires.event.here).resource were)) done.ensures.outs;
       fewer = done.ensures.fewer;
       kept = kept-then i f mid done.new.self.forest.now (stimulus-kept i c.args.self.now.key.now c.args.row row.result row.ensures f mid c.set_slots.ensures c.requires.event.here) done.ensures.kept;
     }

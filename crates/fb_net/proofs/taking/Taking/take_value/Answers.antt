@@ -8,6 +8,7 @@ use Rattle.fb_system.specs.Stands.{variable_at}
 use Rattle.fb_net.specs.Samples.{all_sampled, names_in}
 use Rattle.fb_net.specs.Changes.{Changes}
 use Rattle.fb_net.proofs.Changing.{changes_as}
+use Rattle.fb_net.proofs.PutOut.{lines-put}
 use Rattle.fb_net.proofs.Sampling.{one-sampled, sampling-stands}
 use Rattle.fb_net.proofs.Wholes.{kept-changed}
 use Rattle.fb_net.proofs.taking.Taking.take_value.Goals as goal
@@ -56,3 +57,9 @@ returns-in_err-values-clause-kept c =
 pub returns-clause-kept : goal.returns-clause-kept
 returns-clause-kept c =
     kept-changed c.args.self.now.system.now c.args.self.now.forest.now c.set_input.new.self c.args.at.instance _ c.set_input.ensures c.requires.index.here
+
+pub returns-clause-outs : goal.returns-clause-outs
+returns-clause-outs c =
+    on_ok_weaker c.write_taken.result
+    (lines-put c.args.self.now.system.now c.args.self.now.forest.now c.set_input.new.self c.args.self.now.outbox.now c.write_taken.new.outbox c.set_input.ensures.resource c.write_taken.ensures.outs)
+    c.write_taken.ensures.lines

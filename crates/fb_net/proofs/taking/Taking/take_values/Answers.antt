@@ -4,6 +4,7 @@ use Rattle.fb_types.specs.Headline.{system_of}
 use Rattle.fb_types.specs.declared.value.Value.{Value}
 use Rattle.fb_net.specs.Samples.{all_sampled, names_in}
 use Rattle.fb_net.specs.Changes.{Changes}
+use Rattle.fb_net.proofs.PutOut.{lines-put}
 use Rattle.fb_net.proofs.Sampling.{one_index, sampling-stands}
 use Rattle.fb_net.proofs.Wholes.{kept-changed, kept-same}
 use Rattle.fb_net.proofs.taking.Taking.take_values.Goals as goal
@@ -30,3 +31,9 @@ returns-in_err-values-clause-kept c =
 pub returns-clause-kept : goal.returns-clause-kept
 returns-clause-kept c =
     kept-changed c.args.self.now.system.now c.args.self.now.forest.now c.keep_samples.new.forest c.args.at.instance _ c.keep_samples.ensures c.requires.index.here
+
+pub returns-clause-outs : goal.returns-clause-outs
+returns-clause-outs c =
+    on_ok_weaker c.write_taken.result
+    (lines-put c.args.self.now.system.now c.args.self.now.forest.now c.keep_samples.new.forest c.args.self.now.outbox.now c.write_taken.new.outbox c.keep_samples.ensures.resource c.write_taken.ensures.outs)
+    c.write_taken.ensures.lines

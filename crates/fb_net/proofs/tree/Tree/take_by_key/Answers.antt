@@ -1,6 +1,9 @@
-use Rattle.std.proofs.Common.{arith, rules, subst, sym}
+use Rattle.std.proofs.Common.{◌≡◌, arith, rules, subst, sym}
 use Rattle.std.proofs.lemmas.Grind.{common_steps}
+use Rattle.fb_net.specs.Events.{Remembered}
+use Rattle.fb_net.specs.Outs.{StillAreOuts}
 use Rattle.fb_net.specs.Worlds.{IsForest}
+use Rattle.fb_net.specs.declared.outbox.Outbox.{Outbox}
 use Rattle.fb_net.specs.declared.resource.Forest.{Forest}
 use Rattle.fb_net.proofs.tree.Tree.take_by_key.Goals as goal
 
@@ -14,3 +17,10 @@ pub returns-clause-whole : goal.returns-clause-whole
 returns-clause-whole c =
     let w = c.requires.belongs.0 in
     c.take_event.ensures.taken.kept.whole w (subst (λ (f : Forest). IsForest c.args.system.now f w) (sym c.self.view_is) c.requires.belongs.1)
+
+pub returns-clause-outs : goal.returns-clause-outs
+returns-clause-outs c =
+    let e : c.take_event.new.self.outbox.now ≡ c.outbox-1.given.0 = search rules in
+    subst (λ (x : Outbox). Remembered c.take_event.result (StillAreOuts c.args.system.now c.args.self.now c.args.outbox.now c.take_event.new.self.forest.now x)) e
+    (subst (λ (f : Forest). Remembered c.take_event.result (StillAreOuts c.args.system.now f c.args.outbox.now c.take_event.new.self.forest.now c.take_event.new.self.outbox.now))
+    c.self.view_is c.take_event.ensures.taken.outs)
