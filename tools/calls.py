@@ -166,6 +166,52 @@ FILES |= {
     "falling_trace": b"3 MAIN < C.EO\n2 MAIN < C.EO\nend 8\n",
     "longer_trace": b"0 MAIN < S.COLD\nend 8\nend 9\n",
 }
+# A lamp's type, in a file of its own that no line feed ends, an application of it, and what that writes: the lamp goes on and off
+# again by itself.
+LAMP = b"""FUNCTION_BLOCK LAMP
+EVENT_INPUT GO; END_EVENT EVENT_OUTPUT DONE; END_EVENT
+EC_STATES OFF; ON : -> DONE; END_STATES
+EC_TRANSITIONS OFF TO ON := GO; ON TO OFF := 1; END_TRANSITIONS
+END_FUNCTION_BLOCK"""
+LIT = b"""APPLICATION A FBS S : E_RESTART; L : LAMP; END_FBS
+EVENT_CONNECTIONS S.COLD TO L.GO; END_CONNECTIONS END_APPLICATION
+"""
+LIT_TO_1 = b"0 MAIN < S.COLD\n0 MAIN > L.GO\n0 MAIN < L.DONE\nend 1\n"
+MARK = b"\xef\xbb\xbf"
+# A composite of two lamps, which needs the other file, and an application of it.
+PAIR = b"""FUNCTION_BLOCK PAIR
+EVENT_INPUT GO; END_EVENT
+FBS X : LAMP; Y : LAMP; END_FBS
+EVENT_CONNECTIONS GO TO X.GO; X.DONE TO Y.GO; END_CONNECTIONS
+END_FUNCTION_BLOCK
+"""
+LIT_PAIR = b"APPLICATION A FBS S : E_RESTART; P : PAIR; END_FBS EVENT_CONNECTIONS S.COLD TO P.GO; END_CONNECTIONS END_APPLICATION\n"
+LIT_PAIR_TO_1 = (
+    b"0 MAIN < S.COLD\n0 MAIN > P.GO\n0 MAIN > P.X.GO\n0 MAIN < P.X.DONE\n0 MAIN > P.Y.GO\n0 MAIN < P.Y.DONE\nend 1\n"
+)
+HALF = MOST_OF_A_TEXT // 2
+FILES |= {
+    "lamp": LAMP,
+    "lit": LIT,
+    "pair": PAIR,
+    "lit_pair": LIT_PAIR,
+    "marked_lamp": MARK + LAMP,
+    "marked_pair": MARK + PAIR,
+    "marked_lit": MARK + LIT,
+    "twice_marked_lit": MARK + MARK + LIT,
+    "noted_lamp": LAMP + b" // the end",
+    "open_lamp": LAMP + b" (* the end",
+    "closing_lit": b"*) " + LIT,
+    "half_a_lamp": LAMP[: LAMP.index(b"EC_STATES")],
+    "rest_of_a_lamp": LAMP[LAMP.index(b"EC_STATES") :],
+    "no_name": b"(* a type *)\nFUNCTION_BLOCK ;\n",
+    "strange_byte": b"\n\n  \xff",
+    "cut_lit": LIT[: LIT.index(b" S.COLD")],
+    "half": b" " * HALF,
+    "open_half": b" " * (HALF - 2) + b"(*",
+    "rest": CYCLE.rjust(HALF - 1),
+    "more_than_the_rest": CYCLE.ljust(HALF),
+}
 RULE = b'[[rule]]\nname = "the cycle answers"\nafter = "MAIN > C.START"\nwithin = %d\nsee = "MAIN < C.EO"\n'
 FILES |= {"rules": RULE % 3, "broken_rules": RULE % 2, "negative_rules": RULE % -1, "no_pattern": RULE.replace(b"MAIN > ", b"> ") % 3}
 FILES["many_rules"] = FILES["rules"] * 1001
@@ -183,7 +229,7 @@ PIPES = {"trace_pipe": LONG_TRACE, "pipe": CYCLE, "cut_pipe": CYCLE[:40], "empty
 
 # Parts of the help of `run` and `check`: each argument's name and words of its sentence, with the range, and an example.
 HELP_OF_FILES = (
-    "DECL", "declaration of the types", "--deploy", "in TOML", "at most 1 MiB", "--stim", "in CSV", "at most 16 MiB", "--why", "location of a refusal",
+    "DECL", "declaration of the types", "--types", "once for each file", "--deploy", "in TOML", "at most 1 MiB", "--stim", "in CSV", "at most 16 MiB", "--why", "location of a refusal",
 )
 HELP_OF_RUN = (
     *HELP_OF_FILES, "--horizon", "in milliseconds, at which the run ends, 1 to 1000000000000", "--steps", "number of steps", "1 to 10000000",
@@ -192,14 +238,14 @@ HELP_OF_RUN = (
 )
 HELP_OF_CHECK = (*HELP_OF_FILES, "Example: fbsim check ")
 HELP_OF_WAVE = (
-    "DECL", "declaration of the types", "TRACE", "file with the trace", "--deploy", "in TOML", "at most 1 MiB", "--cut", "cut off", "--why", "Prints the location", "Example: fbsim wave ",
+    "DECL", "declaration of the types", "TRACE", "file with the trace", "--types", "--deploy", "in TOML", "at most 1 MiB", "--cut", "cut off", "--why", "Prints the location", "Example: fbsim wave ",
 )
 HELP_OF_EXPECT = (
-    "RULES", "in TOML", "1000 rules", "TRACE", "--decl", "all names of the rules", "--deploy", "--strict", "undecided as broken", "--cut", "without a last line",
+    "RULES", "in TOML", "1000 rules", "TRACE", "--decl", "all names of the rules", "--types", "--deploy", "--strict", "undecided as broken", "--cut", "without a last line",
     "Example: fbsim expect ",
 )
 HELP_OF_DIFF = ("first trace", "second trace", "Example: fbsim diff ")
-HELP_OF_DRAW = ("DECL", "declaration of the types", "--deploy", "in TOML", "--type", "type to draw", "network of a composite", "Example: fbsim draw ")
+HELP_OF_DRAW = ("DECL", "declaration of the types", "--types", "once for each file", "--deploy", "in TOML", "--type", "type to draw", "network of a composite", "Example: fbsim draw ")
 HELP_OF_EXPLAIN = ("NAME", "name of the refusal", "E01 to E45", "steps, divide or range", "Example: fbsim explain E21")
 HELP_OF_ALL = (
     "run", "writes its trace", "check", "the first fault", "wave", "value change dump", "expect", "Checks rules", "diff", "the same bytes", "draw", "graphviz", "explain",
@@ -447,6 +493,10 @@ FAULTS = [
     ["explain"],
     ["explain", "E21", "E22"],
     ["explain", "E21", "--why"],
+    ["explain", "E21", "--types", "lamp"],
+    ["diff", "trace", "trace", "--types", "lamp"],
+    ["check", "lit", "--types"],
+    ["check", "--types", "lamp"],
     ["wave"],
     ["wave", "cycle"],
     ["wave", "--deploy", "cycle", "cycle"],
@@ -478,6 +528,77 @@ def of(words, *ending, **how):
     """A call with these arguments, which are separated by blanks."""
     return Call(words.split(), *ending, **how)
 
+
+# Declarations in several files: block types in files of their own, which are read before the declaration, in their order.
+CALLS += [
+    *(Call(["run", "--types", "lamp", "lit", "--horizon", "1", *way], 0, out=LIT_TO_1) for way in WAYS),
+    of("run lit --horizon 1 --types lamp", 0, out=LIT_TO_1),
+    of("run lit --horizon 1 --types=lamp", 0, out=LIT_TO_1),
+    of("run lit_pair --types lamp --types pair --horizon 1", 0, out=LIT_PAIR_TO_1),
+    of("run lit_pair --types pair --types lamp --horizon 1", 0, out=LIT_PAIR_TO_1),
+    of("run lit --types half_a_lamp --types rest_of_a_lamp --horizon 1", 0, out=LIT_TO_1),
+    of("run cycle --types lamp --horizon 8", 0, out=TO_8),
+    of("check lit --types lamp", 0, out=b"accepted\n"),
+    of("check lit --types lamp --why", 0, out=b"accepted\n"),
+    of("wave lit --types lamp no_trace", 2, err=b"refused trace line 1\n"),
+    of("draw lit --types lamp --type lamp", 0, out=None, has=('digraph "LAMP" {', '"OFF" -> "ON"')),
+    of("expect rules trace --decl cycle --types lamp", 0, out=REPORT),
+    of("expect rules trace --decl lit --types lamp", 2, err=b"refused E45\n"),
+    # Without the type there is no application, and a type that comes twice is one given twice.
+    of("check lit", 2, err=b"refused E21\n"),
+    of("check lit --types pair", 2, err=b"refused E21\n"),
+    of("check lit --types lamp --types lamp", 2, err=b"refused E20\n"),
+    of("check lit --types lamp --types lamp --why", 2, err=b"refused E20\nblock type LAMP is given twice\n"),
+    # A byte order mark at the beginning of each file; a second one is no blank.
+    of("run lit_pair --types marked_lamp --types marked_pair --horizon 1", 0, out=LIT_PAIR_TO_1),
+    of("run marked_lit --types lamp --horizon 1", 0, out=LIT_TO_1),
+    of("check twice_marked_lit --types lamp --why", 2, err=b"refused E01\ntwice_marked_lit:1:1: byte 239 is allowed only in comments\n"),
+    # A comment ends with its file: one that `//` begins is over, and one that `(*` begins is refused, whatever comes next.
+    of("run lit --types noted_lamp --horizon 1", 0, out=LIT_TO_1),
+    of("check lit --types open_lamp", 2, err=b"refused E02\n"),
+    of("check closing_lit --types open_lamp", 2, err=b"refused E02\n"),
+    of("check closing_lit --types open_lamp --why", 2, err=b"refused E02\nopen_lamp:5:20: the comment that begins here is not closed\n"),
+    of("check closing_lit --types pair --types open_lamp --why", 2, err=b"refused E02\nopen_lamp:5:20: the comment that begins here is not closed\n"),
+    of("check nowhere --types open_lamp", 3, err=b"file fault\n"),
+    # Refusals have the name of the file and the line in it.
+    of("check lit --types no_name", 2, err=b"refused E03 no_name line 2\n"),
+    of("check lit --types lamp --types no_name", 2, err=b"refused E03 no_name line 2\n"),
+    of("check lit --types no_name --types lamp --why", 2, err=b"refused E03 no_name line 2\nno_name:2:16: found ;, expected name\n"),
+    of("check lit --types lamp --types no_name --why", 2, err=b"refused E03 no_name line 2\nno_name:2:16: found ;, expected name\n"),
+    of("run lit --types lamp --types no_name --horizon 1", 2, err=b"refused E03 no_name line 2\n"),
+    of("wave lit --types lamp --types no_name trace", 2, err=b"refused E03 no_name line 2\n"),
+    of("wave lit --types lamp --types no_name trace --why", 2, err=b"refused E03 no_name line 2\nno_name:2:16: found ;, expected name\n"),
+    of("draw lit --types lamp --types no_name", 2, err=b"refused E03 no_name line 2\n"),
+    of("expect rules trace --decl lit --types lamp --types no_name", 2, err=b"refused E03 no_name line 2\n"),
+    of("expect rules trace --decl lit --types lamp --types no_name --why", 2, err=b"refused E03 no_name line 2\nno_name:2:16: found ;, expected name\n"),
+    of("check cut_lit --types lamp", 2, err=b"refused E03 cut_lit line 2\n"),
+    of("check cut_lit --types lamp --why", 2, err=b"refused E03 cut_lit line 2\ncut_lit:2:18: found the end of the text, expected one of name END_CONNECTIONS\n"),
+    of("check - --types lamp", 2, err=b"refused E03 - line 2\n", given=FILES["cut_lit"]),
+    of("check lit --types half_a_lamp", 2, err=b"refused E03 lit line 1\n"),
+    of("check lit --types lamp --types strange_byte", 2, err=b"refused E01\n"),
+    of("check lit --types lamp --types strange_byte --why", 2, err=b"refused E01\nstrange_byte:3:3: byte 255 is allowed only in comments\n"),
+    # All texts together, with the line feeds between them, have at most 1,048,576 bytes. That comes before a comment that is open.
+    of("run rest --types half --horizon 8", 0, out=TO_8),
+    of("check more_than_the_rest --types half", 2, err=b"refused E04\n"),
+    of("check more_than_the_rest --types half --why", 2, err=b"refused E04\nmore_than_the_rest:3:%d: a text has at most 1048576 bytes\n" % (HALF - len(CYCLE))),
+    of("check rest --types open_half", 2, err=b"refused E02\n"),
+    of("check more_than_the_rest --types open_half", 2, err=b"refused E04\n"),
+    of("check cycle --types far_too_long", 2, err=b"refused E04\n"),
+    # Standard input is one of all files, and files are read in their order.
+    of("run lit --types - --horizon 1", 0, out=LIT_TO_1, given=LAMP),
+    of("run - --types lamp --horizon 1", 0, out=LIT_TO_1, given=LIT),
+    of("check - --types - --why", 3, err=b"file fault\ndeclaration -: standard input can't be read, or was read before\n", given=LAMP),
+    of("check lit --types - --types - --why", 3, err=b"file fault\ntypes -: standard input can't be read, or was read before\n", given=LAMP),
+    of("check nowhere --types lamp --types gone --why", 3, err=b"file fault\ntypes gone: no file of this name can be read\n"),
+    of("check nowhere --types lamp --why", 3, err=b"file fault\ndeclaration nowhere: no file of this name can be read\n"),
+    of("check nowhere --types no_name", 3, err=b"file fault\n"),
+    of("wave lit --types gone trace", 3, err=b"file fault\n"),
+    of("wave lit --types gone trace --why", 3, err=b"file fault\ntypes gone: no file of this name can be read\n"),
+    of("draw lit --types gone", 3, err=b"file fault\n"),
+    of("expect rules trace --decl lit --types gone --why", 3, err=b"file fault\ntypes gone: no file of this name can be read\n"),
+    # Block types are those of a declaration.
+    of("expect rules trace --types lamp", 5, err=b"error: the words name no call\n"),
+]
 
 # The same calls with other arguments, the files that are read, and the fault that is reported first if there are several.
 CALLS += [

@@ -10,11 +10,13 @@ one. A group has
 - `name`: what its cases show
 - `command`: `check` (the default), `run`, `wave`, `draw`, `expect` or `diff`
 - `declaration`, `deployment`, `stimuli` and `trace`: the texts that the program reads; the last three are optional
+- `block_types` and `more_block_types`: block types in files of their own, which are read before the declaration, in this order; both are optional
 - `options`: further words
 - `rules` and `trace` of `expect`, with a `declaration` and a `deployment` if its names must be known; `first` and `second` of `diff`
 - `horizon`, `steps` and `form`: the numbers of a `run`; the other commands have none
 - `answer`: `accepted`, `same`, a refusal as the program prints it (`E20`, `E03 line 4`, `trace line 3`), or a trace, a dump, a report
-  or a difference, to the byte. The text that the program gets on standard input is called `-`, the first one of `diff` `FIRST`
+  or a difference, to the byte. The text that the program gets on standard input is called `-`, the first one of `diff` `FIRST`, `block_types` and `more_block_types`
+  `TYPES` and `MORE`
 - `why`: the line after the refusal, for `--why`
 - `rows`: one case each; a group without rows is one case. A row is the list of its values by `columns`, by default `text` and
   `answer`. A row that is only a text has that as its first value, and no others. A column with the name of a field above is that field
@@ -55,12 +57,13 @@ WAYS = {
 }
 # The text of a case that is given on standard input, and the others with the words before each.
 INPUT = {"expect": "trace", "diff": "second"}
-FILES = {"deployment": ["--deploy"], "stimuli": ["--stim"], "trace": []}
+FILES = {"block_types": ["--types"], "more_block_types": ["--types"], "deployment": ["--deploy"], "stimuli": ["--stim"], "trace": []}
 FILES_OF = {"expect": {"rules": [], "declaration": ["--decl"], "deployment": ["--deploy"]}, "diff": {"first": []}}
+CALLED = {"block_types": b"TYPES", "more_block_types": b"MORE"}
 NUMBERS = {"horizon": "--horizon", "steps": "--steps", "form": "--trace"}
 FIELDS = {"declaration", "answer", "why", "rules", "options", "first", "second", *FILES, *NUMBERS}
 OF_GROUP = {"name", "command", "rows", "columns", "within", "text", "bytes", *FIELDS}
-REFUSAL = re.compile(r"E[0-4][0-9]|E03 line [1-9][0-9]*|trace (- )?line [1-9][0-9]*")
+REFUSAL = re.compile(r"E[0-4][0-9]|E03 ((TYPES|MORE|-) )?line [1-9][0-9]*|trace (- )?line [1-9][0-9]*")
 NAMED = re.compile(r"\$\{(\w+)\}")
 
 
@@ -182,7 +185,11 @@ def fault_of(room, case):
     for way in WAYS[case.command]:
         ran = room.call([*words, *way], case.fields[INPUT.get(case.command, "declaration")])
         written = ran.stdout.replace(words[1].encode(), b"FIRST") if case.command == "diff" else ran.stdout
-        came = (ran.returncode, written, ran.stderr)
+        errors = ran.stderr
+        for field, name in CALLED.items():
+            if field in case.fields:
+                errors = errors.replace(kept_text(room, case.fields[field]).encode(), name)
+        came = (ran.returncode, written, errors)
         if came != is_to_be:
             return f"{case.place}, {' '.join([case.command, *way])}: expected {shown(*is_to_be)}; got {shown(*came)}"
     return None

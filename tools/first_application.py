@@ -63,6 +63,12 @@ class Reader:
         with open(f"{self.room.folder}/{name}", "w") as it:
             it.writelines(line + "\n" for line in lines)
 
+    def named(self, text, words):
+        """Returns a text with the names of files as the page has them."""
+        for word in sorted({it for it in words if it.startswith(FOLDER)}):
+            text = text.replace(word.removeprefix(FOLDER), word)
+        return text
+
     def does(self, command):
         """Returns the lines that a command prints."""
         if command == "echo $?":
@@ -77,7 +83,7 @@ class Reader:
         if file:
             self.write(file.removeprefix(FOLDER), ran.stdout.decode().splitlines())
             return ran.stderr.decode().splitlines()
-        lines = (ran.stdout + ran.stderr).decode().splitlines()
+        lines = (ran.stdout.decode() + self.named(ran.stderr.decode(), words)).splitlines()
         if not cut:
             return lines
         # The status of a pipe is that of its last command.

@@ -80,7 +80,7 @@ def texts_beside(room):
         faults.append("docs/HELP.md: the program prints another help: tools/launcher.py --write")
     told = unbuilt.explanations()
     faults += [f"explain {it}: the program prints another text than tools/unbuilt.py" for it in EXPLAINED if printed(room, ["explain", it]) != told.get(it)]
-    wanted = {("fbsim", "wa"): ["wave"], ("fbsim", "run", "--se"): ["--serial"], ("fbsim", "explain", "E3"): ["E30"], ("fbsim", "expect", "--st"): ["--strict"], ("fbsim", "draw", "--t"): ["--type"], ("fbsim", "check", "cas"): ["cases"]}
+    wanted = {("fbsim", "wa"): ["wave"], ("fbsim", "run", "--se"): ["--serial"], ("fbsim", "explain", "E3"): ["E30"], ("fbsim", "expect", "--st"): ["--strict"], ("fbsim", "draw", "--t"): ["--types", "--type"], ("fbsim", "check", "cas"): ["cases"]}
     faults += [f"bash completes {words} to {completed(*words)}" for words, to in wanted.items() if completed(*words) != to]
     return faults
 

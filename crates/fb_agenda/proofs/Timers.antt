@@ -30,14 +30,14 @@ timer_class r i j h =
 -- if each timer that waits has its tick in `due`, removing that one removes them all
 pub cleared : (c : Contents) (r i due : ℕ) → due ≡ slice_index c.due i → IsTimed c → (j : Key)
     → cond (same_key (timer_key due r i) j) None (waiting c j) ≡ cond (is_timer_of r i j) None (waiting c j)
-cleared c r i due noted timed j = go (is_timer_of r i j) refl (same_key (timer_key due r i) j) refl (waiting c j) refl
+cleared c r i due set_due timed j = go (is_timer_of r i j) refl (same_key (timer_key due r i) j) refl (waiting c j) refl
   where
     go : (t : Bool) → is_timer_of r i j ≡ t → (s : Bool) → same_key (timer_key due r i) j ≡ s → (o : Option Event) → waiting c j ≡ o → cond s None o ≡ cond t None o
     go true is true same o e = refl
     go true is false same None e = refl
     go true is false same (Some x) e =
         let found : same_key (timer_key (slice_index c.due i) r i) j ≡ true = timed j r i x e is in
-        let again : same_key (timer_key due r i) j ≡ true = subst (λ (d : ℕ). same_key (timer_key d r i) j ≡ true) (sym noted) found in
+        let again : same_key (timer_key due r i) j ≡ true = subst (λ (d : ℕ). same_key (timer_key d r i) j ≡ true) (sym set_due) found in
         absurd cc
     go false is true same o e =
         let one : timer_key due r i ≡ j = same_key_is (timer_key due r i) j same in
@@ -64,14 +64,14 @@ pub timed_after : (old : Contents) (mid : Key → Option Event) (new : Contents)
     → ((j : Key) → waiting new j ≡ cond (same_key (timer_key tick r i) j) (Some (Timer i)) (mid j))
     → new.due ≡ slice_set old.due i tick
     → IsTimed new
-timed_after old mid new r i tick timed home within left put noted j s n e found is = go (same_key (timer_key tick r i) j) refl
+timed_after old mid new r i tick timed home within left put set_due j s n e found is = go (same_key (timer_key tick r i) j) refl
   where
     go : (b : Bool) → same_key (timer_key tick r i) j ≡ b → same_key (timer_key (slice_index new.due n) s n) j ≡ true
     go true same =
         let one : timer_key tick r i ≡ j = same_key_is (timer_key tick r i) j same in
         let a : i ≡ n = ap (λ (k : Key). k.a) one ∙ timer_instance s n j is in
         let b : r ≡ s = ap (λ (k : Key). k.resource) one ∙ timer_resource s n j is in
-        let d : slice_index new.due n ≡ tick = ap (λ xs. slice_index xs n) noted ∙ ap (λ m. slice_index (slice_set old.due i tick) m) (sym a) ∙ get_or-set_same old.due i tick 0 within in
+        let d : slice_index new.due n ≡ tick = ap (λ xs. slice_index xs n) set_due ∙ ap (λ m. slice_index (slice_set old.due i tick) m) (sym a) ∙ get_or-set_same old.due i tick 0 within in
         subst (λ (q : ℕ). same_key (timer_key (slice_index new.due n) q n) j ≡ true) b
         (subst (λ (m : ℕ). same_key (timer_key (slice_index new.due n) r m) j ≡ true) a (subst (λ (m : ℕ). same_key (timer_key m r i) j ≡ true) (sym d) same))
     go false same = other (is_timer_of r i j) refl
@@ -83,7 +83,7 @@ timed_after old mid new r i tick timed home within left put noted j s n e found 
         other false mine =
             let kept : waiting old j ≡ Some e = sym (put j ∙ ap (λ b. cond b (Some (Timer i)) (mid j)) same ∙ left j ∙ ap (λ b. cond b None (waiting old j)) mine) ∙ found in
             let apart : n ≢ i = λ q. not_both (at_home q kept) mine in
-            let d : slice_index new.due n ≡ slice_index old.due n = ap (λ xs. slice_index xs n) noted ∙ get_or-set_other old.due i n tick 0 apart in
+            let d : slice_index new.due n ≡ slice_index old.due n = ap (λ xs. slice_index xs n) set_due ∙ get_or-set_other old.due i n tick 0 apart in
             subst (λ (m : ℕ). same_key (timer_key m s n) j ≡ true) (sym d) (timed j s n e kept is)
           where
             at_home : n ≡ i → waiting old j ≡ Some e → is_timer_of r i j ≡ true
@@ -106,17 +106,17 @@ on_ok_both (Ok a) f h k = f h k
 on_ok_both (Err e) f h k = tt
 
 -- a timer that is in a resource is still there after a request, if an instance has one resource
-pub lies_after : (old new : Contents) (r i : ℕ) (ask : TimerAsk) (s n : ℕ) → IsInResource s n old → (i ≡ n → r ≡ s)
+pub is_after : (old new : Contents) (r i : ℕ) (ask : TimerAsk) (s n : ℕ) → IsInResource s n old → (i ≡ n → r ≡ s)
     → ((j : Key) → waiting new j ≡ changed_to (timer_set r i ask j) (waiting old j)) → IsInResource s n new
-lies_after old new r i Keep s n lies home changed j q e found is = lies j q e (sym (changed j) ∙ found) is
-lies_after old new r i Clear s n lies home changed j q e found is = go (is_timer_of r i j) refl
+is_after old new r i Keep s n lies home changed j q e found is = lies j q e (sym (changed j) ∙ found) is
+is_after old new r i Clear s n lies home changed j q e found is = go (is_timer_of r i j) refl
   where
     go : (t : Bool) → is_timer_of r i j ≡ t → q ≡ s
     go true mine =
         let none : waiting new j ≡ None = changed j ∙ ap (λ b. changed_to (cond b (Some None) None) (waiting old j)) mine in
         absurd cc
     go false mine = lies j q e (sym (changed j ∙ ap (λ b. changed_to (cond b (Some None) None) (waiting old j)) mine) ∙ found) is
-lies_after old new r i (At t) s n lies home changed j q e found is = go (same_key (timer_key t r i) j) refl (is_timer_of r i j) refl
+is_after old new r i (At t) s n lies home changed j q e found is = go (same_key (timer_key t r i) j) refl (is_timer_of r i j) refl
   where
     changed_at : (a b : Bool) → same_key (timer_key t r i) j ≡ a → is_timer_of r i j ≡ b
         → waiting new j ≡ changed_to (cond a (Some (Some (Timer i))) (cond b (Some None) None)) (waiting old j)

@@ -43,7 +43,7 @@ pub record AreSeats {J : Type 0} (jobs : List J) (views : List (View J)) : Type 
   pub few : length views + sum_by (λ v. v.spare) views ≡ MAX_SEATS + 1
   pub numbered : (seat : ℕ) (v : View J) → get_elem? views seat ≡ some v → v.seat ≡ seat
   pub one_opener : (seat : ℕ) (v : View J) → get_elem? views seat ≡ some v → 0 < v.spare → seat ≡ 0
-  pub told : (seat : ℕ) (v : View J) → get_elem? views seat ≡ some v → v.jobs ≡ jobs
+  pub knows_jobs : (seat : ℕ) (v : View J) → get_elem? views seat ≡ some v → v.jobs ≡ jobs
 
 pub record MeetsRule {J D : Type 0} (does : J → D → Type 0) (jobs : List J) (s : BoardState J D) : Type 0 where
   pub words : length s.words ≡ length jobs + 1

@@ -84,7 +84,7 @@ module _ {J D : Type 0} (does : J → D → Type 0) where
 
 -- What holds of a seat between its steps: its flag `dry` says whether it is dry, and it has the slot of its slip
 pub record IsSound {J D : Type 0} (does : J → D → Type 0) (dry : Bool) (me : Me (SlotContent J D) (View J)) : Type 0 where
-  pub tells : dry ≡ me.0.dry
+  pub same_dry : dry ≡ me.0.dry
   pub slots : me.1 ≡ slots_with me.0.slip
   pub within : (k : ℕ) → me.0.slip ≡ Some k → k < length me.0.jobs
   pub idle : IsTrue me.0.dry → me.0.slip ≡ None

@@ -6,7 +6,7 @@ use Rattle.std.proofs.lemmas.Bool.{true≢false}
 use Rattle.std.proofs.lemmas.List.Elements.{Contains-append_left, Contains-append_right, Contains-append_cases}
 use Rattle.fb_types.specs.Blocks.{among}
 use Rattle.fb_types.specs.Repeated.{networks, interfaces, basics}
-use Rattle.fb_types.specs.Unknown.{Wanted, wanted, required_types, required_withs, required_chart, required_parameters, required_deployment, mentioned, is_known, NameUnknown}
+use Rattle.fb_types.specs.Unknown.{Required, required, required_types, required_withs, required_chart, required_parameters, required_deployment, mentioned, is_known, NameUnknown}
 use Rattle.fb_types.specs.declared.library.Library.{Library}
 use Rattle.fb_types.specs.declared.library.BasicType.{BasicType}
 use Rattle.fb_types.specs.declared.deploy.Plan.{Plan}
@@ -14,15 +14,15 @@ use Rattle.fb_check_names.specs.Parts.{ArePartsKnown, required_parts}
 use Rattle.fb_types.proofs.ListTests.{fails_at, passes_at}
 use Rattle.fb_types.proofs.NameLaws.{contains_from_any, any_from_contains}
 
-abbrev is_there : Wanted → Bool
+abbrev is_there : Required → Bool
 is_there w = among w.1 w.0
 
 abbrev are_mentions_known : BasicType → Bool
 are_mentions_known t = list_all (is_known t) (mentioned t)
 
 -- the required names of parts are among all
-part_wanted : (lib : Library) (plan : Plan) (w : Wanted) → Contains (required_parts lib) w → Contains (wanted lib plan) w
-part_wanted lib plan w c =
+part_required : (lib : Library) (plan : Plan) (w : Required) → Contains (required_parts lib) w → Contains (required lib plan) w
+part_required lib plan w c =
     let types = flat_map (λ n. required_types lib n.1) (networks lib) in
     let withs = flat_map required_withs (interfaces lib) in
     let charts = flat_map required_chart (basics lib) in
@@ -41,7 +41,7 @@ unknown_part lib plan unknown = names (list_all is_there (required_parts lib)) (
     names : (a b : Bool) → list_all is_there (required_parts lib) ≡ a → list_all are_mentions_known (basics lib) ≡ b → NameUnknown lib plan
     names false b e f =
         let w = fails_at is_there (required_parts lib) e in
-        inl (w.0, part_wanted lib plan w.0 w.1, λ c. true≢false (sym (any_from_contains w.0.0 w.0.1 c) ∙ w.2))
+        inl (w.0, part_required lib plan w.0 w.1, λ c. true≢false (sym (any_from_contains w.0.0 w.0.1 c) ∙ w.2))
     names true false e f =
         let t = fails_at are_mentions_known (basics lib) f in
         let m = fails_at (is_known t.0) (mentioned t.0) t.2 in

@@ -9,7 +9,7 @@ use Rattle.std.proofs.lemmas.List.Elements.{Contains-append_right}
 use Rattle.fb_types.specs.Names.{Name, Path, Port, same_name, same_port}
 use Rattle.fb_types.specs.Blocks.{Kind, Basic, Event, Composite, named, event_blocks, ports_of, event_names, variable_names}
 use Rattle.fb_types.specs.Flat.{first_of, kind_of, type_name, type_named, network_of, instance_in, kind_of_instance, inside, network_at, port_in, pairs_in, data_inside, data_at, source_of, resource_names_of}
-use Rattle.fb_types.specs.Repeated.{Twice, Placed, networks, networks_in, basics, interfaces, block_type_names, port_names, algorithm_names, state_names, instance_names, with_lists, parameter_lists, NameTwice}
+use Rattle.fb_types.specs.Repeated.{Twice, OwnedNetwork, networks, networks_in, basics, interfaces, block_type_names, port_names, algorithm_names, state_names, instance_names, with_lists, parameter_lists, NameTwice}
 use Rattle.fb_types.specs.Unknown.{NameUnknown, is_end, data_ins, data_outs, event_ins, event_outs, ends_known}
 use Rattle.fb_types.specs.declared.library.Library.{Library}
 use Rattle.fb_types.specs.declared.library.BlockType.{BlockType}
@@ -38,13 +38,13 @@ abbrev of_states : Library → List (List Name)
 of_states lib = map state_names (basics lib)
 
 abbrev of_instances : Library → List (List Name)
-of_instances lib = map (λ (n : Placed). instance_names n.1) (networks lib)
+of_instances lib = map (λ (n : OwnedNetwork). instance_names n.1) (networks lib)
 
 abbrev of_with : Library → List (List Name)
 of_with lib = flat_map with_lists (interfaces lib)
 
 abbrev of_parameters : Library → List (List Name)
-of_parameters lib = flat_map (λ (n : Placed). parameter_lists n.1) (networks lib)
+of_parameters lib = flat_map (λ (n : OwnedNetwork). parameter_lists n.1) (networks lib)
 
 ports_twice : (lib : Library) (plan : Plan) (t : BlockType) → Contains lib.blocks t → Twice (port_names t) → NameTwice lib plan
 ports_twice lib plan t c twice =
@@ -123,7 +123,7 @@ block_of : (b : BlockType) (t : CompositeType) → kind_of b ≡ Composite t →
 block_of (block.Basic s) t h = absurd (cc)
 block_of (block.Composite s) t h = let e : s ≡ t = cc in ap block.Composite e
 
--- a composite type that a name stands for is declared
+-- a composite type that a name represents is declared
 declared_composite : (lib : Library) (n : Name) (t : CompositeType) → type_named lib n ≡ Some (Composite t) → Contains lib.blocks (block.Composite t)
 declared_composite lib n t h =
     elim (named (λ e. e.0) n event_blocks) as (λ o. elim o as (λ _. Option Kind) [ Some e ↦ Some (Event e.1) | None ↦ option_map kind_of (named type_name n lib.blocks) ] ≡ Some (Composite t)
@@ -160,7 +160,7 @@ known_inside :
     (lib : Library) (plan : Plan) (t : CompositeType) → ¬ (NameUnknown lib plan) → Contains lib.blocks (block.Composite t)
     → list_all (λ w. is_end lib (Some t, t.network) data_outs data_ins w.from && is_end lib (Some t, t.network) data_ins data_outs w.to) t.network.data_connections ≡ true
 known_inside lib plan t known c =
-    let placed : Placed = (Some t, t.network) in
+    let placed : OwnedNetwork = (Some t, t.network) in
     let there : Contains (networks lib) placed =
     Contains-there (None, lib.application.network) (flat_map networks_in lib.blocks) placed
     (Contains-flat_map networks_in lib.blocks (block.Composite t) placed c (Contains-here placed [])) in

@@ -2,7 +2,7 @@
 use Rattle.std.proofs.Common.{◌≡◌, ℕ, ◌<◌, ◌+◌, List, [], ◌∷◌, ◌++◌, length, get_or, Some, Option, refl, sym, ◌∙◌, ap, subst, length-append}
 use Rattle.std.specs.Prelude.{slice_get}
 use Rattle.std.proofs.lemmas.Option.{slice_get_within, slice_get_read, same_Some}
-use Rattle.fb_types.specs.Repeated.{Placed, networks_in, instance_names}
+use Rattle.fb_types.specs.Repeated.{OwnedNetwork, networks_in, instance_names}
 use Rattle.fb_types.specs.declared.library.BlockType.{BlockType}
 use Rattle.fb_types.specs.declared.library.BlockType.TheVariants as block
 use Rattle.fb_types.specs.declared.library.CompositeType.{CompositeType}
@@ -11,7 +11,7 @@ use Rattle.fb_check_names.specs.Indexes.{IsIndex}
 use Rattle.fb_check_names.specs.declared.catalog.BlockIndexes.{BlockIndexes}
 use Rattle.fb_check_names.specs.declared.catalog.Catalog.{Catalog}
 use Rattle.fb_types.proofs.Elements.{Contains-here, Contains-flat_map}
-use Rattle.fb_check_names.specs.Sorts.{AreIndexesOf}
+use Rattle.fb_check_names.specs.PortKinds.{AreIndexesOf}
 use Rattle.fb_check_names.specs.Types.{HasTypes}
 use Rattle.fb_check_names.specs.Unknown.{AreBlocks, BlockUnknown, IsBlockNumbers, NetworkUnknown}
 use Rattle.fb_check_names.specs.declared.numbers.NetworkNumbers.{NetworkNumbers}
@@ -51,7 +51,7 @@ next_block lib bs n b o all more e h at is so_far grown = first_more lib n b o a
 pub composite_unknown :
     (lib : Library) (n : ℕ) (t : CompositeType) → slice_get lib.blocks n ≡ Some (block.Composite t) → NetworkUnknown lib (Some t, t.network) → BlockUnknown lib
 composite_unknown lib n t at unknown =
-    let index : Placed = (Some t, t.network) in (
+    let index : OwnedNetwork = (Some t, t.network) in (
       index,
       Contains-flat_map networks_in lib.blocks (block.Composite t) index (element_of_index lib.blocks n (block.Composite t) at) (Contains-here index []),
       unknown,

@@ -4,11 +4,11 @@ use Rattle.std.specs.Prelude.{Ok, Err, MatchOption, IfOk}
 use Rattle.fb_check_names.specs.Both.{both_of}
 
 -- a result that is known
-pub told :
+pub same_found :
     {A X : Type 0} (r : Result (Option A) X) (o e : Option A) → o ≡ e → IfOk r (λ p. p ≡ o) → IfOk r (λ p. MatchOption p (e ≡ None) (λ x. e ≡ Some x))
-told (Err x) o e same h = tt
-told (Ok None) o e same h = sym same ∙ sym h
-told (Ok (Some y)) o e same h = sym same ∙ sym h
+same_found (Err x) o e same h = tt
+same_found (Ok None) o e same h = sym same ∙ sym h
+same_found (Ok (Some y)) o e same h = sym same ∙ sym h
 
 both_cases :
     {A B X : Type 0} (a : Result (Option A) X) (b : Result (Option B) X) (D E F : Type 0) (P : A → Type 0) (Q : B → Type 0) (R : A × B → Type 0)

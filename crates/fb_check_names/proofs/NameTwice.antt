@@ -4,7 +4,7 @@ use Rattle.std.specs.Prelude.{flat_map}
 use Rattle.fb_types.specs.Names.{Name}
 use Rattle.fb_types.specs.Blocks.{ports_of}
 use Rattle.fb_types.specs.Flat.{kind_of, resource_names_of}
-use Rattle.fb_types.specs.Repeated.{Twice, Placed, networks, networks_in, basics, basics_in, interfaces, block_type_names, port_names, algorithm_names, state_names, instance_names, with_lists, parameter_lists, name_spaces, NameTwice}
+use Rattle.fb_types.specs.Repeated.{Twice, OwnedNetwork, networks, networks_in, basics, basics_in, interfaces, block_type_names, port_names, algorithm_names, state_names, instance_names, with_lists, parameter_lists, name_spaces, NameTwice}
 use Rattle.fb_types.specs.declared.library.Library.{Library}
 use Rattle.fb_types.specs.declared.library.BlockType.{BlockType}
 use Rattle.fb_types.specs.declared.library.BlockType.TheVariants as block
@@ -30,13 +30,13 @@ abbrev of_states : Library → List (List Name)
 of_states lib = map state_names (basics lib)
 
 abbrev of_instances : Library → List (List Name)
-of_instances lib = map (λ (n : Placed). instance_names n.1) (networks lib)
+of_instances lib = map (λ (n : OwnedNetwork). instance_names n.1) (networks lib)
 
 abbrev of_with : Library → List (List Name)
 of_with lib = flat_map with_lists (interfaces lib)
 
 abbrev of_parameters : Library → List (List Name)
-of_parameters lib = flat_map (λ (n : Placed). parameter_lists n.1) (networks lib)
+of_parameters lib = flat_map (λ (n : OwnedNetwork). parameter_lists n.1) (networks lib)
 
 abbrev of_resources : Plan → List (List Name)
 of_resources plan = resource_names_of plan ∷ []
@@ -94,7 +94,7 @@ in_basics ts b c =
     let r = flat_map-Contains basics_in ts b c in
     subst (λ (t : BlockType). Contains ts t) (basic_of r.0 b r.2) r.1
 
-abbrev placed : CompositeType → Placed
+abbrev placed : CompositeType → OwnedNetwork
 placed t = (Some t, t.network)
 
 network_in : (lib : Library) (t : CompositeType) → Contains lib.blocks (block.Composite t) → Contains (networks lib) (placed t)
@@ -118,12 +118,12 @@ with_twice lib plan t c twice =
     from_with lib plan (TwiceIn-right (to_instances lib) (of_with lib)
     (TwiceIn-flat_map with_lists (interfaces lib) (ports_of (kind_of t)) (Contains-map (λ (t : BlockType). ports_of (kind_of t)) lib.blocks t c) twice))
 
-placed_twice : (lib : Library) (plan : Plan) (n : Placed) → Contains (networks lib) n → NetworkTwice n.1 → NameTwice lib plan
+placed_twice : (lib : Library) (plan : Plan) (n : OwnedNetwork) → Contains (networks lib) n → NetworkTwice n.1 → NameTwice lib plan
 placed_twice lib plan n c twice =
     elim twice [
-      | inl t ↦ from_instances lib plan (TwiceIn-right (to_states lib) (of_instances lib) (TwiceIn-map (λ (n : Placed). instance_names n.1) (networks lib) n c t))
+      | inl t ↦ from_instances lib plan (TwiceIn-right (to_states lib) (of_instances lib) (TwiceIn-map (λ (n : OwnedNetwork). instance_names n.1) (networks lib) n c t))
       | inr rest ↦ elim rest [
-        | inl t ↦ from_parameters lib plan (TwiceIn-right (to_with lib) (of_parameters lib) (TwiceIn-flat_map (λ (n : Placed). parameter_lists n.1) (networks lib) n c t))
+        | inl t ↦ from_parameters lib plan (TwiceIn-right (to_with lib) (of_parameters lib) (TwiceIn-flat_map (λ (n : OwnedNetwork). parameter_lists n.1) (networks lib) n c t))
         | inr t ↦ inr (inl (n, c, t))
       ]
     ]
@@ -174,18 +174,18 @@ with_once : (lib : Library) (plan : Plan) (t : BlockType) → ArePartsOnce lib p
 with_once lib plan (block.Basic b) once c t = once.blocks (block.Basic b) c (inl (inr t))
 with_once lib plan (block.Composite b) once c t = once.blocks (block.Composite b) c (inl (inr t))
 
-inside_once : (lib : Library) (plan : Plan) (t : BlockType) (n : Placed) → ArePartsOnce lib plan → Contains lib.blocks t → Contains (networks_in t) n → ¬ (NetworkTwice n.1)
+inside_once : (lib : Library) (plan : Plan) (t : BlockType) (n : OwnedNetwork) → ArePartsOnce lib plan → Contains lib.blocks t → Contains (networks_in t) n → ¬ (NetworkTwice n.1)
 inside_once lib plan (block.Basic b) n once c h t = Contains-nil n h
 inside_once lib plan (block.Composite b) n once c h t =
     elim (Contains-cons_cases (placed b) [] n h) [
-      | inl e ↦ once.blocks (block.Composite b) c (inr (subst (λ (n : Placed). NetworkTwice n.1) (sym e) t))
+      | inl e ↦ once.blocks (block.Composite b) c (inr (subst (λ (n : OwnedNetwork). NetworkTwice n.1) (sym e) t))
       | inr none ↦ Contains-nil n none
     ]
 
-placed_once : (lib : Library) (plan : Plan) (n : Placed) → ArePartsOnce lib plan → Contains (networks lib) n → ¬ (NetworkTwice n.1)
+placed_once : (lib : Library) (plan : Plan) (n : OwnedNetwork) → ArePartsOnce lib plan → Contains (networks lib) n → ¬ (NetworkTwice n.1)
 placed_once lib plan n once c t =
     elim (Contains-cons_cases (None, lib.application.network) (flat_map networks_in lib.blocks) n c) [
-      | inl e ↦ once.network (subst (λ (n : Placed). NetworkTwice n.1) (sym e) t)
+      | inl e ↦ once.network (subst (λ (n : OwnedNetwork). NetworkTwice n.1) (sym e) t)
       | inr rest ↦
           let r = flat_map-Contains networks_in lib.blocks n rest in
           inside_once lib plan r.0 n once r.1 r.2 t
@@ -213,7 +213,7 @@ to_with_once lib plan once t =
     elim (TwiceIn-cases (to_instances lib) (of_with lib) t) [
       | inl a ↦ elim (TwiceIn-cases (to_states lib) (of_instances lib) a) [
         | inl s ↦ to_states_once lib plan once s
-        | inr i ↦ let r = map-TwiceIn (λ (n : Placed). instance_names n.1) (networks lib) i in placed_once lib plan r.0 once r.1 (inl r.2)
+        | inr i ↦ let r = map-TwiceIn (λ (n : OwnedNetwork). instance_names n.1) (networks lib) i in placed_once lib plan r.0 once r.1 (inl r.2)
       ]
       | inr w ↦
           let r = flat_map-TwiceIn with_lists (interfaces lib) w in
@@ -226,7 +226,7 @@ spaces_once lib plan once t =
     elim (TwiceIn-cases (to_parameters lib) (of_resources plan) t) [
       | inl a ↦ elim (TwiceIn-cases (to_with lib) (of_parameters lib) a) [
         | inl w ↦ to_with_once lib plan once w
-        | inr p ↦ let r = flat_map-TwiceIn (λ (n : Placed). parameter_lists n.1) (networks lib) p in placed_once lib plan r.0 once r.1 (inr (inl r.2))
+        | inr p ↦ let r = flat_map-TwiceIn (λ (n : OwnedNetwork). parameter_lists n.1) (networks lib) p in placed_once lib plan r.0 once r.1 (inr (inl r.2))
       ]
       | inr r ↦ once.deployment (inl (TwiceIn-only (resource_names_of plan) r))
     ]

@@ -1,4 +1,4 @@
--- Names of a network that stand for nothing, if the network has no numbers (E21).
+-- Names of a network that are unknown, if the network has no numbers (E21).
 use Rattle.std.proofs.Common.{◌≡◌, ◌&&◌, ◌||◌, ℕ, Bool, true, false, List, [], map, Some, None, Option, Result, MatchOption, Contains, refl, sym, ◌∙◌, ap, inl, inr}
 use Rattle.std.specs.Prelude.{Ok, IfOk, flat_map, is_some, slice_get, option_map, option_and_then}
 use Rattle.std.specs.List.{list_any, list_all}
@@ -7,8 +7,8 @@ use Rattle.std.proofs.lemmas.List.Folds.{list_all-append, list_any-append}
 use Rattle.fb_types.specs.Names.{Name, same_name}
 use Rattle.fb_types.specs.Blocks.{Kind, event_blocks, named, among, variable_names, ports_of}
 use Rattle.fb_types.specs.Flat.{type_name, kind_of_instance, instance_in}
-use Rattle.fb_types.specs.Repeated.{Placed, block_type_names, instance_names}
-use Rattle.fb_types.specs.Unknown.{Wanted, all_of, required_types, required_parameters, ends_known, is_end, event_ins, event_outs, data_ins, data_outs}
+use Rattle.fb_types.specs.Repeated.{OwnedNetwork, block_type_names, instance_names}
+use Rattle.fb_types.specs.Unknown.{Required, all_of, required_types, required_parameters, ends_known, is_end, event_ins, event_outs, data_ins, data_outs}
 use Rattle.fb_types.specs.declared.library.CompositeType.{CompositeType}
 use Rattle.fb_types.specs.declared.library.Connection.{Connection}
 use Rattle.fb_types.specs.declared.library.Instance.{Instance}
@@ -29,32 +29,32 @@ use Rattle.fb_check_names.specs.declared.numbers.NumberedConnection.{NumberedCon
 use Rattle.fb_types.proofs.Options.{is_some-option_map}
 use Rattle.fb_types.proofs.ListTests.{fails_at, fails_from, list_all-map, list_all-flat_map, list_all-agree, list_all-both}
 use Rattle.fb_check_names.specs.Both.{both_of}
-use Rattle.fb_check_names.proofs.BothFound.{both_answer, told}
+use Rattle.fb_check_names.proofs.BothFound.{both_answer, same_found}
 use Rattle.fb_check_names.proofs.Each.{is_some-each}
 use Rattle.fb_check_names.proofs.Lookups.{kind_known, kind_of_numbered, type_named-number}
 
 -- ---- Required names
 
 -- whether a name is among the required ones
-abbrev pub met : Wanted → Bool
+abbrev pub met : Required → Bool
 met w = list_any (same_name w.0) w.1
 
-pub list_all-all_of : (ns sort : List Name) → list_all met (all_of ns sort) ≡ list_all (λ n. list_any (same_name n) sort) ns
-list_all-all_of ns sort = list_all-map met (λ n. (n, sort)) ns
+pub list_all-all_of : (ns port_kind : List Name) → list_all met (all_of ns port_kind) ≡ list_all (λ n. list_any (same_name n) port_kind) ns
+list_all-all_of ns port_kind = list_all-map met (λ n. (n, port_kind)) ns
 
 -- all names are known if they have indices
-pub indexes_met : (ns sort : List Name) → list_all met (all_of ns sort) ≡ is_some (each_or_none (index_of sort) ns)
-indexes_met ns sort =
-    list_all-all_of ns sort
-    ∙ list_all-agree (λ n. list_any (same_name n) sort) (λ n. is_some (index_of sort n)) (λ n. sym (is_some-position (same_name n) sort)) ns
-    ∙ sym (is_some-each (index_of sort) ns)
+pub indexes_met : (ns port_kind : List Name) → list_all met (all_of ns port_kind) ≡ is_some (each_or_none (index_of port_kind) ns)
+indexes_met ns port_kind =
+    list_all-all_of ns port_kind
+    ∙ list_all-agree (λ n. list_any (same_name n) port_kind) (λ n. is_some (index_of port_kind n)) (λ n. sym (is_some-position (same_name n) port_kind)) ns
+    ∙ sym (is_some-each (index_of port_kind) ns)
 
-pub unmet_wanted : (ws : List Wanted) → list_all met ws ≡ false → (w : Wanted) × Contains ws w × ¬ (Contains w.1 w.0)
-unmet_wanted ws h =
+pub unmet_required : (ws : List Required) → list_all met ws ≡ false → (w : Required) × Contains ws w × ¬ (Contains w.1 w.0)
+unmet_required ws h =
     let r = fails_at met ws h in (r.0, r.1, λ c. true≢false (sym (any_from_contains r.0.0 r.0.1 c) ∙ r.2))
 
-pub met_wanted : (ws : List Wanted) → list_all met ws ≡ true → (w : Wanted) → Contains ws w → ¬ ¬ (Contains w.1 w.0)
-met_wanted ws h w c out =
+pub met_required : (ws : List Required) → list_all met ws ≡ true → (w : Required) → Contains ws w → ¬ ¬ (Contains w.1 w.0)
+met_required ws h w c out =
     true≢false (sym h ∙ fails_from met ws w c (false_from_ne_true (met w) (λ t. out (contains_from_any w.0 w.1 t))))
 
 -- ---- Types
@@ -81,20 +81,20 @@ types_met lib net =
 
 -- ---- Parameters
 
-abbrev wanted_of : Instance → Option Kind → List Wanted
-wanted_of i o = elim o [ None ↦ [] | Some k ↦ all_of (map (λ x. x.name) i.parameters) (variable_names (ports_of k).inputs) ]
+abbrev required_of : Instance → Option Kind → List Required
+required_of i o = elim o [ None ↦ [] | Some k ↦ all_of (map (λ x. x.name) i.parameters) (variable_names (ports_of k).inputs) ]
 
 abbrev numbers_of : Instance → Option Kind → Option (List ℕ)
 numbers_of i o = elim o [ None ↦ None | Some k ↦ each_or_none (λ x. index_of (data_ins (ports_of k)) x.name) i.parameters ]
 
-known_met : (i : Instance) (k : Kind) → list_all met (wanted_of i (Some k)) ≡ is_some (numbers_of i (Some k))
+known_met : (i : Instance) (k : Kind) → list_all met (required_of i (Some k)) ≡ is_some (numbers_of i (Some k))
 known_met i k =
-    let sort = data_ins (ports_of k) in
-    list_all-all_of (map (λ x. x.name) i.parameters) sort
-    ∙ list_all-map (λ n. list_any (same_name n) sort) (λ x. x.name) i.parameters
-    ∙ list_all-agree (λ (x : Parameter). list_any (same_name x.name) sort) (λ x. is_some (index_of sort x.name))
-    (λ x. sym (is_some-position (same_name x.name) sort)) i.parameters
-    ∙ sym (is_some-each (λ (x : Parameter). index_of sort x.name) i.parameters)
+    let port_kind = data_ins (ports_of k) in
+    list_all-all_of (map (λ x. x.name) i.parameters) port_kind
+    ∙ list_all-map (λ n. list_any (same_name n) port_kind) (λ x. x.name) i.parameters
+    ∙ list_all-agree (λ (x : Parameter). list_any (same_name x.name) port_kind) (λ x. is_some (index_of port_kind x.name))
+    (λ x. sym (is_some-position (same_name x.name) port_kind)) i.parameters
+    ∙ sym (is_some-each (λ (x : Parameter). index_of port_kind x.name) i.parameters)
 
 instance_met : (lib : Library) (i : Instance) → (is_typed lib i && list_all met (required_parameters lib i)) ≡ is_some (parameter_numbers lib i)
 instance_met lib i =
@@ -106,10 +106,10 @@ instance_met lib i =
       | Some t ↦ λ e.
           let k = kind_known lib i.block_type t e in
           let some : kind_of_instance lib i ≡ Some k.0 = kind_of_numbered lib i t e ∙ k.1 in
-          ap (λ o. list_all met (wanted_of i o)) some ∙ known_met i k.0 ∙ ap (λ o. is_some (numbers_of i o)) (sym some)
+          ap (λ o. list_all met (required_of i o)) some ∙ known_met i k.0 ∙ ap (λ o. is_some (numbers_of i o)) (sym some)
     ] refl
 
-parameters_met : (lib : Library) (n : Placed)
+parameters_met : (lib : Library) (n : OwnedNetwork)
     → (list_all (is_typed lib) n.1.instances && list_all met (flat_map (required_parameters lib) n.1.instances))
     ≡ is_some (each_or_none (parameter_numbers lib) n.1.instances)
 parameters_met lib n =
@@ -119,9 +119,9 @@ parameters_met lib n =
     ∙ list_all-agree (λ (i : Instance). is_typed lib i && list_all met (required_parameters lib i)) (λ i. is_some (parameter_numbers lib i)) (instance_met lib) is
     ∙ sym (is_some-each (parameter_numbers lib) is)
 
-wanted_met : (lib : Library) (n : Placed) → list_all met (required_network lib n)
+required_met : (lib : Library) (n : OwnedNetwork) → list_all met (required_network lib n)
     ≡ (list_all (is_typed lib) n.1.instances && list_all met (flat_map (required_parameters lib) n.1.instances))
-wanted_met lib n =
+required_met lib n =
     list_all-append met (required_types lib n.1) (flat_map (required_parameters lib) n.1.instances)
     ∙ ap (λ b. b && list_all met (flat_map (required_parameters lib) n.1.instances)) (types_met lib n.1)
 
@@ -140,7 +140,7 @@ abbrev found : Library → (Ports → List Name) → PortName → Option Instanc
 found lib component e o = elim (option_and_then (kind_of_instance lib) o) [ None ↦ false | Some k ↦ among (component (ports_of k)) e.port ]
 
 component_known :
-    (lib : Library) (n : Placed) (component : Ports → List Name) (c : Name) (e : PortName)
+    (lib : Library) (n : OwnedNetwork) (component : Ports → List Name) (c : Name) (e : PortName)
     → found lib component e (instance_in n.1 c)
     ≡ is_some (option_and_then (λ i. option_and_then (λ p. end_at (Some i) (component p) e) (ports_at_index lib n i)) (index_of (instance_names n.1) c))
 component_known lib n component c e =
@@ -160,9 +160,9 @@ boundary_known boundary e (Some t) =
     sym (is_some-position (same_name e.port) (boundary t.ports))
     ∙ is_some-option_map (λ (f : ℕ). let r : ConnectionEnd = record { component = None; port = f } in r) (index_of (boundary t.ports) e.port)
 
--- an end stands for a port if it has a number
+-- an end represents a port if it has a number
 end_known :
-    (lib : Library) (n : Placed) (component boundary : Ports → List Name) (e : PortName)
+    (lib : Library) (n : OwnedNetwork) (component boundary : Ports → List Name) (e : PortName)
     → is_end lib n component boundary e ≡ is_some (end_number lib n component boundary e)
 end_known lib n component boundary e =
     elim e.component as
@@ -184,14 +184,14 @@ both_known (Some x) None = refl
 both_known (Some x) (Some y) = refl
 
 wire_known :
-    (lib : Library) (n : Placed) (outs ins : Ports → List Name) (c : Connection)
+    (lib : Library) (n : OwnedNetwork) (outs ins : Ports → List Name) (c : Connection)
     → (is_end lib n outs ins c.from && is_end lib n ins outs c.to) ≡ is_some (both_ends (end_number lib n outs ins c.from) (end_number lib n ins outs c.to))
 wire_known lib n outs ins c =
     (λ i. end_known lib n outs ins c.from i && end_known lib n ins outs c.to i)
     ∙ both_known (end_number lib n outs ins c.from) (end_number lib n ins outs c.to)
 
 wires_known :
-    (lib : Library) (n : Placed) (outs ins : Ports → List Name) (cs : List Connection)
+    (lib : Library) (n : OwnedNetwork) (outs ins : Ports → List Name) (cs : List Connection)
     → list_all (λ c. is_end lib n outs ins c.from && is_end lib n ins outs c.to) cs
     ≡ is_some (each_or_none (λ c. both_ends (end_number lib n outs ins c.from) (end_number lib n ins outs c.to)) cs)
 wires_known lib n outs ins cs =
@@ -199,7 +199,7 @@ wires_known lib n outs ins cs =
     (λ c. is_some (both_ends (end_number lib n outs ins c.from) (end_number lib n ins outs c.to))) (wire_known lib n outs ins) cs
     ∙ sym (is_some-each (λ (c : Connection). both_ends (end_number lib n outs ins c.from) (end_number lib n ins outs c.to)) cs)
 
-pub ends_met : (lib : Library) (n : Placed) → ends_known lib n
+pub ends_met : (lib : Library) (n : OwnedNetwork) → ends_known lib n
     ≡ (is_some (each_or_none (event_wire lib n) n.1.event_connections) && is_some (each_or_none (data_wire lib n) n.1.data_connections))
 ends_met lib n =
     λ i. wires_known lib n event_outs event_ins n.1.event_connections i && wires_known lib n data_outs data_ins n.1.data_connections i
@@ -207,16 +207,16 @@ ends_met lib n =
 -- ---- Networks
 
 pub unknown_type :
-    (lib : Library) (n : Placed) → each_or_none (λ i. type_number lib i.block_type) n.1.instances ≡ None → NetworkUnknown lib n
+    (lib : Library) (n : OwnedNetwork) → each_or_none (λ i. type_number lib i.block_type) n.1.instances ≡ None → NetworkUnknown lib n
 unknown_type lib n h =
     let typed : list_all (is_typed lib) n.1.instances ≡ false = sym (is_some-each (λ (i : Instance). type_number lib i.block_type) n.1.instances) ∙ ap is_some h in
-    inl (unmet_wanted (required_network lib n) (wanted_met lib n ∙ ap (λ b. b && list_all met (flat_map (required_parameters lib) n.1.instances)) typed))
+    inl (unmet_required (required_network lib n) (required_met lib n ∙ ap (λ b. b && list_all met (flat_map (required_parameters lib) n.1.instances)) typed))
 
-unknown_parameter : (lib : Library) (n : Placed) → each_or_none (parameter_numbers lib) n.1.instances ≡ None → NetworkUnknown lib n
+unknown_parameter : (lib : Library) (n : OwnedNetwork) → each_or_none (parameter_numbers lib) n.1.instances ≡ None → NetworkUnknown lib n
 unknown_parameter lib n h =
-    inl (unmet_wanted (required_network lib n) (wanted_met lib n ∙ parameters_met lib n ∙ ap is_some h))
+    inl (unmet_required (required_network lib n) (required_met lib n ∙ parameters_met lib n ∙ ap is_some h))
 
-unknown_event : (lib : Library) (n : Placed) → each_or_none (event_wire lib n) n.1.event_connections ≡ None → NetworkUnknown lib n
+unknown_event : (lib : Library) (n : OwnedNetwork) → each_or_none (event_wire lib n) n.1.event_connections ≡ None → NetworkUnknown lib n
 unknown_event lib n h =
     inr (ends_met lib n ∙ ap (λ (o : Option (List NumberedConnection)). is_some o && is_some (each_or_none (data_wire lib n) n.1.data_connections)) h)
 
@@ -224,17 +224,17 @@ and-false : (b : Bool) → (b && false) ≡ false
 and-false true = refl
 and-false false = refl
 
-unknown_data : (lib : Library) (n : Placed) → each_or_none (data_wire lib n) n.1.data_connections ≡ None → NetworkUnknown lib n
+unknown_data : (lib : Library) (n : OwnedNetwork) → each_or_none (data_wire lib n) n.1.data_connections ≡ None → NetworkUnknown lib n
 unknown_data lib n h =
     inr (ends_met lib n
     ∙ ap (λ (o : Option (List NumberedConnection)). is_some (each_or_none (event_wire lib n) n.1.event_connections) && is_some o) h
     ∙ and-false (is_some (each_or_none (event_wire lib n) n.1.event_connections)))
 
 -- if a network has numbers, all that it names is known
-pub network_known : (lib : Library) (n : Placed) (x : NetworkNumbers) → IsNetwork lib n x → ¬ (NetworkUnknown lib n)
+pub network_known : (lib : Library) (n : OwnedNetwork) (x : NetworkNumbers) → IsNetwork lib n x → ¬ (NetworkUnknown lib n)
 network_known lib n x is unknown =
     elim unknown [
-      | inl w ↦ met_wanted (required_network lib n) (wanted_met lib n ∙ parameters_met lib n ∙ ap is_some is.parameters) w.0 w.1 w.2
+      | inl w ↦ met_required (required_network lib n) (required_met lib n ∙ parameters_met lib n ∙ ap is_some is.parameters) w.0 w.1 w.2
       | inr f ↦ true≢false (sym (ends_met lib n ∙ (λ i. is_some (is.event_wires i) && is_some (is.data_wires i))) ∙ f)
     ]
 
@@ -247,11 +247,11 @@ abbrev Wires : Type 0
 Wires = List NumberedConnection × List NumberedConnection
 
 -- the types and the parameters, and the connections of events and of data
-abbrev pub AreAll : Library → Placed → Typed × Wires → Type 0
+abbrev pub AreAll : Library → OwnedNetwork → Typed × Wires → Type 0
 AreAll lib n z = IsNetwork lib n (record { types = z.0.0; parameters = z.0.1; event_wires = z.1.0; data_wires = z.1.1 })
 
 pub network_found :
-    {X : Type 0} (lib : Library) (n : Placed) (is : List Instance) (es ds : List Connection) (kinds : List TypeNumber)
+    {X : Type 0} (lib : Library) (n : OwnedNetwork) (is : List Instance) (es ds : List Connection) (kinds : List TypeNumber)
     (parameters : Result (Option (List (List ℕ))) X) (events values : Result (Option (List NumberedConnection)) X) (typed : Result (Option Typed) X) (wires : Result (Option Wires) X)
     (o : Option (Typed × Wires)) → is ≡ n.1.instances → es ≡ n.1.event_connections → ds ≡ n.1.data_connections
     → each_or_none (λ i. type_number lib i.block_type) n.1.instances ≡ Some kinds
@@ -267,10 +267,10 @@ network_found {X} lib n is es ds kinds parameters events values typed wires o sa
     let kept : Result (Option (List TypeNumber)) X = Ok (Some kinds) in
     let first = both_answer typed kept parameters Fault (each_or_none (parameter_numbers lib) n.1.instances ≡ None) Fault T P (λ z. T z.0 × P z.1) of_typed
     (λ f. f) (unknown_parameter lib n) (λ x y a b. (a, b)) numbered
-    (told parameters (each_or_none (parameter_numbers lib) is) (each_or_none (parameter_numbers lib) n.1.instances) (ap (each_or_none (parameter_numbers lib)) same_is) p) in
+    (same_found parameters (each_or_none (parameter_numbers lib) is) (each_or_none (parameter_numbers lib) n.1.instances) (ap (each_or_none (parameter_numbers lib)) same_is) p) in
     let second = both_answer wires events values (each_or_none (event_wire lib n) n.1.event_connections ≡ None) (each_or_none (data_wire lib n) n.1.data_connections ≡ None)
     Fault E D (λ z. E z.0 × D z.1) of_wires (unknown_event lib n) (unknown_data lib n) (λ x y a b. (a, b))
-    (told events (each_or_none (event_wire lib n) es) (each_or_none (event_wire lib n) n.1.event_connections) (ap (each_or_none (event_wire lib n)) same_es) e)
-    (told values (each_or_none (data_wire lib n) ds) (each_or_none (data_wire lib n) n.1.data_connections) (ap (each_or_none (data_wire lib n)) same_ds) d) in
+    (same_found events (each_or_none (event_wire lib n) es) (each_or_none (event_wire lib n) n.1.event_connections) (ap (each_or_none (event_wire lib n)) same_es) e)
+    (same_found values (each_or_none (data_wire lib n) ds) (each_or_none (data_wire lib n) n.1.data_connections) (ap (each_or_none (data_wire lib n)) same_ds) d) in
     both_answer (Ok o) typed wires Fault Fault Fault (λ z. T z.0 × P z.1) (λ z. E z.0 × D z.1) (AreAll lib n) found (λ f. f) (λ f. f)
     (λ x y a b. record { types = a.0; parameters = a.1; event_wires = b.0; data_wires = b.1 }) first second

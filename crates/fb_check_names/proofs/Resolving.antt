@@ -8,8 +8,8 @@ use Rattle.std.proofs.lemmas.List.Folds.{list_all-append}
 use Rattle.std.proofs.lemmas.List.Elements.{Contains-append_left, Contains-append_right, Contains-append_cases}
 use Rattle.fb_types.specs.Names.{Name, same_name}
 use Rattle.fb_types.specs.Flat.{resource_names_of}
-use Rattle.fb_types.specs.Repeated.{Placed, networks, networks_in, interfaces, basics, instance_names}
-use Rattle.fb_types.specs.Unknown.{Wanted, all_of, wanted, required_types, required_withs, required_chart, required_parameters, required_deployment, NameUnknown}
+use Rattle.fb_types.specs.Repeated.{OwnedNetwork, networks, networks_in, interfaces, basics, instance_names}
+use Rattle.fb_types.specs.Unknown.{Required, all_of, required, required_types, required_withs, required_chart, required_parameters, required_deployment, NameUnknown}
 use Rattle.fb_types.specs.declared.library.BlockType.{BlockType}
 use Rattle.fb_types.specs.declared.library.BlockType.TheVariants as block
 use Rattle.fb_types.specs.declared.library.Library.{Library}
@@ -27,63 +27,63 @@ use Rattle.fb_check_names.specs.declared.numbers.NetworkNumbers.{NetworkNumbers}
 use Rattle.fb_types.proofs.ByIndex.{index_of_element}
 use Rattle.fb_types.proofs.ListTests.{list_all-flat_map, list_all-agree}
 use Rattle.fb_check_names.specs.Both.{both_of}
-use Rattle.fb_check_names.proofs.BothFound.{both_answer, told}
+use Rattle.fb_check_names.proofs.BothFound.{both_answer, same_found}
 use Rattle.fb_check_names.proofs.Each.{is_some-each, each-agree}
-use Rattle.fb_check_names.proofs.NetworkUnknown.{met, indexes_met, unmet_wanted, met_wanted, network_known}
+use Rattle.fb_check_names.proofs.NetworkUnknown.{met, indexes_met, unmet_required, met_required, network_known}
 
 -- ---- The names of a declaration and a deployment, by their parts
 
-abbrev types_part : Library → List Wanted
+abbrev types_part : Library → List Required
 types_part lib = flat_map (λ n. required_types lib n.1) (networks lib)
 
-abbrev withs_part : Library → List Wanted
+abbrev withs_part : Library → List Required
 withs_part lib = flat_map required_withs (interfaces lib)
 
-abbrev charts_part : Library → List Wanted
+abbrev charts_part : Library → List Required
 charts_part lib = flat_map required_chart (basics lib)
 
-abbrev parameters_part : Library → List Wanted
+abbrev parameters_part : Library → List Required
 parameters_part lib = flat_map (λ n. flat_map (required_parameters lib) n.1.instances) (networks lib)
 
-abbrev before_parameters : Library → List Wanted
+abbrev before_parameters : Library → List Required
 before_parameters lib = types_part lib ++ withs_part lib ++ charts_part lib
 
-abbrev before_deployment : Library → List Wanted
+abbrev before_deployment : Library → List Required
 before_deployment lib = before_parameters lib ++ parameters_part lib
 
-type_wanted : (lib : Library) (plan : Plan) (n : Placed) (w : Wanted) → Contains (networks lib) n → Contains (required_types lib n.1) w → Contains (wanted lib plan) w
-type_wanted lib plan n w c d =
+type_required : (lib : Library) (plan : Plan) (n : OwnedNetwork) (w : Required) → Contains (networks lib) n → Contains (required_types lib n.1) w → Contains (required lib plan) w
+type_required lib plan n w c d =
     Contains-append_left (before_deployment lib) (required_deployment lib plan) w
     (Contains-append_left (before_parameters lib) (parameters_part lib) w
     (Contains-append_left (types_part lib ++ withs_part lib) (charts_part lib) w
     (Contains-append_left (types_part lib) (withs_part lib) w
-    (Contains-flat_map (λ (n : Placed). required_types lib n.1) (networks lib) n w c d))))
+    (Contains-flat_map (λ (n : OwnedNetwork). required_types lib n.1) (networks lib) n w c d))))
 
-parameter_wanted :
-    (lib : Library) (plan : Plan) (n : Placed) (w : Wanted) → Contains (networks lib) n → Contains (flat_map (required_parameters lib) n.1.instances) w
-    → Contains (wanted lib plan) w
-parameter_wanted lib plan n w c d =
+parameter_required :
+    (lib : Library) (plan : Plan) (n : OwnedNetwork) (w : Required) → Contains (networks lib) n → Contains (flat_map (required_parameters lib) n.1.instances) w
+    → Contains (required lib plan) w
+parameter_required lib plan n w c d =
     Contains-append_left (before_deployment lib) (required_deployment lib plan) w
     (Contains-append_right (before_parameters lib) (parameters_part lib) w
-    (Contains-flat_map (λ (n : Placed). flat_map (required_parameters lib) n.1.instances) (networks lib) n w c d))
+    (Contains-flat_map (λ (n : OwnedNetwork). flat_map (required_parameters lib) n.1.instances) (networks lib) n w c d))
 
 -- ---- A part is unknown
 
-pub of_network : (lib : Library) (plan : Plan) (n : Placed) → Contains (networks lib) n → NetworkUnknown lib n → NameUnknown lib plan
+pub of_network : (lib : Library) (plan : Plan) (n : OwnedNetwork) → Contains (networks lib) n → NetworkUnknown lib n → NameUnknown lib plan
 of_network lib plan n c unknown =
     elim unknown [
       | inl w ↦ inl (
         w.0,
         elim (Contains-append_cases (required_types lib n.1) (flat_map (required_parameters lib) n.1.instances) w.0 w.1) [
-          | inl t ↦ type_wanted lib plan n w.0 c t
-          | inr p ↦ parameter_wanted lib plan n w.0 c p
+          | inl t ↦ type_required lib plan n w.0 c t
+          | inr p ↦ parameter_required lib plan n w.0 c p
         ],
         w.2,
       )
       | inr f ↦ inr (inr (n, c, f))
     ]
 
-abbrev pub of_application_at : Library → Placed
+abbrev pub of_application_at : Library → OwnedNetwork
 of_application_at lib = (None, lib.application.network)
 
 of_application : (lib : Library) (plan : Plan) → NetworkUnknown lib (None, lib.application.network) → NameUnknown lib plan
@@ -100,22 +100,22 @@ of_deployment lib plan unknown =
 
 -- ---- No part is unknown
 
-wanted_known :
-    (lib : Library) (plan : Plan) (w : Wanted) → ArePartsKnown lib → ((n : Placed) → Contains (networks lib) n → ¬ (NetworkUnknown lib n))
-    → ¬ (DeploymentUnknown lib plan) → Contains (wanted lib plan) w → ¬ ¬ (Contains w.1 w.0)
-wanted_known lib plan w parts nets deployment c out =
+required_known :
+    (lib : Library) (plan : Plan) (w : Required) → ArePartsKnown lib → ((n : OwnedNetwork) → Contains (networks lib) n → ¬ (NetworkUnknown lib n))
+    → ¬ (DeploymentUnknown lib plan) → Contains (required lib plan) w → ¬ ¬ (Contains w.1 w.0)
+required_known lib plan w parts nets deployment c out =
     elim (Contains-append_cases (before_deployment lib) (required_deployment lib plan) w c) [
       | inr d ↦ deployment (w, d, out)
       | inl c ↦ elim (Contains-append_cases (before_parameters lib) (parameters_part lib) w c) [
         | inr p ↦
-            let r = flat_map-Contains (λ (n : Placed). flat_map (required_parameters lib) n.1.instances) (networks lib) w p in
+            let r = flat_map-Contains (λ (n : OwnedNetwork). flat_map (required_parameters lib) n.1.instances) (networks lib) w p in
             nets r.0 r.1 (inl (w, Contains-append_right (required_types lib r.0.1) (flat_map (required_parameters lib) r.0.1.instances) w r.2, out))
         | inl c ↦ elim (Contains-append_cases (types_part lib ++ withs_part lib) (charts_part lib) w c) [
           | inr p ↦ out (parts.names w (Contains-append_right (withs_part lib) (charts_part lib) w p))
           | inl c ↦ elim (Contains-append_cases (types_part lib) (withs_part lib) w c) [
             | inr p ↦ out (parts.names w (Contains-append_left (withs_part lib) (charts_part lib) w p))
             | inl t ↦
-                let r = flat_map-Contains (λ (n : Placed). required_types lib n.1) (networks lib) w t in
+                let r = flat_map-Contains (λ (n : OwnedNetwork). required_types lib n.1) (networks lib) w t in
                 nets r.0 r.1 (inl (w, Contains-append_left (required_types lib r.0.1) (flat_map (required_parameters lib) r.0.1.instances) w r.2, out))
           ]
         ]
@@ -123,11 +123,11 @@ wanted_known lib plan w parts nets deployment c out =
     ]
 
 pub all_known :
-    (lib : Library) (plan : Plan) → ArePartsKnown lib → ((n : Placed) → Contains (networks lib) n → ¬ (NetworkUnknown lib n))
+    (lib : Library) (plan : Plan) → ArePartsKnown lib → ((n : OwnedNetwork) → Contains (networks lib) n → ¬ (NetworkUnknown lib n))
     → ¬ (DeploymentUnknown lib plan) → ¬ (NameUnknown lib plan)
 all_known lib plan parts nets deployment unknown =
     elim unknown [
-      | inl w ↦ wanted_known lib plan w.0 parts nets deployment w.1 w.2
+      | inl w ↦ required_known lib plan w.0 parts nets deployment w.1 w.2
       | inr r ↦ elim r [
         | inl m ↦ true≢false (sym (parts.mentions m.0 m.1 m.2 m.3) ∙ m.4)
         | inr e ↦ nets e.0 e.1 (inr e.2)
@@ -136,10 +136,10 @@ all_known lib plan parts nets deployment unknown =
 
 -- ---- Deployments
 
-abbrev of_lists : Library → Plan → List Wanted
+abbrev of_lists : Library → Plan → List Required
 of_lists lib plan = flat_map (λ r. all_of r.instances (instance_names lib.application.network)) plan.resources
 
-abbrev of_links : Plan → List Wanted
+abbrev of_links : Plan → List Required
 of_links plan = flat_map (λ l. all_of (l.from ∷ l.to ∷ []) (resource_names_of plan)) plan.links
 
 lists_met : (lib : Library) (plan : Plan) → list_all met (of_lists lib plan) ≡ is_some (each_or_none (held_numbers lib) plan.resources)
@@ -180,13 +180,13 @@ and-false false = refl
 unknown_instance : (lib : Library) (plan : Plan) → each_or_none (held_numbers lib) plan.resources ≡ None → NameUnknown lib plan
 unknown_instance lib plan h =
     of_deployment lib plan
-    (unmet_wanted (required_deployment lib plan)
+    (unmet_required (required_deployment lib plan)
     (deployment_met lib plan ∙ ap (λ (o : Option (List (List ℕ))). is_some o && is_some (each_or_none (link_ends plan) plan.links)) h))
 
 unknown_resource : (lib : Library) (plan : Plan) → each_or_none (link_ends plan) plan.links ≡ None → NameUnknown lib plan
 unknown_resource lib plan h =
     of_deployment lib plan
-    (unmet_wanted (required_deployment lib plan)
+    (unmet_required (required_deployment lib plan)
     (deployment_met lib plan ∙ ap (λ (o : Option (List LinkEnds)). is_some (each_or_none (held_numbers lib) plan.resources) && is_some o) h
     ∙ and-false (is_some (each_or_none (held_numbers lib) plan.resources))))
 
@@ -194,7 +194,7 @@ deployment_known :
     (lib : Library) (plan : Plan) (hs : List (List ℕ)) (ls : List LinkEnds) → each_or_none (held_numbers lib) plan.resources ≡ Some hs
     → each_or_none (link_ends plan) plan.links ≡ Some ls → ¬ (DeploymentUnknown lib plan)
 deployment_known lib plan hs ls h g unknown =
-    met_wanted (required_deployment lib plan) (deployment_met lib plan ∙ (λ i. is_some (h i) && is_some (g i))) unknown.0 unknown.1 unknown.2
+    met_required (required_deployment lib plan) (deployment_met lib plan ∙ (λ i. is_some (h i) && is_some (g i))) unknown.0 unknown.1 unknown.2
 
 -- the numbers by the maps of indices
 held_are :
@@ -213,24 +213,24 @@ links_are plan indexes ls is =
 
 -- ---- The networks of composite types
 
-block_known : (lib : Library) (xs : List (Option NetworkNumbers)) (t : BlockType) (n : Placed) → AreBlocks lib xs → Contains lib.blocks t → Contains (networks_in t) n
+block_known : (lib : Library) (xs : List (Option NetworkNumbers)) (t : BlockType) (n : OwnedNetwork) → AreBlocks lib xs → Contains lib.blocks t → Contains (networks_in t) n
     → ¬ (NetworkUnknown lib n)
 block_known lib xs (block.Basic t) n are c d = absurd (Contains-nil n d)
 block_known lib xs (block.Composite t) n are c d =
-    let here : Placed = (Some t, t.network) in
+    let here : OwnedNetwork = (Some t, t.network) in
     let at = index_of_element lib.blocks (block.Composite t) c in
     let x = are.composites at.0 t at.1 in
     elim (Contains-cons_cases here [] n d) [
-      | inl e ↦ subst (λ (n : Placed). ¬ (NetworkUnknown lib n)) e (network_known lib here x.0 x.2)
+      | inl e ↦ subst (λ (n : OwnedNetwork). ¬ (NetworkUnknown lib n)) e (network_known lib here x.0 x.2)
       | inr none ↦ absurd (Contains-nil n none)
     ]
 
 pub networks_known :
     (lib : Library) (x : NetworkNumbers) (xs : List (Option NetworkNumbers)) → IsNetwork lib (None, lib.application.network) x → AreBlocks lib xs
-    → (n : Placed) → Contains (networks lib) n → ¬ (NetworkUnknown lib n)
+    → (n : OwnedNetwork) → Contains (networks lib) n → ¬ (NetworkUnknown lib n)
 networks_known lib x xs is are n c =
     elim (Contains-cons_cases (of_application_at lib) (flat_map networks_in lib.blocks) n c) [
-      | inl e ↦ subst (λ (n : Placed). ¬ (NetworkUnknown lib n)) e (network_known lib (of_application_at lib) x is)
+      | inl e ↦ subst (λ (n : OwnedNetwork). ¬ (NetworkUnknown lib n)) e (network_known lib (of_application_at lib) x is)
       | inr rest ↦ let r = flat_map-Contains networks_in lib.blocks n rest in block_known lib xs r.0 n are r.1 r.2
     ]
 
@@ -283,9 +283,9 @@ numbers_found lib plan instances resources rs ls application blocks held links n
     (λ z. N z.0 × AreBlocks lib z.1) of_networks (of_application lib plan) (of_block lib plan) (λ x y p q. (p, q)) a b in
     let second = both_answer deployed held links (each_or_none (held_numbers lib) plan.resources ≡ None) (each_or_none (link_ends plan) plan.links ≡ None) Fault H L
     (λ z. H z.0 × L z.1) of_deployed (unknown_instance lib plan) (unknown_resource lib plan) (λ x y p q. (p, q))
-    (told held (each_or_none (λ (r : ResourceEntry). each_or_none (index_in instances) r.instances) rs) (each_or_none (held_numbers lib) plan.resources)
+    (same_found held (each_or_none (λ (r : ResourceEntry). each_or_none (index_in instances) r.instances) rs) (each_or_none (held_numbers lib) plan.resources)
     (ap (each_or_none (λ (r : ResourceEntry). each_or_none (index_in instances) r.instances)) same_rs ∙ held_are lib instances plan.resources is_instances) h)
-    (told links (each_or_none (λ (l : Link). both_indexes (index_in resources l.from) (index_in resources l.to)) ls) (each_or_none (link_ends plan) plan.links)
+    (same_found links (each_or_none (λ (l : Link). both_indexes (index_in resources l.from) (index_in resources l.to)) ls) (each_or_none (link_ends plan) plan.links)
     (ap (each_or_none (λ (l : Link). both_indexes (index_in resources l.from) (index_in resources l.to))) same_ls ∙ links_are plan resources plan.links is_resources) k) in
     both_answer (Ok o) networks deployed Fault Fault Fault (λ z. N z.0 × AreBlocks lib z.1) (λ z. H z.0 × L z.1) (AreAll lib plan) found (λ f. f) (λ f. f)
     (λ x y p q. resolved lib plan x.0 x.1 y.0 y.1 parts p.0 p.1 q.0 q.1) first second

@@ -31,7 +31,7 @@ use Rattle.fb_types.proofs.NameLaws.{same_name-itself, same_from_same_name, cont
 abbrev pub name_cmp : Bor Name → Bor Name → Ordering
 name_cmp x y = slice_cmp nat_cmp x.now y.now
 
--- two keys are equal exactly if what they stand for is
+-- two keys are equal exactly if what they represent is
 abbrev pub IsExact : {K Y : Type 0} → (K → K → Ordering) → (K → Y) → Type 0
 IsExact {K} cmp view = (k q : K) → Decides (is_eq (cmp k q)) (view k ≡ view q)
 

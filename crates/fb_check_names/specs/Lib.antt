@@ -4,7 +4,7 @@ pub mod Catalog
 pub mod GivenTwice
 pub mod Parts
 pub mod Numbers
-pub mod Sorts
+pub mod PortKinds
 pub mod Types
 pub mod Scopes
 pub mod Unknown

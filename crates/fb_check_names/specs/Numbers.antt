@@ -4,7 +4,7 @@ use Rattle.std.specs.Prelude.{◌≡◌, ℕ, List, [], ◌∷◌, map, length, 
 use Rattle.fb_types.specs.Names.{Name, same_name}
 use Rattle.fb_types.specs.Blocks.{Kind, Event, event_block_named, ports_of}
 use Rattle.fb_types.specs.Flat.{kind_of, type_name, kind_of_instance, resource_names_of}
-use Rattle.fb_types.specs.Repeated.{Placed, instance_names}
+use Rattle.fb_types.specs.Repeated.{OwnedNetwork, instance_names}
 use Rattle.fb_types.specs.Unknown.{NameUnknown, event_ins, event_outs, data_ins, data_outs}
 use Rattle.fb_types.specs.declared.library.Library.{Library}
 use Rattle.fb_types.specs.declared.library.BasicType.{BasicType}
@@ -50,14 +50,14 @@ kind_of_number lib (number.Declared t) = option_map kind_of (slice_get lib.block
 -- ---- Ends of connections
 
 -- the ports of the component at an index
-abbrev pub ports_at_index : Library → Placed → ℕ → Option Ports
+abbrev pub ports_at_index : Library → OwnedNetwork → ℕ → Option Ports
 ports_at_index lib n i = option_map ports_of (option_and_then (kind_of_instance lib) (slice_get n.1.instances i))
 
 abbrev pub end_at : Option ℕ → List Name → PortName → Option ConnectionEnd
 end_at component ports e = option_map (λ k. record { component = component; port = k }) (index_of ports e.port)
 
 -- an end among the ports of the one kind at a component, or of the other at the boundary
-abbrev pub end_number : Library → Placed → (component boundary : Ports → List Name) → PortName → Option ConnectionEnd
+abbrev pub end_number : Library → OwnedNetwork → (component boundary : Ports → List Name) → PortName → Option ConnectionEnd
 end_number lib n component boundary e =
     elim e.component [
       | None ↦ option_and_then (λ t. end_at None (boundary t.ports) e) n.0
@@ -67,10 +67,10 @@ end_number lib n component boundary e =
 abbrev pub both_ends : Option ConnectionEnd → Option ConnectionEnd → Option NumberedConnection
 both_ends a b = option_and_then (λ x. option_map (λ y. record { from = x; to = y }) b) a
 
-abbrev pub event_wire : Library → Placed → Connection → Option NumberedConnection
+abbrev pub event_wire : Library → OwnedNetwork → Connection → Option NumberedConnection
 event_wire lib n c = both_ends (end_number lib n event_outs event_ins c.from) (end_number lib n event_ins event_outs c.to)
 
-abbrev pub data_wire : Library → Placed → Connection → Option NumberedConnection
+abbrev pub data_wire : Library → OwnedNetwork → Connection → Option NumberedConnection
 data_wire lib n c = both_ends (end_number lib n data_outs data_ins c.from) (end_number lib n data_ins data_outs c.to)
 
 -- ---- Networks
@@ -80,7 +80,7 @@ abbrev pub parameter_numbers : Library → Instance → Option (List ℕ)
 parameter_numbers lib i =
     elim (kind_of_instance lib i) [ None ↦ None | Some k ↦ each_or_none (λ x. index_of (data_ins (ports_of k)) x.name) i.parameters ]
 
-pub record IsNetwork (lib : Library) (n : Placed) (x : NetworkNumbers) : Type 0 where
+pub record IsNetwork (lib : Library) (n : OwnedNetwork) (x : NetworkNumbers) : Type 0 where
   pub types : each_or_none (λ i. type_number lib i.block_type) n.1.instances ≡ Some x.types
   pub parameters : each_or_none (parameter_numbers lib) n.1.instances ≡ Some x.parameters
   pub event_wires : each_or_none (event_wire lib n) n.1.event_connections ≡ Some x.event_wires

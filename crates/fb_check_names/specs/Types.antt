@@ -30,4 +30,4 @@ ports_of_block t = ports_of (kind_of t)
 
 -- the index of a port of a type among those of its kind
 abbrev pub port_number : Library → TypeNumber → (Ports → List Name) → Name → Option ℕ
-port_number lib t sort n = option_and_then (λ k. index_of (sort (ports_of k)) n) (kind_of_number lib t)
+port_number lib t port_kind n = option_and_then (λ k. index_of (port_kind (ports_of k)) n) (kind_of_number lib t)

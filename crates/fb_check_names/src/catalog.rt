@@ -67,15 +67,15 @@ pub fn catalog_of<'a>(
 {
     let blocks = library.blocks.as_slice();
     let declared = both(type_indexes(alloc, blocks), blocks_indexes(alloc, blocks));
-    let placed = both(
+    let located = both(
         network_indexes(alloc, &library.application.network),
         resource_indexes(alloc, plan),
     );
-    let found = both(declared, placed)?;
+    let found = both(declared, located)?;
     match found {
-        Some((declared, placed)) => {
+        Some((declared, located)) => {
             let (types, blocks) = declared;
-            let (instances, resources) = placed;
+            let (instances, resources) = located;
             Ok(Some(Catalog {
                 types,
                 blocks,

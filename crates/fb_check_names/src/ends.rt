@@ -3,12 +3,12 @@
 ghost use Rattle.std.specs.Prelude.{◌≡◌, IfOk, option_and_then};
 ghost use Rattle.fb_check_names.specs.Numbers.{each_or_none, end_at, end_number};
 ghost use Rattle.fb_check_names.specs.Scopes.{IsScope, AreTyped, component_number, placed, connection_number};
-ghost use Rattle.fb_check_names.specs.Sorts.{names_of_sort};
+ghost use Rattle.fb_check_names.specs.PortKinds.{names_of_kind};
 ghost use Rattle.fb_check_names.specs.Types.{AreTypes};
 
 use crate::numbers::{ConnectionEnd, NumberedConnection, TypeNumber};
 use crate::placing::{Indexes, index_of};
-use crate::ports::{PortSort, index_in};
+use crate::ports::{PortKind, index_in};
 use crate::types::Types;
 use fb_types::{CompositeType, Connection, Items, Name, Network, PortName};
 use std::alloc::{AllocError, Global};
@@ -29,30 +29,30 @@ pub struct NetworkScope<'a, 'b> {
 #[derive(Clone, Copy)]
 pub struct ConnectionKinds {
     /// The kind from which a connection leads at components.
-    pub outputs: PortSort,
+    pub outputs: PortKind,
     /// The kind to which a connection leads at components.
-    pub inputs: PortSort,
+    pub inputs: PortKind,
 }
 
 /// From an output event to an input event.
 pub const EVENTS: ConnectionKinds = ConnectionKinds {
-    outputs: PortSort::EventOutput,
-    inputs: PortSort::EventInput,
+    outputs: PortKind::EventOutput,
+    inputs: PortKind::EventInput,
 };
 
 /// From an output variable to an input variable.
 pub const DATA: ConnectionKinds = ConnectionKinds {
-    outputs: PortSort::Output,
-    inputs: PortSort::Input,
+    outputs: PortKind::Output,
+    inputs: PortKind::Input,
 };
 
 /// An end at the boundary.
-fn boundary_end(scope: &NetworkScope, sort: PortSort, end: &PortName) -> Option<ConnectionEnd>
+fn boundary_end(scope: &NetworkScope, port_kind: PortKind, end: &PortName) -> Option<ConnectionEnd>
     requires { IsScope scope.now }
-    ensures { result ≡ option_and_then (λ t. end_at None (names_of_sort sort t.ports) end.now) (placed scope.now).0 }
+    ensures { result ≡ option_and_then (λ t. end_at None (names_of_kind port_kind t.ports) end.now) (placed scope.now).0 }
 {
     let (composite, indexes) = scope.composite?;
-    let port = index_in(&composite.ports, indexes, sort, &end.port)?;
+    let port = index_in(&composite.ports, indexes, port_kind, &end.port)?;
     Some(ConnectionEnd {
         component: None,
         port,
@@ -64,18 +64,18 @@ fn component_end(
     types: &Types,
     scope: &NetworkScope,
     kinds: &Items<TypeNumber>,
-    sort: PortSort,
+    port_kind: PortKind,
     component: &Name,
     end: &PortName,
 ) -> Option<ConnectionEnd>
     requires types { AreTypes types.now }
     requires scope { IsScope scope.now }
     requires typed { AreTyped types.now.library.now scope.now.network.now.instances kinds.now }
-    ensures { result ≡ component_number types.now.library.now (placed scope.now) (names_of_sort sort) component.now end.now }
+    ensures { result ≡ component_number types.now.library.now (placed scope.now) (names_of_kind port_kind) component.now end.now }
 {
     let instance = index_of(scope.instances, component.as_bytes())?;
     let kind = kinds.get(instance)?;
-    let port = types.port_of(*kind, sort, &end.port)?;
+    let port = types.port_of(*kind, port_kind, &end.port)?;
     Some(ConnectionEnd {
         component: Some(instance),
         port,
@@ -87,14 +87,14 @@ fn end_of(
     types: &Types,
     scope: &NetworkScope,
     kinds: &Items<TypeNumber>,
-    component: PortSort,
-    boundary: PortSort,
+    component: PortKind,
+    boundary: PortKind,
     end: &PortName,
 ) -> Option<ConnectionEnd>
     requires types { AreTypes types.now }
     requires scope { IsScope scope.now }
     requires typed { AreTyped types.now.library.now scope.now.network.now.instances kinds.now }
-    ensures { result ≡ end_number types.now.library.now (placed scope.now) (names_of_sort component) (names_of_sort boundary) end.now }
+    ensures { result ≡ end_number types.now.library.now (placed scope.now) (names_of_kind component) (names_of_kind boundary) end.now }
 {
     match &end.component {
         None => boundary_end(scope, boundary, end),

@@ -31,6 +31,6 @@ pub use numbers::{
     ConnectionEnd, LinkEnds, NetworkNumbers, NumberedConnection, Resolved, TypeNumber,
 };
 pub use placing::{Indexes, index_of, indexes_of};
-pub use ports::PortSort;
+pub use ports::PortKind;
 pub use repeats::{EndNames, end_names};
 pub use resolution::resolve;

@@ -9,7 +9,7 @@ ghost use Rattle.fb_check_names.specs.Unknown.{NetworkUnknown};
 use crate::both::both;
 use crate::ends::{DATA, EVENTS, NetworkScope, wires_of};
 use crate::numbers::{NetworkNumbers, TypeNumber};
-use crate::ports::PortSort;
+use crate::ports::PortKind;
 use crate::types::Types;
 use fb_types::{Instance, Items};
 use std::alloc::{AllocError, Global};
@@ -47,7 +47,7 @@ fn input_indexes(
     };
     let mut indexes = Items::new(alloc);
     for parameter in instance.parameters.as_slice() {
-        match types.port_of(number, PortSort::Input, &parameter.name) {
+        match types.port_of(number, PortKind::Input, &parameter.name) {
             Some(index) => indexes.push(index)?,
             None => return Ok(None),
         }

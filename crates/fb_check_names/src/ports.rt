@@ -2,7 +2,7 @@
 
 ghost use Rattle.std.specs.Prelude.{◌≡◌, ◌<◌, ◌≤◌, ◌-◌, None, MatchOption, SomeIff, map};
 ghost use Rattle.fb_check_names.specs.Numbers as spec;
-ghost use Rattle.fb_check_names.specs.Sorts.{names_of_sort, AreIndexesOf};
+ghost use Rattle.fb_check_names.specs.PortKinds.{names_of_kind, AreIndexesOf};
 
 use crate::named::Named;
 use crate::placing::{Indexes, index_of};
@@ -10,7 +10,7 @@ use fb_types::{Name, Ports};
 
 /// A kind of ports, including the direction.
 #[derive(Clone, Copy)]
-pub enum PortSort {
+pub enum PortKind {
     EventInput,
     EventOutput,
     Input,
@@ -30,14 +30,14 @@ fn index_named<T: Named>(items: &[T], name: &Name) -> Option<usize>
 }
 
 /// The index of a port among those of its kind. It compares all of them, which is fast for an interface with few.
-pub(crate) fn index_among(ports: &Ports, sort: PortSort, name: &Name) -> Option<usize>
-    ensures { result ≡ spec.index_of (names_of_sort sort ports.now) name.now }
+pub(crate) fn index_among(ports: &Ports, port_kind: PortKind, name: &Name) -> Option<usize>
+    ensures { result ≡ spec.index_of (names_of_kind port_kind ports.now) name.now }
 {
-    match sort {
-        PortSort::EventInput => index_named(ports.event_inputs.as_slice(), name),
-        PortSort::EventOutput => index_named(ports.event_outputs.as_slice(), name),
-        PortSort::Input => index_named(ports.inputs.as_slice(), name),
-        PortSort::Output => index_named(ports.outputs.as_slice(), name),
+    match port_kind {
+        PortKind::EventInput => index_named(ports.event_inputs.as_slice(), name),
+        PortKind::EventOutput => index_named(ports.event_outputs.as_slice(), name),
+        PortKind::Input => index_named(ports.inputs.as_slice(), name),
+        PortKind::Output => index_named(ports.outputs.as_slice(), name),
     }
 }
 
@@ -62,20 +62,20 @@ fn within(index: Option<usize>, count: usize) -> Option<usize>
 pub(crate) fn index_in(
     ports: &Ports,
     indexes: &Indexes,
-    sort: PortSort,
+    port_kind: PortKind,
     name: &Name,
 ) -> Option<usize>
     requires { AreIndexesOf ports.now indexes.now }
-    ensures { result ≡ spec.index_of (names_of_sort sort ports.now) name.now }
+    ensures { result ≡ spec.index_of (names_of_kind port_kind ports.now) name.now }
 {
     let index = index_of(indexes, name.as_bytes());
     let after_event_inputs = after(index, ports.event_inputs.len());
     let after_events = after(after_event_inputs, ports.event_outputs.len());
     let after_inputs = after(after_events, ports.inputs.len());
-    match sort {
-        PortSort::EventInput => within(index, ports.event_inputs.len()),
-        PortSort::EventOutput => within(after_event_inputs, ports.event_outputs.len()),
-        PortSort::Input => within(after_events, ports.inputs.len()),
-        PortSort::Output => within(after_inputs, ports.outputs.len()),
+    match port_kind {
+        PortKind::EventInput => within(index, ports.event_inputs.len()),
+        PortKind::EventOutput => within(after_event_inputs, ports.event_outputs.len()),
+        PortKind::Input => within(after_events, ports.inputs.len()),
+        PortKind::Output => within(after_inputs, ports.outputs.len()),
     }
 }

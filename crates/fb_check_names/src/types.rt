@@ -2,13 +2,13 @@
 
 ghost use Rattle.std.specs.Prelude.{◌≡◌, IfOk};
 ghost use Rattle.fb_check_names.specs.Numbers as spec;
-ghost use Rattle.fb_check_names.specs.Sorts.{names_of_sort};
+ghost use Rattle.fb_check_names.specs.PortKinds.{names_of_kind};
 ghost use Rattle.fb_check_names.specs.Types.{AreTypes, HasTypes, port_number};
 
 use crate::catalog::Catalog;
 use crate::numbers::TypeNumber;
 use crate::placing::index_of;
-use crate::ports::{PortSort, index_among, index_in};
+use crate::ports::{PortKind, index_among, index_in};
 use fb_types::{Items, Library, Name, Ports, all_ports, kind_named};
 use std::alloc::{AllocError, Global};
 
@@ -59,19 +59,19 @@ impl<'a, 'b> Types<'a, 'b> {
     }
 
     /// The index of a port of a type among those of its kind.
-    pub fn port_of(&self, number: TypeNumber, sort: PortSort, name: &Name) -> Option<usize>
+    pub fn port_of(&self, number: TypeNumber, port_kind: PortKind, name: &Name) -> Option<usize>
         requires { AreTypes self.now }
-        ensures { result ≡ port_number self.now.library.now number (names_of_sort sort) name.now }
+        ensures { result ≡ port_number self.now.library.now number (names_of_kind port_kind) name.now }
     {
         match number {
             TypeNumber::Event(kind) => {
                 let ports = self.event_ports.get(kind.index())?;
-                index_among(ports, sort, name)
+                index_among(ports, port_kind, name)
             }
             TypeNumber::Declared(index) => {
                 let block = self.library.blocks.get(index)?;
                 let indexes = self.catalog.blocks.get(index)?;
-                index_in(block.ports(), &indexes.ports, sort, name)
+                index_in(block.ports(), &indexes.ports, port_kind, name)
             }
         }
     }

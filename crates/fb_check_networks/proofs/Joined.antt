@@ -7,7 +7,7 @@ use Rattle.fb_types.specs.Names.{Name, same_name}
 use Rattle.fb_types.specs.Blocks.{Kind, named, ports_of, variable_names, type_at}
 use Rattle.fb_types.specs.Flat.{kind_of_instance, instance_in}
 use Rattle.fb_types.specs.Joined.{OutOfRange, IsWithin, type_among, type_at_end}
-use Rattle.fb_types.specs.Repeated.{Placed, NameTwice, networks, networks_in, instance_names}
+use Rattle.fb_types.specs.Repeated.{OwnedNetwork, NameTwice, networks, networks_in, instance_names}
 use Rattle.fb_types.specs.declared.value.Ty.{Ty}
 use Rattle.fb_types.specs.declared.library.Library.{Library}
 use Rattle.fb_types.specs.declared.library.CompositeType.{CompositeType}
@@ -34,7 +34,7 @@ use Rattle.fb_check_networks.specs.Networks.{boundary, network_passes}
 use Rattle.fb_check_networks.specs.Joins.{is_out, leads_out, leads_out_in}
 use Rattle.fb_check_networks.proofs.Lists.{any_at, any_from}
 use Rattle.fb_check_networks.proofs.Naming.{IsApart, type_by_number, composite_at, kind_apart, composite_apart}
-use Rattle.fb_check_networks.proofs.Placing.{network_tells}
+use Rattle.fb_check_networks.proofs.Placing.{network_decides}
 use Rattle.fb_check_networks.proofs.Ranged.{within-Decides}
 
 -- ---- The variable with a name
@@ -100,7 +100,7 @@ end_type lib component around ports types e =
     ]
 
 boundary_end :
-    (lib : Library) (n : Placed) (types : List TypeNumber) (component around : Ports → List Variable) (e : PortName) (w : ConnectionEnd)
+    (lib : Library) (n : OwnedNetwork) (types : List TypeNumber) (component around : Ports → List Variable) (e : PortName) (w : ConnectionEnd)
     → ((t : CompositeType) → n.0 ≡ Some t → Finds around t.ports)
     → option_and_then (λ t. end_at None (variable_names (around t.ports)) e) n.0 ≡ Some w
     → end_type lib component around (boundary n) types w ≡ option_and_then (λ t. type_among t.ports e) n.0
@@ -114,7 +114,7 @@ boundary_end lib n types component around e w finds h =
     ∙ sym (ap (option_and_then (λ (t : CompositeType). type_among t.ports e)) t.1))
 
 component_end :
-    (lib : Library) (n : Placed) (x : NetworkNumbers) (component around : Ports → List Variable) (e : PortName) (c : Name) (w : ConnectionEnd) → IsNetwork lib n x
+    (lib : Library) (n : OwnedNetwork) (x : NetworkNumbers) (component around : Ports → List Variable) (e : PortName) (c : Name) (w : ConnectionEnd) → IsNetwork lib n x
     → ((t : TypeNumber) (k : Kind) → kind_of_number lib t ≡ Some k → Finds component (ports_of k))
     → option_and_then (λ i. option_and_then (λ p. end_at (Some i) (variable_names (component p)) e) (ports_at_index lib n i)) (index_of (instance_names n.1) c) ≡ Some w
     → end_type lib component around (boundary n) x.types w
@@ -140,7 +140,7 @@ component_end lib n x component around e c w is finds h =
     ∙ sym (ap (option_and_then (λ (k : Kind). type_among (ports_of k) e)) stands))
 
 end_by_number :
-    (lib : Library) (n : Placed) (x : NetworkNumbers) (component around : Ports → List Variable) (e : PortName) (w : ConnectionEnd) → IsNetwork lib n x
+    (lib : Library) (n : OwnedNetwork) (x : NetworkNumbers) (component around : Ports → List Variable) (e : PortName) (w : ConnectionEnd) → IsNetwork lib n x
     → ((t : TypeNumber) (k : Kind) → kind_of_number lib t ≡ Some k → Finds component (ports_of k))
     → ((t : CompositeType) → n.0 ≡ Some t → Finds around t.ports)
     → end_number lib n (λ p. variable_names (component p)) (λ p. variable_names (around p)) e ≡ Some w
@@ -170,25 +170,25 @@ both_parts a b w h =
     (x.1 ∙ ap (λ (w : NumberedConnection). Some w.from) y.2, y.1 ∙ ap (λ (w : NumberedConnection). Some w.to) y.2)
 
 -- the types at the two ends of a connection
-abbrev AreTypes : Library → Placed → NetworkNumbers → Connection → NumberedConnection → Type 0
+abbrev AreTypes : Library → OwnedNetwork → NetworkNumbers → Connection → NumberedConnection → Type 0
 AreTypes lib n x c w =
     (source_type lib (boundary n) x.types w.from ≡ type_at_end lib n c.from) × (target_type lib (boundary n) x.types w.to ≡ type_at_end lib n c.to)
 
 around_apart :
-    (lib : Library) (plan : Plan) (n : Placed) (t : CompositeType) → ¬ (NameTwice lib plan) → Contains (networks lib) n → n.0 ≡ Some t → IsApart t.ports
+    (lib : Library) (plan : Plan) (n : OwnedNetwork) (t : CompositeType) → ¬ (NameTwice lib plan) → Contains (networks lib) n → n.0 ≡ Some t → IsApart t.ports
 around_apart lib plan n t once there h =
     elim (Contains-cons_cases (None, lib.application.network) (flat_map networks_in lib.blocks) n there) [
-      | inl e ↦ absurd (let none : None ≡ Some t = ap (λ (n : Placed). n.0) e ∙ h in cc)
+      | inl e ↦ absurd (let none : None ≡ Some t = ap (λ (n : OwnedNetwork). n.0) e ∙ h in cc)
       | inr rest ↦
           let at = composite_at lib.blocks n rest in
-          let some : Some at.1 ≡ Some t = ap (λ (n : Placed). n.0) at.3 ∙ h in
+          let some : Some at.1 ≡ Some t = ap (λ (n : OwnedNetwork). n.0) at.3 ∙ h in
           let same : at.1 ≡ t = cc in
           let P : CompositeType → Type 0 = λ t. IsApart t.ports in
           subst P same (composite_apart lib plan at.0 at.1 once at.2)
     ]
 
 wire_types :
-    (lib : Library) (plan : Plan) (n : Placed) (x : NetworkNumbers) (c : Connection) (w : NumberedConnection) → ¬ (NameTwice lib plan) → Contains (networks lib) n
+    (lib : Library) (plan : Plan) (n : OwnedNetwork) (x : NetworkNumbers) (c : Connection) (w : NumberedConnection) → ¬ (NameTwice lib plan) → Contains (networks lib) n
     → IsNetwork lib n x → data_wire lib n c ≡ Some w → AreTypes lib n x c w
 wire_types lib plan n x c w once there is h =
     let outputs : Ports → List Variable = λ p. p.outputs in
@@ -224,11 +224,11 @@ out-Decides (Some s) (Some t) =
           true_of_not (is_within s t) (false_from_ne_true (is_within s t) (λ e. apart (d.0 e))),
     )
 
-abbrev IsOutIn : Library → Placed → Type 0
+abbrev IsOutIn : Library → OwnedNetwork → Type 0
 IsOutIn lib n = (c : Connection) × Contains n.1.data_connections c × IsOut (type_at_end lib n c.from) (type_at_end lib n c.to)
 
 network_by_number :
-    (lib : Library) (plan : Plan) (n : Placed) (x : NetworkNumbers) → ¬ (NameTwice lib plan) → Contains (networks lib) n → IsNetwork lib n x
+    (lib : Library) (plan : Plan) (n : OwnedNetwork) (x : NetworkNumbers) → ¬ (NameTwice lib plan) → Contains (networks lib) n → IsNetwork lib n x
     → Decides (leads_out_in lib n x) (IsOutIn lib n)
 network_by_number lib plan n x once there is = (
   λ h.
@@ -251,7 +251,7 @@ pub ranges_answer :
     (lib : Library) (plan : Plan) (r : Resolved) (b : Bool) → b ≡ network_passes (leads_out_in lib) lib r → IsResolved lib plan r → ¬ (NameTwice lib plan)
     → IsTrue b ↔ OutOfRange lib
 ranges_answer lib plan r b e is once =
-    let d = network_tells lib plan r (leads_out_in lib) (IsOutIn lib) is (λ n x there net. network_by_number lib plan n x once there net) in (
+    let d = network_decides lib plan r (leads_out_in lib) (IsOutIn lib) is (λ n x there net. network_by_number lib plan n x once there net) in (
       λ h. let w = d.0 (sym e ∙ h) in (w.0, w.2.0, w.2.2.0, w.2.2.1, w.1, w.2.1, w.2.2.2, w.2.2.3, w.2.2.4),
       λ w. e ∙ d.1 (w.0, w.4, (w.1, w.5, (w.2, w.3, w.6, w.7, w.8))),
     )

@@ -1,11 +1,11 @@
--- What the numbers of types and the indices of ports say of the names that they stand for.
+-- What the numbers of types and the indices of ports say of the names that they represent.
 use Rattle.std.proofs.Common.{◌≡◌, ℕ, zero, suc, List, [], ◌∷◌, ◌++◌, map, Some, None, Contains, refl, ◌∙◌, ap, subst, inl, inr}
 use Rattle.std.specs.Prelude.{slice_get, option_map, option_and_then, position, flat_map}
 use Rattle.std.proofs.lemmas.List.Elements.{Contains-append_left, Contains-append_right}
 use Rattle.fb_types.specs.Names.{Name, same_name}
 use Rattle.fb_types.specs.Blocks.{Kind, Event, named, event_blocks, event_names, variable_names, ports_of, ports_of_event_block}
 use Rattle.fb_types.specs.Flat.{kind_of, type_name, type_named, resource_names_of}
-use Rattle.fb_types.specs.Repeated.{Twice, Placed, NameTwice, networks, networks_in, port_names, internals_of, name_spaces, block_type_names, algorithm_names, state_names, basics, instance_names, with_lists, interfaces, parameter_lists}
+use Rattle.fb_types.specs.Repeated.{Twice, OwnedNetwork, NameTwice, networks, networks_in, port_names, internals_of, name_spaces, block_type_names, algorithm_names, state_names, basics, instance_names, with_lists, interfaces, parameter_lists}
 use Rattle.fb_types.specs.declared.library.Library.{Library}
 use Rattle.fb_types.specs.declared.library.BlockType.{BlockType}
 use Rattle.fb_types.specs.declared.library.BlockType.TheVariants as block
@@ -24,7 +24,7 @@ use Rattle.fb_check_names.specs.Numbers.{index_of, type_number, kind_of_number}
 
 -- ---- Types
 
--- a name and its number stand for one type
+-- a name and its number represent one type
 pub type_numbered : (lib : Library) (n : Name) → type_named lib n ≡ option_and_then (kind_of_number lib) (type_number lib n)
 type_numbered lib n =
     elim (named (λ e. e.0) n event_blocks) as
@@ -46,7 +46,7 @@ type_by_number lib n t h = type_numbered lib n ∙ ap (option_and_then (kind_of_
 
 -- the composite type that contains a network other than the application's
 pub composite_at :
-    (bs : List BlockType) (n : Placed) → Contains (flat_map networks_in bs) n
+    (bs : List BlockType) (n : OwnedNetwork) → Contains (flat_map networks_in bs) n
     → (k : ℕ) × (t : CompositeType) × (slice_get bs k ≡ Some (block.Composite t)) × ((Some t, t.network) ≡ n)
 composite_at [] n h = absurd (Contains-nil n h)
 composite_at (block.Basic b ∷ bs) n h = let r = composite_at bs n h in (suc r.0, r.1, r.2, r.3)
@@ -90,9 +90,9 @@ declared_apart lib plan b once h n i o =
     let types = block_type_names lib ∷ map port_names lib.blocks in
     let algorithms = map algorithm_names (basics lib) in
     let states = map state_names (basics lib) in
-    let instances = map (λ (n : Placed). instance_names n.1) (networks lib) in
+    let instances = map (λ (n : OwnedNetwork). instance_names n.1) (networks lib) in
     let withs = flat_map with_lists (interfaces lib) in
-    let parameters = flat_map (λ (n : Placed). parameter_lists n.1) (networks lib) in
+    let parameters = flat_map (λ (n : OwnedNetwork). parameter_lists n.1) (networks lib) in
     let among_types : Contains types (port_names b) =
     Contains-there (block_type_names lib) (map port_names lib.blocks) (port_names b) (Contains-map port_names lib.blocks b h) in
     let among_all : Contains (name_spaces lib plan) (port_names b) =

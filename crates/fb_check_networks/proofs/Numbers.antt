@@ -1,4 +1,4 @@
--- What the numbers of a network's connections stand for.
+-- What the numbers of a network's connections represent.
 use Rattle.std.proofs.Common.{◌≡◌, ℕ, ◌<◌, List, [], ◌∷◌, length, map, get_or, Option, Some, None, Contains, refl, sym, ◌∙◌, ap, subst}
 use Rattle.std.specs.Prelude.{slice_get, option_map, option_and_then}
 use Rattle.std.proofs.lemmas.Option.{slice_get_read}
@@ -92,7 +92,7 @@ end_known lib component boundary p e h =
           }
     ] refl h
 
--- the port that the names stand for
+-- the port that the names represent
 pub known_port :
     (lib : Library) (component : Ports → List Name) (p : PortName) (e : ConnectionEnd) (k : IsKnown lib component p e) → port_in [] p ≡ record { at = k.name ∷ []; name = p.port }
 known_port lib component p e k =

@@ -8,7 +8,7 @@ use Rattle.std.proofs.lemmas.Bool.{true≢false}
 use Rattle.fb_types.specs.Names.{Port}
 use Rattle.fb_types.specs.Flat.{port_in}
 use Rattle.fb_types.specs.Joined.{TwoSources}
-use Rattle.fb_types.specs.Repeated.{Twice, Placed, networks_in}
+use Rattle.fb_types.specs.Repeated.{Twice, OwnedNetwork, networks_in}
 use Rattle.fb_types.specs.declared.library.Library.{Library}
 use Rattle.fb_types.specs.declared.library.BlockType.{BlockType}
 use Rattle.fb_types.specs.declared.library.BlockType.TheVariants as block
@@ -95,7 +95,7 @@ sources_later lib a cs bs (Err e) application top h blocks inside = inside
 sources_later lib a cs bs (Ok b) application top h blocks inside = (
   λ g. let w = inside.0 g in from_inside lib (w.0, subst (λ (ts : List BlockType). Contains ts w.0) blocks w.1, w.2),
   λ w.
-      let P : Placed → Type 0 = λ n. Twice (targets n.1.data_connections) in
+      let P : OwnedNetwork → Type 0 = λ n. Twice (targets n.1.data_connections) in
       elim (Contains-cons_cases (None, lib.application.network) (flat_map networks_in lib.blocks) w.0 w.1) [
         | inl e ↦
             let Q : List Connection → Type 0 = λ cs. Twice (targets cs) in

@@ -7,7 +7,7 @@ use Rattle.fb_types.specs.Values.{fits}
 use Rattle.fb_types.specs.Blocks.{Kind, named, ports_of, type_at}
 use Rattle.fb_types.specs.Flat.{kind_of_instance}
 use Rattle.fb_types.specs.Kinds.{parameter_right, parameters_right}
-use Rattle.fb_types.specs.Repeated.{Placed}
+use Rattle.fb_types.specs.Repeated.{OwnedNetwork}
 use Rattle.fb_types.specs.Unknown.{data_ins}
 use Rattle.fb_types.specs.declared.library.Library.{Library}
 use Rattle.fb_types.specs.declared.library.Instance.{Instance}
@@ -25,7 +25,7 @@ use Rattle.fb_types.proofs.ByIndex.{element_of_index, index_of_element}
 use Rattle.fb_check_networks.specs.Parameters.{ParameterWrong, is_wrong, has_wrong, has_wrong_in}
 use Rattle.fb_check_networks.proofs.Lists.{any_at, any_from}
 use Rattle.fb_check_networks.proofs.Naming.{type_by_number}
-use Rattle.fb_check_networks.proofs.Placing.{network_tells}
+use Rattle.fb_check_networks.proofs.Placing.{network_decides}
 
 -- one parameter
 parameter_by_number :
@@ -92,11 +92,11 @@ false_of_not : (b : Bool) → not b ≡ true → b ≡ false
 false_of_not true h = sym h
 false_of_not false h = refl
 
-abbrev IsWrongIn : Library → Placed → Type 0
+abbrev IsWrongIn : Library → OwnedNetwork → Type 0
 IsWrongIn lib n = (i : Instance) × Contains n.1.instances i × (parameters_right lib i ≡ false)
 
 network_by_number :
-    (lib : Library) (n : Placed) (x : NetworkNumbers) → IsNetwork lib n x → Decides (has_wrong_in lib n.1 x) (IsWrongIn lib n)
+    (lib : Library) (n : OwnedNetwork) (x : NetworkNumbers) → IsNetwork lib n x → Decides (has_wrong_in lib n.1 x) (IsWrongIn lib n)
 network_by_number lib n x is =
     let by_names = instances_by_number lib n.1.instances x.types x.parameters is.types is.parameters in (
       λ h.
@@ -112,7 +112,7 @@ pub parameters_answer :
     (lib : Library) (plan : Plan) (r : Resolved) (b : Bool) → b ≡ network_passes (λ n x. has_wrong_in lib n.1 x) lib r → IsResolved lib plan r
     → IsTrue b ↔ ParameterWrong lib
 parameters_answer lib plan r b e is =
-    let d = network_tells lib plan r (λ n x. has_wrong_in lib n.1 x) (IsWrongIn lib) is (λ n x _ net. network_by_number lib n x net) in (
+    let d = network_decides lib plan r (λ n x. has_wrong_in lib n.1 x) (IsWrongIn lib) is (λ n x _ net. network_by_number lib n x net) in (
       λ h. let w = d.0 (sym e ∙ h) in (w.0, w.2.0, w.1, w.2.1, w.2.2),
       λ w. e ∙ d.1 (w.0, w.2, (w.1, w.3, w.4)),
     )

@@ -3,7 +3,7 @@ use Rattle.std.specs.Prelude.{◌≡◌, ℕ, List, Bool, false, not, Some, None
 use Rattle.std.specs.List.{list_any, zip}
 use Rattle.fb_types.specs.Values.{fits}
 use Rattle.fb_types.specs.Kinds.{parameters_right}
-use Rattle.fb_types.specs.Repeated.{Placed, networks}
+use Rattle.fb_types.specs.Repeated.{OwnedNetwork, networks}
 use Rattle.fb_types.specs.declared.library.Library.{Library}
 use Rattle.fb_types.specs.declared.library.Instance.{Instance}
 use Rattle.fb_types.specs.declared.library.Network.{Network}
@@ -15,7 +15,7 @@ use Rattle.fb_check_networks.specs.Variables.{input_type}
 -- An instance has a parameter that is not a value of its input's type.
 abbrev pub ParameterWrong : Library → Type 0
 ParameterWrong lib =
-    (n : Placed) × (i : Instance) × Contains (networks lib) n × Contains n.1.instances i × (parameters_right lib i ≡ false)
+    (n : OwnedNetwork) × (i : Instance) × Contains (networks lib) n × Contains n.1.instances i × (parameters_right lib i ≡ false)
 
 -- ---- By number
 

@@ -70,13 +70,13 @@ shuffle_three true true false false lc lm = refl
 
 -- ---- Names of one type
 
-all_of_met : (ns sort : List Name) → all_met (all_of ns sort) ≡ list_all (among sort) ns
-all_of_met ns sort = list_all-map is_met (λ n. (n, sort)) ns
+all_of_met : (ns value_kind : List Name) → all_met (all_of ns value_kind) ≡ list_all (among value_kind) ns
+all_of_met ns value_kind = list_all-map is_met (λ n. (n, value_kind)) ns
 
-withs_in : (es : List EventPort) (sort : List Name) → all_met (flat_map (λ e. all_of e.with sort) es) ≡ list_all (λ e. list_all (among sort) e.with) es
-withs_in es sort =
-    list_all-flat_map is_met (λ e. all_of e.with sort) es
-    ∙ list_all-agree (λ e. all_met (all_of e.with sort)) (λ e. list_all (among sort) e.with) (λ e. all_of_met e.with sort) es
+withs_in : (es : List EventPort) (value_kind : List Name) → all_met (flat_map (λ e. all_of e.with value_kind) es) ≡ list_all (λ e. list_all (among value_kind) e.with) es
+withs_in es value_kind =
+    list_all-flat_map is_met (λ e. all_of e.with value_kind) es
+    ∙ list_all-agree (λ e. all_met (all_of e.with value_kind)) (λ e. list_all (among value_kind) e.with) (λ e. all_of_met e.with value_kind) es
 
 pub withs_met :
     (p : Ports) → all_met (required_withs p) ≡ (list_all (with_inputs p) p.event_inputs && list_all (with_outputs p) p.event_outputs)

@@ -1,4 +1,4 @@
--- What a name of an interface stands for: each name is in one of its lists.
+-- What a name of an interface represents: each name is in one of its lists.
 use Rattle.std.proofs.Common.{◌≡◌, ℕ, zero, suc, ◌≤◌, ◌-◌, length, Bool, true, false, cond, ◌||◌, List, [], ◌∷◌, ◌++◌, append_assoc, map, Option, Some, None, refl, sym, ◌∙◌, ap, subst, arith}
 use Rattle.std.specs.Prelude.{position, slice_get, option_map, option_and_then, is_some}
 use Rattle.std.proofs.lemmas.Bool.{true≢false, false_from_ne_true}
@@ -13,9 +13,9 @@ use Rattle.fb_types.specs.declared.library.Variable.{Variable}
 use Rattle.fb_types.specs.declared.value.Ty.{Ty}
 use Rattle.fb_types.proofs.Positions.{named-position}
 use Rattle.fb_types.proofs.NameLaws.{contains_from_any, same_name-flip}
-use Rattle.fb_check_names.specs.Sorts.{names_of_sort}
-use Rattle.fb_check_names.specs.declared.ports.PortSort.{PortSort}
-use Rattle.fb_check_names.specs.declared.ports.PortSort.TheVariants as sort
+use Rattle.fb_check_names.specs.PortKinds.{names_of_kind}
+use Rattle.fb_check_names.specs.declared.ports.PortKind.{PortKind}
+use Rattle.fb_check_names.specs.declared.ports.PortKind.TheVariants as value_kind
 use Rattle.fb_check_types.specs.declared.interface.Role.{Role}
 use Rattle.fb_types.proofs.ByIndex.{element_at}
 use Rattle.fb_types.proofs.Options.{none_from_is_some}
@@ -273,12 +273,12 @@ output_says d n r is once =
     ∙ is_some-named (λ (x : Variable). x.name) n d.ports.outputs
 
 pub port_says :
-    (s : PortSort) (d : Declared) (n : Name) (r : Option Role) → r ≡ role_of d n → ¬ (Twice (names_of d))
-    → says (is_port s) r ≡ among (names_of_sort s d.ports) n
-port_says sort.EventInput d n r is once = event_input_says d n r is
-port_says sort.EventOutput d n r is once = event_output_says d n r is once
-port_says sort.Input d n r is once = input_says d n r is once
-port_says sort.Output d n r is once = output_says d n r is once
+    (s : PortKind) (d : Declared) (n : Name) (r : Option Role) → r ≡ role_of d n → ¬ (Twice (names_of d))
+    → says (is_port s) r ≡ among (names_of_kind s d.ports) n
+port_says value_kind.EventInput d n r is once = event_input_says d n r is
+port_says value_kind.EventOutput d n r is once = event_output_says d n r is once
+port_says value_kind.Input d n r is once = input_says d n r is once
+port_says value_kind.Output d n r is once = output_says d n r is once
 
 pub type_says : (d : Declared) (n : Name) (r : Option Role) → r ≡ role_of d n → ¬ (Twice (names_of d)) → says_type r ≡ type_named (variables_of d) n
 type_says d n r is once =
@@ -317,7 +317,7 @@ same_names d =
     let l = variables_named (λ t. Internal t) d.internals in
     e ∙ ap (λ ns. es ++ ns) (f ∙ ap (λ ns. fs ++ ns) (i ∙ ap (λ ns. is ++ ns) (o ∙ ap (λ ns. os ++ ns) l))) ∙ sym (names_right d)
 
--- what the index leads to is what the name stands for
+-- what the index leads to is the meaning of the name
 pub role_found : (d : Declared) (n : Name) (o : Option ℕ) → o ≡ position (same_name n) (names_of d)
     → option_and_then (λ i. option_map (λ r. r.1) (slice_get (with_roles d) i)) o ≡ role_of d n
 role_found d n o at =

@@ -5,7 +5,7 @@ use Rattle.fb_types.specs.Syntax.{body_of, expr_of}
 use Rattle.fb_types.specs.Blocks.{among, event_names, variable_names, ports_of}
 use Rattle.fb_types.specs.Flat.{kind_of, variables_in}
 use Rattle.fb_types.specs.Repeated.{algorithm_names}
-use Rattle.fb_types.specs.Unknown.{Wanted, all_of, optional, required_transition, required_withs, required_chart, Mention, mentions, mentions_body, mentioned, is_known, guards_of}
+use Rattle.fb_types.specs.Unknown.{Required, all_of, optional, required_transition, required_withs, required_chart, Mention, mentions, mentions_body, mentioned, is_known, guards_of}
 use Rattle.fb_types.specs.Kinds.{Context, context_in, is_condition, body_right, declared_right}
 use Rattle.fb_types.specs.declared.library.BlockType.{BlockType}
 use Rattle.fb_types.specs.declared.library.BlockType.TheVariants as block
@@ -17,9 +17,9 @@ use Rattle.fb_types.specs.declared.library.Ports.{Ports}
 use Rattle.fb_types.specs.declared.library.State.{State}
 use Rattle.fb_types.specs.declared.library.Transition.{Transition}
 use Rattle.fb_check_names.specs.Catalog.{IsBlock}
-use Rattle.fb_check_names.specs.Sorts.{names_of_sort}
+use Rattle.fb_check_names.specs.PortKinds.{names_of_kind}
 use Rattle.fb_check_names.specs.declared.catalog.BlockIndexes.{BlockIndexes}
-use Rattle.fb_check_names.specs.declared.ports.PortSort.{PortSort}
+use Rattle.fb_check_names.specs.declared.ports.PortKind.{PortKind}
 
 -- The indices of the names of each block type, in the order of the types.
 pub record AreBlocks (ts : List BlockType) (xs : List BlockIndexes) : Type 0 where
@@ -29,18 +29,18 @@ pub record AreBlocks (ts : List BlockType) (xs : List BlockIndexes) : Type 0 whe
 -- ---- Names
 
 -- a name is among those of the required kind
-abbrev pub is_met : Wanted → Bool
+abbrev pub is_met : Required → Bool
 is_met w = among w.1 w.0
 
-abbrev pub all_met : List Wanted → Bool
+abbrev pub all_met : List Required → Bool
 all_met ws = list_all is_met ws
 
-abbrev pub required_action : BasicType → Action → List Wanted
+abbrev pub required_action : BasicType → Action → List Required
 required_action t a = all_of (optional a.algorithm) (algorithm_names t) ++ all_of (optional a.output) (event_names t.ports.event_outputs)
 
 -- only ports of a kind are WITH an event
-abbrev pub with_ports : PortSort → Ports → EventPort → Bool
-with_ports s p e = list_all (among (names_of_sort s p)) e.with
+abbrev pub with_ports : PortKind → Ports → EventPort → Bool
+with_ports s p e = list_all (among (names_of_kind s p)) e.with
 
 -- the variables WITH an event input
 abbrev pub with_inputs : Ports → EventPort → Bool

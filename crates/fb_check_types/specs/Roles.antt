@@ -6,8 +6,8 @@ use Rattle.fb_types.specs.declared.library.EventPort.{EventPort}
 use Rattle.fb_types.specs.declared.library.Ports.{Ports}
 use Rattle.fb_types.specs.declared.library.Variable.{Variable}
 use Rattle.fb_types.specs.declared.value.Ty.{Ty}
-use Rattle.fb_check_names.specs.declared.ports.PortSort.{PortSort}
-use Rattle.fb_check_names.specs.declared.ports.PortSort.TheVariants as sort
+use Rattle.fb_check_names.specs.declared.ports.PortKind.{PortKind}
+use Rattle.fb_check_names.specs.declared.ports.PortKind.TheVariants as value_kind
 use Rattle.fb_check_types.specs.declared.interface.Role.{Role}
 use Rattle.fb_check_types.specs.declared.interface.Role.TheVariants.{EventInput, EventOutput, Input, Output, Internal}
 
@@ -58,11 +58,11 @@ abbrev pub is_output : Role → Bool
 is_output (Output t) = true
 is_output _ = false
 
-abbrev pub is_port : PortSort → Role → Bool
-is_port sort.EventInput = is_event_input
-is_port sort.EventOutput = is_event_output
-is_port sort.Input = is_input
-is_port sort.Output = is_output
+abbrev pub is_port : PortKind → Role → Bool
+is_port value_kind.EventInput = is_event_input
+is_port value_kind.EventOutput = is_event_output
+is_port value_kind.Input = is_input
+is_port value_kind.Output = is_output
 
 abbrev pub type_in : Role → Option Ty
 type_in (Input t) = Some t

@@ -7,10 +7,10 @@ ghost use Rattle.fb_check_types.specs.Checks.{in_place};
 ghost use Rattle.fb_check_types.specs.Trees.{all_of, branches_of, choices_of};
 
 use crate::scope::Scope;
-use crate::sorts::{
-    Typing, are_same, is_condition, is_sort, is_step_whole, is_whole, sort_of_type,
+use crate::value_kinds::{
+    Typing, are_same, is_condition, is_step_whole, is_value_kind, is_whole, value_kind_of_type,
 };
-use fb_types::{Body, Branch, Choice, Sort, Stmt};
+use fb_types::{Body, Branch, Choice, Stmt, ValueKind};
 
 /// Whether the statements of an algorithm have the right kinds, assign no input, and have EXIT only in loops.
 pub fn is_body_right(body: &Body, scope: &Scope) -> bool
@@ -28,7 +28,11 @@ fn is_statement_right(statement: &Stmt, scope: &Scope, in_loop: bool) -> bool
         Stmt::Exit => in_loop,
         Stmt::Assign(variable, expr) => {
             !scope.is_input(variable.name())
-                && is_sort(sort_of_type(scope.type_of(variable.name())), expr, scope)
+                && is_value_kind(
+                    value_kind_of_type(scope.type_of(variable.name())),
+                    expr,
+                    scope,
+                )
         }
         Stmt::If(choices, others) => {
             are_choices_right(choices.as_slice(), scope, in_loop)
@@ -42,8 +46,8 @@ fn is_statement_right(statement: &Stmt, scope: &Scope, in_loop: bool) -> bool
         Stmt::For(variable, start, end, step, body) => {
             !scope.is_input(variable.name())
                 && are_same(
-                    Sort::WholeNumber,
-                    sort_of_type(scope.type_of(variable.name())),
+                    ValueKind::WholeNumber,
+                    value_kind_of_type(scope.type_of(variable.name())),
                 )
                 && is_whole(start, scope)
                 && is_whole(end, scope)

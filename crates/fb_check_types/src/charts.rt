@@ -4,20 +4,20 @@ ghost use Rattle.std.specs.Prelude.{◌≡◌};
 ghost use Rattle.std.specs.List.{list_all};
 ghost use Rattle.fb_types.specs.Blocks.{among};
 ghost use Rattle.fb_types.specs.Unknown.{required_chart, required_withs};
-ghost use Rattle.fb_check_names.specs.Sorts.{names_of_sort};
+ghost use Rattle.fb_check_names.specs.PortKinds.{names_of_kind};
 ghost use Rattle.fb_check_types.specs.Checks.{action_met, actions_met, all_met, transition_met, with_ports};
 
 use crate::interface::Interface;
 use crate::scope::Scope;
-use fb_check_names::PortSort;
+use fb_check_names::PortKind;
 use fb_types::{Action, EventPort, Name, State, Transition};
 
 /// Whether each name is that of a port of the kind.
-fn are_ports(names: &[Name], sort: PortSort, interface: &Interface) -> bool
-    ensures { result ≡ list_all (among (names_of_sort sort interface.now.ports)) names.now }
+fn are_ports(names: &[Name], value_kind: PortKind, interface: &Interface) -> bool
+    ensures { result ≡ list_all (among (names_of_kind value_kind interface.now.ports)) names.now }
 {
     for name in names {
-        if !interface.has_port(sort, name) {
+        if !interface.has_port(value_kind, name) {
             return false;
         }
     }
@@ -25,11 +25,11 @@ fn are_ports(names: &[Name], sort: PortSort, interface: &Interface) -> bool
 }
 
 /// Whether only ports of the kind are WITH the events.
-fn have_ports(events: &[EventPort], sort: PortSort, interface: &Interface) -> bool
-    ensures { result ≡ list_all (with_ports sort interface.now.ports) events.now }
+fn have_ports(events: &[EventPort], value_kind: PortKind, interface: &Interface) -> bool
+    ensures { result ≡ list_all (with_ports value_kind interface.now.ports) events.now }
 {
     for event in events {
-        if !are_ports(event.with.as_slice(), sort, interface) {
+        if !are_ports(event.with.as_slice(), value_kind, interface) {
             return false;
         }
     }
@@ -41,15 +41,15 @@ pub fn are_withs_known(interface: &Interface) -> bool
     ensures { result ≡ all_met (required_withs interface.now.ports) }
 {
     let ports = interface.ports();
-    have_ports(ports.event_inputs.as_slice(), PortSort::Input, interface)
-        && have_ports(ports.event_outputs.as_slice(), PortSort::Output, interface)
+    have_ports(ports.event_inputs.as_slice(), PortKind::Input, interface)
+        && have_ports(ports.event_outputs.as_slice(), PortKind::Output, interface)
 }
 
 fn is_transition_known(transition: &Transition, scope: &Scope) -> bool
     ensures { result ≡ transition_met scope.now transition.now }
 {
     let is_event_known = match &transition.condition.event {
-        Some(event) => scope.interface().has_port(PortSort::EventInput, event),
+        Some(event) => scope.interface().has_port(PortKind::EventInput, event),
         None => true,
     };
     scope.is_state(&transition.from) && scope.is_state(&transition.to) && is_event_known
@@ -63,7 +63,7 @@ fn is_action_known(action: &Action, scope: &Scope) -> bool
         None => true,
     };
     let is_output_known = match &action.output {
-        Some(output) => scope.interface().has_port(PortSort::EventOutput, output),
+        Some(output) => scope.interface().has_port(PortKind::EventOutput, output),
         None => true,
     };
     is_algorithm_known && is_output_known

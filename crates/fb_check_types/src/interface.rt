@@ -4,10 +4,10 @@ ghost use Rattle.std.specs.Prelude.{◌≡◌, List, option_map, slice_get};
 ghost use Rattle.fb_types.specs.Blocks.{among, named, type_named};
 ghost use Rattle.fb_types.specs.Repeated.{Twice};
 ghost use Rattle.fb_check_names.specs.Indexes.{IsIndex};
-ghost use Rattle.fb_check_names.specs.Sorts.{names_of_sort};
+ghost use Rattle.fb_check_names.specs.PortKinds.{names_of_kind};
 ghost use Rattle.fb_check_types.specs.Roles.{is_port, names_of, role_of, type_in, variables_of, with_roles};
 
-use fb_check_names::{Indexes, PortSort, index_of};
+use fb_check_names::{Indexes, PortKind, index_of};
 use fb_types::{Name, Ports, Ty, Variable};
 use std::marker::Model;
 
@@ -23,14 +23,14 @@ pub enum Role {
 
 impl Role {
     /// Whether it is a port of the kind.
-    fn is_port(self, sort: PortSort) -> bool
-        ensures { result ≡ is_port sort self }
+    fn is_port(self, value_kind: PortKind) -> bool
+        ensures { result ≡ is_port value_kind self }
     {
-        match (self, sort) {
-            (Role::EventInput, PortSort::EventInput)
-            | (Role::EventOutput, PortSort::EventOutput)
-            | (Role::Input(_), PortSort::Input)
-            | (Role::Output(_), PortSort::Output) => true,
+        match (self, value_kind) {
+            (Role::EventInput, PortKind::EventInput)
+            | (Role::EventOutput, PortKind::EventOutput)
+            | (Role::Input(_), PortKind::Input)
+            | (Role::Output(_), PortKind::Output) => true,
             _ => false,
         }
     }
@@ -124,11 +124,11 @@ impl<'a, 'n> Interface<'a, 'n> {
     }
 
     /// Whether a name is that of a port of the kind.
-    pub fn has_port(&self, sort: PortSort, name: &Name) -> bool
-        ensures { result ≡ among (names_of_sort sort self.now.ports) name.now }
+    pub fn has_port(&self, value_kind: PortKind, name: &Name) -> bool
+        ensures { result ≡ among (names_of_kind value_kind self.now.ports) name.now }
     {
         match self.role_of(name) {
-            Some(role) => role.is_port(sort),
+            Some(role) => role.is_port(value_kind),
             None => false,
         }
     }

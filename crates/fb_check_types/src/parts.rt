@@ -14,7 +14,7 @@ use crate::charts::{are_withs_known, is_chart_known};
 use crate::interface::Interface;
 use crate::mentions::{is_body_known, is_expression_known};
 use crate::scope::Scope;
-use crate::sorts::is_condition;
+use crate::value_kinds::is_condition;
 use crate::values::are_declared_right;
 use fb_check_names::{BlockIndexes, Catalog};
 use fb_types::{Algorithm, BlockType, Library, Ports, Transition, Variable};

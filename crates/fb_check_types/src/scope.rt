@@ -7,8 +7,8 @@ ghost use Rattle.fb_types.specs.declared.library.BlockType.TheVariants.{Basic};
 ghost use Rattle.fb_check_names.specs.Catalog.{IsBlock};
 
 use crate::interface::Interface;
-use crate::sorts::Typing;
-use fb_check_names::{BlockIndexes, PortSort, index_of};
+use crate::value_kinds::Typing;
+use fb_check_names::{BlockIndexes, PortKind, index_of};
 use fb_types::{BasicType, Name, Ty};
 use std::marker::Model;
 
@@ -82,7 +82,7 @@ impl<'a, 'n> Scope<'a, 'n> {
     pub fn is_input(&self, name: &Name) -> bool
         ensures { result ≡ is_input self.now.ports name.now }
     {
-        self.interface().has_port(PortSort::Input, name)
+        self.interface().has_port(PortKind::Input, name)
     }
 
     /// Whether a name is that of a variable: an input, an output or an internal one.

@@ -3,7 +3,7 @@
 ghost use Rattle.std.specs.Prelude.{◌≡◌, ◌++◌};
 ghost use Rattle.fb_types.specs.Blocks.{type_named};
 
-use crate::sorts::Typing;
+use crate::value_kinds::Typing;
 use fb_types::{BasicType, Name, Ports, Ty, Variable};
 
 /// The type of the variable that has the name.

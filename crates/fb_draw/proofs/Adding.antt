@@ -42,7 +42,7 @@ pub list_added :
     {A : Type 0} (f : A → List ℕ) (xs : List A) (i : ℕ) (new all : List ℕ) → length xs ≤ i → new ++ flat_map f (drop i xs) ≡ all → new ≡ all
 list_added {A} f xs i new all past before = all_added (λ (ys : List A). flat_map f ys) xs i new all refl past before
 
--- an argument and what stands before it are added, and the next is not the first
+-- an argument and what comes before it are added, and the next is not the first
 pub argument_added :
     (b : Bool) (xs : List Expr) (i : ℕ) (x : Expr) (old mid new all : List ℕ) → i < length xs → x ≡ get_or xs i x → mid ≡ old ++ separator b
     → new ≡ mid ++ expression_text x → old ++ arguments_text b (map expression_text (drop i xs)) ≡ all

@@ -8,8 +8,8 @@ use Rattle.fb_types.specs.Names.{Name, same_name}
 use Rattle.fb_types.specs.Syntax.{Stmt, Empty, Exit, Return, Assign, If, Case, For, While, Repeat, Stmts, no_stmt, then_stmts, Choices, no_choice, then_choices, Branches, no_branch, then_branches, body_of}
 use Rattle.fb_types.specs.Blocks.{among, event_names, variable_names, variables_of}
 use Rattle.fb_types.specs.Flat.{resource_names_of}
-use Rattle.fb_types.specs.Repeated.{Twice, Placed, NameTwice, networks, basics, basics_in, interfaces, port_names, name_spaces, block_type_names, algorithm_names, state_names, instance_names, with_lists, parameter_lists}
-use Rattle.fb_types.specs.Unknown.{Wanted, wanted, all_of, optional, required_types, required_withs, required_chart, required_transition, required_actions, required_parameters, required_deployment, Mention, OfVariable, OfFunction, mentions, mentions_in, mentions_body, mentions_choices, mentions_branches, mentioned, is_known, guards_of, NameUnknown}
+use Rattle.fb_types.specs.Repeated.{Twice, OwnedNetwork, NameTwice, networks, basics, basics_in, interfaces, port_names, name_spaces, block_type_names, algorithm_names, state_names, instance_names, with_lists, parameter_lists}
+use Rattle.fb_types.specs.Unknown.{Required, required, all_of, optional, required_types, required_withs, required_chart, required_transition, required_actions, required_parameters, required_deployment, Mention, OfVariable, OfFunction, mentions, mentions_in, mentions_body, mentions_choices, mentions_branches, mentioned, is_known, guards_of, NameUnknown}
 use Rattle.fb_types.specs.declared.library.Action.{Action}
 use Rattle.fb_types.specs.declared.library.Algorithm.{Algorithm}
 use Rattle.fb_types.specs.declared.library.BasicType.{BasicType}
@@ -49,7 +49,7 @@ contains-among (m ∷ ms) n h =
           elim (same_name n m) as (λ b. (b || among ms n) ≡ true) [ true ↦ refl | false ↦ later ]
     ]
 
--- names that differ stand first
+-- names that differ are first
 first_from_once : {A : Type 0} (f : A → Name) (xs : List A) → ¬ (Twice (map f xs)) → AreFirst f xs
 first_from_once f xs once i x at = index_of_once f (f x) xs i x once at (same_name-itself (f x))
 
@@ -118,7 +118,7 @@ basic_among (block.Basic b ∷ bs) t h =
     ]
 basic_among (block.Composite c ∷ bs) t h = Contains-there (block.Composite c) bs (block.Basic t) (basic_among bs t h)
 
--- The names of each sort differ.
+-- The names of each kind differ.
 pub record NamesOnce (t : BasicType) : Type 0 where
   pub states : ¬ (Twice (state_names t))
   pub algorithms : ¬ (Twice (algorithm_names t))
@@ -133,9 +133,9 @@ module _ (lib : Library) (plan : Plan) (t : BasicType) (once : ¬ (NameTwice lib
       (ns : List Name) → Contains ((block_type_names lib ∷ map port_names lib.blocks) ++ map algorithm_names (basics lib) ++ map state_names (basics lib)) ns → ¬ (Twice ns)
   space_once ns among_first twice =
       let first : List (List Name) = (block_type_names lib ∷ map port_names lib.blocks) ++ map algorithm_names (basics lib) ++ map state_names (basics lib) in
-      let instances : List (List Name) = map (λ (n : Placed). instance_names n.1) (networks lib) in
+      let instances : List (List Name) = map (λ (n : OwnedNetwork). instance_names n.1) (networks lib) in
       let withs : List (List Name) = flat_map with_lists (interfaces lib) in
-      let parameters : List (List Name) = flat_map (λ (n : Placed). parameter_lists n.1) (networks lib) in
+      let parameters : List (List Name) = flat_map (λ (n : OwnedNetwork). parameter_lists n.1) (networks lib) in
       let among_all : Contains (name_spaces lib plan) ns =
       Contains-append_left (first ++ instances ++ withs ++ parameters) (resource_names_of plan ∷ []) ns
       (Contains-append_left (first ++ instances ++ withs) parameters ns
@@ -204,13 +204,13 @@ module _ (lib : Library) (plan : Plan) (t : BasicType) (once : ¬ (NameTwice lib
       ports_once (subst P all (Twice-append_right events ((inputs ++ outputs) ++ internals) (subst P names twice)))
 
   -- what the chart names is there
-  chart_named : (w : Wanted) → Contains (required_chart t) w → among w.1 w.0 ≡ true
+  chart_named : (w : Required) → Contains (required_chart t) w → among w.1 w.0 ≡ true
   chart_named w among_chart =
-      let networked : List Wanted = flat_map (λ (n : Placed). required_types lib n.1) (networks lib) in
-      let withs : List Wanted = flat_map required_withs (interfaces lib) in
-      let charts : List Wanted = flat_map required_chart (basics lib) in
-      let parameters : List Wanted = flat_map (λ (n : Placed). flat_map (required_parameters lib) n.1.instances) (networks lib) in
-      let among_all : Contains (wanted lib plan) w =
+      let networked : List Required = flat_map (λ (n : OwnedNetwork). required_types lib n.1) (networks lib) in
+      let withs : List Required = flat_map required_withs (interfaces lib) in
+      let charts : List Required = flat_map required_chart (basics lib) in
+      let parameters : List Required = flat_map (λ (n : OwnedNetwork). flat_map (required_parameters lib) n.1.instances) (networks lib) in
+      let among_all : Contains (required lib plan) w =
       Contains-append_left (networked ++ withs ++ charts ++ parameters) (required_deployment lib plan) w
       (Contains-append_left (networked ++ withs ++ charts) parameters w
       (Contains-append_right (networked ++ withs) charts w (Contains-flat_map required_chart (basics lib) t w declared among_chart))) in
@@ -221,16 +221,16 @@ module _ (lib : Library) (plan : Plan) (t : BasicType) (once : ¬ (NameTwice lib
 
   source_named : (x : Transition) → Contains t.transitions x → among (state_names t) x.from ≡ true
   source_named x at =
-      let w : Wanted = (x.from, state_names t) in
-      let others : List Wanted = (x.to, state_names t) ∷ all_of (optional x.condition.event) (event_names t.ports.event_inputs) in
+      let w : Required = (x.from, state_names t) in
+      let others : List Required = (x.to, state_names t) ∷ all_of (optional x.condition.event) (event_names t.ports.event_inputs) in
       chart_named w
       (Contains-append_left (flat_map (required_transition t) t.transitions) (flat_map (required_actions t) t.states) w
       (Contains-flat_map (required_transition t) t.transitions x w at (Contains-here w others)))
 
   target_named : (x : Transition) → Contains t.transitions x → among (state_names t) x.to ≡ true
   target_named x at =
-      let w : Wanted = (x.to, state_names t) in
-      let events : List Wanted = all_of (optional x.condition.event) (event_names t.ports.event_inputs) in
+      let w : Required = (x.to, state_names t) in
+      let events : List Required = all_of (optional x.condition.event) (event_names t.ports.event_inputs) in
       chart_named w
       (Contains-append_left (flat_map (required_transition t) t.transitions) (flat_map (required_actions t) t.states) w
       (Contains-flat_map (required_transition t) t.transitions x w at (Contains-there (x.from, state_names t) (w ∷ events) w (Contains-here w events))))
@@ -242,11 +242,11 @@ module _ (lib : Library) (plan : Plan) (t : BasicType) (once : ¬ (NameTwice lib
 
   action_named : (s : State) (a : Action) → Contains t.states s → Contains s.actions a → action_known t a ≡ true
   action_named s a at in_actions =
-      let algorithms : List Wanted = all_of (optional a.algorithm) (algorithm_names t) in
-      let outputs : List Wanted = all_of (optional a.output) (event_names t.ports.event_outputs) in
-      let wants : Action → List Wanted = λ b.
+      let algorithms : List Required = all_of (optional a.algorithm) (algorithm_names t) in
+      let outputs : List Required = all_of (optional a.output) (event_names t.ports.event_outputs) in
+      let wants : Action → List Required = λ b.
       all_of (optional b.algorithm) (algorithm_names t) ++ all_of (optional b.output) (event_names t.ports.event_outputs) in
-      let named : (w : Wanted) → Contains (algorithms ++ outputs) w → among w.1 w.0 ≡ true = λ w c.
+      let named : (w : Required) → Contains (algorithms ++ outputs) w → among w.1 w.0 ≡ true = λ w c.
       chart_named w
       (Contains-append_right (flat_map (required_transition t) t.transitions) (flat_map (required_actions t) t.states) w
       (Contains-flat_map (required_actions t) t.states s w at (Contains-flat_map wants s.actions a w in_actions c))) in

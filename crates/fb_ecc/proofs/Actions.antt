@@ -38,7 +38,7 @@ use Rattle.fb_ecc.specs.declared.chart.Act.{Act}
 use Rattle.fb_ecc.specs.Numbered.{number_in, names_with_each}
 use Rattle.fb_ecc.specs.Indexes.{index, Ended, IsWellFormed}
 use Rattle.fb_ecc.specs.Sound.{declared_as, declared_by}
-use Rattle.fb_ecc.proofs.Trials.{Stands, stands, number_is}
+use Rattle.fb_ecc.proofs.Trials.{IsFirst, stands, number_is}
 
 -- ---- An action, and what follows
 
@@ -81,7 +81,7 @@ types_declared t = fun_ext (λ n. ap type_or (named_declared (variables_of t) n)
 abbrev body_or : Option Algorithm → Stmts
 body_or o = elim o [ None ↦ no_stmt | Some x ↦ body_of x.body ]
 
-pub algorithm_is : (t : BasicType) (n : Name) (s : Stands (λ a. a.name) t.algorithms n) → algorithm_of t n ≡ body_of s.element.body
+pub algorithm_is : (t : BasicType) (n : Name) (s : IsFirst (λ a. a.name) t.algorithms n) → algorithm_of t n ≡ body_of s.element.body
 algorithm_is t n s =
     let there : named (λ a. a.name) n t.algorithms ≡ Some s.element =
     named_at_index (λ a. a.name) n t.algorithms ∙ ap (option_and_then (slice_get t.algorithms)) s.first ∙ s.at in
@@ -93,7 +93,7 @@ pub pair_up-bound : (ns : List Name) (vars : Values) → pair_up ns (map vars ns
 pair_up-bound [] vars = refl
 pair_up-bound (n ∷ ns) vars = ap (λ bs. record { variable = n; value = vars n } ∷ bs) (pair_up-bound ns vars)
 
-pub event_is : (events : List EventPort) (n : Name) (s : Stands (λ p. p.name) events n) → event_at events s.index ≡ n
+pub event_is : (events : List EventPort) (n : Name) (s : IsFirst (λ p. p.name) events n) → event_at events s.index ≡ n
 event_is events n s =
     ap (λ (o : Option Name). unwrap_or o []) (slice_get-map (λ (e : EventPort). e.name) events s.index ∙ ap (option_map (λ (e : EventPort). e.name)) s.at)
     ∙ sym (same_from_same_name n s.element.name s.named)

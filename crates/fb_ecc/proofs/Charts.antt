@@ -1,4 +1,4 @@
--- The rows of a chart, made as the transitions are gone through.
+-- The rows of a chart, made while the transitions are visited.
 use Rattle.std.proofs.Common.{◌≡◌, ℕ, suc, ◌+◌, ◌<◌, true, false, cond, List, [], ◌∷◌, ◌++◌, length, map, set, Some, None, Contains, get_or, take, refl, sym, ◌∙◌, ap, subst, arith, inl, inr}
 use Rattle.std.specs.Prelude.{position, option_map, slice_get, is_some}
 use Rattle.std.proofs.lemmas.Bool.{true≢false, false_from_ne_true}
@@ -89,7 +89,7 @@ not_named name_of n xs x absent c =
     false_from_ne_true (same_name n (name_of x))
     (λ t. absent (let P : Name → Type 0 = λ m. Contains (map name_of xs) m in subst P (sym (same_from_same_name n (name_of x) t)) (name_within name_of xs x c)))
 
--- what stands at the index of a name changes, and nothing else
+-- what is at the index of a name changes, and nothing else
 set_named :
     {A B : Type 0} (f g : A → B) (name_of : A → Name) (n : Name) (xs : List A) (i : ℕ) (x : A) (b : B) → ¬ (Twice (map name_of xs))
     → position (same_name n) (map name_of xs) ≡ Some i → slice_get xs i ≡ Some x → b ≡ g x → ((y : A) → same_name n (name_of y) ≡ false → f y ≡ g y)

@@ -31,16 +31,16 @@ position_map f n (x ∷ xs) =
 pub numbered :
     {A : Type 0} (f : A → Name) (xs : List A) (indexes : BTreeMap (Bor Name) ℕ) (count : ℕ) (n : Name) (r : ℕ) → IsIndex (map f xs) indexes → count ≡ length xs
     → r ≡ unwrap_or (index_in indexes n) count → r ≡ number_in f xs n
-numbered f xs indexes count n r index counted told =
-    told ∙ ap (λ o. unwrap_or o count) (index.index n ∙ position_map f n xs)
+numbered f xs indexes count n r index counted shown =
+    shown ∙ ap (λ o. unwrap_or o count) (index.index n ∙ position_map f n xs)
     ∙ ap (λ k. unwrap_or (position (λ x. same_name n (f x)) xs) k) counted
 
 pub numbered_if_named :
     {A : Type 0} (f : A → Name) (xs : List A) (indexes : BTreeMap (Bor Name) ℕ) (count : ℕ) (o : Option Name) (r : Option ℕ) → IsIndex (map f xs) indexes
     → count ≡ length xs → r ≡ option_map (λ n. unwrap_or (index_in indexes n) count) o → r ≡ option_map (number_in f xs) o
-numbered_if_named f xs indexes count None r index counted told = told
-numbered_if_named f xs indexes count (Some n) r index counted told =
-    told ∙ ap Some (numbered f xs indexes count n (unwrap_or (index_in indexes n) count) index counted refl)
+numbered_if_named f xs indexes count None r index counted shown = shown
+numbered_if_named f xs indexes count (Some n) r index counted shown =
+    shown ∙ ap Some (numbered f xs indexes count n (unwrap_or (index_in indexes n) count) index counted refl)
 
 -- ---- Names that are picked
 
@@ -109,7 +109,7 @@ pub some_suc : (o : Option ℕ) (i : ℕ) → option_map (λ j. suc j) o ≡ Som
 some_suc None i h = absurd (cc)
 some_suc (Some j) i h = (j, refl, let e : suc j ≡ i = cc in sym e)
 
--- a name that stands at an index is picked as well
+-- a name that is at an index is picked as well
 picked_at :
     (p q : Name → Bool) (ns : List Name) (m : Name) (k i index : ℕ) → ¬ (Twice ns) → OneMore p q m → position (same_name m) ns ≡ Some i → index ≡ k + i
     → insert_entry nat_cmp (picked p ns k) index m ≡ picked q ns k
@@ -149,21 +149,21 @@ insert_named (e ∷ es) k b =
 among_more : (ns : List Name) (m n : Name) → among (ns ++ m ∷ []) n ≡ (among ns n || same_name n m)
 among_more ns m n = list_any-append (same_name n) ns (m ∷ []) ∙ ap (λ b. among ns n || b) (or_false (same_name n m))
 
--- one more name is gone through, which stands at an index ..
+-- one more name is visited, which is at an index ..
 pub picks_found :
     (all sofar : List Name) (old new : List (ℕ × Bor Name)) (m : Bor Name) (index : ℕ) (indexes : BTreeMap (Bor Name) ℕ) → IsIndex all indexes
     → index_in indexes m.now ≡ Some index → new ≡ insert_entry nat_cmp old index m → map entry_of old ≡ picked (among sofar) all 0
     → map entry_of new ≡ picked (among (sofar ++ m.now ∷ [])) all 0
-picks_found all sofar old new m i indexes index found inserted told =
-    ap (map entry_of) inserted ∙ insert_named old i m ∙ ap (λ (l : List (ℕ × Name)). insert_entry nat_cmp l i m.now) told
+picks_found all sofar old new m i indexes index found inserted shown =
+    ap (map entry_of) inserted ∙ insert_named old i m ∙ ap (λ (l : List (ℕ × Name)). insert_entry nat_cmp l i m.now) shown
     ∙ picked_at (among sofar) (among (sofar ++ m.now ∷ [])) all m.now 0 i i index.once (among_more sofar m.now) (sym (index.index m.now) ∙ found) (omega arith)
 
 -- .. or which is none of all
 pub picks_none :
     (all sofar : List Name) (old : List (ℕ × Bor Name)) (m : Name) (indexes : BTreeMap (Bor Name) ℕ) → IsIndex all indexes
     → index_in indexes m ≡ None → map entry_of old ≡ picked (among sofar) all 0 → map entry_of old ≡ picked (among (sofar ++ m ∷ [])) all 0
-picks_none all sofar old m indexes index nowhere told =
-    told
+picks_none all sofar old m indexes index nowhere shown =
+    shown
     ∙ picked_apart (among sofar) (among (sofar ++ m ∷ [])) all m 0 (among_more sofar m)
     (λ c. true≢false (sym (any_from_contains m all c) ∙ sym (is_some-position (same_name m) all) ∙ ap is_some (sym (index.index m) ∙ nowhere)))
 
@@ -210,7 +210,7 @@ names_contain (p ∷ events) e c =
       | inr rest ↦ Contains-there p.name (event_names events) e.name (names_contain events e rest)
     ]
 
--- A variable goes WITH an event where it stands in the event's own list.
+-- A variable goes WITH an event where it is in the event's own list.
 own_list : (events : List EventPort) (e : EventPort) (v : Name) → ¬ (Twice (event_names events)) → Contains events e → goes_with events e.name v ≡ among e.with v
 own_list [] e v once c = absurd (let f = c.1 in omega (arith, f))
 own_list (p ∷ events) e v once c =

@@ -65,7 +65,7 @@ drop_next [] ys (suc k) x h = absurd (cc)
 drop_next (y ∷ xs) ys zero x h = (let e : y ≡ x = cc in ap (λ z. Some z) e, cc)
 drop_next (y ∷ xs) ys (suc k) x h = drop_next xs ys k x h
 
--- the transitions that leave a state stand at the indexes of its exits
+-- the transitions that leave a state are at the indexes of its exits
 leaving_from :
     (t : BasicType) (n : Name) (k : ℕ) (xs : List Transition) → drop k t.transitions ≡ xs
     → transitions_at t (exits_from t n k xs) ≡ filter (λ x. same_name x.from n) xs
@@ -196,7 +196,7 @@ pub row_read :
     (t : BasicType) (chart : Chart) (rows : List ChartState) (i : ℕ) (d : ChartState) → IsSound t → chart ≡ chart_of t → rows ≡ chart.rows → i < length t.states → IsRow t i (get_or rows i d)
 row_read t chart rows i d sound is read within = row_is t rows i d sound (read ∙ ap (λ (c : Chart). c.rows) is) within
 
--- what trying the transitions at the exits comes to
+-- the result of trying the transitions at the exits
 pub trial_here :
     (t : BasicType) (exits : List Exit) (present : Option Name) (p : Position) (x : Trial) → transitions_at t exits ≡ leaving t p.state
     → trial_of (transitions_at t exits) present p.vars p.left ≡ x → trial_at t present p ≡ x
@@ -298,10 +298,10 @@ declared_each t ds e read declared is =
 pub variables_here :
     (t : BasicType) (chart : Chart) (all : List (List Name)) (e : ℕ) (read d : List Name) → chart ≡ chart_of t → all ≡ chart.sampled → e < length t.ports.event_inputs
     → read ≡ get_or all e d → read ≡ inputs_with t.ports (event_at t.ports.event_inputs e)
-variables_here t chart all e read d is told within here =
+variables_here t chart all e read d is shown within here =
     let events : List EventPort = t.ports.event_inputs in
     let p = element_at events e within in
-    let names : all ≡ names_with_each events t.ports.inputs = told ∙ ap (λ (c : Chart). c.sampled) is in
+    let names : all ≡ names_with_each events t.ports.inputs = shown ∙ ap (λ (c : Chart). c.sampled) is in
     let at : slice_get all e ≡ Some (inputs_with t.ports p.0.name) =
     ap (λ (l : List (List Name)). slice_get l e) names ∙ slice_get-map (λ (q : EventPort). inputs_with t.ports q.name) events e
     ∙ ap (option_map (λ (q : EventPort). inputs_with t.ports q.name)) p.1 in
@@ -311,8 +311,8 @@ variables_here t chart all e read d is told within here =
 pub value_here :
     (vs : List Value) (i : ℕ) (o : Option (Bor Value)) (b : Bor Value) → IfSome o (λ x. x.now ≡ get_or vs i x.now)
     → MatchOption o (length vs ≤ i) (λ x. (i < length vs) × HoldsAt (λ y. x.now ≡ y) vs i) → o ≡ Some b → slice_get vs i ≡ Some b.now
-value_here vs i o b told found is =
-    let here : b.now ≡ get_or vs i b.now = subst (λ (p : Option (Bor Value)). IfSome p (λ x. x.now ≡ get_or vs i x.now)) is told in
+value_here vs i o b shown found is =
+    let here : b.now ≡ get_or vs i b.now = subst (λ (p : Option (Bor Value)). IfSome p (λ x. x.now ≡ get_or vs i x.now)) is shown in
     let both = subst (λ (p : Option (Bor Value)). MatchOption p (length vs ≤ i) (λ x. (i < length vs) × HoldsAt (λ y. x.now ≡ y) vs i)) is found in
     slice_get_read vs (length vs) i b.now refl both.0 here
 

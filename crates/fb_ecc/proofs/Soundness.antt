@@ -19,7 +19,7 @@ pub declared_opened : (vs : List Variable) → declared_in (map slot_of vs) ≡ 
 declared_opened [] = refl
 declared_opened (v ∷ vs) = ap (λ ds. declared_as v ∷ ds) (declared_opened vs)
 
--- the slots of the inputs, the outputs and the other variables, put one behind the other
+-- the slots of the inputs, the outputs and the other variables, put one after the other
 pub all_slots :
     (t : BasicType) (none first second third : List Slot) (ins outs internals : List Variable) → none ≡ []
     → ins ≡ t.ports.inputs → outs ≡ t.ports.outputs → internals ≡ t.internals

@@ -56,7 +56,7 @@ nat_eq-itself m = grind (arith, nat_tests)
 nat_eq-is : (m n : ℕ) → nat_eq m n ≡ true → m ≡ n
 nat_eq-is m n h = grind (arith, nat_tests)
 
--- the number of a name is m only where the name stands at m
+-- the number of a name is m only where the name is at m
 number_at :
     (o : Option ℕ) (most m : ℕ) → m < most → unwrap_or o most ≡ m → o ≡ Some m
 number_at None most m h e = absurd (omega arith)
@@ -93,18 +93,18 @@ present_by_index events (Some m) (Some f) first within =
 
 -- ---- Names
 
--- where a name stands first
-pub record Stands {A : Type 0} (name_of : A → Name) (xs : List A) (n : Name) : Type 0 where
+-- where a name is first
+pub record IsFirst {A : Type 0} (name_of : A → Name) (xs : List A) (n : Name) : Type 0 where
   pub index : ℕ
   pub element : A
   pub first : position (λ y. same_name n (name_of y)) xs ≡ Some index
   pub at : slice_get xs index ≡ Some element
   pub named : same_name n (name_of element) ≡ true
 
-pub stands : {A : Type 0} (name_of : A → Name) (xs : List A) (n : Name) → among (map name_of xs) n ≡ true → Stands name_of xs n
+pub stands : {A : Type 0} (name_of : A → Name) (xs : List A) (n : Name) → among (map name_of xs) n ≡ true → IsFirst name_of xs n
 stands name_of [] n h = absurd (true≢false (sym h))
 stands name_of (x ∷ xs) n h =
-    elim (same_name n (name_of x)) as (λ b. same_name n (name_of x) ≡ b → (b || among (map name_of xs) n) ≡ true → Stands name_of (x ∷ xs) n) [
+    elim (same_name n (name_of x)) as (λ b. same_name n (name_of x) ≡ b → (b || among (map name_of xs) n) ≡ true → IsFirst name_of (x ∷ xs) n) [
       | true ↦ λ e g. record {
         index = 0;
         element = x;
@@ -123,7 +123,7 @@ stands name_of (x ∷ xs) n h =
           }
     ] refl h
 
-pub number_is : {A : Type 0} (name_of : A → Name) (xs : List A) (n : Name) (s : Stands name_of xs n) → number_in name_of xs n ≡ s.index
+pub number_is : {A : Type 0} (name_of : A → Name) (xs : List A) (n : Name) (s : IsFirst name_of xs n) → number_in name_of xs n ≡ s.index
 number_is name_of xs n s = ap (λ (o : Option ℕ). unwrap_or o (length xs)) s.first
 
 -- ---- Transitions

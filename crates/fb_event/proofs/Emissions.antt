@@ -1,4 +1,4 @@
--- What emissions by number stand for.
+-- What emissions by number represent.
 use Rattle.std.proofs.Common.{◌≡◌, ℕ, zero, suc, List, [], ◌∷◌, ◌++◌, All, map, length, refl, arith, sym, ap, subst, ◌∙◌}
 use Rattle.std.proofs.lemmas.List.{length-map, map-append}
 use Rattle.std.proofs.lemmas.List.Elements.{All-head, All-map, All-push, All-tail, All-weaker}
@@ -13,7 +13,7 @@ use Rattle.fb_types.specs.declared.event_kind.EventKind.{EventKind}
 use Rattle.fb_types.specs.declared.event_kind.EventKind.TheVariants.{SetReset, DataLatch, CountUp}
 use Rattle.fb_event.specs.Block.{state, state_of}
 use Rattle.fb_event.specs.Emissions.{emission_at, emitted_by}
-use Rattle.fb_event.specs.Reactions.{EmitsBehind, IsEventOutput, IsWellFormed, emissions_of, meanings}
+use Rattle.fb_event.specs.Reactions.{EmitsAfter, IsEventOutput, IsWellFormed, emissions_of, meanings}
 use Rattle.fb_event.specs.State.{State}
 use Rattle.fb_event.specs.Step.{Performs}
 use Rattle.fb_event.specs.declared.step.Step.{Step}
@@ -42,7 +42,7 @@ pair_up-map : (vars : Values) (ns : List Name) → pair_up ns (map vars ns) ≡ 
 pair_up-map vars [] = refl
 pair_up-map vars (n ∷ ns) = rw (pair_up-map vars ns)
 
--- what an emission by number stands for
+-- what an emission by number represents
 emission_of-emission_at : (b : KindState) (index : ℕ) → IsEventOutput (state_of b).kind index
     → emission_of (ports_of_event_block (state_of b).kind) (emission_at b index)
     ≡ record {
@@ -51,7 +51,7 @@ emission_of-emission_at : (b : KindState) (index : ℕ) → IsEventOutput (state
     }
 emission_of-emission_at b index h = rw (outputs_with-all (state_of b).kind index h) (rw (pair_up-map (output_of (state_of b).memory) _))
 
--- what emissions by number stand for, by the state of the block
+-- what emissions by number represent, by the state of the block
 meanings-emission_at : (b : KindState) (indexes : List ℕ) → All (IsEventOutput (state_of b).kind) indexes
     → meanings (state_of b).kind (map (emission_at b) indexes)
     ≡ emissions (ports_of_event_block (state_of b).kind) (output_of (state_of b).memory)
@@ -104,14 +104,14 @@ emitted-Performs : (s : State) (r : Reaction) (b : KindState) (step : Step) → 
 emitted-Performs s r b step h =
     meanings-state b (state s.kind r.memory) h.block step.emits.now h.within ∙ ap (emissions (ports_of_event_block s.kind) (output_of r.memory)) h.emits
 
--- .. behind what was emitted before
-pub behind-Performs : (s : State) (r : Reaction) (b : KindState) (step : Step) (old new : List run.Emission) → Performs s r b step
-    → new ≡ old ++ map (emission_at b) step.emits.now → EmitsBehind s.kind r old new
-behind-Performs s r b step old new h e = record {
+-- .. after what was emitted before
+pub appended-Performs : (s : State) (r : Reaction) (b : KindState) (step : Step) (old new : List run.Emission) → Performs s r b step
+    → new ≡ old ++ map (emission_at b) step.emits.now → EmitsAfter s.kind r old new
+appended-Performs s r b step old new h e = record {
   news = emitted_by b step;
-  behind = e;
+  appended = e;
   meant = emitted-Performs s r b step h;
   well_formed = all-IsWellFormed b (state s.kind r.memory) h.block step.emits.now h.within;
 }
 
-pub ruleset step_emissions = (emissions-Performs, silent-Performs, behind-Performs)
+pub ruleset step_emissions = (emissions-Performs, silent-Performs, appended-Performs)

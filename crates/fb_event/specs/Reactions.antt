@@ -59,8 +59,8 @@ abbrev pub BeginsWith : (old new : List run.Emission) → Type 0
 BeginsWith old new = (news : List run.Emission) × (new ≡ old ++ news)
 
 -- After a list of emissions are those of a reaction, and nothing else.
-pub record EmitsBehind (k : EventKind) (r : Reaction) (old new : List run.Emission) : Type 0 where
+pub record EmitsAfter (k : EventKind) (r : Reaction) (old new : List run.Emission) : Type 0 where
   pub news : List run.Emission
-  pub behind : new ≡ old ++ news
+  pub appended : new ≡ old ++ news
   pub meant : meanings k news ≡ emissions_of k r
   pub well_formed : All (IsWellFormed k) news

@@ -3,7 +3,7 @@
 ghost use Rattle.std.specs.Prelude.{◌≡◌, ◌++◌, ◌≤◌, ◌^◌, [], All, IfErr, IsOk, OnOk, map};
 ghost use Rattle.fb_event.specs.Block.{state_of, IsInRange};
 ghost use Rattle.fb_event.specs.Emissions.{emission_at};
-ghost use Rattle.fb_event.specs.Reactions.{BeginsWith, EmitsBehind, FitInputs, reaction_to, expiry_of, emissions_of, first_value, meanings, IsEventOutput, IsWellFormed};
+ghost use Rattle.fb_event.specs.Reactions.{BeginsWith, EmitsAfter, FitInputs, reaction_to, expiry_of, emissions_of, first_value, meanings, IsEventOutput, IsWellFormed};
 
 use crate::emission::emit_all;
 use crate::state::EventState;
@@ -38,8 +38,8 @@ pub fn react(
     ensures emitted { let reaction = reaction_to state.old event tick inputs.now in
         FitInputs state.old.kind inputs.now → OnOk result (meanings state.old.kind emits.new
         ≡ meanings state.old.kind emits.old ++ emissions_of state.old.kind reaction) }
-    ensures behind { let reaction = reaction_to state.old event tick inputs.now in
-        FitInputs state.old.kind inputs.now → OnOk result (EmitsBehind state.old.kind reaction emits.old emits.new) }
+    ensures appended { let reaction = reaction_to state.old event tick inputs.now in
+        FitInputs state.old.kind inputs.now → OnOk result (EmitsAfter state.old.kind reaction emits.old emits.new) }
 
     // Of any inputs, also where memory runs out.
     ensures kind { state.new.kind ≡ state.old.kind }
@@ -73,8 +73,8 @@ pub fn expire(
     ensures emitted { let reaction = expiry_of state.old tick in
         OnOk result (meanings state.old.kind emits.new
         ≡ meanings state.old.kind emits.old ++ emissions_of state.old.kind reaction) }
-    ensures behind { let reaction = expiry_of state.old tick in
-        OnOk result (EmitsBehind state.old.kind reaction emits.old emits.new) }
+    ensures appended { let reaction = expiry_of state.old tick in
+        OnOk result (EmitsAfter state.old.kind reaction emits.old emits.new) }
 
     // Also where memory runs out.
     ensures kind { state.new.kind ≡ state.old.kind }

@@ -8,7 +8,7 @@ use Rattle.fb_expect.specs.declared.hit.Hit.{Hit}
 use Rattle.fb_expect.proofs.Growing.{first, second}
 use Rattle.fb_expect.proofs.Places.{Found, at-new, back, found, inside, kept, new-back, test-none, tick-new, tick-old}
 
--- the last line of a sort is the new one
+-- the last line of a kind is the new one
 pub last-new : (test : Hit → Bool) (hs : List Hit) (h : Hit) → test no_hit ≡ false → IsBelow hs h.tick → test h ≡ true → IsLastTick test (hs ++ h ∷ []) h.tick
 last-new test hs h none below is =
     record { place = length hs; is = at-new test hs h is; same = sym (tick-new hs h); most = λ i sure. most i (found test hs h i none sure) }

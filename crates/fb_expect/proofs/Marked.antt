@@ -9,7 +9,7 @@ use Rattle.std.proofs.lemmas.Slice.Eq.{bytes_eq-Decides}
 use Rattle.fb_expect.specs.Events.{Event}
 use Rattle.fb_expect.specs.Passing.{Adds, AddsOptional, Covers, IsElsewhere, IsTimeless, PassesOver, is_marked}
 use Rattle.fb_expect.specs.Patterns.{is_at, is_in, is_of, is_way}
-use Rattle.fb_expect.specs.Prints.{print}
+use Rattle.fb_expect.specs.Fingerprints.{fingerprint}
 use Rattle.fb_expect.specs.Words.{Text}
 use Rattle.fb_expect.specs.declared.pattern.Pattern.{Pattern}
 use Rattle.fb_expect.specs.declared.rule.Rule.{Rule}
@@ -26,14 +26,14 @@ elsewhere p e none = both-off (is_way p.way e.taken) (is_of p.port e.port) (is_i
 -- where all are marked
 pub all-marked : (marks : List Bool) → marks ≡ replicate 64 true → (z : Text) → is_marked marks z ≡ true
 all-marked marks is z =
-    ap (λ (ms : List Bool). get_or ms (print z % 64) true) is ∙ get_or-replicate 64 (print z % 64) true true (omega arith)
+    ap (λ (ms : List Bool). get_or ms (fingerprint z % 64) true) is ∙ get_or-replicate 64 (fingerprint z % 64) true true (omega arith)
 
 -- a pattern of one port is not of another
-not-of : (p : Pattern) (e : Event) → p.port.is_open ≡ false → (print e.port % 64 ≡ print p.port.text % 64 → ⊥) → is_of p.port e.port ≡ false
+not-of : (p : Pattern) (e : Event) → p.port.is_open ≡ false → (fingerprint e.port % 64 ≡ fingerprint p.port.text % 64 → ⊥) → is_of p.port e.port ≡ false
 not-of p e closed other =
     ap (λ (b : Bool). if b then bytes_eq (take (length p.port.text) e.port) p.port.text else bytes_eq e.port p.port.text) closed
     ∙ elim (cases_Bool (bytes_eq e.port p.port.text)) [
-      | inl same ↦ absurd (other (ap (λ (z : Text). print z % 64) ((bytes_eq-Decides e.port p.port.text).0 same)))
+      | inl same ↦ absurd (other (ap (λ (z : Text). fingerprint z % 64) ((bytes_eq-Decides e.port p.port.text).0 same)))
       | inr off ↦ off
     ]
 
@@ -46,15 +46,15 @@ set-on marks i =
     ]
 
 -- one port is marked
-pub adds-one : (marks : List Bool) (p : Pattern) → p.port.is_open ≡ false → Adds marks p (set marks (print p.port.text % 64) true)
+pub adds-one : (marks : List Bool) (p : Pattern) → p.port.is_open ≡ false → Adds marks p (set marks (fingerprint p.port.text % 64) true)
 adds-one marks p closed e off =
-    elim (cases_eq (print e.port % 64) (print p.port.text % 64)) [
+    elim (cases_eq (fingerprint e.port % 64) (fingerprint p.port.text % 64)) [
       | inl same ↦
-          (let on : is_marked (set marks (print p.port.text % 64) true) e.port ≡ true =
-          ap (λ (k : ℕ). get_or (set marks (print p.port.text % 64) true) k true) same ∙ set-on marks (print p.port.text % 64) in
+          (let on : is_marked (set marks (fingerprint p.port.text % 64) true) e.port ≡ true =
+          ap (λ (k : ℕ). get_or (set marks (fingerprint p.port.text % 64) true) k true) same ∙ set-on marks (fingerprint p.port.text % 64) in
           absurd (false≢true (sym off ∙ on)))
       | inr other ↦
-          (sym (get_or-set_other marks (print p.port.text % 64) (print e.port % 64) true true other) ∙ off, elsewhere p e (not-of p e closed other))
+          (sym (get_or-set_other marks (fingerprint p.port.text % 64) (fingerprint e.port % 64) true true other) ∙ off, elsewhere p e (not-of p e closed other))
     ]
 
 -- all ports are marked

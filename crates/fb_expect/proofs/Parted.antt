@@ -6,7 +6,7 @@ use Rattle.std.specs.Io.KnownBytes.{IsAtEnd}
 use Rattle.std.specs.Str.{bytes_eq}
 use Rattle.std.proofs.lemmas.Bool.{cases_eq, false≢true, not-false, not-true}
 use Rattle.std.proofs.lemmas.Slice.Eq.{bytes_eq-Decides}
-use Rattle.fb_expect.specs.Parting.{AreSame, HasPassed, MayFind, StandsAt, line_at, rest_at}
+use Rattle.fb_expect.specs.Parting.{AreSame, HasPassed, MayFind, ComesAfter, line_at, rest_at}
 use Rattle.fb_expect.specs.Words.{Text}
 
 -- one more line is passed
@@ -47,7 +47,7 @@ pub record Reads (old new : Option Text) (line : Text) : Type 0 where
   pub line_is : IfSome old (λ x. line ≡ take_through 10 x)
   pub rest_is : IfSome old (λ x. new ≡ Some (drop_through 10 x))
 
-stands-more : (n : ℕ) (a now new : Option Text) (line : Text) → StandsAt n a now → Reads now new line → StandsAt (suc n) a new × IfSome a (λ x. line ≡ line_at n x)
+stands-more : (n : ℕ) (a now new : Option Text) (line : Text) → ComesAfter n a now → Reads now new line → ComesAfter (suc n) a new × IfSome a (λ x. line ≡ line_at n x)
 stands-more n None now new line at reads = (tt, tt)
 stands-more n (Some x) now new line at reads =
     let is : line ≡ take_through 10 (rest_at n x) = known now at reads.line_is in
@@ -62,7 +62,7 @@ stands-more n (Some x) now new line at reads =
 pub passed-none : (a b : Option Text) → HasPassed 0 a b a b
 passed-none a b = record { first = at a; second = at b; same = none a b }
   where
-    at : (o : Option Text) → StandsAt 0 o o
+    at : (o : Option Text) → ComesAfter 0 o o
     at None = tt
     at (Some x) = refl
 
@@ -111,7 +111,7 @@ ended n a b a-now b-now left right p none none' = by a b p.first p.second p.same
     at-end : (x : Text) (o : Option Text) → o ≡ Some (rest_at n x) → IsAtEnd o → rest_at n x ≡ []
     at-end x o same holds = subst IsAtEnd same holds
 
-    by : (a b : Option Text) → StandsAt n a a-now → StandsAt n b b-now → IfSome a (λ x. IfSome b (λ y. AreSame n x y)) → MayFind a b left right None
+    by : (a b : Option Text) → ComesAfter n a a-now → ComesAfter n b b-now → IfSome a (λ x. IfSome b (λ y. AreSame n x y)) → MayFind a b left right None
     by None b f s same = tt
     by (Some x) None f s same = tt
     by (Some x) (Some y) f s same = same-all n x y same (at-end x a-now f none) (at-end y b-now s none')

@@ -47,7 +47,7 @@ pub no-third : (f : Bool) (hs : List Hit) (h : Hit) → h.third ≡ true → IsW
 no-third f hs h is (inl s) = s.none (length hs) (omega arith) (at-new third hs h is)
 no-third f hs h is (inr s) = s.none (length hs) s.before (omega arith) (at-new third hs h is)
 
--- ---- What lies after the new line
+-- ---- What is after the new line
 
 -- where a stretch has it, or a new one begins with it
 pub after-new : (f : Bool) (hs : List Hit) (h : Hit) → IsWithin f (hs ++ h ∷ []) (length hs) ⊎ (h.second ≡ true) → IsWithin f (hs ++ h ∷ []) (length (hs ++ h ∷ []))

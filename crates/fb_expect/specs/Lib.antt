@@ -6,7 +6,7 @@ pub mod Drafts
 pub mod Needs
 pub mod Reading
 pub mod Places
-pub mod Prints
+pub mod Fingerprints
 pub mod Lines
 pub mod Events
 pub mod Traces

@@ -47,11 +47,11 @@ abbrev pub MayFind : (a b : Option Text) → (left right : Text) → Option ℕ 
 MayFind a b left right found = IfSome a (λ x. IfSome b (λ y. Finds x y left right found))
 
 -- a reader comes after this many lines of a text
-abbrev pub StandsAt : ℕ → (old now : Option Text) → Type 0
-StandsAt n old now = IfSome old (λ x. now ≡ Some (rest_at n x))
+abbrev pub ComesAfter : ℕ → (old now : Option Text) → Type 0
+ComesAfter n old now = IfSome old (λ x. now ≡ Some (rest_at n x))
 
 -- both readers do, and all these lines are the same
 pub record HasPassed (n : ℕ) (a b : Option Text) (a-now b-now : Option Text) : Type 0 where
-  pub first : StandsAt n a a-now
-  pub second : StandsAt n b b-now
+  pub first : ComesAfter n a a-now
+  pub second : ComesAfter n b b-now
   pub same : IfSome a (λ x. IfSome b (λ y. AreSame n x y))

@@ -2,7 +2,7 @@
 use Rattle.std.specs.Prelude.{◌≡◌, ℕ, ◌%◌, Bool, true, false, List, Option, Some, None, slice_index_or}
 use Rattle.fb_expect.specs.Events.{Event}
 use Rattle.fb_expect.specs.Patterns.{is_at}
-use Rattle.fb_expect.specs.Prints.{print}
+use Rattle.fb_expect.specs.Fingerprints.{fingerprint}
 use Rattle.fb_expect.specs.Words.{Text}
 use Rattle.fb_expect.specs.declared.pattern.Pattern.{Pattern}
 use Rattle.fb_expect.specs.declared.rule.Need.{Need}
@@ -11,7 +11,7 @@ use Rattle.fb_expect.specs.declared.rule.Rule.{Rule}
 
 -- whether ports with the print of this one may matter
 abbrev pub is_marked : List Bool → Text → Bool
-is_marked marks port = slice_index_or marks (print port % 64) true
+is_marked marks port = slice_index_or marks (fingerprint port % 64) true
 
 -- The line is not of the pattern's ports.
 abbrev pub IsElsewhere : Pattern → Event → Type 0

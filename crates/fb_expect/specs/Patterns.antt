@@ -34,8 +34,8 @@ compares_whole AtMost a b = int_le a b
 compares_whole Greater a b = int_lt b a
 compares_whole AtLeast a b = int_le b a
 
--- whether a value compares so with the wanted one
-unfoldable pub compares : Comparison → (found wanted : Value) → Bool
+-- whether a value compares so with the given one
+unfoldable pub compares : Comparison → (found required : Value) → Bool
 compares c (value.Bool a) (value.Bool b) = compares_truth c a b
 compares c (value.Whole a) (value.Whole b) = compares_whole c a b
 compares c (value.Bool a) (value.Whole b) = false
@@ -67,7 +67,7 @@ abbrev pub is_of : PortPattern → (port : Text) → Bool
 is_of p port = if p.is_open then bytes_eq (take (length p.text) port) p.text else bytes_eq port p.text
 
 abbrev pub is_in : Option Text → (resource : Text) → Bool
-is_in wanted resource = option_map_or (λ name. bytes_eq resource name) wanted true
+is_in required resource = option_map_or (λ name. bytes_eq resource name) required true
 
 -- Whether a line is of the side, the ports and the resource of a pattern, whatever its values.
 unfoldable pub is_at : Pattern → Event → Bool

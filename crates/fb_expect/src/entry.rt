@@ -1,9 +1,9 @@
 //! What a line of a trace says.
 
 ghost use Rattle.std.specs.Prelude.{◌≡◌};
-ghost use Rattle.fb_expect.specs.Prints as prints;
+ghost use Rattle.fb_expect.specs.Fingerprints as prints;
 
-use crate::print::print_of;
+use crate::fingerprint::fingerprint_of;
 
 /// What a line of a trace says: the event, and the values with it.
 #[derive(Clone, Copy)]
@@ -18,8 +18,8 @@ pub struct Entry<'a> {
     /// What comes after the port: a blank and `VAR=value` for each value.
     pub values: &'a [u8],
     /// The print of the port.
-    print: u64,
-    ghost printed: { print ≡ prints.print port.now },
+    fingerprint: u64,
+    ghost has_fingerprint: { fingerprint ≡ prints.fingerprint port.now },
 }
 
 impl<'a> Entry<'a> {
@@ -43,15 +43,15 @@ impl<'a> Entry<'a> {
             taken,
             port,
             values,
-            print: print_of(port),
+            fingerprint: fingerprint_of(port),
         }
     }
 
     /// The print of the port.
     #[inline(always)]
-    pub(crate) fn print(&self) -> u64
-        ensures { result ≡ prints.print self.now.port.now }
+    pub(crate) fn fingerprint(&self) -> u64
+        ensures { result ≡ prints.fingerprint self.now.port.now }
     {
-        self.print
+        self.fingerprint
     }
 }

@@ -10,7 +10,7 @@
 //! Read in this order: `error`; `rule` and `pattern`, what is asked; `words`, `number` and `names`, parts of texts;
 //! `document` and `rules`, how rules are read; `place`, where they are refused; `event` and `ending`, what a line of a
 //! trace says; `meeting`, whether it meets a pattern; `hit`, `watch` and `verdict`, what comes of a rule; `sight`, what a
-//! trace never has; `print` and `port_set`, which lines are passed over; `judging`, a trace line by line; `tap`, what is
+//! trace never has; `fingerprint` and `port_set`, which lines are passed over; `judging`, a trace line by line; `tap`, what is
 //! reported; `parting` and `difference_report`, where two texts differ first.
 #![tactic(auto)]
 
@@ -21,6 +21,7 @@ pub mod entry;
 pub mod error;
 mod event;
 pub mod fault;
+mod fingerprint;
 mod hit;
 pub mod judging;
 pub mod lines;
@@ -32,7 +33,6 @@ pub mod pattern;
 pub mod place;
 pub mod port_pattern;
 mod port_set;
-mod print;
 pub mod rule;
 pub mod rules;
 pub mod sight;

@@ -12,37 +12,39 @@ use crate::port_pattern::PortPattern;
 use crate::words::{after_blank, split_at_mark};
 use fb_types::{Name, Value};
 
-fn compares_truth(comparison: Comparison, found: bool, wanted: bool) -> bool
-    ensures { result ≡ spec.compares_truth comparison found wanted }
+fn compares_truth(comparison: Comparison, found: bool, required: bool) -> bool
+    ensures { result ≡ spec.compares_truth comparison found required }
 {
     match comparison {
-        Comparison::Equal => found == wanted,
-        Comparison::Unequal => found != wanted,
+        Comparison::Equal => found == required,
+        Comparison::Unequal => found != required,
         _ => false,
     }
 }
 
-fn compares_whole(comparison: Comparison, found: i128, wanted: i128) -> bool
-    ensures { result ≡ spec.compares_whole comparison found wanted }
+fn compares_whole(comparison: Comparison, found: i128, required: i128) -> bool
+    ensures { result ≡ spec.compares_whole comparison found required }
 {
     match comparison {
-        Comparison::Equal => found == wanted,
-        Comparison::Unequal => found != wanted,
-        Comparison::Less => found < wanted,
-        Comparison::AtMost => found <= wanted,
-        Comparison::Greater => found > wanted,
-        Comparison::AtLeast => found >= wanted,
+        Comparison::Equal => found == required,
+        Comparison::Unequal => found != required,
+        Comparison::Less => found < required,
+        Comparison::AtMost => found <= required,
+        Comparison::Greater => found > required,
+        Comparison::AtLeast => found >= required,
     }
 }
 
-/// Whether a value compares so with the wanted one. Values of two kinds do not.
+/// Whether a value compares so with the given one. Values of two kinds do not.
 #[tactic(auto, unfolding(crate::specs::Patterns::compares))]
-fn compares(comparison: Comparison, found: Value, wanted: Value) -> bool
-    ensures { result ≡ spec.compares comparison found wanted }
+fn compares(comparison: Comparison, found: Value, required: Value) -> bool
+    ensures { result ≡ spec.compares comparison found required }
 {
-    match (found, wanted) {
-        (Value::Bool(found), Value::Bool(wanted)) => compares_truth(comparison, found, wanted),
-        (Value::Whole(found), Value::Whole(wanted)) => compares_whole(comparison, found, wanted),
+    match (found, required) {
+        (Value::Bool(found), Value::Bool(required)) => compares_truth(comparison, found, required),
+        (Value::Whole(found), Value::Whole(required)) => compares_whole(
+            comparison, found, required,
+        ),
         _ => false,
     }
 }

@@ -3,11 +3,11 @@
 ghost use Rattle.std.specs.Prelude.{◌≡◌, ◌%◌, false, replicate, slice_index_or, slice_set, true};
 ghost use Rattle.fb_expect.specs.Events.{event_of};
 ghost use Rattle.fb_expect.specs.Passing.{Adds, AddsOptional, Covers, IsTimeless};
-ghost use Rattle.fb_expect.specs.Prints as prints;
+ghost use Rattle.fb_expect.specs.Fingerprints as prints;
 
 use crate::entry::Entry;
+use crate::fingerprint::fingerprint_of;
 use crate::pattern::Pattern;
-use crate::print::print_of;
 use crate::rule::{Need, Rule};
 
 /// For how many remainders of a print a set says whether ports with it matter.
@@ -33,9 +33,9 @@ fn nothing() -> [bool; REMAINDERS] {
 
 /// The marks with that for a port.
 fn with_port(mut marks: [bool; REMAINDERS], port: &[u8]) -> [bool; REMAINDERS]
-    ensures { result ≡ slice_set marks (prints.print port.now % 64) true }
+    ensures { result ≡ slice_set marks (prints.fingerprint port.now % 64) true }
 {
-    marks[(print_of(port) % 64) as usize] = true;
+    marks[(fingerprint_of(port) % 64) as usize] = true;
     marks
 }
 
@@ -86,8 +86,8 @@ impl PortSet {
     /// Whether a line may matter.
     #[inline(always)]
     pub(crate) fn may_have(&self, entry: &Entry<'_>) -> bool
-        ensures { result ≡ slice_index_or self.now.marks (prints.print entry.now.port.now % 64) true }
+        ensures { result ≡ slice_index_or self.now.marks (prints.fingerprint entry.now.port.now % 64) true }
     {
-        self.marks[(entry.print() % 64) as usize]
+        self.marks[(entry.fingerprint() % 64) as usize]
     }
 }

@@ -64,7 +64,7 @@ module _ (P : TableFault → Type 0) (k : DeployKey) (keys : Members) (why : Tab
           let w = failed (element_at k) f 0 (list_of ds) why h in
           let first : 0 + w.index ≡ w.index = omega arith in
           let is : why ≡ fault.Element k w.index = w.is ∙ ap (λ i. element_at k i) first in
-          subst P (sym is) (element w.index (d, at, (ds, e, (w.element, w.stands, w.none))))
+          subst P (sym is) (element w.index (d, at, (ds, e, (w.element, w.at_index, w.none))))
 
   array-fault : {A : Type 0} (f : Data → Option A) → (Lacks keys k → P (fault.Missing k)) → (Has keys k (λ d. as_array d ≡ None) → P (fault.Wrong k))
       → ((i : ℕ) → HasArray keys k (λ ds. HasAt ds i (λ x. f x ≡ None)) → P (fault.Element k i)) → read_at k (array_of k f) keys ≡ Err why → P why
@@ -208,7 +208,7 @@ tables-fault {A} P k f d p wrong inside h = go (as_array d) refl h
         let w = failed_in (shape_in k) f 0 (list_of ds) p h in
         let first : 0 + w.index ≡ w.index = omega arith in
         let is : p ≡ shape_in k w.index w.why = w.is ∙ ap (λ i. shape_in k i w.why) first in
-        subst P (sym is) (inside ds w.index w.element w.why e w.stands w.wrong)
+        subst P (sym is) (inside ds w.index w.element w.why e w.at_index w.wrong)
 
 -- ---- documents
 
@@ -216,13 +216,13 @@ resources-fault : (keys : Members) (p : DeployLocation) (o : Option Data) → va
 resources-fault keys p None at h = to-fault {A = List ResourceEntry} (IsDocumentFault keys) (at_top (fault.Missing key.Resource)) p h at
 resources-fault keys p (Some d) at h =
     tables-fault (IsDocumentFault keys) key.Resource resource d p (λ none. (d, at, none))
-    (λ ds i x why array stands e. (d, at, (ds, array, (x, stands, table-fault IsResourceFault read_resource x why (λ ks n. n) (λ ks r. resource-fault ks why r) e)))) h
+    (λ ds i x why array at_index e. (d, at, (ds, array, (x, at_index, table-fault IsResourceFault read_resource x why (λ ks n. n) (λ ks r. resource-fault ks why r) e)))) h
 
 links-fault : (keys : Members) (p : DeployLocation) (o : Option Data) → value_at keys key.Link ≡ o → links_in o ≡ Err p → IsDocumentFault keys p
 links-fault keys p None at h = absurd (ok-not-err {A = List LinkDraft} [] p h)
 links-fault keys p (Some d) at h =
     tables-fault (IsDocumentFault keys) key.Link link d p (λ none. (d, at, none))
-    (λ ds i x why array stands e. (d, at, (ds, array, (x, stands, table-fault IsLinkFault read_link x why (λ ks n. n) (λ ks r. link-fault ks why r) e)))) h
+    (λ ds i x why array at_index e. (d, at, (ds, array, (x, at_index, table-fault IsLinkFault read_link x why (λ ks n. n) (λ ks r. link-fault ks why r) e)))) h
 
 -- the array of resources is empty
 no-resource : (keys : Members) (o : Option Data) (rs : List ResourceEntry) → value_at keys key.Resource ≡ o → resources_in o ≡ Ok rs → length rs ≡ 0 → HasArray keys key.Resource (λ ds. length ds ≡ 0)
@@ -277,7 +277,7 @@ unless-err None r n h = inr (refl, h)
 record FailsTest {A : Type 0} (test : A → Bool) (k : ℕ) (xs : List A) (e : ℕ) : Type 0 where
   index : ℕ
   element : A
-  stands : slice_get xs index ≡ Some element
+  at_index : slice_get xs index ≡ Some element
   wrong : test element ≡ false
   is : e ≡ k + index
 
@@ -290,14 +290,14 @@ failing {A} test k (x ∷ xs) e h = go (λ i. failing test (k + 1) xs e i) (test
     go later true t h =
         let w = later h in
         let n = w.is in
-        record { index = suc w.index; element = w.element; stands = w.stands; wrong = w.wrong; is = omega arith }
-    go later false t h = let same = some-is k e h in record { index = 0; element = x; stands = refl; wrong = t; is = omega arith }
+        record { index = suc w.index; element = w.element; at_index = w.at_index; wrong = w.wrong; is = omega arith }
+    go later false t h = let same = some-is k e h in record { index = 0; element = x; at_index = refl; wrong = t; is = omega arith }
 
 -- the entry that does not follow
 record NoSuccessor (last : Option ℕ) (k : ℕ) (t : List LatencyDraft) (e : ℕ) : Type 0 where
   index : ℕ
   entry : LatencyDraft
-  stands : slice_get t index ≡ Some entry
+  at_index : slice_get t index ≡ Some entry
   wrong : follows (tick_before last t index) entry.start ≡ false
   is : e ≡ k + index
 
@@ -318,11 +318,11 @@ disordered last k (x ∷ t) e h = go (λ i. disordered (Some (unsigned_abs x.sta
         record {
           index = suc w.index;
           entry = w.entry;
-          stands = w.stands;
+          at_index = w.at_index;
           wrong = ap (λ (o : Option ℕ). follows o w.entry.start) (sym (tick_moved last x t w.index)) ∙ w.wrong;
           is = omega arith;
         }
-    go later false f h = let same = some-is k e h in record { index = 0; entry = x; stands = refl; wrong = f; is = omega arith }
+    go later false f h = let same = some-is k e h in record { index = 0; entry = x; at_index = refl; wrong = f; is = omega arith }
 
 -- the link of which something is found
 record OfLink (f : ℕ → LinkDraft → Option DeployLocation) (k : ℕ) (ls : List LinkDraft) (p : DeployLocation) : Type 0 where
@@ -330,7 +330,7 @@ record OfLink (f : ℕ → LinkDraft → Option DeployLocation) (k : ℕ) (ls : 
   before : ℕ
   counted : before ≡ k + index
   link : LinkDraft
-  stands : slice_get ls index ≡ Some link
+  at_index : slice_get ls index ≡ Some link
   found : f before link ≡ Some p
 
 of-link : (f : ℕ → LinkDraft → Option DeployLocation) (k : ℕ) (ls : List LinkDraft) (p : DeployLocation) → among_links f k ls ≡ Some p → OfLink f k ls p
@@ -339,11 +339,11 @@ of-link f k [] p h = absurd cc
 of-link f k (l ∷ ls) p h = go (λ e. of-link f (k + 1) ls p e) (f k l) refl h
   where
     go : (among_links f (k + 1) ls ≡ Some p → OfLink f (k + 1) ls p) → (o : Option DeployLocation) → f k l ≡ o → either o (among_links f (k + 1) ls) ≡ Some p → OfLink f k (l ∷ ls) p
-    go later (Some q) e h = record { index = 0; before = k; counted = omega arith; link = l; stands = refl; found = e ∙ h }
+    go later (Some q) e h = record { index = 0; before = k; counted = omega arith; link = l; at_index = refl; found = e ∙ h }
     go later None e h =
         let w = later h in
         let n = w.counted in
-        record { index = suc w.index; before = w.before; counted = omega arith; link = w.link; stands = w.stands; found = w.found }
+        record { index = suc w.index; before = w.before; counted = omega arith; link = w.link; at_index = w.at_index; found = w.found }
 
 -- the same, from the first link on
 at-link : (f : ℕ → LinkDraft → Option DeployLocation) (ls : List LinkDraft) (p : DeployLocation) → among_links f 0 ls ≡ Some p → (k : ℕ) × (l : LinkDraft) × (slice_get ls k ≡ Some l) × (f k l ≡ Some p)
@@ -351,7 +351,7 @@ at-link f ls p h =
     let w = of-link f 0 ls p h in
     let n = w.counted in
     let same : w.before ≡ w.index = omega arith in
-    (w.index, w.link, w.stands, ap (λ i. f i w.link) (sym same) ∙ w.found)
+    (w.index, w.link, w.at_index, ap (λ i. f i w.link) (sym same) ∙ w.found)
 
 module _ (d : PlanDraft) (p : DeployLocation) where
   latency-fault : among_links latency_of_link 0 d.links ≡ Some p → IsNumbersFault d p
@@ -361,25 +361,25 @@ module _ (d : PlanDraft) (p : DeployLocation) where
       let v = failing has_latency 0 w.1.table m.0 m.1 in
       let n = v.is in
       let same : v.index ≡ m.0 = omega arith in
-      subst (IsNumbersFault d) m.2 (w.1, w.2, (v.element, ap (λ i. slice_get w.1.table i) (sym same) ∙ v.stands, v.wrong))
+      subst (IsNumbersFault d) m.2 (w.1, w.2, (v.element, ap (λ i. slice_get w.1.table i) (sym same) ∙ v.at_index, v.wrong))
 
   started : (k : ℕ) (l : LinkDraft) (b : Bool) → slice_get d.links k ≡ Some l → (length l.table == 0) ≡ b
       → cond b (Some (location.NoEntry k)) (option_map (λ e. location.Entry k e) (out_of_order None 0 l.table)) ≡ Some p → IsNumbersFault d p
-  started k l true stands e h = subst (IsNumbersFault d) (some-is (location.NoEntry k) p h) (l, stands, eqb-true (length l.table) 0 e)
-  started k l false stands e h =
+  started k l true at_index e h = subst (IsNumbersFault d) (some-is (location.NoEntry k) p h) (l, at_index, eqb-true (length l.table) 0 e)
+  started k l false at_index e h =
       let m = mapped (λ e. location.Entry k e) (out_of_order None 0 l.table) p h in
       let v = disordered None 0 l.table m.0 m.1 in
       let n = v.is in
       let same : v.index ≡ m.0 = omega arith in
       subst (IsNumbersFault d) m.2
-      (l, stands, (v.entry, ap (λ i. slice_get l.table i) (sym same) ∙ v.stands, ap (λ i. follows (tick_before None l.table i) v.entry.start) (sym same) ∙ v.wrong))
+      (l, at_index, (v.entry, ap (λ i. slice_get l.table i) (sym same) ∙ v.at_index, ap (λ i. follows (tick_before None l.table i) v.entry.start) (sym same) ∙ v.wrong))
 
   start-fault : among_links start_of_link 0 d.links ≡ Some p → IsNumbersFault d p
   start-fault h = let w = at-link start_of_link d.links p h in started w.0 w.1 (length w.1.table == 0) w.2 refl w.3
 
   crowded : (k : ℕ) (l : LinkDraft) (b : Bool) → slice_get d.links k ≡ Some l → leb (length l.table) 64 ≡ b → cond b None (Some (location.Entries k)) ≡ Some p → IsNumbersFault d p
-  crowded k l true stands e h = absurd cc
-  crowded k l false stands e h = subst (IsNumbersFault d) (some-is (location.Entries k) p h) (l, stands, leb-false (length l.table) 64 e)
+  crowded k l true at_index e h = absurd cc
+  crowded k l false at_index e h = subst (IsNumbersFault d) (some-is (location.Entries k) p h) (l, at_index, leb-false (length l.table) 64 e)
 
   excess-fault : excess (length d.resources) d.links ≡ Some p → IsNumbersFault d p
   excess-fault h = go (ltb 256 (length d.resources)) (ltb 1024 (length d.links)) refl refl h

@@ -26,14 +26,14 @@ use Rattle.fb_inputs.specs.Words.{Text}
 pub record Fails {A B N : Type 0} (why : ℕ → N) (f : A → Option B) (k : ℕ) (xs : List A) (n : N) : Type 0 where
   pub index : ℕ
   pub element : A
-  pub stands : slice_get xs index ≡ Some element
+  pub at_index : slice_get xs index ≡ Some element
   pub none : f element ≡ None
   pub is : n ≡ why (k + index)
 
 -- the element of which a result was made
 pub record MadeOf {A B : Type 0} (f : A → Option B) (xs : List A) (k : ℕ) (y : B) : Type 0 where
   pub element : A
-  pub stands : slice_get xs k ≡ Some element
+  pub at_index : slice_get xs k ≡ Some element
   pub found : f element ≡ Some y
 
 abbrev pub refusal_of : {T N : Type 0} → N → Result T N
@@ -58,17 +58,17 @@ failed {A} {B} {N} why f k (x ∷ xs) n h = go (λ e. failed why f (k + 1) xs n 
     go : (each_at why f (k + 1) xs ≡ Err n → Fails why f (k + 1) xs n) → (o : Option B) → f x ≡ o → and_then (or_refuse (why k) o) (λ y. rest_of y (each_at why f (k + 1) xs)) ≡ Err n → Fails why f k (x ∷ xs) n
     go later None none e =
         let first : why (k + 0) ≡ why k = ap why (omega arith) in
-        record { index = 0; element = x; stands = refl; none = none; is = sym (same_refusal {T = List B} (why k) n e) ∙ sym first }
+        record { index = 0; element = x; at_index = refl; none = none; is = sym (same_refusal {T = List B} (why k) n e) ∙ sym first }
     go later (Some y) some e =
         let w = later (rest_fails y n (each_at why f (k + 1) xs) e) in
         let moved : why (k + 1 + w.index) ≡ why (k + suc w.index) = ap why (omega arith) in
-        record { index = suc w.index; element = w.element; stands = w.stands; none = w.none; is = w.is ∙ moved }
+        record { index = suc w.index; element = w.element; at_index = w.at_index; none = w.none; is = w.is ∙ moved }
 
 -- the element that says what is wrong with it
 pub record FailsIn {A B M N : Type 0} (at : ℕ → M → N) (f : A → Result B M) (k : ℕ) (xs : List A) (n : N) : Type 0 where
   pub index : ℕ
   pub element : A
-  pub stands : slice_get xs index ≡ Some element
+  pub at_index : slice_get xs index ≡ Some element
   pub why : M
   pub wrong : f element ≡ Err why
   pub is : n ≡ at (k + index) why
@@ -81,11 +81,11 @@ failed_in {A} {B} {M} {N} at f k (x ∷ xs) n h = go (λ e. failed_in at f (k + 
     go : (each_in at f (k + 1) xs ≡ Err n → FailsIn at f (k + 1) xs n) → (o : Result B M) → f x ≡ o → and_then (placed (at k) o) (λ y. rest_of y (each_in at f (k + 1) xs)) ≡ Err n → FailsIn at f k (x ∷ xs) n
     go later (Err why) wrong e =
         let first : at (k + 0) why ≡ at k why = ap (λ i. at i why) (omega arith) in
-        record { index = 0; element = x; stands = refl; why = why; wrong = wrong; is = sym (same_refusal {T = List B} (at k why) n e) ∙ sym first }
+        record { index = 0; element = x; at_index = refl; why = why; wrong = wrong; is = sym (same_refusal {T = List B} (at k why) n e) ∙ sym first }
     go later (Ok y) right e =
         let w = later (rest_fails y n (each_in at f (k + 1) xs) e) in
         let moved : at (k + 1 + w.index) w.why ≡ at (k + suc w.index) w.why = ap (λ i. at i w.why) (omega arith) in
-        record { index = suc w.index; element = w.element; stands = w.stands; why = w.why; wrong = w.wrong; is = w.is ∙ moved }
+        record { index = suc w.index; element = w.element; at_index = w.at_index; why = w.why; wrong = w.wrong; is = w.is ∙ moved }
 
 pub length_in : {A B M N : Type 0} (at : ℕ → M → N) (f : A → Result B M) (k : ℕ) (xs : List A) (ys : List B) → each_in at f k xs ≡ Ok ys → length ys ≡ length xs
 unfolding each_in
@@ -105,18 +105,18 @@ made_of {A} {B} {N} why f k (x ∷ xs) ys i y h at = go (λ zs j e there. made_o
   where
     here : (zs : List B) (z : B) (j : ℕ) → ((us : List B) (m : ℕ) → each_at why f (k + 1) xs ≡ Ok us → slice_get us m ≡ Some y → MadeOf f xs m y) → f x ≡ Some z → each_at why f (k + 1) xs ≡ Ok zs
         → slice_get (z ∷ zs) j ≡ Some y → MadeOf f (x ∷ xs) j y
-    here zs z zero later some e there = let same : z ≡ y = cc in record { element = x; stands = refl; found = some ∙ ap (λ (u : B). Some u) same }
-    here zs z (suc j) later some e there = let w = later zs j e there in record { element = w.element; stands = w.stands; found = w.found }
+    here zs z zero later some e there = let same : z ≡ y = cc in record { element = x; at_index = refl; found = some ∙ ap (λ (u : B). Some u) same }
+    here zs z (suc j) later some e there = let w = later zs j e there in record { element = w.element; at_index = w.at_index; found = w.found }
 
-    behind : (z : B) (o : Result (List B) N) → ((us : List B) (m : ℕ) → each_at why f (k + 1) xs ≡ Ok us → slice_get us m ≡ Some y → MadeOf f xs m y) → f x ≡ Some z → each_at why f (k + 1) xs ≡ o
+    following : (z : B) (o : Result (List B) N) → ((us : List B) (m : ℕ) → each_at why f (k + 1) xs ≡ Ok us → slice_get us m ≡ Some y → MadeOf f xs m y) → f x ≡ Some z → each_at why f (k + 1) xs ≡ o
         → rest_of z o ≡ Ok ys → MadeOf f (x ∷ xs) i y
-    behind z (Ok zs) later some is e = let same : z ∷ zs ≡ ys = cc in here zs z i later some is (ap (λ (us : List B). slice_get us i) same ∙ at)
-    behind z (Err n) later some is e = absurd cc
+    following z (Ok zs) later some is e = let same : z ∷ zs ≡ ys = cc in here zs z i later some is (ap (λ (us : List B). slice_get us i) same ∙ at)
+    following z (Err n) later some is e = absurd cc
 
     go : ((us : List B) (m : ℕ) → each_at why f (k + 1) xs ≡ Ok us → slice_get us m ≡ Some y → MadeOf f xs m y) → (o : Option B) → f x ≡ o
         → and_then (or_refuse (why k) o) (λ z. rest_of z (each_at why f (k + 1) xs)) ≡ Ok ys → MadeOf f (x ∷ xs) i y
     go later None none e = absurd cc
-    go later (Some z) some e = behind z (each_at why f (k + 1) xs) later some refl e
+    go later (Some z) some e = following z (each_at why f (k + 1) xs) later some refl e
 
 -- ---- a row
 
@@ -125,8 +125,8 @@ none_of f None h = refl
 none_of f (Some x) h = absurd cc
 
 -- what follows the shape of a row
-abbrev behind_shape : ℕ → Text × Text × Text → Draft → InRow Stimulus
-behind_shape before f drawn =
+abbrev after_shape : ℕ → Text × Text × Text → Draft → InRow Stimulus
+after_shape before f drawn =
     and_then (or_refuse fault.Tick (natural f.0)) (λ tick. and_then (each_at value_at setting 0 drawn.words) (λ settings.
     limited before (record { tick = tick; instance = drawn.instance; event = drawn.event; settings = settings })))
 
@@ -150,10 +150,10 @@ module _ (before : ℕ) (row : Row) (why : RowFault) where
         limits f at tick n (record { tick = tick; instance = ends.0; event = ends.1; settings = settings }) (leb tick (10 ^ 12)) (ltb before most_rows) refl refl e
     valued found read tick n (Err m) is e =
         let w = failed value_at setting 0 found m is in
-        let v = made_of word_at word 0 (words f.2) found w.index w.element read w.stands in
+        let v = made_of word_at word 0 (words f.2) found w.index w.element read w.at_index in
         let same : 0 + w.index ≡ w.index = omega arith in
         let fault_is : m ≡ fault.Value w.index = w.is ∙ ap value_at same in
-        this (fault.Value w.index) (f, at, (v.element, v.stands, (w.element, v.found, none_of _ w.element.value w.none)))
+        this (fault.Value w.index) (f, at, (v.element, v.at_index, (w.element, v.found, none_of _ w.element.value w.none)))
         (ap (λ (x : RowFault). refusal_of {T = Stimulus} x) (sym fault_is) ∙ e)
 
     counted : (found : List Word) → each_at word_at word 0 (words f.2) ≡ Ok found → (o : Option ℕ) → natural f.0 ≡ o
@@ -162,20 +162,20 @@ module _ (before : ℕ) (row : Row) (why : RowFault) where
     counted found read None n e = this fault.Tick (f, at, n) e
     counted found read (Some tick) n e = valued found read tick n (each_at value_at setting 0 found) refl e
 
-    worded : (o : InRow (List Word)) → each_at word_at word 0 (words f.2) ≡ o → and_then (and_then o (λ found. Ok (drawn_of ends found))) (behind_shape before f) ≡ Err why → IsRowFault before row why
+    worded : (o : InRow (List Word)) → each_at word_at word 0 (words f.2) ≡ o → and_then (and_then o (λ found. Ok (drawn_of ends found))) (after_shape before f) ≡ Err why → IsRowFault before row why
     worded (Ok found) read e = counted found read (natural f.0) refl e
     worded (Err m) read e =
         let w = failed word_at word 0 (words f.2) m read in
         let same : 0 + w.index ≡ w.index = omega arith in
         let fault_is : m ≡ fault.Word w.index = w.is ∙ ap word_at same in
-        this (fault.Word w.index) (f, at, (w.element, w.stands, w.none)) (ap (λ (x : RowFault). refusal_of {T = Stimulus} x) (sym fault_is) ∙ e)
+        this (fault.Word w.index) (f, at, (w.element, w.at_index, w.none)) (ap (λ (x : RowFault). refusal_of {T = Stimulus} x) (sym fault_is) ∙ e)
 
   shaped : (f : Text × Text × Text) → three row ≡ Some f → (o : Option (Text × Text)) → event f.1 ≡ o
-      → and_then (and_then (or_refuse fault.Event o) (λ ends. and_then (each_at word_at word 0 (words f.2)) (λ found. Ok (drawn_of ends found)))) (behind_shape before f) ≡ Err why → IsRowFault before row why
+      → and_then (and_then (or_refuse fault.Event o) (λ ends. and_then (each_at word_at word 0 (words f.2)) (λ found. Ok (drawn_of ends found)))) (after_shape before f) ≡ Err why → IsRowFault before row why
   shaped f at None n e = this fault.Event (f, at, n) e
   shaped f at (Some ends) n e = worded f at ends (each_at word_at word 0 (words f.2)) refl e
 
-  fields : (o : Option (Text × Text × Text)) → three row ≡ o → and_then (or_refuse fault.Fields o) (λ f. and_then (draft f.1 f.2) (behind_shape before f)) ≡ Err why → IsRowFault before row why
+  fields : (o : Option (Text × Text × Text)) → three row ≡ o → and_then (or_refuse fault.Fields o) (λ f. and_then (draft f.1 f.2) (after_shape before f)) ≡ Err why → IsRowFault before row why
   unfolding draft
   fields None at e = this fault.Fields at e
   fields (Some f) at e = shaped f at (event f.1) refl e
@@ -191,7 +191,7 @@ pub record RowFaulty (k : ℕ) (rows : List Row) (p : StimuliLocation) : Type 0 
   pub before : ℕ
   pub counted : before ≡ k + index
   pub row : Row
-  pub stands : slice_get rows index ≡ Some row
+  pub at_index : slice_get rows index ≡ Some row
   pub why : RowFault
   pub wrong : IsRowFault before row why
   pub is : p ≡ row_at before why
@@ -208,7 +208,7 @@ rows_faulty k (row ∷ rows) p h = go (λ e. rows_faulty (k + 1) rows p e) (stim
       before = k;
       counted = omega arith;
       row = row;
-      stands = refl;
+      at_index = refl;
       why = why;
       wrong = row_faulty k row why is;
       is = sym (same_refusal {T = List Stimulus} (row_at k why) p e);
@@ -221,7 +221,7 @@ rows_faulty k (row ∷ rows) p h = go (λ e. rows_faulty (k + 1) rows p e) (stim
           before = w.before;
           counted = omega arith;
           row = w.row;
-          stands = w.stands;
+          at_index = w.at_index;
           why = w.why;
           wrong = w.wrong;
           is = w.is;
@@ -239,7 +239,7 @@ module _ (bytes : Text) (p : StimuliLocation) where
       let n = w.counted in
       let same : w.before ≡ w.index = omega arith in
       let found : IsFaultAt bytes (row_at w.before w.why) =
-      (w.row, record { head = head; rows = rows; read = read; headed = test; stands = ap (λ i. slice_get rows i) same ∙ w.stands }, w.wrong) in
+      (w.row, record { head = head; rows = rows; read = read; headed = test; at_index = ap (λ i. slice_get rows i) same ∙ w.at_index }, w.wrong) in
       subst (λ (x : StimuliLocation). IsFaultAt bytes x) (sym w.is) found
   headed head rows read false test e = there location.Heading (record { first = head; rows = rows; read = read; other = test }) e
 

@@ -127,7 +127,7 @@ pub at_more : (a b : ByteRecordsIntoIter (Bor (List ℕ))) (z : Text) (fields : 
 unfolding Reached
 at_more a b z fields here r first left kept =
     let (y, source, reached) = rows-more known a.rdr b.rdr fields default_config a.rdr.state z z [] here.config here.source (refl, refl) r in
-    let (p, reads, is, behind) = reached in
+    let (p, reads, is, following) = reached in
     let l : Leaves a.rdr.state z p = rw reads at (leaves a.rdr.state [] [] z) in
     let next = rows_from-more a.rdr.state z p here.between reads in
     let there : IsAt b y = record {
@@ -136,10 +136,10 @@ at_more a b z fields here r first left kept =
       left = left;
       config = r.2 ∙ here.config;
       source = source;
-      between = ap ends_at_end (sym behind.0) ∙ l.2;
+      between = ap ends_at_end (sym following.0) ∙ l.2;
       flexible = kept ∙ here.flexible;
     } in
-    let rows = next ∙ ap (λ (row : Row). row ∷ rows_from p.1 p.2) (sym is) ∙ ap (λ (s : State). fields ∷ rows_from s p.2) behind.0 ∙ ap (λ (t : Text). fields ∷ rows_from b.rdr.state t) behind.1 in
+    let rows = next ∙ ap (λ (row : Row). row ∷ rows_from p.1 p.2) (sym is) ∙ ap (λ (s : State). fields ∷ rows_from s p.2) following.0 ∙ ap (λ (t : Text). fields ∷ rows_from b.rdr.state t) following.1 in
     (y, there, rows)
 
 pub at_end : (a b : ByteRecordsIntoIter (Bor (List ℕ))) (z : Text) → IsAt a z → ReadRecord known a.rdr b.rdr false [] → rows_from a.rdr.state z ≡ []

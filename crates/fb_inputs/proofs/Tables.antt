@@ -58,11 +58,11 @@ ordered last k p ps h = go (follows last p.start) refl h
     go true e h = (e, h)
     go false e h = absurd cc
 
-ticks_behind : (last k : ℕ) (t : List LatencyDraft) → out_of_order (Some last) k t ≡ None → All HasTick (map entry t)
-ticks_behind last k [] h = All-nil HasTick
-ticks_behind last k (p ∷ ps) h =
+ticks_after : (last k : ℕ) (t : List LatencyDraft) → out_of_order (Some last) k t ≡ None → All HasTick (map entry t)
+ticks_after last k [] h = All-nil HasTick
+ticks_after last k (p ∷ ps) h =
     let (here, more) = ordered (Some last) k p ps h in
-    All-cons HasTick (entry p) (map entry ps) (after_within last p.start here).1 (ticks_behind (unsigned_abs p.start) (k + 1) ps more)
+    All-cons HasTick (entry p) (map entry ps) (after_within last p.start here).1 (ticks_after (unsigned_abs p.start) (k + 1) ps more)
 
 zero_at : (z : ℤ) → is_zero z ≡ true → unsigned_abs z ≡ 0
 zero_at (pos n) h = eqb-true n 0 h
@@ -72,22 +72,22 @@ ticks_within : (t : List LatencyDraft) → out_of_order None 0 t ≡ None → Al
 ticks_within [] h = All-nil HasTick
 ticks_within (p ∷ ps) h =
     let (here, more) = ordered None 0 p ps h in
-    All-cons HasTick (entry p) (map entry ps) (omega (arith, zero_at p.start here)) (ticks_behind (unsigned_abs p.start) (0 + 1) ps more)
+    All-cons HasTick (entry p) (map entry ps) (omega (arith, zero_at p.start here)) (ticks_after (unsigned_abs p.start) (0 + 1) ps more)
 
 abbrev starts : List LatencyDraft → List ℕ
 starts t = map (λ e. e.from) (map entry t)
 
-rising_behind : (last i : ℕ) (t : List LatencyDraft) → out_of_order (Some last) i t ≡ None → (k : ℕ) → suc k < length (last ∷ starts t) → get_or (last ∷ starts t) k 0 < get_or (last ∷ starts t) (suc k) 0
-rising_behind last i [] h k lt = absurd (omega arith)
-rising_behind last i (p ∷ ps) h zero lt = (after_within last p.start (ordered (Some last) i p ps h).0).0
-rising_behind last i (p ∷ ps) h (suc k) lt = rising_behind (unsigned_abs p.start) (i + 1) ps (ordered (Some last) i p ps h).1 k (omega arith)
+rising_after : (last i : ℕ) (t : List LatencyDraft) → out_of_order (Some last) i t ≡ None → (k : ℕ) → suc k < length (last ∷ starts t) → get_or (last ∷ starts t) k 0 < get_or (last ∷ starts t) (suc k) 0
+rising_after last i [] h k lt = absurd (omega arith)
+rising_after last i (p ∷ ps) h zero lt = (after_within last p.start (ordered (Some last) i p ps h).0).0
+rising_after last i (p ∷ ps) h (suc k) lt = rising_after (unsigned_abs p.start) (i + 1) ps (ordered (Some last) i p ps h).1 k (omega arith)
 
 rising : (t : List LatencyDraft) → (length t == 0) ≡ false → out_of_order None 0 t ≡ None → IsStrictlyIncreasing (starts t)
 rising [] some h = absurd (true≢false some)
 rising (p ∷ ps) some h = λ (k : ℕ) (lt : k + 1 < length (starts (p ∷ ps))).
     let (here, more) = ordered None 0 p ps h in
     let next : k + 1 ≡ suc k = omega arith in
-    rw next (rising_behind (unsigned_abs p.start) (0 + 1) ps more k (omega arith))
+    rw next (rising_after (unsigned_abs p.start) (0 + 1) ps more k (omega arith))
 
 from_zero : (t : List LatencyDraft) → (length t == 0) ≡ false → out_of_order None 0 t ≡ None → slice_get (starts t) 0 ≡ Some 0
 from_zero [] some h = absurd (true≢false some)

@@ -27,22 +27,22 @@ pub one_left : (a : Rest) (z y : Text) → IsAt a z → IsAt a y → z ≡ y
 one_left a z y here there = same_Some z y (sym here.source ∙ there.source)
 
 pub turn_more :
-    (a b : Rest) (z : Text) (front behind : List Stimulus) (r : Result ByteRecord Error) (u : Unit {0}) → IsAt a z → RowStep known a.rdr b.rdr b.left (Some r) → FlexibleStep a.rdr b.rdr (Some r)
-    → IsAdded r front behind (Ok u)
-    → (y : Text) × IsAt b y × (all_after front (stimuli_from (length front) (rows_from a.rdr.state z)) ≡ all_after behind (stimuli_from (length behind) (rows_from b.rdr.state y)))
-turn_more a b z front behind (Ok row) u here step flexible added =
+    (a b : Rest) (z : Text) (front following : List Stimulus) (r : Result ByteRecord Error) (u : Unit {0}) → IsAt a z → RowStep known a.rdr b.rdr b.left (Some r) → FlexibleStep a.rdr b.rdr (Some r)
+    → IsAdded r front following (Ok u)
+    → (y : Text) × IsAt b y × (all_after front (stimuli_from (length front) (rows_from a.rdr.state z)) ≡ all_after following (stimuli_from (length following) (rows_from b.rdr.state y)))
+turn_more a b z front following (Ok row) u here step flexible added =
     let (y, there, rows) = at_more a b z (fields_of row) here step.0 step.1 step.2 flexible in
     let (s, found, is) = added in
     (y, there, rw is (next_found front (fields_of row) (rows_from b.rdr.state y) _ s _ rows found refl))
-turn_more a b z front behind (Err e) u here step flexible added = absurd cc
+turn_more a b z front following (Err e) u here step flexible added = absurd cc
 
 pub turn_refused :
-    (a b : Rest) (z : Text) (front behind : List Stimulus) (r : Result ByteRecord Error) (e : StimuliFault) → IsAt a z → RowStep known a.rdr b.rdr b.left (Some r) → FlexibleStep a.rdr b.rdr (Some r)
-    → IsAdded r front behind (Err e) → IfSome (place_of e) (λ n. all_after front (stimuli_from (length front) (rows_from a.rdr.state z)) ≡ Err n)
-turn_refused a b z front behind (Ok row) e here step flexible added =
+    (a b : Rest) (z : Text) (front following : List Stimulus) (r : Result ByteRecord Error) (e : StimuliFault) → IsAt a z → RowStep known a.rdr b.rdr b.left (Some r) → FlexibleStep a.rdr b.rdr (Some r)
+    → IsAdded r front following (Err e) → IfSome (place_of e) (λ n. all_after front (stimuli_from (length front) (rows_from a.rdr.state z)) ≡ Err n)
+turn_refused a b z front following (Ok row) e here step flexible added =
     let (y, there, rows) = at_more a b z (fields_of row) here step.0 step.1 step.2 flexible in
     next_refused e front (fields_of row) (rows_from b.rdr.state y) _ _ rows added refl
-turn_refused a b z front behind (Err x) e here step flexible added = let memory : e ≡ Memory = cc in rw memory tt
+turn_refused a b z front following (Err x) e here step flexible added = let memory : e ≡ Memory = cc in rw memory tt
 
 -- ---- The heading
 
@@ -53,9 +53,9 @@ heading_of (Ok false) = Err (At Heading)
 heading_of (Err e) = Err e
 
 pub heading_found :
-    (bytes : Text) (a b : Rest) (r : Result ByteRecord Error) (told : Result Bool StimuliFault) → IsOpened a (strip_bom bytes) → RowStep known a.rdr b.rdr b.left (Some r)
-    → FlexibleStep a.rdr b.rdr (Some r) → IsRead r told → Opens bytes (kept_of b (heading_of told))
-heading_found bytes a b (Ok row) told opened step flexible is =
+    (bytes : Text) (a b : Rest) (r : Result ByteRecord Error) (answer : Result Bool StimuliFault) → IsOpened a (strip_bom bytes) → RowStep known a.rdr b.rdr b.left (Some r)
+    → FlexibleStep a.rdr b.rdr (Some r) → IsRead r answer → Opens bytes (kept_of b (heading_of answer))
+heading_found bytes a b (Ok row) answer opened step flexible is =
     let (here, start) = opened in
     let (y, there, rows) = at_more a b (strip_bom bytes) (fields_of row) here step.0 step.1 step.2 flexible in
     let read = start_read bytes a.rdr.state _ start rows in
@@ -64,7 +64,7 @@ heading_found bytes a b (Ok row) told opened step flexible is =
       | true ↦ λ e. record { left = y; here = there; head = fields_of row; headed = e; read = read }
       | false ↦ λ e. (refl, record { first = fields_of row; rows = rows_from b.rdr.state y; read = read; other = e })
     ]) refl)
-heading_found bytes a b (Err e) told opened step flexible is = rw is tt
+heading_found bytes a b (Err e) answer opened step flexible is = rw is tt
 
-pub told_by : (r : Result Bool StimuliFault) (x b : Bool) → r ≡ Ok x → x ≡ b → r ≡ Ok b
-told_by r x b is same = is ∙ ap (λ t. Ok t) same
+pub ok_by : (r : Result Bool StimuliFault) (x b : Bool) → r ≡ Ok x → x ≡ b → r ≡ Ok b
+ok_by r x b is same = is ∙ ap (λ t. Ok t) same

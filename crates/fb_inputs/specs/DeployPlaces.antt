@@ -87,7 +87,7 @@ abbrev pub AnswersInDocument : {X Y : Type 0} → (X → Y) → InDocument Y →
 AnswersInDocument seen outcome result = AnswersBy place_of seen outcome result
 
 -- the result of a table is the one of a document
-abbrev pub IsPlaced : {A : Type 0} → DeployKey → ℕ → Result A TableError → Result A DeployFault → Type 0
-IsPlaced k i (Ok x) o = o ≡ Ok x
-IsPlaced k i (Err e) (Ok x) = ⊥
-IsPlaced k i (Err e) (Err f) = place_of f ≡ option_map (shape_in k i) (fault_of e)
+abbrev pub IsLocated : {A : Type 0} → DeployKey → ℕ → Result A TableError → Result A DeployFault → Type 0
+IsLocated k i (Ok x) o = o ≡ Ok x
+IsLocated k i (Err e) (Ok x) = ⊥
+IsLocated k i (Err e) (Err f) = place_of f ≡ option_map (shape_in k i) (fault_of e)

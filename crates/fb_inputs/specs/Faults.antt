@@ -40,7 +40,7 @@ pub record IsRowAt (bytes : Text) (k : ℕ) (row : Row) : Type 0 where
   pub rows : List Row
   pub read : records default_config (strip_bom bytes) ≡ head ∷ rows
   pub headed : is_head head ≡ true
-  pub stands : slice_get rows k ≡ Some row
+  pub at_index : slice_get rows k ≡ Some row
 
 -- The first record is no heading.
 pub record HasNoHeading (bytes : Text) : Type 0 where

@@ -63,8 +63,8 @@ Opens bytes (Err e) = IfSome (place_of e) (λ p. (p ≡ Heading) × HasOtherHead
 
 -- whether what was read is a heading: the only error is out of memory
 abbrev pub IsRead : Result ByteRecord Error → Result Bool StimuliFault → Type 0
-IsRead (Ok row) told = told ≡ Ok (is_head (fields_of row))
-IsRead (Err e) told = told ≡ Err Memory
+IsRead (Ok row) answer = answer ≡ Ok (is_head (fields_of row))
+IsRead (Err e) answer = answer ≡ Err Memory
 
 -- a value, if a test was passed
 abbrev pub kept_of : {A : Type 0} → A → Result Bool StimuliFault → Result (Option A) StimuliFault

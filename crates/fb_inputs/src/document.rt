@@ -8,7 +8,7 @@ ghost use Rattle.fb_inputs.specs.DeployPlaces as places;
 ghost use Rattle.fb_inputs.specs.Documents as spec;
 
 use crate::deploy_location::{DeployFault, DeployKey, TableError, TableFault, at_top};
-use crate::paired::{beside, placed};
+use crate::paired::{placed, then_pair};
 use crate::text::name;
 use fb_types::{Items, Name, ResourceEntry};
 use std::alloc::{AllocError, Global};
@@ -141,8 +141,8 @@ fn resource_of(alloc: Global, keys: &Table) -> Result<ResourceEntry, TableError>
     ensures { AnswersInTable (λ r. r) (spec.read_resource (table_view keys.now)) result }
 {
     let device = name_at(alloc, keys, DeployKey::Device)?;
-    let names = beside(device, name_at(alloc, keys, DeployKey::Name))?;
-    let (names, instances) = beside(names, names_at(alloc, keys, DeployKey::Instances))?;
+    let names = then_pair(device, name_at(alloc, keys, DeployKey::Name))?;
+    let (names, instances) = then_pair(names, names_at(alloc, keys, DeployKey::Instances))?;
     if count_of(keys) != 3 {
         return Err(TableError::At(TableFault::Further));
     }
@@ -219,8 +219,8 @@ fn link_of(alloc: Global, keys: &Table) -> Result<LinkDraft, TableError>
     ensures { AnswersInTable (λ l. l) (spec.read_link (table_view keys.now)) result }
 {
     let start = name_at(alloc, keys, DeployKey::From)?;
-    let ends = beside(start, name_at(alloc, keys, DeployKey::To))?;
-    let (ends, table) = beside(ends, table_of(alloc, keys))?;
+    let ends = then_pair(start, name_at(alloc, keys, DeployKey::To))?;
+    let (ends, table) = then_pair(ends, table_of(alloc, keys))?;
     let (start, end) = ends;
     if count_of(keys) != 3 {
         return Err(TableError::At(TableFault::Further));
@@ -305,7 +305,7 @@ pub fn draft_of(alloc: Global, keys: &Table) -> Result<PlanDraft, DeployFault>
     ensures some { IfOk result (λ d. 1 ≤ length d.resources) }
 {
     let resources = resources_at(alloc, keys)?;
-    let (resources, links) = beside(resources, links_at(alloc, keys))?;
+    let (resources, links) = then_pair(resources, links_at(alloc, keys))?;
     if count_of(keys) != known_keys(keys) {
         return Err(at_top(TableFault::Further));
     }

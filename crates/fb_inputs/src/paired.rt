@@ -1,7 +1,7 @@
 //! What was found, with what is read after it.
 
 ghost use Rattle.std.specs.Prelude.{◌≡◌, IfOk, IfSome};
-ghost use Rattle.fb_inputs.specs.DeployPlaces.{IsPlaced};
+ghost use Rattle.fb_inputs.specs.DeployPlaces.{IsLocated};
 ghost use Rattle.fb_inputs.specs.Paired.{second, second_of};
 
 use crate::deploy_location::{DeployFault, DeployKey, TableError, in_table};
@@ -25,7 +25,7 @@ pub fn paired<A: Drop, B: Drop>(
 }
 
 /// Returns `found` with what was read after it.
-pub fn beside<A: Drop, B: Drop, E>(found: A, read: Result<B, E>) -> Result<(A, B), E>
+pub fn then_pair<A: Drop, B: Drop, E>(found: A, read: Result<B, E>) -> Result<(A, B), E>
     ensures found { IfOk result (λ both. both.0 ≡ found) }
     ensures read { read ≡ second result }
 {
@@ -41,7 +41,7 @@ pub fn placed<T: Drop>(
     index: usize,
     read: Result<T, TableError>,
 ) -> Result<T, DeployFault>
-    ensures { IsPlaced key index read result }
+    ensures { IsLocated key index read result }
 {
     match read {
         Ok(read) => Ok(read),

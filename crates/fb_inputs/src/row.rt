@@ -7,7 +7,7 @@ ghost use Rattle.fb_inputs.specs.Rows as spec;
 
 use crate::location::{RowError, RowFault};
 use crate::number::value_of;
-use crate::paired::{beside, paired};
+use crate::paired::{paired, then_pair};
 use crate::text::{name, parted};
 use fb_types::{Items, Name, Setting, Value};
 use std::alloc::{AllocError, Global};
@@ -37,13 +37,13 @@ pub struct Draft {
 fn event(alloc: Global, text: &[u8]) -> Result<Option<(Name, Name)>, AllocError>
     ensures { IfOk result (λ r. r ≡ spec.event text.now) }
 {
-    let Some((before, behind)) = parted(text, b'.') else {
+    let Some((before, following)) = parted(text, b'.') else {
         return Ok(None);
     };
     let Some(instance) = name(alloc, before)? else {
         return Ok(None);
     };
-    paired(instance, name(alloc, behind))
+    paired(instance, name(alloc, following))
 }
 
 /// The word `NAME=VALUE`.
@@ -51,13 +51,13 @@ fn event(alloc: Global, text: &[u8]) -> Result<Option<(Name, Name)>, AllocError>
 fn word_of(alloc: Global, text: &[u8]) -> Result<Option<Word>, AllocError>
     ensures { IfOk result (λ r. r ≡ spec.word text.now) }
 {
-    let Some((before, behind)) = parted(text, b'=') else {
+    let Some((before, following)) = parted(text, b'=') else {
         return Ok(None);
     };
     let Some(variable) = name(alloc, before)? else {
         return Ok(None);
     };
-    let value = value_of(behind);
+    let value = value_of(following);
     Ok(Some(Word { variable, value }))
 }
 
@@ -86,7 +86,7 @@ pub fn draft_of(alloc: Global, at: &[u8], values: &[u8]) -> Result<Draft, RowErr
     let Some(ends) = event(alloc, at)? else {
         return Err(RowError::At(RowFault::Event));
     };
-    let (ends, words) = beside(ends, words(alloc, values))?;
+    let (ends, words) = then_pair(ends, words(alloc, values))?;
     let (instance, event) = ends;
     Ok(Draft {
         instance,

@@ -14,7 +14,7 @@ ghost use Rattle.fb_inputs.specs.Words.{Text};
 use crate::error::InputError;
 use crate::location::{RowError, RowFault, StimuliFault, StimuliLocation, at_row, error_at};
 use crate::number::natural;
-use crate::paired::beside;
+use crate::paired::then_pair;
 use crate::row::{Draft, draft_of, settings};
 use csv::{ByteRecord, ByteRecordsIntoIter, Error, ErrorKind, ReaderBuilder};
 use fb_types::{Items, LATEST_TICK, MOST_STIMULI, MOST_STIMULI_BYTES, Stimulus};
@@ -72,7 +72,7 @@ fn stimulus_of(
         event,
         words,
     } = draft;
-    let (ends, settings) = beside((instance, event), settings(alloc, words))?;
+    let (ends, settings) = then_pair((instance, event), settings(alloc, words))?;
     if tick > LATEST_TICK as u128 {
         return Err(RowError::At(RowFault::Late));
     }

@@ -8,7 +8,7 @@ use Rattle.fb_types.specs.Machines.{Machine, Item, Local, Each, after, end, Run,
 use Rattle.fb_laws.specs.Facts.{IsLawful}
 use Rattle.fb_laws.specs.Worlds.{World, next, Simulates, last, Simulation, IsOpening, view, reach}
 use Rattle.fb_types.specs.Machines.{at}
-use Rattle.fb_laws.specs.Worlds.{far, HasTold, taken_at, left_at, apart}
+use Rattle.fb_laws.specs.Worlds.{far, IsCovered, taken_at, left_at, apart}
 use Rattle.fb_types.specs.Histories.{IsSameAt}
 use Rattle.fb_types.proofs.Lookups.{tick_before}
 use Rattle.fb_laws.proofs.Chains.{Agree, agree_chain, agree_end, cut_run, cut_in, cut_out}
@@ -67,17 +67,17 @@ module _ (M : Machine) where
         stop = end_stop (taken_at M is r t) _ _ refl ∙ y.stop;
       }
 
-  told_reach : (k : Key) (r : ℕ) → far M k r ≤ reach M k r
-  told_reach k r = ⊎_elim
+  far_reach : (k : Key) (r : ℕ) → far M k r ≤ reach M k r
+  far_reach k r = ⊎_elim
       (λ h. let e : far M k r ≡ k.tick + 1 = cond-true _ _ _ (lt-ltb r k.resource h) in let f = reach_high M k r (omega arith) in omega arith)
       (λ h. let e : far M k r ≡ k.tick = cond-false _ _ _ (le-ltb r k.resource h) in let f = reach_least M k r in omega arith)
       (cases_lt r k.resource)
 
-  pub told_bound : (w : World M) (horizon : ℕ) (is : List (Item M)) (s : Story M w horizon is) (r t : ℕ) → HasTold M horizon is r t → t ≤ s.family.bound r
-  told_bound w horizon is s r t h =
+  pub covered_bound : (w : World M) (horizon : ℕ) (is : List (Item M)) (s : Story M w horizon is) (r t : ℕ) → IsCovered M horizon is r t → t ≤ s.family.bound r
+  covered_bound w horizon is s r t h =
       ⊎_elim
       (λ e. let f = e.1 r in let g : t ≤ horizon = h.in_range in omega arith)
-      (λ e. let f = e.1 r in let g = h.before_stop e.0 in let p = told_reach e.0.item.key r in omega arith)
+      (λ e. let f = e.1 r in let g = h.before_stop e.0 in let p = far_reach e.0.item.key r in omega arith)
       s.ends
 
   pub agree_run : (r t : ℕ) (l m : Local M) (is : List (Item M)) → Agree M r t l m → Run M r l t is → Run M r m t is
@@ -90,11 +90,11 @@ module _ (M : Machine) where
       }
 
   -- One resource: where it has a history, it is what the takes of the resource alone leave
-  pub one_resource : IsLawful M → (w : World M) (horizon : ℕ) (is : List (Item M)) → IsOpening M w → Simulation M w horizon is → (r t : ℕ) → HasTold M horizon is r t →
+  pub one_resource : IsLawful M → (w : World M) (horizon : ℕ) (is : List (Item M)) → IsOpening M w → Simulation M w horizon is → (r t : ℕ) → IsCovered M horizon is r t →
       Run M r (apart M w is r t) t (taken_at M is r t) × IsSameAt M r (end M (apart M w is r t) (taken_at M is r t)) (left_at M w is r t)
   one_resource law w horizon is o x r t h =
       let s = story M law w horizon is o x in
-      let b = told_bound w horizon is s r t h in
+      let b = covered_bound w horizon is s r t h in
       let run = cut_run M r t (s.family.bound r) (s.family.runs r) _ b (s.family.run r) in
       let e : cut M t (s.family.runs r) ≡ taken_at M is r t = ap (λ z. cut M t z) (s.runs_are r) ∙ sym (at_cut law r t is w x.chain) in
       let a : Agree M r t (start M (view M w r) (s.family.heard r)) (apart M w is r t) = record {

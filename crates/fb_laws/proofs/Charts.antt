@@ -13,15 +13,15 @@ use Rattle.fb_types.specs.declared.value.Reason.TheVariants.{Steps}
 use Rattle.fb_laws.proofs.Bodies.{Keeps}
 
 -- a position with such values, where all that was emitted is good
-pub record IsGoodIndex (Good : Values → Type 0) (Told : Emission → Type 0) (p : Position) : Type 0 where
+pub record IsGoodIndex (Good : Values → Type 0) (IsFitting : Emission → Type 0) (p : Position) : Type 0 where
   pub vars : Good p.vars
-  pub emitted : All Told p.emitted
+  pub emitted : All IsFitting p.emitted
 
-module _ (b : BasicType) (Good : Values → Type 0) (Told : Emission → Type 0)
+module _ (b : BasicType) (Good : Values → Type 0) (IsFitting : Emission → Type 0)
     (bodies : (a : Name) → Keeps Good (RunsBody (types_of b) (algorithm_of b a)))
-    (told : (e : Name) (vars : Values) → Good vars → Told (record { event = e; values = bound (outputs_with b.ports e) vars })) where
+    (fitting : (e : Name) (vars : Values) → Good vars → IsFitting (record { event = e; values = bound (outputs_with b.ports e) vars })) where
   abbrev Fine : Position → Type 0
-  Fine = IsGoodIndex Good Told
+  Fine = IsGoodIndex Good IsFitting
 
   abbrev Stays : Moving → Type 0
   Stays R = (p : Position) (s : Option Reason) (q : Position) → R p s q → Fine p → Fine q
@@ -45,7 +45,7 @@ module _ (b : BasicType) (Good : Values → Type 0) (Told : Emission → Type 0)
   emitting-stays None p fine = fine
   emitting-stays (Some e) p fine = record {
     vars = fine.vars;
-    emitted = All-push Told p.emitted (record { event = e; values = bound (outputs_with b.ports e) p.vars }) fine.emitted (told e p.vars fine.vars);
+    emitted = All-push IsFitting p.emitted (record { event = e; values = bound (outputs_with b.ports e) p.vars }) fine.emitted (fitting e p.vars fine.vars);
   }
 
   acts-stay : (as' : List Action) (left : ℕ) → Stays (Acts b as' left)

@@ -111,8 +111,8 @@ module _ (M : Machine) where
         passed_is = ap (λ z. done_of z (c r).clock) e.stopped
 
         -- what r has taken to its stop is in the simulation
-        told : (c r).clock < s.family.bound r → HasStop M is mine.key q
-        told h =
+        has_stop : (c r).clock < s.family.bound r → HasStop M is mine.key q
+        has_stop h =
             let t = (c r).clock + 1 in
             let pi = passed_is in
             let p = both_take M law w horizon horizon is c runs v o x s r t (omega arith) (omega arith) in
@@ -126,7 +126,7 @@ module _ (M : Machine) where
             let l : limit M (c r) ≤ horizon = v.range r in
             let pi = passed_is in
             let m : passed M (c r) ≤ limit M (c r) = passed_limit M w _ _ r (c r) (runs r) (v.each r) in
-            absurd (none_some _ _ (h.0 mine.key.resource) (sim_stops M is w mine.key q x.chain (told (omega arith))))
+            absurd (none_some _ _ (h.0 mine.key.resource) (sim_stops M is w mine.key q x.chain (has_stop (omega arith))))
 
         mine_here : mine.key.resource ≡ r
         mine_here = has_each M (λ k. k.resource ≡ r) (runs r) mine.key q (each_map _ _ (runs r) (λ i (f : Fair M r i). f.mine) (chain_fair M law r (runs r) _ (v.each r).chain)) mine.has
@@ -171,4 +171,4 @@ module _ (M : Machine) where
             (e.least z st.reason stop)
 
         stopped : ((st : StopsAt M is) × ((z : ℕ) → s.family.bound z ≡ reach M st.item.key z)) → StopsAlike r q
-        stopped h = ⊎_elim (λ g. let y = sim_one M is w mine.key h.0.item.key q h.0.reason x.chain (told g) (stop_has M is h.0) in here h.0 h.1 y.0 y.1) (λ g. absurd (never h.0 h.1 g)) (cases_lt (c r).clock (s.family.bound r))
+        stopped h = ⊎_elim (λ g. let y = sim_one M is w mine.key h.0.item.key q h.0.reason x.chain (has_stop g) (stop_has M is h.0) in here h.0 h.1 y.0 y.1) (λ g. absurd (never h.0 h.1 g)) (cases_lt (c r).clock (s.family.bound r))

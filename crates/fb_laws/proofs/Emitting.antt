@@ -17,8 +17,8 @@ use Rattle.fb_laws.proofs.Values.{FitsIn, with_values-fit, kind_one, output-foun
 use Rattle.fb_laws.proofs.Worlds.{with_block-typed}
 
 -- each value of an emission is of the type of the variable of its name
-abbrev pub IsToldAt : System → Path → Emission → Type 0
-IsToldAt sys p e = All (λ (b : Bound). FitsAt sys (record { at = p; name = b.variable }) b.value) e.values
+abbrev pub IsFittingAt : System → Path → Emission → Type 0
+IsFittingAt sys p e = All (λ (b : Bound). FitsAt sys (record { at = p; name = b.variable }) b.value) e.values
 
 pub silent-typed : (sys : System) (w : World) (left : ℕ) → AreTyped sys w → KeepsTypes sys (silent w left)
 silent-typed sys w left typed = record { world = typed; outs = All-nil (IsTypedOut sys) }
@@ -38,8 +38,8 @@ spread-typed sys r carried (q ∷ qs) fit =
 module _ (sys : System) (sound : IsTypedSystem sys) where
   -- ---- One emission
 
-  pub emitted-typed : (k : Key) (p : Path) (e : Emission) (o : Outcome) → IsToldAt sys p e → KeepsTypes sys o → KeepsTypes sys (emitted sys k p e o)
-  emitted-typed k p e o told kept = record {
+  pub emitted-typed : (k : Key) (p : Path) (e : Emission) (o : Outcome) → IsFittingAt sys p e → KeepsTypes sys o → KeepsTypes sys (emitted sys k p e o)
+  emitted-typed k p e o fitting kept = record {
     world = with_block-typed sys o.world kept.world p (record b { published = with_values e.values b.published })
         (λ l is. let t = kept.world.blocks p l is in record {
           memory = t.memory;
@@ -47,30 +47,30 @@ module _ (sys : System) (sound : IsTypedSystem sys) where
           slots = t.slots;
           published = with_values-fit (ports_of l).outputs e.values b.published
               (All-weaker (λ (c : Bound). FitsAt sys (record { at = p; name = c.variable }) c.value) (λ c. FitsIn (ports_of l).outputs c.variable c.value)
-              (λ c f x h. f l x is (output-found sys sound p l c.variable x is h)) e.values told)
+              (λ c f x h. f l x is (output-found sys sound p l c.variable x is h)) e.values fitting)
               t.published;
         });
     outs = All-append (IsTypedOut sys) o.outs _ kept.outs
         (spread-typed sys k.resource (carried_from p e.values) (sys.targets (record { at = p; name = e.event }))
-        (All-map (λ (c : Port × Value). FitsAt sys c.0 c.1) (λ (b : Bound). (record { at = p; name = b.variable }, b.value)) e.values told));
+        (All-map (λ (c : Port × Value). FitsAt sys c.0 c.1) (λ (b : Bound). (record { at = p; name = b.variable }, b.value)) e.values fitting));
   }
     where
       b : Block
       b = o.world.blocks p
 
-  pub emitted_all-typed : (k : Key) (p : Path) (es : List Emission) (o : Outcome) → All (IsToldAt sys p) es → KeepsTypes sys o
+  pub emitted_all-typed : (k : Key) (p : Path) (es : List Emission) (o : Outcome) → All (IsFittingAt sys p) es → KeepsTypes sys o
       → KeepsTypes sys (emitted_all sys k p es o)
-  emitted_all-typed k p [] o told kept = kept
-  emitted_all-typed k p (e ∷ es) o told kept =
-      emitted_all-typed k p es (emitted sys k p e o) (All-tail (IsToldAt sys p) e es told)
-      (emitted-typed k p e o (All-head (IsToldAt sys p) e es told) kept)
+  emitted_all-typed k p [] o fitting kept = kept
+  emitted_all-typed k p (e ∷ es) o fitting kept =
+      emitted_all-typed k p es (emitted sys k p e o) (All-tail (IsFittingAt sys p) e es fitting)
+      (emitted-typed k p e o (All-head (IsFittingAt sys p) e es fitting) kept)
 
   -- ---- Values that outputs show
 
   -- an emission carries values of the types, if those are values of outputs
-  pub outputs-told : (p : Path) (k : Kind) → sys.kind p ≡ Some k → (vars : Values) → AllFit (ports_of k).outputs vars → (e : Name)
-      → IsToldAt sys p (record { event = e; values = bound (outputs_with (ports_of k) e) vars })
-  outputs-told p k is vars fit e =
+  pub outputs-fitting : (p : Path) (k : Kind) → sys.kind p ≡ Some k → (vars : Values) → AllFit (ports_of k).outputs vars → (e : Name)
+      → IsFittingAt sys p (record { event = e; values = bound (outputs_with (ports_of k) e) vars })
+  outputs-fitting p k is vars fit e =
       All-bound (λ (b : Bound). FitsAt sys (record { at = p; name = b.variable }) b.value) vars (outputs_with (ports_of k) e) (λ n a l x there h.
       let output = named-among (ports_of k).outputs n (among-filter _ (variable_names (ports_of k).outputs) n a) in
       let same : k ≡ l = kind_one (sys.kind p) k l is there in

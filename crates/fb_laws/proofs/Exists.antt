@@ -366,7 +366,7 @@ module _ (M : Machine) where
           let s = M.sender k in
           let le = b r c in
           let few = each_map (Fair M s) _ (a.runs s) (λ i f (h : t ≤ i.key.tick). none_since _ (λ v q. let z : i.key.tick < k.tick = law.arrives_later k i.key.tick (f.sent_arrives k v q) in omega arith)) (chain_fair M law s (a.runs s) (ls s) (a.run s).chain) in
-          a.told r k e (omega arith) ∙ sym (found_cut M law s t k (a.runs s) (ls s) (a.run s).chain few) ∙ sym (or_else_none _) ∙ ap (λ z. or_else (found k (sent_by M (rs s))) z) (sym (empty k))
+          a.arrived r k e (omega arith) ∙ sym (found_cut M law s t k (a.runs s) (ls s) (a.run s).chain few) ∙ sym (or_else_none _) ∙ ap (λ z. or_else (found k (sent_by M (rs s))) z) (sym (empty k))
 
       nobody : (r : ℕ) → count ≤ r → a.runs r ≡ []
       nobody r c =
@@ -379,7 +379,7 @@ module _ (M : Machine) where
           let s = M.sender i.key in
           let m : i.key.resource ≡ r = tk.mine in
           let none = each_map (Fair M s) (λ (j : Item M). found i.key j.out.sent ≡ None) (a.runs s) (λ j f. none_since _ (λ v q. let z : i.key.resource < count = n.links i.key j.key.tick (f.sent_arrives i.key v q) in omega arith)) (chain_fair M law s (a.runs s) (ls s) (a.run s).chain) in
-          let p : a.heard r i.key ≡ None = a.told r i.key m ru.below.0 ∙ found_none M i.key (a.runs s) none in
+          let p : a.heard r i.key ≡ None = a.arrived r i.key m ru.below.0 ∙ found_none M i.key (a.runs s) none in
           let q : (if i.key.class == 2 then None else w.agenda i.key) ≡ None = if_none' (i.key.class == 2) (w.agenda i.key) (n.agenda i.key (omega arith)) in
           absurd (none_some _ _ (or_else_nones _ _ q p) tk.waits))
           (list_cases (a.runs r))

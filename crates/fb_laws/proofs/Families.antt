@@ -20,7 +20,7 @@ module _ (M : Machine) where
     pub bound : ℕ → ℕ
     pub heard : ℕ → Key → Option M.Event
     pub run : (r : ℕ) → Run M r (start (first r) (heard r)) (bound r) (runs r)
-    pub told : (r : ℕ) (k : Key) → k.resource ≡ r → k.tick < bound r → heard r k ≡ found k (sent_by M (runs (M.sender k)))
+    pub arrived : (r : ℕ) (k : Key) → k.resource ≡ r → k.tick < bound r → heard r k ≡ found k (sent_by M (runs (M.sender k)))
     pub closed : (k : Key) (u : ℕ) → M.Arrives k u → bound (M.sender k) ≤ u → bound k.resource ≤ k.tick
 
   abbrev pub both : {first : ℕ → Local M} → Family first → Family first → ℕ → ℕ → ℕ
@@ -31,7 +31,7 @@ module _ (M : Machine) where
   heard_cut law first A B t k b =
       let s = M.sender k in
       let x = A.run s in
-      let c = A.told k.resource k refl (omega arith) in
+      let c = A.arrived k.resource k refl (omega arith) in
       let few : Each (λ (i : Item M). both A B t s ≤ i.key.tick → found k i.out.sent ≡ None) (A.runs s) =
       each_both (Fair M s) (λ (i : Item M). i.key.tick < A.bound s) _ (A.runs s) (λ i f g h. none_since _ (λ v q. past i f g h v q)) (chain_fair M law s (A.runs s) _ x.chain) x.below in
       c ∙ sym (found_cut M law s (both A B t s) k (A.runs s) (start (first s) (A.heard s)) x.chain few)

@@ -139,7 +139,7 @@ module _ (M : Machine) where
     heard = λ r k. found k (sent_by M is);
     run = λ r. let y = like_chain M law r is _ w x (like_start w is r o) in
         record { chain = y.0; below = b r; rests = λ s k e d. like_waiting M r _ (last M w is) [] y.1 k e refl ∙ z r (sym y.1.stop ∙ s) k e d };
-    told = λ r k e d. found_at k is (sim_fair M law is w x);
+    arrived = λ r k e d. found_at k is (sim_fair M law is w x);
     closed = c;
   }
 

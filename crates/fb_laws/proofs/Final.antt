@@ -76,8 +76,8 @@ module _ (M : Machine) where
         ((st.reason, stop), sym other.tick_is ∙ ap (λ k. k.tick) (sym one.0))
 
     -- what is final is in the simulation
-    final_told : (t r : ℕ) → r < count → t < horizon → IsFinal M count c m t r → t < s.family.bound r
-    final_told t r b u f = ⊎_elim (λ y. let e = y.1 r in omega arith) (λ y. stops y.0 y.1) s.ends
+    final_below : (t r : ℕ) → r < count → t < horizon → IsFinal M count c m t r → t < s.family.bound r
+    final_below t r b u f = ⊎_elim (λ y. let e = y.1 r in omega arith) (λ y. stops y.0 y.1) s.ends
       where
         stops : (st : StopsAt M is) → ((z : ℕ) → s.family.bound z ≡ reach M st.item.key z) → t < s.family.bound r
         stops st e =
@@ -108,7 +108,7 @@ module _ (M : Machine) where
     -- the items to a final tick are those of the simulation
     pub final_items : (t r : ℕ) → r < count → t < horizon → IsFinal M count c m t r → cut M (t + 1) (runs r) ≡ cut M (t + 1) (at M r is)
     final_items t r b u f =
-        let g = final_told t r b u f in
+        let g = final_below t r b u f in
         let fd = floor_done (c r).state.stop (c r).clock m v.v.m v.more in
         let own : t < max (passed M (c r)) v.v.m = ⊎_elim
         (λ a. ⊎_elim (λ h. omega arith) (λ h. let i = h.1 in absurd (omega arith)) a)

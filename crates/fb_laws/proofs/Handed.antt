@@ -25,7 +25,7 @@ use Rattle.fb_laws.proofs.Edges.{until_before, until_within, until_outside, unti
 use Rattle.fb_laws.proofs.Handing.{AreLinesOf, core_lines, is_later}
 use Rattle.fb_laws.proofs.Keeps.{Inv}
 use Rattle.fb_laws.proofs.Reached.{inv_after}
-use Rattle.fb_laws.proofs.TellsAll.{final_told}
+use Rattle.fb_laws.proofs.AllSchedules.{final_law}
 
 module _ (M : Machine) where
   -- ---- Ends
@@ -130,13 +130,13 @@ module _ (sys : System) (sound : IsSound sys) (stimuli : List Stimulus) (horizon
   inv = inv_after M law w horizon es (is_opening sys sound limit stimuli) sc
 
   -- the lines of each resource
-  pub lines_told : (r : ℕ) → AreLinesOf M horizon r (c r).lines
-  lines_told r = core_lines M law horizon w c _ inv r
+  pub lines_law : (r : ℕ) → AreLinesOf M horizon r (c r).lines
+  lines_law r = core_lines M law horizon w c _ inv r
 
   -- the core after further steps
-  pub later_told : (fs : List (CoreStep M)) → IsSchedule M horizon c fs → (more : ℕ → List Line) → ((r : ℕ) → r < count_of sys → (core_after M c fs r).lines ≡ (c r).lines ++ more r)
+  pub later_law : (fs : List (CoreStep M)) → IsSchedule M horizon c fs → (more : ℕ → List Line) → ((r : ℕ) → r < count_of sys → (core_after M c fs r).lines ≡ (c r).lines ++ more r)
       → IsLater M (count_of sys) horizon c (core_after M c fs) more
-  later_told fs x more grown = is_later M law w horizon fs c _ inv (count_of sys) x more grown
+  later_law fs x more grown = is_later M law w horizon fs c _ inv (count_of sys) x more grown
 
   -- ---- What was handed out begins the lines of the simulation
 
@@ -154,7 +154,7 @@ module _ (sys : System) (sound : IsSound sys) (stimuli : List Stimulus) (horizon
     by_index : (t r : ℕ) → t < horizon → r < count_of sys → IsFinalIn M (count_of sys) c t r
         → ((q : ℕ) → q < count_of sys → lines_before M (until h.edge q) (c q).lines ≡ lines_to sys limit t r c q) → Begins
     by_index t r a b f same =
-        let y = final_told sys sound stimuli horizon limit es sc ts sim f.0 t r f.1 b a f.2 in
+        let y = final_law sys sound stimuli horizon limit es sc ts sim f.0 t r f.1 b a f.2 in
         let e : y.front ≡ ls = merge_one M (count_of sys) (lines_to sys limit t r c) y.front ls y.merged (merge_same M (count_of sys) _ _ ls same h.merged) in
         (y.rest, y.split ∙ ap (λ z. z ++ y.rest) e)
 
@@ -169,7 +169,7 @@ module _ (sys : System) (sound : IsSound sys) (stimuli : List Stimulus) (horizon
         → ((q : ℕ) → q < count_of sys → lines_before M (until h.edge q) (c q).lines ≡ lines_before M u (c q).lines) → Begins
     by_tick zero a f same =
         nothing (merge_one M (count_of sys) (λ q. []) ls []
-        (merge_same M (count_of sys) _ (λ q. []) ls (λ q b. same q b ∙ none_before M 0 (c q).lines (each_map _ _ (c q).lines (λ x i. omega arith) (lines_told q).below)) h.merged)
+        (merge_same M (count_of sys) _ (λ q. []) ls (λ q b. same q b ∙ none_before M 0 (c q).lines (each_map _ _ (c q).lines (λ x i. omega arith) (lines_law q).below)) h.merged)
         (record { order = tt; parts = λ r b. refl; counted = tt }))
     by_tick (suc u) a f same = last (count_of sys) refl
       where
@@ -227,8 +227,8 @@ module _ (sys : System) (sound : IsSound sys) (stimuli : List Stimulus) (horizon
         by_tick horizon (omega arith) (λ q t less l. let u = high q in omega arith)
         (λ q less.
         let u = high q in
-        all_before M (until h.edge q) (c q).lines (each_map _ _ (c q).lines (λ x (i : M.line_tick x < horizon). let g : M.line_tick x < until h.edge q = omega arith in g) (lines_told q).below)
-        ∙ sym (all_before M horizon (c q).lines (lines_told q).below)))
+        all_before M (until h.edge q) (c q).lines (each_map _ _ (c q).lines (λ x (i : M.line_tick x < horizon). let g : M.line_tick x < until h.edge q = omega arith in g) (lines_law q).below)
+        ∙ sym (all_before M horizon (c q).lines (lines_law q).below)))
         (cases_lt h.edge.tick horizon)
       where
         high : (q : ℕ) → h.edge.tick ≤ until h.edge q

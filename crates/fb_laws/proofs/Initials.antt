@@ -10,8 +10,8 @@ use Rattle.fb_types.specs.Blocks.{Kind, Event, ports_of, named, among, variable_
 use Rattle.fb_types.specs.Flat.{flat, instance_in, kind_of_instance, network_at, instance_at, kind_at, variables_in, declared_initial, zero_value}
 use Rattle.fb_types.specs.Accepted.{IsGood, is_held, BadStimulus}
 use Rattle.fb_types.specs.Kinds.{KindWrong, declared_right, parameter_right, parameters_right}
-use Rattle.fb_types.specs.Repeated.{Placed, networks, basics, interfaces}
-use Rattle.fb_types.specs.Unknown.{Wanted, wanted, all_of, required_types, required_withs, required_chart, required_parameters, required_deployment, NameUnknown}
+use Rattle.fb_types.specs.Repeated.{OwnedNetwork, networks, basics, interfaces}
+use Rattle.fb_types.specs.Unknown.{Required, required, all_of, required_types, required_withs, required_chart, required_parameters, required_deployment, NameUnknown}
 use Rattle.fb_types.specs.Simulation.{stimulus_of}
 use Rattle.fb_types.specs.declared.event_kind.EventKind.{EventKind}
 use Rattle.fb_types.specs.declared.event_kind.EventKind.TheVariants.{Restart}
@@ -70,7 +70,7 @@ declared-fits lib right p k n x is h =
 -- ---- Parameters
 
 -- an instance is one of a network of the declaration
-instance-known : (lib : Library) (p : Path) (i : Instance) → instance_at lib p ≡ Some i → (n : Placed) × Contains (networks lib) n × Contains n.1.instances i
+instance-known : (lib : Library) (p : Path) (i : Instance) → instance_at lib p ≡ Some i → (n : OwnedNetwork) × Contains (networks lib) n × Contains n.1.instances i
 instance-known lib [] i h = absurd cc
 instance-known lib (m ∷ p) i h =
     let net = and_then_parts (λ (z : Network). instance_in z m) (network_at lib p) i h in
@@ -78,12 +78,12 @@ instance-known lib (m ∷ p) i h =
     ((a.composite, net.0), a.declared, named-Contains (λ (z : Instance). z.name) m net.0.instances i net.2)
 
 module _ (lib : Library) (plan : Plan) (known : NameUnknown lib plan → ⊥) (right : KindWrong lib → ⊥) where
-  parameter-wanted : (n : Placed) → Contains (networks lib) n → (i : Instance) → Contains n.1.instances i → (k : Kind) → kind_of_instance lib i ≡ Some k
-      → (x : Parameter) → Contains i.parameters x → Contains (wanted lib plan) (x.name, variable_names (ports_of k).inputs)
-  parameter-wanted n cn i ci k is x c =
+  parameter-required : (n : OwnedNetwork) → Contains (networks lib) n → (i : Instance) → Contains n.1.instances i → (k : Kind) → kind_of_instance lib i ≡ Some k
+      → (x : Parameter) → Contains i.parameters x → Contains (required lib plan) (x.name, variable_names (ports_of k).inputs)
+  parameter-required n cn i ci k is x c =
       Contains-append_left (types ++ withs ++ charts ++ parameters) (required_deployment lib plan) w
       (Contains-append_right (types ++ withs ++ charts) parameters w
-      (Contains-flat_map (λ (n : Placed). flat_map (required_parameters lib) n.1.instances) (networks lib) n w cn
+      (Contains-flat_map (λ (n : OwnedNetwork). flat_map (required_parameters lib) n.1.instances) (networks lib) n w cn
       (Contains-flat_map (required_parameters lib) n.1.instances i w ci
       (subst
       (λ (o : Option Kind). Contains (elim o [ None ↦ [] | Some l ↦ all_of (map (λ y. y.name) i.parameters) (variable_names (ports_of l).inputs) ]) w)
@@ -91,32 +91,32 @@ module _ (lib : Library) (plan : Plan) (known : NameUnknown lib plan → ⊥) (r
       (Contains-map (λ (m : Name). (m, variable_names (ports_of k).inputs)) (map (λ y. y.name) i.parameters) x.name
       (Contains-map (λ (y : Parameter). y.name) i.parameters x c))))))
     where
-      w : Wanted
+      w : Required
       w = (x.name, variable_names (ports_of k).inputs)
 
-      types : List Wanted
-      types = flat_map (λ (n : Placed). required_types lib n.1) (networks lib)
+      types : List Required
+      types = flat_map (λ (n : OwnedNetwork). required_types lib n.1) (networks lib)
 
-      withs : List Wanted
+      withs : List Required
       withs = flat_map required_withs (interfaces lib)
 
-      charts : List Wanted
+      charts : List Required
       charts = flat_map required_chart (basics lib)
 
-      parameters : List Wanted
-      parameters = flat_map (λ (n : Placed). flat_map (required_parameters lib) n.1.instances) (networks lib)
+      parameters : List Required
+      parameters = flat_map (λ (n : OwnedNetwork). flat_map (required_parameters lib) n.1.instances) (networks lib)
 
   -- a parameter sets an input
-  parameter-input : (n : Placed) → Contains (networks lib) n → (i : Instance) → Contains n.1.instances i → (k : Kind) → kind_of_instance lib i ≡ Some k
+  parameter-input : (n : OwnedNetwork) → Contains (networks lib) n → (i : Instance) → Contains n.1.instances i → (k : Kind) → kind_of_instance lib i ≡ Some k
       → (x : Parameter) → Contains i.parameters x → IsNamed (ports_of k).inputs x.name
   parameter-input n cn i ci k is x c =
       let names = variable_names (ports_of k).inputs in
       named-among (ports_of k).inputs x.name
       (true_from_ne_false (among names x.name) (λ no.
-      known (inl ((x.name, names), parameter-wanted n cn i ci k is x c, λ there. both_ways (among names x.name) no (any_from_contains x.name names there)))))
+      known (inl ((x.name, names), parameter-required n cn i ci k is x c, λ there. both_ways (among names x.name) no (any_from_contains x.name names there)))))
 
   -- .. to a value of its type
-  parameter-fits : (n : Placed) → Contains (networks lib) n → (i : Instance) → Contains n.1.instances i → (k : Kind) → kind_of_instance lib i ≡ Some k
+  parameter-fits : (n : OwnedNetwork) → Contains (networks lib) n → (i : Instance) → Contains n.1.instances i → (k : Kind) → kind_of_instance lib i ≡ Some k
       → (x : Parameter) → Contains i.parameters x → (y : Variable) → variable_named x.name (variables_in k) ≡ Some y → fits y.ty x.value ≡ true
   parameter-fits n cn i ci k is x c y h =
       let v = parameter-input n cn i ci k is x c in

@@ -422,7 +422,7 @@ module _ (M : Machine) where
       below = each_map _ _ (runs r) (λ (i : Item M) (b : i.key.tick < passed (c r)). omega arith) a.below;
       rests = λ q k e b. rests r q k e b;
     };
-    told = λ r k e b.
+    arrived = λ r k e b.
         let a = v.each (M.sender k) in
         sym (ap (λ z. found k z) a.split ∙ found-append k (v.sent (M.sender k)) (c (M.sender k)).outbox ∙ ap (λ o. or_else o (found k (v.sent (M.sender k)))) (unposted horizon w c runs v (M.sender k) r k e b));
     closed = λ k u a b.

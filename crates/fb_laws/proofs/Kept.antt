@@ -25,7 +25,7 @@ use Rattle.fb_laws.proofs.Values.{with_value-fits, output-found}
 use Rattle.fb_laws.proofs.Worlds as worlds
 use Rattle.fb_laws.proofs.Worlds.{with_block-typed, at_kind, shown-fits}
 use Rattle.fb_laws.proofs.Sampling as sampling
-use Rattle.fb_laws.proofs.Emitting.{IsToldAt, silent-typed, spread-typed, emitted-typed, emitted_all-typed, outputs-told}
+use Rattle.fb_laws.proofs.Emitting.{IsFittingAt, silent-typed, spread-typed, emitted-typed, emitted_all-typed, outputs-fitting}
 use Rattle.fb_laws.proofs.EventBlocks.{outputs-fit, reaction-typed, expiry-typed}
 
 -- A stimulus that sets slots to values of their types leaves all values typed.
@@ -72,10 +72,10 @@ module _ (sys : System) (sound : IsTypedSystem sys) (k : Key) where
   chart-typed : (p : Path) (t : BasicType) → sys.kind p ≡ Some (Basic t) → (e : Name) (stop : Option Reason) (c : Position) (o : Outcome)
       → KeepsTypes sys o → ChartReacts t e (start_of o p) stop c → KeepsTypes sys (charted sys k p o c stop)
   chart-typed p t is e stop c o kept h =
-      let good = chart-stays t (AllFit (variables_of t)) (IsToldAt sys p) (algorithm-keeps t)
-      (λ e vars fit. outputs-told sys sound p (Basic t) is vars (λ n x h. fit n x (sound.outputs p (Basic t) n x is h)) e)
+      let good = chart-stays t (AllFit (variables_of t)) (IsFittingAt sys p) (algorithm-keeps t)
+      (λ e vars fit. outputs-fitting sys sound p (Basic t) is vars (λ n x h. fit n x (sound.outputs p (Basic t) n x is h)) e)
       e (start_of o p) stop c h
-      (record { vars = (kept.world.blocks p (Basic t) is).variables; emitted = All-nil (IsToldAt sys p) }) in
+      (record { vars = (kept.world.blocks p (Basic t) is).variables; emitted = All-nil (IsFittingAt sys p) }) in
       emitted_all-typed sys sound k p c.emitted (settled p c stop o) good.emitted (settled-typed p t is c stop o good.vars kept)
 
   -- ---- Event blocks
@@ -94,17 +94,17 @@ module _ (sys : System) (sound : IsTypedSystem sys) (k : Key) where
       typed : IsTypedBlock (Event kind) b
       typed = kept.world.blocks p (Event kind) is
 
-  emissions-told : (p : Path) (kind : EventKind) → sys.kind p ≡ Some (Event kind) → (m : blocks.Memory) → IsTypedMemory (Event kind) (Remembers m)
-      → (es : List Name) → All (IsToldAt sys p) (emissions (ports_of (Event kind)) (blocks.output_of m) es)
-  emissions-told p kind is m memory [] = All-nil (IsToldAt sys p)
-  emissions-told p kind is m memory (e ∷ es) =
-      All-cons (IsToldAt sys p) _ _ (outputs-told sys sound p (Event kind) is (blocks.output_of m) (outputs-fit kind m memory) e)
-      (emissions-told p kind is m memory es)
+  emissions-fitting : (p : Path) (kind : EventKind) → sys.kind p ≡ Some (Event kind) → (m : blocks.Memory) → IsTypedMemory (Event kind) (Remembers m)
+      → (es : List Name) → All (IsFittingAt sys p) (emissions (ports_of (Event kind)) (blocks.output_of m) es)
+  emissions-fitting p kind is m memory [] = All-nil (IsFittingAt sys p)
+  emissions-fitting p kind is m memory (e ∷ es) =
+      All-cons (IsFittingAt sys p) _ _ (outputs-fitting sys sound p (Event kind) is (blocks.output_of m) (outputs-fit kind m memory) e)
+      (emissions-fitting p kind is m memory es)
 
   answered-typed : (p : Path) (kind : EventKind) → sys.kind p ≡ Some (Event kind) → (x : blocks.Reaction) (o : Outcome)
       → IsTypedMemory (Event kind) (Remembers x.memory) → KeepsTypes sys o → KeepsTypes sys (answered sys k p kind x o)
   answered-typed p kind is x o memory kept =
-      emitted_all-typed sys sound k p _ (remembered p x o) (emissions-told p kind is x.memory memory x.emits)
+      emitted_all-typed sys sound k p _ (remembered p x o) (emissions-fitting p kind is x.memory memory x.emits)
       (remembered-typed p kind is x o memory kept)
 
   expires-typed : (p : Path) (w : World) (left : ℕ) → AreTyped sys w → (kind : Option Kind) → sys.kind p ≡ kind → KeepsTypes sys (expires sys k w p left kind)
@@ -140,7 +140,7 @@ module _ (sys : System) (sound : IsTypedSystem sys) (k : Key) where
   }
   crossing-typed w typed q t is left false =
       emitted-typed sys sound k q.at (record { event = q.name; values = bound (outputs_with t.ports q.name) (from_inside sys k.resource w q.at) })
-      (silent w left) (outputs-told sys sound q.at (Composite t) is (from_inside sys k.resource w q.at) (from_inside-fits w typed q.at t is) q.name)
+      (silent w left) (outputs-fitting sys sound q.at (Composite t) is (from_inside sys k.resource w q.at) (from_inside-fits w typed q.at t is) q.name)
       (silent-typed sys w left typed)
 
   -- ---- The reaction

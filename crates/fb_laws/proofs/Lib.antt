@@ -41,7 +41,7 @@ pub mod Stopping
 pub mod Stops
 pub mod TakeTotal
 pub mod Takings
-pub mod Told
+pub mod OneResource
 pub mod AtHome
 pub mod Beginning
 pub mod Boxes
@@ -63,5 +63,5 @@ pub mod FloorsRise
 pub mod Scans
 pub mod Start
 pub mod Steps
-pub mod TellsAll
+pub mod AllSchedules
 pub mod Whole

@@ -116,10 +116,10 @@ module _ (M : Machine) where
   joined_order : (k : Key) (xs ys : List M.Line) → Each (λ (x : M.Line). (M.line_tick x ≡ k.tick) × (M.line_resource x ≡ k.resource)) xs → Each (From k) ys → IsInOrder M ys → IsInOrder M (xs ++ ys)
   joined_order k [] ys h f o = o
   joined_order k (x ∷ xs) ys h f o =
-      (each_append _ xs ys (each_map _ _ xs (λ z q. beside z q) h.1) (each_map _ _ ys (λ z q. past z q) f), joined_order k xs ys h.1 f o)
+      (each_append _ xs ys (each_map _ _ xs (λ z q. same_place z q) h.1) (each_map _ _ ys (λ z q. past z q) f), joined_order k xs ys h.1 f o)
     where
-      beside : (z : M.Line) → (M.line_tick z ≡ k.tick) × (M.line_resource z ≡ k.resource) → NotAfter M x z
-      beside z q = inr (h.0.0 ∙ sym q.0, let a : M.line_resource x ≡ k.resource = h.0.1 in let b : M.line_resource z ≡ k.resource = q.1 in omega arith)
+      same_place : (z : M.Line) → (M.line_tick z ≡ k.tick) × (M.line_resource z ≡ k.resource) → NotAfter M x z
+      same_place z q = inr (h.0.0 ∙ sym q.0, let a : M.line_resource x ≡ k.resource = h.0.1 in let b : M.line_resource z ≡ k.resource = q.1 in omega arith)
 
       past : (z : M.Line) → From k z → NotAfter M x z
       past z q =

@@ -7,13 +7,13 @@ use Rattle.fb_types.specs.Machines.{at}
 use Rattle.fb_types.specs.Cores.{Member, CoreStep, Core}
 use Rattle.fb_types.specs.Schedules.{IsSchedule, core_after, taken_after}
 use Rattle.fb_laws.proofs.Start.{opening}
-use Rattle.fb_laws.specs.Worlds.{HasTold, taken_at, left_at}
+use Rattle.fb_laws.specs.Worlds.{IsCovered, taken_at, left_at}
 use Rattle.fb_types.specs.Histories.{IsSameAt}
 use Rattle.fb_laws.proofs.Chains.{cut_all, cut_cut}
 use Rattle.fb_types.proofs.EachLaws.{each_map}
 use Rattle.fb_laws.proofs.Families.{start, family_unique}
 use Rattle.fb_laws.proofs.FamilyEnds.{Story, story}
-use Rattle.fb_laws.proofs.Alone.{at_cut, history_is, told_bound}
+use Rattle.fb_laws.proofs.Alone.{at_cut, history_is, covered_bound}
 use Rattle.fb_laws.proofs.Keeps.{passed, done_of, Inv, mail, inv_opening, inv_all, known}
 
 module _ (M : Machine) where
@@ -44,7 +44,7 @@ module _ (M : Machine) where
 
   -- Any schedule: a resource that has not stopped is at its history for its clock
   pub at_history : IsLawful M → (w : World M) (horizon : ℕ) (is : List (Item M)) (es : List (CoreStep M)) → IsOpening M w → Simulation M w horizon is → IsSchedule M horizon (opening M w) es → (r : ℕ) →
-      (reached_by w es r).state.stop ≡ None → HasTold M horizon is r (reached_by w es r).clock →
+      (reached_by w es r).state.stop ≡ None → IsCovered M horizon is r (reached_by w es r).clock →
       (runs_after es r ≡ taken_at M is r (reached_by w es r).clock) × IsSameAt M r (reached_by w es r).state (left_at M w is r (reached_by w es r).clock) × ((reached_by w es r).lines ≡ lines_of M (taken_at M is r (reached_by w es r).clock))
   at_history law w horizon is es o x sc r live h =
       let c = reached_by w es in
@@ -54,7 +54,7 @@ module _ (M : Machine) where
       let s = story M law w horizon is o x in
       let p = passed_live (c r) live in
       let all : cut M t (runs_after es r) ≡ runs_after es r = cut_all M t (runs_after es r) (each_map _ _ (runs_after es r) (λ (i : Item M) (b : i.key.tick < passed M (c r)). omega arith) a.below) in
-      let e : runs_after es r ≡ taken_at M is r t = sym all ∙ both_take law w horizon horizon is c (runs_after es) v o x s r t (omega arith) (told_bound M w horizon is s r t h) ∙ sym (at_cut M law r t is w x.chain) in
+      let e : runs_after es r ≡ taken_at M is r t = sym all ∙ both_take law w horizon horizon is c (runs_after es) v o x s r t (omega arith) (covered_bound M w horizon is s r t h) ∙ sym (at_cut M law r t is w x.chain) in
       let hi = history_is M law w is o x.chain r t (mail M v.sent) in
       let f : end M (start M (view M w r) (mail M v.sent)) (runs_after es r) ≡ end M (start M (view M w r) (mail M v.sent)) (taken_at M is r t) = ap (λ z. end M (start M (view M w r) (mail M v.sent)) z) e in (
         e,

@@ -9,7 +9,7 @@ use Rattle.fb_types.specs.Values.{fits}
 use Rattle.fb_types.specs.Blocks.{Kind, ports_of, ports_of_event_block, event_names, variable_names, variable}
 use Rattle.fb_types.specs.Flat.{flat, port_in, kind_of, kind_at, source_of, variables_in}
 use Rattle.fb_types.specs.Joined.{type_among, type_at_end, OutOfRange}
-use Rattle.fb_types.specs.Repeated.{Twice, Placed, networks, NameTwice}
+use Rattle.fb_types.specs.Repeated.{Twice, OwnedNetwork, networks, NameTwice}
 use Rattle.fb_types.specs.Unknown.{is_end, data_ins, data_outs, event_ins, event_outs, ends_known}
 use Rattle.fb_types.specs.declared.event_kind.EventKind.{EventKind}
 use Rattle.fb_types.specs.declared.event_kind.EventKind.TheVariants.{SetReset, DataLatch, CountUp}
@@ -52,7 +52,7 @@ port-name p (Some c) n = refl
 type-found : (its : Ports) (e : PortName) (x : Variable) → variable_named e.port (its.inputs ++ its.outputs) ≡ Some x → type_among its e ≡ Some x.ty
 type-found its e x h = ap (option_map (λ (v : Variable). v.ty)) h
 
-pub source-fitting : (lib : Library) (plan : Plan) → ((n : Placed) → Contains (networks lib) n → ends_known lib n ≡ true) → (OutOfRange lib → ⊥)
+pub source-fitting : (lib : Library) (plan : Plan) → ((n : OwnedNetwork) → Contains (networks lib) n → ends_known lib n ≡ true) → (OutOfRange lib → ⊥)
     → (q s : Port) (k : Kind) (x : Variable) → source_of lib q ≡ Some s → kind_at lib q.at ≡ Some k
     → variable_named q.name (port_variables k) ≡ Some x → IsFitting (flat lib plan) x s
 source-fitting lib plan known within q s k x h is named = record {
@@ -80,7 +80,7 @@ source-fitting lib plan known within q s k x h is named = record {
     a : IsNetworkAt lib l.path l.network
     a = network-declared lib l.path l.network l.there
 
-    net : Placed
+    net : OwnedNetwork
     net = (a.composite, l.network)
 
     ends :
@@ -130,9 +130,9 @@ Contains-name vs n x h =
     subst (λ (z : Name). Contains (variable_names vs) z) (named-name (λ v. v.name) n vs x h)
     (Contains-map (λ (v : Variable). v.name) vs x (named-Contains (λ v. v.name) n vs x h))
 
-output-behind : (k : Kind) (n : Name) (x : Variable) → (IsNamed (ports_of k).inputs n → ⊥) → variable_named n (ports_of k).outputs ≡ Some x
+output-following : (k : Kind) (n : Name) (x : Variable) → (IsNamed (ports_of k).inputs n → ⊥) → variable_named n (ports_of k).outputs ≡ Some x
     → variable_named n (variables_in k) ≡ Some x
-output-behind k n x apart h = go (variable_named n (ports_of k).inputs) refl
+output-following k n x apart h = go (variable_named n (ports_of k).inputs) refl
   where
     go : (o : Option Variable) → variable_named n (ports_of k).inputs ≡ o → variable_named n (variables_in k) ≡ Some x
     go None e = port-found k n x (named-back (ports_of k).inputs (ports_of k).outputs n e ∙ h)
@@ -183,4 +183,4 @@ kind-apart lib plan once k (inr b) n x =
 
 pub output-first : (lib : Library) (plan : Plan) → (NameTwice lib plan → ⊥) → (p : Path) (k : Kind) (n : Name) (x : Variable) → kind_at lib p ≡ Some k
     → variable_named n (ports_of k).outputs ≡ Some x → variable_named n (variables_in k) ≡ Some x
-output-first lib plan once p k n x is h = output-behind k n x (kind-apart lib plan once k (kind-declared lib p k is) n x h) h
+output-first lib plan once p k n x is h = output-following k n x (kind-apart lib plan once k (kind-declared lib p k is) n x h) h

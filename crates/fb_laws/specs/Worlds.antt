@@ -88,7 +88,7 @@ module _ (M : Machine) where
   far stop r = if nat_lt r stop.resource then stop.tick + 1 else stop.tick
 
   -- a resource has a history for a tick
-  pub record HasTold (horizon : ℕ) (is : List (Item M)) (r t : ℕ) : Type 0 where
+  pub record IsCovered (horizon : ℕ) (is : List (Item M)) (r t : ℕ) : Type 0 where
     pub in_range : t ≤ horizon
     pub before_stop : (s : StopsAt is) → t ≤ far s.item.key r
 

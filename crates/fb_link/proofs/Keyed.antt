@@ -1,4 +1,4 @@
--- What lists put under keys, and what a stable sort by keys leaves of that.
+-- What lists put under keys, and what stable sorting by keys leaves of that.
 use Rattle.std.proofs.Common.{◌≡◌, ℕ, suc, ◌<◌, ◌≤◌, ◌⊎◌, Bool, true, false, not, ◌&&◌, Option, Some, None, List, [], ◌∷◌, length, map, get_or, filter, refl, sym, ap, ◌∙◌, inl, inr, ⊎_elim, arith}
 use Rattle.std.specs.Prelude.{if◌then◌else◌}
 use Rattle.std.specs.Cmp.{IsStrictWeakOrder}

@@ -6,7 +6,7 @@ use Rattle.std.specs.Prelude.{Option, Some, None, option_map, option_and_then, f
 use Rattle.fb_types.specs.Names.{Name, Path}
 use Rattle.fb_types.specs.Blocks.{Kind, Event, among, event_blocks, event_names, named, ports_of, variable_names}
 use Rattle.fb_types.specs.Flat.{kind_of, kind_at, kind_of_instance, instance_at, resource_names_of, type_name}
-use Rattle.fb_types.specs.Repeated.{NameTwice, Placed, Twice, algorithm_names, basics, block_type_names, instance_names, interfaces, internals_of, networks, parameter_lists, port_names, state_names, with_lists}
+use Rattle.fb_types.specs.Repeated.{NameTwice, OwnedNetwork, Twice, algorithm_names, basics, block_type_names, instance_names, interfaces, internals_of, networks, parameter_lists, port_names, state_names, with_lists}
 use Rattle.fb_types.specs.declared.deploy.Plan.{Plan}
 use Rattle.fb_types.specs.declared.event_kind.EventKind.{EventKind}
 use Rattle.fb_types.specs.declared.library.BlockType.{BlockType}
@@ -17,7 +17,7 @@ use Rattle.fb_types.proofs.NameLaws.{contains_from_any, named-Contains}
 use Rattle.fb_types.proofs.Elements.{Contains-there, Contains-map}
 use Rattle.fb_types.proofs.EventNames.{variables_once}
 
--- Each name of a data input or of a data output stands once.
+-- Each name of a data input or of a data output is once.
 pub record Differ (k : Kind) : Type 0 where
   pub inputs : ¬ (Twice (variable_names (ports_of k).inputs))
   pub outputs : ¬ (Twice (variable_names (ports_of k).outputs))
@@ -47,9 +47,9 @@ module _ (lib : Library) (plan : Plan) (once : ¬ (NameTwice lib plan)) where
       let types : List (List Name) = block_type_names lib ∷ map port_names lib.blocks in
       let algorithms : List (List Name) = map algorithm_names (basics lib) in
       let states : List (List Name) = map state_names (basics lib) in
-      let instances : List (List Name) = map (λ (n : Placed). instance_names n.1) (networks lib) in
+      let instances : List (List Name) = map (λ (n : OwnedNetwork). instance_names n.1) (networks lib) in
       let withs : List (List Name) = flat_map with_lists (interfaces lib) in
-      let parameters : List (List Name) = flat_map (λ (n : Placed). parameter_lists n.1) (networks lib) in
+      let parameters : List (List Name) = flat_map (λ (n : OwnedNetwork). parameter_lists n.1) (networks lib) in
       let ns : List Name = port_names b in
       once (inl (
         ns,

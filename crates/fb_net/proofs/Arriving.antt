@@ -23,7 +23,7 @@ use Rattle.fb_types.specs.declared.value.Value.{Value}
 use Rattle.fb_types.proofs.NameLaws.{same_name-itself}
 use Rattle.fb_types.proofs.EventCounts.{one_input}
 use Rattle.fb_system.specs.Lines.{IsEmission}
-use Rattle.fb_net.specs.Outs.{Gathered, Stands, asked, gathered, out_of}
+use Rattle.fb_net.specs.Outs.{Gathered, RepresentsOutcome, asked, gathered, out_of}
 use Rattle.fb_net.specs.declared.outbox.Out.{Out}
 use Rattle.fb_net.specs.declared.outbox.Outbox.{Outbox}
 use Rattle.fb_event.specs.Reactions.{FitTheirTypes}
@@ -33,7 +33,7 @@ use Rattle.fb_net.specs.Worlds.{InForest, IsForest}
 use Rattle.fb_net.specs.declared.resource.Forest.{Forest}
 use Rattle.fb_laws.specs.Typed.{AllFit, AreTyped, IsTypedSystem, variable_named}
 use Rattle.fb_laws.proofs.Kept.{taking_typed}
-use Rattle.fb_net.specs.Arrivals.{ComesTo, IsReady, AreTypedAt, Tells, entering, leaving, reacting, sampling}
+use Rattle.fb_net.specs.Arrivals.{ComesTo, IsReady, AreTypedAt, WritesAndEmits, entering, leaving, reacting, sampling}
 use Rattle.fb_net.proofs.Sampling.{bound-paired, input_port, output_port, port_named, ports-of_kind}
 
 -- ---- Values of their types
@@ -100,9 +100,9 @@ module _ (i : Inputs) (k : Key) (kind : EventKind) (at : Target) (is : (system_o
       ap (λ (x : Ports). taking sys k w (port_of sys at) x left) ports ∙ ap (λ (z : Port). taking sys k w z its left) port
 
   -- the blocks once the event is taken
-  begun-stands : (old mid : Forest) (x y : Outbox) → ComesTo i (sampling i k at) old x mid y
-      → (w : World) (left : ℕ) → IsForest i old w → Stands i (gathered i x) mid y (begun w left)
-  begun-stands old mid x y taken w left h = subst (λ (o : Outcome). Stands i (gathered i x) mid y o) (begun-is w left) (taken w left h)
+  begun-represents : (old mid : Forest) (x y : Outbox) → ComesTo i (sampling i k at) old x mid y
+      → (w : World) (left : ℕ) → IsForest i old w → RepresentsOutcome i (gathered i x) mid y (begun w left)
+  begun-represents old mid x y taken w left h = subst (λ (o : Outcome). RepresentsOutcome i (gathered i x) mid y o) (begun-is w left) (taken w left h)
 
   -- .. and hold values of their types
   pub event-typed : (old mid : Forest) (x y : Outbox) → ComesTo i (sampling i k at) old x mid y → IsTypedSystem sys → AreTypedAt i old → InForest i mid at.instance
@@ -110,7 +110,7 @@ module _ (i : Inputs) (k : Key) (kind : EventKind) (at : Target) (is : (system_o
   event-typed old mid x y taken sound typed lies =
       let w : World = typed.0 in (
         (begun w 0).world,
-        (begun-stands old mid x y taken w 0 typed.1).world,
+        (begun-represents old mid x y taken w 0 typed.1).world,
         lies,
         inputs-typed i kind at.instance (begun w 0).world is (taking_typed sys sound k w typed.2 q (Event kind) is 0),
       )
@@ -119,31 +119,31 @@ module _ (i : Inputs) (k : Key) (kind : EventKind) (at : Target) (is : (system_o
   pub event-reacts : (old mid late new : Forest) (x y z : Outbox) (ask : TimerAsk) (emits : List run.Emission)
       → ComesTo i (sampling i k at) old x mid y → InForest i mid at.instance
       → ((w : World) → IsForest i mid w → InForest i mid at.instance → EventCame i at.instance kind (taken_reaction i kind at k.tick w) late ask emits w)
-      → ((before : Gathered) (o : Outcome) → Stands i before late (record y { timer = asked y.timer ask }) o
-      → Stands i before new z (emitted_all sys k p (map (emission_of (ports_at sys p)) emits) o))
+      → ((before : Gathered) (o : Outcome) → RepresentsOutcome i before late (record y { timer = asked y.timer ask }) o
+      → RepresentsOutcome i before new z (emitted_all sys k p (map (emission_of (ports_at sys p)) emits) o))
       → ComesTo i (reacting i k kind at) old x new z
   event-reacts old mid late new x y z ask emits taken lies comes put_out w left h =
-      let s = begun-stands old mid x y taken w left h in
+      let s = begun-represents old mid x y taken w left h in
       let late_world : World = (begun w left).world in
       let r : blocks.Reaction = taken_reaction i kind at k.tick late_world in
       let came = comes late_world s.world lies in
-      let settled : Stands i (gathered i x) late (record y { timer = asked y.timer ask }) (remembered p r (begun w left)) =
-      record { world = came.stands; lines = s.lines; outs = s.outs; timer = λ n. asked (s.timer n) (came.timer n) } in
+      let settled : RepresentsOutcome i (gathered i x) late (record y { timer = asked y.timer ask }) (remembered p r (begun w left)) =
+      record { world = came.represents; lines = s.lines; outs = s.outs; timer = λ n. asked (s.timer n) (came.timer n) } in
       let same : map (emission_of (ports_at sys p)) emits ≡ emissions its (blocks.output_of r.memory) r.emits =
       ap (λ (x : Ports). map (emission_of x) emits) ports ∙ came.emitted in
-      subst (λ (t : Port). Stands i (gathered i x) new z (reacting_at sys k kind t w left)) (sym port)
-      (subst (λ (es : List Emission). Stands i (gathered i x) new z (emitted_all sys k p es (remembered p r (begun w left)))) same
+      subst (λ (t : Port). RepresentsOutcome i (gathered i x) new z (reacting_at sys k kind t w left)) (sym port)
+      (subst (λ (es : List Emission). RepresentsOutcome i (gathered i x) new z (emitted_all sys k p es (remembered p r (begun w left)))) same
       (put_out (gathered i x) (remembered p r (begun w left)) settled))
 
 -- ---- Basic blocks
 
 -- The line of an event at a leaf and what the leaf emits were put out.
-pub told-so : (i : Inputs) (k : Key) (at : ℕ) (line : Line) (es : List Emission) (old new : Forest) (x y z : Outbox)
+pub wrote-so : (i : Inputs) (k : Key) (at : ℕ) (line : Line) (es : List Emission) (old new : Forest) (x y z : Outbox)
     → map (line_of (system_of i)) y.lines.items ≡ map (line_of (system_of i)) x.lines.items ++ line ∷ []
     → y.outs.items ≡ x.outs.items → y.timer ≡ x.timer
-    → ((before : Gathered) (o : Outcome) → Stands i before old y o → Stands i before new z (emitted_all (system_of i) k (path_at (system_of i) at) es o))
-    → Tells i k at line es old x new z
-told-so i k at line es old new x y z written outs timer put_out o begun =
+    → ((before : Gathered) (o : Outcome) → RepresentsOutcome i before old y o → RepresentsOutcome i before new z (emitted_all (system_of i) k (path_at (system_of i) at) es o))
+    → WritesAndEmits i k at line es old x new z
+wrote-so i k at line es old new x y z written outs timer put_out o begun =
     let sys = system_of i in
     put_out (gathered i x) o
     (record {
@@ -155,7 +155,7 @@ told-so i k at line es old new x y z written outs timer put_out o begun =
 
 -- ---- Composites
 
--- what goes out of a composite that an event enters, behind what went out before
+-- what goes out of a composite that an event enters, after what went out before
 abbrev pub sent-of : Inputs → (resource : ℕ) → Target → (before after : List Out) → Type 0
 sent-of i r at before after =
     map (out_of (system_of i)) after ≡ map (out_of (system_of i)) before
@@ -181,7 +181,7 @@ enters i k at old mid x y z taken ready lines timer sent w left h =
 pub leaves : (i : Inputs) (k : Key) (at : Target) (old new : Forest) (x y : Outbox) (values : List Value) (emits : List run.Emission)
     → IsReady k old → at.is_output ≡ true → InForest i old at.instance → AreShown i old at values
     → emits ≡ record { event = at.event; values = values } ∷ []
-    → ((before : Gathered) (o : Outcome) → Stands i before old x o → Stands i before new y
+    → ((before : Gathered) (o : Outcome) → RepresentsOutcome i before old x o → RepresentsOutcome i before new y
     (emitted_all (system_of i) k (path_at (system_of i) at.instance) (map (emission_of (ports_at (system_of i) (path_at (system_of i) at.instance))) emits) o))
     → ComesTo i (leaving i k at) old x new y
 leaves i k at old new x y values emits ready output here shown one put_out w left h =
@@ -190,16 +190,16 @@ leaves i k at old new x y values emits ready output here shown one put_out w lef
     let its : Ports = ports_at sys p in
     let n : Name = event_at its.event_outputs at.event in
     let ns : List Name = outputs_with its n in
-    let start : Stands i (gathered i x) old x (silent w left) = record {
+    let start : RepresentsOutcome i (gathered i x) old x (silent w left) = record {
       world = h;
       lines = sym (append-nil (map (line_of sys) x.lines.items));
       outs = sym (append-nil (map (out_of sys) x.outs.items));
       timer = refl;
     } in
-    let all = subst (λ (es : List run.Emission). Stands i (gathered i x) new y (emitted_all sys k p (map (emission_of its) es) (silent w left))) one
+    let all = subst (λ (es : List run.Emission). RepresentsOutcome i (gathered i x) new y (emitted_all sys k p (map (emission_of its) es) (silent w left))) one
     (put_out (gathered i x) (silent w left) start) in
-    let told : pair_up ns values ≡ bound ns (from_inside sys k.resource w p) =
+    let wrote : pair_up ns values ≡ bound ns (from_inside sys k.resource w p) =
     ap (pair_up ns) (subst (λ (r : ℕ). values ≡ map (from_inside sys r w p) ns) (sym ready.resource) (shown w h here))
     ∙ bound-paired (from_inside sys k.resource w p) ns in
-    subst (λ (t : Port). Stands i (gathered i x) new y (crossing_out sys k w t its left)) (sym (output_port sys at output))
-    (subst (λ (bs : List Bound). Stands i (gathered i x) new y (emitted sys k p (record { event = n; values = bs }) (silent w left))) told all)
+    subst (λ (t : Port). RepresentsOutcome i (gathered i x) new y (crossing_out sys k w t its left)) (sym (output_port sys at output))
+    (subst (λ (bs : List Bound). RepresentsOutcome i (gathered i x) new y (emitted sys k p (record { event = n; values = bs }) (silent w left))) wrote all)

@@ -25,7 +25,7 @@ use Rattle.fb_ecc.specs.Opened.{IsOfDeclaration, IsOpened, slot_of}
 use Rattle.fb_ecc.specs.Indexes.{state_at}
 use Rattle.fb_ecc.specs.declared.state.BasicState.{BasicState}
 use Rattle.fb_system.specs.Stimuli.{initial_inputs, initial_outputs}
-use Rattle.fb_net.specs.Worlds.{BasicStands, NodeRepresents, ShellStands, StandsFor, ValuesStand, begins}
+use Rattle.fb_net.specs.Worlds.{BasicRepresents, NodeRepresents, ShellRepresents, Represents, ValuesRepresent, begins}
 use Rattle.fb_net.specs.Blocks.{composite_with, own_of}
 use Rattle.fb_net.specs.declared.block.Block.{Block}
 use Rattle.fb_net.specs.declared.block.Block.TheOpen.{Block-F}
@@ -47,7 +47,7 @@ map_long : (f : Values) (names : List Name) → length (map f names) ≡ length 
 map_long f [] = refl
 map_long f (n ∷ names) = ap suc (map_long f names)
 
-values_begin : (sys : System) (p : Path) (names : List Name) (values : List Value) → values ≡ map (begins sys p) names → ValuesStand sys p names values (begins sys p)
+values_begin : (sys : System) (p : Path) (names : List Name) (values : List Value) → values ≡ map (begins sys p) names → ValuesRepresent sys p names values (begins sys p)
 values_begin sys p names values is = record {
   each = ap (λ (vs : List Value). length vs) is ∙ map_long (begins sys p) names;
   at_index = λ index n v h g.
@@ -58,7 +58,7 @@ values_begin sys p names values is = record {
 
 pub shell_begins :
     (sys : System) (p : Path) (s : Shell) → s.slots ≡ initial_inputs sys p → s.published ≡ initial_outputs sys p
-    → (((t : BasicType) → sys.kind p ≢ Some (Basic t)) → s.inputs ≡ initial_inputs sys p) → ShellStands sys p s (opening_block sys p)
+    → (((t : BasicType) → sys.kind p ≢ Some (Basic t)) → s.inputs ≡ initial_inputs sys p) → ShellRepresents sys p s (opening_block sys p)
 shell_begins sys p s slots published inputs = record {
   slots = values_begin sys p (variable_names (ports_at sys p).inputs) s.slots slots;
   published = values_begin sys p (variable_names (ports_at sys p).outputs) s.published published;
@@ -67,31 +67,31 @@ shell_begins sys p s slots published inputs = record {
 
 -- ---- Blocks by kind
 
-stands_rolled : (sys : System) (p : Path) (x : Block-F Block) (m : model.Block) → NodeRepresents (sys.kind p) x m.memory m.variables → StandsFor sys p (roll-Block x) m
-stands_rolled sys p x m stands = subst (λ (y : Block-F Block). NodeRepresents (sys.kind p) y m.memory m.variables) (sym (out_roll x)) stands
+stands_rolled : (sys : System) (p : Path) (x : Block-F Block) (m : model.Block) → NodeRepresents (sys.kind p) x m.memory m.variables → Represents sys p (roll-Block x) m
+stands_rolled sys p x m represents = subst (λ (y : Block-F Block). NodeRepresents (sys.kind p) y m.memory m.variables) (sym (out_roll x)) represents
 
 -- what a block without its components is
-own_stands : (sys : System) (p : Path) (b : Block) (x : Block-F Block) (m : model.Block) → out-Block b ≡ x → NodeRepresents (sys.kind p) (composite_with [] x) m.memory m.variables → StandsFor sys p (own_of b) m
-own_stands sys p b x m is stands =
-    stands_rolled sys p (composite_with [] (out-Block b)) m (subst (λ (y : Block-F Block). NodeRepresents (sys.kind p) (composite_with [] y) m.memory m.variables) (sym is) stands)
+own_stands : (sys : System) (p : Path) (b : Block) (x : Block-F Block) (m : model.Block) → out-Block b ≡ x → NodeRepresents (sys.kind p) (composite_with [] x) m.memory m.variables → Represents sys p (own_of b) m
+own_stands sys p b x m is represents =
+    stands_rolled sys p (composite_with [] (out-Block b)) m (subst (λ (y : Block-F Block). NodeRepresents (sys.kind p) (composite_with [] y) m.memory m.variables) (sym is) represents)
 
 pub basic_begins :
     (sys : System) (p : Path) (t : BasicType) (b : Block) (s : BasicState) → sys.kind p ≡ Some (Basic t) → out-Block b ≡ Block-F.Basic s
-    → BasicStands t s (opening_block sys p).memory (opening_block sys p).variables → StandsFor sys p (own_of b) (opening_block sys p)
-basic_begins sys p t b s kind is stands =
+    → BasicRepresents t s (opening_block sys p).memory (opening_block sys p).variables → Represents sys p (own_of b) (opening_block sys p)
+basic_begins sys p t b s kind is represents =
     let m = opening_block sys p in
-    own_stands sys p b (Block-F.Basic s) m is (subst (λ (k : Option Kind). NodeRepresents k (Block-F.Basic s) m.memory m.variables) (sym kind) stands)
+    own_stands sys p b (Block-F.Basic s) m is (subst (λ (k : Option Kind). NodeRepresents k (Block-F.Basic s) m.memory m.variables) (sym kind) represents)
 
 pub event_begins :
     (sys : System) (p : Path) (k : EventKind) (b : Block) (s : memories.State) → sys.kind p ≡ Some (Event k) → out-Block b ≡ Block-F.Event s
-    → s.kind ≡ k → model.Remembers s.memory ≡ opening_memory (Some (Event k)) → StandsFor sys p (own_of b) (opening_block sys p)
+    → s.kind ≡ k → model.Remembers s.memory ≡ opening_memory (Some (Event k)) → Represents sys p (own_of b) (opening_block sys p)
 event_begins sys p k b s kind is of_kind memory =
     let m = opening_block sys p in
     own_stands sys p b (Block-F.Event s) m is (subst (λ (k : Option Kind). NodeRepresents k (Block-F.Event s) m.memory m.variables) (sym kind)
     (record { is_kind = of_kind; memory = ap opening_memory kind ∙ sym memory }))
 
 pub composite_begins :
-    (sys : System) (p : Path) (t : CompositeType) (b : Block) (bs : List Block) → sys.kind p ≡ Some (Composite t) → out-Block b ≡ Block-F.Composite bs → StandsFor sys p (own_of b) (opening_block sys p)
+    (sys : System) (p : Path) (t : CompositeType) (b : Block) (bs : List Block) → sys.kind p ≡ Some (Composite t) → out-Block b ≡ Block-F.Composite bs → Represents sys p (own_of b) (opening_block sys p)
 composite_begins sys p t b bs kind is =
     let m = opening_block sys p in
     own_stands sys p b (Block-F.Composite bs) m is (subst (λ (k : Option Kind). NodeRepresents k (Block-F.Composite []) m.memory m.variables) (sym kind) (ap opening_memory kind))
@@ -144,7 +144,7 @@ pub opens :
     → (system_of i).kind (path_at (system_of i) k) ≡ Some (Basic t) → IsOpened t old
     → values ≡ initial_inputs (system_of i) (path_at (system_of i) k)
     → values_of frame ≡ begun_all (variable_names t.ports.inputs) values (values_of old.frame) → declared_in frame ≡ declared_in old.frame
-    → BasicStands t (record old { frame = frame }) (opening_block (system_of i) (path_at (system_of i) k)).memory (opening_block (system_of i) (path_at (system_of i) k)).variables
+    → BasicRepresents t (record old { frame = frame }) (opening_block (system_of i) (path_at (system_of i) k)).memory (opening_block (system_of i) (path_at (system_of i) k)).variables
 opens i k t old frame values accepted within is opened given put declared =
     let sys = system_of i in
     let p = path_at sys k in

@@ -1,4 +1,4 @@
--- The taking of an event is what the model makes of it, by what the event is.
+-- Taking an event is what the model makes of it, by what the event is.
 use Rattle.std.proofs.Common.{◌≡◌, ℕ, Bool, true, false, cond, List, map, refl, sym, ap, subst, ◌∙◌}
 use Rattle.std.specs.Prelude.{None, Option, Some, Result, Ok, Err, IfErr, OnOk}
 use Rattle.std.specs.Option.{option_map}
@@ -28,7 +28,7 @@ use Rattle.fb_types.specs.declared.value.Reason.{Reason}
 use Rattle.fb_types.specs.declared.value.Value.{Value}
 use Rattle.fb_types.specs.declared.run.Event.{Event as Waiting}
 use Rattle.fb_types.specs.declared.run.Event.TheVariants as waits
-use Rattle.fb_net.specs.Outs.{Gathered, Stands, asked, gathered, out_of}
+use Rattle.fb_net.specs.Outs.{Gathered, RepresentsOutcome, asked, gathered, out_of}
 use Rattle.fb_net.specs.declared.outbox.Outbox.{Outbox}
 use Rattle.fb_net.specs.Leaves.{EventCame, expiry_reaction}
 use Rattle.fb_net.specs.Samples.{HoldsAll, slots_set}
@@ -63,7 +63,7 @@ module _ (i : Inputs) (k : Key) (e : Waiting) (at : Target) (old mid new : Fores
   came : (stop : Option Reason) → ReactedIn i (Arrives i k at left) mid x stop new after y → Came i k e old x left stop new after y
   came stop reacted w h =
       let r = reacted (brings w) (brought w h) in
-      record { outcome = r.outcome; reacts = takes w r.outcome r.reacts; stops = r.stops; leaves = r.leaves; stands = r.stands }
+      record { outcome = r.outcome; reacts = takes w r.outcome r.reacts; stops = r.stops; leaves = r.leaves; represents = r.represents }
 
   pub taken-by_arrival : (r : Result (Unit {0}) Halt) → HasReacted i (Arrives i k at left) mid x r new after y → HasTaken i k e old x left r new after y
   taken-by_arrival (Ok u) h = came None h
@@ -80,7 +80,7 @@ arrives-at i k at left w o h =
 pub local-taken : (i : Inputs) (k : Key) (at : Target) (old new : Forest) (x y : Outbox) (left after : ℕ) (r : Result (Unit {0}) Halt)
     → HasReacted i (Arrives i k at left) old x r new after y → HasTaken i k (waits.Local at) old x left r new after y
 local-taken i k at old new x y left after r h =
-    taken-by_arrival i k (waits.Local at) at old old new x y left after (λ w. w) (λ w stands. stands) (arrives-at i k at left) r h
+    taken-by_arrival i k (waits.Local at) at old old new x y left after (λ w. w) (λ w represents. represents) (arrives-at i k at left) r h
 
 -- ---- Messages
 
@@ -91,12 +91,12 @@ module _ (i : Inputs) (k : Key) (m : Message) (old mid : Forest) (holds : HoldsA
   pub arrival-typed : AreTypedAt i old → IsTypedEvent (system_of i) (event_of i (waits.Arrival m)) → AreTypedAt i mid
   arrival-typed typed event =
       let w : World = typed.0 in
-      (record w { held = hold_all carried w.held }, holds.stands w typed.1, held_typed (system_of i) w typed.2 carried event)
+      (record w { held = hold_all carried w.held }, holds.represents w typed.1, held_typed (system_of i) w typed.2 carried event)
 
   pub arrival-taken : (new : Forest) (x y : Outbox) (left after : ℕ) (r : Result (Unit {0}) Halt)
       → HasReacted i (Arrives i k m.target left) mid x r new after y → HasTaken i k (waits.Arrival m) old x left r new after y
   arrival-taken new x y left after r h =
-      taken-by_arrival i k (waits.Arrival m) m.target old mid new x y left after (λ w. record w { held = hold_all carried w.held }) holds.stands
+      taken-by_arrival i k (waits.Arrival m) m.target old mid new x y left after (λ w. record w { held = hold_all carried w.held }) holds.represents
       (λ w o. arrives-at i k m.target left (record w { held = hold_all carried w.held }) o) r h
 
 -- ---- Stimuli
@@ -116,7 +116,7 @@ module _ (i : Inputs) (k : Key) (row : ℕ) (s : StimulusAt) (is : IsStimulusAt 
   abbrev sets : List Bound
   sets = map (set_of sys s.target.instance) s.sets.now
 
-  -- what the row stands for
+  -- what the row represents
   event : event_of i (waits.Stimulus row) ≡ Stimulated q sets
   event =
       ap stimulated is.is ∙ ap (λ (z : Port). Stimulated z is.stimulus.sets) (sym is.port) ∙ ap (λ (bs : List Bound). Stimulated q bs) (sym is.sets)
@@ -125,7 +125,7 @@ module _ (i : Inputs) (k : Key) (row : ℕ) (s : StimulusAt) (is : IsStimulusAt 
   lies = ap sys.resource (sym (ap path_of event ∙ path-of_port sys s.target)) ∙ here
 
   brought : (w : World) → IsForest i old w → IsForest i mid (with_slots p sets w)
-  brought w h = changes.stands w h lies
+  brought w h = changes.represents w h lies
 
   pub stimulus-kept : AreKept i old mid
   stimulus-kept = record { resource = changes.resource; whole = λ w h. (with_slots p sets w, brought w h) }
@@ -152,9 +152,9 @@ module _ (i : Inputs) (k : Key) (row : ℕ) (s : StimulusAt) (is : IsStimulusAt 
 -- ---- Timers
 
 -- nothing was put out yet
-silent-stands : (i : Inputs) (f : Forest) (x : Outbox) (w : World) (left : ℕ) → IsForest i f w
-    → Stands i (gathered i x) f x (silent w left)
-silent-stands i f x w left h = record {
+silent-represents : (i : Inputs) (f : Forest) (x : Outbox) (w : World) (left : ℕ) → IsForest i f w
+    → RepresentsOutcome i (gathered i x) f x (silent w left)
+silent-represents i f x w left h = record {
   world = h;
   lines = sym (append-nil (map (line_of (system_of i)) x.lines.items));
   outs = sym (append-nil (map (out_of (system_of i)) x.outs.items));
@@ -165,7 +165,7 @@ silent-stands i f x w left h = record {
 pub timer-expires : (i : Inputs) (k : Key) (kind : EventKind) (at : ℕ) (old late new : Forest) (x y : Outbox) (ask : TimerAsk) (emits : List run.Emission)
     → (system_of i).kind (path_at (system_of i) at) ≡ Some (Event kind) → InForest i old at
     → ((w : World) → IsForest i old w → InForest i old at → EventCame i at kind (expiry_reaction i kind at k.tick w) late ask emits w)
-    → ((before : Gathered) (o : Outcome) → Stands i before late (record x { timer = asked x.timer ask }) o → Stands i before new y
+    → ((before : Gathered) (o : Outcome) → RepresentsOutcome i before late (record x { timer = asked x.timer ask }) o → RepresentsOutcome i before new y
     (emitted_all (system_of i) k (path_at (system_of i) at) (map (emission_of (ports_at (system_of i) (path_at (system_of i) at))) emits) o))
     → ComesTo i (expiring i k kind at) old x new y
 timer-expires i k kind at old late new x y ask emits is here comes put_out w left h =
@@ -173,20 +173,20 @@ timer-expires i k kind at old late new x y ask emits is here comes put_out w lef
     let p : Path = path_at sys at in
     let its : Ports = ports_of (Event kind) in
     let r : blocks.Reaction = expiry_reaction i kind at k.tick w in
-    let s = silent-stands i old x w left h in
+    let s = silent-represents i old x w left h in
     let came = comes w h here in
-    let settled : Stands i (gathered i x) late (record x { timer = asked x.timer ask }) (remembered p r (silent w left)) =
-    record { world = came.stands; lines = s.lines; outs = s.outs; timer = ap (asked x.timer) came.timer } in
+    let settled : RepresentsOutcome i (gathered i x) late (record x { timer = asked x.timer ask }) (remembered p r (silent w left)) =
+    record { world = came.represents; lines = s.lines; outs = s.outs; timer = ap (asked x.timer) came.timer } in
     let same : map (emission_of (ports_at sys p)) emits ≡ emissions its (blocks.output_of r.memory) r.emits =
     ap (λ (z : Ports). map (emission_of z) emits) (ports-of_kind sys p (Event kind) is) ∙ came.emitted in
-    subst (λ (es : List Emission). Stands i (gathered i x) new y (emitted_all sys k p es (remembered p r (silent w left)))) same
+    subst (λ (es : List Emission). RepresentsOutcome i (gathered i x) new y (emitted_all sys k p es (remembered p r (silent w left)))) same
     (put_out (gathered i x) (remembered p r (silent w left)) settled)
 
 -- The timer of an event block was taken.
 pub timer-taken : (i : Inputs) (k : Key) (kind : EventKind) (at : ℕ) (old new : Forest) (x y : Outbox)
     → (system_of i).kind (path_at (system_of i) at) ≡ Some (Event kind) → ComesTo i (expiring i k kind at) old x new y
     → (left : ℕ) → Came i k (waits.Timer at) old x left None new left y
-timer-taken i k kind at old new x y is stands left w h =
+timer-taken i k kind at old new x y is represents left w h =
     let sys = system_of i in
     let p : Path = path_at sys at in
     let r : blocks.Reaction = expiry_reaction i kind at k.tick w in
@@ -195,7 +195,7 @@ timer-taken i k kind at old new x y is stands left w h =
       reacts = sym (ap (expires sys k w p left) is);
       stops = answered-stop sys k p kind r (silent w left);
       leaves = answered-left sys k p kind r (silent w left);
-      stands = stands w left h;
+      represents = represents w left h;
     }
 
 -- However it has ended, the timer was taken.
@@ -221,5 +221,5 @@ timer-rests i k at declared f x is left w h =
       reacts = sym (rests i k p w left declared) ∙ ap (expires sys k w p left) is;
       stops = refl;
       leaves = refl;
-      stands = silent-stands i f x w left h;
+      represents = silent-represents i f x w left h;
     }

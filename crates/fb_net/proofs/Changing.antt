@@ -14,7 +14,7 @@ use Rattle.fb_types.specs.declared.library.Variable.{Variable}
 use Rattle.fb_types.specs.declared.run.Carried.{Carried}
 use Rattle.fb_types.specs.declared.value.Value.{Value}
 use Rattle.fb_types.proofs.PathLaws.{same_path_is, same_path_itself}
-use Rattle.fb_system.specs.Stands.{AreIndexes, variable_at}
+use Rattle.fb_system.specs.IndexLists.{AreIndexes, variable_at}
 use Rattle.fb_system.specs.Stimuli.{set_of}
 use Rattle.fb_system.specs.declared.rows.SlotValue.{SlotValue}
 use Rattle.fb_types.specs.declared.run.InstanceVariable.{InstanceVariable}
@@ -25,7 +25,7 @@ use Rattle.fb_net.specs.Samples.{HoldsAll, all_sampled, slots_set}
 
 -- ---- Worlds with another block
 
--- the later of two choices at one index stands
+-- the later of two choices at one index is kept
 chosen_twice : {A : Type 0} (b : Bool) (x y z : A) → cond b x (cond b y z) ≡ cond b x z
 chosen_twice true x y z = refl
 chosen_twice false x y z = refl
@@ -57,7 +57,7 @@ with_block-next p b g w =
 pub changes_none : (i : Inputs) (a : Forest) (k : ℕ) → Changes i a k (λ b. b) a
 changes_none i a k = record {
   resource = refl;
-  stands = λ w h lies. subst (λ (x : World). IsForest i a x) (sym (with_block-itself (path_at (system_of i) k) w)) h;
+  represents = λ w h lies. subst (λ (x : World). IsForest i a x) (sym (with_block-itself (path_at (system_of i) k) w)) h;
 }
 
 -- two changes of one instance, one after the other
@@ -65,9 +65,9 @@ pub changes_twice : {i : Inputs} {a b c : Forest} {k : ℕ} {f g : model.Block �
     → Changes i a k f b → Changes i b k g c → Changes i a k (λ m. g (f m)) c
 changes_twice {i} {a} {b} {c} {k} {f} {g} first second = record {
   resource = second.resource ∙ first.resource;
-  stands = λ w h lies.
+  represents = λ w h lies.
       subst (λ (x : World). IsForest i c x) (with_block-next (path_at (system_of i) k) (f (block_in i w k)) g w)
-      (second.stands (with_instance i k (f (block_in i w k)) w) (first.stands w h lies) (lies ∙ sym first.resource));
+      (second.represents (with_instance i k (f (block_in i w k)) w) (first.represents w h lies) (lies ∙ sym first.resource));
 }
 
 -- what each element of a list makes of a block, one after another
@@ -93,12 +93,12 @@ pub changes_more : {X : Type 0} {i : Inputs} {a b c : Forest} {k : ℕ} (change 
 changes_more {X} {i} {a} {b} {c} {k} change xs n d before within next =
     subst (λ (l : List X). Changes i a k (one_by_one change l) c) (sym (take_more xs n d within)) (changes_push change (take n xs) (get_or xs n d) before next)
 
--- the same change, told otherwise
+-- the same change, in other words
 pub changes_as : {i : Inputs} {a b : Forest} {k : ℕ} {f : model.Block → model.Block} (g : model.Block → model.Block)
     → Changes i a k f b → ((m : model.Block) → f m ≡ g m) → Changes i a k g b
 changes_as {i} {a} {b} {k} g changes is = subst (λ (f : model.Block → model.Block). Changes i a k f b) (fun_ext is) changes
 
--- ---- What the changes come to
+-- ---- The result of the changes
 
 -- a value for a variable
 abbrev pub variable_sampled : Bound → model.Block → model.Block
@@ -172,7 +172,7 @@ hold_all-push [] q v held = refl
 hold_all-push (c ∷ cs) q v held = hold_all-push cs q v (with_held c.0 c.1 held)
 
 pub holds_none : (i : Inputs) (a : Forest) → HoldsAll i a [] a
-holds_none i a = record { resource = refl; stands = λ w h. h }
+holds_none i a = record { resource = refl; represents = λ w h. h }
 
 -- the variable that a value is carried for
 abbrev pub index_of : Carried → InstanceVariable
@@ -189,10 +189,10 @@ holds_more {i} {a} {b} {c} cs n d before within next =
     ap (map held_of) (take_more cs n d within) ∙ map-append held_of (take n cs) (x ∷ []) in
     record {
       resource = next.resource ∙ before.resource;
-      stands = λ w h.
+      represents = λ w h.
           let late : Port → Value = hold_all (map held_of (take n cs)) w.held in
           let e : with_held (held_of x).0 (held_of x).1 late ≡ hold_all (map held_of (take (n + 1) cs)) w.held =
           sym (ap (λ (l : List (Port × Value)). hold_all l w.held) mapped ∙ hold_all-push (map held_of (take n cs)) (held_of x).0 (held_of x).1 w.held) in
           subst (λ (held : Port → Value). IsForest i c (record w { held = held })) e
-          (next.stands (record w { held = late }) (before.stands w h));
+          (next.represents (record w { held = late }) (before.represents w h));
     }

@@ -22,13 +22,13 @@ use Rattle.fb_types.specs.declared.run.Target.{Target}
 use Rattle.fb_types.specs.declared.value.Reason.{Reason}
 use Rattle.fb_types.specs.declared.value.Value.{Value}
 use Rattle.fb_types.proofs.PathLaws.{same_path_itself}
-use Rattle.fb_net.specs.Outs.{gathered, Stands}
+use Rattle.fb_net.specs.Outs.{gathered, RepresentsOutcome}
 use Rattle.fb_net.specs.declared.outbox.Outbox.{Outbox}
 use Rattle.fb_net.specs.Leaves.{ChartCame, ChartEnded, EachWorld, chart_start, charted_block}
 use Rattle.fb_net.specs.Samples.{AreSampled}
 use Rattle.fb_net.specs.Worlds.{InForest, IsForest}
 use Rattle.fb_net.specs.declared.resource.Forest.{Forest}
-use Rattle.fb_net.specs.Arrivals.{Arrives, HasReacted, IsReady, IsBegun, ReactedIn, Tells}
+use Rattle.fb_net.specs.Arrivals.{Arrives, HasReacted, IsReady, IsBegun, ReactedIn, WritesAndEmits}
 use Rattle.fb_net.proofs.Sampling.{line-sampled, port-here, port_named, ports-of_kind, taken_line, variables-sampled}
 
 -- ---- Emissions
@@ -47,7 +47,7 @@ emitted_all-stop sys k p (e ∷ es) o = emitted_all-stop sys k p es (emitted sys
 with_block-here : (p : Path) (b : model.Block) (w : World) → (with_block p b w).blocks p ≡ b
 with_block-here p b w = ap (λ (same : Bool). cond same b (w.blocks p)) (same_path_itself p)
 
--- the later of two choices at one index stands
+-- the later of two choices at one index is kept
 chosen_twice : {A : Type 0} (b : Bool) (x y z : A) → cond b x (cond b y z) ≡ cond b x z
 chosen_twice true x y z = refl
 chosen_twice false x y z = refl
@@ -67,11 +67,11 @@ with_block-next p b g w =
 abbrev start_at : model.Block → ℕ → Position
 start_at b left = record { state = state_of b.memory; vars = b.variables; left = left; emitted = [] }
 
--- A basic block t has reacted to an event with values that it sampled, and line and emissions were told.
+-- A basic block t has reacted to an event with values that it sampled, and line and emissions were written.
 module _ (i : Inputs) (k : Key) (at : Target) (t : BasicType) (is : (system_of i).kind (path_at (system_of i) at.instance) ≡ Some (Basic t))
     (input : at.is_output ≡ false) (old mid new : Forest) (x y : Outbox) (ready : IsReady k old) (here : InForest i old at.instance)
     (values : List Value) (are : AreSampled i old at values) (before after : ℕ) (emits : List run.Emission)
-    (told : Tells i k at.instance (line_of (system_of i) (taken_line k at values))
+    (wrote : WritesAndEmits i k at.instance (line_of (system_of i) (taken_line k at values))
     (map (emission_of (ports_at (system_of i) (path_at (system_of i) at.instance))) emits) mid x new y) where
   abbrev sys : System
   sys = system_of i
@@ -98,7 +98,7 @@ module _ (i : Inputs) (k : Key) (at : Target) (t : BasicType) (is : (system_of i
       (variables-sampled i k at t.ports ports input old ready.resource here values are w h)
       ∙ ap (λ (b : model.Block). start_at b before) (sym (with_block-here p (sampled_block w) w))
 
-  -- the world where it has come to
+  -- the world where it is
   settles : (w : World) (c : Position) (stop : Option Reason) → with_block p (charted_block c (w.blocks p)) w ≡ (settled p c stop (begun w)).world
   settles w c stop = sym (with_block-next p (sampled_block w) (charted_block c) w)
 
@@ -109,7 +109,7 @@ module _ (i : Inputs) (k : Key) (at : Target) (t : BasicType) (is : (system_of i
       let o : Outcome = settled p c.index stop (begun w) in
       let out : Outcome = charted sys k p (begun w) c.index stop in
       let first : IsBegun i mid (line_of sys (taken_line k at values)) o = record {
-        world = subst (λ (z : World). IsForest i mid z) (settles w c.index stop) c.stands;
+        world = subst (λ (z : World). IsForest i mid z) (settles w c.index stop) c.represents;
         lines = sym (line-sampled i k at t.ports ports input old ready.resource here values are w h before);
         outs = refl;
         timer = refl;
@@ -123,7 +123,7 @@ module _ (i : Inputs) (k : Key) (at : Target) (t : BasicType) (is : (system_of i
             (subst (λ (z : Option Kind). ReactsAt sys k w q before z out) (sym is) reacts);
         stops = emitted_all-stop sys k p c.index.emitted o;
         leaves = emitted_all-left sys k p c.index.emitted o ∙ sym c.left;
-        stands = subst (λ (es : List Emission). Stands i (gathered i x) new y (emitted_all sys k p es o)) same (told o first);
+        represents = subst (λ (es : List Emission). RepresentsOutcome i (gathered i x) new y (emitted_all sys k p es o)) same (wrote o first);
       }
 
   -- however the reaction ended

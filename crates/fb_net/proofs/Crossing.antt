@@ -37,19 +37,19 @@ use Rattle.fb_net.proofs.Sampling.{input_port, output_port, ports-of_kind}
 
 -- ---- How a reaction ended
 
--- A step that did not stop has come to a reaction of the model.
+-- A step that did not stop is a reaction of the model.
 pub done-reacted : (i : Inputs) (step : World → ℕ → Outcome) (Comes : World → Outcome → Type 0) (old new : Forest) (x y : Outbox) (left : ℕ)
     → ((w : World) → Comes w (step w left)) → ((w : World) → (step w left).stop ≡ None) → ((w : World) → (step w left).left ≡ left)
     → ComesTo i step old x new y → ReactedIn i Comes old x None new left y
-done-reacted i step Comes old new x y left comes stops leaves stands w h = record {
+done-reacted i step Comes old new x y left comes stops leaves represents w h = record {
   outcome = step w left;
   reacts = comes w;
   stops = stops w;
   leaves = leaves w;
-  stands = stands w left h;
+  represents = represents w left h;
 }
 
--- However a reaction ended that nothing stops, it has come to what it says.
+-- However a reaction ended that nothing stops, its result is what it says.
 pub reacted-ended : (i : Inputs) (Comes : World → Outcome → Type 0) (old new : Forest) (x y : Outbox) (left : ℕ) (r : Result (Unit {0}) Halt)
     → IfErr r (λ h. h ≡ halt.Memory) → OnOk r (ReactedIn i Comes old x None new left y) → HasReacted i Comes old x r new left y
 reacted-ended i Comes old new x y left (Ok u) memory done = done

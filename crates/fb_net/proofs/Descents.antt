@@ -19,14 +19,14 @@ begun blocks first [] x none stood = cc
 begun blocks first (next ∷ rest) x none stood =
     let missing : None ≡ Some x = ap (option_and_then (λ b. block_at (components_of b) (next ∷ rest))) (sym none) ∙ stood in cc
 
-module _ (blocks : List Block) (first : ℕ) (b : Block) (stands : slice_get blocks first ≡ Some b) where
+module _ (blocks : List Block) (first : ℕ) (b : Block) (represents : slice_get blocks first ≡ Some b) where
   below : (rest : List ℕ) → 1 ≤ length rest → block_at blocks (first ∷ rest) ≡ block_at (components_of b) rest
   below [] more = absurd (omega (arith, more))
-  below (next ∷ rest) more = ap (option_and_then (λ a. block_at (components_of a) (next ∷ rest))) stands
+  below (next ∷ rest) more = ap (option_and_then (λ a. block_at (components_of a) (next ∷ rest))) represents
 
   put_below : (rest : List ℕ) (w : Block) → 1 ≤ length rest → put_at blocks (first ∷ rest) w ≡ slice_set blocks first (with_components b (put_at (components_of b) rest w))
   put_below [] w more = absurd (omega (arith, more))
-  put_below (next ∷ rest) w more = ap (put_back blocks first (λ a. with_components a (put_at (components_of a) (next ∷ rest) w))) stands
+  put_below (next ∷ rest) w more = ap (put_back blocks first (λ a. with_components a (put_at (components_of a) (next ∷ rest) w))) represents
 
   -- a block without components ends the way
   pub ends_here : (rest : List ℕ) (x : Block) → components_of b ≡ [] → block_at blocks (first ∷ rest) ≡ Some x → (rest ≡ []) × (b ≡ x)
@@ -47,10 +47,10 @@ parted (p ∷ ps) more = ap (λ qs. p ∷ qs) (take_rest (p ∷ ps) 1)
 -- the way goes on among the components
 pub stands_below : (blocks : List Block) (first : ℕ) (rest : List ℕ) (b x : Block) (inner : List Block) → slice_get blocks first ≡ Some b → 1 ≤ length rest → inner ≡ components_of b →
     block_at blocks (first ∷ rest) ≡ Some x → block_at inner (get_or rest 0 0 ∷ take (length rest - 1) (drop 1 rest)) ≡ Some x
-stands_below blocks first rest b x inner stands more is stood =
-    ap (block_at inner) (parted rest more) ∙ ap (λ cs. block_at cs rest) is ∙ sym (below blocks first b stands rest more) ∙ stood
+stands_below blocks first rest b x inner represents more is stood =
+    ap (block_at inner) (parted rest more) ∙ ap (λ cs. block_at cs rest) is ∙ sym (below blocks first b represents rest more) ∙ stood
 
-module _ {R : Type 0} (Ends : Block → R → Block → Type 0) (blocks : List Block) (first : ℕ) (rest : List ℕ) (b : Block) (stands : slice_get blocks first ≡ Some b) where
+module _ {R : Type 0} (Ends : Block → R → Block → Type 0) (blocks : List Block) (first : ℕ) (rest : List ℕ) (b : Block) (represents : slice_get blocks first ≡ Some b) where
   -- the block at the end of the way becomes another one
   pub changed_here : (w : Block) (r : R) → length rest ≡ 0 → Ends b r w → Changed Ends blocks (first ∷ rest) r (slice_set blocks first w)
   changed_here w r none ends =
@@ -58,9 +58,9 @@ module _ {R : Type 0} (Ends : Block → R → Block → Type 0) (blocks : List B
       record {
         before = b;
         after = w;
-        stood = ap (λ (ps : List ℕ). block_at blocks (first ∷ ps)) last ∙ stands;
+        stood = ap (λ (ps : List ℕ). block_at blocks (first ∷ ps)) last ∙ represents;
         ends = ends;
-        stands = sym (ap (λ (ps : List ℕ). put_at blocks (first ∷ ps) w) last);
+        represents = sym (ap (λ (ps : List ℕ). put_at blocks (first ∷ ps) w) last);
       }
     where
       no_more : (ps : List ℕ) → length ps ≡ 0 → ps ≡ []
@@ -72,9 +72,9 @@ module _ {R : Type 0} (Ends : Block → R → Block → Type 0) (blocks : List B
       record {
         before = c.before;
         after = c.after;
-        stood = below blocks first b stands rest more ∙ c.stood;
+        stood = below blocks first b represents rest more ∙ c.stood;
         ends = c.ends;
-        stands = ap (λ cs. slice_set blocks first (with_components b cs)) c.stands ∙ sym (put_below blocks first b stands rest c.after more);
+        represents = ap (λ cs. slice_set blocks first (with_components b cs)) c.represents ∙ sym (put_below blocks first b represents rest c.after more);
       }
 
   -- what happens among the components of a block happens in the trees
@@ -84,7 +84,7 @@ module _ {R : Type 0} (Ends : Block → R → Block → Type 0) (blocks : List B
       below_changed new r more (subst (λ way. Changed Ends (components_of b) way r new) (parted rest more)
       (subst (λ cs. Changed Ends cs (get_or rest 0 0 ∷ take (length rest - 1) (drop 1 rest)) r new) is c))
 
--- A block stands on a way, of which an own part was found.
+-- A block is on a way, of which an own part was found.
 pub record StoodAt (blocks : List Block) (way : List ℕ) (own : Block) : Type 0 where
   pub block : Block
   pub is : block_at blocks way ≡ Some block

@@ -3,7 +3,7 @@ use Rattle.std.proofs.Common.{◌≡◌, ℕ, ◌<◌, false, List, [], ◌∷�
 use Rattle.std.specs.Prelude.{All}
 use Rattle.std.proofs.lemmas.List.{map-append}
 use Rattle.std.proofs.lemmas.List.Elements.{All-append, All-push}
-use Rattle.fb_system.specs.Stands.{AreIndexes, variable_at}
+use Rattle.fb_system.specs.IndexLists.{AreIndexes, variable_at}
 use Rattle.fb_types.specs.Blocks.{Bound, Emission, outputs_with}
 use Rattle.fb_types.specs.Headline.{Inputs, system_of}
 use Rattle.fb_types.specs.Names.{Name, Path, Port}
@@ -23,7 +23,7 @@ use Rattle.fb_net.specs.Changes.{Changes}
 use Rattle.fb_net.specs.Worlds.{IsForest}
 use Rattle.fb_net.specs.declared.resource.Forest.{Forest}
 use Rattle.fb_net.specs.Emitting.{HasEmitted, carried_by, outputs_at, outputs_shown}
-use Rattle.fb_net.specs.Outs.{Gathered, IsOut, Stands, out_of}
+use Rattle.fb_net.specs.Outs.{Gathered, IsOut, RepresentsOutcome, out_of}
 use Rattle.fb_net.specs.declared.outbox.Outbox.{Outbox}
 
 -- ---- What messages carry
@@ -49,7 +49,7 @@ middle_fits P done x rest all parts each = go done (subst (λ (xs : List _). All
     go [] h = h 0 x (omega arith)
     go (y ∷ ys) h = go ys (λ k d lt. h (suc k) d (omega arith))
 
--- .. and of those behind the first
+-- .. and of those after the first
 pub others_fit : {A : Type 0} (P : A → Type 0) (x : A) (rest all : List A) → all ≡ x ∷ rest → All P all → All P rest
 others_fit P x rest all parts each = λ k d lt. subst (λ (xs : List _). All P xs) parts each (suc k) d (omega arith)
 
@@ -83,7 +83,7 @@ more_emitted i key k f g h x y z es ds first then =
     let said = emission_of (ports_at sys p) in
     record {
       emitted = λ before o s.
-          subst (λ (o : Outcome). Stands i before h z o)
+          subst (λ (o : Outcome). RepresentsOutcome i before h z o)
           (sym (ap (λ (ms : List Emission). emitted_all sys key p ms o) (map-append said es ds) ∙ emitted_all-append sys key p (map said es) (map said ds) o))
           (then.emitted before (emitted_all sys key p (map said es) o) (first.emitted before o s));
       outs = λ were. then.outs (first.outs were);
@@ -141,11 +141,11 @@ module _ (i : Inputs) (key : Key) (k : ℕ) (f : Forest) (x : Outbox) (e : run.E
   shows : (w : World) → IsForest i f w → sys.resource p ≡ f.resource → IsForest i g (with_block p (outputs_shown said.values (w.blocks p)) w)
   shows w forest here =
       subst (λ (bs : List Bound). IsForest i g (with_block p (outputs_shown bs (w.blocks p)) w)) (same_values sys k e done.indexes done.stand)
-      (done.published.stands w forest here)
+      (done.published.represents w forest here)
 
-  stands : sys.resource p ≡ f.resource → key.resource ≡ f.resource → (before : Gathered) (o : Outcome) → Stands i before f x o
-      → Stands i before g y (emitted sys key p said o)
-  stands here resource before o h = record {
+  represents : sys.resource p ≡ f.resource → key.resource ≡ f.resource → (before : Gathered) (o : Outcome) → RepresentsOutcome i before f x o
+      → RepresentsOutcome i before g y (emitted sys key p said o)
+  represents here resource before o h = record {
     world = shows o.world h.world here;
     lines =
         ap (λ (ls : List Line). map (line_of sys) ls) done.lines
@@ -162,7 +162,7 @@ module _ (i : Inputs) (key : Key) (k : ℕ) (f : Forest) (x : Outbox) (e : run.E
   has_emitted number here resource named emission =
       let line : BelongsTo sys (line_by key k e) = record { instance = number; resource = named; event = emission.event; values = emission.values } in
       record {
-        emitted = stands here resource;
+        emitted = represents here resource;
         outs = λ were. record {
           lines = subst (λ (ls : List Line). All (BelongsTo sys) ls) (sym done.lines) (All-push (BelongsTo sys) x.lines.items (line_by key k e) were.lines line);
           outs = done.belong (subst (λ (r : ℕ). All (IsOut sys r) x.outs.items) (sym done.published.resource) were.outs);

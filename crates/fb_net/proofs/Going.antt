@@ -110,23 +110,23 @@ one_more_gone sys r carried targets before index outs o t out gone leads is goes
       belong = λ were. All-push (IsOut sys r) outs out (gone.belong were) goes.belongs;
     }
 
-behind : (targets : List Port) (index : ℕ) → slice_get targets index ≡ None → length targets ≤ index
-behind targets index none =
+following : (targets : List Port) (index : ℕ) → slice_get targets index ≡ None → length targets ≤ index
+following targets index none =
     elim (cases_lt index (length targets)) [
       | inl lt ↦ let at : slice_get targets index ≡ Some (get_or targets index (record { at = []; name = [] })) = slice_get-get_or targets index _ lt in absurd (cc)
       | inr le ↦ le
     ]
 
--- no other target is behind the one at an index
-pub none_behind : (more : Bool) (n m : ℕ) → IsTrue more ↔ (n < m) → not more ≡ true → m ≤ n
-none_behind true n m says off = absurd (false≢true off)
-none_behind false n m says off =
+-- no other target is after the one at an index
+pub none_after : (more : Bool) (n m : ℕ) → IsTrue more ↔ (n < m) → not more ≡ true → m ≤ n
+none_after true n m says off = absurd (false≢true off)
+none_after false n m says off =
     elim (cases_lt n m) [
       | inl lt ↦ absurd (false≢true (says.1 lt))
       | inr le ↦ le
     ]
 
--- .. where no other target is behind those to which it has
+-- .. where no other target is after those to which it has
 pub last_gone :
     (sys : System) (r : ℕ) (carried : List (Port × Value)) (targets : List Port) (before : List Out) (index : ℕ) (outs : List Out)
     → HaveGone sys r carried targets before index outs → length targets ≤ index → map (out_of sys) outs ≡ map (out_of sys) before ++ spread sys r carried targets
@@ -139,7 +139,7 @@ pub all_gone :
     → map (out_of sys) outs ≡ map (out_of sys) before ++ spread sys r carried targets
 all_gone sys r carried targets before index outs o gone leads is =
     let none : slice_get targets index ≡ None = sym leads ∙ ap (leads_to sys) is in
-    last_gone sys r carried targets before index outs gone (behind targets index none)
+    last_gone sys r carried targets before index outs gone (following targets index none)
 
 -- ---- The first target, and the others
 
@@ -150,7 +150,7 @@ pub none_to_go :
 none_to_go sys r carried [] outs o leads is = sym (append-nil (map (out_of sys) outs))
 none_to_go sys r carried (q ∷ qs) outs o leads is = let none : None ≡ Some q = sym (ap (leads_to sys) is) ∙ leads in absurd (cc)
 
--- what is behind the first
+-- what is after the first
 pub others-at : (targets : List Port) (index : ℕ) → slice_get targets (index + 1) ≡ slice_get (others targets) index
 others-at [] index = refl
 others-at (q ∷ qs) index = let next : index + 1 ≡ suc index = omega arith in ap (slice_get (q ∷ qs)) next

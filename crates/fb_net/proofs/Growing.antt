@@ -16,7 +16,7 @@ use Rattle.fb_types.specs.declared.library.Network.{Network}
 use Rattle.fb_system.specs.Layouts.{AreComponents, AreNumbers, path_of}
 use Rattle.fb_types.proofs.Options.{and_then_parts}
 use Rattle.fb_net.specs.Blocks.{components_of, own_of}
-use Rattle.fb_net.specs.Worlds.{StandsFor}
+use Rattle.fb_net.specs.Worlds.{Represents}
 use Rattle.fb_net.specs.declared.block.Block.{Block}
 use Rattle.fb_net.specs.Opening.{AreDeep, AreGrown, Grown, IsDeep}
 use Rattle.fb_types.proofs.ByIndex.{slice_get-append_left, slice_get-append_here, all_at}
@@ -24,7 +24,7 @@ use Rattle.fb_net.proofs.Known.{stood}
 
 -- ---- Elements of lists
 
--- the elements of the first k, and the one behind them
+-- the elements of the first k, and the one after them
 pub data Nearer {A : Type 0} (xs : List A) (k index : ℕ) (x : A) : Type 0 where
   Before : slice_get (take k xs) index ≡ Some x → Nearer xs k index x
   Last : index ≡ k → slice_get xs k ≡ Some x → Nearer xs k index x
@@ -42,7 +42,7 @@ nearer (y ∷ xs) (suc k) (suc index) x h =
 
 -- ---- Numbers of instances
 
--- the number at an index stands for the instance there
+-- the number at an index represents the instance there
 pub number_is :
     (i : Inputs) (p : Path) (instances : List Instance) (numbers : List ℕ) (index k : ℕ) → AreNumbers i.library p instances numbers → slice_get numbers index ≡ Some k
     → (x : Instance) × (slice_get instances index ≡ Some x) × (path_at (system_of i) k ≡ x.name ∷ p) × (k < length (system_of i).paths)
@@ -117,11 +117,11 @@ composite_there i (n ∷ p) net h =
 pub grown_one :
     (i : Inputs) (d k : ℕ) (inner : List ℕ) (components : List Block) (b : Block) → AreAccepted i → k < length (system_of i).paths
     → AreComponents i.library (path_at (system_of i) k) inner → AreGrown i d inner components
-    → StandsFor (system_of i) (path_at (system_of i) k) (own_of b) (opening_block (system_of i) (path_at (system_of i) k))
+    → Represents (system_of i) (path_at (system_of i) k) (own_of b) (opening_block (system_of i) (path_at (system_of i) k))
     → ((c : CompositeType) → (system_of i).kind (path_at (system_of i) k) ≡ Some (Composite c) → components_of b ≡ components)
     → Grown i (suc d) (path_at (system_of i) k) b
-grown_one i d k inner components b accepted h are grown stands holds = (
-  stands,
+grown_one i d k inner components b accepted h are grown represents holds = (
+  represents,
   λ net is index x at.
       let p = path_at (system_of i) k in
       let numbers : AreNumbers i.library p net.instances inner =
@@ -168,15 +168,15 @@ grown_none i depth (n ∷ ns) = record { each = refl; grown = λ index k h. absu
 pub grown_step :
     (i : Inputs) (depth index : ℕ) (numbers inner : List ℕ) (blocks components more : List Block) (b : Block) → AreAccepted i → AreDeep i depth numbers
     → index < length numbers → AreComponents i.library (path_at (system_of i) (get_or numbers index 0)) inner → AreGrown i (depth - 1) inner components
-    → StandsFor (system_of i) (path_at (system_of i) (get_or numbers index 0)) (own_of b) (opening_block (system_of i) (path_at (system_of i) (get_or numbers index 0)))
+    → Represents (system_of i) (path_at (system_of i) (get_or numbers index 0)) (own_of b) (opening_block (system_of i) (path_at (system_of i) (get_or numbers index 0)))
     → ((c : CompositeType) → (system_of i).kind (path_at (system_of i) (get_or numbers index 0)) ≡ Some (Composite c) → components_of b ≡ components)
     → more ≡ blocks ++ b ∷ [] → AreGrown i depth (take index numbers) blocks → AreGrown i depth (take (index + 1) numbers) more
-grown_step i depth index numbers inner blocks components more b accepted deep within are inside stands holds pushed soFar =
+grown_step i depth index numbers inner blocks components more b accepted deep within are inside represents holds pushed soFar =
     let at : slice_get numbers index ≡ Some (get_or numbers index 0) = slice_get-get_or numbers index 0 within in
     let enough : 1 ≤ depth = room i depth (get_or numbers index 0) accepted (deep index (get_or numbers index 0) at) in
     let same : suc (depth - 1) ≡ depth = omega (arith, enough) in
     let one : Grown i (suc (depth - 1)) (path_at (system_of i) (get_or numbers index 0)) b =
-    grown_one i (depth - 1) (get_or numbers index 0) inner components b accepted (deep index (get_or numbers index 0) at).number are inside stands holds in
+    grown_one i (depth - 1) (get_or numbers index 0) inner components b accepted (deep index (get_or numbers index 0) at).number are inside represents holds in
     subst (λ (bs : List Block). AreGrown i depth (take (index + 1) numbers) bs) (sym pushed)
     (grown_more i depth numbers index (get_or numbers index 0) blocks b soFar at
     (subst (λ (d : ℕ). Grown i d (path_at (system_of i) (get_or numbers index 0)) b) same one))

@@ -64,7 +64,7 @@ then_later Greater s t = refl
 tuple_cmp_is : tuple_cmp ≡ key_cmp
 tuple_cmp_is = fun_ext (λ a. fun_ext (λ b. then_later (nat_cmp a.0 b.0) (nat_cmp a.1 b.1) (bool_cmp a.2 b.2)))
 
--- a key tells the variable
+-- a key determines the variable
 same_by_key : (x y : InstanceVariable) → is_at (key_cmp (key_of x)) (key_of y) ≡ true → x ≡ y
 same_by_key x y e =
     let later = ordering_then (nat_cmp x.variable y.variable) (bool_cmp x.is_output y.is_output) in
@@ -114,7 +114,7 @@ module _ (i : Inputs) (accepted : AreAccepted i) (numbered : (k : ℕ) → k < l
         (element_of_index (output_names (system_of i) (path_at (system_of i) x.instance)) y.variable (variable_of (system_of i) x).name (its_output f))
         (element_of_index (input_names (system_of i) (path_at (system_of i) x.instance)) x.variable (variable_of (system_of i) x).name (input_there (system_of i) x is_x e)))
 
-  -- a port tells the variable
+  -- a port determines the variable
   same_by_port : (x y : InstanceVariable) → IsVariable (system_of i) x → IsVariable (system_of i) y → same_port (variable_of (system_of i) y) (variable_of (system_of i) x) ≡ true → x ≡ y
   same_by_port x y is_x is_y e =
       let parts = both (same_path (variable_of (system_of i) y).at (variable_of (system_of i) x).at) (same_name (variable_of (system_of i) y).name (variable_of (system_of i) x).name) e in
@@ -132,7 +132,7 @@ module _ (i : Inputs) (accepted : AreAccepted i) (numbered : (k : ℕ) → k < l
   held_changes old x v held is_x here elsewhere =
       record {
         resource = refl;
-        stands = λ w forest.
+        represents = λ w forest.
             record {
               blocks = forest.blocks;
               ways = forest.ways;

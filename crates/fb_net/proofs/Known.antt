@@ -9,8 +9,8 @@ use Rattle.fb_types.specs.Blocks.{Kind, Basic, Event, among, event_blocks, event
 use Rattle.fb_types.specs.Flat.{inside, instance_at, instance_in, kind_at, kind_of, kind_of_instance, network_at, paths_inside, paths_of, resource_names_of, type_name, type_named}
 use Rattle.fb_types.specs.Headline.{AreAccepted, Inputs, system_of}
 use Rattle.fb_types.specs.Numbers.{path_at}
-use Rattle.fb_types.specs.Repeated.{NameTwice, Placed, Twice, algorithm_names, basics, basics_in, block_type_names, instance_names, interfaces, internals_of, networks, networks_in, parameter_lists, port_names, state_names, with_lists}
-use Rattle.fb_types.specs.Unknown.{NameUnknown, Wanted, all_of, required_chart, required_deployment, required_parameters, required_types, wanted, required_withs}
+use Rattle.fb_types.specs.Repeated.{NameTwice, OwnedNetwork, Twice, algorithm_names, basics, basics_in, block_type_names, instance_names, interfaces, internals_of, networks, networks_in, parameter_lists, port_names, state_names, with_lists}
+use Rattle.fb_types.specs.Unknown.{NameUnknown, Required, all_of, required_chart, required_deployment, required_parameters, required_types, required, required_withs}
 use Rattle.fb_types.specs.declared.deploy.Plan.{Plan}
 use Rattle.fb_types.specs.declared.event_kind.EventKind.{EventKind}
 use Rattle.fb_types.specs.declared.library.BasicType.{BasicType}
@@ -40,7 +40,7 @@ once_of i h t = h 20 (inl (refl, t))
 pub known_of : (i : Inputs) → AreAccepted i → ¬ (NameUnknown i.library i.plan)
 known_of i h t = h 21 (inr (inl (refl, t)))
 
--- ---- What is inside an instance stands in a network of the declaration
+-- ---- What is inside an instance is in a network of the declaration
 
 pub record IsNet (lib : Library) (net : Network) : Type 0 where
   pub outer : Option CompositeType
@@ -130,31 +130,31 @@ in_network lib (n ∷ p) i h =
 -- ---- Types are known
 
 module _ (lib : Library) (plan : Plan) (known : ¬ (NameUnknown lib plan)) where
-  abbrev types : List Wanted
-  types = flat_map (λ (n : Placed). required_types lib n.1) (networks lib)
+  abbrev types : List Required
+  types = flat_map (λ (n : OwnedNetwork). required_types lib n.1) (networks lib)
 
-  abbrev withs : List Wanted
+  abbrev withs : List Required
   withs = flat_map required_withs (interfaces lib)
 
-  abbrev charts : List Wanted
+  abbrev charts : List Required
   charts = flat_map required_chart (basics lib)
 
-  abbrev parameters : List Wanted
-  parameters = flat_map (λ (n : Placed). flat_map (required_parameters lib) n.1.instances) (networks lib)
+  abbrev parameters : List Required
+  parameters = flat_map (λ (n : OwnedNetwork). flat_map (required_parameters lib) n.1.instances) (networks lib)
 
-  abbrev deployment : List Wanted
+  abbrev deployment : List Required
   deployment = required_deployment lib plan
 
-  sure : (n : Name) (sort : List Name) → Contains (wanted lib plan) (n, sort) → among sort n ≡ true
-  sure n sort c =
-      elim (among sort n) as (λ b. among sort n ≡ b → among sort n ≡ true) [
+  sure : (n : Name) (allowed : List Name) → Contains (required lib plan) (n, allowed) → among allowed n ≡ true
+  sure n allowed c =
+      elim (among allowed n) as (λ b. among allowed n ≡ b → among allowed n ≡ true) [
         | true ↦ λ e. e
-        | false ↦ λ e. absurd (known (inl ((n, sort), c, λ d. true≢false (sym (any_from_contains n sort d) ∙ e))))
+        | false ↦ λ e. absurd (known (inl ((n, allowed), c, λ d. true≢false (sym (any_from_contains n allowed d) ∙ e))))
       ] refl
 
   type_among : (net : Network) (i : Instance) → IsNet lib net → Contains net.instances i → among (block_type_names lib) i.block_type ≡ true
   type_among net i is c =
-      let w : Wanted = (i.block_type, block_type_names lib) in
+      let w : Required = (i.block_type, block_type_names lib) in
       let here : Contains (required_types lib net) w =
       Contains-map (λ (n : Name). (n, block_type_names lib)) (map (λ (i : Instance). i.block_type) net.instances) i.block_type
       (Contains-map (λ (i : Instance). i.block_type) net.instances i c) in
@@ -163,21 +163,21 @@ module _ (lib : Library) (plan : Plan) (known : ¬ (NameUnknown lib plan)) where
       (Contains-append_left (types ++ withs ++ charts) parameters w
       (Contains-append_left (types ++ withs) charts w
       (Contains-append_left types withs w
-      (Contains-flat_map (λ (n : Placed). required_types lib n.1) (networks lib) (is.outer, net) w is.among here)))))
+      (Contains-flat_map (λ (n : OwnedNetwork). required_types lib n.1) (networks lib) (is.outer, net) w is.among here)))))
 
   parameter_among :
       (net : Network) (i : Instance) (k : Kind) (n : Name) → IsNet lib net → Contains net.instances i → kind_of_instance lib i ≡ Some k
       → Contains (map (λ (x : Parameter). x.name) i.parameters) n → among (variable_names (ports_of k).inputs) n ≡ true
   parameter_among net i k n is c of c' =
       let ins = variable_names (ports_of k).inputs in
-      let w : Wanted = (n, ins) in
+      let w : Required = (n, ins) in
       let here : Contains (required_parameters lib i) w =
       subst (λ (o : Option Kind). Contains (elim o [ None ↦ [] | Some k ↦ all_of (map (λ (x : Parameter). x.name) i.parameters) (variable_names (ports_of k).inputs) ]) w) (sym of)
       (Contains-map (λ (n : Name). (n, ins)) (map (λ (x : Parameter). x.name) i.parameters) n c') in
       sure n ins
       (Contains-append_left (types ++ withs ++ charts ++ parameters) deployment w
       (Contains-append_right (types ++ withs ++ charts) parameters w
-      (Contains-flat_map (λ (n : Placed). flat_map (required_parameters lib) n.1.instances) (networks lib) (is.outer, net) w is.among
+      (Contains-flat_map (λ (n : OwnedNetwork). flat_map (required_parameters lib) n.1.instances) (networks lib) (is.outer, net) w is.among
       (Contains-flat_map (required_parameters lib) net.instances i w c here))))
 
   named_type : (n : Name) → among (block_type_names lib) n ≡ true → (k : Kind) × (type_named lib n ≡ Some k)
@@ -252,9 +252,9 @@ module _ (lib : Library) (plan : Plan) (once : ¬ (NameTwice lib plan)) where
       let types : List (List Name) = block_type_names lib ∷ map port_names lib.blocks in
       let algorithms : List (List Name) = map algorithm_names (basics lib) in
       let states : List (List Name) = map state_names (basics lib) in
-      let instances : List (List Name) = map (λ (n : Placed). instance_names n.1) (networks lib) in
+      let instances : List (List Name) = map (λ (n : OwnedNetwork). instance_names n.1) (networks lib) in
       let withs : List (List Name) = flat_map with_lists (interfaces lib) in
-      let parameters : List (List Name) = flat_map (λ (n : Placed). parameter_lists n.1) (networks lib) in
+      let parameters : List (List Name) = flat_map (λ (n : OwnedNetwork). parameter_lists n.1) (networks lib) in
       let ns : List Name = port_names b in
       once (inl (
         ns,

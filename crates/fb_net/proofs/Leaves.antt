@@ -1,4 +1,4 @@
--- What stands for a leaf before and after its reaction.
+-- What represents a leaf before and after its reaction.
 use Rattle.std.proofs.Common.{◌≡◌, ℕ, suc, List, [], ◌∷◌, length, map, Option, Some, refl, ap, subst, ◌∙◌}
 use Rattle.std.specs.Prelude.{slice_get}
 use Rattle.fb_types.specs.Names.{Name, Path}
@@ -15,36 +15,36 @@ use Rattle.fb_types.specs.declared.value.Value.{Value}
 use Rattle.fb_ecc.specs.declared.state.BasicState.{BasicState}
 use Rattle.fb_event.specs.State.{State}
 use Rattle.fb_net.specs.Blocks.{composite_with, own_of}
-use Rattle.fb_net.specs.Worlds.{BasicStands, EventStands, NodeRepresents, StandsFor}
+use Rattle.fb_net.specs.Worlds.{BasicRepresents, EventRepresents, NodeRepresents, Represents}
 use Rattle.fb_net.specs.declared.block.Block.{Block}
 use Rattle.fb_net.specs.declared.block.Block.TheOpen.{Block-F}
 use Rattle.fb_net.specs.declared.block.Block.TheVariants as block
 use Rattle.fb_net.specs.declared.block.Block.TheViews.{out-Block}
 use Rattle.fb_net.proofs.Components.{basic_rolled, event_rolled, out_roll, own_basic, own_event}
 
--- a basic block stands at a path by what it is
+-- a basic block is at a path by what it is
 pub basic_is : (sys : System) (p : Path) (t : BasicType) (s : BasicState) (b : model.Block) → sys.kind p ≡ Some (Basic t)
-    → StandsFor sys p (own_of (block.Basic s)) b ≡ BasicStands t s b.memory b.variables
+    → Represents sys p (own_of (block.Basic s)) b ≡ BasicRepresents t s b.memory b.variables
 basic_is sys p t s b k = ap (λ (n : Block-F Block). NodeRepresents (sys.kind p) n b.memory b.variables) (own_basic s) ∙ ap (λ (o : Option Kind). NodeRepresents o (Block-F.Basic s) b.memory b.variables) k
 
 pub event_is : (sys : System) (p : Path) (e : EventKind) (s : State) (b : model.Block) → sys.kind p ≡ Some (Event e)
-    → StandsFor sys p (own_of (block.Event s)) b ≡ EventStands e s b.memory
+    → Represents sys p (own_of (block.Event s)) b ≡ EventRepresents e s b.memory
 event_is sys p e s b k = ap (λ (n : Block-F Block). NodeRepresents (sys.kind p) n b.memory b.variables) (own_event s) ∙ ap (λ (o : Option Kind). NodeRepresents o (Block-F.Event s) b.memory b.variables) k
 
--- where an instance is to be basic, a basic block stands
+-- where an instance must be basic, a basic block is
 as_basic : (t : BasicType) (x : Block-F Block) (m : model.Memory) (all : Values) → NodeRepresents (Some (Basic t)) (composite_with [] x) m all → (s : BasicState) × (x ≡ Block-F.Basic s)
-as_basic t (Block-F.Basic s) m all stands = (s, refl)
-as_basic t (Block-F.Event s) m all stands = absurd stands
-as_basic t (Block-F.Composite bs) m all stands = absurd stands
+as_basic t (Block-F.Basic s) m all represents = (s, refl)
+as_basic t (Block-F.Event s) m all represents = absurd represents
+as_basic t (Block-F.Composite bs) m all represents = absurd represents
 
 as_event : (k : EventKind) (x : Block-F Block) (m : model.Memory) (all : Values) → NodeRepresents (Some (Event k)) (composite_with [] x) m all → (s : State) × (x ≡ Block-F.Event s)
-as_event k (Block-F.Basic s) m all stands = absurd stands
-as_event k (Block-F.Event s) m all stands = (s, refl)
-as_event k (Block-F.Composite bs) m all stands = absurd stands
+as_event k (Block-F.Basic s) m all represents = absurd represents
+as_event k (Block-F.Event s) m all represents = (s, refl)
+as_event k (Block-F.Composite bs) m all represents = absurd represents
 
-module _ (sys : System) (p : Path) (d : Block) (b : model.Block) (stands : StandsFor sys p (own_of d) b) where
+module _ (sys : System) (p : Path) (d : Block) (b : model.Block) (represents : Represents sys p (own_of d) b) where
   node_stands : NodeRepresents (sys.kind p) (composite_with [] (out-Block d)) b.memory b.variables
-  node_stands = subst (λ (x : Block-F Block). NodeRepresents (sys.kind p) x b.memory b.variables) (out_roll (composite_with [] (out-Block d))) stands
+  node_stands = subst (λ (x : Block-F Block). NodeRepresents (sys.kind p) x b.memory b.variables) (out_roll (composite_with [] (out-Block d))) represents
 
   node_by : (k : Option Kind) → sys.kind p ≡ k → NodeRepresents k (composite_with [] (out-Block d)) b.memory b.variables
   node_by k is = subst (λ (o : Option Kind). NodeRepresents o (composite_with [] (out-Block d)) b.memory b.variables) is node_stands
@@ -57,7 +57,7 @@ module _ (sys : System) (p : Path) (d : Block) (b : model.Block) (stands : Stand
 
 -- ---- What an event block reads of its data inputs
 
--- the values that stand by index are those of the names
+-- the values by index are those of the names
 pub values_by_name : (names : List Name) (values : List Value) (all : Values) → length values ≡ length names
     → ((index : ℕ) (n : Name) (v : Value) → slice_get names index ≡ Some n → slice_get values index ≡ Some v → all n ≡ v)
     → map all names ≡ values

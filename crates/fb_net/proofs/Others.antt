@@ -21,13 +21,13 @@ get_set_other (x ∷ bs) zero (suc q) w ne = refl
 get_set_other (x ∷ bs) (suc p) zero w ne = refl
 get_set_other (x ∷ bs) (suc p) (suc q) w ne = get_set_other bs p q w (λ e. ne (ap suc e))
 
--- what stands below a block, among its components
+-- what is below a block, among its components
 inside : (blocks : List Block) (p : ℕ) (b : Block) (s : ℕ) (t : List ℕ) → slice_get blocks p ≡ Some b → own_at blocks (p ∷ (s ∷ t)) ≡ own_at (components_of b) (s ∷ t)
 inside blocks p b s t e = ap (λ o. option_map own_of (option_and_then (λ a. block_at (components_of a) (s ∷ t)) o)) e
 
-beside : (blocks : List Block) (p q : ℕ) (t : List ℕ) (w : Block) → q ≢ p → own_at (slice_set blocks p w) (q ∷ t) ≡ own_at blocks (q ∷ t)
-beside blocks p q [] w ne = ap (option_map own_of) (get_set_other blocks p q w ne)
-beside blocks p q (s ∷ t) w ne = ap (λ o. option_map own_of (option_and_then (λ a. block_at (components_of a) (s ∷ t)) o)) (get_set_other blocks p q w ne)
+other_block : (blocks : List Block) (p q : ℕ) (t : List ℕ) (w : Block) → q ≢ p → own_at (slice_set blocks p w) (q ∷ t) ≡ own_at blocks (q ∷ t)
+other_block blocks p q [] w ne = ap (option_map own_of) (get_set_other blocks p q w ne)
+other_block blocks p q (s ∷ t) w ne = ap (λ o. option_map own_of (option_and_then (λ a. block_at (components_of a) (s ∷ t)) o)) (get_set_other blocks p q w ne)
 
 -- a block above another one can have other components
 pub still_composite : (a b : Block) (bs : List Block) (way : List ℕ) → block_at (components_of a) way ≡ Some b → components_of (with_components a bs) ≡ bs
@@ -37,32 +37,32 @@ still_composite a b bs way e = by_components (components_of a) refl e
     by_components [] is e = cc (block_at-nothing way)
     by_components (c ∷ cs) is e = components_of-with a bs cs c is
 
-module _ (blocks : List Block) (p : ℕ) (b : Block) (stands : slice_get blocks p ≡ Some b) where
-  -- below a block that is put at an index stand its components
+module _ (blocks : List Block) (p : ℕ) (b : Block) (represents : slice_get blocks p ≡ Some b) where
+  -- below a block that is put at an index are its components
   below_put : (w : Block) (q s : ℕ) (t : List ℕ) → q ≡ p → own_at (slice_set blocks p w) (q ∷ (s ∷ t)) ≡ own_at (components_of w) (s ∷ t)
-  below_put w q s t e = ap (λ k. own_at (slice_set blocks p w) (k ∷ (s ∷ t))) e ∙ inside (slice_set blocks p w) p w s t (get_set_same blocks p b w stands)
+  below_put w q s t e = ap (λ k. own_at (slice_set blocks p w) (k ∷ (s ∷ t))) e ∙ inside (slice_set blocks p w) p w s t (get_set_same blocks p b w represents)
 
   below_old : (q s : ℕ) (t : List ℕ) → q ≡ p → own_at blocks (q ∷ (s ∷ t)) ≡ own_at (components_of b) (s ∷ t)
-  below_old q s t e = ap (λ k. own_at blocks (k ∷ (s ∷ t))) e ∙ inside blocks p b s t stands
+  below_old q s t e = ap (λ k. own_at blocks (k ∷ (s ∷ t))) e ∙ inside blocks p b s t represents
 
   top_elsewhere : (w : Block) → components_of w ≡ components_of b → (other : List ℕ) → other ≢ p ∷ [] → own_at (slice_set blocks p w) other ≡ own_at blocks other
   top_elsewhere w same [] ne = refl
-  top_elsewhere w same (q ∷ []) ne = beside blocks p q [] w (λ e. ne (ap (λ k. k ∷ []) e))
+  top_elsewhere w same (q ∷ []) ne = other_block blocks p q [] w (λ e. ne (ap (λ k. k ∷ []) e))
   top_elsewhere w same (q ∷ (s ∷ t)) ne =
-      ⊎_elim (λ e. below_put w q s t e ∙ ap (λ cs. own_at cs (s ∷ t)) same ∙ sym (below_old q s t e)) (beside blocks p q (s ∷ t) w) (cases_eq q p)
+      ⊎_elim (λ e. below_put w q s t e ∙ ap (λ cs. own_at cs (s ∷ t)) same ∙ sym (below_old q s t e)) (other_block blocks p q (s ∷ t) w) (cases_eq q p)
 
   module _ (rest : List ℕ) (next : ℕ) (own : Block) (new : List Block) (put : PutAlone (components_of b) (next ∷ rest) own new) (composite : components_of (with_components b new) ≡ new) where
     deep_elsewhere : (other : List ℕ) → other ≢ p ∷ (next ∷ rest) → own_at (slice_set blocks p (with_components b new)) other ≡ own_at blocks other
     deep_elsewhere [] ne = refl
     deep_elsewhere (q ∷ []) ne =
         ⊎_elim (λ e. ap (λ k. own_at (slice_set blocks p (with_components b new)) (k ∷ [])) e
-        ∙ ap (option_map own_of) (get_set_same blocks p b (with_components b new) stands)
-        ∙ ap Some (own_of-with b new) ∙ sym (ap (λ k. own_at blocks (k ∷ [])) e ∙ ap (option_map own_of) stands))
-        (beside blocks p q [] (with_components b new)) (cases_eq q p)
+        ∙ ap (option_map own_of) (get_set_same blocks p b (with_components b new) represents)
+        ∙ ap Some (own_of-with b new) ∙ sym (ap (λ k. own_at blocks (k ∷ [])) e ∙ ap (option_map own_of) represents))
+        (other_block blocks p q [] (with_components b new)) (cases_eq q p)
     deep_elsewhere (q ∷ (s ∷ t)) ne =
         ⊎_elim (λ e. below_put (with_components b new) q s t e ∙ ap (λ cs. own_at cs (s ∷ t)) composite
         ∙ put.elsewhere (s ∷ t) (λ same. ne (ap (λ k. k ∷ (s ∷ t)) e ∙ ap (λ r. p ∷ r) same)) ∙ sym (below_old q s t e))
-        (beside blocks p q (s ∷ t) (with_components b new)) (cases_eq q p)
+        (other_block blocks p q (s ∷ t) (with_components b new)) (cases_eq q p)
 
     deep : PutAlone blocks (p ∷ (next ∷ rest)) own (slice_set blocks p (with_components b new))
     deep =

@@ -2,7 +2,7 @@
 use Rattle.std.proofs.Common.{◌≡◌, ℕ, ◌+◌, ◌<◌, Bool, true, false, cond, List, [], ◌∷◌, ◌++◌, map, take, zero, suc, min, length, get_or, refl, sym, ap, subst, ◌∙◌, arith}
 use Rattle.std.proofs.Math.Path.{fun_ext}
 use Rattle.std.proofs.lemmas.List.{length-map, take_all, take_more, get_or-map}
-use Rattle.fb_system.specs.Stands.{variable_at}
+use Rattle.fb_system.specs.IndexLists.{variable_at}
 use Rattle.fb_types.specs.Blocks.{Bound}
 use Rattle.fb_types.specs.Headline.{Inputs, system_of}
 use Rattle.fb_types.specs.Names.{Name, Path, same_path, with_value}
@@ -72,7 +72,7 @@ all-outputs sys k j indexes values e =
 pub same_again : (p : Path) (w : World) → with_block p (w.blocks p) w ≡ w
 same_again p w = ap (λ (f : Path → model.Block). record w { blocks = f }) (fun_ext (kept_at (λ b. b) p (w.blocks p) w.blocks refl))
 
--- what stands at a path where a block was put
+-- what is at a path where a block was put
 pub put_there : (p : Path) (b : model.Block) (w : World) → (with_block p b w).blocks p ≡ b
 put_there p b w = ap (λ t. cond t b (w.blocks p)) (same_path_itself p)
 
@@ -89,7 +89,7 @@ last_stays p b c w = ap (λ (f : Path → model.Block). record w { blocks = f })
 pub nothing_shown : (i : Inputs) (k : ℕ) (f : Forest) → Changes i f k (outputs_shown []) f
 nothing_shown i k f = record {
   resource = refl;
-  stands = λ w forest here. subst (λ (w : World). IsForest i f w) (sym (same_again (path_at (system_of i) k) w)) forest;
+  represents = λ w forest here. subst (λ (w : World). IsForest i f w) (sym (same_again (path_at (system_of i) k) w)) forest;
 }
 
 one_more :
@@ -97,10 +97,10 @@ one_more :
     → Changes i f k (outputs_shown (bs ++ b ∷ [])) h
 one_more i k f g h bs b first then = record {
   resource = then.resource ∙ first.resource;
-  stands = λ w forest here.
+  represents = λ w forest here.
       let p = path_at (system_of i) k in
       let x = outputs_shown bs (block_in i w k) in
-      let after = then.stands (with_block p x w) (first.stands w forest here) (here ∙ sym first.resource) in
+      let after = then.represents (with_block p x w) (first.represents w forest here) (here ∙ sym first.resource) in
       let block : output_shown b.variable b.value (block_in i (with_block p x w) k) ≡ outputs_shown (bs ++ b ∷ []) (block_in i w k) =
       ap (output_shown b.variable b.value) (put_there p x w) ∙ sym (shown-push bs b (block_in i w k)) in
       subst (λ (w : World). IsForest i h w)

@@ -8,13 +8,13 @@ use Rattle.fb_types.specs.Numbers.{path_at, ports_at}
 use Rattle.fb_types.specs.declared.library.Variable.{Variable}
 use Rattle.fb_types.specs.declared.run.Target.{Target}
 use Rattle.fb_types.specs.declared.value.Value.{Value}
-use Rattle.fb_system.specs.Stands.{AreIndexes, variable_at}
+use Rattle.fb_system.specs.IndexLists.{AreIndexes, variable_at}
 use Rattle.fb_system.specs.Ports.{data_input, data_output}
 use Rattle.fb_net.specs.Worlds.{InForest, IsForest}
 use Rattle.fb_net.specs.declared.resource.Forest.{Forest}
 use Rattle.fb_net.specs.Samples.{AreShown, names_out}
 
--- The values are what is read at the first of some indexes, in each world for which a forest stands.
+-- The values are what is read at the first of some indexes, in each world that a forest represents.
 pub record AreReadUpTo (i : Inputs) (f : Forest) (k : ℕ) (at_index : World → ℕ → Value) (n : ℕ) (indexes : List ℕ) (values : List Value) : Type 0 where
   pub counted : length values ≡ n
   pub read : (w : World) → IsForest i f w → InForest i f k → values ≡ map (at_index w) (take n indexes)
@@ -44,7 +44,7 @@ map-twice : {A B C : Type 0} (g : B → C) (f : A → B) (xs : List A) → map (
 map-twice g f [] = refl
 map-twice g f (x ∷ xs) = ap (λ l. g (f x) ∷ l) (map-twice g f xs)
 
--- the values at indexes that stand for names
+-- the values at indexes that represent names
 pub read_all : {i : Inputs} {f : Forest} {k : ℕ} (vs : List Variable) (names : List Name) (of_name : World → Name → Value) (n : ℕ) (indexes : List ℕ) (values : List Value)
     → AreReadUpTo i f k (λ w index. of_name w (variable_at vs index)) n indexes values → length indexes ≤ n → AreIndexes vs names indexes
     → (w : World) → IsForest i f w → InForest i f k → values ≡ map (of_name w) names

@@ -25,19 +25,19 @@ last_one [] n x h = absurd (none-some x h)
 last_one (y ∷ ys) zero x h = h
 last_one (y ∷ ys) (suc n) x h = last_one ys n x h
 
--- an element of a list with one put behind it is that one, or was there before
+-- an element of a list with one put after it is that one, or was there before
 data Among {A : Type 0} (xs : List A) (y : A) (m : ℕ) (x : A) : Type 0 where
   There : slice_get xs m ≡ Some x → Among xs y m x
-  Behind : y ≡ x → Among xs y m x
+  IsAfter : y ≡ x → Among xs y m x
 
 among : {A : Type 0} (xs : List A) (y : A) (m : ℕ) (x : A) → slice_get (xs ++ y ∷ []) m ≡ Some x → Among xs y m x
-among [] y zero x h = Behind (same_Some y x h)
+among [] y zero x h = IsAfter (same_Some y x h)
 among [] y (suc m) x h = absurd (none-some x h)
 among (z ∷ zs) y zero x h = There h
 among (z ∷ zs) y (suc m) x h =
     elim (among zs y m x h) [
       | There g ↦ There g
-      | Behind e ↦ Behind e
+      | IsAfter e ↦ IsAfter e
     ]
 
 pub no_roots : (i : Inputs) (r : ℕ) (top : List ℕ) → AreRoots i r (take 0 top) [] []
@@ -65,7 +65,7 @@ module _ (i : Inputs) (r n k : ℕ) (top roots numbers : List ℕ) (at : slice_g
       let before = slice_get_within (take n top) index j h in
       let same = are.each in seat_kept roots x index (omega (arith, before, same))
 
-  -- an instance that lies in the resource is put behind the others
+  -- an instance that is in the resource is put after the others
   pub root_here : (system_of i).resource (path_at (system_of i) k) ≡ r → AreRoots i r (take (n + 1) top) (roots ++ length numbers ∷ []) (numbers ++ k ∷ [])
   root_here lies =
       let next : n + 1 ≡ suc n = omega arith in
@@ -81,7 +81,7 @@ module _ (i : Inputs) (r n k : ℕ) (top roots numbers : List ℕ) (at : slice_g
         ];
         among = λ index j h. elim (among numbers k index j h) [
           | There g ↦ (let m = are.among index j g in (m.0, one_more top n m.0 j m.1))
-          | Behind e ↦ (n, last_one top n k at ∙ ap Some e)
+          | IsAfter e ↦ (n, last_one top n k at ∙ ap Some e)
         ];
       })
 

@@ -20,8 +20,8 @@ use Rattle.fb_types.specs.declared.run.Target.{Target}
 use Rattle.fb_types.specs.declared.value.Value.{Value}
 use Rattle.fb_types.proofs.NameLaws.{same_from_same_name, same_name-itself}
 use Rattle.fb_system.specs.Ports.{data_input}
-use Rattle.fb_system.specs.Stands.{AreIndexes}
-use Rattle.fb_net.specs.Outs.{Stands, gathered, out_of}
+use Rattle.fb_system.specs.IndexLists.{AreIndexes}
+use Rattle.fb_net.specs.Outs.{RepresentsOutcome, gathered, out_of}
 use Rattle.fb_net.specs.declared.outbox.Outbox.{Outbox}
 use Rattle.fb_net.specs.Samples.{AreSampled, all_sampled, names_in}
 use Rattle.fb_net.specs.Changes.{Changes}
@@ -45,7 +45,7 @@ with_values-paired g (m ∷ ms) vars n =
     with_values-paired g ms (with_value m (g m) vars) n
     ∙ paired_step g m n (vars n) (same_name n m) (λ e. ap g (sym (same_from_same_name n m e))) (among ms n)
 
--- values that stand for names are what the names hold
+-- values that represent names are what the names hold
 pub bound-paired : (h : Values) (ns : List Name) → pair_up ns (map h ns) ≡ bound ns h
 bound-paired h [] = refl
 bound-paired h (n ∷ ns) = ap (λ (l : List Bound). record { variable = n; value = h n } ∷ l) (bound-paired h ns)
@@ -68,10 +68,10 @@ pub sampled-paired : (sys : System) (r : ℕ) (w : World) (p : Path) (ns : List 
     → with_values (pair_up ns (map (sample_at sys r w p) ns)) (w.blocks p).variables ≡ sampled sys r w p ns
 sampled-paired sys r w p ns = fun_ext (λ n. with_values-paired (sample_at sys r w p) ns (w.blocks p).variables n)
 
--- .. and the line of the event tells them
-pub sampled-told : (sys : System) (r : ℕ) (w : World) (p : Path) (ns : List Name)
+-- .. and the line of the event shows them
+pub sampled-wrote : (sys : System) (r : ℕ) (w : World) (p : Path) (ns : List Name)
     → pair_up ns (map (sample_at sys r w p) ns) ≡ bound ns (sampled sys r w p ns)
-sampled-told sys r w p ns =
+sampled-wrote sys r w p ns =
     let g : Name → Value = sample_at sys r w p in
     ap (pair_up ns) (map-among g (sampled sys r w p ns) ns (λ n e. sym (ap (λ (b : Bool). cond b (g n) ((w.blocks p).variables n)) e)))
     ∙ bound-paired (sampled sys r w p ns) ns
@@ -138,7 +138,7 @@ module _ (i : Inputs) (k : Key) (at : Target) (its : Ports) (ports : ports_at (s
   line-sampled w h left =
       ap (λ (x : Ports). line_at k p x at.event values ∷ []) ports
       ∙ ap (λ (bs : List Bound). record { key = k; taken = true; at = p; event = n; values = bs } ∷ [])
-      (ap (pair_up ns) (values-sampled w h) ∙ sampled-told sys k.resource w p ns)
+      (ap (pair_up ns) (values-sampled w h) ∙ sampled-wrote sys k.resource w p ns)
 
   -- what the model makes of the event
   pub sampling-here : (w : World) (left : ℕ) → sampling i k at w left ≡ taking sys k w (port_named p n) its left
@@ -146,22 +146,22 @@ module _ (i : Inputs) (k : Key) (at : Target) (its : Ports) (ports : ports_at (s
       ap (λ (x : Ports). taking sys k w (port_of sys at) x left) ports ∙ ap (λ (q : Port). taking sys k w q its left) port-here
 
 -- An event block or a composite has taken the event.
-pub sampling-stands : (i : Inputs) (k : Key) (at : Target) (old new : Forest) (x y : Outbox) (values : List Value)
+pub sampling-represents : (i : Inputs) (k : Key) (at : Target) (old new : Forest) (x y : Outbox) (values : List Value)
     → IsReady k old → at.is_output ≡ false → InForest i old at.instance → AreSampled i old at values
     → Changes i old at.instance (all_sampled (names_in (system_of i) at) values) new
     → map (line_of (system_of i)) y.lines.items ≡ map (line_of (system_of i)) x.lines.items ++ line_of (system_of i) (taken_line k at values) ∷ []
     → y.outs.items ≡ x.outs.items → y.timer ≡ x.timer → ComesTo i (sampling i k at) old x new y
-sampling-stands i k at old new x y values ready input here are changes written outs timer w left h =
+sampling-represents i k at old new x y values ready input here are changes written outs timer w left h =
     let sys = system_of i in
     let p : Path = path_at sys at.instance in
     let its : Ports = ports_at sys p in
-    let told = line-sampled i k at its refl input old ready.resource here values are w h left in
-    subst (λ (o : Outcome). Stands i (gathered i x) new y o)
+    let wrote = line-sampled i k at its refl input old ready.resource here values are w h left in
+    subst (λ (o : Outcome). RepresentsOutcome i (gathered i x) new y o)
     (sym (sampling-here i k at its refl input old ready.resource here values are w left))
     (record {
       world = subst (λ (v : Values). IsForest i new (with_block p (record (w.blocks p) { variables = v }) w))
-          (variables-sampled i k at its refl input old ready.resource here values are w h) (changes.stands w h here);
-      lines = written ∙ ap (λ (l : List Line). map (line_of sys) x.lines.items ++ l) told;
+          (variables-sampled i k at its refl input old ready.resource here values are w h) (changes.represents w h here);
+      lines = written ∙ ap (λ (l : List Line). map (line_of sys) x.lines.items ++ l) wrote;
       outs = ap (map (out_of sys)) outs ∙ sym (append-nil (map (out_of sys) x.outs.items));
       timer = timer;
     })
@@ -186,7 +186,7 @@ one-sampled i f at (index ∷ []) value values stand one sampled is w h lies =
     ∙ ap (map (sample_at (system_of i) f.resource w (path_at (system_of i) at.instance))) stand.named
 one-sampled i f at (index ∷ other ∷ indexes) value values stand one sampled is w h lies = absurd (omega arith)
 
--- the index that stands alone
+-- the index that is alone
 pub one_index : (vs : List Variable) (names : List Name) (indexes : List ℕ) → length indexes ≡ 1 → AreIndexes vs names indexes → AreIndexes vs names (get_or indexes 0 0 ∷ [])
 one_index vs names [] one stand = absurd (omega arith)
 one_index vs names (index ∷ []) one stand = stand

@@ -8,7 +8,7 @@ use Rattle.fb_types.specs.Numbers.{path_at}
 use Rattle.fb_types.specs.Simulation.{opening_block}
 use Rattle.fb_types.proofs.ByIndex.{element_at, slice_get-append_here, slice_get-append_left}
 use Rattle.fb_net.specs.Opening.{AreSeated}
-use Rattle.fb_net.specs.Worlds.{AreApart, SeatedAt, ShellStands, seat_in}
+use Rattle.fb_net.specs.Worlds.{AreApart, SeatedAt, ShellRepresents, seat_in}
 use Rattle.fb_net.specs.declared.resource.Forest.{Forest}
 use Rattle.fb_net.specs.declared.shell.Shell.{Shell}
 
@@ -63,7 +63,7 @@ module _ (i : Inputs) (n : ℕ) (t : Forest) (seated : AreSeated i n t) where
         each = longer t.seats x n seated.each;
         few = (let few = seated.few in omega (arith, few));
         stand = λ k h lies. elim (one_of k n h) [
-          | inl before ↦ (let s = seated.stand k before lies in record { shell = s.shell; stood = ap (slice_get t.shells) (kept x k before) ∙ s.stood; stands = s.stands })
+          | inl before ↦ (let s = seated.stand k before lies in record { shell = s.shell; stood = ap (slice_get t.shells) (kept x k before) ∙ s.stood; represents = s.represents })
           | inr last ↦ absurd (away (subst Lies last lies))
         ];
         apart = are_apart i t.resource (n + 1) (t.seats ++ x ∷ []) (λ j k h g lies_j lies_k same. elim (one_of j n h) [
@@ -75,8 +75,8 @@ module _ (i : Inputs) (n : ℕ) (t : Forest) (seated : AreSeated i n t) where
         ]);
       }
 
-  -- an instance of this resource has its shell behind the others
-  module _ (b : Shell) (stands : ShellStands (system_of i) (path_at (system_of i) n) b (opening_block (system_of i) (path_at (system_of i) n))) where
+  -- an instance of this resource has its shell after the others
+  module _ (b : Shell) (represents : ShellRepresents (system_of i) (path_at (system_of i) n) b (opening_block (system_of i) (path_at (system_of i) n))) where
     abbrev seats : List ℕ
     seats = t.seats ++ length t.shells ∷ []
 
@@ -87,7 +87,7 @@ module _ (i : Inputs) (n : ℕ) (t : Forest) (seated : AreSeated i n t) where
     last_seat = seat_last t.seats (length t.shells) n seated.each
 
     last_stands : SeatedAt i seats shells n (opening_block (system_of i) (path_at (system_of i) n))
-    last_stands = record { shell = b; stood = ap (slice_get shells) last_seat ∙ slice_get-append_here t.shells b; stands = stands }
+    last_stands = record { shell = b; stood = ap (slice_get shells) last_seat ∙ slice_get-append_here t.shells b; represents = represents }
 
     -- no seat before is the last one
     before_last : (k : ℕ) → k < n → Lies k → seat_in seats k ≡ seat_in seats n → k ≡ n
@@ -105,7 +105,7 @@ module _ (i : Inputs) (n : ℕ) (t : Forest) (seated : AreSeated i n t) where
           stand = λ k h lies. elim (one_of k n h) [
             | inl before ↦
                 (let s = seated.stand k before lies in
-                record { shell = s.shell; stood = ap (slice_get shells) (kept (length t.shells) k before) ∙ slice_get-append_left t.shells (b ∷ []) (seat_in t.seats k) s.shell s.stood; stands = s.stands })
+                record { shell = s.shell; stood = ap (slice_get shells) (kept (length t.shells) k before) ∙ slice_get-append_left t.shells (b ∷ []) (seat_in t.seats k) s.shell s.stood; represents = s.represents })
             | inr last ↦ subst (λ (m : ℕ). SeatedAt i seats shells m (opening_block (system_of i) (path_at (system_of i) m))) (sym last) last_stands
           ];
           apart = are_apart i t.resource (n + 1) seats (λ j k h g lies_j lies_k same. elim (one_of j n h) [
@@ -129,7 +129,7 @@ seated_away i n t x ks seated given away =
 
 pub seated_more :
     (i : Inputs) (n : ℕ) (t : Forest) (x : ℕ) (ks : List ℕ) (b : Shell) (bs : List Shell) → AreSeated i n t → x ≡ length t.shells → ks ≡ t.seats ++ x ∷ [] → bs ≡ t.shells ++ b ∷ []
-    → ShellStands (system_of i) (path_at (system_of i) n) b (opening_block (system_of i) (path_at (system_of i) n)) → AreSeated i (n + 1) (record t { seats = ks; shells = bs })
-seated_more i n t x ks b bs seated is given put stands =
+    → ShellRepresents (system_of i) (path_at (system_of i) n) b (opening_block (system_of i) (path_at (system_of i) n)) → AreSeated i (n + 1) (record t { seats = ks; shells = bs })
+seated_more i n t x ks b bs seated is given put represents =
     subst (λ (js : List ℕ). AreSeated i (n + 1) (record t { seats = js; shells = bs })) (sym (given ∙ ap (λ (y : ℕ). t.seats ++ y ∷ []) is))
-    (subst (λ (cs : List Shell). AreSeated i (n + 1) (record t { seats = t.seats ++ length t.shells ∷ []; shells = cs })) (sym put) (seated_here i n t seated b stands))
+    (subst (λ (cs : List Shell). AreSeated i (n + 1) (record t { seats = t.seats ++ length t.shells ∷ []; shells = cs })) (sym put) (seated_here i n t seated b represents))

@@ -16,7 +16,7 @@ use Rattle.fb_types.specs.declared.library.Variable.{Variable}
 use Rattle.fb_types.specs.declared.value.Value.{Value}
 use Rattle.fb_types.specs.declared.run.InstanceVariable.{InstanceVariable}
 use Rattle.fb_system.specs.Ports.{IsVariable, data_input, data_output, variable_of, variables_at}
-use Rattle.fb_net.specs.Worlds.{Found, InForest, IsComposite, IsForest, Reads, ShellStands, ValuesStand, seat_in, value_in}
+use Rattle.fb_net.specs.Worlds.{Found, InForest, IsComposite, IsForest, Reads, ShellRepresents, ValuesRepresent, seat_in, value_in}
 use Rattle.fb_net.specs.declared.resource.Forest.{Forest}
 use Rattle.fb_net.specs.declared.shell.Shell.{Shell}
 use Rattle.fb_types.proofs.ByIndex.{element_at}
@@ -27,7 +27,7 @@ pub as_many : (vs : List Variable) → length (variable_names vs) ≡ length vs
 as_many [] = refl
 as_many (v ∷ vs) = ap suc (as_many vs)
 
-value_stands : (sys : System) (p : Path) (vs : List Variable) (values : List Value) (all : Values) → ValuesStand sys p (variable_names vs) values all →
+value_stands : (sys : System) (p : Path) (vs : List Variable) (values : List Value) (all : Values) → ValuesRepresent sys p (variable_names vs) values all →
     (k : ℕ) → k < length vs → value_in values k ≡ all (unwrap_or (slice_get (variable_names vs) k) [])
 value_stands sys p vs values all s k h =
     let n = element_at (variable_names vs) k (subst (λ l. k < l) (sym (as_many vs)) h) in
@@ -35,7 +35,7 @@ value_stands sys p vs values all s k h =
     ap (λ o. unwrap_or o zero_value) v.1 ∙ sym (s.at_index k n.0 v.0 n.1 v.1) ∙ ap (λ o. all (unwrap_or o [])) (sym n.1)
 
 reads_at : (sys : System) (p : Path) (vs these : List Variable) → vs ≡ these → (values : List Value) (all : Values) →
-    ValuesStand sys p (variable_names these) values all → (k : ℕ) → k < length vs → value_in values k ≡ all (unwrap_or (slice_get (variable_names vs) k) [])
+    ValuesRepresent sys p (variable_names these) values all → (k : ℕ) → k < length vs → value_in values k ≡ all (unwrap_or (slice_get (variable_names vs) k) [])
 reads_at sys p vs these is values all s k h =
     value_stands sys p these values all s k (subst (λ l. k < length l) is h) ∙ ap (λ l. all (unwrap_or (slice_get (variable_names l) k) [])) (sym is)
 
@@ -55,7 +55,7 @@ name_is sys x = ap (λ q. q.name) (variable_is sys x)
 pub at_is : (sys : System) (x : InstanceVariable) → (variable_of sys x).at ≡ path_at sys x.instance
 at_is sys x = ap (λ q. q.at) (variable_is sys x)
 
--- its name stands at its index
+-- its name is at its index
 pub name_there : (sys : System) (x : InstanceVariable) → IsVariable sys x → slice_get (variable_names (variables_at sys x)) x.variable ≡ Some (variable_of sys x).name
 name_there sys x variable =
     let n = element_at (variable_names (variables_at sys x)) x.variable (subst (λ l. x.variable < l) (sym (as_many (variables_at sys x))) variable.variable) in
@@ -69,20 +69,20 @@ among_outputs sys x e = ap (λ o. if o then (ports_at sys (path_at sys x.instanc
 
 -- ---- One shell
 
-module _ (sys : System) (x : InstanceVariable) (s : Shell) (m : model.Block) (variable : IsVariable sys x) (stands : ShellStands sys (path_at sys x.instance) s m) where
+module _ (sys : System) (x : InstanceVariable) (s : Shell) (m : model.Block) (variable : IsVariable sys x) (represents : ShellRepresents sys (path_at sys x.instance) s m) where
   pub slot_stands : x.is_output ≡ false → value_in s.slots x.variable ≡ m.slots (variable_of sys x).name
   slot_stands e =
-      reads_at sys (path_at sys x.instance) (variables_at sys x) _ (among_inputs sys x e) s.slots m.slots stands.slots x.variable variable.variable
+      reads_at sys (path_at sys x.instance) (variables_at sys x) _ (among_inputs sys x e) s.slots m.slots represents.slots x.variable variable.variable
       ∙ ap m.slots (sym (name_is sys x))
 
   pub published_stands : x.is_output ≡ true → value_in s.published x.variable ≡ m.published (variable_of sys x).name
   published_stands e =
-      reads_at sys (path_at sys x.instance) (variables_at sys x) _ (among_outputs sys x e) s.published m.published stands.published x.variable variable.variable
+      reads_at sys (path_at sys x.instance) (variables_at sys x) _ (among_outputs sys x e) s.published m.published represents.published x.variable variable.variable
       ∙ ap m.published (sym (name_is sys x))
 
   pub copy_stands : IsComposite sys x → x.is_output ≡ false → value_in s.inputs x.variable ≡ m.variables (variable_of sys x).name
   copy_stands composite e =
-      reads_at sys (path_at sys x.instance) (variables_at sys x) _ (among_inputs sys x e) s.inputs m.variables (stands.inputs (λ t is. no_basic t (sym composite.1 ∙ is))) x.variable variable.variable
+      reads_at sys (path_at sys x.instance) (variables_at sys x) _ (among_inputs sys x e) s.inputs m.variables (represents.inputs (λ t is. no_basic t (sym composite.1 ∙ is))) x.variable variable.variable
       ∙ ap m.variables (sym (name_is sys x))
     where
       no_basic : (t : BasicType) → Some (Composite composite.0) ≢ Some (Basic t)
@@ -96,20 +96,20 @@ same_found o a b e f = cc
 pub found_reads :
     (i : Inputs) (t : Forest) (x : InstanceVariable) (part : model.Block → Values) (s : Shell) (v : Value) (o : Option Shell) → o ≡ Some s →
     ((w : World) → IsForest i t w → InForest i t x.instance → Found i x.instance (w.blocks (path_at (system_of i) x.instance)) o) →
-    ((m : model.Block) → ShellStands (system_of i) (path_at (system_of i) x.instance) s m → v ≡ part m (variable_of (system_of i) x).name) →
+    ((m : model.Block) → ShellRepresents (system_of i) (path_at (system_of i) x.instance) s m → v ≡ part m (variable_of (system_of i) x).name) →
     Reads i t x part v
 found_reads i t x part s v o is found reads w forest within =
     let f = found w forest within in
     let p = path_at (system_of i) x.instance in
-    reads (w.blocks p) (subst (λ (y : Shell). ShellStands (system_of i) p y (w.blocks p)) (same_found o f.shell s f.is is) f.stands)
+    reads (w.blocks p) (subst (λ (y : Shell). ShellRepresents (system_of i) p y (w.blocks p)) (same_found o f.shell s f.is is) f.represents)
     ∙ ap (λ q. part (w.blocks q) (variable_of (system_of i) x).name) (sym (at_is (system_of i) x))
 
--- the shell at the seat of an instance stands for it
+-- the shell at the seat of an instance represents it
 pub found_at :
     (i : Inputs) (t : Forest) (k : ℕ) → k < length (system_of i).paths → (o : Option Shell) → o ≡ slice_get t.shells (seat_in t.seats k) →
     (w : World) → IsForest i t w → InForest i t k → Found i k (w.blocks (path_at (system_of i) k)) o
 found_at i t k number o at w forest lies =
-    let s = forest.shells k number lies in record { shell = s.shell; is = at ∙ s.stood; stands = s.stands }
+    let s = forest.shells k number lies in record { shell = s.shell; is = at ∙ s.stood; represents = s.represents }
 
 -- each instance of the resource has a shell
 pub never_absent : (i : Inputs) (t : Forest) (x : InstanceVariable) (part : model.Block → Values) (v : Value) →

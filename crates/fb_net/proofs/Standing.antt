@@ -17,14 +17,14 @@ use Rattle.fb_types.proofs.Options.{and_then_parts}
 use Rattle.fb_system.specs.Layouts.{path_of, index_at, route_to}
 use Rattle.fb_net.specs.Blocks.{components_of, own_of}
 use Rattle.fb_net.specs.Trees.{block_at, own_at}
-use Rattle.fb_net.specs.Worlds.{IsForest, StandsAt, StandsFor, rooted, seat_in}
+use Rattle.fb_net.specs.Worlds.{IsForest, RepresentsAt, Represents, rooted, seat_in}
 use Rattle.fb_net.specs.declared.block.Block.{Block}
 use Rattle.fb_net.specs.declared.resource.Forest.{Forest}
 use Rattle.fb_net.specs.Opening.{AreDeep, AreGrown, AreRooted, AreSeated, CoversAll, Grown}
 use Rattle.std.proofs.lemmas.Option.{none-some, same_Some}
 use Rattle.fb_net.proofs.Known.{in_network, stood}
 use Rattle.fb_net.proofs.Growing.{instance_is, number_is}
-use Rattle.fb_net.proofs.Ways.{RootsTell, paths_by_ways, they_differ}
+use Rattle.fb_net.proofs.Ways.{RootsDistinguish, paths_by_ways, they_differ}
 use Rattle.fb_net.proofs.Writing.{AreNumbered}
 
 -- ---- Blocks on their ways
@@ -46,7 +46,7 @@ below_rooted blocks roots (n ∷ route) b index h = further blocks (seat_in root
 abbrev name_of : Instance → Name
 name_of i = i.name
 
--- an instance by its name stands at the index of the name
+-- an instance by its name is at the index of the name
 found_index : (lib : Library) (p : Path) (net : Network) (n : Name) (x : Instance) → network_at lib p ≡ Some net → instance_in net n ≡ Some x
     → (slice_get net.instances (index_at lib p n) ≡ Some x) × (x.name ≡ n)
 found_index lib p net n x h found =
@@ -66,7 +66,7 @@ module _ (i : Inputs) (r : ℕ) (roots numbers : List ℕ) (rooted_so : AreRoote
   abbrev instances : List Instance
   instances = i.library.application.network.instances
 
-  -- an instance of the application that lies in the resource has its root
+  -- an instance of the application that is in the resource has its root
   root_there : (n : Name) (x : Instance) → instance_in i.library.application.network n ≡ Some x → resource_of i.plan (n ∷ []) ≡ r
       → (k : ℕ) × (slice_get numbers (seat_in roots (index_at i.library [] n)) ≡ Some k) × (path_at (system_of i) k ≡ n ∷ [])
   root_there n x found lies =
@@ -76,8 +76,8 @@ module _ (i : Inputs) (r : ℕ) (roots numbers : List ℕ) (rooted_so : AreRoote
       let path : path_at (system_of i) k.0 ≡ n ∷ [] = k.2 ∙ ap (λ (m : Name). m ∷ []) at.1 in
       (k.0, rooted_so.roots_are.there index k.0 k.1 (ap (resource_of i.plan) path ∙ lies), path)
 
-  pub roots_tell : RootsTell i.library i.plan r roots
-  roots_tell n m x y is_x is_y lies_n lies_m same =
+  pub roots_distinguish : RootsDistinguish i.library i.plan r roots
+  roots_distinguish n m x y is_x is_y lies_n lies_m same =
       let a = root_there n x is_x lies_n in
       let b = root_there m y is_y lies_m in
       let one : a.0 ≡ b.0 = same_Some a.0 b.0 (sym a.1 ∙ ap (slice_get numbers) same ∙ b.1) in
@@ -111,12 +111,12 @@ module _ (i : Inputs) (r : ℕ) (roots numbers : List ℕ) (blocks : List Block)
         subst (λ (z : Name). Grown i d (z ∷ m ∷ p) c.0) at.1 c.2,
       )
 
-  own_stands : (p : Path) (b : Block) (d : ℕ) → 1 ≤ d → Grown i d p b → StandsFor (system_of i) p (own_of b) (opening_block (system_of i) p)
+  own_stands : (p : Path) (b : Block) (d : ℕ) → 1 ≤ d → Grown i d p b → Represents (system_of i) p (own_of b) (opening_block (system_of i) p)
   own_stands p b zero h g = absurd (omega (arith, h))
   own_stands p b (suc d) h g = g.0
 
   pub stands_at : AreAccepted i → (k : ℕ) → k < length (system_of i).paths → (system_of i).resource (path_at (system_of i) k) ≡ r
-      → StandsAt i roots blocks k (opening_block (system_of i) (path_at (system_of i) k))
+      → RepresentsAt i roots blocks k (opening_block (system_of i) (path_at (system_of i) k))
   stands_at accepted k h lies =
       let q = path_at (system_of i) k in
       let s = stood i k accepted h in
@@ -129,12 +129,12 @@ module _ (i : Inputs) (r : ℕ) (roots numbers : List ℕ) (blocks : List Block)
       record {
         own = own_of b.0;
         stood = ap (λ (p : Path). own_at blocks (rooted roots (route_to i.library p))) net.path ∙ ap (option_map own_of) b.1;
-        stands =
-            subst (λ (p : Path). StandsFor (system_of i) p (own_of b.0) (opening_block (system_of i) p)) (sym net.path)
+        represents =
+            subst (λ (p : Path). Represents (system_of i) p (own_of b.0) (opening_block (system_of i) p)) (sym net.path)
             (own_stands (net.name ∷ net.outside) b.0 depth (omega (arith, short, long)) b.2);
       }
 
--- the blocks and shells stand for the opening state
+-- the blocks and shells represent the opening state
 pub forest_is :
     (i : Inputs) (t : Forest) (r : ℕ) (numbers : List ℕ) → AreAccepted i → AreNumbered i → t.resource ≡ r → AreRooted i r t.roots numbers → AreGrown i 17 numbers t.blocks
     → AreSeated i (length (system_of i).paths) t → CoversAll i r t.held → IsForest i t (world_of (opening_state (system_of i)) r)
@@ -142,7 +142,7 @@ forest_is i t r numbers accepted numbered is rooted_so grown seated held = recor
   blocks = λ k h lies. stands_at i r t.roots numbers t.blocks rooted_so grown accepted k h (lies ∙ is);
   ways = they_differ i t.resource t.roots (λ j k h g lies_j lies_k same.
       sym (numbered j h)
-      ∙ ap (system_of i).number (paths_by_ways i r t.roots accepted (roots_tell i r t.roots numbers rooted_so) j k h g (lies_j ∙ is) (lies_k ∙ is) same)
+      ∙ ap (system_of i).number (paths_by_ways i r t.roots accepted (roots_distinguish i r t.roots numbers rooted_so) j k h g (lies_j ∙ is) (lies_k ∙ is) same)
       ∙ numbered k g);
   shells = seated.stand;
   apart = seated.apart;

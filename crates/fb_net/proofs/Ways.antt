@@ -1,4 +1,4 @@
--- Different instances of a resource have different ways in its trees: the indexes on the way to an instance tell its names.
+-- Different instances of a resource have different ways in its trees: the indexes on the way to an instance determine its names.
 use Rattle.std.proofs.Common.{◌≡◌, ℕ, ◌<◌, ◌≤◌, ◌+◌, zero, suc, List, [], ◌∷◌, ◌++◌, length, take, Bool, true, false, Contains, refl, ap, sym, ◌∙◌, inl, inr, arith}
 use Rattle.std.proofs.lemmas.Bool.{eq-eqb}
 use Rattle.std.proofs.lemmas.List.{length-append}
@@ -54,7 +54,7 @@ instance_there i accepted k number =
 
 -- ---- The index of an instance in its network
 
-record Stands (lib : Library) (p : Path) (n : Name) : Type 0 where
+record IsAtIndex (lib : Library) (p : Path) (n : Name) : Type 0 where
   network : Network
   is_network : network_at lib p ≡ Some network
   index : ℕ
@@ -63,8 +63,8 @@ record Stands (lib : Library) (p : Path) (n : Name) : Type 0 where
   is_instance : slice_get network.instances index ≡ Some instance
   name : instance.name ≡ n
 
-stands : (lib : Library) (p : Path) (n : Name) (x : Instance) → instance_at lib (n ∷ p) ≡ Some x → Stands lib p n
-stands lib p n x h =
+represents : (lib : Library) (p : Path) (n : Name) (x : Instance) → instance_at lib (n ∷ p) ≡ Some x → IsAtIndex lib p n
+represents lib p n x h =
     let net = and_then_parts (λ (net : Network). instance_in net n) (network_at lib p) x h in
     let k = and_then_parts (slice_get net.0.instances) (position (same_name n) (instance_names net.0)) x (sym (named-position (λ (i : Instance). i.name) n net.0.instances) ∙ net.2) in
     let at = position_is (λ (i : Instance). i.name) n net.0.instances k.0 k.1 in
@@ -78,11 +78,11 @@ stands lib p n x h =
       name = at.2;
     }
 
-module _ (lib : Library) (p : Path) (n m : Name) (s : Stands lib p n) (t : Stands lib p m) where
+module _ (lib : Library) (p : Path) (n m : Name) (s : IsAtIndex lib p n) (t : IsAtIndex lib p m) where
   same_network : s.network ≡ t.network
   same_network = same_Some s.network t.network (sym s.is_network ∙ t.is_network)
 
-  -- the index in a network tells the name
+  -- the index in a network determines the name
   same_by_index : s.index ≡ t.index → n ≡ m
   same_by_index e =
       let both : Some s.instance ≡ Some t.instance =
@@ -113,22 +113,22 @@ route_length : (lib : Library) (p : Path) → length (route_to lib p) ≡ length
 route_length lib [] = refl
 route_length lib (n ∷ p) = length-append (route_to lib p) (index_at lib p n ∷ []) ∙ (let e = route_length lib p in omega (arith, e))
 
--- on the way to an instance stand instances
+-- on the way to an instance there are instances
 above : (lib : Library) (n m : Name) (p : Path) (x : Instance) → instance_at lib (n ∷ m ∷ p) ≡ Some x → (y : Instance) × (instance_at lib (m ∷ p) ≡ Some y)
 above lib n m p x h =
-    let s = stands lib (m ∷ p) n x h in
+    let s = represents lib (m ∷ p) n x h in
     let y = and_then_parts (inside lib) (instance_at lib (m ∷ p)) s.network s.is_network in
     (y.0, y.1)
 
 -- ---- Ways
 
--- the root of an instance of a resource tells its name
-abbrev pub RootsTell : Library → Plan → (resource : ℕ) → List ℕ → Type 0
-RootsTell lib plan r roots =
+-- the root of an instance of a resource determines its name
+abbrev pub RootsDistinguish : Library → Plan → (resource : ℕ) → List ℕ → Type 0
+RootsDistinguish lib plan r roots =
     (n m : Name) (x y : Instance) → instance_at lib (n ∷ []) ≡ Some x → instance_at lib (m ∷ []) ≡ Some y → resource_of plan (n ∷ []) ≡ r → resource_of plan (m ∷ []) ≡ r →
     seat_in roots (index_at lib [] n) ≡ seat_in roots (index_at lib [] m) → n ≡ m
 
-module _ (lib : Library) (plan : Plan) (r : ℕ) (roots : List ℕ) (tell : RootsTell lib plan r roots) where
+module _ (lib : Library) (plan : Plan) (r : ℕ) (roots : List ℕ) (distinguish : RootsDistinguish lib plan r roots) where
   abbrev in_trees : Path → List ℕ
   in_trees p = rooted roots (route_to lib p)
 
@@ -141,7 +141,7 @@ module _ (lib : Library) (plan : Plan) (r : ℕ) (roots : List ℕ) (tell : Root
   same_path_by_way [] q x y h g e lies_p lies_q = cc
   same_path_by_way (n ∷ p) [] x y h g e lies_p lies_q = cc
   same_path_by_way (n ∷ []) (m ∷ []) x y h g e lies_p lies_q =
-      ap (λ z. z ∷ []) (tell n m x y h g lies_p lies_q (last_same [] [] (seat_in roots (index_at lib [] n)) (seat_in roots (index_at lib [] m)) e).1)
+      ap (λ z. z ∷ []) (distinguish n m x y h g lies_p lies_q (last_same [] [] (seat_in roots (index_at lib [] n)) (seat_in roots (index_at lib [] m)) e).1)
   same_path_by_way (n ∷ []) (m ∷ m' ∷ q) x y h g e lies_p lies_q = let long = as_long (n ∷ []) (m ∷ m' ∷ q) e in absurd (omega (arith, long))
   same_path_by_way (n ∷ n' ∷ p) (m ∷ []) x y h g e lies_p lies_q = let long = as_long (n ∷ n' ∷ p) (m ∷ []) e in absurd (omega (arith, long))
   same_path_by_way (n ∷ n' ∷ p) (m ∷ m' ∷ q) x y h g e lies_p lies_q =
@@ -150,20 +150,20 @@ module _ (lib : Library) (plan : Plan) (r : ℕ) (roots : List ℕ) (tell : Root
       let parts = last_same (in_trees (n' ∷ p)) (in_trees (m' ∷ q)) (index_at lib (n' ∷ p) n) (index_at lib (m' ∷ q) m)
       (sym (rooted_last roots (route_to lib p) (index_at lib p n') (index_at lib (n' ∷ p) n)) ∙ e ∙ rooted_last roots (route_to lib q) (index_at lib q m') (index_at lib (m' ∷ q) m)) in
       let rest : n' ∷ p ≡ m' ∷ q = same_path_by_way (n' ∷ p) (m' ∷ q) above_n.0 above_m.0 above_n.1 above_m.1 parts.0 lies_p lies_q in
-      let s = stands lib (n' ∷ p) n x h in
-      let t = stands lib (n' ∷ p) m y (ap (λ (z : Path). instance_at lib (m ∷ z)) rest ∙ g) in
+      let s = represents lib (n' ∷ p) n x h in
+      let t = represents lib (n' ∷ p) m y (ap (λ (z : Path). instance_at lib (m ∷ z)) rest ∙ g) in
       let indexes : s.index ≡ t.index = sym s.is_index ∙ parts.1 ∙ sym (ap (λ (z : Path). index_at lib z m) rest) ∙ t.is_index in
       ap (λ (z : Name). z ∷ n' ∷ p) (same_by_index lib (n' ∷ p) n m s t indexes) ∙ ap (λ (z : Path). m ∷ z) rest
 
 -- Different instances of a resource have different ways.
 pub paths_by_ways :
-    (i : Inputs) (r : ℕ) (roots : List ℕ) → AreAccepted i → RootsTell i.library i.plan r roots → (j k : ℕ) → j < length (system_of i).paths → k < length (system_of i).paths →
+    (i : Inputs) (r : ℕ) (roots : List ℕ) → AreAccepted i → RootsDistinguish i.library i.plan r roots → (j k : ℕ) → j < length (system_of i).paths → k < length (system_of i).paths →
     (system_of i).resource (path_at (system_of i) j) ≡ r → (system_of i).resource (path_at (system_of i) k) ≡ r → way_in i roots j ≡ way_in i roots k →
     path_at (system_of i) j ≡ path_at (system_of i) k
-paths_by_ways i r roots accepted tell j k number_j number_k lies_j lies_k ways =
+paths_by_ways i r roots accepted distinguish j k number_j number_k lies_j lies_k ways =
     let x = instance_there i accepted j number_j in
     let y = instance_there i accepted k number_k in
-    same_path_by_way i.library i.plan r roots tell (path_at (system_of i) j) (path_at (system_of i) k) x.0 y.0 x.1 y.1 ways lies_j lies_k
+    same_path_by_way i.library i.plan r roots distinguish (path_at (system_of i) j) (path_at (system_of i) k) x.0 y.0 x.1 y.1 ways lies_j lies_k
 
 pub ways_differ : (i : Inputs) (r : ℕ) (roots : List ℕ) → WaysDiffer i r roots → (j k : ℕ) → j < length (system_of i).paths → k < length (system_of i).paths →
     (system_of i).resource (path_at (system_of i) j) ≡ r → (system_of i).resource (path_at (system_of i) k) ≡ r → way_in i roots j ≡ way_in i roots k → j ≡ k
@@ -175,7 +175,7 @@ pub they_differ : (i : Inputs) (r : ℕ) (roots : List ℕ) → ((j k : ℕ) →
 unfolding WaysDiffer
 they_differ i r roots differ = differ
 
--- no instance stands at the empty route
+-- no instance is at the empty route
 pub route_there : (i : Inputs) → AreAccepted i → (k : ℕ) → k < length (system_of i).paths → 1 ≤ length (route_to i.library (path_at (system_of i) k))
 route_there i accepted k number =
     let x = instance_there i accepted k number in

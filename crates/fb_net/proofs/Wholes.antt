@@ -27,16 +27,16 @@ pub kept-changed :
     (i : Inputs) (old new : Forest) (k : ℕ) (change : model.Block → model.Block) → Changes i old k change new → InForest i old k → AreKept i old new
 kept-changed i old new k change changes here = record {
   resource = changes.resource;
-  whole = λ w stood. (with_instance i k (change (block_in i w k)) w, changes.stands w stood here);
+  whole = λ w stood. (with_instance i k (change (block_in i w k)) w, changes.represents w stood here);
 }
 
 -- values of other resources have come
 pub kept-held : (i : Inputs) (old new : Forest) (carried : List Carried) → HoldsAll i old carried new → AreKept i old new
 kept-held i old new carried holds = record {
   resource = holds.resource;
-  whole = λ w stood. (record w { held = hold_all (map (carried_of (system_of i)) carried) w.held }, holds.stands w stood);
+  whole = λ w stood. (record w { held = hold_all (map (carried_of (system_of i)) carried) w.held }, holds.represents w stood);
 }
 
--- the blocks stand for some world
+-- the blocks represent some world
 pub kept-world : (i : Inputs) (old new : Forest) → new.resource ≡ old.resource → ((w : World) × IsForest i new w) → AreKept i old new
 kept-world i old new resource world = record { resource = resource; whole = λ w stood. world }

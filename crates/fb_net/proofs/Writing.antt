@@ -1,4 +1,4 @@
--- A value that is put at the index of a name is put at the name, where each name stands once.
+-- A value that is put at the index of a name is put at the name, where each name is once.
 use Rattle.std.proofs.Common.{◌≡◌, ◌≢◌, ℕ, ◌<◌, zero, suc, List, [], ◌∷◌, length, Bool, true, false, Contains, refl, ap, sym, ◌∙◌, subst, inl, inr, ⊎_elim}
 use Rattle.std.proofs.lemmas.Bool.{cases_eq, true≢false}
 use Rattle.std.specs.Prelude.{Option, Some, None, slice_get, slice_set, if◌then◌else◌}
@@ -23,7 +23,7 @@ use Rattle.fb_net.specs.Blocks.{components_of, own_of, with_input, with_publishe
 use Rattle.fb_net.specs.Changes.{Changes}
 use Rattle.fb_net.specs.Changes as specs
 use Rattle.fb_net.specs.Trees.{PutAlone, block_at, put_at}
-use Rattle.fb_net.specs.Worlds.{InForest, IsForest, NodeRepresents, SeatedAt, ShellStands, StandsAt, StandsFor, TakesSamples, ValuesStand, input_names, output_names, seat_in, way_in, with_seated}
+use Rattle.fb_net.specs.Worlds.{InForest, IsForest, NodeRepresents, SeatedAt, ShellRepresents, RepresentsAt, Represents, TakesSamples, ValuesRepresent, input_names, output_names, seat_in, way_in, with_seated}
 use Rattle.fb_net.specs.declared.block.Block.{Block}
 use Rattle.fb_net.specs.declared.block.Block.TheOpen.{Block-F}
 use Rattle.fb_net.specs.declared.block.Block.TheViews.{out-Block}
@@ -46,7 +46,7 @@ get_set_here [] k v u e = cc
 get_set_here (x ∷ vs) zero v u e = cc
 get_set_here (x ∷ vs) (suc k) v u e = get_set_here vs k v u e
 
--- a name that stands once stands at one index
+-- a name that is there once is at one index
 pub one_index : (names : List Name) → ¬ (Twice names) → (j k : ℕ) (n : Name) → slice_get names j ≡ Some n → slice_get names k ≡ Some n → j ≡ k
 one_index [] once j k n e f = cc
 one_index (m ∷ ms) once zero zero n e f = refl
@@ -60,7 +60,7 @@ one_index (m ∷ ms) once (suc j) zero n e f = absurd (once (inl (subst (λ z. C
     same a b h = cc
 one_index (m ∷ ms) once (suc j) (suc k) n e f = ap suc (one_index ms (λ t. once (inr t)) j k n e f)
 
-module _ (sys : System) (p : Path) (names : List Name) (values : List Value) (all : Values) (stand : ValuesStand sys p names values all)
+module _ (sys : System) (p : Path) (names : List Name) (values : List Value) (all : Values) (stand : ValuesRepresent sys p names values all)
     (once : ¬ (Twice names)) (k : ℕ) (name : Name) (named : slice_get names k ≡ Some name) (v : Value) where
   here : (n : Name) (u : Value) → slice_get names k ≡ Some n → slice_get (slice_set values k v) k ≡ Some u → with_value name v all n ≡ u
   here n u e f =
@@ -74,8 +74,8 @@ module _ (sys : System) (p : Path) (names : List Name) (values : List Value) (al
       ap (λ b. if b then v else all n) (same_name-apart n name (λ s. ne (one_index names once j k name (e ∙ ap Some s) named)))
       ∙ stand.at_index j n u e (sym (get_set_other values k j v ne) ∙ f)
 
-  -- the values stand for what they did, but for the name of the index
-  pub values_set : ValuesStand sys p names (slice_set values k v) (with_value name v all)
+  -- the values represent what they did, but for the name of the index
+  pub values_set : ValuesRepresent sys p names (slice_set values k v) (with_value name v all)
   values_set =
       record {
         each = length_set values k v ∙ stand.each;
@@ -87,42 +87,42 @@ module _ (sys : System) (p : Path) (names : List Name) (values : List Value) (al
 
 -- ---- One shell
 
-module _ (sys : System) (p : Path) (s : Shell) (m : model.Block) (stands : ShellStands sys p s m) where
+module _ (sys : System) (p : Path) (s : Shell) (m : model.Block) (represents : ShellRepresents sys p s m) where
   -- a slot is set
   pub slot_set : ¬ (Twice (input_names sys p)) → (k : ℕ) (n : Name) → slice_get (input_names sys p) k ≡ Some n → (v : Value) →
-      ShellStands sys p (with_slot k v s) (record m { slots = with_value n v m.slots })
+      ShellRepresents sys p (with_slot k v s) (record m { slots = with_value n v m.slots })
   slot_set once k n named v =
-      record { slots = values_set sys p (input_names sys p) s.slots m.slots stands.slots once k n named v; published = stands.published; inputs = stands.inputs }
+      record { slots = values_set sys p (input_names sys p) s.slots m.slots represents.slots once k n named v; published = represents.published; inputs = represents.inputs }
 
   -- an output is published
   pub output_set : ¬ (Twice (output_names sys p)) → (k : ℕ) (n : Name) → slice_get (output_names sys p) k ≡ Some n → (v : Value) →
-      ShellStands sys p (with_published k v s) (record m { published = with_value n v m.published })
+      ShellRepresents sys p (with_published k v s) (record m { published = with_value n v m.published })
   output_set once k n named v =
-      record { slots = stands.slots; published = values_set sys p (output_names sys p) s.published m.published stands.published once k n named v; inputs = stands.inputs }
+      record { slots = represents.slots; published = values_set sys p (output_names sys p) s.published m.published represents.published once k n named v; inputs = represents.inputs }
 
   -- a data input is sampled
   pub input_set : ¬ (Twice (input_names sys p)) → (k : ℕ) (n : Name) → slice_get (input_names sys p) k ≡ Some n → (v : Value) →
-      ShellStands sys p (with_input k v s) (record m { variables = with_value n v m.variables })
+      ShellRepresents sys p (with_input k v s) (record m { variables = with_value n v m.variables })
   input_set once k n named v =
       record {
-        slots = stands.slots;
-        published = stands.published;
-        inputs = λ no_basic. values_set sys p (input_names sys p) s.inputs m.variables (stands.inputs no_basic) once k n named v;
+        slots = represents.slots;
+        published = represents.published;
+        inputs = λ no_basic. values_set sys p (input_names sys p) s.inputs m.variables (represents.inputs no_basic) once k n named v;
       }
 
 -- what a block that is no basic one remembers is not its data inputs
 pub node_kept :
     (k : Option Kind) (x : Block-F Block) (m : model.Memory) (old new : Values) → ((t : BasicType) → k ≢ Some (Basic t)) → NodeRepresents k x m old → NodeRepresents k x m new
-node_kept None (Block-F.Basic s) m old new never stands = absurd stands
-node_kept None (Block-F.Event s) m old new never stands = absurd stands
-node_kept None (Block-F.Composite bs) m old new never stands = absurd stands
-node_kept (Some (Basic t)) x m old new never stands = absurd (never t refl)
-node_kept (Some (Event k)) (Block-F.Basic s) m old new never stands = absurd stands
-node_kept (Some (Event k)) (Block-F.Event s) m old new never stands = stands
-node_kept (Some (Event k)) (Block-F.Composite bs) m old new never stands = absurd stands
-node_kept (Some (Composite t)) (Block-F.Basic s) m old new never stands = absurd stands
-node_kept (Some (Composite t)) (Block-F.Event s) m old new never stands = absurd stands
-node_kept (Some (Composite t)) (Block-F.Composite bs) m old new never stands = stands
+node_kept None (Block-F.Basic s) m old new never represents = absurd represents
+node_kept None (Block-F.Event s) m old new never represents = absurd represents
+node_kept None (Block-F.Composite bs) m old new never represents = absurd represents
+node_kept (Some (Basic t)) x m old new never represents = absurd (never t refl)
+node_kept (Some (Event k)) (Block-F.Basic s) m old new never represents = absurd represents
+node_kept (Some (Event k)) (Block-F.Event s) m old new never represents = represents
+node_kept (Some (Event k)) (Block-F.Composite bs) m old new never represents = absurd represents
+node_kept (Some (Composite t)) (Block-F.Basic s) m old new never represents = absurd represents
+node_kept (Some (Composite t)) (Block-F.Event s) m old new never represents = absurd represents
+node_kept (Some (Composite t)) (Block-F.Composite bs) m old new never represents = represents
 
 -- ---- One instance among all
 
@@ -146,19 +146,19 @@ each_instance i numbered w k number after At here j h there = by_path (same_path
 module _ (i : Inputs) (numbered : AreNumbered i) (t : Forest) (w : World) (forest : IsForest i t w) (k : ℕ) (number : k < length (system_of i).paths) (lies : InForest i t k) (after : model.Block) where
   -- another shell at the seat of the instance
   pub seated_forest :
-      (s : Shell) → ShellStands (system_of i) (path_at (system_of i) k) s after →
-      ((own : Block) → StandsFor (system_of i) (path_at (system_of i) k) own (w.blocks (path_at (system_of i) k)) → StandsFor (system_of i) (path_at (system_of i) k) own after) →
+      (s : Shell) → ShellRepresents (system_of i) (path_at (system_of i) k) s after →
+      ((own : Block) → Represents (system_of i) (path_at (system_of i) k) own (w.blocks (path_at (system_of i) k)) → Represents (system_of i) (path_at (system_of i) k) own after) →
       IsForest i (with_seated t k s) (with_block (path_at (system_of i) k) after w)
-  seated_forest s stands kept =
+  seated_forest s represents kept =
       let seat = seat_in t.seats k in
       let here = forest.shells k number lies in
       let block = forest.blocks k number lies in
       record {
-        blocks = λ j h lies_j. each_instance i numbered w k number after (λ n b. StandsAt i t.roots t.blocks n b)
-            (record { own = block.own; stood = block.stood; stands = kept block.own block.stands }) j h (λ other. forest.blocks j h lies_j);
+        blocks = λ j h lies_j. each_instance i numbered w k number after (λ n b. RepresentsAt i t.roots t.blocks n b)
+            (record { own = block.own; stood = block.stood; represents = kept block.own block.represents }) j h (λ other. forest.blocks j h lies_j);
         ways = forest.ways;
         shells = λ j h lies_j. each_instance i numbered w k number after (λ n b. SeatedAt i t.seats (slice_set t.shells seat s) n b)
-            (record { shell = s; stood = get_set_same t.shells seat here.shell s here.stood; stands = stands }) j h
+            (record { shell = s; stood = get_set_same t.shells seat here.shell s here.stood; represents = represents }) j h
             (λ other.
             (let there = forest.shells j h lies_j in
             record {
@@ -167,7 +167,7 @@ module _ (i : Inputs) (numbered : AreNumbered i) (t : Forest) (w : World) (fores
                   get_set_other t.shells seat (seat_in t.seats j) s
                   (λ seats. other (seats_differ i t.resource (length (system_of i).paths) t.seats forest.apart j k h number lies_j lies seats))
                   ∙ there.stood;
-              stands = there.stands;
+              represents = there.represents;
             }));
         apart = forest.apart;
         held = forest.held;
@@ -175,26 +175,26 @@ module _ (i : Inputs) (numbered : AreNumbered i) (t : Forest) (w : World) (fores
 
   -- another block on the way to the instance, with the same components
   pub put_forest :
-      (b x : Block) → block_at t.blocks (way_in i t.roots k) ≡ Some b → components_of x ≡ components_of b → StandsFor (system_of i) (path_at (system_of i) k) (own_of x) after →
-      ((s : Shell) → ShellStands (system_of i) (path_at (system_of i) k) s (w.blocks (path_at (system_of i) k)) → ShellStands (system_of i) (path_at (system_of i) k) s after) →
+      (b x : Block) → block_at t.blocks (way_in i t.roots k) ≡ Some b → components_of x ≡ components_of b → Represents (system_of i) (path_at (system_of i) k) (own_of x) after →
+      ((s : Shell) → ShellRepresents (system_of i) (path_at (system_of i) k) s (w.blocks (path_at (system_of i) k)) → ShellRepresents (system_of i) (path_at (system_of i) k) s after) →
       IsForest i (record t { blocks = put_at t.blocks (way_in i t.roots k) x }) (with_block (path_at (system_of i) k) after w)
-  put_forest b x stood same stands kept =
+  put_forest b x stood same represents kept =
       let way = way_in i t.roots k in
       let put : PutAlone t.blocks way (own_of x) (put_at t.blocks way x) = others_stay t.blocks way b x stood same in
       let shell = forest.shells k number lies in
       record {
-        blocks = λ j h lies_j. each_instance i numbered w k number after (λ n y. StandsAt i t.roots (put_at t.blocks way x) n y)
-            (record { own = own_of x; stood = put.here; stands = stands }) j h
+        blocks = λ j h lies_j. each_instance i numbered w k number after (λ n y. RepresentsAt i t.roots (put_at t.blocks way x) n y)
+            (record { own = own_of x; stood = put.here; represents = represents }) j h
             (λ other.
             (let there = forest.blocks j h lies_j in
             record {
               own = there.own;
               stood = put.elsewhere (way_in i t.roots j) (λ ways. other (ways_differ i t.resource t.roots forest.ways j k h number lies_j lies ways)) ∙ there.stood;
-              stands = there.stands;
+              represents = there.represents;
             }));
         ways = forest.ways;
         shells = λ j h lies_j. each_instance i numbered w k number after (λ n y. SeatedAt i t.seats t.shells n y)
-            (record { shell = shell.shell; stood = shell.stood; stands = kept shell.shell shell.stands }) j h (λ other. forest.shells j h lies_j);
+            (record { shell = shell.shell; stood = shell.stood; represents = kept shell.shell shell.represents }) j h (λ other. forest.shells j h lies_j);
         apart = forest.apart;
         held = forest.held;
       }
@@ -203,7 +203,7 @@ module _ (i : Inputs) (numbered : AreNumbered i) (t : Forest) (w : World) (fores
 pub never_none : (i : Inputs) (old new : Forest) (k : ℕ) (change : model.Block → model.Block) → k < length (system_of i).paths → slice_get old.shells (seat_in old.seats k) ≡ None
     → new.resource ≡ old.resource → Changes i old k change new
 never_none i old new k change number none same =
-    record { resource = same; stands = λ w forest lies. (let here = forest.shells k number lies in absurd (none-some here.shell (sym none ∙ here.stood))) }
+    record { resource = same; represents = λ w forest lies. (let here = forest.shells k number lies in absurd (none-some here.shell (sym none ∙ here.stood))) }
 
 same_shell : (a b : Shell) → Some a ≡ Some b → a ≡ b
 same_shell a b e = cc
@@ -239,31 +239,31 @@ module _ (i : Inputs) (accepted : AreAccepted i) (numbered : AreNumbered i) (old
   name = (variable_of (system_of i) x).name
 
   changes :
-      (f : Shell → Shell) (change : model.Block → model.Block) → ((m : model.Block) → ShellStands (system_of i) path s m → ShellStands (system_of i) path (f s) (change m)) →
-      ((m : model.Block) (own : Block) → StandsFor (system_of i) path own m → StandsFor (system_of i) path own (change m)) →
+      (f : Shell → Shell) (change : model.Block → model.Block) → ((m : model.Block) → ShellRepresents (system_of i) path s m → ShellRepresents (system_of i) path (f s) (change m)) →
+      ((m : model.Block) (own : Block) → Represents (system_of i) path own m → Represents (system_of i) path own (change m)) →
       Changes i old x.instance change (with_seated old x.instance (f s))
   changes f change keeps kept =
       record {
         resource = refl;
-        stands = λ w forest lies.
+        represents = λ w forest lies.
             (let here = forest.shells x.instance variable.instance lies in
             seated_forest i numbered old w forest x.instance variable.instance lies (change (w.blocks path)) (f s)
-            (keeps (w.blocks path) (subst (λ (y : Shell). ShellStands (system_of i) path y (w.blocks path)) (same_shell here.shell s (sym here.stood ∙ found)) here.stands))
+            (keeps (w.blocks path) (subst (λ (y : Shell). ShellRepresents (system_of i) path y (w.blocks path)) (same_shell here.shell s (sym here.stood ∙ found)) here.represents))
             (kept (w.blocks path)));
       }
 
   pub slot_changes : x.is_output ≡ false → Changes i old x.instance (specs.slot_set name v) (with_seated old x.instance (with_slot x.variable v s))
   slot_changes into =
       changes (with_slot x.variable v) (specs.slot_set name v)
-      (λ m stands. slot_set (system_of i) path s m stands (inputs_once i accepted path) x.variable name (input_there (system_of i) x variable into) v) (λ m own stands. stands)
+      (λ m represents. slot_set (system_of i) path s m represents (inputs_once i accepted path) x.variable name (input_there (system_of i) x variable into) v) (λ m own represents. represents)
 
   pub output_changes : x.is_output ≡ true → Changes i old x.instance (specs.output_shown name v) (with_seated old x.instance (with_published x.variable v s))
   output_changes out =
       changes (with_published x.variable v) (specs.output_shown name v)
-      (λ m stands. output_set (system_of i) path s m stands (outputs_once i accepted path) x.variable name (output_there (system_of i) x variable out) v) (λ m own stands. stands)
+      (λ m represents. output_set (system_of i) path s m represents (outputs_once i accepted path) x.variable name (output_there (system_of i) x variable out) v) (λ m own represents. represents)
 
   pub input_changes : x.is_output ≡ false → TakesSamples (system_of i) x → Changes i old x.instance (specs.input_sampled name v) (with_seated old x.instance (with_input x.variable v s))
   input_changes into takes =
       changes (with_input x.variable v) (specs.input_sampled name v)
-      (λ m stands. input_set (system_of i) path s m stands (inputs_once i accepted path) x.variable name (input_there (system_of i) x variable into) v)
-      (λ m own stands. node_kept ((system_of i).kind path) (out-Block own) m.memory m.variables (with_value name v m.variables) takes.no_basic stands)
+      (λ m represents. input_set (system_of i) path s m represents (inputs_once i accepted path) x.variable name (input_there (system_of i) x variable into) v)
+      (λ m own represents. node_kept ((system_of i).kind path) (out-Block own) m.memory m.variables (with_value name v m.variables) takes.no_basic represents)

@@ -13,7 +13,7 @@ use Rattle.fb_types.specs.declared.run.Halt.TheVariants as halt
 use Rattle.fb_types.specs.declared.run.Target.{Target}
 use Rattle.fb_types.specs.declared.run.TimerAsk.TheVariants.{Keep}
 use Rattle.fb_types.specs.declared.value.Reason.{Reason}
-use Rattle.fb_net.specs.Outs.{Gathered, Stands, gathered}
+use Rattle.fb_net.specs.Outs.{Gathered, RepresentsOutcome, gathered}
 use Rattle.fb_net.specs.declared.outbox.Outbox.{Outbox}
 use Rattle.fb_net.specs.Worlds.{IsForest}
 use Rattle.fb_net.specs.declared.resource.Forest.{Forest}
@@ -33,7 +33,7 @@ AreTypedAt i f = (w : World) × IsForest i f w × AreTyped (system_of i) w
 
 -- In each world that the blocks represented, blocks and outbox represent what the step makes of it, however many steps are left.
 abbrev pub ComesTo : Inputs → (World → ℕ → Outcome) → Forest → Outbox → Forest → Outbox → Type 0
-ComesTo i step old before new x = (w : World) (left : ℕ) → IsForest i old w → Stands i (gathered i before) new x (step w left)
+ComesTo i step old before new x = (w : World) (left : ℕ) → IsForest i old w → RepresentsOutcome i (gathered i before) new x (step w left)
 
 -- an event input of the instance takes an event: its variables are sampled, and its line is written
 abbrev pub sampling : Inputs → Key → Target → World → ℕ → Outcome
@@ -68,9 +68,9 @@ pub record IsBegun (i : Inputs) (f : Forest) (line : Line) (o : Outcome) : Type 
   pub timer : o.timer ≡ Keep
 
 -- Line and emissions of a leaf were written, wherever its reaction has begun so.
-abbrev pub Tells : Inputs → Key → (instance : ℕ) → Line → List Emission → Forest → Outbox → Forest → Outbox → Type 0
-Tells i k at line emits old before new x =
-    (o : Outcome) → IsBegun i old line o → Stands i (gathered i before) new x (emitted_all (system_of i) k (path_at (system_of i) at) emits o)
+abbrev pub WritesAndEmits : Inputs → Key → (instance : ℕ) → Line → List Emission → Forest → Outbox → Forest → Outbox → Type 0
+WritesAndEmits i k at line emits old before new x =
+    (o : Outcome) → IsBegun i old line o → RepresentsOutcome i (gathered i before) new x (emitted_all (system_of i) k (path_at (system_of i) at) emits o)
 
 -- ---- The result of a reaction
 
@@ -80,7 +80,7 @@ pub record Reacted (i : Inputs) (Comes : Outcome → Type 0) (before : Gathered)
   pub reacts : Comes outcome
   pub stops : outcome.stop ≡ stop
   pub leaves : outcome.left ≡ after
-  pub stands : Stands i before new x outcome
+  pub represents : RepresentsOutcome i before new x outcome
 
 -- .. in each world that the blocks represented
 abbrev pub ReactedIn : Inputs → (World → Outcome → Type 0) → Forest → Outbox → Option Reason → Forest → (after : ℕ) → Outbox → Type 0

@@ -23,7 +23,7 @@ with_instance i k b w = with_block (path_at (system_of i) k) b w
 -- An instance has changed so, and all else stays: in each world that the blocks represented, they represent what that makes of it.
 pub record Changes (i : Inputs) (old : Forest) (k : ℕ) (change : model.Block → model.Block) (new : Forest) : Type 0 where
   pub resource : new.resource ≡ old.resource
-  pub stands : (w : World) → IsForest i old w → InForest i old k → IsForest i new (with_instance i k (change (block_in i w k)) w)
+  pub represents : (w : World) → IsForest i old w → InForest i old k → IsForest i new (with_instance i k (change (block_in i w k)) w)
 
 -- a connection or a stimulus has brought a value to a data input
 abbrev pub slot_set : Name → Value → model.Block → model.Block
@@ -44,7 +44,7 @@ remembered m b = record b { memory = model.Remembers m }
 -- The held copy of a variable of another resource has changed.
 pub record Holds (i : Inputs) (old : Forest) (x : InstanceVariable) (v : Value) (new : Forest) : Type 0 where
   pub resource : new.resource ≡ old.resource
-  pub stands : (w : World) → IsForest i old w → IsForest i new (record w { held = with_held (variable_of (system_of i) x) v w.held })
+  pub represents : (w : World) → IsForest i old w → IsForest i new (record w { held = with_held (variable_of (system_of i) x) v w.held })
 
 -- .. what a data output of a composite shows from inside
 abbrev pub ShowsInside : Inputs → Forest → InstanceVariable → Value → Type 0

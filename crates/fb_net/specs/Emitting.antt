@@ -1,7 +1,7 @@
 -- How the emission of an output event is done by numbers (IEC 61499-1, 5.2.2 and 5.3.2; messages are this project's profile).
 use Rattle.std.specs.Prelude.{◌≡◌, ◌==◌, ℕ, List, [], ◌∷◌, ◌++◌, map, if◌then◌else◌}
 use Rattle.std.specs.List.{zip}
-use Rattle.fb_system.specs.Stands.{variable_at}
+use Rattle.fb_system.specs.IndexLists.{variable_at}
 use Rattle.fb_types.specs.Blocks.{Bound}
 use Rattle.fb_types.specs.Headline.{Inputs, system_of}
 use Rattle.fb_types.specs.Names.{Port}
@@ -15,7 +15,7 @@ use Rattle.fb_types.specs.declared.run.Carried.{Carried}
 use Rattle.fb_types.specs.declared.run.Emission as run
 use Rattle.fb_types.specs.declared.value.Value.{Value}
 use Rattle.fb_net.specs.declared.resource.Forest.{Forest}
-use Rattle.fb_net.specs.Outs.{Gathered, StillAreOuts, IsOut, Stands, out_of}
+use Rattle.fb_net.specs.Outs.{Gathered, StillAreOuts, IsOut, RepresentsOutcome, out_of}
 use Rattle.fb_net.specs.declared.outbox.Out.{Out}
 use Rattle.fb_net.specs.declared.outbox.Outbox.{Outbox}
 
@@ -56,8 +56,8 @@ carried_by k indexes values = map (λ x. record { instance = k; variable = x.0; 
 -- The blocks and what was put out represents what the emissions of an instance make of what they represented.
 abbrev pub EmitsSo : Inputs → Key → (instance : ℕ) → Forest → Outbox → List run.Emission → Forest → Outbox → Type 0
 EmitsSo i key k f x es g y =
-    (before : Gathered) (o : Outcome) → Stands i before f x o →
-    Stands i before g y (emitted_all (system_of i) key (path_at (system_of i) k) (map (emission_of (ports_at (system_of i) (path_at (system_of i) k))) es) o)
+    (before : Gathered) (o : Outcome) → RepresentsOutcome i before f x o →
+    RepresentsOutcome i before g y (emitted_all (system_of i) key (path_at (system_of i) k) (map (emission_of (ports_at (system_of i) (path_at (system_of i) k))) es) o)
 
 -- An instance has emitted so.
 pub record HasEmitted (i : Inputs) (key : Key) (k : ℕ) (f : Forest) (x : Outbox) (es : List run.Emission) (g : Forest) (y : Outbox) : Type 0 where

@@ -13,7 +13,7 @@ use Rattle.fb_types.specs.declared.run.Halt.TheVariants as halt
 use Rattle.fb_types.specs.declared.value.Reason.{Reason}
 use Rattle.fb_types.specs.declared.run.Event.{Event}
 use Rattle.fb_types.specs.declared.run.Event.TheVariants as waits
-use Rattle.fb_net.specs.Outs.{Gathered, Stands, gathered, only_lines}
+use Rattle.fb_net.specs.Outs.{Gathered, RepresentsOutcome, gathered, only_lines}
 use Rattle.fb_net.specs.declared.arrival.Arrival.{Arrival}
 use Rattle.fb_net.specs.declared.arrival.Arrival.TheVariants as arrives
 use Rattle.fb_net.specs.declared.outbox.Outbox.{Outbox}
@@ -81,7 +81,7 @@ pub record CameTo (i : Inputs) (k : Key) (e : Event) (before : Gathered) (left :
   pub reacts : Reacts (system_of i) k w (event_of i e) left outcome
   pub stops : outcome.stop ≡ stop
   pub leaves : outcome.left ≡ after
-  pub stands : Stands i before new x outcome
+  pub represents : RepresentsOutcome i before new x outcome
 
 -- .. in each world that the blocks represented, after what the outbox had before
 abbrev pub Came : Inputs → Key → Event → Forest → Outbox → (left : ℕ) → Option Reason → Forest → (after : ℕ) → Outbox → Type 0

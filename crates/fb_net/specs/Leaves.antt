@@ -53,7 +53,7 @@ charted_block c b = record b { memory = InState c.state; variables = c.vars }
 pub record ChartCame (i : Inputs) (old : Forest) (at : Target) (t : BasicType) (values : List Value) (before : ℕ) (stop : Option Reason) (new : Forest) (after : ℕ) (emits : List run.Emission) (w : World) : Type 0 where
   pub index : Position
   pub reacts : ChartReacts t (event_at t.ports.event_inputs at.event) (chart_start t (block_in i w at.instance) at.event values before) stop index
-  pub stands : IsForest i new (with_instance i at.instance (charted_block index (block_in i w at.instance)) w)
+  pub represents : IsForest i new (with_instance i at.instance (charted_block index (block_in i w at.instance)) w)
   pub left : after ≡ index.left
   pub emitted : map (emission_of t.ports) emits ≡ index.emitted
 
@@ -115,7 +115,7 @@ remembering_block x b = record b { memory = Remembers x.memory }
 
 -- An event block has reacted so, and asks this of its timer.
 pub record EventCame (i : Inputs) (k : ℕ) (kind : EventKind) (x : Reaction) (new : Forest) (ask : TimerAsk) (emits : List run.Emission) (w : World) : Type 0 where
-  pub stands : IsForest i new (with_instance i k (remembering_block x (block_in i w k)) w)
+  pub represents : IsForest i new (with_instance i k (remembering_block x (block_in i w k)) w)
   pub timer : ask ≡ x.timer
   pub emitted : map (emission_of (ports_of_event_block kind)) emits ≡ emissions (ports_of_event_block kind) (output_of x.memory) x.emits
 

@@ -20,7 +20,7 @@ use Rattle.fb_types.specs.declared.run.InstanceVariable.{InstanceVariable}
 use Rattle.fb_system.specs.Layouts.{AreNumbers}
 use Rattle.fb_system.specs.Ports.{IsVariable, variable_of}
 use Rattle.fb_net.specs.Blocks.{components_of, own_of}
-use Rattle.fb_net.specs.Worlds.{AreApart, SeatedAt, StandsFor, key_cmp, key_of, seat_in}
+use Rattle.fb_net.specs.Worlds.{AreApart, SeatedAt, Represents, key_cmp, key_of, seat_in}
 use Rattle.fb_net.specs.declared.block.Block.{Block}
 use Rattle.fb_net.specs.declared.resource.Forest.{Forest}
 
@@ -63,7 +63,7 @@ AreDeep i depth numbers = (index k : ℕ) → slice_get numbers index ≡ Some k
 abbrev pub Grown : Inputs → (depth : ℕ) → Path → Block → Type 0
 Grown i zero p b = ⊥
 Grown i (suc d) p b =
-    StandsFor (system_of i) p (own_of b) (opening_block (system_of i) p)
+    Represents (system_of i) p (own_of b) (opening_block (system_of i) p)
     × ((net : Network) → network_at i.library p ≡ Some net → (index : ℕ) (x : Instance) → slice_get net.instances index ≡ Some x →
     (c : Block) × (slice_get (components_of b) index ≡ Some c) × Grown i d (x.name ∷ p) c)
 

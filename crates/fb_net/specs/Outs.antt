@@ -70,7 +70,7 @@ asked before Clear = Clear
 asked before (At tick) = At tick
 
 -- The blocks represent the result of a reaction, and so does what was put out after what the outbox had before.
-pub record Stands (i : Inputs) (before : Gathered) (f : Forest) (x : Outbox) (o : Outcome) : Type 0 where
+pub record RepresentsOutcome (i : Inputs) (before : Gathered) (f : Forest) (x : Outbox) (o : Outcome) : Type 0 where
   pub world : IsForest i f o.world
   pub lines : map (line_of (system_of i)) x.lines.items ≡ before.lines ++ o.lines
   pub outs : map (out_of (system_of i)) x.outs.items ≡ before.outs ++ o.outs

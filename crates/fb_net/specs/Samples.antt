@@ -47,4 +47,4 @@ slots_set sys k sets b = record b { slots = with_values (map (set_of sys k) sets
 -- A message has brought values to the held copies.
 pub record HoldsAll (i : Inputs) (old : Forest) (carried : List Carried) (new : Forest) : Type 0 where
   pub resource : new.resource ≡ old.resource
-  pub stands : (w : World) → IsForest i old w → IsForest i new (record w { held = hold_all (map (carried_of (system_of i)) carried) w.held })
+  pub represents : (w : World) → IsForest i old w → IsForest i new (record w { held = hold_all (map (carried_of (system_of i)) carried) w.held })

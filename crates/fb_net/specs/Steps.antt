@@ -11,7 +11,7 @@ use Rattle.fb_types.specs.declared.run.Halt.{Halt}
 use Rattle.fb_types.specs.declared.run.Target.{Target}
 use Rattle.fb_types.specs.declared.value.Value.{Value}
 use Rattle.fb_laws.specs.Typed.{IsTypedEvent}
-use Rattle.fb_net.specs.Arrivals.{Arrives, ComesTo, HasReacted, IsReady, AreTypedAt, Tells}
+use Rattle.fb_net.specs.Arrivals.{Arrives, ComesTo, HasReacted, IsReady, AreTypedAt, WritesAndEmits}
 use Rattle.fb_net.specs.Emitting.{EmitsSo, HasEmitted}
 use Rattle.fb_net.specs.Events.{HasTaken, IsEventIn, Remembered, event_of}
 use Rattle.fb_net.specs.Outs.{StillAreOuts}
@@ -78,7 +78,7 @@ EmitsWell old k es new = HasEmitted old.system.now old.key.now k old.forest.now 
 -- A basic block has written the event that it took, with the values that it sampled, and what it emits.
 abbrev pub HasWritten : Taking → Target → List Value → List Emission → Taking → Type 0
 HasWritten old at values es new =
-    Tells old.system.now old.key.now at.instance
+    WritesAndEmits old.system.now old.key.now at.instance
     (line_of (system_in old) (record { key = old.key.now; taken = true; instance = at.instance; event = at.event; values = values }))
     (map (emission_of (ports_in old at.instance)) es) old.forest.now old.outbox.now new.forest.now new.outbox.now
 

@@ -30,7 +30,7 @@ pub record Changed {R : Type 0} (Ends : Block → R → Block → Type 0) (old :
   pub after : Block
   pub stood : block_at old way ≡ Some before
   pub ends : Ends before r after
-  pub stands : new ≡ put_at old way after
+  pub represents : new ≡ put_at old way after
 
 -- An own part rests on a way, and all others stay as they were.
 pub record PutAlone (old : List Block) (way : List ℕ) (own : Block) (new : List Block) : Type 0 where

@@ -9,4 +9,4 @@ pub record IsTree (f : Forest) : Type 0 where
   pub inputs : Inputs
   pub accepted : AreAccepted inputs
   pub world : World
-  pub stands : IsForest inputs f world
+  pub represents : IsForest inputs f world

@@ -47,7 +47,7 @@ abbrev pub output_names : System → Path → List Name
 output_names sys p = variable_names (ports_at sys p).outputs
 
 -- The values are at the indexes of the names of some variables of an instance. Another name has what it begins with.
-pub record ValuesStand (sys : System) (p : Path) (names : List Name) (values : List Value) (all : Values) : Type 0 where
+pub record ValuesRepresent (sys : System) (p : Path) (names : List Name) (values : List Value) (all : Values) : Type 0 where
   pub each : length values ≡ length names
   pub at_index : (index : ℕ) (n : Name) (v : Value) → slice_get names index ≡ Some n → slice_get values index ≡ Some v → all n ≡ v
   pub others : (n : Name) → among names n ≡ false → all n ≡ begins sys p n
@@ -55,32 +55,32 @@ pub record ValuesStand (sys : System) (p : Path) (names : List Name) (values : L
 -- ---- One instance
 
 -- What connections and stimuli have set of an instance. A basic block has its data inputs among its variables.
-pub record ShellStands (sys : System) (p : Path) (s : Shell) (b : model.Block) : Type 0 where
-  pub slots : ValuesStand sys p (input_names sys p) s.slots b.slots
-  pub published : ValuesStand sys p (output_names sys p) s.published b.published
-  pub inputs : ((t : BasicType) → sys.kind p ≢ Some (Basic t)) → ValuesStand sys p (input_names sys p) s.inputs b.variables
+pub record ShellRepresents (sys : System) (p : Path) (s : Shell) (b : model.Block) : Type 0 where
+  pub slots : ValuesRepresent sys p (input_names sys p) s.slots b.slots
+  pub published : ValuesRepresent sys p (output_names sys p) s.published b.published
+  pub inputs : ((t : BasicType) → sys.kind p ≢ Some (Basic t)) → ValuesRepresent sys p (input_names sys p) s.inputs b.variables
 
-pub record BasicStands (t : BasicType) (s : BasicState) (m : model.Memory) (all : Values) : Type 0 where
+pub record BasicRepresents (t : BasicType) (s : BasicState) (m : model.Memory) (all : Values) : Type 0 where
   pub sound : IsSound t
   pub block : IsBlockOf t s
   pub memory : m ≡ model.InState (state_at t s.state)
   pub variables : (n : Name) → all n ≡ values_of s.frame n
 
 -- The variables of an event block are its data inputs: the outputs that it shows follow from what it remembers.
-pub record EventStands (kind : EventKind) (s : State) (m : model.Memory) : Type 0 where
+pub record EventRepresents (kind : EventKind) (s : State) (m : model.Memory) : Type 0 where
   pub is_kind : s.kind ≡ kind
   pub memory : m ≡ model.Remembers s.memory
 
 -- What a block of that kind remembers, and the variables of a basic block. A composite remembers nothing.
 abbrev pub NodeRepresents : Option Kind → Block-F Block → model.Memory → Values → Type 0
-NodeRepresents (Some (Basic t)) (Block-F.Basic s) m all = BasicStands t s m all
-NodeRepresents (Some (Event k)) (Block-F.Event s) m all = EventStands k s m
+NodeRepresents (Some (Basic t)) (Block-F.Basic s) m all = BasicRepresents t s m all
+NodeRepresents (Some (Event k)) (Block-F.Event s) m all = EventRepresents k s m
 NodeRepresents (Some (Composite t)) (Block-F.Composite bs) m all = m ≡ model.Nothing
 NodeRepresents k x m all = ⊥
 
 -- The block represents that one at a path. Its components represent others.
-abbrev pub StandsFor : System → Path → Block → model.Block → Type 0
-StandsFor sys p x b = NodeRepresents (sys.kind p) (out-Block x) b.memory b.variables
+abbrev pub Represents : System → Path → Block → model.Block → Type 0
+Represents sys p x b = NodeRepresents (sys.kind p) (out-Block x) b.memory b.variables
 
 -- ---- The shells of one resource
 
@@ -96,13 +96,13 @@ with_seated t k s = record t { shells = slice_set t.shells (seat_in t.seats k) s
 pub record SeatedAt (i : Inputs) (seats : List ℕ) (shells : List Shell) (k : ℕ) (b : model.Block) : Type 0 where
   pub shell : Shell
   pub stood : slice_get shells (seat_in seats k) ≡ Some shell
-  pub stands : ShellStands (system_of i) (path_at (system_of i) k) shell b
+  pub represents : ShellRepresents (system_of i) (path_at (system_of i) k) shell b
 
 -- A shell was found that represents an instance.
 pub record Found (i : Inputs) (k : ℕ) (b : model.Block) (found : Option Shell) : Type 0 where
   pub shell : Shell
   pub is : found ≡ Some shell
-  pub stands : ShellStands (system_of i) (path_at (system_of i) k) shell b
+  pub represents : ShellRepresents (system_of i) (path_at (system_of i) k) shell b
 
 -- No two of the first instances of a resource, of which there are this many, have one seat.
 unfoldable pub AreApart : Inputs → (resource count : ℕ) → List ℕ → Type 0
@@ -122,10 +122,10 @@ abbrev pub way_in : Inputs → (roots : List ℕ) → (instance : ℕ) → List 
 way_in i roots k = rooted roots (route_to i.library (path_at (system_of i) k))
 
 -- The own part of the block on its way represents an instance.
-pub record StandsAt (i : Inputs) (roots : List ℕ) (blocks : List Block) (k : ℕ) (b : model.Block) : Type 0 where
+pub record RepresentsAt (i : Inputs) (roots : List ℕ) (blocks : List Block) (k : ℕ) (b : model.Block) : Type 0 where
   pub own : Block
   pub stood : own_at blocks (way_in i roots k) ≡ Some own
-  pub stands : StandsFor (system_of i) (path_at (system_of i) k) own b
+  pub represents : Represents (system_of i) (path_at (system_of i) k) own b
 
 -- No two instances of a resource have one way.
 unfoldable pub WaysDiffer : Inputs → (resource : ℕ) → List ℕ → Type 0
@@ -153,7 +153,7 @@ pub record IsRead (sys : System) (resource : ℕ) (x : InstanceVariable) : Type 
 -- Each instance of the resource has its block on a way of its own and its shell at a seat of its own, and each variable of another resource that one is connected to has its held copy.
 pub record IsForest (i : Inputs) (t : Forest) (w : World) : Type 0 where
   pub blocks : (k : ℕ) → k < length (system_of i).paths → (system_of i).resource (path_at (system_of i) k) ≡ t.resource →
-      StandsAt i t.roots t.blocks k (w.blocks (path_at (system_of i) k))
+      RepresentsAt i t.roots t.blocks k (w.blocks (path_at (system_of i) k))
   pub ways : WaysDiffer i t.resource t.roots
   pub shells : (k : ℕ) → k < length (system_of i).paths → (system_of i).resource (path_at (system_of i) k) ≡ t.resource →
       SeatedAt i t.seats t.shells k (w.blocks (path_at (system_of i) k))

@@ -11,7 +11,7 @@ ghost use Rattle.fb_net.specs.Samples.{names_in};
 ghost use Rattle.fb_net.specs.Steps.{ArePutOut, HasArrived, HasDone, HasWritten, IsKept, IsSame, MayArrive, MayBegin, ports_in, system_in};
 ghost use Rattle.fb_system.specs.Lines.{IsEmission};
 ghost use Rattle.fb_system.specs.Ports.{IsCompositeAt, IsTarget};
-ghost use Rattle.fb_system.specs.Stands.{AreIndexes};
+ghost use Rattle.fb_system.specs.IndexLists.{AreIndexes};
 ghost use Rattle.fb_net.specs.Worlds.{InForest};
 ghost use Rattle.fb_laws.specs.Typed.{IsTypedSystem};
 
@@ -85,7 +85,7 @@ impl Taking<'_> {
         requires index { MayArrive self.old at }
         requires input { at.is_output ≡ false }
         requires no_basic { (t : BasicType) → (system_in self.old).kind (path_at (system_in self.old) at.instance) ≢ Some (Basic t) }
-        requires stands { AreIndexes (ports_in self.old at.instance).inputs (names_in (system_in self.old) at) (variable ∷ []) }
+        requires represents { AreIndexes (ports_in self.old at.instance).inputs (names_in (system_in self.old) at) (variable ∷ []) }
         ensures taken { OnOk result (HasDone (sampling self.old.system.now self.old.key.now at) self.old self.new) }
         ensures ready { OnOk result (MayBegin self.new) }
         ensures outs { OnOk result (ArePutOut self.old self.new) }
@@ -189,7 +189,7 @@ impl Taking<'_> {
         requires input { at.is_output ≡ false }
         requires counted { length values ≡ length (names_in (system_in self.old) at) }
         requires emissions { All (IsEmission (ports_in self.old at.instance)) emits.old }
-        ensures told { OnOk result (HasWritten self.old at values emits.old self.new) }
+        ensures wrote { OnOk result (HasWritten self.old at values emits.old self.new) }
         ensures outs { OnOk result (ArePutOut self.old self.new) }
 
         // Also where memory runs out.

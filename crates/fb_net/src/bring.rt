@@ -6,7 +6,7 @@ ghost use Rattle.fb_types.specs.Headline.{system_of};
 ghost use Rattle.fb_types.specs.Numbers.{path_at, ports_at};
 ghost use Rattle.fb_types.specs.declared.library.BasicType.{BasicType};
 ghost use Rattle.fb_system.specs.Ports.{IsCarried, IsPort};
-ghost use Rattle.fb_system.specs.Stands.{AreIndexes};
+ghost use Rattle.fb_system.specs.IndexLists.{AreIndexes};
 ghost use Rattle.fb_net.specs.Changes.{Changes};
 ghost use Rattle.fb_net.specs.Samples.{HoldsAll, all_sampled, names_in, slots_set};
 

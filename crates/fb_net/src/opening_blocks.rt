@@ -10,7 +10,7 @@ ghost use Rattle.fb_types.specs.declared.library.CompositeType.{CompositeType};
 ghost use Rattle.fb_st.specs.Frames.{declared_in, values_of};
 ghost use Rattle.fb_ecc.specs.Programs.{IsSharedOf};
 ghost use Rattle.fb_net.specs.Blocks.{components_of, own_of};
-ghost use Rattle.fb_net.specs.Worlds.{BasicStands, StandsFor};
+ghost use Rattle.fb_net.specs.Worlds.{BasicRepresents, Represents};
 ghost use Rattle.fb_net.specs.Opening.{AreCharts, AreDeclared, begun_all};
 
 use crate::block::Block;
@@ -54,7 +54,7 @@ fn opened_of(
     requires instance { instance < length (system_of system.now).paths }
     requires kind { (system_of system.now).kind (path_at (system_of system.now) instance) ≡ Some (Basic block.now) }
     requires chart { IsSharedOf block.now chart }
-    ensures { IfOk result (λ s. let b = opening_block (system_of system.now) (path_at (system_of system.now) instance) in BasicStands block.now s b.memory b.variables) }
+    ensures { IfOk result (λ s. let b = opening_block (system_of system.now) (path_at (system_of system.now) instance) in BasicRepresents block.now s b.memory b.variables) }
 {
     system.facts();
     let mut state = BasicState::open(alloc, block, chart)?;
@@ -78,7 +78,7 @@ fn basic_of(
     requires kind { (system_of system.now).kind (path_at (system_of system.now) instance) ≡ Some (Basic block.now) }
     requires index { slice_get system.now.library.blocks index ≡ Some (types.Basic block.now) }
     requires charts { AreCharts system.now charts.old }
-    ensures stands { IfOk result (λ s. let b = opening_block (system_of system.now) (path_at (system_of system.now) instance) in BasicStands block.now s b.memory b.variables) }
+    ensures represents { IfOk result (λ s. let b = opening_block (system_of system.now) (path_at (system_of system.now) instance) in BasicRepresents block.now s b.memory b.variables) }
     ensures charts { OnOk result (AreCharts system.now charts.new) }
 {
     system.facts();
@@ -97,7 +97,7 @@ pub fn block_of(
 ) -> Result<Block, AllocError>
     requires instance { instance < length (system_of system.now).paths }
     requires charts { AreCharts system.now charts.old }
-    ensures stands { IfOk result (λ b. let p = path_at (system_of system.now) instance in StandsFor (system_of system.now) p (own_of b) (opening_block (system_of system.now) p)) }
+    ensures represents { IfOk result (λ b. let p = path_at (system_of system.now) instance in Represents (system_of system.now) p (own_of b) (opening_block (system_of system.now) p)) }
     ensures components { IfOk result (λ b. (c : CompositeType) → (system_of system.now).kind (path_at (system_of system.now) instance) ≡ Some (Composite c) → components_of b ≡ components) }
     ensures charts { OnOk result (AreCharts system.now charts.new) }
 {

@@ -7,7 +7,7 @@ ghost use Rattle.fb_types.specs.Numbers.{path_at};
 ghost use Rattle.fb_types.specs.Simulation.{opening_block};
 ghost use Rattle.fb_types.specs.declared.library.BasicType.{BasicType};
 ghost use Rattle.fb_system.specs.Stimuli.{initial_inputs};
-ghost use Rattle.fb_net.specs.Worlds.{ShellStands};
+ghost use Rattle.fb_net.specs.Worlds.{ShellRepresents};
 
 use crate::shell::Shell;
 use fb_check_names::TypeNumber;
@@ -31,7 +31,7 @@ fn sampled_of(alloc: Global, system: &System, instance: u32) -> Result<Items<Val
 /// What connections and stimuli have set of an instance before the first event.
 pub(crate) fn shell_of(alloc: Global, system: &System, instance: u32) -> Result<Shell, AllocError>
     requires { instance < length (system_of system.now).paths }
-    ensures { IfOk result (λ s. let p = path_at (system_of system.now) instance in ShellStands (system_of system.now) p s (opening_block (system_of system.now) p)) }
+    ensures { IfOk result (λ s. let p = path_at (system_of system.now) instance in ShellRepresents (system_of system.now) p s (opening_block (system_of system.now) p)) }
 {
     let slots = system.initial_inputs(alloc, instance)?;
     let published = system.initial_outputs(alloc, instance)?;

@@ -4,7 +4,7 @@ ghost use Rattle.std.specs.Prelude.{◌≡◌, false, true, length, IfOk};
 ghost use Rattle.fb_types.specs.Headline.{system_of};
 ghost use Rattle.fb_types.specs.Numbers.{path_at, ports_at};
 ghost use Rattle.fb_system.specs.Ports.{IsCompositeAt, IsPort};
-ghost use Rattle.fb_system.specs.Stands.{AreIndexes};
+ghost use Rattle.fb_system.specs.IndexLists.{AreIndexes};
 ghost use Rattle.fb_net.specs.Samples.{AreSampled, AreShown, names_in, names_out};
 
 use crate::resource::Forest;

@@ -11,7 +11,7 @@ use Rattle.fb_types.specs.declared.run.Message.{Message}
 use Rattle.fb_agenda.specs.Agendas.{Contents, waiting}
 use Rattle.fb_agenda.specs.Arrivals.{AreNew, arrival_at}
 use Rattle.fb_laws.specs.Sound.{IsSound}
-use Rattle.fb_resource.specs.Resources.{StandsFor}
+use Rattle.fb_resource.specs.Resources.{Represents}
 use Rattle.fb_resource.specs.declared.resource.Resource.{Resource}
 use Rattle.fb_laws.proofs.Opening.{is_opening}
 
@@ -25,12 +25,12 @@ unmapped f None e = refl
 unmapped f (Some x) e = absurd cc
 
 pub unheard : (i : Inputs) (n : ℕ) (x : Resource) → IsSound (system_of i)
-    → ((limit : ℕ) → StandsFor i limit (local_of (system_of i) limit n (opening (system_of i) (stimuli_of i)) None) x)
+    → ((limit : ℕ) → Represents i limit (local_of (system_of i) limit n (opening (system_of i) (stimuli_of i)) None) x)
     → (j : Key) → j.class ≡ 2 → j.resource ≡ x.tree.resource → waiting x.agenda j ≡ None
-unheard i n x sound stands j two here =
+unheard i n x sound represents j two here =
     let arrival : (j.class == 2) ≡ true = eq-eqb j.class 2 two in
     unmapped _ (waiting x.agenda j)
-    (sym ((stands 0).waits j here) ∙ parted (j.class == 2) (opening_agenda (system_of i) (stimuli_of i) j) ∙ (is_opening (system_of i) sound 0 (stimuli_of i)).quiet j arrival)
+    (sym ((represents 0).waits j here) ∙ parted (j.class == 2) (opening_agenda (system_of i) (stimuli_of i) j) ∙ (is_opening (system_of i) sound 0 (stimuli_of i)).quiet j arrival)
 
 -- so all messages are new to it
 pub are_new : (r : ℕ) (ms : List Message) (c : Contents) → ((j : Key) → j.class ≡ 2 → j.resource ≡ r → waiting c j ≡ None) → AreNew r ms c

@@ -15,9 +15,9 @@ item_of outcome (Err e) new found all r more = absurd more
 -- nothing was added, for the fault for which nothing was read
 pub fault_of : {A : Type 0} (outcome : Outcome A) (read : Result A ParseFault) (new : Tokens) (found : List A) (e : ParseFault)
     → Reads outcome read new → Adds found read (Err e) → Reads outcome (Err e) new
-fault_of outcome read new found fault.Memory r told = tt
-fault_of outcome read new found fault.Syntax r told = subst (λ q. Reads outcome q new) told r
-fault_of outcome read new found fault.Nesting r told = subst (λ q. Reads outcome q new) told r
+fault_of outcome read new found fault.Memory r shown = tt
+fault_of outcome read new found fault.Syntax r shown = subst (λ q. Reads outcome q new) shown r
+fault_of outcome read new found fault.Nesting r shown = subst (λ q. Reads outcome q new) shown r
 
 -- the parser continues with what was found and the item that was read
 pub added_on : {A B : Type 0} (outcome : Outcome A) (read : Result A ParseFault) (new : Tokens) (found all : List A) (go : List A → Parser B)

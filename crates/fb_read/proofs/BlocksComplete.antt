@@ -30,10 +30,10 @@ basic-complete : (n : Name) (p : Ports) (x : BasicType) (ts rest : Tokens) → I
 unfolding basic same_mark
 basic-complete n p x ts rest (is_basic {vs = vs} {ss = ss} {xs = xs} {ys = ys} {a = a} {b = b} {c = c} v s l m) =
     let whole : BlockType = block_type.Basic (basic_of n p vs ss xs ys) in
-    let behind : Tokens = token.Mark mark.EndFunctionBlock ∷ rest in
+    let following : Tokens = token.Mark mark.EndFunctionBlock ∷ rest in
     rw (variables-complete mark.Var vs ts a v (states-start mark.Var s), states-complete ss a b s, transitions-complete xs b c l (algorithms-start mark.EcTransitions m refl refl))
-    (bind-picked (all_fit fits_transition xs) (all_fit fits_algorithm ys) xs c _ whole behind
-    (rw (algorithms-complete ys c behind m refl) (pass-picked (all_fit fits_algorithm ys) ys behind _ whole behind refl)))
+    (bind-picked (all_fit fits_transition xs) (all_fit fits_algorithm ys) xs c _ whole following
+    (rw (algorithms-complete ys c following m refl) (pass-picked (all_fit fits_algorithm ys) ys following _ whole following refl)))
 
 basic-starts : {n : Name} {p : Ports} {x : BasicType} {ts rest : Tokens} (k : Mark) → IsBasic n p x ts rest → same_mark mark.Var k ≡ false → same_mark mark.EcStates k ≡ false → sees k ts ≡ false
 basic-starts k (is_basic v s l m) no_var no_states = variables-start k v no_var (states-start k s ∙ no_states)
@@ -87,7 +87,7 @@ blocks-complete = run-complete block IsBlock fits_block mark.FunctionBlock block
 
 pub library-complete : (x : Library) (ts rest : Tokens) → IsLibrary x ts rest → sees mark.FunctionBlock rest ≡ false → library ts ≡ picked (fits_library x) x rest
 unfolding library same_mark
-library-complete x ts rest (is_library {xs = xs} {ys = ys} {x = y} {a = a} {b = b} before l behind) ends =
+library-complete x ts rest (is_library {xs = xs} {ys = ys} {x = y} {a = a} {b = b} before l following) ends =
     rw (blocks-complete [] xs ts a before (application-starts mark.FunctionBlock l), list_all-append fits_block xs ys)
     (bind-picked (all_fit fits_block xs) (all_fit fits_block ys) xs a _ (library_of (xs ++ ys) y) rest
-    (rw (application-complete y a b l, blocks-complete xs ys b rest behind ends) (pass-picked (all_fit fits_block ys) (xs ++ ys) rest _ (library_of (xs ++ ys) y) rest refl)))
+    (rw (application-complete y a b l, blocks-complete xs ys b rest following ends) (pass-picked (all_fit fits_block ys) (xs ++ ys) rest _ (library_of (xs ++ ys) y) rest refl)))

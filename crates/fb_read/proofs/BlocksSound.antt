@@ -61,6 +61,6 @@ library-sound ts x rest h =
     let b = both_ok (application a.1) _ (x, rest) a.3 in
     let c = both_ok (run_after block mark.FunctionBlock a.0 b.1) _ (x, rest) b.3 in
     let before = adds-all (AreAll IsBlock) a.0 ts a.1 (run-sound block IsBlock mark.FunctionBlock block-sound [] ts a.0 a.1 a.2) in
-    let behind = run-sound block IsBlock mark.FunctionBlock block-sound a.0 b.1 c.0 c.1 c.2 in
-    let whole : IsLibrary (library_of (a.0 ++ behind.more) b.0) ts c.1 = is_library before (application-sound a.1 b.0 b.1 b.2) behind.derived in
-    made IsLibrary (library_of c.0 b.0) x ts c.1 rest c.3 (subst (λ (all : List BlockType). IsLibrary (library_of all b.0) ts c.1) (sym behind.read_is) whole)
+    let following = run-sound block IsBlock mark.FunctionBlock block-sound a.0 b.1 c.0 c.1 c.2 in
+    let whole : IsLibrary (library_of (a.0 ++ following.more) b.0) ts c.1 = is_library before (application-sound a.1 b.0 b.1 b.2) following.derived in
+    made IsLibrary (library_of c.0 b.0) x ts c.1 rest c.3 (subst (λ (all : List BlockType). IsLibrary (library_of all b.0) ts c.1) (sym following.read_is) whole)

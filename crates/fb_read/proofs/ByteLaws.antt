@@ -52,11 +52,11 @@ digit-not-letter b h =
     let u : eqb b 95 ≡ false = grind arith in
     rw (a, c, u) refl
 
-are_digits-word : (base : ℕ) (wanted : Bool) (z : Text) → base ≤ 16 → are_digits base wanted z ≡ true → AreWord z
-are_digits-word base wanted [] le h = tt
-are_digits-word base wanted (b ∷ z) le h = go (λ w. are_digits-word base w z le) (eqb b 95 && not wanted) refl h
+are_digits-word : (base : ℕ) (expected : Bool) (z : Text) → base ≤ 16 → are_digits base expected z ≡ true → AreWord z
+are_digits-word base expected [] le h = tt
+are_digits-word base expected (b ∷ z) le h = go (λ w. are_digits-word base w z le) (eqb b 95 && not expected) refl h
   where
-    go : ((w : Bool) → are_digits base w z ≡ true → AreWord z) → (t : Bool) → (eqb b 95 && not wanted) ≡ t → cond t (are_digits base true z) (ltb (digit_of b) base && are_digits base false z) ≡ true → AreWord (b ∷ z)
+    go : ((w : Bool) → are_digits base w z ≡ true → AreWord z) → (t : Bool) → (eqb b 95 && not expected) ≡ t → cond t (are_digits base true z) (ltb (digit_of b) base && are_digits base false z) ≡ true → AreWord (b ∷ z)
     go again true e h = let m : b ≡ 95 = eqb-true b 95 (and_parts _ _ e).0 in (rw m refl, again true h)
     go again false e h = let p = and_parts _ _ h in let lt = ltb-true (digit_of b) base p.0 in (digit-word b (omega arith), again false p.1)
 
@@ -129,9 +129,9 @@ next_part-word b y h = go (eqb b 95) refl h
     go true e h = let m : b ≡ 95 = eqb-true b 95 e in (rw m refl, h)
     go false e h = h
 
-behind-word : (less : List Unit) (again : (z : Text) (n : ℕ) → parts less z ≡ Some n → AreWord z) (y : Text) (m : ℕ) → ended y (parts less (next_part y)) ≡ Some m → AreWord y
-behind-word less again [] m h = tt
-behind-word less again (b ∷ y) m h = next_part-word b y (again (next_part (b ∷ y)) m h)
+following-word : (less : List Unit) (again : (z : Text) (n : ℕ) → parts less z ≡ Some n → AreWord z) (y : Text) (m : ℕ) → ended y (parts less (next_part y)) ≡ Some m → AreWord y
+following-word less again [] m h = tt
+following-word less again (b ∷ y) m h = next_part-word b y (again (next_part (b ∷ y)) m h)
 
 parts-word : (us : List Unit) (z : Text) (n : ℕ) → parts us z ≡ Some n → AreWord z
 unfolding parts
@@ -147,7 +147,7 @@ parts-word (u ∷ less) z n h = go (parts-word less) (bytes_eq (unit_at z) (name
         let p = product-part (number 10 (digits_at z)) (ticks_of u) s.0 s.2 in
         let digits = number-word 10 (digits_at z) p.0 (omega arith) p.1 in
         let unit = letters-word (after_digits z) in
-        let rest = behind-word less again (after_unit z) s.1 s.3 in
+        let rest = following-word less again (after_unit z) s.1 s.3 in
         let tail : AreWord (after_digits z) = subst AreWord (take-append-drop _ (after_digits z)) (AreWord-append (unit_at z) (after_unit z) unit rest) in
         subst AreWord (take-append-drop _ z) (AreWord-append (digits_at z) (after_digits z) digits tail)
     go again false h = again z n h

@@ -14,7 +14,7 @@ use Rattle.fb_read.specs.Durations.{duration}
 use Rattle.fb_read.specs.Front.{found, named, whole, base_of, is_time_word, word, literal, time, sign, sign_of, marked, front}
 use Rattle.fb_read.specs.Longest.{AreWord, IsToken, is_name, is_decimal, is_based, is_duration, is_negative_duration, is_sign, IsLiteral, BeginsLiteral, a_base, a_time_word, IsCut, CutsExactly}
 use Rattle.fb_read.proofs.ByteLaws.{number-word, decimal-first, duration-word}
-use Rattle.fb_read.proofs.LongestLaws.{time-found, parts_start-least, whole-found, Signs, none, alone, double, signs, IsTimeWord, time_word, time-word, word-is-time, at-behind, drop-behind, drop-two, not_minus, no-duration, IsBase, two, eight, sixteen, base-is, base-most, front-letter, front-digit, front-sign, takes-longest}
+use Rattle.fb_read.proofs.LongestLaws.{time-found, parts_start-least, whole-found, Signs, none, alone, double, signs, IsTimeWord, time_word, time-word, word-is-time, at-following, drop-following, drop-two, not_minus, no-duration, IsBase, two, eight, sixteen, base-is, base-most, front-letter, front-digit, front-sign, takes-longest}
 
 -- a word ends if no letter, digit or underscore follows
 word-end : (w y : Text) → AreWord w → is_word (at y 0) ≡ false → word_len (w ++ y) ≡ length w
@@ -89,20 +89,20 @@ duration-cut : (w : Text) (x : ℕ) (z y : Text) (n : ℕ) → AreWord (x ∷ z)
 unfolding time
 duration-cut w x z y n a e v =
     let text = w ++ 35 ∷ (x ∷ z ++ y) in
-    let here : at text (length w + 1) ≡ x = at-behind w (x ∷ z ++ y) 35 in
-    let behind : drop (length w + 1) text ≡ x ∷ z ++ y = drop-behind w (x ∷ z ++ y) 35 in
+    let here : at text (length w + 1) ≡ x = at-following w (x ∷ z ++ y) 35 in
+    let following : drop (length w + 1) text ≡ x ∷ z ++ y = drop-following w (x ∷ z ++ y) 35 in
     let len : length (w ++ 35 ∷ (x ∷ z)) ≡ length w + 1 + length (x ∷ z) = rw (length-append w (35 ∷ (x ∷ z))) (omega arith) in
-    rw (here, not_minus x a.0, behind, word-there (x ∷ z) y a e, word-end (x ∷ z) y a e, v, len) refl
+    rw (here, not_minus x a.0, following, word-there (x ∷ z) y a e, word-end (x ∷ z) y a e, v, len) refl
 
 negative-cut : (w z y : Text) (n : ℕ) → AreWord z → is_word (at y 0) ≡ false → duration (in_upper z) ≡ Some n
     → time (w ++ 35 ∷ (45 ∷ (z ++ y))) (length w + 1) ≡ found (token.Time (neg_ℤ (pos n))) (length (w ++ 35 ∷ (45 ∷ z)))
 unfolding time
 negative-cut w z y n a e v =
     let text = w ++ 35 ∷ (45 ∷ (z ++ y)) in
-    let here : at text (length w + 1) ≡ 45 = at-behind w (45 ∷ (z ++ y)) 35 in
-    let behind : drop (length w + 1 + 1) text ≡ z ++ y = drop-two w (z ++ y) 35 45 in
+    let here : at text (length w + 1) ≡ 45 = at-following w (45 ∷ (z ++ y)) 35 in
+    let following : drop (length w + 1 + 1) text ≡ z ++ y = drop-two w (z ++ y) 35 45 in
     let len : length (w ++ 35 ∷ (45 ∷ z)) ≡ length w + 1 + 1 + length z = rw (length-append w (35 ∷ (45 ∷ z))) (omega arith) in
-    rw (here, behind, word-there z y a e, word-end z y a e, v, len) refl
+    rw (here, following, word-there z y a e, word-end z y a e, v, len) refl
 
 sign-alone-cut : (b : ℕ) (rest : Text) (k : Mark) → is_word b ≡ false → sign_of b 0 ≡ sign k 1 → Longest (b ∷ []) rest → sign_of b (at rest 0) ≡ sign k 1
 sign-alone-cut b [] k f e h = e

@@ -48,11 +48,11 @@ letters-end (c ∷ w) y h e = rw h.0 (omega (arith, letters-end w y h.1 e))
 no-letter : (b : ℕ) → is_ascii_digit b ≡ true → is_ascii_alphabetic b ≡ false
 no-letter b h = (or_parts (is_ascii_alphabetic b) (eqb b 95) (digit-not-letter b h)).0
 
-no-letters : (wanted : Bool) (z : Text) → are_digits 10 wanted z ≡ true → NoLetters z
-no-letters wanted [] h = tt
-no-letters wanted (b ∷ z) h = go (λ w. no-letters w z) (eqb b 95 && not wanted) refl h
+no-letters : (expected : Bool) (z : Text) → are_digits 10 expected z ≡ true → NoLetters z
+no-letters expected [] h = tt
+no-letters expected (b ∷ z) h = go (λ w. no-letters w z) (eqb b 95 && not expected) refl h
   where
-    go : ((w : Bool) → are_digits 10 w z ≡ true → NoLetters z) → (t : Bool) → (eqb b 95 && not wanted) ≡ t
+    go : ((w : Bool) → are_digits 10 w z ≡ true → NoLetters z) → (t : Bool) → (eqb b 95 && not expected) ≡ t
         → cond t (are_digits 10 true z) (ltb (digit_of b) 10 && are_digits 10 false z) ≡ true → NoLetters (b ∷ z)
     go again true e h = let m : b ≡ 95 = eqb-true b 95 (and_parts _ _ e).0 in (rw m refl, again true h)
     go again false e h =
@@ -80,7 +80,7 @@ drop_at (x ∷ a) b n e = rw e (drop_at a b (length a) refl)
 record Front (d name y z : Text) : Type 0 where
   digits : digits_at z ≡ d
   unit : unit_at z ≡ name
-  behind : after_unit z ≡ y
+  following : after_unit z ≡ y
 
 front-of : (d : Text) (u : Unit) (y : Text) → NoLetters d → is_ascii_alphabetic (at y 0) ≡ false → Front d (name_of u) y (d ++ (name_of u ++ y))
 front-of d u y h e =
@@ -90,7 +90,7 @@ front-of d u y h e =
     record {
       digits = take_at d (name_of u ++ y) _ (sym n);
       unit = rw rest (take_at (name_of u) y _ (sym m));
-      behind = rw rest (drop_at (name_of u) y _ m);
+      following = rw rest (drop_at (name_of u) y _ m);
     }
 
 -- ---- units
@@ -268,7 +268,7 @@ part-front : (u : Unit) (a y : Text) (n : ℕ) → IsPart u a n → is_ascii_alp
     → (m : ℕ) × (unit_at (a ++ y) ≡ name_of u) × (number 10 (digits_at (a ++ y)) ≡ Some m) × (m * ticks_of u ≡ n) × (after_unit (a ++ y) ≡ y)
 part-front u a y n (a_part v d m e) h =
     let f = front-of d v y (no-letters true d (number-digits 10 d m e)) h in
-    rw append_assoc (m, f.unit, rw f.digits e, refl, f.behind)
+    rw append_assoc (m, f.unit, rw f.digits e, refl, f.following)
 
 -- parts are read by the units from some one on
 abbrev Finds : List Unit → ℕ → Type 0
@@ -289,11 +289,11 @@ read-first u less z n again (a_last v a m p) le =
     let sum : m + 0 ≡ m = omega arith in
     let r = first-read v less a [] m 0 p refl refl (omega arith) in
     rw (append-nil a, sum) at r
-read-first u less z n again (a_further v w a y m k p lt q) le = behind y (parts-first w y k q) q
+read-first u less z n again (a_further v w a y m k p lt q) le = following y (parts-first w y k q) q
   where
-    behind : (y : Text) → is_ascii_digit (at y 0) ≡ true → AreParts w y k → parts (v ∷ less) (a ++ y) ≡ Some (m + k)
-    behind [] d q = absurd (true≢false (sym d))
-    behind (b ∷ y) d q =
+    following : (y : Text) → is_ascii_digit (at y 0) ≡ true → AreParts w y k → parts (v ∷ less) (a ++ y) ≡ Some (m + k)
+    following [] d q = absurd (true≢false (sym d))
+    following (b ∷ y) d q =
         let other : eqb b 95 ≡ false = false_from_ne_true (eqb b 95) (λ e. true≢false (sym d ∙ ap is_ascii_digit (eqb-true b 95 e))) in
         let next : next_part (b ∷ y) ≡ b ∷ y = rw other refl in
         first-read v less a (b ∷ y) m k p (no-letter b d) (rw next (again w (b ∷ y) k lt q (omega arith))) le

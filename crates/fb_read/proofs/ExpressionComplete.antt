@@ -206,7 +206,7 @@ mutual
       → climb below (nested_expression below) (suc n) (nested_expression below n) fuel (sized first) ts ≡ within (suc below) x rest
   chain-complete {n = n} {x = x} {ts = ts} below fuel ends h le long = climb-end below (suc n) fuel (nested_expression below n) x ts (h.no_operator (suc n) (omega arith)) le
   chain-complete below zero (goes_on k o r c) h le long = absurd (omega (arith, mark-shorter k))
-  chain-complete {n = n} {first = left} {x = x} {ts = ts} {rest = rest} below (suc fuel) (goes_on {op = op} {right = right} {before = before} {behind = mid} k o r c) h le long =
+  chain-complete {n = n} {first = left} {x = x} {ts = ts} {rest = rest} below (suc fuel) (goes_on {op = op} {right = right} {before = before} {following = mid} k o r c) h le long =
       climb-step below (suc n) fuel op left right x ts before mid rest (next-operator (suc n) op k o) (rest-is k) (nested_expression below n) (at_depth below n right before mid (λ b. level-complete b r (chain-stops c h))) (chain-grows c)
       (λ fits. chain-complete below fuel c h fits (omega (arith, mark-shorter k, level-shorter r)))
 
@@ -233,7 +233,7 @@ mutual
   arguments-complete below zero found depth (another l k a) last h long = absurd (omega (arith, level-shorter l))
   arguments-complete {ts = ts} {rest = rest} below (suc fuel) found depth (one {x = x} l) last h long =
       one-step below fuel (nested_expression below) found depth x ts rest (at_depth below 7 x ts rest (λ b. level-complete b l h)) last
-  arguments-complete {ts = ts} {rest = rest} below (suc fuel) found depth (another {x = x} {xs = xs} {behind = after'} l is_mark a) last h long =
+  arguments-complete {ts = ts} {rest = rest} below (suc fuel) found depth (another {x = x} {xs = xs} {following = after'} l is_mark a) last h long =
       another-step below fuel (nested_expression below) found depth x xs ts after' rest (at_depth below 7 x ts (token.Mark mark.Comma ∷ after') (λ b. level-complete b l (stops-mark mark.Comma 7 after' comma refl)))
       (arguments-complete below fuel (found ++ x ∷ []) (max depth (nesting x)) a last h (omega (arith, level-shorter l)))
 

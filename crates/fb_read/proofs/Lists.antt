@@ -145,10 +145,10 @@ unfolding separated_from
 separated-end p fuel found x b ts rest read ends =
     rw read (bind-picked b true x rest _ (found ++ x ∷ []) rest (rw (ends, after-unseen mark.Comma rest ends) refl))
 
-separated-turn : {A : Type 0} (p : Parser A) (fuel : ℕ) (found : List A) (x : A) (b c : Bool) (ts before behind rest : Tokens) (y : List A) → p ts ≡ picked b x before → IsMark mark.Comma before behind
-    → separated_from p fuel (found ++ x ∷ []) behind ≡ picked c y rest → separated_from p (suc fuel) found ts ≡ picked (b && c) y rest
+separated-turn : {A : Type 0} (p : Parser A) (fuel : ℕ) (found : List A) (x : A) (b c : Bool) (ts before following rest : Tokens) (y : List A) → p ts ≡ picked b x before → IsMark mark.Comma before following
+    → separated_from p fuel (found ++ x ∷ []) following ≡ picked c y rest → separated_from p (suc fuel) found ts ≡ picked (b && c) y rest
 unfolding separated_from
-separated-turn p fuel found x b c ts before behind rest y read k go =
+separated-turn p fuel found x b c ts before following rest y read k go =
     rw read (bind-picked b c x before _ y rest (rw (sees-mark k, after-mark k) go))
 
 module _ {A : Type 0} (p : Parser A) (R : A → Tokens → Tokens → Type 0) (Before : Tokens → Type 0) (fit : A → Bool) where
@@ -159,9 +159,9 @@ module _ {A : Type 0} (p : Parser A) (R : A → Tokens → Tokens → Type 0) (B
   separated_from-complete i short comma (suc fuel) found {ts = ts} {rest = rest} (last {x = x} r) before ends long =
       separated-end p fuel found x (fit x) ts rest (i x ts rest r before) ends
   separated_from-complete i short comma zero found {ts = ts} (and_next {x = x} {before = here} r k l) before ends long = absurd (omega (arith, short x ts here r))
-  separated_from-complete i short comma (suc fuel) found {ts = ts} {rest = rest} (and_next {x = x} {xs = xs} {before = here} {behind = behind} r k l) before ends long =
+  separated_from-complete i short comma (suc fuel) found {ts = ts} {rest = rest} (and_next {x = x} {xs = xs} {before = here} {following = following} r k l) before ends long =
       let read = separated_from-complete i short comma fuel (found ++ x ∷ []) l before ends (omega (arith, short x ts here r, mark-shorter k)) in
-      separated-turn p fuel found x (fit x) (all_fit fit xs) ts here behind rest (found ++ x ∷ xs) (i x ts here r (comma here behind k)) k
+      separated-turn p fuel found x (fit x) (all_fit fit xs) ts here following rest (found ++ x ∷ xs) (i x ts here r (comma here following k)) k
       (read ∙ ap (λ (ys : List A). picked (all_fit fit xs) ys rest) (append_assoc found (x ∷ []) xs))
 
   pub separated-complete : (i : IsComplete p R Before fit) (short : IsShorter R) (comma : (ts rest : Tokens) → IsMark mark.Comma ts rest → Before ts)

@@ -27,8 +27,8 @@ left-length rest ts w = let e = ap (λ (us : Tokens). length us) w.joined in let
 pub record Local {A : Type 0} (p : Parser A) : Type 0 where
   pub left : (ts rest : Tokens) (x : A) → p ts ≡ Ok (x, rest) → IsLeft rest ts
   pub stuck : (ts rest : Tokens) → p ts ≡ Err (syntax rest) → IsLeft rest ts
-  pub same : (before mid behind more : Tokens) (t : Token) (x : A) → p (before ++ t ∷ behind) ≡ Ok (x, mid ++ t ∷ behind) → p (before ++ t ∷ more) ≡ Ok (x, mid ++ t ∷ more)
-  pub refused : (before mid behind more : Tokens) (t : Token) → p (before ++ t ∷ behind) ≡ Err (syntax (mid ++ t ∷ behind)) → p (before ++ t ∷ more) ≡ Err (syntax (mid ++ t ∷ more))
+  pub same : (before mid following more : Tokens) (t : Token) (x : A) → p (before ++ t ∷ following) ≡ Ok (x, mid ++ t ∷ following) → p (before ++ t ∷ more) ≡ Ok (x, mid ++ t ∷ more)
+  pub refused : (before mid following more : Tokens) (t : Token) → p (before ++ t ∷ following) ≡ Err (syntax (mid ++ t ∷ following)) → p (before ++ t ∷ more) ≡ Err (syntax (mid ++ t ∷ more))
 
 -- ---- one rule after another
 
@@ -39,15 +39,15 @@ abbrev failed : {A : Type 0} → Tokens → Outcome A
 failed ts = Err (syntax ts)
 
 -- what was read, or why nothing was
-pub data Sort {A : Type 0} (o : Outcome A) : Type 0 where
-  is_read : (x : A) (rest : Tokens) → o ≡ Ok (x, rest) → Sort o
-  is_stuck : (rest : Tokens) → o ≡ Err (syntax rest) → Sort o
-  is_deep : o ≡ Err too_deep → Sort o
+pub data Shape {A : Type 0} (o : Outcome A) : Type 0 where
+  is_read : (x : A) (rest : Tokens) → o ≡ Ok (x, rest) → Shape o
+  is_stuck : (rest : Tokens) → o ≡ Err (syntax rest) → Shape o
+  is_deep : o ≡ Err too_deep → Shape o
 
-pub sort : {A : Type 0} (o : Outcome A) → Sort o
-sort (Ok p) = is_read p.0 p.1 refl
-sort (Err (syntax rest)) = is_stuck rest refl
-sort (Err too_deep) = is_deep refl
+pub shape : {A : Type 0} (o : Outcome A) → Shape o
+shape (Ok p) = is_read p.0 p.1 refl
+shape (Err (syntax rest)) = is_stuck rest refl
+shape (Err too_deep) = is_deep refl
 
 stuck-is : {B : Type 0} (rest other : Tokens) → failed {A = B} rest ≡ failed other → rest ≡ other
 stuck-is rest other e = cc
@@ -60,18 +60,18 @@ not-deep rest o h k = cc
 
 pub local-bind : {A B : Type 0} (p : Parser A) (f : A → Parser B) → Local p → ((x : A) → Local (f x)) → Local (p >>= f)
 local-bind {A = A} {B = B} p f l m = record {
-  left = λ ts rest y h. left-of ts rest y h (sort (p ts));
-  stuck = λ ts rest h. stuck-of ts rest h (sort (p ts));
-  same = λ before mid behind more t y h. same-of before mid behind more t y h (sort (p (before ++ t ∷ behind)));
-  refused = λ before mid behind more t h. refused-of before mid behind more t h (sort (p (before ++ t ∷ behind)));
+  left = λ ts rest y h. left-of ts rest y h (shape (p ts));
+  stuck = λ ts rest h. stuck-of ts rest h (shape (p ts));
+  same = λ before mid following more t y h. same-of before mid following more t y h (shape (p (before ++ t ∷ following)));
+  refused = λ before mid following more t h. refused-of before mid following more t h (shape (p (before ++ t ∷ following)));
 }
   where
-    left-of : (ts rest : Tokens) (y : B) → and_then (p ts) f ≡ Ok (y, rest) → Sort (p ts) → IsLeft rest ts
+    left-of : (ts rest : Tokens) (y : B) → and_then (p ts) f ≡ Ok (y, rest) → Shape (p ts) → IsLeft rest ts
     left-of ts rest y h (is_read x r e) = left-left rest r ts ((m x).left r rest y (sym (ap (λ (o : Outcome A). and_then o f) e) ∙ h)) (l.left ts r x e)
     left-of ts rest y h (is_stuck r e) = absurd (not-read (syntax r) (y, rest) (and_then (p ts) f) (ap (λ (o : Outcome A). and_then o f) e) h)
     left-of ts rest y h (is_deep e) = absurd (not-read too_deep (y, rest) (and_then (p ts) f) (ap (λ (o : Outcome A). and_then o f) e) h)
 
-    stuck-of : (ts rest : Tokens) → and_then (p ts) f ≡ Err (syntax rest) → Sort (p ts) → IsLeft rest ts
+    stuck-of : (ts rest : Tokens) → and_then (p ts) f ≡ Err (syntax rest) → Shape (p ts) → IsLeft rest ts
     stuck-of ts rest h (is_read x r e) = left-left rest r ts ((m x).stuck r rest (sym (ap (λ (o : Outcome A). and_then o f) e) ∙ h)) (l.left ts r x e)
     stuck-of ts rest h (is_stuck r e) =
         let same : r ≡ rest = stuck-is {B = B} r rest (sym (ap (λ (o : Outcome A). and_then o f) e) ∙ h) in
@@ -79,35 +79,35 @@ local-bind {A = A} {B = B} p f l m = record {
     stuck-of ts rest h (is_deep e) = absurd (not-deep rest (and_then (p ts) f) (ap (λ (o : Outcome A). and_then o f) e) h)
 
     -- after the first rule, its rest in place of the whole
-    goes-on : (before mid behind more : Tokens) (t : Token) (x : A) (r : Tokens) → p (before ++ t ∷ behind) ≡ Ok (x, r) → IsLeft (mid ++ t ∷ behind) r
-        → (a : Tokens) × (r ≡ a ++ (mid ++ t ∷ behind)) × (p (before ++ t ∷ more) ≡ Ok (x, (a ++ mid) ++ t ∷ more))
-    goes-on before mid behind more t x r e w = (
+    goes-on : (before mid following more : Tokens) (t : Token) (x : A) (r : Tokens) → p (before ++ t ∷ following) ≡ Ok (x, r) → IsLeft (mid ++ t ∷ following) r
+        → (a : Tokens) × (r ≡ a ++ (mid ++ t ∷ following)) × (p (before ++ t ∷ more) ≡ Ok (x, (a ++ mid) ++ t ∷ more))
+    goes-on before mid following more t x r e w = (
       w.before,
       sym w.joined,
-      l.same before (w.before ++ mid) behind more t x (e ∙ ap (λ (us : Tokens). done x us) (sym w.joined ∙ sym (append_assoc w.before mid (t ∷ behind)))),
+      l.same before (w.before ++ mid) following more t x (e ∙ ap (λ (us : Tokens). done x us) (sym w.joined ∙ sym (append_assoc w.before mid (t ∷ following)))),
     )
 
-    same-of : (before mid behind more : Tokens) (t : Token) (y : B) → and_then (p (before ++ t ∷ behind)) f ≡ Ok (y, mid ++ t ∷ behind) → Sort (p (before ++ t ∷ behind))
+    same-of : (before mid following more : Tokens) (t : Token) (y : B) → and_then (p (before ++ t ∷ following)) f ≡ Ok (y, mid ++ t ∷ following) → Shape (p (before ++ t ∷ following))
         → and_then (p (before ++ t ∷ more)) f ≡ Ok (y, mid ++ t ∷ more)
-    same-of before mid behind more t y h (is_read x r e) =
+    same-of before mid following more t y h (is_read x r e) =
         let g = sym (ap (λ (o : Outcome A). and_then o f) e) ∙ h in
-        let w = goes-on before mid behind more t x r e ((m x).left r (mid ++ t ∷ behind) y g) in
-        let there : f x ((w.0 ++ mid) ++ t ∷ behind) ≡ Ok (y, mid ++ t ∷ behind) = ap (λ (us : Tokens). f x us) (append_assoc w.0 mid (t ∷ behind) ∙ sym w.1) ∙ g in
-        ap (λ (o : Outcome A). and_then o f) w.2 ∙ (m x).same (w.0 ++ mid) mid behind more t y there
-    same-of before mid behind more t y h (is_stuck r e) = absurd (not-read (syntax r) (y, mid ++ t ∷ behind) (and_then (p (before ++ t ∷ behind)) f) (ap (λ (o : Outcome A). and_then o f) e) h)
-    same-of before mid behind more t y h (is_deep e) = absurd (not-read too_deep (y, mid ++ t ∷ behind) (and_then (p (before ++ t ∷ behind)) f) (ap (λ (o : Outcome A). and_then o f) e) h)
+        let w = goes-on before mid following more t x r e ((m x).left r (mid ++ t ∷ following) y g) in
+        let there : f x ((w.0 ++ mid) ++ t ∷ following) ≡ Ok (y, mid ++ t ∷ following) = ap (λ (us : Tokens). f x us) (append_assoc w.0 mid (t ∷ following) ∙ sym w.1) ∙ g in
+        ap (λ (o : Outcome A). and_then o f) w.2 ∙ (m x).same (w.0 ++ mid) mid following more t y there
+    same-of before mid following more t y h (is_stuck r e) = absurd (not-read (syntax r) (y, mid ++ t ∷ following) (and_then (p (before ++ t ∷ following)) f) (ap (λ (o : Outcome A). and_then o f) e) h)
+    same-of before mid following more t y h (is_deep e) = absurd (not-read too_deep (y, mid ++ t ∷ following) (and_then (p (before ++ t ∷ following)) f) (ap (λ (o : Outcome A). and_then o f) e) h)
 
-    refused-of : (before mid behind more : Tokens) (t : Token) → and_then (p (before ++ t ∷ behind)) f ≡ Err (syntax (mid ++ t ∷ behind)) → Sort (p (before ++ t ∷ behind))
+    refused-of : (before mid following more : Tokens) (t : Token) → and_then (p (before ++ t ∷ following)) f ≡ Err (syntax (mid ++ t ∷ following)) → Shape (p (before ++ t ∷ following))
         → and_then (p (before ++ t ∷ more)) f ≡ Err (syntax (mid ++ t ∷ more))
-    refused-of before mid behind more t h (is_read x r e) =
+    refused-of before mid following more t h (is_read x r e) =
         let g = sym (ap (λ (o : Outcome A). and_then o f) e) ∙ h in
-        let w = goes-on before mid behind more t x r e ((m x).stuck r (mid ++ t ∷ behind) g) in
-        let there : f x ((w.0 ++ mid) ++ t ∷ behind) ≡ Err (syntax (mid ++ t ∷ behind)) = ap (λ (us : Tokens). f x us) (append_assoc w.0 mid (t ∷ behind) ∙ sym w.1) ∙ g in
-        ap (λ (o : Outcome A). and_then o f) w.2 ∙ (m x).refused (w.0 ++ mid) mid behind more t there
-    refused-of before mid behind more t h (is_stuck r e) =
-        let same : r ≡ mid ++ t ∷ behind = stuck-is {B = B} r (mid ++ t ∷ behind) (sym (ap (λ (o : Outcome A). and_then o f) e) ∙ h) in
-        ap (λ (o : Outcome A). and_then o f) (l.refused before mid behind more t (e ∙ ap (λ (us : Tokens). failed us) same))
-    refused-of before mid behind more t h (is_deep e) = absurd (not-deep (mid ++ t ∷ behind) (and_then (p (before ++ t ∷ behind)) f) (ap (λ (o : Outcome A). and_then o f) e) h)
+        let w = goes-on before mid following more t x r e ((m x).stuck r (mid ++ t ∷ following) g) in
+        let there : f x ((w.0 ++ mid) ++ t ∷ following) ≡ Err (syntax (mid ++ t ∷ following)) = ap (λ (us : Tokens). f x us) (append_assoc w.0 mid (t ∷ following) ∙ sym w.1) ∙ g in
+        ap (λ (o : Outcome A). and_then o f) w.2 ∙ (m x).refused (w.0 ++ mid) mid following more t there
+    refused-of before mid following more t h (is_stuck r e) =
+        let same : r ≡ mid ++ t ∷ following = stuck-is {B = B} r (mid ++ t ∷ following) (sym (ap (λ (o : Outcome A). and_then o f) e) ∙ h) in
+        ap (λ (o : Outcome A). and_then o f) (l.refused before mid following more t (e ∙ ap (λ (us : Tokens). failed us) same))
+    refused-of before mid following more t h (is_deep e) = absurd (not-deep (mid ++ t ∷ following) (and_then (p (before ++ t ∷ following)) f) (ap (λ (o : Outcome A). and_then o f) e) h)
 
 -- ---- rules of one token
 
@@ -140,28 +140,28 @@ rest-is {A = A} x y ts us e = ap (λ (p : A × Tokens). p.1) (pair_is (x, ts) (y
 no-done : {A : Type 0} (x : A) (ts us : Tokens) → done x ts ≡ failed us → ⊥
 no-done x ts us e = cc
 
-other-tail : (a mid behind more : Tokens) (t : Token) → a ++ t ∷ behind ≡ mid ++ t ∷ behind → a ++ t ∷ more ≡ mid ++ t ∷ more
-other-tail a mid behind more t e = ap (λ (us : Tokens). us ++ t ∷ more) (append_cancel_right a mid (t ∷ behind) e)
+other-tail : (a mid following more : Tokens) (t : Token) → a ++ t ∷ following ≡ mid ++ t ∷ following → a ++ t ∷ more ≡ mid ++ t ∷ more
+other-tail a mid following more t e = ap (λ (us : Tokens). us ++ t ∷ more) (append_cancel_right a mid (t ∷ following) e)
 
-keep : {A : Type 0} (x y : A) (a mid behind more : Tokens) (t : Token) → done x (a ++ t ∷ behind) ≡ done y (mid ++ t ∷ behind) → done x (a ++ t ∷ more) ≡ done y (mid ++ t ∷ more)
-keep x y a mid behind more t e =
-    let same = value-is x y (a ++ t ∷ behind) (mid ++ t ∷ behind) e in
-    let tail = other-tail a mid behind more t (rest-is x y (a ++ t ∷ behind) (mid ++ t ∷ behind) e) in
+keep : {A : Type 0} (x y : A) (a mid following more : Tokens) (t : Token) → done x (a ++ t ∷ following) ≡ done y (mid ++ t ∷ following) → done x (a ++ t ∷ more) ≡ done y (mid ++ t ∷ more)
+keep x y a mid following more t e =
+    let same = value-is x y (a ++ t ∷ following) (mid ++ t ∷ following) e in
+    let tail = other-tail a mid following more t (rest-is x y (a ++ t ∷ following) (mid ++ t ∷ following) e) in
     rw (same, tail) refl
 
-keep-failed : {A : Type 0} (a mid behind more : Tokens) (t : Token) → failed {A = A} (a ++ t ∷ behind) ≡ failed (mid ++ t ∷ behind) → failed {A = A} (a ++ t ∷ more) ≡ failed (mid ++ t ∷ more)
-keep-failed {A = A} a mid behind more t e = ap (λ (us : Tokens). failed {A = A} us) (other-tail a mid behind more t (stuck-is {B = A} (a ++ t ∷ behind) (mid ++ t ∷ behind) e))
+keep-failed : {A : Type 0} (a mid following more : Tokens) (t : Token) → failed {A = A} (a ++ t ∷ following) ≡ failed (mid ++ t ∷ following) → failed {A = A} (a ++ t ∷ more) ≡ failed (mid ++ t ∷ more)
+keep-failed {A = A} a mid following more t e = ap (λ (us : Tokens). failed {A = A} us) (other-tail a mid following more t (stuck-is {B = A} (a ++ t ∷ following) (mid ++ t ∷ following) e))
 
 -- a list is not longer than itself
-no-shorter : (mid behind : Tokens) (t : Token) → behind ≡ mid ++ t ∷ behind → ⊥
-no-shorter mid behind t e = let l = ap (λ (us : Tokens). length us) e in let m = length-append mid (t ∷ behind) in omega arith
+no-shorter : (mid following : Tokens) (t : Token) → following ≡ mid ++ t ∷ following → ⊥
+no-shorter mid following t e = let l = ap (λ (us : Tokens). length us) e in let m = length-append mid (t ∷ following) in omega arith
 
 pub local-step : {A : Type 0} (e : Step A) (f : Token → Step A) → Local (stepped e f)
 local-step {A = A} e f = record {
   left = λ ts rest x h. left-of ts rest x h;
   stuck = λ ts rest h. stuck-of ts rest h;
-  same = λ before mid behind more t x h. same-of before mid behind more t x h;
-  refused = λ before mid behind more t h. refused-of before mid behind more t h;
+  same = λ before mid following more t x h. same-of before mid following more t x h;
+  refused = λ before mid following more t h. refused-of before mid following more t h;
 }
   where
     left-end : (s : Step A) (rest : Tokens) (x : A) → at_end s ≡ Ok (x, rest) → IsLeft rest []
@@ -192,41 +192,41 @@ local-step {A = A} e f = record {
     stuck-of [] rest h = stuck-end e rest h
     stuck-of (t ∷ ts) rest h = stuck-on (f t) t ts rest h
 
-    same-first : (s : Step A) (mid behind more : Tokens) (t : Token) (x : A) → on s t behind ≡ Ok (x, mid ++ t ∷ behind) → on s t more ≡ Ok (x, mid ++ t ∷ more)
-    same-first (taken y) mid behind more t x h = absurd (no-shorter mid behind t (rest-is y x behind (mid ++ t ∷ behind) h))
-    same-first (kept y) mid behind more t x h = keep y x [] mid behind more t h
-    same-first denied mid behind more t x h = absurd (no-done x (mid ++ t ∷ behind) (t ∷ behind) (sym h))
+    same-first : (s : Step A) (mid following more : Tokens) (t : Token) (x : A) → on s t following ≡ Ok (x, mid ++ t ∷ following) → on s t more ≡ Ok (x, mid ++ t ∷ more)
+    same-first (taken y) mid following more t x h = absurd (no-shorter mid following t (rest-is y x following (mid ++ t ∷ following) h))
+    same-first (kept y) mid following more t x h = keep y x [] mid following more t h
+    same-first denied mid following more t x h = absurd (no-done x (mid ++ t ∷ following) (t ∷ following) (sym h))
 
-    same-later : (s : Step A) (u : Token) (b mid behind more : Tokens) (t : Token) (x : A) → on s u (b ++ t ∷ behind) ≡ Ok (x, mid ++ t ∷ behind) → on s u (b ++ t ∷ more) ≡ Ok (x, mid ++ t ∷ more)
-    same-later (taken y) u b mid behind more t x h = keep y x b mid behind more t h
-    same-later (kept y) u b mid behind more t x h = keep y x (u ∷ b) mid behind more t h
-    same-later denied u b mid behind more t x h = absurd (no-done x (mid ++ t ∷ behind) (u ∷ (b ++ t ∷ behind)) (sym h))
+    same-later : (s : Step A) (u : Token) (b mid following more : Tokens) (t : Token) (x : A) → on s u (b ++ t ∷ following) ≡ Ok (x, mid ++ t ∷ following) → on s u (b ++ t ∷ more) ≡ Ok (x, mid ++ t ∷ more)
+    same-later (taken y) u b mid following more t x h = keep y x b mid following more t h
+    same-later (kept y) u b mid following more t x h = keep y x (u ∷ b) mid following more t h
+    same-later denied u b mid following more t x h = absurd (no-done x (mid ++ t ∷ following) (u ∷ (b ++ t ∷ following)) (sym h))
 
-    same-of : (before mid behind more : Tokens) (t : Token) (x : A) → stepped e f (before ++ t ∷ behind) ≡ Ok (x, mid ++ t ∷ behind) → stepped e f (before ++ t ∷ more) ≡ Ok (x, mid ++ t ∷ more)
-    same-of [] mid behind more t x h = same-first (f t) mid behind more t x h
-    same-of (u ∷ b) mid behind more t x h = same-later (f u) u b mid behind more t x h
+    same-of : (before mid following more : Tokens) (t : Token) (x : A) → stepped e f (before ++ t ∷ following) ≡ Ok (x, mid ++ t ∷ following) → stepped e f (before ++ t ∷ more) ≡ Ok (x, mid ++ t ∷ more)
+    same-of [] mid following more t x h = same-first (f t) mid following more t x h
+    same-of (u ∷ b) mid following more t x h = same-later (f u) u b mid following more t x h
 
-    refused-first : (s : Step A) (mid behind more : Tokens) (t : Token) → on s t behind ≡ Err (syntax (mid ++ t ∷ behind)) → on s t more ≡ Err (syntax (mid ++ t ∷ more))
-    refused-first (taken y) mid behind more t h = absurd (no-done y behind (mid ++ t ∷ behind) h)
-    refused-first (kept y) mid behind more t h = absurd (no-done y (t ∷ behind) (mid ++ t ∷ behind) h)
-    refused-first denied mid behind more t h = keep-failed {A = A} [] mid behind more t h
+    refused-first : (s : Step A) (mid following more : Tokens) (t : Token) → on s t following ≡ Err (syntax (mid ++ t ∷ following)) → on s t more ≡ Err (syntax (mid ++ t ∷ more))
+    refused-first (taken y) mid following more t h = absurd (no-done y following (mid ++ t ∷ following) h)
+    refused-first (kept y) mid following more t h = absurd (no-done y (t ∷ following) (mid ++ t ∷ following) h)
+    refused-first denied mid following more t h = keep-failed {A = A} [] mid following more t h
 
-    refused-later : (s : Step A) (u : Token) (b mid behind more : Tokens) (t : Token) → on s u (b ++ t ∷ behind) ≡ Err (syntax (mid ++ t ∷ behind)) → on s u (b ++ t ∷ more) ≡ Err (syntax (mid ++ t ∷ more))
-    refused-later (taken y) u b mid behind more t h = absurd (no-done y (b ++ t ∷ behind) (mid ++ t ∷ behind) h)
-    refused-later (kept y) u b mid behind more t h = absurd (no-done y (u ∷ (b ++ t ∷ behind)) (mid ++ t ∷ behind) h)
-    refused-later denied u b mid behind more t h = keep-failed {A = A} (u ∷ b) mid behind more t h
+    refused-later : (s : Step A) (u : Token) (b mid following more : Tokens) (t : Token) → on s u (b ++ t ∷ following) ≡ Err (syntax (mid ++ t ∷ following)) → on s u (b ++ t ∷ more) ≡ Err (syntax (mid ++ t ∷ more))
+    refused-later (taken y) u b mid following more t h = absurd (no-done y (b ++ t ∷ following) (mid ++ t ∷ following) h)
+    refused-later (kept y) u b mid following more t h = absurd (no-done y (u ∷ (b ++ t ∷ following)) (mid ++ t ∷ following) h)
+    refused-later denied u b mid following more t h = keep-failed {A = A} (u ∷ b) mid following more t h
 
-    refused-of : (before mid behind more : Tokens) (t : Token) → stepped e f (before ++ t ∷ behind) ≡ Err (syntax (mid ++ t ∷ behind)) → stepped e f (before ++ t ∷ more) ≡ Err (syntax (mid ++ t ∷ more))
-    refused-of [] mid behind more t h = refused-first (f t) mid behind more t h
-    refused-of (u ∷ b) mid behind more t h = refused-later (f u) u b mid behind more t h
+    refused-of : (before mid following more : Tokens) (t : Token) → stepped e f (before ++ t ∷ following) ≡ Err (syntax (mid ++ t ∷ following)) → stepped e f (before ++ t ∷ more) ≡ Err (syntax (mid ++ t ∷ more))
+    refused-of [] mid following more t h = refused-first (f t) mid following more t h
+    refused-of (u ∷ b) mid following more t h = refused-later (f u) u b mid following more t h
 
 -- a rule that does the same everywhere
 pub local-as : {A : Type 0} (p q : Parser A) → ((ts : Tokens) → p ts ≡ q ts) → Local q → Local p
 local-as p q e l = record {
   left = λ ts rest x h. l.left ts rest x (sym (e ts) ∙ h);
   stuck = λ ts rest h. l.stuck ts rest (sym (e ts) ∙ h);
-  same = λ before mid behind more t x h. e (before ++ t ∷ more) ∙ l.same before mid behind more t x (sym (e (before ++ t ∷ behind)) ∙ h);
-  refused = λ before mid behind more t h. e (before ++ t ∷ more) ∙ l.refused before mid behind more t (sym (e (before ++ t ∷ behind)) ∙ h);
+  same = λ before mid following more t x h. e (before ++ t ∷ more) ∙ l.same before mid following more t x (sym (e (before ++ t ∷ following)) ∙ h);
+  refused = λ before mid following more t h. e (before ++ t ∷ more) ∙ l.refused before mid following more t (sym (e (before ++ t ∷ following)) ∙ h);
 }
 
 pub local-pure : {A : Type 0} (x : A) → Local (pure x)
@@ -247,8 +247,8 @@ pub local-deep : {A : Type 0} → Local {A = A} (λ ts. Err too_deep)
 local-deep {A = A} = record {
   left = λ ts rest x h. absurd (deep-read x rest h);
   stuck = λ ts rest h. absurd (deep-stuck rest h);
-  same = λ before mid behind more t x h. absurd (deep-read x (mid ++ t ∷ behind) h);
-  refused = λ before mid behind more t h. absurd (deep-stuck (mid ++ t ∷ behind) h);
+  same = λ before mid following more t x h. absurd (deep-read x (mid ++ t ∷ following) h);
+  refused = λ before mid following more t h. absurd (deep-stuck (mid ++ t ∷ following) h);
 }
   where
     deep-read : (x : A) (rest : Tokens) → Err too_deep ≡ done x rest → ⊥

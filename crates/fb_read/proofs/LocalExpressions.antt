@@ -58,8 +58,8 @@ next = stepped (kept (tt {0})) (λ t. taken (tt {0}))
 local-next : Local next
 local-next = local-step (kept (tt {0})) (λ t. taken (tt {0}))
 
-local-behind : {A : Type 0} (p : Parser A) → Local p → Local (λ ts. p (rest_of ts))
-local-behind p l = local-as (λ ts. p (rest_of ts)) (next >>= (λ _. p)) go (local-bind next (λ _. p) local-next (λ _. l))
+local-following : {A : Type 0} (p : Parser A) → Local p → Local (λ ts. p (rest_of ts))
+local-following p l = local-as (λ ts. p (rest_of ts)) (next >>= (λ _. p)) go (local-bind next (λ _. p) local-next (λ _. l))
   where
     go : (ts : Tokens) → p (rest_of ts) ≡ (next >>= (λ _. p)) ts
     go [] = refl
@@ -85,7 +85,7 @@ module _ (below : ℕ) (inner : ℕ → Parser Nested) (l : (n : ℕ) → Local 
       (local-arguments_from n (found ++ x.expr ∷ []) (max depth x.nesting))
       (local-pure (found ++ x.expr ∷ [], max depth x.nesting))))
 
-  -- the turns behind a comma
+  -- the turns after a comma
   turn-same : (n m : ℕ) (found : List Expr) (depth : ℕ) (x : Nested) (r : Tokens)
       → (sees mark.Comma r ≡ true → arguments_from below inner n (found ++ x.expr ∷ []) (max depth x.nesting) (after mark.Comma r) ≡ arguments_from below inner m (found ++ x.expr ∷ []) (max depth x.nesting) (after mark.Comma r))
       → (c : Bool) → sees mark.Comma r ≡ c
@@ -106,7 +106,7 @@ module _ (below : ℕ) (inner : ℕ → Parser Nested) (l : (n : ℕ) → Local 
       go more = bind-same (inner loosest ts) _ _ (λ x r e.
           let shorter = adv loosest ts r x e in
           turn-same n m found depth x r
-          (λ s. let behind = after-shorter mark.Comma r s in more (found ++ x.expr ∷ []) (max depth x.nesting) (after mark.Comma r) (omega arith) (omega arith)) (sees mark.Comma r) refl)
+          (λ s. let following = after-shorter mark.Comma r s in more (found ++ x.expr ∷ []) (max depth x.nesting) (after mark.Comma r) (omega arith) (omega arith)) (sees mark.Comma r) refl)
 
   -- the first turn, for which there are as many turns as tokens
   arguments-first : (n m : ℕ) (ts : Tokens) → length ts ≤ suc n → length ts ≤ suc m → arguments_from below inner (suc n) [] 0 ts ≡ arguments_from below inner (suc m) [] 0 ts
@@ -114,7 +114,7 @@ module _ (below : ℕ) (inner : ℕ → Parser Nested) (l : (n : ℕ) → Local 
   arguments-first n m ts a b = bind-same (inner loosest ts) _ _ (λ x r e.
       let shorter = adv loosest ts r x e in
       turn-same n m [] 0 x r
-      (λ s. let behind = after-shorter mark.Comma r s in arguments-fuel n m ([] ++ x.expr ∷ []) (max 0 x.nesting) (after mark.Comma r) (omega arith) (omega arith)) (sees mark.Comma r) refl)
+      (λ s. let following = after-shorter mark.Comma r s in arguments-fuel n m ([] ++ x.expr ∷ []) (max 0 x.nesting) (after mark.Comma r) (omega arith) (omega arith)) (sees mark.Comma r) refl)
 
   abbrev guarded : ℕ → Parser (List Expr × ℕ)
   guarded n = λ ts. cond (begins_expression ts) (arguments_from below inner n [] 0 ts) (refuse ts)
@@ -164,7 +164,7 @@ module _ (below : ℕ) (inner : ℕ → Parser Nested) (l : (n : ℕ) → Local 
     where
       by : (b : Bool) → Local (λ ts. cond b ((operand >>= (λ right. around below (max left.nesting right.nesting) (e.Binary op left.expr right.expr) >>= go)) (rest_of ts)) (Err too_deep))
       by true =
-          local-behind (operand >>= (λ right. around below (max left.nesting right.nesting) (e.Binary op left.expr right.expr) >>= go))
+          local-following (operand >>= (λ right. around below (max left.nesting right.nesting) (e.Binary op left.expr right.expr) >>= go))
           (local-bind operand _ m (λ right. local-bind _ go (local-around below (max left.nesting right.nesting) (e.Binary op left.expr right.expr)) g))
       by false = local-deep
 

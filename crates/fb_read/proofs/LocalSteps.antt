@@ -185,16 +185,16 @@ pub local-turns : {A : Type 0} (p : ℕ → Parser A) → ((n : ℕ) → Local (
 local-turns {A = A} p l fuel = record {
   left = λ ts rest x h. (l (length ts)).left ts rest x h;
   stuck = λ ts rest h. (l (length ts)).stuck ts rest h;
-  same = λ before mid behind more t x h.
-      let a : Tokens = before ++ t ∷ behind in
+  same = λ before mid following more t x h.
+      let a : Tokens = before ++ t ∷ following in
       let b : Tokens = before ++ t ∷ more in
       let n : ℕ = length a + length b in
-      let there : p n a ≡ Ok (x, mid ++ t ∷ behind) = fuel n (length a) a (omega arith) (omega arith) ∙ h in
-      fuel (length b) n b (omega arith) (omega arith) ∙ (l n).same before mid behind more t x there;
-  refused = λ before mid behind more t h.
-      let a : Tokens = before ++ t ∷ behind in
+      let there : p n a ≡ Ok (x, mid ++ t ∷ following) = fuel n (length a) a (omega arith) (omega arith) ∙ h in
+      fuel (length b) n b (omega arith) (omega arith) ∙ (l n).same before mid following more t x there;
+  refused = λ before mid following more t h.
+      let a : Tokens = before ++ t ∷ following in
       let b : Tokens = before ++ t ∷ more in
       let n : ℕ = length a + length b in
-      let there : p n a ≡ Err (syntax (mid ++ t ∷ behind)) = fuel n (length a) a (omega arith) (omega arith) ∙ h in
-      fuel (length b) n b (omega arith) (omega arith) ∙ (l n).refused before mid behind more t there;
+      let there : p n a ≡ Err (syntax (mid ++ t ∷ following)) = fuel n (length a) a (omega arith) (omega arith) ∙ h in
+      fuel (length b) n b (omega arith) (omega arith) ∙ (l n).refused before mid following more t there;
 }

@@ -250,15 +250,15 @@ word-is-time w y a i =
     let here : at (w ++ 35 ∷ y) (length w) ≡ 35 = get_or_at w 35 y 0 (length w) refl in
     rw (ends, taken, here, i) refl
 
-pub at-behind : (w y : Text) (c : ℕ) → at (w ++ c ∷ y) (length w + 1) ≡ at y 0
-at-behind w y c = get_or-append-add w (c ∷ y) 1 0
+pub at-following : (w y : Text) (c : ℕ) → at (w ++ c ∷ y) (length w + 1) ≡ at y 0
+at-following w y c = get_or-append-add w (c ∷ y) 1 0
 
-pub drop-behind : (w y : Text) (c : ℕ) → drop (length w + 1) (w ++ c ∷ y) ≡ y
-drop-behind [] y c = refl
-drop-behind (b ∷ w) y c = let k : suc (length w) + 1 ≡ suc (length w + 1) = omega arith in rw k (drop-behind w y c)
+pub drop-following : (w y : Text) (c : ℕ) → drop (length w + 1) (w ++ c ∷ y) ≡ y
+drop-following [] y c = refl
+drop-following (b ∷ w) y c = let k : suc (length w) + 1 ≡ suc (length w + 1) = omega arith in rw k (drop-following w y c)
 
 pub drop-two : (w y : Text) (c d : ℕ) → drop (length w + 1 + 1) (w ++ c ∷ (d ∷ y)) ≡ y
-drop-two w y c d = sym (drop-drop 1 (length w + 1) (w ++ c ∷ (d ∷ y))) ∙ ap (drop 1) (drop-behind w (d ∷ y) c)
+drop-two w y c d = sym (drop-drop 1 (length w + 1) (w ++ c ∷ (d ∷ y))) ∙ ap (drop 1) (drop-following w (d ∷ y) c)
 
 pub not_minus : (x : ℕ) → is_word x ≡ true → eqb x 45 ≡ false
 not_minus x h = false_from_ne_true (eqb x 45) (λ e. true≢false (sym h ∙ ap is_word (eqb-true x 45 e)))
@@ -267,10 +267,10 @@ duration-reaches : (w : Text) (x : ℕ) (z rest : Text) (t : Token) (n : ℕ) �
 duration-reaches w x z rest t n a h =
     let text = w ++ 35 ∷ (x ∷ z ++ rest) in
     let f = time-found text (length w + 1) t n h in
-    let here : at text (length w + 1) ≡ x = at-behind w (x ∷ z ++ rest) 35 in
+    let here : at text (length w + 1) ≡ x = at-following w (x ∷ z ++ rest) 35 in
     let starts : parts_start text (length w + 1) ≡ length w + 1 = rw (here, not_minus x a.0) refl in
-    let behind : drop (length w + 1) text ≡ x ∷ z ++ rest = drop-behind w (x ∷ z ++ rest) 35 in
-    let len : length w + 1 + word_len (x ∷ z ++ rest) ≡ n = rw (starts, behind) at f.length_is in
+    let following : drop (length w + 1) text ≡ x ∷ z ++ rest = drop-following w (x ∷ z ++ rest) 35 in
+    let len : length w + 1 + word_len (x ∷ z ++ rest) ≡ n = rw (starts, following) at f.length_is in
     let reach : length (x ∷ z) ≤ word_len (x ∷ z ++ rest) = longest (x ∷ z) rest a in
     rw (length-append w (35 ∷ (x ∷ z))) (omega arith)
 
@@ -278,10 +278,10 @@ negative-reaches : (w z rest : Text) (t : Token) (n : ℕ) → AreWord z → tim
 negative-reaches w z rest t n a h =
     let text = w ++ 35 ∷ (45 ∷ (z ++ rest)) in
     let f = time-found text (length w + 1) t n h in
-    let here : at text (length w + 1) ≡ 45 = at-behind w (45 ∷ (z ++ rest)) 35 in
+    let here : at text (length w + 1) ≡ 45 = at-following w (45 ∷ (z ++ rest)) 35 in
     let starts : parts_start text (length w + 1) ≡ length w + 1 + 1 = rw here refl in
-    let behind : drop (length w + 1 + 1) text ≡ z ++ rest = drop-two w (z ++ rest) 35 45 in
-    let len : length w + 1 + 1 + word_len (z ++ rest) ≡ n = rw (starts, behind) at f.length_is in
+    let following : drop (length w + 1 + 1) text ≡ z ++ rest = drop-two w (z ++ rest) 35 45 in
+    let len : length w + 1 + 1 + word_len (z ++ rest) ≡ n = rw (starts, following) at f.length_is in
     let reach : length z ≤ word_len (z ++ rest) = longest z rest a in
     rw (length-append w (35 ∷ (45 ∷ z))) (omega arith)
 
@@ -450,8 +450,8 @@ token-is (b ∷ y) t n h = elim (cases_Bool (is_letter b)) [
 
 -- ---- what follows a literal
 
-stops-behind : (z : Text) (i : ℕ) → is_word (at z (i + word_len (drop i z))) ≡ false
-stops-behind z i = subst (λ (b : ℕ). is_word b ≡ false) (get_or-drop i z (word_len (drop i z)) 0) (word-stops (drop i z))
+stops-following : (z : Text) (i : ℕ) → is_word (at z (i + word_len (drop i z))) ≡ false
+stops-following z i = subst (λ (b : ℕ). is_word b ≡ false) (get_or-drop i z (word_len (drop i z)) 0) (word-stops (drop i z))
 
 named-no-literal : (text : Text) (o : Option Mark) (t : Token) → named text o ≡ t → IsLiteral t → ⊥
 named-no-literal text None t e l = subst IsLiteral (sym e) l
@@ -463,14 +463,14 @@ word-parted z t n h l = go (word-found z t n h)
     go : WordFound z t n → is_word (at z n) ≡ false
     go (as_time c i e) =
         let f = time-found z (word_len z + 1) t n e in
-        subst (λ (m : ℕ). is_word (at z m) ≡ false) f.length_is (stops-behind z (parts_start z (word_len z + 1)))
+        subst (λ (m : ℕ). is_word (at z m) ≡ false) f.length_is (stops-following z (parts_start z (word_len z + 1)))
     go (as_name e f) = absurd (named-no-literal (in_upper (word_of z)) (keyword (in_upper (word_of z))) t e l)
 
 literal-parted : (z : Text) (t : Token) (n : ℕ) → literal z ≡ Ok (t, n) → is_word (at z n) ≡ false
 literal-parted z t n h = go (literal-found z t n h)
   where
     go : LiteralFound z t n → is_word (at z n) ≡ false
-    go (with_base base c e f) = subst (λ (m : ℕ). is_word (at z m) ≡ false) f.length_is (stops-behind z (word_len z + 1))
+    go (with_base base c e f) = subst (λ (m : ℕ). is_word (at z m) ≡ false) f.length_is (stops-following z (word_len z + 1))
     go (in_decimal f) = subst (λ (m : ℕ). is_word (at z m) ≡ false) f.length_is (word-stops z)
 
 token-parted : (z : Text) (t : Token) (n : ℕ) → front z ≡ Ok (t, n) → IsLiteral t → is_word (at z n) ≡ false

@@ -16,7 +16,7 @@ feed = codes "\n"
 -- ---- what occurs nowhere
 
 later : (bytes : Text) (b : ℕ) (z : Text) → HasNo bytes (b ∷ z) → HasNo bytes z
-later bytes b z h before behind e = h (b ∷ before) behind (ap (λ (y : Text). b ∷ y) e)
+later bytes b z h before following e = h (b ∷ before) following (ap (λ (y : Text). b ∷ y) e)
 
 -- no byte and the one after it close a comment
 not-closing : (b : ℕ) (z rest : Text) → HasNo close (b ∷ z) → eqb (at rest 0) 41 ≡ false → (eqb b 42 && eqb (at (z ++ rest) 0) 41) ≡ false
@@ -108,25 +108,25 @@ data Search (bytes : Text) (z : Text) : Type 0 where
   nowhere : HasNo bytes z → Search bytes z
 
 no-close-nil : HasNo close []
-no-close-nil [] behind e = cc
-no-close-nil (x ∷ before) behind e = cc
+no-close-nil [] following e = cc
+no-close-nil (x ∷ before) following e = cc
 
 no-feed-nil : HasNo feed []
-no-feed-nil [] behind e = cc
-no-feed-nil (x ∷ before) behind e = cc
+no-feed-nil [] following e = cc
+no-feed-nil (x ∷ before) following e = cc
 
 -- a byte before a text that has them nowhere
 no-close-cons : (b : ℕ) (z : Text) → HasNo close z → (eqb b 42 && eqb (at z 0) 41) ≡ false → HasNo close (b ∷ z)
-no-close-cons b z h f [] behind e =
+no-close-cons b z h f [] following e =
     let first : b ≡ 42 = cc in
-    let rest : 41 ∷ behind ≡ z = cc in
-    let closes : (eqb 42 42 && eqb (at (41 ∷ behind) 0) 41) ≡ true = refl in
+    let rest : 41 ∷ following ≡ z = cc in
+    let closes : (eqb 42 42 && eqb (at (41 ∷ following) 0) 41) ≡ true = refl in
     true≢false (sym closes ∙ rw (first, sym rest) at f)
-no-close-cons b z h f (x ∷ before) behind e = let rest : before ++ (close ++ behind) ≡ z = cc in h before behind rest
+no-close-cons b z h f (x ∷ before) following e = let rest : before ++ (close ++ following) ≡ z = cc in h before following rest
 
 no-feed-cons : (b : ℕ) (z : Text) → HasNo feed z → eqb b 10 ≡ false → HasNo feed (b ∷ z)
-no-feed-cons b z h f [] behind e = let first : b ≡ 10 = cc in true≢false (rw first at f)
-no-feed-cons b z h f (x ∷ before) behind e = let rest : before ++ (feed ++ behind) ≡ z = cc in h before behind rest
+no-feed-cons b z h f [] following e = let first : b ≡ 10 = cc in true≢false (rw first at f)
+no-feed-cons b z h f (x ∷ before) following e = let rest : before ++ (feed ++ following) ≡ z = cc in h before following rest
 
 closing : (z : Text) → Search close z
 closing [] = nowhere no-close-nil

@@ -1,4 +1,4 @@
--- The sign at the front of a text is the longest of the list that stands there.
+-- The sign at the front of a text is the longest of the list that is there.
 use Rattle.std.proofs.Common.{◌≡◌, ℕ, zero, suc, Bool, true, false, cond, eqb, leb, List, [], ◌∷◌, length, take, Option, None, Some, refl, sym, subst, ap, ⊎_elim, inl, inr, ◌∙◌, arith}
 use Rattle.std.specs.Prelude.{◌⊎◌, slice_get}
 use Rattle.std.specs.Str.{bytes_eq}
@@ -6,7 +6,7 @@ use Rattle.std.proofs.lemmas.Bool.{cases_Bool, eqb-true, leb-true, leb-false}
 use Rattle.std.proofs.lemmas.Slice.Eq.{bytes_eq-Decides}
 use Rattle.fb_read.specs.Blank.{Text}
 use Rattle.fb_read.specs.Front.{sign_of}
-use Rattle.fb_read.specs.Shapes.{IsLongest, SignsExactly, Stands, signs}
+use Rattle.fb_read.specs.Shapes.{IsLongest, SignsExactly, IsSignOf, signs}
 use Rattle.fb_read.specs.declared.token.Mark.{Mark}
 
 abbrev begins : (b next : ℕ) → Text → Bool
@@ -21,18 +21,18 @@ longest [] b next = None
 longest (s ∷ all) b next = cond (begins b next s.0) (longer s.1 (length s.0) (longest all b next)) (longest all b next)
 
 module _ (b next : ℕ) where
-  further : (s : Text × Mark) (all : List (Text × Mark)) (k : Mark) (n : ℕ) → Stands all b next k n → Stands (s ∷ all) b next k n
+  further : (s : Text × Mark) (all : List (Text × Mark)) (k : Mark) (n : ℕ) → IsSignOf all b next k n → IsSignOf (s ∷ all) b next k n
   further s all k n h = record { index = suc h.index; written = h.written; listed = h.listed; front = h.front; long = h.long }
 
-  -- the first of the list, or one behind it
-  nearer : (w : Text) (j : Mark) (all : List (Text × Mark)) (k : Mark) (n : ℕ) → Stands ((w, j) ∷ all) b next k n
-      → ((take (length w) (b ∷ (next ∷ [])) ≡ w) × (n ≡ length w)) ⊎ Stands all b next k n
+  -- the first of the list, or one after it
+  nearer : (w : Text) (j : Mark) (all : List (Text × Mark)) (k : Mark) (n : ℕ) → IsSignOf ((w, j) ∷ all) b next k n
+      → ((take (length w) (b ∷ (next ∷ [])) ≡ w) × (n ≡ length w)) ⊎ IsSignOf all b next k n
   nearer w j all k n h = go h.index h.listed
     where
       first : (p q : Text × Mark) → ((Some p) ≡ Some q) → p ≡ q
       first p q e = cc
 
-      go : (i : ℕ) → slice_get ((w, j) ∷ all) i ≡ Some (h.written, k) → ((take (length w) (b ∷ (next ∷ [])) ≡ w) × (n ≡ length w)) ⊎ Stands all b next k n
+      go : (i : ℕ) → slice_get ((w, j) ∷ all) i ≡ Some (h.written, k) → ((take (length w) (b ∷ (next ∷ [])) ≡ w) × (n ≡ length w)) ⊎ IsSignOf all b next k n
       go zero e =
           let same : h.written ≡ w = sym (ap (λ (p : Text × Mark). p.0) (first (w, j) (h.written, k) e)) in
           inl (subst (λ (x : Text). take (length x) (b ∷ (next ∷ [])) ≡ x) same h.front, h.long ∙ ap length same)
@@ -42,7 +42,7 @@ module _ (b next : ℕ) where
   longest_is [] = λ k n h. absurd cc
   longest_is ((w, j) ∷ all) = go (begins b next w) refl (longest all b next) (longest_is all)
     where
-      here : begins b next w ≡ true → Stands ((w, j) ∷ all) b next j (length w)
+      here : begins b next w ≡ true → IsSignOf ((w, j) ∷ all) b next j (length w)
       here e = record { index = 0; written = w; listed = refl; front = (bytes_eq-Decides (take (length w) (b ∷ (next ∷ []))) w).0 e; long = refl }
 
       apart : begins b next w ≡ false → take (length w) (b ∷ (next ∷ [])) ≡ w → ⊥

@@ -314,25 +314,25 @@ module _ (below : ℕ) (inner : Parser Stmt) (i : IsRoomy inner IsStatement Anyt
       → AreOthers ys c (token.Mark mark.EndIf ∷ (token.Mark mark.Semicolon ∷ rest)) → if_statement inner a ≡ room (over (suc below) (s.If (x ∷ xs) ys)) (s.If (x ∷ xs) ys) rest
   unfolding if_statement expect same_mark
   if-complete x xs ys a b c rest ch cs o =
-      let behind : Tokens = token.Mark mark.EndIf ∷ (token.Mark mark.Semicolon ∷ rest) in
+      let following : Tokens = token.Mark mark.EndIf ∷ (token.Mark mark.Semicolon ∷ rest) in
       rw (choices-complete x xs a b c ch cs (others-ended o (end_if (token.Mark mark.Semicolon ∷ rest))))
       (bind-is (choices_over x xs) (block_over below ys) (over (suc below) (s.If (x ∷ xs) ys)) (x ∷ xs) c _ (s.If (x ∷ xs) ys) rest
       (over-node below most_nesting (max (deepest (map choice_nesting (x ∷ xs))) (deepest (map statement_nesting ys))) (max (deepest (map choice_expression_nesting (x ∷ xs))) (deepest (map expression_nesting ys)))
       (statement_nesting (s.If (x ∷ xs) ys)) (expression_nesting (s.If (x ∷ xs) ys)) (max (choices_over x xs) (block_over below ys)) (nesting-If (x ∷ xs) ys) (inside-If (x ∷ xs) ys)
       (if-parts below x xs ys))
-      (rw (others-complete ys c behind o refl refl)
-      (bind-is (block_over below ys) 0 (block_over below ys) ys behind _ (s.If (x ∷ xs) ys) rest (omega arith) refl)))
+      (rw (others-complete ys c following o refl refl)
+      (bind-is (block_over below ys) 0 (block_over below ys) ys following _ (s.If (x ∷ xs) ys) rest (omega arith) refl)))
 
   case-body-complete : (y : Branch) (ys : List Branch) (zs : List Stmt) (c d e rest : Tokens) → IsBranch y c d → AreBranches ys d e
       → AreOthers zs e (token.Mark mark.EndCase ∷ (token.Mark mark.Semicolon ∷ rest)) → case_body inner (token.Mark mark.Of ∷ c) ≡ room (max (branches_over y ys) (block_over below zs)) (cases (y ∷ ys) zs) rest
   unfolding case_body expect same_mark
   case-body-complete y ys zs c d e rest b bs o =
-      let behind : Tokens = token.Mark mark.EndCase ∷ (token.Mark mark.Semicolon ∷ rest) in
+      let following : Tokens = token.Mark mark.EndCase ∷ (token.Mark mark.Semicolon ∷ rest) in
       let inside = cases (y ∷ ys) zs in
       rw (branches-complete y ys c d e b bs (others-ended o (end_case (token.Mark mark.Semicolon ∷ rest))))
       (bind-is (branches_over y ys) (block_over below zs) (max (branches_over y ys) (block_over below zs)) (y ∷ ys) e _ inside rest refl
-      (rw (others-complete zs e behind o refl refl)
-      (bind-is (block_over below zs) 0 (block_over below zs) zs behind _ inside rest (omega arith) refl)))
+      (rw (others-complete zs e following o refl refl)
+      (bind-is (block_over below zs) 0 (block_over below zs) zs following _ inside rest (omega arith) refl)))
 
   case-complete : (x : Expr) (y : Branch) (ys : List Branch) (zs : List Stmt) (a c d e rest : Tokens) → IsExpression x a (token.Mark mark.Of ∷ c) → IsBranch y c d → AreBranches ys d e
       → AreOthers zs e (token.Mark mark.EndCase ∷ (token.Mark mark.Semicolon ∷ rest)) → case_statement inner a ≡ room (over (suc below) (s.Case x (y ∷ ys) zs)) (s.Case x (y ∷ ys) zs) rest
@@ -353,20 +353,20 @@ module _ (below : ℕ) (inner : Parser Stmt) (i : IsRoomy inner IsStatement Anyt
       → loop_body inner mark.EndFor (token.Mark mark.Do ∷ h) ≡ room (block_over below xs) xs rest
   unfolding loop_body expect same_mark
   for-body-complete xs h rest b =
-      let behind : Tokens = token.Mark mark.EndFor ∷ (token.Mark mark.Semicolon ∷ rest) in
-      rw (block-complete xs h behind b refl)
-      (bind-is (block_over below xs) 0 (block_over below xs) xs behind _ xs rest (omega arith) refl)
+      let following : Tokens = token.Mark mark.EndFor ∷ (token.Mark mark.Semicolon ∷ rest) in
+      rw (block-complete xs h following b refl)
+      (bind-is (block_over below xs) 0 (block_over below xs) xs following _ xs rest (omega arith) refl)
 
   for-end-complete : (y : Expr) (z : Option Expr) (e f h : Tokens) → IsExpression y e f → IsStep z f (token.Mark mark.Do ∷ h)
       → for_end (token.Mark mark.To ∷ e) ≡ room (max (expression_over y) (by_nesting z - most_nesting)) (bounds y z) (token.Mark mark.Do ∷ h)
   unfolding for_end expect same_mark
   for-end-complete y z e f h m k =
       let by : ℕ = by_nesting z - most_nesting in
-      let behind : Tokens = token.Mark mark.Do ∷ h in
+      let following : Tokens = token.Mark mark.Do ∷ h in
       rw (expression-room y e f m (by-stops-of k))
-      (bind-is (expression_over y) by (max (expression_over y) by) y f _ (bounds y z) behind refl
+      (bind-is (expression_over y) by (max (expression_over y) by) y f _ (bounds y z) following refl
       (rw (step-complete k)
-      (bind-is by 0 by z behind _ (bounds y z) behind (omega arith) refl)))
+      (bind-is by 0 by z following _ (bounds y z) following (omega arith) refl)))
 
   for-complete : (n : Name) (x y : Expr) (z : Option Expr) (xs : List Stmt) (c e f h rest : Tokens) → IsExpression x c (token.Mark mark.To ∷ e) → IsExpression y e f
       → IsStep z f (token.Mark mark.Do ∷ h) → AreStatements xs h (token.Mark mark.EndFor ∷ (token.Mark mark.Semicolon ∷ rest))
@@ -390,9 +390,9 @@ module _ (below : ℕ) (inner : Parser Stmt) (i : IsRoomy inner IsStatement Anyt
       → loop_body inner mark.EndWhile (token.Mark mark.Do ∷ h) ≡ room (block_over below xs) xs rest
   unfolding loop_body expect same_mark
   while-body-complete xs h rest b =
-      let behind : Tokens = token.Mark mark.EndWhile ∷ (token.Mark mark.Semicolon ∷ rest) in
-      rw (block-complete xs h behind b refl)
-      (bind-is (block_over below xs) 0 (block_over below xs) xs behind _ xs rest (omega arith) refl)
+      let following : Tokens = token.Mark mark.EndWhile ∷ (token.Mark mark.Semicolon ∷ rest) in
+      rw (block-complete xs h following b refl)
+      (bind-is (block_over below xs) 0 (block_over below xs) xs following _ xs rest (omega arith) refl)
 
   while-complete : (x : Expr) (xs : List Stmt) (a c rest : Tokens) → IsExpression x a (token.Mark mark.Do ∷ c) → AreStatements xs c (token.Mark mark.EndWhile ∷ (token.Mark mark.Semicolon ∷ rest))
       → while_statement inner a ≡ room (over (suc below) (s.While x xs)) (s.While x xs) rest
@@ -408,12 +408,12 @@ module _ (below : ℕ) (inner : Parser Stmt) (i : IsRoomy inner IsStatement Anyt
       → repeat_statement inner a ≡ room (over (suc below) (s.Repeat xs x)) (s.Repeat xs x) rest
   unfolding repeat_statement expect same_mark
   repeat-complete x xs a c rest b l =
-      let behind : Tokens = token.Mark mark.EndRepeat ∷ (token.Mark mark.Semicolon ∷ rest) in
+      let following : Tokens = token.Mark mark.EndRepeat ∷ (token.Mark mark.Semicolon ∷ rest) in
       rw (block-complete xs a (token.Mark mark.Until ∷ c) b refl)
       (bind-is (block_over below xs) (expression_over x) (over (suc below) (s.Repeat xs x)) xs (token.Mark mark.Until ∷ c) _ (s.Repeat xs x) rest
       (omega (arith, nesting-Repeat xs x, inside-Repeat xs x))
-      (rw (expression-room x c behind l (end_repeat-stops (token.Mark mark.Semicolon ∷ rest)))
-      (bind-is (expression_over x) 0 (expression_over x) x behind _ (s.Repeat xs x) rest (omega arith) refl)))
+      (rw (expression-room x c following l (end_repeat-stops (token.Mark mark.Semicolon ∷ rest)))
+      (bind-is (expression_over x) 0 (expression_over x) x following _ (s.Repeat xs x) rest (omega arith) refl)))
 
   statement-complete : IsRoomy (statement inner) IsStatement Anything (over (suc below))
   unfolding statement simple after expect same_mark

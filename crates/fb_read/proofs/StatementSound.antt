@@ -322,8 +322,8 @@ module _ (below : ℕ) (inner : Parser Stmt) (i : IsSound inner (StatementRight 
       both_done (expect mark.To p_end) _ (i, i_end) i_is (λ t t_end t_is t_then.
       both_done (expression t_end) _ (i, i_end) t_then (λ q q_end q_is q_then.
       both_done (step q_end) _ (i, i_end) q_then (λ z z_end z_is z_then.
-      let behind = ap (λ (r : Outcome (Expr × Option Expr)). and_then r (λ y t. and_then (loop_body inner mark.EndFor t) (λ body. pure (s.For n p y.0 y.1 body)))) z_then ∙ i_then in
-      both_done (loop_body inner mark.EndFor z_end) _ (x, rest) behind (λ o o_end o_is o_then.
+      let following = ap (λ (r : Outcome (Expr × Option Expr)). and_then r (λ y t. and_then (loop_body inner mark.EndFor t) (λ body. pure (s.For n p y.0 y.1 body)))) z_then ∙ i_then in
+      both_done (loop_body inner mark.EndFor z_end) _ (x, rest) following (λ o o_end o_is o_then.
       both_done (expect mark.Do z_end) _ (o, o_end) o_is (λ u u_end u_is u_then.
       both_done (block inner u_end) _ (o, o_end) u_then (λ b b_end b_is b_then.
       both_done (expect mark.EndFor b_end) _ (o, o_end) b_then (λ c c_end c_is c_then.

@@ -9,7 +9,7 @@ use Rattle.fb_read.specs.BlocksGrammar.{IsLibrary}
 use Rattle.fb_read.specs.Fits.{fits_library}
 use Rattle.fb_read.specs.Whole.{ended}
 use Rattle.fb_read.specs.Stops.{IsRefusedToken, Stops}
-use Rattle.fb_read.proofs.Local.{IsLeft, sort, Sort, is_read, is_stuck, is_deep}
+use Rattle.fb_read.proofs.Local.{IsLeft, shape, Shape, is_read, is_stuck, is_deep}
 use Rattle.fb_read.proofs.LocalLibrary.{local-library}
 use Rattle.fb_read.proofs.WholeLaws.{answer, parsed}
 
@@ -25,7 +25,7 @@ abbrev refused : RuleFault → Result Library RuleFault
 refused f = Err f
 
 -- whatever follows the token, it is refused there
-refused-on : (before left more : Tokens) (t : Token) → ended (library (before ++ t ∷ left)) ≡ Err (syntax (t ∷ left)) → Sort (library (before ++ t ∷ left))
+refused-on : (before left more : Tokens) (t : Token) → ended (library (before ++ t ∷ left)) ≡ Err (syntax (t ∷ left)) → Shape (library (before ++ t ∷ left))
     → ended (library (before ++ t ∷ more)) ≡ Err (syntax (t ∷ more))
 refused-on before left more t h (is_read x rest e) = read rest e
   where
@@ -45,7 +45,7 @@ refused-on before left more t h (is_stuck rest e) =
     ap ended (local-library.refused before [] left more t (e ∙ ap (λ (r : Tokens). Err (syntax r)) w))
 refused-on before left more t h (is_deep e) = absurd (let k = sym (ap ended e) ∙ h in cc)
 
-left-of : (ts left : Tokens) (t : Token) → ended (library ts) ≡ Err (syntax (t ∷ left)) → Sort (library ts) → IsLeft (t ∷ left) ts
+left-of : (ts left : Tokens) (t : Token) → ended (library ts) ≡ Err (syntax (t ∷ left)) → Shape (library ts) → IsLeft (t ∷ left) ts
 left-of ts left t h (is_read x rest e) = read rest e
   where
     read : (rest : Tokens) → library ts ≡ Ok (x, rest) → IsLeft (t ∷ left) ts
@@ -61,13 +61,13 @@ left-of ts left t h (is_deep e) = absurd (let k = sym (ap ended e) ∙ h in cc)
 -- no library begins with the tokens up to the one at which they are refused
 stops-at : (ts left : Tokens) (t : Token) → ended (library ts) ≡ Err (syntax (t ∷ left)) → IsRefusedToken t left ts
 stops-at ts left t h =
-    let w = left-of ts left t h (sort (library ts)) in
+    let w = left-of ts left t h (shape (library ts)) in
     let here : ended (library (w.before ++ t ∷ left)) ≡ Err (syntax (t ∷ left)) = ap (λ (us : Tokens). ended (library us)) w.joined ∙ h in
     record {
       before = w.before;
       joined = w.joined;
       none = λ x more l.
-          no-library (w.before ++ t ∷ more) (t ∷ more) (refused-on w.before left more t here (sort (library (w.before ++ t ∷ left)))) x
+          no-library (w.before ++ t ∷ more) (t ∷ more) (refused-on w.before left more t here (shape (library (w.before ++ t ∷ left)))) x
           (subst (λ (us : Tokens). IsLibrary x us []) (append_assoc w.before (t ∷ []) more) l);
     }
 

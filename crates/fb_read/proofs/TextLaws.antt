@@ -94,6 +94,6 @@ pub reads-bodies : ReadsBodies
 reads-bodies = record {
   derived = λ x ts rest h. body-sound ts x rest h;
   kept = λ x ts rest h. (body-right ts x rest h).fits;
-  read = λ x ts rest l behind h. body-complete x ts rest l tt ∙ ap (λ (b : Bool). picked b x rest) (fits-body x h);
-  refused = λ x ts rest l behind h. body-complete x ts rest l tt ∙ ap (λ (b : Bool). picked b x rest) (not-true (fits_body x) (λ e. h (body-fits x e)));
+  read = λ x ts rest l following h. body-complete x ts rest l tt ∙ ap (λ (b : Bool). picked b x rest) (fits-body x h);
+  refused = λ x ts rest l following h. body-complete x ts rest l tt ∙ ap (λ (b : Bool). picked b x rest) (not-true (fits_body x) (λ e. h (body-fits x e)));
 }

@@ -41,9 +41,9 @@ one_more_token found p text rest here n r h e d = record {
   first = λ f k l. r.first f k (located.is_later h e refl l);
 }
 
-pub one_more : (found next : List Located) (p : Located) (text rest here behind : Text) (n : ℕ) → next ≡ found ++ p ∷ [] → behind ≡ drop n here
-    → Reading found text rest → skip start rest ≡ Some here → front here ≡ Ok (p.token, n) → drop p.index text ≡ here → Reading next text behind
-one_more found next p text rest here behind n more moved r h e d = rw (more, moved) (one_more_token found p text rest here n r h e d)
+pub one_more : (found next : List Located) (p : Located) (text rest here following : Text) (n : ℕ) → next ≡ found ++ p ∷ [] → following ≡ drop n here
+    → Reading found text rest → skip start rest ≡ Some here → front here ≡ Ok (p.token, n) → drop p.index text ≡ here → Reading next text following
+one_more found next p text rest here following n more moved r h e d = rw (more, moved) (one_more_token found p text rest here n r h e d)
 
 pub unclosed : (found : List Located) (text rest : Text) (e : ReadFault) → length text ≤ most_bytes → Reading found text rest → skip start rest ≡ None → IsUnclosed text rest e → IsRefused text e
 unclosed found text rest e short r h w = rw w.is (record {

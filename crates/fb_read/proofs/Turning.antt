@@ -45,5 +45,5 @@ pub elsif_reads :
     → sees mark.Elsif ts ≡ true → mid ≡ after mark.Elsif ts → Reads (choice inner mid) read new → Reads (elsif inner ts) read new
 unfolding elsif expect after
 elsif_reads inner ts mid new read b m r =
-    let behind : mid ≡ rest_of ts = rw b at m in
-    rw b (subst (λ (t : Tokens). Reads (choice inner t) read new) behind r)
+    let following : mid ≡ rest_of ts = rw b at m in
+    rw b (subst (λ (t : Tokens). Reads (choice inner t) read new) following r)

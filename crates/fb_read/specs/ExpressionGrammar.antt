@@ -32,9 +32,9 @@ mutual
   -- { operator lower }: what the first expression becomes by the operators of level n + 1 after it
   pub data IsChain : ℕ → Expr → Expr → Tokens → Tokens → Type 0 where
     ends : {n : ℕ} {x : Expr} {ts : Tokens} → IsChain n x x ts ts
-    goes_on : {n : ℕ} {k : Mark} {op : BinaryOperator} {left right x : Expr} {ts before behind rest : Tokens}
-        → IsMark k ts before → operator_of k ≡ Some (suc n, op) → IsLevel n right before behind
-        → IsChain n (e.Binary op left right) x behind rest → IsChain n left x ts rest
+    goes_on : {n : ℕ} {k : Mark} {op : BinaryOperator} {left right x : Expr} {ts before following rest : Tokens}
+        → IsMark k ts before → operator_of k ≡ Some (suc n, op) → IsLevel n right before following
+        → IsChain n (e.Binary op left right) x following rest → IsChain n left x ts rest
 
   -- unary = ( "-" | NOT ) unary | primary
   pub data IsUnary : Expr → Tokens → Tokens → Type 0 where
@@ -49,18 +49,18 @@ mutual
     is_true : {ts rest : Tokens} → IsMark mark.True ts rest → IsPrimary (e.Truth true) ts rest
     is_false : {ts rest : Tokens} → IsMark mark.False ts rest → IsPrimary (e.Truth false) ts rest
     is_variable : {name : Name} {ts rest : Tokens} → IsName name ts rest → IsPrimary (e.Variable name) ts rest
-    is_group : {x : Expr} {ts before behind rest : Tokens} → IsMark mark.Open ts before → IsLevel loosest x before behind → IsMark mark.Close behind rest
+    is_group : {x : Expr} {ts before following rest : Tokens} → IsMark mark.Open ts before → IsLevel loosest x before following → IsMark mark.Close following rest
         → IsPrimary (e.Group x) ts rest
     is_bare_call : {name : Name} {ts named opened rest : Tokens} → IsName name ts named → IsMark mark.Open named opened → IsMark mark.Close opened rest
         → IsPrimary (e.Call name []) ts rest
-    is_call : {name : Name} {xs : List Expr} {ts named opened behind rest : Tokens} → IsName name ts named → IsMark mark.Open named opened
-        → AreArguments xs opened behind → IsMark mark.Close behind rest → IsPrimary (e.Call name xs) ts rest
+    is_call : {name : Name} {xs : List Expr} {ts named opened following rest : Tokens} → IsName name ts named → IsMark mark.Open named opened
+        → AreArguments xs opened following → IsMark mark.Close following rest → IsPrimary (e.Call name xs) ts rest
 
   -- expr { "," expr }
   pub data AreArguments : List Expr → Tokens → Tokens → Type 0 where
     one : {x : Expr} {ts rest : Tokens} → IsLevel loosest x ts rest → AreArguments (x ∷ []) ts rest
-    another : {x : Expr} {xs : List Expr} {ts before behind rest : Tokens} → IsLevel loosest x ts before → IsMark mark.Comma before behind
-        → AreArguments xs behind rest → AreArguments (x ∷ xs) ts rest
+    another : {x : Expr} {xs : List Expr} {ts before following rest : Tokens} → IsLevel loosest x ts before → IsMark mark.Comma before following
+        → AreArguments xs following rest → AreArguments (x ∷ xs) ts rest
 
 -- an expression
 abbrev pub IsExpression : Expr → Tokens → Tokens → Type 0

@@ -35,8 +35,8 @@ module _ {A : Type 0} (IsItem : A → Tokens → Tokens → Type 0) where
   -- item { "," item }
   pub data AreSeparated : List A → Tokens → Tokens → Type 0 where
     last : {x : A} {ts rest : Tokens} → IsItem x ts rest → AreSeparated (x ∷ []) ts rest
-    and_next : {x : A} {xs : List A} {ts before behind rest : Tokens} → IsItem x ts before → IsMark mark.Comma before behind
-        → AreSeparated xs behind rest → AreSeparated (x ∷ xs) ts rest
+    and_next : {x : A} {xs : List A} {ts before following rest : Tokens} → IsItem x ts before → IsMark mark.Comma before following
+        → AreSeparated xs following rest → AreSeparated (x ∷ xs) ts rest
 
   -- { item }
   pub data AreAll : List A → Tokens → Tokens → Type 0 where

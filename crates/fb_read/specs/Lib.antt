@@ -30,6 +30,7 @@ pub mod Blocks
 pub mod Fits
 pub mod BlocksGrammar
 pub mod Whole
+pub mod Errors
 pub mod Stops
 pub mod Located
 pub mod Refusals

@@ -11,9 +11,9 @@ digit_of b =
 
 -- digits of a base, with single underscores between them; the flag says that a digit has to be next
 abbrev pub are_digits : ℕ → Bool → Text → Bool
-are_digits base wanted [] = not wanted
-are_digits base wanted (b ∷ z) =
-    if b == 95 && not wanted then are_digits base true z else (nat_lt (digit_of b) base && are_digits base false z)
+are_digits base expected [] = not expected
+are_digits base expected (b ∷ z) =
+    if b == 95 && not expected then are_digits base true z else (nat_lt (digit_of b) base && are_digits base false z)
 
 abbrev pub with_digit : ℕ → ℕ → ℕ → ℕ
 with_digit base n b = if b == 95 then n else base * n + digit_of b

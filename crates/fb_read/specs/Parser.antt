@@ -145,8 +145,8 @@ finished end found = do
   pure found
 
 -- what was found, and what a rule reads after this mark
-unfoldable pub behind : {A B : Type 0} → A → Mark → Parser B → Parser (A × B)
-behind found between second = do
+unfoldable pub then_read : {A B : Type 0} → A → Mark → Parser B → Parser (A × B)
+then_read found between second = do
   expect between
   y ← second
   pure (found, y)
@@ -155,7 +155,7 @@ behind found between second = do
 unfoldable pub pair : {A B : Type 0} → Parser A → Mark → Parser B → Parser (A × B)
 pair first between second = do
   x ← first
-  behind x between second
+  then_read x between second
 
 -- the items up to a mark, and the mark; by the number of turns that are left and the items so far
 unfoldable pub many_from : {A : Type 0} → Parser A → Mark → ℕ → List A → Parser (List A)

@@ -5,7 +5,7 @@ use Rattle.fb_read.specs.Blank.{Text, is_blank, start, skip}
 
 -- these bytes occur nowhere in the text
 abbrev pub HasNo : Text → Text → Type 0
-HasNo bytes text = (before behind : Text) → before ++ (bytes ++ behind) ≡ text → ⊥
+HasNo bytes text = (before following : Text) → before ++ (bytes ++ following) ≡ text → ⊥
 
 -- a blank, or a comment: from `(*` to the next `*)`, or from `//` to the next line feed
 pub data IsPause : Text → Type 0 where

@@ -10,14 +10,14 @@ use Rattle.fb_read.specs.Statements.{body}
 use Rattle.fb_read.specs.StatementGrammar.{IsBody}
 
 -- After: what may follow what is read; Fits: it keeps the limit
-pub record ReadsExactly {A : Type 0} (parser : Parser A) (Derives : A → Tokens → Tokens → Type 0) (Behind : Tokens → Type 0) (Fits : A → Type 0) : Type 0 where
+pub record ReadsExactly {A : Type 0} (parser : Parser A) (Derives : A → Tokens → Tokens → Type 0) (IsAfter : Tokens → Type 0) (Fits : A → Type 0) : Type 0 where
   -- what is read is derived, and keeps the limit
   pub derived : (x : A) (ts rest : Tokens) → parser ts ≡ Ok (x, rest) → Derives x ts rest
   pub kept : (x : A) (ts rest : Tokens) → parser ts ≡ Ok (x, rest) → Fits x
   -- what is derived and keeps the limit is read
-  pub read : (x : A) (ts rest : Tokens) → Derives x ts rest → Behind rest → Fits x → parser ts ≡ Ok (x, rest)
+  pub read : (x : A) (ts rest : Tokens) → Derives x ts rest → IsAfter rest → Fits x → parser ts ≡ Ok (x, rest)
   -- what is derived and does not keep it is refused for its nesting
-  pub refused : (x : A) (ts rest : Tokens) → Derives x ts rest → Behind rest → ¬ Fits x → parser ts ≡ Err too_deep
+  pub refused : (x : A) (ts rest : Tokens) → Derives x ts rest → IsAfter rest → ¬ Fits x → parser ts ≡ Err too_deep
 
 abbrev pub ReadsExpressions : Type 0
 ReadsExpressions = ReadsExactly expression IsExpression (Stops loosest) ExpressionFits

@@ -41,7 +41,7 @@ signs =
     ∷ ((codes "/", mark.Slash) ∷ ((codes "&", mark.Ampersand) ∷ [])))))))))))))))))))))
 
 -- A sign of the list, of this many bytes, is what two bytes begin with.
-pub record Stands (all : List (Text × Mark)) (b next : ℕ) (k : Mark) (n : ℕ) : Type 0 where
+pub record IsSignOf (all : List (Text × Mark)) (b next : ℕ) (k : Mark) (n : ℕ) : Type 0 where
   pub index : ℕ
   pub written : Text
   pub listed : slice_get all index ≡ Some (written, k)
@@ -50,8 +50,8 @@ pub record Stands (all : List (Text × Mark)) (b next : ℕ) (k : Mark) (n : ℕ
 
 -- the longest of the signs that are there, or none where none does
 abbrev pub IsLongest : List (Text × Mark) → (b next : ℕ) → Option (Mark × ℕ) → Type 0
-IsLongest all b next None = (k : Mark) (n : ℕ) → Stands all b next k n → ⊥
-IsLongest all b next (Some (k, n)) = Stands all b next k n × ((j : Mark) (m : ℕ) → Stands all b next j m → m ≤ n)
+IsLongest all b next None = (k : Mark) (n : ℕ) → IsSignOf all b next k n → ⊥
+IsLongest all b next (Some (k, n)) = IsSignOf all b next k n × ((j : Mark) (m : ℕ) → IsSignOf all b next j m → m ≤ n)
 
 abbrev pub SignsExactly : Type 0
 SignsExactly = (b next : ℕ) → IsLongest signs b next (sign_of b next)

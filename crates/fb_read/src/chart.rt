@@ -6,7 +6,7 @@ ghost use Rattle.fb_read.specs.Charts as spec;
 use crate::cursor::Cursor;
 use crate::fault::ParseFault;
 use crate::rule::{
-    Rule, added, behind, ended, listed, many_after, pair, paired, run_after, section,
+    Rule, added, ended, listed, many_after, pair, paired, run_after, section, then_read,
 };
 use crate::statement::body;
 use crate::token::Mark;
@@ -92,7 +92,7 @@ impl Rule for Transition {
     #[tactic(auto, using(crate::proofs::Pairs::transition_is))]
     fn read(cursor: &mut Cursor<'_>) -> Result<Transition, ParseFault> {
         let both = pair::<Name, Name>(cursor, Mark::To)?;
-        let (both, condition) = behind::<(Name, Name), Condition>(cursor, both, Mark::Assign)?;
+        let (both, condition) = then_read::<(Name, Name), Condition>(cursor, both, Mark::Assign)?;
         let (from, to) = both;
         let found = Transition {
             from,

@@ -1,5 +1,8 @@
 //! Why a declaration text is refused.
 
+ghost use Rattle.std.specs.Prelude.{◌≡◌};
+ghost use Rattle.fb_read.specs.Errors.{number_of};
+
 use thiserror::Error;
 
 /// Why a declaration text is refused. `Memory` has no number.
@@ -22,4 +25,20 @@ pub enum ReadError {
     /// E05: an expression or a statement nests more than 64 deep.
     #[error("an expression or a statement nests too deep")]
     Nesting,
+}
+
+impl ReadError {
+    /// The number of the refusal, from 1 to 5. `Memory` has none.
+    pub fn number(&self) -> Option<u8>
+        ensures { result ≡ number_of self.now }
+    {
+        match self {
+            ReadError::Memory => None,
+            ReadError::Byte => Some(1),
+            ReadError::Token => Some(2),
+            ReadError::Syntax { .. } => Some(3),
+            ReadError::TooLong => Some(4),
+            ReadError::Nesting => Some(5),
+        }
+    }
 }

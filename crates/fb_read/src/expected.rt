@@ -300,7 +300,7 @@ fn tokens_of(alloc: Global, text: &[u8]) -> Result<Items<Located>, AllocError>
 }
 
 /// Watches a mark after the end of a text. Loops of the rules make no test where no token is left.
-fn watch_behind(alloc: Global, text: &[u8], mark: Mark) -> Result<Watched, AllocError>
+fn watch_after(alloc: Global, text: &[u8], mark: Mark) -> Result<Watched, AllocError>
     requires { length text.now ≤ most_bytes }
 {
     let mut tokens = tokens_of(alloc, text)?;
@@ -312,14 +312,14 @@ fn watch_behind(alloc: Global, text: &[u8], mark: Mark) -> Result<Watched, Alloc
 }
 
 /// What could follow a text. No place takes both of two marks that are tried.
-fn expected_behind(alloc: Global, text: &[u8]) -> Result<Expected, AllocError>
+fn expected_after(alloc: Global, text: &[u8]) -> Result<Expected, AllocError>
     requires { length text.now ≤ most_bytes }
 {
-    let first = watch_behind(alloc, text, Mark::DotDot)?;
+    let first = watch_after(alloc, text, Mark::DotDot)?;
     if !first.taken {
         return Ok(first.missed);
     }
-    let second = watch_behind(alloc, text, Mark::EndFunctionBlock)?;
+    let second = watch_after(alloc, text, Mark::EndFunctionBlock)?;
     Ok(second.missed)
 }
 
@@ -343,7 +343,7 @@ pub fn expected_at(alloc: Global, text: &[u8], start: usize) -> Result<Expected,
     let left = tokens.len().saturating_sub(before);
     if left == 0 {
         drop(tokens);
-        return expected_behind(alloc, text);
+        return expected_after(alloc, text);
     }
     let watched = watch(alloc, tokens.as_slice(), left)?;
     Ok(watched.missed)

@@ -48,7 +48,7 @@ fn parts_start(z: &[u8], start: usize) -> usize
     requires { start ≤ length z.now }
     ensures value { result ≡ spec.parts_start z.now start }
     ensures within { result ≤ length z.now }
-    ensures behind { start ≤ result }
+    ensures following { start ≤ result }
 {
     if at(z, start) == b'-' {
         start + 1

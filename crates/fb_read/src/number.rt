@@ -39,10 +39,10 @@ pub fn number(base: u8, digits: &[u8]) -> Option<u128>
     ensures small { ForSome result (λ n. n ≤ most) }
 {
     let mut value: u128 = 0;
-    let mut wanted = true;
+    let mut expected = true;
     for b in digits {
-        if *b == b'_' && !wanted {
-            wanted = true;
+        if *b == b'_' && !expected {
+            expected = true;
             continue;
         }
         let digit = digit_of(*b);
@@ -53,7 +53,7 @@ pub fn number(base: u8, digits: &[u8]) -> Option<u128>
             return None;
         };
         value = longer;
-        wanted = false;
+        expected = false;
     }
-    if wanted { None } else { Some(value) }
+    if expected { None } else { Some(value) }
 }

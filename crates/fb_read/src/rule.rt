@@ -32,13 +32,13 @@ pub fn paired<A: Drop, B: Drop>(found: A, read: Result<B, ParseFault>) -> Result
 }
 
 /// Returns `found` with what a rule reads after this mark.
-#[tactic(auto, unfolding(crate::specs::Parser::behind))]
-pub fn behind<A: Drop, B: Rule>(
+#[tactic(auto, unfolding(crate::specs::Parser::then_read))]
+pub fn then_read<A: Drop, B: Rule>(
     cursor: &mut Cursor<'_>,
     found: A,
     between: Mark,
 ) -> Result<(A, B), ParseFault>
-    ensures { Reads (spec.behind found between B.parser cursor.old) result cursor.new }
+    ensures { Reads (spec.then_read found between B.parser cursor.old) result cursor.new }
 {
     let found = ended(cursor, between, found)?;
     paired(found, B::read(cursor))
@@ -50,7 +50,7 @@ pub fn pair<A: Rule, B: Rule>(cursor: &mut Cursor<'_>, between: Mark) -> Result<
     ensures { Reads (spec.pair A.parser between B.parser cursor.old) result cursor.new }
 {
     let first = A::read(cursor)?;
-    behind(cursor, first, between)
+    then_read(cursor, first, between)
 }
 
 /// Appends what was read to the items that were found.

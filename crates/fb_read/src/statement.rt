@@ -7,7 +7,7 @@ ghost use Rattle.fb_read.specs.StatementNests.{StatementNests};
 
 use crate::cursor::Cursor;
 use crate::fault::ParseFault;
-use crate::rule::{Rule, added, behind, ended, finished, optional, pair, paired, separated};
+use crate::rule::{Rule, added, ended, finished, optional, pair, paired, separated, then_read};
 use crate::token::Mark;
 use fb_types::{Body, Branch, Choice, Expr, Items, Label, MOST_NESTING, Name, Reference, Stmt};
 
@@ -263,7 +263,7 @@ impl<F: Fn(&mut Cursor<'_>, u32) -> Result<Stmt, ParseFault>> StatementRules<F> 
         ensures { Reads (spec.repeat_statement (spec.nested_statement self.now.below) cursor.old) result cursor.new }
     {
         let body = self.block(cursor)?;
-        let (body, condition) = behind::<Items<Stmt>, Expr>(cursor, body, Mark::Until)?;
+        let (body, condition) = then_read::<Items<Stmt>, Expr>(cursor, body, Mark::Until)?;
         finished(cursor, Mark::EndRepeat, Stmt::Repeat(body, condition))
     }
 

@@ -103,8 +103,8 @@ fn parts(units: &[Unit], z: &[u8]) -> Option<u128>
     let [unit, less @ ..] = units else {
         return None;
     };
-    let (digits, behind) = z.split_at(digits_len(z));
-    let (name, rest) = behind.split_at(letters_len(behind));
+    let (digits, following) = z.split_at(digits_len(z));
+    let (name, rest) = following.split_at(letters_len(following));
     if name != unit.name() {
         return parts(less, z);
     }

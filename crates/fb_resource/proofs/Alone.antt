@@ -1,4 +1,4 @@
--- What a taking comes to behind an outbox from which nothing goes out.
+-- The result of a taking after an outbox from which nothing goes out.
 use Rattle.std.proofs.Common.{◌≡◌, ℕ, [], map, Option, subst}
 use Rattle.fb_types.specs.Headline.{Inputs, system_of}
 use Rattle.fb_types.specs.Numbers.{line_of}

@@ -22,7 +22,7 @@ use Rattle.fb_resource.proofs.Meters.{fresh_counts}
 use Rattle.fb_types.proofs.ByIndex.{slice_get-push}
 use Rattle.fb_net.specs.Worlds.{IsForest}
 use Rattle.fb_net.specs.declared.resource.Forest.{Forest}
-use Rattle.fb_resource.specs.Resources.{AreOpened, IsFresh, StandsFor}
+use Rattle.fb_resource.specs.Resources.{AreOpened, IsFresh, Represents}
 use Rattle.fb_resource.specs.declared.resource.Resource.{Resource}
 
 -- what waits in both places, where one key is in one of them alone
@@ -52,8 +52,8 @@ module _ (i : Inputs) (n : ℕ) (t : Forest) (a : Contents) (sent : Vec ℕ) (at
     here : IsHere i (opening_state (system_of i)) t.resource 0 t fresh_counts
     here = subst (λ r. IsHere i (opening_state (system_of i)) r 0 t fresh_counts) (sym at) (here_opened i n t accepted forest)
 
-    stands : (limit : ℕ) → StandsFor i limit (local_of (system_of i) limit n (opening (system_of i) (stimuli_of i)) None) first
-    stands limit = record {
+    represents : (limit : ℕ) → Represents i limit (local_of (system_of i) limit n (opening (system_of i) (stimuli_of i)) None) first
+    represents limit = record {
       state = opening_state (system_of i);
       part = ap (λ r. part_of (system_of i) r (opening_state (system_of i))) (sym at);
       blocks = here.blocks;
@@ -77,9 +77,9 @@ module _ (i : Inputs) (n : ℕ) (t : Forest) (a : Contents) (sent : Vec ℕ) (at
         due = opened.due;
         counted = counted;
         home = at_home;
-        stands = λ limit. (local_of (system_of i) limit n (opening (system_of i) (stimuli_of i)) None, stands limit);
+        represents = λ limit. (local_of (system_of i) limit n (opening (system_of i) (stimuli_of i)) None, represents limit);
       };
-      state = stands;
+      state = represents;
     }
 
 -- ---- All of them

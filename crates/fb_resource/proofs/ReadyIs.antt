@@ -136,9 +136,9 @@ pub came_good : (i : Inputs) (k : Key) (e : Event) (left after : ℕ) (stop : _)
     → All (IsOut (system_of i) k.resource) x.outs.items → All (IsPostable (system_of i) k.resource) x.outs.items × IsLater k.tick x.timer
 came_good i k e left after stop tree x before w accepted limits home typed_world typed_event came outs = (
   postable i sound k x.outs.items outs
-      (subst (λ os. Each (IsGood (system_of i) sound k) os) (sym came.stands.outs) good.outs)
-      (subst (λ (os : List reactions.Out). All (IsTypedOut (system_of i)) os) (sym came.stands.outs) kept.outs),
-  subst (IsLater k.tick) (sym (came.stands.timer ∙ asked_first came.outcome.timer)) (later_is k.tick came.outcome.timer good.timer),
+      (subst (λ os. Each (IsGood (system_of i) sound k) os) (sym came.represents.outs) good.outs)
+      (subst (λ (os : List reactions.Out). All (IsTypedOut (system_of i)) os) (sym came.represents.outs) kept.outs),
+  subst (IsLater k.tick) (sym (came.represents.timer ∙ asked_first came.outcome.timer)) (later_is k.tick came.outcome.timer good.timer),
 )
   where
     sound : IsSound (system_of i)

@@ -20,7 +20,7 @@ use Rattle.fb_agenda.proofs.Timers.{timer_class}
 use Rattle.fb_net.specs.Events.{event_of, IsEventIn}
 use Rattle.fb_resource.specs.Posts.{arriving, key_of, receiver_of}
 use Rattle.fb_resource.specs.Waiting.{IsInOrder, MayWait, meaning}
-use Rattle.fb_resource.specs.Resources.{HasReceived, IsFor, IsOf, StandsFor, with_messages}
+use Rattle.fb_resource.specs.Resources.{HasReceived, IsFor, IsOf, Represents, with_messages}
 use Rattle.fb_resource.specs.declared.resource.Resource.{Resource}
 
 -- ---- What is found among the messages
@@ -121,8 +121,8 @@ module _ (i : Inputs) (ms : List Message) (old : Resource) (agenda : Contents)
   arriving_none : (j : Key) → (j.class ≡ 2 → ⊥) → found j (map (arriving i) ms) ≡ None
   arriving_none j other = found_arriving i old.tree.resource ms receivers j ∙ ap (option_map (event_of i)) (found_none old.tree.resource ms j other)
 
-  stands : (limit : ℕ) (l : Local (machine (system_of i) limit)) → StandsFor i limit l old → StandsFor i limit (with_messages i limit ms l) new
-  stands limit l before = record {
+  represents : (limit : ℕ) (l : Local (machine (system_of i) limit)) → Represents i limit l old → Represents i limit (with_messages i limit ms l) new
+  represents limit l before = record {
     state = before.state;
     part = before.part;
     blocks = before.blocks;
@@ -164,7 +164,7 @@ module _ (i : Inputs) (ms : List Message) (old : Resource) (agenda : Contents)
     due = ap length due ∙ of.due;
     counted = of.counted;
     home = at_home;
-    stands = λ limit. (with_messages i limit ms (of.stands limit).0, stands limit (of.stands limit).0 (of.stands limit).1);
+    represents = λ limit. (with_messages i limit ms (of.represents limit).0, represents limit (of.represents limit).0 (of.represents limit).1);
   }
 
 pub received : (ms : List Message) (old : Resource) (agenda : Contents)
@@ -173,5 +173,5 @@ pub received : (ms : List Message) (old : Resource) (agenda : Contents)
 received ms old agenda put due = record {
   besides = refl;
   of = λ i of for_it. still_of i ms old agenda put due of for_it;
-  stands = λ i limit of for_it l before. stands i ms old agenda put due of for_it limit l before;
+  represents = λ i limit of for_it l before. represents i ms old agenda put due of for_it limit l before;
 }

@@ -1,4 +1,4 @@
--- A run of a resource in code comes to what a run of what stands for it comes to.
+-- A run of a resource in code has the result of a run of what represents it.
 use Rattle.std.proofs.Common.{◌≡◌, ◌<◌, ◌≤◌, ℕ, List, [], map, Option, Some, None, refl, sym, ap, subst, ◌∙◌, arith}
 use Rattle.std.specs.Prelude.{option_map, unwrap_or}
 use Rattle.fb_types.specs.Headline.{Inputs, system_of}
@@ -18,8 +18,8 @@ use Rattle.fb_net.specs.Events.{event_of}
 use Rattle.fb_resource.specs.Counts.{IsMetered, IsUnused, meter_of}
 use Rattle.fb_resource.specs.Posts.{arriving}
 use Rattle.fb_resource.specs.Takings.{AreReady, IsEmpty, IsHere, IsTakenHere, Queues}
-use Rattle.fb_resource.specs.Resources.{HasRun, IsOf, RanTo, StandsFor, mark_of}
-use Rattle.fb_resource.specs.Runs.{ComesTo, HasEnded, IsRunning, Running, Stands, at_rest, in_run}
+use Rattle.fb_resource.specs.Resources.{HasRun, IsOf, RanTo, Represents, mark_of}
+use Rattle.fb_resource.specs.Runs.{ComesTo, HasEnded, IsRunning, Running, RepresentsRunning, at_rest, in_run}
 use Rattle.fb_resource.specs.declared.given.Given.{Given}
 use Rattle.fb_resource.specs.declared.resource.Resource.{Resource}
 use Rattle.fb_resource.specs.declared.resource.WindowDone.TheVariants.{Ran}
@@ -65,23 +65,23 @@ module _ (i : Inputs) (limit : ℕ) (x : Resource) (m : TickCounts) (g : Given) 
     home = of.home;
   }
 
-  pub comes_first : (t : ℕ) (l : Local (machine (system_of i) limit)) → x.stopped ≡ None → IsUnused x.clock (meter_of m) → StandsFor i limit l x
+  pub comes_first : (t : ℕ) (l : Local (machine (system_of i) limit)) → x.stopped ≡ None → IsUnused x.clock (meter_of m) → Represents i limit l x
       → ComesTo i limit x.tree.resource t l (in_run x m g)
-  comes_first t l live unused stands = record {
+  comes_first t l live unused represents = record {
     at = l;
-    stands = record {
-      state = stands.state;
-      part = stands.part;
+    represents = record {
+      state = represents.state;
+      part = represents.part;
       here = record {
-        blocks = stands.blocks;
-        meter = alike_unused x.clock (stands.state.meters x.tree.resource) (meter_of m) (stands.unused live) unused;
-        typed = stands.typed;
+        blocks = represents.blocks;
+        meter = alike_unused x.clock (represents.state.meters x.tree.resource) (meter_of m) (represents.unused live) unused;
+        typed = represents.typed;
       };
-      counts = stands.counts;
-      own = stands.own;
-      inbox = stands.inbox;
-      waits = stands.waits;
-      stop = stands.stop;
+      counts = represents.counts;
+      own = represents.own;
+      inbox = represents.inbox;
+      waits = represents.waits;
+      stop = represents.stop;
     };
     come = record {
       items = [];
@@ -100,7 +100,7 @@ module _ (i : Inputs) (limit : ℕ) (x : Resource) (m : TickCounts) (g : Given) 
 abbrev pub Rests : Running → Type 0
 Rests x = x.stopped ≡ None → IsUnused x.clock (meter_of x.meter)
 
-stands_for : (i : Inputs) (limit : ℕ) (l : Local (machine (system_of i) limit)) (x : Running) → Rests x → Stands i limit l x → StandsFor i limit l (at_rest x)
+stands_for : (i : Inputs) (limit : ℕ) (l : Local (machine (system_of i) limit)) (x : Running) → Rests x → RepresentsRunning i limit l x → Represents i limit l (at_rest x)
 stands_for i limit l x rests s = record {
   state = s.state;
   part = s.part;
@@ -114,13 +114,13 @@ stands_for i limit l x rests s = record {
   stop = s.stop;
 }
 
-ran_of : (i : Inputs) (limit r t : ℕ) (from at : Local (machine (system_of i) limit)) (x : Running) → x.tree.resource ≡ r → Rests x → Stands i limit at x
+ran_of : (i : Inputs) (limit r t : ℕ) (from at : Local (machine (system_of i) limit)) (x : Running) → x.tree.resource ≡ r → Rests x → RepresentsRunning i limit at x
     → HasEnded (machine (system_of i) limit) r t from at x.clock (map (line_of (system_of i)) x.queues.outbox.lines.items) (map (arriving i) x.queues.mail.items)
     → RanTo i limit from t (at_rest x) x.queues.outbox.lines.items x.queues.mail.items
-ran_of i limit r t from at x here rests stands h = record {
+ran_of i limit r t from at x here rests represents h = record {
   items = h.items;
   run = subst (λ q. Run (machine (system_of i) limit) q from t h.items) (sym here) h.run;
-  stands = subst (λ l. StandsFor i limit l (at_rest x)) (sym h.ends) (stands_for i limit at x rests stands);
+  represents = subst (λ l. Represents i limit l (at_rest x)) (sym h.ends) (stands_for i limit at x rests represents);
   clock = h.clock;
   lines = h.lines;
   sent = h.sent;
@@ -150,15 +150,15 @@ module _ (i : Inputs) (limit : ℕ) (old new : Running) (k : Key) (e : Event) (a
         (λ j f h. running.home j f h ∙ sym same);
   }
 
-  module _ (r to : ℕ) (from : Local (machine (system_of i) limit)) (c : ComesTo i limit r to from old) (here : old.tree.resource ≡ r) (below : k.tick < to) (t : Taken c.stands.state) where
+  module _ (r to : ℕ) (from : Local (machine (system_of i) limit)) (c : ComesTo i limit r to from old) (here : old.tree.resource ≡ r) (below : k.tick < to) (t : Taken c.represents.state) where
     abbrev item : Item (machine (system_of i) limit)
     item = item_at i limit k (event_of i e) t.effect
 
     takes : TakesAlone (machine (system_of i) limit) r c.at item
-    takes = takes_alone i limit r c.at old c.stands k e a t.effect here (mine ∙ here) live fits gone t.takes
+    takes = takes_alone i limit r c.at old c.represents k e a t.effect here (mine ∙ here) live fits gone t.takes
 
-    stands : Stands i limit (after (machine (system_of i) limit) c.at item) new
-    stands = stands_after i limit c.at old new c.stands k e (record old.queues { agenda = a }) new.stopped sound same mine refl fits gone t
+    represents : RepresentsRunning i limit (after (machine (system_of i) limit) c.at item) new
+    represents = stands_after i limit c.at old new c.represents k e (record old.queues { agenda = a }) new.stopped sound same mine refl fits gone t
 
     abbrev before_lines : List model.Line
     before_lines = map (line_of (system_of i)) old.queues.outbox.lines.items
@@ -172,7 +172,7 @@ module _ (i : Inputs) (limit : ℕ) (old new : Running) (k : Key) (e : Event) (a
         let h = come_more (machine (system_of i) limit) r to from c.at before_lines before_sent c.come item takes below (t.stops ∙ going) in
         record {
           at = after (machine (system_of i) limit) c.at item;
-          stands = stands;
+          represents = represents;
           come = record {
             items = h.items;
             chain = h.chain;
@@ -188,7 +188,7 @@ module _ (i : Inputs) (limit : ℕ) (old new : Running) (k : Key) (e : Event) (a
     pub ran_stop : (reason : Reason) → new.stopped ≡ Some reason → new.clock ≡ k.tick → RanTo i limit from to (at_rest new) new.queues.outbox.lines.items new.queues.mail.items
     ran_stop reason stops clock =
         let h = come_stop (machine (system_of i) limit) r to from c.at before_lines before_sent c.come item takes below reason (t.stops ∙ stops) in
-        ran_of i limit r to from (after (machine (system_of i) limit) c.at item) new (same ∙ here) (λ going. absurd (none_some new.stopped reason going stops)) stands (record {
+        ran_of i limit r to from (after (machine (system_of i) limit) c.at item) new (same ∙ here) (λ going. absurd (none_some new.stopped reason going stops)) represents (record {
           items = h.items;
           run = h.run;
           ends = h.ends;
@@ -217,7 +217,7 @@ module _ (i : Inputs) (limit : ℕ) (old : Running) (a : Contents) (to : ℕ) (k
       } in
       subst (λ z. IsRunning i limit (turned z)) (sym kept) own
 
-  stands_turned : (l : Local (machine (system_of i) limit)) → Stands i limit l old → Stands i limit l (turned old.queues.agenda)
+  stands_turned : (l : Local (machine (system_of i) limit)) → RepresentsRunning i limit l old → RepresentsRunning i limit l (turned old.queues.agenda)
   stands_turned l s = record {
     state = s.state;
     part = s.part;
@@ -233,17 +233,17 @@ module _ (i : Inputs) (limit : ℕ) (old : Running) (a : Contents) (to : ℕ) (k
       → RanTo i limit from to (at_rest (turned a)) old.queues.outbox.lines.items old.queues.mail.items
   ran_rest r from c here unused =
       subst (λ z. RanTo i limit from to (at_rest (turned z)) old.queues.outbox.lines.items old.queues.mail.items) (sym kept)
-      (ran_of i limit r to from c.at (turned old.queues.agenda) here (λ live. unused) (stands_turned c.at c.stands)
-      (come_rest (machine (system_of i) limit) r to from c.at _ _ c.come (λ live j mine below. c.stands.waits j (mine ∙ sym here) ∙ ap (option_map (event_of i)) (none j below))))
+      (ran_of i limit r to from c.at (turned old.queues.agenda) here (λ live. unused) (stands_turned c.at c.represents)
+      (come_rest (machine (system_of i) limit) r to from c.at _ _ c.come (λ live j mine below. c.represents.waits j (mine ∙ sym here) ∙ ap (option_map (event_of i)) (none j below))))
 
 -- ---- What is handed out
 
--- What stands for a resource under one limit on steps does so under each: what it has is the same.
+-- What represents a resource under one limit on steps does so under each: what it has is the same.
 module _ (i : Inputs) (limit other : ℕ) (l : Local (machine (system_of i) limit)) where
   abbrev under : Local (machine (system_of i) other)
   under = record { part = l.part; own = l.own; inbox = l.inbox; stop = l.stop }
 
-  stands_under : (x : Resource) → StandsFor i limit l x → StandsFor i other under x
+  stands_under : (x : Resource) → Represents i limit l x → Represents i other under x
   stands_under x s = record {
     state = s.state;
     part = s.part;
@@ -258,11 +258,11 @@ module _ (i : Inputs) (limit other : ℕ) (l : Local (machine (system_of i) limi
   }
 
 pub has_run : (i : Inputs) (limit : ℕ) (old : Resource) (x : Running) (to : ℕ) (stop : Option StopMark) → IsOf i old → IsRunning i limit x → x.tree.resource ≡ old.tree.resource
-    → ((l : Local (machine (system_of i) limit)) → StandsFor i limit l old → RanTo i limit l to (at_rest x) x.queues.outbox.lines.items x.queues.mail.items)
+    → ((l : Local (machine (system_of i) limit)) → Represents i limit l old → RanTo i limit l to (at_rest x) x.queues.outbox.lines.items x.queues.mail.items)
     → stop ≡ mark_of x.tree.resource x.clock x.stopped
     → HasRun i limit old to (Ran (at_rest x) x.queues.outbox.lines x.queues.mail stop)
 has_run i limit old x to stop of running tree ran stops =
-    let first = of.stands limit in
+    let first = of.represents limit in
     let its = ran first.0 first.1 in
     let last : Local (machine (system_of i) limit) = end (machine (system_of i) limit) first.0 its.items in (
       record {
@@ -271,7 +271,7 @@ has_run i limit old x to stop of running tree ran stops =
         due = running.ready.due;
         counted = running.ready.counted;
         home = running.home;
-        stands = λ other. (under i limit other last, stands_under i limit other last (at_rest x) its.stands);
+        represents = λ other. (under i limit other last, stands_under i limit other last (at_rest x) its.represents);
       },
       tree,
       running.ready.lines,

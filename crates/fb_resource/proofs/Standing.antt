@@ -1,4 +1,4 @@
--- What stands for a resource takes the events that the resource takes.
+-- What represents a resource takes the events that the resource takes.
 use Rattle.std.proofs.Common.{◌≡◌, ⊎_elim, ℕ, Bool, true, false, cond, Option, Some, None, refl, sym, ap, subst, ◌∙◌}
 use Rattle.std.specs.Prelude.{option_map}
 use Rattle.fb_types.specs.Headline.{Inputs, system_of}
@@ -15,7 +15,7 @@ use Rattle.fb_laws.specs.Sound.{IsSound}
 use Rattle.fb_agenda.specs.Agendas.{Contents, waiting}
 use Rattle.fb_types.specs.declared.run.Event.{Event}
 use Rattle.fb_net.specs.Events.{event_of}
-use Rattle.fb_resource.specs.Runs.{Running, Stands}
+use Rattle.fb_resource.specs.Runs.{Running, RepresentsRunning}
 use Rattle.fb_resource.specs.Takings.{IsHere, IsTakenHere, Queues}
 use Rattle.fb_resource.specs.Waiting.{meaning}
 use Rattle.fb_resource.proofs.Leaving.{Left, still}
@@ -28,11 +28,11 @@ pub record HasLeft (k : Key) (e : Event) (old new : Contents) : Type 0 where
   pub least : (j : Key) → Precedes j k → waiting old j ≡ None
   pub left : Left k old new
 
--- a taking, as one of what stands for the resource
+-- a taking, as one of what represents the resource
 abbrev pub item_at : (i : Inputs) (limit : ℕ) → Key → AnEvent → Effect → Item (machine (system_of i) limit)
 item_at i limit k e x = record { key = k; event = e; out = outcome_of (system_of i) k x }
 
-pub takes_alone : (i : Inputs) (limit r : ℕ) (l : Local (machine (system_of i) limit)) (x : Running) (s : Stands i limit l x) (k : Key) (e : Event) (left : Contents) (effect : Effect)
+pub takes_alone : (i : Inputs) (limit r : ℕ) (l : Local (machine (system_of i) limit)) (x : Running) (s : RepresentsRunning i limit l x) (k : Key) (e : Event) (left : Contents) (effect : Effect)
     → x.tree.resource ≡ r → k.resource ≡ r → x.stopped ≡ None → IsAtResource (system_of i) k (event_of i e)
     → HasLeft k e x.queues.agenda left → Takes (system_of i) limit s.state k (event_of i e) effect
     → TakesAlone (machine (system_of i) limit) r l (item_at i limit k (event_of i e) effect)
@@ -56,11 +56,11 @@ changes_own : (i : Inputs) (limit : ℕ) (s : State) (k : Key) (e : AnEvent) (ef
     → Takes (system_of i) limit s k e effect → ChangesOwn (machine (system_of i) limit) (item_at i limit k e effect)
 changes_own i limit s k e effect sound fits takes j v h = ((takes_good (system_of i) sound k limit s e fits effect takes).changes j v h).class
 
-pub stands_after : (i : Inputs) (limit : ℕ) (l : Local (machine (system_of i) limit)) (old new : Running) (s : Stands i limit l old) (k : Key) (e : Event) (mid : Queues) (stop : Option Reason)
+pub stands_after : (i : Inputs) (limit : ℕ) (l : Local (machine (system_of i) limit)) (old new : Running) (s : RepresentsRunning i limit l old) (k : Key) (e : Event) (mid : Queues) (stop : Option Reason)
     → IsSound (system_of i) → new.tree.resource ≡ old.tree.resource → k.resource ≡ old.tree.resource → new.stopped ≡ stop → IsAtResource (system_of i) k (event_of i e)
     → HasLeft k e old.queues.agenda mid.agenda
     → (t : IsTakenHere i limit s.state k (event_of i e) stop new.clock new.tree new.meter mid new.queues)
-    → Stands i limit (after (machine (system_of i) limit) l (item_at i limit k (event_of i e) t.effect)) new
+    → RepresentsRunning i limit (after (machine (system_of i) limit) l (item_at i limit k (event_of i e) t.effect)) new
 stands_after i limit l old new s k e mid stop sound same mine stopped fits gone t =
     let M = machine (system_of i) limit in
     let item = item_at i limit k (event_of i e) t.effect in

@@ -111,7 +111,7 @@ pub taken_one : (i : Inputs) (limit : ℕ) (s : State) (k : Key) (e : Event) (m 
     → IsSettled i k (path_of (event_of i e)) x.timer (post_all (system_of i) k (map (out_of (system_of i)) x.outs.items) (record { locals = m.locals; sent = counts; raised = []; messages = [] })) mid new meter.locals)
     → meter.tick ≡ Some k.tick → new.outbox.lines.items ≡ x.lines.items
     → IsTakenHere i limit s k (event_of i e) stop from tree meter old new
-taken_one i limit s k e m meter l stop old mid new from before was tree x sound typed at counted_before is left came between settled tick told = record {
+taken_one i limit s k e m meter l stop old mid new from before was tree x sound typed at counted_before is left came between settled tick shown = record {
   effect = effect;
   takes = takes;
   stops = came.stops;
@@ -119,7 +119,7 @@ taken_one i limit s k e m meter l stop old mid new from before was tree x sound 
   counts = its.posted.sends;
   agenda = agenda_is i k (path_of event) o.timer posts old new meter.locals its;
   mail = its.posted.mail;
-  lines = ap (map (line_of sys)) told ∙ came.stands.lines;
+  lines = ap (map (line_of sys)) shown ∙ came.represents.lines;
 }
   where
     sys : System
@@ -163,11 +163,11 @@ taken_one i limit s k e m meter l stop old mid new from before was tree x sound 
         }
 
     its : IsSettled i k (path_of event) o.timer posts old new meter.locals
-    its = subst (λ ask. IsSettled i k (path_of event) ask posts old new meter.locals) (came.stands.timer ∙ asked_first o.timer)
-        (subst (λ (os : List Out). IsSettled i k (path_of event) x.timer (post_all sys k os start) old new meter.locals) came.stands.outs after_old)
+    its = subst (λ ask. IsSettled i k (path_of event) ask posts old new meter.locals) (came.represents.timer ∙ asked_first o.timer)
+        (subst (λ (os : List Out). IsSettled i k (path_of event) x.timer (post_all sys k os start) old new meter.locals) came.represents.outs after_old)
 
     here : IsForest i tree (world_of state k.resource)
-    here = subst (λ h. IsForest i tree (record { blocks = o.world.blocks; held = h })) (sym (with_at_here k.resource o.world.held s.held)) came.stands.world
+    here = subst (λ h. IsForest i tree (record { blocks = o.world.blocks; held = h })) (sym (with_at_here k.resource o.world.held s.held)) came.represents.world
 
     metered : state.meters k.resource ≡ meter_of meter
     metered =

@@ -30,7 +30,7 @@ use Rattle.fb_resource.specs.declared.resource.WindowDone.TheVariants.{NoMemory,
 -- ---- What it represents
 
 -- A resource represents one by itself. What that one has of other resources' keys does not matter. Until it stops, it has used no step of a tick from its clock on.
-pub record StandsFor (i : Inputs) (limit : ℕ) (l : Local (machine (system_of i) limit)) (x : Resource) : Type 0 where
+pub record Represents (i : Inputs) (limit : ℕ) (l : Local (machine (system_of i) limit)) (x : Resource) : Type 0 where
   pub state : State
   pub part : l.part ≡ part_of (system_of i) x.tree.resource state
   pub blocks : IsForest i x.tree (world_of state x.tree.resource)
@@ -49,7 +49,7 @@ pub record IsOf (i : Inputs) (x : Resource) : Type 0 where
   pub due : length x.agenda.due ≡ length (system_of i).paths
   pub counted : length x.sent.items ≡ (system_of i).links
   pub home : (j : Key) (e : Event) → waiting x.agenda j ≡ Some e → j.resource ≡ x.tree.resource
-  pub stands : (limit : ℕ) → (l : Local (machine (system_of i) limit)) × StandsFor i limit l x
+  pub represents : (limit : ℕ) → (l : Local (machine (system_of i) limit)) × Represents i limit l x
 
 -- an event below the tick waits
 abbrev pub IsBusy : (tick : ℕ) → Resource → Type 0
@@ -61,7 +61,7 @@ pub record IsFresh (i : Inputs) (r : ℕ) (x : Resource) : Type 0 where
   pub clock : x.clock ≡ 0
   pub live : x.stopped ≡ None
   pub of : IsOf i x
-  pub state : (limit : ℕ) → StandsFor i limit (local_of (system_of i) limit r (opening (system_of i) (stimuli_of i)) None) x
+  pub state : (limit : ℕ) → Represents i limit (local_of (system_of i) limit r (opening (system_of i) (stimuli_of i)) None) x
 
 -- The resources of a system, in order, as they are before the first event.
 pub record AreOpened (i : Inputs) (xs : List Resource) : Type 0 where
@@ -69,7 +69,7 @@ pub record AreOpened (i : Inputs) (xs : List Resource) : Type 0 where
   pub numbered : (r : ℕ) (x : Resource) → slice_get xs r ≡ Some x → x.tree.resource ≡ r
   pub of : (r : ℕ) (x : Resource) → slice_get xs r ≡ Some x → IsOf i x
   pub clock : (r : ℕ) (x : Resource) → slice_get xs r ≡ Some x → x.clock ≡ 0
-  pub state : (limit r : ℕ) (x : Resource) → slice_get xs r ≡ Some x → StandsFor i limit (local_of (system_of i) limit r (opening (system_of i) (stimuli_of i)) None) x
+  pub state : (limit r : ℕ) (x : Resource) → slice_get xs r ≡ Some x → Represents i limit (local_of (system_of i) limit r (opening (system_of i) (stimuli_of i)) None) x
 
 -- ---- A run
 
@@ -82,7 +82,7 @@ mark_of r t (Some q) = Some (record { tick = t; resource = r; reason = q })
 pub record RanTo (i : Inputs) (limit : ℕ) (l : Local (machine (system_of i) limit)) (to : ℕ) (x : Resource) (ls : List Line) (ms : List Message) : Type 0 where
   pub items : List (Item (machine (system_of i) limit))
   pub run : Run (machine (system_of i) limit) x.tree.resource l to items
-  pub stands : StandsFor i limit (end (machine (system_of i) limit) l items) x
+  pub represents : Represents i limit (end (machine (system_of i) limit) l items) x
   pub clock : x.clock ≡ clock_after (machine (system_of i) limit) to items
   pub lines : map (line_of (system_of i)) ls ≡ lines_of (machine (system_of i) limit) items
   pub sent : map (arriving i) ms ≡ sent_by (machine (system_of i) limit) items
@@ -92,7 +92,7 @@ abbrev pub HasRun : Inputs → (limit : ℕ) → Resource → (to : ℕ) → Win
 HasRun i limit old to (Ran new lines sent stop) =
     IsOf i new × (new.tree.resource ≡ old.tree.resource) × All (BelongsTo (system_of i)) lines.items × All (IsMessage i) sent.items
     × (stop ≡ mark_of new.tree.resource new.clock new.stopped)
-    × ((l : Local (machine (system_of i) limit)) → StandsFor i limit l old → RanTo i limit l to new lines.items sent.items)
+    × ((l : Local (machine (system_of i) limit)) → Represents i limit l old → RanTo i limit l to new lines.items sent.items)
 HasRun i limit old to NoMemory = Unit {0}
 
 -- ---- Messages
@@ -121,5 +121,5 @@ with_messages i limit ms l = record l { inbox = λ k. or_else (found k (map (arr
 pub record HasReceived (ms : List Message) (old new : Resource) : Type 0 where
   pub besides : IsSameBesides old new
   pub of : (i : Inputs) → IsOf i old → All (IsFor i old) ms → IsOf i new
-  pub stands : (i : Inputs) (limit : ℕ) → IsOf i old → All (IsFor i old) ms
-      → (l : Local (machine (system_of i) limit)) → StandsFor i limit l old → StandsFor i limit (with_messages i limit ms l) new
+  pub represents : (i : Inputs) (limit : ℕ) → IsOf i old → All (IsFor i old) ms
+      → (l : Local (machine (system_of i) limit)) → Represents i limit l old → Represents i limit (with_messages i limit ms l) new

@@ -60,7 +60,7 @@ abbrev pub at_rest : Running → Resource
 at_rest x = record { tree = x.tree; clock = x.clock; agenda = x.queues.agenda; sent = x.queues.sent; stopped = x.stopped }
 
 -- In a run it represents one by itself, as at rest, and from its clock on its counts are those of the state.
-pub record Stands (i : Inputs) (limit : ℕ) (l : Local (machine (system_of i) limit)) (x : Running) : Type 0 where
+pub record RepresentsRunning (i : Inputs) (limit : ℕ) (l : Local (machine (system_of i) limit)) (x : Running) : Type 0 where
   pub state : State
   pub part : l.part ≡ part_of (system_of i) x.tree.resource state
   pub here : IsHere i state x.tree.resource x.clock x.tree x.meter
@@ -81,5 +81,5 @@ pub record IsRunning (i : Inputs) (limit : ℕ) (x : Running) : Type 0 where
 -- It represents what its takings below a tick have made of what represented it. Their lines and messages are in its queues.
 pub record ComesTo (i : Inputs) (limit r t : ℕ) (from : Local (machine (system_of i) limit)) (x : Running) : Type 0 where
   pub at : Local (machine (system_of i) limit)
-  pub stands : Stands i limit at x
+  pub represents : RepresentsRunning i limit at x
   pub come : HasCome (machine (system_of i) limit) r t from at (map (line_of (system_of i)) x.queues.outbox.lines.items) (map (arriving i) x.queues.mail.items)

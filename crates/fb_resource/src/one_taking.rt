@@ -195,7 +195,7 @@ pub fn take(
     requires tree { tree.old.resource ≡ key.now.resource }
     requires counts { IsMetered limit counts.old }
     requires queues { AreReady system.now key.now.tick (queues_of agenda.old sent.old given.old) }
-    requires stands { (s : State) × IsHere system.now s key.now.resource key.now.tick tree.old counts.old }
+    requires represents { (s : State) × IsHere system.now s key.now.resource key.now.tick tree.old counts.old }
     requires event { IsEventIn system.now key.now.resource event.now }
     requires own { IsKeyOf key.now event.now }
     requires typed { IsTypedEvent (system_of system.now) (event_of system.now event.now) }

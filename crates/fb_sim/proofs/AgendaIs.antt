@@ -1,4 +1,4 @@
--- A run takes what the model takes, and comes to an end.
+-- A run takes what the model takes, and ends.
 use Rattle.std.proofs.Common.{◌≡◌, ℕ, zero, suc, ◌<◌, ◌≤◌, List, [], ◌∷◌, ◌++◌, map, refl, sym, ap, subst, ◌∙◌, append-nil, Option, Some, None, arith}
 use Rattle.std.specs.Prelude.{option_map, slice_get, slice_set, unwrap_or}
 use Rattle.std.proofs.lemmas.List.Elements.{All-nil, All-cons}
@@ -87,7 +87,7 @@ completes_rest i horizon limit c old lines is none = record {
   ending = refl;
 }
 
--- ---- The run comes to an end
+-- ---- The run ends
 
 sum_falls : (horizon limit : ℕ) (ms : List TickCounts) (r : ℕ) (old new : TickCounts) → slice_get ms r ≡ Some old → fuel horizon limit new < fuel horizon limit old
     → fuel_of_all horizon limit (slice_set ms r new) < fuel_of_all horizon limit ms

@@ -24,7 +24,7 @@ use Rattle.fb_sim.specs.declared.outcome.RunError.{RunError}
 use Rattle.fb_sim.specs.declared.outcome.RunError.TheVariants.{Refused, Memory, Write, BadOption, Failed}
 use Rattle.fb_sim.specs.declared.state.Stage.TheVariants as going
 use Rattle.fb_sim.proofs.Texts.{lines_text-append, part-after, part-before}
-use Rattle.fb_sim.specs.Reports.{Came, Comes, GoesOn, HasBroken, HasCome, HasTold, Hears, IsAsFar, hundredth, report_text, session}
+use Rattle.fb_sim.specs.Reports.{Came, Comes, GoesOn, HasBroken, HasCome, HasReported, Hears, IsAsFar, hundredth, report_text, session}
 use Rattle.fb_sim.specs.declared.with_progress.ReportTally.{ReportTally}
 use Rattle.fb_sim.proofs.Simulations.{horizon_is, later_begins, stop_is_early, stopped_later, stops}
 
@@ -123,7 +123,7 @@ module _ (i : Inputs) (o : Options) where
         };
       }
 
-  -- what is to be written on the way begins the trace
+  -- what must be written on the way begins the trace
   pub come_part : AreGood i → (from to horizon : ℕ) (text bytes : List ℕ) → to ≤ horizon → HasCome i o from text → (end : Ending) → IsNext (session i o from) to bytes end → Fronts horizon (text ++ bytes)
   come_part good from to horizon text bytes early come end n = go end n.ending n
     where
@@ -163,13 +163,13 @@ next_at s to bytes h k e n = record {
 pub at_own : (s : Session) (i : Inputs) (o : Options) (to : ℕ) → s ≡ session i o to → s ≡ session s.inputs o to
 at_own s i o to at = at ∙ ap (λ (j : Inputs). session j o to) (sym (ap (λ (z : Session). z.inputs) at))
 
--- what a step of the loop comes to, as the inputs are called before the loop
+-- the result of a step of the loop, as the inputs are called before the loop
 pub comes_so :
-    (s : Session) (i : Inputs) (o : Options) (to : ℕ) → s ≡ session i o to → (t : Session) (first out new quiet err told : Option (List ℕ)) (k l : ℕ) (n m : ReportTally) (r : Result Outcome RunError)
-    → ((f : Option (List ℕ)) → (q : Option (List ℕ)) → Came s.inputs o f out q err k n → Comes s.inputs o t f new q told l m r) → Came i o first out quiet err k n → Comes i o t first new quiet told l m r
-comes_so s i o to at t first out new quiet err told k l n m r comes came =
+    (s : Session) (i : Inputs) (o : Options) (to : ℕ) → s ≡ session i o to → (t : Session) (first out new quiet err reported : Option (List ℕ)) (k l : ℕ) (n m : ReportTally) (r : Result Outcome RunError)
+    → ((f : Option (List ℕ)) → (q : Option (List ℕ)) → Came s.inputs o f out q err k n → Comes s.inputs o t f new q reported l m r) → Came i o first out quiet err k n → Comes i o t first new quiet reported l m r
+comes_so s i o to at t first out new quiet err reported k l n m r comes came =
     let e : s.inputs ≡ i = ap (λ (z : Session). z.inputs) at in
-    subst (λ (j : Inputs). Comes j o t first new quiet told l m r) e (comes first quiet (subst (λ (j : Inputs). Came j o first out quiet err k n) (sym e) came))
+    subst (λ (j : Inputs). Comes j o t first new quiet reported l m r) e (comes first quiet (subst (λ (j : Inputs). Came j o first out quiet err k n) (sym e) came))
 
 pub hundredth_first : (h : ℕ) → hundredth h 0 ≡ 0
 hundredth_first h = let e : h * 0 ≡ 0 = mul-zero h in ap (λ n. n / 100) e
@@ -177,9 +177,9 @@ hundredth_first h = let e : h * 0 ≡ 0 = mul-zero h in ap (λ n. n / 100) e
 pub hundredth_last : (h : ℕ) → hundredth h 100 ≡ h
 hundredth_last h = omega arith
 
-behind_none : (x y : List ℕ) → x ++ y ≡ [] → y ≡ []
-behind_none [] y e = e
-behind_none (k ∷ x) y e = cc
+after_none : (x y : List ℕ) → x ++ y ≡ [] → y ≡ []
+after_none [] y e = e
+after_none (k ∷ x) y e = cc
 
 -- where there is nothing to hear
 pub heard_none : (err : Option (List ℕ)) → Hears true err err []
@@ -193,13 +193,13 @@ came_first i o out err = record {
   bytes_are = omega arith;
   lines_are = refl;
   reports = [];
-  told = refl;
+  reported = refl;
   hears = heard_none err;
 }
 
 -- more is heard where all was heard so far
-heard_more : (told : Bool) (old mid new : Option (List ℕ)) (a b : List ℕ) → (b ≡ [] → ⊥) → Hears true old mid a → Hears told mid new b → Hears told old new (a ++ b)
-heard_more told old mid new a b some h k =
+heard_more : (reported : Bool) (old mid new : Option (List ℕ)) (a b : List ℕ) → (b ≡ [] → ⊥) → Hears true old mid a → Hears reported mid new b → Hears reported old new (a ++ b)
+heard_more reported old mid new a b some h k =
     let e : h.rest ≡ [] = h.all refl in
     let whole : a ≡ h.front = h.parts ∙ ap (λ (t : List ℕ). h.front ++ t) e ∙ append-nil h.front in
     record {
@@ -208,7 +208,7 @@ heard_more told old mid new a b some h k =
       parts = ap (λ (t : List ℕ). a ++ t) k.parts ∙ sym (append_assoc a k.front k.rest);
       got = Appends-trans old mid new a k.front (subst (λ (t : List ℕ). Appends old mid t) (sym whole) h.got) k.got;
       all = k.all;
-      none = λ e. absurd (some (behind_none a b e));
+      none = λ e. absurd (some (after_none a b e));
     }
 
 -- and nothing more where it was not
@@ -219,7 +219,7 @@ heard_no_more old mid a b some h = record {
   parts = ap (λ (t : List ℕ). t ++ b) h.parts ∙ append_assoc h.front h.rest b;
   got = h.got;
   all = λ e. absurd (let f : false ≡ true = e in cc);
-  none = λ e. absurd (some (behind_none a b e));
+  none = λ e. absurd (some (after_none a b e));
 }
 
 module _ (i : Inputs) (o : Options) (first out quiet err : Option (List ℕ)) (n : ReportTally) (count : ℕ) (c : Came i o first out quiet err count n) where
@@ -243,7 +243,7 @@ module _ (i : Inputs) (o : Options) (first out quiet err : Option (List ℕ)) (n
         bytes_are = c.bytes_are;
         lines_are = c.lines_are;
         reports = c.reports;
-        told = (c.reports, [], c.told, inl (b, refl), sym (append-nil c.reports));
+        reported = (c.reports, [], c.reported, inl (b, refl), sym (append-nil c.reports));
         hears = c.hears;
       }
 
@@ -251,7 +251,7 @@ module _ (i : Inputs) (o : Options) (first out quiet err : Option (List ℕ)) (n
   pub same_session : next ≤ now → session i o now ≡ session i o next
   same_session b = ap (session i o) (sym (same_tick b))
 
-  -- the count of bytes behind a text
+  -- the count of bytes after a text
   more_bytes : (bytes : List ℕ) → bounded (n.bytes + length bytes) ≡ bounded (length (c.text ++ bytes))
   more_bytes bytes = let e = c.bytes_are in rw length-append (omega (arith, e))
 
@@ -262,13 +262,13 @@ module _ (i : Inputs) (o : Options) (first out quiet err : Option (List ℕ)) (n
       let f : length (lines_of k.takings) ≡ length (lines_of c.come.takings) + length k.rest = next_lines i o now next c.text bytes c.come (AtHorizon next) k in
       omega (arith, e, f)
 
-  -- a simulation at the tick of so many hundredths, on the way to the next
+  -- a simulation at the tick of this many hundredths, on the way to the next
   pub goes_here : (s t : Session) (tick : ℕ) (mid : Option (List ℕ)) (m : ReportTally) (r : Result Outcome RunError) → s ≡ session i o now → tick ≡ next → GoesOn s t tick out mid n m r
       → GoesOn (session i o now) t next out mid n m r
   goes_here s t tick mid m r at is goes =
       subst (λ (z : Session). GoesOn z t next out mid n m r) at (subst (λ (k : ℕ). GoesOn s t k out mid n m r) is goes)
 
-  -- it is reported that the run has come to the next hundredth
+  -- it is reported that the run has reached the next hundredth
   pub hears_more : (mid : Option (List ℕ)) (t : Session) (m : ReportTally) (k : ℕ) (heard : Bool) (new : Option (List ℕ)) → GoesOn (session i o now) t next out mid n m (Ok (End k)) → m.is_heard ≡ true
       → Hears heard err new (report_text o.horizon next m.lines) → Hears heard quiet new (c.reports ++ report_text o.horizon next m.lines)
   hears_more mid t m k heard new r is h =
@@ -300,20 +300,20 @@ module _ (i : Inputs) (o : Options) (first out quiet err : Option (List ℕ)) (n
           bytes_are = bytes_are;
           lines_are = lines_are;
           reports = c.reports ++ report;
-          told = (c.reports, report, c.told, inr (later, record { text = c.text ++ bytes; come = come; is = ap (report_text o.horizon next) lines_are }), refl);
+          reported = (c.reports, report, c.reported, inr (later, record { text = c.text ++ bytes; come = come; is = ap (report_text o.horizon next) lines_are }), refl);
           hears = hears;
         },
         r.3,
       )
 
-  -- what was told so far
-  has_told : count ≤ 100 → (mid : Option (List ℕ)) (heard : Bool) (end : Result Outcome RunError) → heard ≡ n.is_heard → IsAsFar i o first mid count end → HasTold i o first mid quiet err heard end
-  has_told few mid heard end same far = record {
+  -- what was reported so far
+  has_reported : count ≤ 100 → (mid : Option (List ℕ)) (heard : Bool) (end : Result Outcome RunError) → heard ≡ n.is_heard → IsAsFar i o first mid count end → HasReported i o first mid quiet err heard end
+  has_reported few mid heard end same far = record {
     count = count;
     few = few;
     far = far;
     reports = c.reports;
-    told = c.told;
+    reported = c.reported;
     hears = subst (λ (h : Bool). Hears h quiet err c.reports) (sym same) c.hears;
   }
 
@@ -327,7 +327,7 @@ module _ (i : Inputs) (o : Options) (first out quiet err : Option (List ℕ)) (n
       got = Appends-trans first out mid c.text r.0 c.got r.2;
       trace = come_stop i o now next c.text r.0 c.come o.horizon mark.tick mark.resource mark.reason early r.1;
     },
-    has_told few mid m.is_heard (Ok (Stop mark)) r.4.2
+    has_reported few mid m.is_heard (Ok (Stop mark)) r.4.2
         (stop_is_early (system_of i) (stimuli_of i) o.steps next mark.tick mark.resource mark.reason r.1.takings (sym r.1.ending) r.1.simulation),
   )
 
@@ -379,7 +379,7 @@ module _ (i : Inputs) (o : Options) (first out quiet err : Option (List ℕ)) (n
           got = subst (λ (t : List ℕ). Appends first mid t) same (Appends-trans first out mid c.text part c.got r.4);
           trace = subst (λ (t : List ℕ). IsTrace i o.form o.horizon o.steps t f.end) (both ∙ ap (λ (t : List ℕ). t ++ (rest ++ f.rest)) same) f.trace;
         },
-        has_told few mid m.is_heard (Err Memory) (ap (λ (z : ReportTally). z.is_heard) r.5) (broken_at mid part rest r.2 r.3 r.4),
+        has_reported few mid m.is_heard (Err Memory) (ap (λ (z : ReportTally). z.is_heard) r.5) (broken_at mid part rest r.2 r.3 r.4),
       )
   came_failed good few later t mid m (Write k) r =
       let bytes = r.0 in
@@ -392,7 +392,7 @@ module _ (i : Inputs) (o : Options) (first out quiet err : Option (List ℕ)) (n
           got = subst (λ (z : ℕ). IsPartWritten first mid ((c.text ++ bytes) ++ f.rest) z) (sym short.2) part;
           trace = f.trace;
         },
-        has_told few mid m.is_heard (Err (Write k)) (ap (λ (z : ReportTally). z.is_heard) r.4) (cut_at mid bytes r.1 short.0 k r.2 short.1),
+        has_reported few mid m.is_heard (Err (Write k)) (ap (λ (z : ReportTally). z.is_heard) r.4) (cut_at mid bytes r.1 short.0 k r.2 short.1),
       )
   came_failed good few later t mid m (Refused x) bad = absurd bad
   came_failed good few later t mid m BadOption bad = absurd bad

@@ -1,4 +1,4 @@
--- What a run has written and told in the end.
+-- What a run has written and reported in the end.
 use Rattle.std.proofs.Common.{◌≡◌, ◌≤◌, ℕ, Bool, true, inl, inr, refl, sym, ap, ◌∙◌, subst, arith, List, [], ◌++◌, length, take, drop, take-append-drop, drop_of_length-le, Option}
 use Rattle.std.specs.Prelude.{IfErr, IsTrue, Result, Ok, Err}
 use Rattle.std.specs.Io.KnownBytes.{Appends}
@@ -8,7 +8,7 @@ use Rattle.fb_types.specs.Simulation.{AtHorizon}
 use Rattle.fb_types.specs.Text.{last_line, lines_text}
 use Rattle.fb_sim.specs.Advances.{FailsToOpen, Finishes, FinishesBy}
 use Rattle.fb_sim.specs.Given.{Given}
-use Rattle.fb_sim.specs.Rounds.{FailsRun, behind}
+use Rattle.fb_sim.specs.Rounds.{FailsRun, after_bytes}
 use Rattle.fb_sim.specs.Serial as serial
 use Rattle.fb_sim.specs.Serial.{AreWithin, Declares}
 use Rattle.fb_trace.specs.Progress.{IsPartWritten}
@@ -20,7 +20,7 @@ use Rattle.fb_sim.specs.declared.outcome.RunError.{RunError}
 use Rattle.fb_sim.specs.declared.outcome.RunError.TheVariants.{Refused, Memory, Write, BadOption, Failed}
 use Rattle.fb_sim.specs.declared.state.Stage.{Stage}
 use Rattle.fb_sim.proofs.Texts.{part-after}
-use Rattle.fb_sim.specs.Reports.{AreReports, Came, Comes, Ends, Fails, HasBroken, HasCome, HasTold, Hears, IsAsFar, Reports, hundredth, session}
+use Rattle.fb_sim.specs.Reports.{AreReports, Came, Comes, Ends, Fails, HasBroken, HasCome, HasReported, Hears, IsAsFar, Reports, hundredth, session}
 use Rattle.fb_sim.specs.declared.with_progress.ReportTally.{ReportTally}
 use Rattle.fb_sim.proofs.Coming.{come_end, heard_none, hundredth_last}
 
@@ -55,15 +55,15 @@ module _ (i : Inputs) (o : Options) (first mid quiet err : Option (List ℕ)) (n
     trace = trace;
   })
 
-  cut_off : (new : Option (List ℕ)) (e : RunError) → Finishes (session i o o.horizon) mid new (Err e) → Fails i o first new (behind n.bytes e)
+  cut_off : (new : Option (List ℕ)) (e : RunError) → Finishes (session i o o.horizon) mid new (Err e) → Fails i o first new (after_bytes n.bytes e)
   cut_off new (Write k) f = record { bytes = c.text ++ last; end = AtHorizon o.horizon; got = part-after c.text c.got c.bytes_are f; trace = trace }
   cut_off new (Refused x) bad = absurd bad
   cut_off new Memory bad = absurd bad
   cut_off new BadOption bad = absurd bad
   cut_off new Failed bad = absurd bad
 
-  all_told : (new : Option (List ℕ)) (end : Result Outcome RunError) → IsAsFar i o first new 100 end → HasTold i o first new quiet err n.is_heard end
-  all_told new end far = record { count = 100; few = omega arith; far = far; reports = c.reports; told = c.told; hears = c.hears }
+  all_reported : (new : Option (List ℕ)) (end : Result Outcome RunError) → IsAsFar i o first new 100 end → HasReported i o first new quiet err n.is_heard end
+  all_reported new end far = record { count = 100; few = omega arith; far = far; reports = c.reports; reported = c.reported; hears = c.hears }
 
   -- the last line was not written whole
   cut_at : (new : Option (List ℕ)) (k : ℕ) → IsPartWritten mid new last k → (e : RunError) → HasBroken i o first new 100 e
@@ -75,12 +75,12 @@ module _ (i : Inputs) (o : Options) (first mid quiet err : Option (List ℕ)) (n
     left = λ b. absurd (omega (arith, b));
   }
 
-  cut_told : (new : Option (List ℕ)) (e : RunError) → Finishes (session i o o.horizon) mid new (Err e) → HasTold i o first new quiet err n.is_heard (Err (behind n.bytes e))
-  cut_told new (Write k) f = all_told new (Err (behind n.bytes (Write k))) (cut_at new k f (behind n.bytes (Write k)))
-  cut_told new (Refused x) bad = absurd bad
-  cut_told new Memory bad = absurd bad
-  cut_told new BadOption bad = absurd bad
-  cut_told new Failed bad = absurd bad
+  cut_reported : (new : Option (List ℕ)) (e : RunError) → Finishes (session i o o.horizon) mid new (Err e) → HasReported i o first new quiet err n.is_heard (Err (after_bytes n.bytes e))
+  cut_reported new (Write k) f = all_reported new (Err (after_bytes n.bytes (Write k))) (cut_at new k f (after_bytes n.bytes (Write k)))
+  cut_reported new (Refused x) bad = absurd bad
+  cut_reported new Memory bad = absurd bad
+  cut_reported new BadOption bad = absurd bad
+  cut_reported new Failed bad = absurd bad
 
 module _ (i : Inputs) (o : Options) (t : Session) (first mid quiet err : Option (List ℕ)) (m : ReportTally) where
   at_last : (new : Option (List ℕ)) (r : Result Outcome RunError) → t ≡ session i o (hundredth o.horizon 100) → Finishes t mid new r → Finishes (session i o o.horizon) mid new r
@@ -95,31 +95,31 @@ module _ (i : Inputs) (o : Options) (t : Session) (first mid quiet err : Option 
       let g = stopped new (Ok y) _ c.0 f in
       subst (λ (r : Result Outcome RunError). Ends i o first new r) (sym g.0) (subst (λ (w : Option (List ℕ)). Ends i o first w (Ok (Stop mark))) (sym g.1) c.1)
 
-  pub tells_well : (x : Outcome) → Comes i o t first mid quiet err 100 m (Ok x) → (new : Option (List ℕ)) (y : Outcome) → Finishes t mid new (Ok y) → HasTold i o first new quiet err m.is_heard (Ok y)
-  tells_well (End h) c new y f =
+  pub reports_well : (x : Outcome) → Comes i o t first mid quiet err 100 m (Ok x) → (new : Option (List ℕ)) (y : Outcome) → Finishes t mid new (Ok y) → HasReported i o first new quiet err m.is_heard (Ok y)
+  reports_well (End h) c new y f =
       let g = at_last new (Ok y) c.1 f in
-      subst (λ (z : Outcome). HasTold i o first new quiet err m.is_heard (Ok z)) (sym g.0) (all_told i o first mid quiet err m c.0 new (Ok (End o.horizon)) refl)
-  tells_well (Stop mark) c new y f =
+      subst (λ (z : Outcome). HasReported i o first new quiet err m.is_heard (Ok z)) (sym g.0) (all_reported i o first mid quiet err m c.0 new (Ok (End o.horizon)) refl)
+  reports_well (Stop mark) c new y f =
       let g = stopped new (Ok y) _ c.0 f in
-      subst (λ (r : Result Outcome RunError). HasTold i o first new quiet err m.is_heard r) (sym g.0)
-      (subst (λ (w : Option (List ℕ)). HasTold i o first w quiet err m.is_heard (Ok (Stop mark))) (sym g.1) c.2)
+      subst (λ (r : Result Outcome RunError). HasReported i o first new quiet err m.is_heard r) (sym g.0)
+      (subst (λ (w : Option (List ℕ)). HasReported i o first w quiet err m.is_heard (Ok (Stop mark))) (sym g.1) c.2)
 
-  pub ends_short : (x : Outcome) → Comes i o t first mid quiet err 100 m (Ok x) → (new : Option (List ℕ)) (e : RunError) → Finishes t mid new (Err e) → Fails i o first new (behind m.bytes e)
+  pub ends_short : (x : Outcome) → Comes i o t first mid quiet err 100 m (Ok x) → (new : Option (List ℕ)) (e : RunError) → Finishes t mid new (Err e) → Fails i o first new (after_bytes m.bytes e)
   ends_short (End h) c new e f = cut_off i o first mid quiet err m c.0 new e (at_last new (Err e) c.1 f)
   ends_short (Stop mark) c new e f = let g = stopped new (Err e) _ c.0 f in absurd (let q : Err e ≡ Ok (Stop mark) = g.0 in cc)
 
-  pub tells_short : (x : Outcome) → Comes i o t first mid quiet err 100 m (Ok x) → (new : Option (List ℕ)) (e : RunError) → Finishes t mid new (Err e) → HasTold i o first new quiet err m.is_heard (Err (behind m.bytes e))
-  tells_short (End h) c new e f = cut_told i o first mid quiet err m c.0 new e (at_last new (Err e) c.1 f)
-  tells_short (Stop mark) c new e f = let g = stopped new (Err e) _ c.0 f in absurd (let q : Err e ≡ Ok (Stop mark) = g.0 in cc)
+  pub reports_short : (x : Outcome) → Comes i o t first mid quiet err 100 m (Ok x) → (new : Option (List ℕ)) (e : RunError) → Finishes t mid new (Err e) → HasReported i o first new quiet err m.is_heard (Err (after_bytes m.bytes e))
+  reports_short (End h) c new e f = cut_reported i o first mid quiet err m c.0 new e (at_last new (Err e) c.1 f)
+  reports_short (Stop mark) c new e f = let g = stopped new (Err e) _ c.0 f in absurd (let q : Err e ≡ Ok (Stop mark) = g.0 in cc)
 
 -- ---- What is reported in the end
 
 pub reports_of :
-    (given : Given) (i : Inputs) (o : Options) (old new quiet err : Option (List ℕ)) (heard : Bool) (end : Result Outcome RunError) → Declares given i → Ends i o old new end → HasTold i o old new quiet err heard end
+    (given : Given) (i : Inputs) (o : Options) (old new quiet err : Option (List ℕ)) (heard : Bool) (end : Result Outcome RunError) → Declares given i → Ends i o old new end → HasReported i o old new quiet err heard end
     → (reports : List ℕ) × AreReports given o old new end reports × Hears heard quiet err reports
-reports_of given i o old new quiet err heard end declared ends told = (told.reports, go end ends (record { inputs = i; declared = declared; count = told.count; few = told.few; far = told.far; told = told.told }), told.hears)
+reports_of given i o old new quiet err heard end declared ends reported = (reported.reports, go end ends (record { inputs = i; declared = declared; count = reported.count; few = reported.few; far = reported.far; reported = reported.reported }), reported.hears)
   where
-    go : (r : Result Outcome RunError) → Ends i o old new r → Reports given o old new r told.reports → AreReports given o old new r told.reports
+    go : (r : Result Outcome RunError) → Ends i o old new r → Reports given o old new r reported.reports → AreReports given o old new r reported.reports
     go (Ok x) e t = t
     go (Err (Write n)) e t = t
     go (Err Memory) e t = inl t

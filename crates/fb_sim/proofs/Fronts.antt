@@ -24,13 +24,13 @@ use Rattle.fb_laws.proofs.Bridge.{world_of}
 use Rattle.fb_laws.proofs.Lines.{Here, sim_here, chain_here, merge_one, merge_same, sim_merge}
 use Rattle.fb_laws.proofs.Opening.{is_opening, is_counted}
 use Rattle.fb_laws.proofs.OwnPart.{lawful}
-use Rattle.fb_laws.proofs.Told.{is_simulation, lines_items}
+use Rattle.fb_laws.proofs.OneResource.{is_simulation, lines_items}
 use Rattle.fb_laws.specs.Finality.{Edge, until, lines_from, IsFinalIn, HasHanded, core_of, lines_in}
 use Rattle.fb_laws.specs.ScheduleLaw.{lines_to}
 use Rattle.fb_laws.proofs.Final.{final_lines}
 use Rattle.fb_laws.proofs.Keeps.{passed, done_of, passed_limit, floor_live}
 use Rattle.fb_laws.proofs.Reached.{inv_after, passed_live}
-use Rattle.fb_laws.proofs.TellsAll.{end_told, stop_told}
+use Rattle.fb_laws.proofs.AllSchedules.{end_law, stop_law}
 use Rattle.fb_sim.proofs.Edges.{all_before, before_later, none_before, at_below, begins}
 
 module _ (M : Machine) where
@@ -91,7 +91,7 @@ module _ (i : Inputs) (good : AreGood i) (horizon limit_ : ℕ) (es : List (Core
   counts : IsCounted M (count_of (system_of i)) w
   counts = is_counted (system_of i) (sound_of i good) limit_ (stimuli_of i)
 
-  -- all lines of a core lie below the horizon
+  -- all lines of a core are below the horizon
   pub core_below : (r : ℕ) → Each (λ (x : Line). x.key.tick < horizon) (c r).lines
   core_below r =
       let v = inv_after M law w horizon es opens sc in
@@ -165,8 +165,8 @@ module _ (i : Inputs) (good : AreGood i) (horizon limit_ : ℕ) (es : List (Core
     merged : IsMerge M (count_of (system_of i)) (λ r. machines.lines_of M (machines.at M r is)) (lines_of ts)
     merged = subst (λ (ls : List Line). IsMerge M (count_of (system_of i)) (λ r. machines.lines_of M (machines.at M r is)) ls) same_lines (sim_merge M law (count_of (system_of i)) is w counts simulated.chain)
 
-    told_below : Each (λ (l : Line). l.key.tick < horizon) (lines_of ts)
-    told_below = subst (λ (ls : List Line). Each (λ (l : Line). l.key.tick < horizon) ls) same_lines (lines_under M horizon is (sim_here M law is w simulated.chain) simulated.below)
+    lines_below : Each (λ (l : Line). l.key.tick < horizon) (lines_of ts)
+    lines_below = subst (λ (ls : List Line). Each (λ (l : Line). l.key.tick < horizon) ls) same_lines (lines_under M horizon is (sim_here M law is w simulated.chain) simulated.below)
 
     -- a resource's lines up to a final tick are those of the simulation
     own : (q t : ℕ) → q < count_of (system_of i) → t < horizon → IsFinalIn M (count_of (system_of i)) c t q → lines_before M (t + 1) (c q).lines ≡ lines_before M (t + 1) (lines_at M q (lines_of ts))
@@ -183,7 +183,7 @@ module _ (i : Inputs) (good : AreGood i) (horizon limit_ : ℕ) (es : List (Core
 
       same_there : (q : ℕ) → q < count_of (system_of i) → lines_before M (until e q) (c q).lines ≡ lines_before M (until e q) (lines_at M q (lines_of ts))
       same_there q b =
-          let below = at_below M horizon q (lines_of ts) told_below in
+          let below = at_below M horizon q (lines_of ts) lines_below in
           ⊎_elim
           (λ (h : horizon < until e q).
           before_later M horizon (until e q) (c q).lines (omega arith) (core_below q) ∙ sym (all_before M horizon (c q).lines (core_below q))
@@ -202,12 +202,12 @@ module _ (i : Inputs) (good : AreGood i) (horizon limit_ : ℕ) (es : List (Core
     pub all_left : (e : IsAtHorizon M (count_of (system_of i)) horizon c) (pending : List (List run.Line)) (ls : List Line) → HasHanded i limit_ horizon c pending ls → ls ≡ lines_of ts
     all_left e pending ls h =
         merge_one M (count_of (system_of i)) (λ r. (c r).lines) ls (lines_of ts) (all_merged e pending ls h)
-        ((end_told (system_of i) (sound_of i good) (stimuli_of i) horizon limit_ es sc e).lines ts x)
+        ((end_law (system_of i) (sound_of i good) (stimuli_of i) horizon limit_ es sc e).lines ts x)
 
     -- At a stop that all others are past, the lines up to it are those of the simulation.
     pub all_stopped : (s : ℕ) (reason : Reason) (tick : ℕ) (ls : List Line) → IsLeastStop M (count_of (system_of i)) c s reason → (c s).clock ≡ tick
         → IsMerge M (count_of (system_of i)) (lines_to (system_of i) limit_ tick s c) ls → ls ≡ lines_of ts
     all_stopped s reason tick ls least at m =
-        let told = (stop_told (system_of i) (sound_of i good) (stimuli_of i) horizon limit_ es sc s reason least).lines ts x in
+        let by_law = (stop_law (system_of i) (sound_of i good) (stimuli_of i) horizon limit_ es sc s reason least).lines ts x in
         merge_one M (count_of (system_of i)) (lines_to (system_of i) limit_ tick s c) ls (lines_of ts) m
-        (subst (λ (t : ℕ). IsMerge M (count_of (system_of i)) (lines_to (system_of i) limit_ t s c) (lines_of ts)) at told)
+        (subst (λ (t : ℕ). IsMerge M (count_of (system_of i)) (lines_to (system_of i) limit_ t s c) (lines_of ts)) at by_law)

@@ -40,7 +40,7 @@ ending_append : (horizon : ℕ) (xs ys : List Taken) → Going xs → ending_of 
 ending_append horizon [] ys g = refl
 ending_append horizon (t ∷ ts) ys g = ap (λ (s : Option Reason). ending_by s t.key (ending_of horizon (ts ++ ys))) g.0 ∙ ending_append horizon ts ys g.1
 
--- the lines of what was taken before and after are put behind those that were there
+-- the lines of what was taken before and after are put after those that were there
 pub lines_after : (xs ys : List Taken) (old mid new : List model.Line) → mid ≡ old ++ lines_of xs → new ≡ mid ++ lines_of ys → new ≡ old ++ lines_of (xs ++ ys)
 lines_after xs ys old mid new before now =
     now ∙ ap (λ z. z ++ lines_of ys) before ∙ append_assoc old (lines_of xs) (lines_of ys) ∙ ap (λ z. old ++ z) (sym (lines_of-append xs ys))

@@ -20,7 +20,7 @@ use Rattle.fb_laws.proofs.Bridge.{all_each}
 use Rattle.fb_laws.proofs.Existence.{there_is}
 use Rattle.fb_trace.specs.Progress.{IsPartWritten, bounded}
 use Rattle.fb_sim.specs.OneAgenda.{RunsThrough}
-use Rattle.fb_sim.specs.Rounds.{AreAll, Begin, RunsOn, WritesPartOf, behind, text_of}
+use Rattle.fb_sim.specs.Rounds.{AreAll, Begin, RunsOn, WritesPartOf, after_bytes, text_of}
 use Rattle.fb_sim.specs.declared.options.Options.{Options}
 use Rattle.fb_sim.specs.declared.outcome.RunError.{RunError}
 use Rattle.fb_sim.specs.declared.outcome.RunError.TheVariants.{Refused, Memory, Write, BadOption, Failed}
@@ -28,7 +28,7 @@ use Rattle.fb_sim.proofs.RunIs.{both_counted, both_got, joined}
 use Rattle.fb_sim.proofs.Simulations.{begins}
 use Rattle.fb_sim.proofs.Texts.{part-after}
 
--- From the opening the machine has come to where it stands, and the writer has got the text of all lines, of so many bytes.
+-- From the opening the machine has come this far, and the writer has got the text of all lines, of this many bytes.
 pub record Gone (i : Inputs) (o : Options) (m : Machine) (old now : Option (List ℕ)) (n : ℕ) : Type 0 where
   pub at : Config
   pub taken : List Taken
@@ -76,8 +76,8 @@ module _ (i : Inputs) (o : Options) where
     abbrev piece : List Line
     piece = map (line_of (system_of i)) new.given.outbox.lines.items
 
-    behind_none : (ts : List Taken) → piece ≡ map (line_of (system_of i)) m.given.outbox.lines.items ++ lines_of ts → piece ≡ lines_of ts
-    behind_none ts is = is ∙ ap (λ z. map (line_of (system_of i)) z ++ lines_of ts) none
+    after_none : (ts : List Taken) → piece ≡ map (line_of (system_of i)) m.given.outbox.lines.items ++ lines_of ts → piece ≡ lines_of ts
+    after_none ts is = is ∙ ap (λ z. map (line_of (system_of i)) z ++ lines_of ts) none
 
     all_of : (stop : Option StopMark) → Completes i o.horizon o.steps g.at m.given.outbox.lines.items new.given.outbox.lines.items stop
         → AreAll i o.steps o.horizon (lines_of g.taken ++ piece) (ending_at o.horizon stop)
@@ -86,7 +86,7 @@ module _ (i : Inputs) (o : Options) where
         record {
           takings = g.taken ++ rest.taken;
           simulation = record { chain = whole.chain; below = whole.below; rests = whole.rests };
-          lines = ap (λ z. lines_of g.taken ++ z) (behind_none rest.taken rest.lines) ∙ sym (lines_of-append g.taken rest.taken);
+          lines = ap (λ z. lines_of g.taken ++ z) (after_none rest.taken rest.lines) ∙ sym (lines_of-append g.taken rest.taken);
           ending = whole.ending;
         }
 
@@ -94,7 +94,7 @@ module _ (i : Inputs) (o : Options) where
     both_begin : AreGood i → (p : Pause) → Pauses i o.horizon o.steps g.at m new p → Begin i o.steps o.horizon (lines_of g.taken ++ piece)
     both_begin good Lines p =
         let ts = p.1 in
-        subst (λ (ls : List Line). Begin i o.steps o.horizon ls) (lines_of-append g.taken ts ∙ ap (λ z. lines_of g.taken ++ z) (sym (behind_none ts p.4)))
+        subst (λ (ls : List Line). Begin i o.steps o.horizon ls) (lines_of-append g.taken ts ∙ ap (λ z. lines_of g.taken ++ z) (sym (after_none ts p.4)))
         (begin_of good p.0 (g.taken ++ ts) (reaches_after i o.horizon o.steps start g.at p.0 g.taken ts g.goes p.3))
     both_begin good Horizon p = all_begin (lines_of g.taken ++ piece) (ending_at o.horizon None) (all_of None p)
     both_begin good (Stop k) p = all_begin (lines_of g.taken ++ piece) (ending_at o.horizon (Some k)) (all_of (Some k) p.1)
@@ -110,7 +110,7 @@ module _ (i : Inputs) (o : Options) where
           → Gone i o next old now (bounded (n + k))
       gone_more next p on =
           let ts = p.1 in
-          let same : lines_of g.taken ++ piece ≡ lines_of (g.taken ++ ts) = ap (λ z. lines_of g.taken ++ z) (behind_none ts p.4) ∙ sym (lines_of-append g.taken ts) in
+          let same : lines_of g.taken ++ piece ≡ lines_of (g.taken ++ ts) = ap (λ z. lines_of g.taken ++ z) (after_none ts p.4) ∙ sym (lines_of-append g.taken ts) in
           record {
             at = p.0;
             taken = g.taken ++ ts;
@@ -137,7 +137,7 @@ module _ (i : Inputs) (o : Options) where
 
     -- a writer that failed in the piece
     pub gone_short : AreGood i → (now : Option (List ℕ)) (p : Pause) → Pauses i o.horizon o.steps g.at m new p → (e : RunError) → WritesPartOf mid now (text_of i o.form piece) e
-        → RunsOn i o [] old now (Err (behind n e))
+        → RunsOn i o [] old now (Err (after_bytes n e))
     gone_short good now p pauses (Write w) s = (
       lines_of g.taken ++ piece,
       both_begin good p pauses,
@@ -149,5 +149,5 @@ module _ (i : Inputs) (o : Options) where
     gone_short good now p pauses Failed s = absurd s
 
   -- The next piece ran out of memory.
-  pub gone_wanting : AreGood i → (m : Machine) (old mid : Option (List ℕ)) (n : ℕ) → Gone i o m old mid n → RunsOn i o [] old mid (Err Memory)
-  gone_wanting good m old mid n g = (lines_of g.taken, begin_of good g.at g.taken g.goes, g.got)
+  pub gone_out_of_memory : AreGood i → (m : Machine) (old mid : Option (List ℕ)) (n : ℕ) → Gone i o m old mid n → RunsOn i o [] old mid (Err Memory)
+  gone_out_of_memory good m old mid n g = (lines_of g.taken, begin_of good g.at g.taken g.goes, g.got)

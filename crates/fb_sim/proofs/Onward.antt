@@ -7,7 +7,7 @@ use Rattle.fb_types.specs.Text.{lines_text}
 use Rattle.fb_trace.specs.Progress.{bounded}
 use Rattle.fb_sim.specs.Advances.{IsNext, RunsTo}
 use Rattle.fb_sim.specs.Reports.{GoesOn}
-use Rattle.fb_sim.specs.Rounds.{behind}
+use Rattle.fb_sim.specs.Rounds.{after_bytes}
 use Rattle.fb_sim.specs.Sessions.{Session}
 use Rattle.fb_trace.specs.declared.last.Outcome.{Outcome}
 use Rattle.fb_sim.specs.declared.outcome.RunError.{RunError}
@@ -15,7 +15,7 @@ use Rattle.fb_sim.specs.declared.outcome.RunError.TheVariants.{Refused, Memory, 
 use Rattle.fb_sim.specs.declared.tally.Written.{Written}
 use Rattle.fb_sim.specs.declared.with_progress.ReportTally.{ReportTally}
 
--- a count, behind another
+-- a count, after another
 counted_on : (n w k : ℕ) → w ≡ bounded k → bounded (n + w) ≡ bounded (n + k)
 counted_on n w k e = omega (arith, e)
 
@@ -34,7 +34,7 @@ module _ (s t : Session) (to : ℕ) (old new : Option (List ℕ)) (n m : ReportT
     ),
   )
 
-  pub goes_short : (e : RunError) → RunsTo s t to old new (Err e) → m ≡ n → GoesOn s t to old new n m (Err (behind n.bytes e))
+  pub goes_short : (e : RunError) → RunsTo s t to old new (Err e) → m ≡ n → GoesOn s t to old new n m (Err (after_bytes n.bytes e))
   goes_short Memory h is = (
     h.lines,
     h.rest,

@@ -24,12 +24,12 @@ not_memory error.Nesting other is = is
 abbrev refused : ReadError → Result Library ReadError
 refused e = Err e
 
-abbrev told : ReadError → Result Library ReadError → ReadError
-told e (Err f) = f
-told e (Ok library) = e
+abbrev refusal_of : ReadError → Result Library ReadError → ReadError
+refusal_of e (Err f) = f
+refusal_of e (Ok library) = e
 
 err_is : {e f : ReadError} → refused e ≡ refused f → e ≡ f
-err_is {e} same = ap (told e) same
+err_is {e} same = ap (refusal_of e) same
 
 -- what a function that reads a text says of its refusal
 pub read_fault : (text : List ℕ) (e : ReadError) → (e ≡ error.Memory → ⊥)

@@ -30,7 +30,7 @@ use Rattle.fb_sim.specs.Rounds.{Rises}
 -- ---- How far all may go
 
 module _ (M : Machine) (c : Core M) where
-  -- The greatest tick up to the top that is at most one past the tick of each stop of so many resources.
+  -- The greatest tick up to the top that is at most one past the tick of each stop of this many resources.
   pub record IsReach (n top : ℕ) : Type 0 where
     pub tick : ℕ
     pub within : tick ≤ top

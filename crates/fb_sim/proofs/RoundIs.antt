@@ -27,7 +27,7 @@ use Rattle.fb_window.specs.declared.cores.CoreState.{CoreState}
 use Rattle.fb_window.specs.declared.cores.Settled.{Settled}
 use Rattle.fb_window.specs.declared.cores.Settled.TheVariants as settled
 use Rattle.fb_laws.proofs.Phasing.{phase_of, is_phase}
-use Rattle.fb_laws.proofs.TellsAll.{end_told, stop_told}
+use Rattle.fb_laws.proofs.AllSchedules.{end_law, stop_law}
 use Rattle.fb_sim.specs.Rounds.{Begin, AreAll, HasCome, IsHomeAgain, IsHomeOnce, IsPhaseAt}
 use Rattle.fb_sim.proofs.Fronts.{left_begins, all_left, all_stopped}
 use Rattle.fb_sim.proofs.Rising.{rises}
@@ -47,13 +47,13 @@ module _ (i : Inputs) (good : AreGood i) (limit horizon : ℕ) where
   pub come_all : (core : CoreState) (ls : List Line) (h : HasCome i limit horizon core ls) → IsAtHorizon (machine (system_of i) limit) (count_of (system_of i)) horizon (core_of i limit h.steps)
       → AreAll i limit horizon ls (AtHorizon horizon)
   come_all core ls h e =
-      let told = end_told (system_of i) (sound_of i good) (stimuli_of i) horizon limit h.steps h.way.schedule e in
-      let x = told.there in
+      let by_law = end_law (system_of i) (sound_of i good) (stimuli_of i) horizon limit h.steps h.way.schedule e in
+      let x = by_law.there in
       record {
         takings = x.0;
         simulation = x.1;
         lines = all_left i good horizon limit h.steps h.way.schedule x.0 x.1 e (lists_of core.pending.items) ls h.way.left;
-        ending = sym (told.ending x.0 x.1);
+        ending = sym (by_law.ending x.0 x.1);
       }
 
   -- and so it is at the least stop, which all others are past
@@ -62,13 +62,13 @@ module _ (i : Inputs) (good : AreGood i) (limit horizon : ℕ) where
       → IsMerge (machine (system_of i) limit) (count_of (system_of i)) (lines_to (system_of i) limit tick s (core_of i limit es)) ls
       → AreAll i limit horizon ls (AtStop tick s reason)
   stop_all es sc s reason tick ls least at m =
-      let told = stop_told (system_of i) (sound_of i good) (stimuli_of i) horizon limit es sc s reason least in
-      let x = told.there in
+      let by_law = stop_law (system_of i) (sound_of i good) (stimuli_of i) horizon limit es sc s reason least in
+      let x = by_law.there in
       record {
         takings = x.0;
         simulation = x.1;
         lines = all_stopped i good horizon limit es sc x.0 x.1 s reason tick ls least at m;
-        ending = ap (λ t. AtStop t s reason) (sym at) ∙ sym (told.ending x.0 x.1);
+        ending = ap (λ t. AtStop t s reason) (sym at) ∙ sym (by_law.ending x.0 x.1);
       }
 
   module _ (es : List (CoreStep (machine (system_of i) limit))) (xs : List Resource) (before : List (List run.Line)) (ls : List Line)
@@ -167,7 +167,7 @@ module _ (i : Inputs) (limit horizon : ℕ) where
       subst (λ (ls : List run.Line). All (BelongsTo (system_of i)) ls) (sym none ∙ same) (λ j e b. absurd (omega arith))
 
 module _ {E : Type 0} (i : Inputs) (limit : ℕ) where
-  -- A core that was opened stands before the first event.
+  -- A core that was opened is before the first event.
   pub opened_come : (r : Result CoreState E) → IfOk r (λ c. c.system ≡ i) → IfOk r (λ c. c.steps ≡ limit) → IfOk r (λ c. IsAt i limit (core_of i limit []) c.resources.items)
       → IfOk r (λ c. (horizon : ℕ) → HasHanded i limit horizon (core_of i limit []) (lists_of c.pending.items) []) → IfOk r (λ c. (horizon : ℕ) → HasCome i limit horizon c [])
   opened_come (Err e) system steps at left = tt

@@ -17,7 +17,7 @@ use Rattle.fb_window.specs.Settling.{IsUnderWay, lists_of}
 use Rattle.fb_window.specs.declared.cores.CoreState.{CoreState}
 use Rattle.fb_sim.specs.Given.{Given}
 use Rattle.fb_sim.specs.Serial.{AreTrace, AreWithin, Declares, IsRefusal, Writes, WritesPart}
-use Rattle.fb_sim.specs.Rounds.{AreAll, Begin, RoundsWithCounts, FailsRun, HasCome, IsFinished, IsShort, RunsOn, WritesFront, behind, text_of}
+use Rattle.fb_sim.specs.Rounds.{AreAll, Begin, RoundsWithCounts, FailsRun, HasCome, IsFinished, IsShort, RunsOn, WritesFront, after_bytes, text_of}
 use Rattle.fb_sim.specs.declared.drive.Finish.{Finish}
 use Rattle.fb_sim.specs.declared.drive.Finish.TheVariants.{AtEnd, AtMark}
 use Rattle.fb_sim.specs.declared.options.Options.{Options}
@@ -31,7 +31,7 @@ use Rattle.fb_sim.proofs.Texts.{bounded-length, lines_text-append, part-after, p
 
 -- ---- Rounds
 
--- From where these lines were handed out, the core has come on by some rounds, and the writer has got the text of the next ones, of so many bytes and lines. No event comes before the tick that has the number of the rounds.
+-- From where these lines were handed out, the core has made some rounds, and the writer has got the text of the next ones, of this many bytes and lines. No event comes before the tick that has the number of the rounds.
 pub record Came (i : Inputs) (o : Options) (ls : List Line) (core : CoreState) (old now : Option (List ℕ)) (w : Written) (rounds : ℕ) : Type 0 where
   pub out : List Line
   pub come : HasCome i o.steps o.horizon core (ls ++ out)
@@ -75,7 +75,7 @@ module _ (i : Inputs) (o : Options) (ls : List Line) where
   both_lined ks ms n m a b = rw length-append (omega (arith, a, b))
 
   module _ (core : CoreState) (old mid new : Option (List ℕ)) (n : Written) (rounds : ℕ) (c : Came i o ls core old mid n rounds) where
-    -- with a round behind
+    -- with a round after
     abbrev with : Tally → Written
     with m = record { bytes = bounded (n.bytes + m.bytes); lines = bounded (n.lines + m.final_lines) }
 
@@ -126,7 +126,7 @@ module _ (i : Inputs) (o : Options) (ls : List Line) where
     )
 
     -- the options of a round may name other workers
-    pub came_failed : AreGood i → (w : ℕ) (e : RunError) → RoundsWithCounts i (record { horizon = o.horizon; steps = o.steps; workers = w; form = o.form }) (core_of i o.steps c.come.steps) (ls ++ c.out) mid new (Err e) → RunsOn i o ls old new (Err (behind n.bytes e))
+    pub came_failed : AreGood i → (w : ℕ) (e : RunError) → RoundsWithCounts i (record { horizon = o.horizon; steps = o.steps; workers = w; form = o.form }) (core_of i o.steps c.come.steps) (ls ++ c.out) mid new (Err e) → RunsOn i o ls old new (Err (after_bytes n.bytes e))
     came_failed good w (Write m) r = came_short m r
     came_failed good w Memory same = came_wanting good same
     came_failed good w (Refused r) bad = absurd bad
@@ -211,7 +211,7 @@ module _ (given : Given) (o : Options) (i : Inputs) (within : AreWithin o) (decl
       let f = front_of out b in
       record { bytes = text_of i o.form out; rest = f.rest; end = f.end; got = got; trace = trace_so (text_of i o.form out ++ f.rest) f.end f.trace; lines = out; whole = refl }
 
-  -- what is written of a last line, behind all lines
+  -- what is written of a last line, after all lines
   pub writes_all : (old mid new : Option (List ℕ)) (out : List Line) (end : Ending) → AreAll i o.steps o.horizon out end → Appends old mid (text_of i o.form out)
       → Appends mid new (last_line (system_of i) end) → Writes given o old new end
   writes_all old mid new out end all a b = record {
@@ -253,7 +253,7 @@ module _ (given : Given) (o : Options) (i : Inputs) (within : AreWithin o) (decl
     at_mark : (mark : StopMark) → finish ≡ AtMark mark → RunsOn i o [] old mid (Ok (AtMark mark, n))
     at_mark mark is = subst (λ (f : Finish). RunsOn i o [] old mid (Ok (f, n))) is ran
 
-    -- with the last line behind it
+    -- with the last line after it
     pub ended : (core : CoreState) → finish ≡ AtEnd core → Appends mid new (last_line (system_of i) (AtHorizon o.horizon)) → Writes given o old new (AtHorizon o.horizon)
     ended core is last = let r = at_end core is in writes_all old mid new r.0 (AtHorizon o.horizon) r.1.2 r.2 last
 

@@ -1,4 +1,4 @@
--- A simulation that has come to a tick goes on to a later one.
+-- A simulation that has reached a tick continues to a later one.
 use Rattle.std.proofs.Common.{◌≡◌, ℕ, ◌+◌, ◌<◌, ◌≤◌, false, List, [], ◌∷◌, refl, sym, ap, ◌∙◌, subst, arith}
 use Rattle.std.specs.Prelude.{not, nat_lt}
 use Rattle.std.proofs.lemmas.Bool.{cond-false, le-ltb, lt-ltb}
@@ -80,7 +80,7 @@ module _ (i : Inputs) (good : AreGood i) (limit t u : ℕ) (later : t ≤ u) whe
         };
       }
 
--- ---- Where it stands
+-- ---- Where it is
 
 module _ (i : Inputs) (good : AreGood i) (limit : ℕ) where
   -- before the first event

@@ -72,7 +72,7 @@ stops to horizon tick r reason [] is = absurd (let f : AtHorizon to ≡ AtStop t
 stops to horizon tick r reason (t ∷ ts) is =
     stops_by t.effect.stop t.key (ending_of to ts) (ending_of horizon ts) tick r reason (stops to horizon tick r reason ts) is
 
--- a simulation that comes to its horizon says so
+-- a simulation that reaches its horizon says so
 pub horizon_is : (to : ℕ) (ts : List Taken) (h : ℕ) → AtHorizon h ≡ ending_of to ts → h ≡ to
 horizon_is to [] h is = cc
 horizon_is to (t ∷ ts) h is = by t.effect.stop is (horizon_is to ts h)

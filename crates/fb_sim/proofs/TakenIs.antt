@@ -15,7 +15,7 @@ use Rattle.fb_types.specs.declared.value.Reason.{Reason}
 use Rattle.fb_types.proofs.PathLaws.{same_path_is}
 use Rattle.fb_laws.proofs.Stays.{reacts_stays}
 use Rattle.fb_system.specs.Ports.{variable_of}
-use Rattle.fb_net.specs.Worlds.{IsForest, SeatedAt, StandsAt}
+use Rattle.fb_net.specs.Worlds.{IsForest, SeatedAt, RepresentsAt}
 use Rattle.fb_net.specs.declared.resource.Forest.{Forest}
 use Rattle.fb_resource.specs.Posts.{arriving}
 use Rattle.fb_resource.specs.Takings.{IsHere, IsTakenHere, Queues, queues_of}
@@ -27,12 +27,12 @@ use Rattle.fb_sim.specs.declared.one_agenda.machine.Machine.{Machine}
 
 -- ---- The other resources
 
--- the trees of another resource stand for the blocks that it has, which the reaction leaves
+-- the trees of another resource represent the blocks that it has, which the reaction leaves
 other_world : (i : Inputs) (k : Key) (e : AnEvent) (w v : World) (t : Forest) → IsForest i t w
     → t.resource ≢ k.resource → (system_of i).resource (path_of e) ≡ k.resource
     → ((p : Path) → same_path p (path_of e) ≡ false → v.blocks p ≡ w.blocks p) → v.held ≡ w.held → IsForest i t v
 other_world i k e w v t forest other home blocks held = record {
-  blocks = λ n within here. subst (λ b. StandsAt i t.roots t.blocks n b) (sym (blocks (path_at (system_of i) n) (away n here))) (forest.blocks n within here);
+  blocks = λ n within here. subst (λ b. RepresentsAt i t.roots t.blocks n b) (sym (blocks (path_at (system_of i) n) (away n here))) (forest.blocks n within here);
   ways = forest.ways;
   shells = λ n within here. subst (λ b. SeatedAt i t.seats t.shells n b) (sym (blocks (path_at (system_of i) n) (away n here))) (forest.shells n within here);
   apart = forest.apart;

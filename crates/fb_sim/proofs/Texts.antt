@@ -22,11 +22,11 @@ take_front [] y n b = absurd (omega arith)
 take_front (a ∷ x) y zero b = refl
 take_front (a ∷ x) y (suc n) b = ap (λ t. a ∷ t) (take_front x y n (omega arith))
 
-take_behind : (x y : List ℕ) (n : ℕ) → take (length x + n) (x ++ y) ≡ x ++ take n y
-take_behind [] y n = let e : 0 + n ≡ n = omega arith in ap (λ k. take k y) e
-take_behind (a ∷ x) y n =
+take_after : (x y : List ℕ) (n : ℕ) → take (length x + n) (x ++ y) ≡ x ++ take n y
+take_after [] y n = let e : 0 + n ≡ n = omega arith in ap (λ k. take k y) e
+take_after (a ∷ x) y n =
     let e : length (a ∷ x) + n ≡ suc (length x + n) = omega arith in
-    ap (λ k. take k (a ∷ x ++ y)) e ∙ ap (λ t. a ∷ t) (take_behind x y n)
+    ap (λ k. take k (a ∷ x ++ y)) e ∙ ap (λ t. a ∷ t) (take_after x y n)
 
 -- ---- Counts, which stop at the greatest
 
@@ -45,11 +45,11 @@ part-before {old} {new} {x} y p = record {
   counted = p.counted;
 }
 
--- a part of a text, behind one that was written whole
+-- a part of a text, after one that was written whole
 pub part-after : {old mid new : Option (List ℕ)} (x : List ℕ) {y : List ℕ} {n m : ℕ} → Appends old mid x → n ≡ bounded (length x) → IsPartWritten mid new y m → IsPartWritten old new (x ++ y) (bounded (n + m))
 part-after {old} {mid} {new} x {y} {n} {m} got counted p = record {
   count = length x + p.count;
   short = let s = p.short in rw length-append (omega arith);
-  got = subst (λ (t : List ℕ). Appends old new t) (sym (take_behind x y p.count)) (Appends-trans old mid new x (take p.count y) got p.got);
+  got = subst (λ (t : List ℕ). Appends old new t) (sym (take_after x y p.count)) (Appends-trans old mid new x (take p.count y) got p.got);
   counted = let c = p.counted in omega arith;
 }

@@ -180,8 +180,8 @@ module _ (i : Inputs) (o : Options) (c : model_cores.Core (machine (system_of i)
   counted_failed good s Failed h part = absurd part
 
   -- memory that ran out before anything was written
-  pub counted_wanting : (e : RunError) → e ≡ Memory → new ≡ old → RoundsWithCounts i o c ls old new (Err e)
-  counted_wanting e is same = subst (λ (f : RunError). RoundsWithCounts i o c ls old new (Err f)) (sym is) same
+  pub counted_out_of_memory : (e : RunError) → e ≡ Memory → new ≡ old → RoundsWithCounts i o c ls old new (Err e)
+  counted_out_of_memory e is same = subst (λ (f : RunError). RoundsWithCounts i o c ls old new (Err f)) (sym is) same
 
   -- the error that `?` passes on
   pub counted_passed : (r : Result (Round × Tally) RunError) (e : RunError) → IsErrAnd r (λ f. f ≡ e) → RoundsWithCounts i o c ls old new (Err e) → RoundsWithCounts i o c ls old new r

@@ -102,7 +102,7 @@ pub record Reports (given : Given) (o : Options) (old new : Option (List ℕ)) (
   pub count : ℕ
   pub few : count ≤ 100
   pub far : IsAsFar inputs o old new count end
-  pub told : ReportsTo inputs o count reports
+  pub reported : ReportsTo inputs o count reports
 
 -- where no run begins, nothing is reported
 abbrev pub AreReports : Given → Options → (old new : Option (List ℕ)) → (end : Result Outcome RunError) → List ℕ → Type 0
@@ -142,12 +142,12 @@ GoesOn s t to old new n m (Err Failed) = ⊥
 -- ---- From hundredth to hundredth
 
 -- Each hundredth was reported that a run came to, and standard error took a beginning of that, or all where it says so.
-pub record HasTold (i : Inputs) (o : Options) (old new quiet err : Option (List ℕ)) (heard : Bool) (end : Result Outcome RunError) : Type 0 where
+pub record HasReported (i : Inputs) (o : Options) (old new quiet err : Option (List ℕ)) (heard : Bool) (end : Result Outcome RunError) : Type 0 where
   pub count : ℕ
   pub few : count ≤ 100
   pub far : IsAsFar i o old new count end
   pub reports : List ℕ
-  pub told : ReportsTo i o count reports
+  pub reported : ReportsTo i o count reports
   pub hears : Hears heard quiet err reports
 
 -- The run has reached the tick of this many hundredths and goes on; this was written and reported.
@@ -158,7 +158,7 @@ pub record Came (i : Inputs) (o : Options) (first out quiet err : Option (List �
   pub bytes_are : n.bytes ≡ bounded (length text)
   pub lines_are : n.lines ≡ bounded (length (lines_of come.takings))
   pub reports : List ℕ
-  pub told : ReportsTo i o count reports
+  pub reported : ReportsTo i o count reports
   pub hears : Hears n.is_heard quiet err reports
 
 -- The writer got the whole trace.
@@ -194,8 +194,8 @@ Fails i o old new Failed = ⊥
 abbrev pub Comes : (i : Inputs) (o : Options) (t : Session) (first out quiet err : Option (List ℕ)) (count : ℕ) (m : ReportTally) → Result Outcome RunError → Type 0
 Comes i o t first out quiet err count m (Ok (End h)) = Came i o first out quiet err count m × (t ≡ session i o (hundredth o.horizon count))
 Comes i o t first out quiet err count m (Ok (Stop mark)) =
-    (t.stage ≡ going.Stopped mark) × HasWritten i o first out (AtStop mark.tick mark.resource mark.reason) × HasTold i o first out quiet err m.is_heard (Ok (Stop mark))
-Comes i o t first out quiet err count m (Err e) = Fails i o first out e × HasTold i o first out quiet err m.is_heard (Err e)
+    (t.stage ≡ going.Stopped mark) × HasWritten i o first out (AtStop mark.tick mark.resource mark.reason) × HasReported i o first out quiet err m.is_heard (Ok (Stop mark))
+Comes i o t first out quiet err count m (Err e) = Fails i o first out e × HasReported i o first out quiet err m.is_heard (Err e)
 
 -- what a run has written in the end
 abbrev pub Ends : Inputs → Options → (old new : Option (List ℕ)) → Result Outcome RunError → Type 0

@@ -95,12 +95,12 @@ WritesPartOf old new text BadOption = ⊥
 WritesPartOf old new text Failed = ⊥
 
 -- the error of a later call, after this many bytes
-abbrev pub behind : (before : ℕ) → RunError → RunError
-behind n (Write m) = Write (bounded (n + m))
-behind n (Refused r) = Refused r
-behind n Memory = Memory
-behind n BadOption = BadOption
-behind n Failed = Failed
+abbrev pub after_bytes : (before : ℕ) → RunError → RunError
+after_bytes n (Write m) = Write (bounded (n + m))
+after_bytes n (Refused r) = Refused r
+after_bytes n Memory = Memory
+after_bytes n BadOption = BadOption
+after_bytes n Failed = Failed
 
 -- a writer failed and got the first bytes of a text, after this many bytes that were written before
 abbrev pub IsShort : (old new : Option (List ℕ)) → (text : List ℕ) → (before : ℕ) → RunError → Type 0

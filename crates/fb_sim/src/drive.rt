@@ -3,7 +3,7 @@
 ghost use Rattle.std.specs.Prelude.{◌≡◌, ◌≤◌, List};
 ghost use Rattle.fb_types.specs.States as model;
 ghost use Rattle.fb_sim.specs.Serial.{AreWithin};
-ghost use Rattle.fb_sim.specs.Rounds.{HasCome, RunsOn, behind};
+ghost use Rattle.fb_sim.specs.Rounds.{HasCome, RunsOn, after_bytes};
 
 use crate::options::Options;
 use crate::outcome::RunError;
@@ -30,7 +30,7 @@ pub enum Finish {
 
 /// The error of a round, where this many bytes were written before it.
 pub(crate) fn later(written: u128, error: RunError) -> RunError
-    ensures { result ≡ behind written error }
+    ensures { result ≡ after_bytes written error }
 {
     match error {
         RunError::Write(count) => RunError::Write(written.saturating_add(count)),

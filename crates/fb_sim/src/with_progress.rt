@@ -7,7 +7,7 @@ ghost use Rattle.fb_sim.specs.Serial.{AreWithin, Writes};
 ghost use Rattle.fb_sim.specs.Rounds.{FailsRun};
 ghost use Rattle.fb_trace.specs.Progress.{bounded};
 ghost use Rattle.fb_sim.specs.declared.state.Stage.TheVariants as going;
-ghost use Rattle.fb_sim.specs.Reports.{AreReports, Came, Comes, Ends, GoesOn, HasTold, Hears, hundredth, report_text, session};
+ghost use Rattle.fb_sim.specs.Reports.{AreReports, Came, Comes, Ends, GoesOn, HasReported, Hears, hundredth, report_text, session};
 
 use crate::drive::later;
 use crate::options::{Inputs, Options};
@@ -182,7 +182,7 @@ fn go_through<R: Threads + Wait + Sync, W: Write, E: Write>(
     requires good { AreGood simulation.inputs }
     requires first { simulation ≡ session simulation.inputs options 0 }
     ensures ends { Ends simulation.inputs options (W.contents out.old) (W.contents out.new) result.end }
-    ensures tells { HasTold simulation.inputs options (W.contents out.old) (W.contents out.new) (E.contents err.old) (E.contents err.new) result.is_heard result.end }
+    ensures reported { HasReported simulation.inputs options (W.contents out.old) (W.contents out.new) (E.contents err.old) (E.contents err.new) result.is_heard result.end }
 {
     let (end, tally) = go_far(rt, alloc, &mut simulation, options, out, err);
     let is_heard = tally.is_heard;
@@ -222,7 +222,7 @@ pub fn run_with_progress<R: Threads + Wait + Sync, W: Write, E: Write>(
 ) -> ReportedRun
     ensures trace { IfOk result.end (λ o. Writes inputs.now options (W.contents out.old) (W.contents out.new) (ending_of o)) }
     ensures failed { IfErr result.end (FailsRun inputs.now options (W.contents out.old) (W.contents out.new)) }
-    ensures told { (reports : List ℕ) × AreReports inputs.now options (W.contents out.old) (W.contents out.new) result.end reports
+    ensures reported { (reports : List ℕ) × AreReports inputs.now options (W.contents out.old) (W.contents out.new) result.end reports
         × Hears result.is_heard (E.contents err.old) (E.contents err.new) reports }
 {
     if !options.are_within() {

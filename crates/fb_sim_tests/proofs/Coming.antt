@@ -1,4 +1,4 @@
--- From a core that has come to where it is, a round that goes on leads to another such core.
+-- From a core that some rounds have led to, a round that goes on leads to another such core.
 use Rattle.std.proofs.Common.{◌≡◌, ℕ, List, ◌++◌, Option, Ok, subst}
 use Rattle.fb_types.specs.Headline.{Inputs}
 use Rattle.fb_types.specs.States.{Line}

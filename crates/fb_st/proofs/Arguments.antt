@@ -6,7 +6,7 @@ use Rattle.fb_types.specs.Values.{Values, value_of, values_of as values_of_all, 
 use Rattle.fb_types.specs.declared.text.Expr.{Expr}
 use Rattle.fb_types.specs.declared.value.Value.{Value}
 use Rattle.fb_types.specs.declared.value.Reason.{Reason}
-use Rattle.fb_st.specs.Wanted.{both}
+use Rattle.fb_st.specs.Required.{both}
 
 abbrev pub rest_of : Values → List Expr → Result (List Value) Reason
 rest_of vars es = values_of_all (exprs (map expr_of es)) vars

@@ -19,7 +19,7 @@ use Rattle.fb_types.specs.declared.value.Reason.TheVariants as reason
 use Rattle.fb_st.specs.Frames.{Declared, types_in}
 use Rattle.fb_st.specs.Variables.{least_of, most_of}
 use Rattle.fb_st.specs.Compiled.{unsigned_of, truth_of_word, word_at}
-use Rattle.fb_st.specs.Placed.{values_at, value_of_word, name_at, ty_at, ty_or, is_long_type, is_within_type, is_truth_type}
+use Rattle.fb_st.specs.Fitting.{values_at, value_of_word, name_at, ty_at, ty_or, is_long_type, is_within_type, is_truth_type}
 use Rattle.fb_st.proofs.Comes.{both_true}
 use Rattle.fb_st.proofs.Ranges.{between}
 use Rattle.fb_st.proofs.Runs.{assigns, assigns_not}
@@ -31,7 +31,7 @@ pub assign_stops : (T : Types) (n : Name) (e : Expr) (vars : Values) (r : Reason
 assign_stops T n e vars r is left = rw is (refl, refl)
 
 module _ (ds : List Declared) (ws : List ℤ) (len : length ws ≡ length ds) (once : ¬ (Twice (map (λ d. d.0) ds))) (i : ℕ) (d : Declared) (at : slice_get ds i ≡ Some d) (e : Expr) where
-  -- the word that stands for the value is written
+  -- the word that represents the value is written
   pub assign_writes : (z : ℤ) (v : Value) → value_of e (values_at ds ws) ≡ Ok v → fits d.1 v ≡ true → value_of_word d.1 z ≡ v → (left : ℕ)
       → Runs (types_in ds) (Assign (name_at ds i) e) (record { vars = values_at ds ws; left = suc left }) Went (record { vars = values_at ds (slice_set ws i z); left = left })
   assign_writes z v is fit stands left =
@@ -191,10 +191,10 @@ module _ (T : Types) (n : Name) (end step : ℤ) (vars : Values) (left : ℕ) (z
 
 -- ---- The number of the variable of FOR, read by its word
 
-pub counted_read :
+pub whole_read :
     (ds : List Declared) (ws : List ℤ) (len : length ws ≡ length ds) (once : ¬ (Twice (map (λ d. d.0) ds))) (i : ℕ) (d : Declared) (at : slice_get ds i ≡ Some d) (z number : ℤ) → z ≡ word_at ws i
     → number ≡ whole (value_of_word (ty_at ds i) z) → whole (values_at ds ws (name_at ds i)) ≡ number
-counted_read ds ws len once i d at z number read is =
+whole_read ds ws len once i d at z number read is =
     ap whole (word_read ds ws len once i d at)
     ∙ ap (λ t. whole (value_of_word t (word_at ws i))) (sym (ap ty_or at))
     ∙ ap (λ x. whole (value_of_word (ty_at ds i) x)) (sym read) ∙ sym is

@@ -21,7 +21,7 @@ use Rattle.fb_st.specs.declared.compiled.CompiledStmt.TheVariants as variants
 use Rattle.fb_st.specs.declared.compiled.CompiledChoice.{CompiledChoice, out-CompiledChoice, fold_out-CompiledChoice}
 use Rattle.fb_st.specs.declared.compiled.CompiledBranch.{CompiledBranch, out-CompiledBranch, fold_out-CompiledBranch}
 use Rattle.fb_st.specs.Compiled.{number_said, truth_said, truth_at, fits_truth, fits_number}
-use Rattle.fb_st.specs.Placed.{spot, values_at, name_at, all_right, code_said, codes_said, arm_said, arms_said, fork_said, forks_said, expr_of_number, expr_of_truth, value_of_word, kinds_truth, kinds_number, right_truth, right_number, is_long_type, is_within_type, count_right, code_right, codes_right, arm_right, fork_right, forks_right}
+use Rattle.fb_st.specs.Fitting.{spot, values_at, name_at, all_right, code_said, codes_said, arm_said, arms_said, fork_said, forks_said, expr_of_number, expr_of_truth, value_of_word, kinds_truth, kinds_number, right_truth, right_number, is_long_type, is_within_type, count_right, code_right, codes_right, arm_right, fork_right, forks_right}
 use Rattle.fb_st.proofs.Comes.{both_true, condition_comes}
 use Rattle.fb_st.proofs.Runs.{Leads, cut_at, nothing_left, written}
 use Rattle.fb_st.proofs.Words.{word_written}
@@ -97,13 +97,13 @@ pub ends_here : (ds : List Declared) (R : Running) (p : Point) (e : End) (ws vs 
 ends_here ds R p e ws vs m n same_words same_meter run =
     subst (λ (h : List ℤ). R p e (spot ds h m)) (sym same_words) (subst (λ (k : Meter). R p e (spot ds vs k)) (sym same_meter) run)
 
-pub arm_told : (ds : List Declared) (c : CompiledChoice) (ws vs : List ℤ) (r s : Result Bool Reason) → length ws ≡ length ds → ¬ (Twice (map (λ d. d.0) ds)) → ws ≡ vs
+pub arm_holds : (ds : List Declared) (c : CompiledChoice) (ws vs : List ℤ) (r s : Result Bool Reason) → length ws ≡ length ds → ¬ (Twice (map (λ d. d.0) ds)) → ws ≡ vs
     → kinds_truth ds (truth_said (out-CompiledChoice c).condition) ≡ true → r ≡ truth_at (truth_said (out-CompiledChoice c).condition) ws → r ≡ s
     → truth_of (arm_said ds c).0 (values_at ds vs) ≡ s
-arm_told ds c ws vs r s len once same kinds is told =
+arm_holds ds c ws vs r s len once same kinds is known_so =
     ap (λ x. truth_of x.0 (values_at ds vs)) (arm_says ds c)
     ∙ ap (λ h. truth_of (expr_of_truth ds (truth_said (out-CompiledChoice c).condition)) (values_at ds h)) (sym same)
-    ∙ condition_comes ds ws len once (truth_said (out-CompiledChoice c).condition) kinds ∙ sym is ∙ told
+    ∙ condition_comes ds ws len once (truth_said (out-CompiledChoice c).condition) kinds ∙ sym is ∙ known_so
 
 pub arm_ran : (ds : List Declared) (T : Types) (c : CompiledChoice) (ws vs : List ℤ) (m n : Meter) (xs : List CompiledStmt) (e : End) (q : Point) → ws ≡ vs → m ≡ n → xs ≡ (out-CompiledChoice c).body
     → RunsAll T (codes_said ds xs) (spot ds ws m) e q → RunsAll T (arm_said ds c).1 (spot ds vs n) e q
@@ -111,10 +111,10 @@ arm_ran ds T c ws vs m n xs e q same_words same_meter same run =
     subst (λ (x : Expr × Stmts). RunsAll T x.1 (spot ds vs n) e q) (sym (arm_says ds c))
     (codes_as ds T ws vs m n xs (out-CompiledChoice c).body e q same_words same_meter same run)
 
-pub fork_told : (ds : List Declared) (b : CompiledBranch) (labels : List Label) (z : ℤ) (r s : Bool) → labels ≡ (out-CompiledBranch b).labels → r ≡ label_fits labels z → r ≡ s
+pub fork_fits : (ds : List Declared) (b : CompiledBranch) (labels : List Label) (z : ℤ) (r s : Bool) → labels ≡ (out-CompiledBranch b).labels → r ≡ label_fits labels z → r ≡ s
     → label_fits (fork_said ds b).0 z ≡ s
-fork_told ds b labels z r s same is told =
-    ap (λ x. label_fits x.0 z) (fork_says ds b) ∙ ap (λ l. label_fits l z) (sym same) ∙ sym is ∙ told
+fork_fits ds b labels z r s same is known_so =
+    ap (λ x. label_fits x.0 z) (fork_says ds b) ∙ ap (λ l. label_fits l z) (sym same) ∙ sym is ∙ known_so
 
 pub fork_ran : (ds : List Declared) (T : Types) (b : CompiledBranch) (ws vs : List ℤ) (m n : Meter) (xs : List CompiledStmt) (e : End) (q : Point) → ws ≡ vs → m ≡ n → xs ≡ (out-CompiledBranch b).body
     → RunsAll T (codes_said ds xs) (spot ds ws m) e q → RunsAll T (fork_said ds b).1 (spot ds vs n) e q

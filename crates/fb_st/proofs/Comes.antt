@@ -1,4 +1,4 @@
--- A compiled expression comes to what its text comes to.
+-- A compiled expression has the value of its text.
 use Rattle.std.proofs.Common.{◌≡◌, ℕ, ℤ, ◌&&◌, Bool, true, false, length, List, [], ◌∷◌, map, Option, Some, None, Result, Ok, Err, refl, sym, ◌∙◌, ap}
 use Rattle.std.specs.Prelude.{slice_get, if◌then◌else◌, codes, pos, neg_ℤ, int_div, ◌+ℤ◌, ◌-ℤ◌, ◌*ℤ◌, not}
 use Rattle.std.specs.Int.{int_min, int_max}
@@ -14,10 +14,10 @@ use Rattle.fb_types.specs.declared.value.Value.TheVariants as value
 use Rattle.fb_types.specs.declared.value.Reason.{Reason}
 use Rattle.fb_types.specs.declared.value.Reason.TheVariants as reason
 use Rattle.fb_types.specs.Repeated.{Twice}
-use Rattle.fb_st.specs.Wanted.{wholes, as_whole, as_bool, gives_number}
+use Rattle.fb_st.specs.Required.{wholes, as_whole, as_bool, gives_number}
 use Rattle.fb_st.specs.Frames.{Declared}
 use Rattle.fb_st.specs.Compiled.{Number, Constant, Slot, UnsignedSlot, Binary, Negated, Magnitude, Lesser, Larger, Limited, Chosen, Truth, Known, TruthSlot, Compared, Joined, Not, TruthChosen, number_at, truth_at, two_numbers, two_compared, two_truths, with_two, chosen, is_comparison, is_joint, compared_by, joined_by, word_at, unsigned_of, truth_of_word}
-use Rattle.fb_st.specs.Placed.{values_at, value_of_word, name_at, expr_of_number, expr_of_truth, kinds_number, kinds_truth, is_plain_type, is_unsigned_type, is_truth_type}
+use Rattle.fb_st.specs.Fitting.{values_at, value_of_word, name_at, expr_of_number, expr_of_truth, kinds_number, kinds_truth, is_plain_type, is_unsigned_type, is_truth_type}
 use Rattle.fb_st.proofs.Words.{word_read}
 
 pub both_true : (a b : Bool) → (a && b) ≡ true → (a ≡ true) × (b ≡ true)
@@ -50,21 +50,21 @@ again_two Greater x y g = absurd (false≢true g)
 again_two LessOrEqual x y g = absurd (false≢true g)
 again_two GreaterOrEqual x y g = absurd (false≢true g)
 
-told_two : (o : BinaryOperator) (x y : ℤ) → is_comparison o ≡ true → binary_value o (value.Whole x) (value.Whole y) ≡ Ok (value.Bool (compared_by o x y))
-told_two Equal x y g = refl
-told_two NotEqual x y g = refl
-told_two Less x y g = refl
-told_two Greater x y g = refl
-told_two LessOrEqual x y g = refl
-told_two GreaterOrEqual x y g = refl
-told_two Add x y g = absurd (false≢true g)
-told_two Subtract x y g = absurd (false≢true g)
-told_two Multiply x y g = absurd (false≢true g)
-told_two Divide x y g = absurd (false≢true g)
-told_two Modulo x y g = absurd (false≢true g)
-told_two Or x y g = absurd (false≢true g)
-told_two Xor x y g = absurd (false≢true g)
-told_two And x y g = absurd (false≢true g)
+comparison_of_two : (o : BinaryOperator) (x y : ℤ) → is_comparison o ≡ true → binary_value o (value.Whole x) (value.Whole y) ≡ Ok (value.Bool (compared_by o x y))
+comparison_of_two Equal x y g = refl
+comparison_of_two NotEqual x y g = refl
+comparison_of_two Less x y g = refl
+comparison_of_two Greater x y g = refl
+comparison_of_two LessOrEqual x y g = refl
+comparison_of_two GreaterOrEqual x y g = refl
+comparison_of_two Add x y g = absurd (false≢true g)
+comparison_of_two Subtract x y g = absurd (false≢true g)
+comparison_of_two Multiply x y g = absurd (false≢true g)
+comparison_of_two Divide x y g = absurd (false≢true g)
+comparison_of_two Modulo x y g = absurd (false≢true g)
+comparison_of_two Or x y g = absurd (false≢true g)
+comparison_of_two Xor x y g = absurd (false≢true g)
+comparison_of_two And x y g = absurd (false≢true g)
 
 joined_two : (o : BinaryOperator) (a b : Bool) → is_joint o ≡ true → binary_value o (value.Bool a) (value.Bool b) ≡ Ok (value.Bool (joined_by o a b))
 joined_two Or a b g = refl
@@ -82,7 +82,7 @@ joined_two Multiply a b g = absurd (false≢true g)
 joined_two Divide a b g = absurd (false≢true g)
 joined_two Modulo a b g = absurd (false≢true g)
 
--- ---- Operators and functions, at operands that come to what they should
+-- ---- Operators and functions, at operands that have the values that they should
 
 binary_numbers : (o : BinaryOperator) (r s : Result ℤ Reason) → gives_number o ≡ true
     → and_then (as_whole r) (λ v. and_then (as_whole s) (λ w. binary_value o v w)) ≡ as_whole (two_numbers o r s)
@@ -92,7 +92,7 @@ binary_numbers o (Err q) s g = refl
 
 binary_compared : (o : BinaryOperator) (r s : Result ℤ Reason) → is_comparison o ≡ true
     → and_then (as_whole r) (λ v. and_then (as_whole s) (λ w. binary_value o v w)) ≡ as_bool (two_compared o r s)
-binary_compared o (Ok x) (Ok y) g = told_two o x y g
+binary_compared o (Ok x) (Ok y) g = comparison_of_two o x y g
 binary_compared o (Ok x) (Err q) g = refl
 binary_compared o (Err q) s g = refl
 

@@ -6,7 +6,7 @@ use mir.Syntax.{w64, w128}
 use mir.Val.{SFits, of_z}
 use Rattle.fb_types.specs.Values.{modulus, same_whole, within_signed}
 use Rattle.fb_types.specs.declared.value.Value.TheVariants as value
-use Rattle.fb_st.specs.Wanted.{wholes}
+use Rattle.fb_st.specs.Required.{wholes}
 
 both : (a b : Bool) → a ≡ true → b ≡ true → (a && b) ≡ true
 both a b h g = ap (λ x. x && b) h ∙ g

@@ -1,4 +1,4 @@
--- The first index at which a name stands.
+-- The first index at which a name is.
 use Rattle.std.proofs.Common.{◌≡◌, ℕ, zero, suc, ◌+◌, Bool, true, false, cond, not, List, [], ◌∷◌, length, map, Some, None, Contains, refl, sym, ◌∙◌, ap, subst, inl, inr, arith}
 use Rattle.std.specs.Prelude.{position, slice_get, option_map, option_and_then, nat_lt}
 use Rattle.std.specs.List.{prefix_len}
@@ -37,7 +37,7 @@ position-later p x xs h =
 
 -- ---- Names
 
--- the element with a name stands at the index of the name
+-- the element with a name is at the index of the name
 pub named_at_index :
     {A : Type 0} (f : A → Name) (n : Name) (xs : List A) → named f n xs ≡ option_and_then (slice_get xs) (position (λ x. same_name n (f x)) xs)
 named_at_index f n [] = refl
@@ -54,7 +54,7 @@ named_at_index f n (x ∷ xs) =
 
 -- ---- Names that differ
 
--- each name stands first at its own index
+-- each name is first at its own index
 pub index_of_once :
     {A : Type 0} (f : A → Name) (n : Name) (xs : List A) (i : ℕ) (x : A) → ¬ (Twice (map f xs)) → slice_get xs i ≡ Some x → same_name n (f x) ≡ true
     → position (λ y. same_name n (f y)) xs ≡ Some i

@@ -15,7 +15,7 @@ use Rattle.fb_st.specs.Compiled.{truth_of_word, word_at}
 use Rattle.fb_st.specs.Flows.{point}
 use Rattle.fb_st.specs.Frames.{Declared, declared_in, index_of, names_of}
 use Rattle.fb_st.specs.Kept.{all_plain, kept_as, shown}
-use Rattle.fb_st.specs.Placed.{held, value_of_word}
+use Rattle.fb_st.specs.Fitting.{held, value_of_word}
 use Rattle.fb_st.specs.declared.frame.Slot.{Slot}
 use Rattle.fb_st.specs.declared.meter.Meter.{Meter}
 use Rattle.fb_st.specs.declared.slot_list.Kept.{Kept}
@@ -71,9 +71,9 @@ none_is : (o : Option Value) → is_none o ≡ true → o ≡ None
 none_is None h = refl
 none_is (Some v) h = absurd (false≢true h)
 
-pub none_told : (o : Option Value) (b : Bool) → is_some o ≡ not b → b ≡ true → is_none o ≡ true
-none_told None b h t = refl
-none_told (Some v) b h t = absurd (true≢false (h ∙ ap not t))
+pub none_so : (o : Option Value) (b : Bool) → is_some o ≡ not b → b ≡ true → is_none o ≡ true
+none_so None b h t = refl
+none_so (Some v) b h t = absurd (true≢false (h ∙ ap not t))
 
 -- where each word is what its variable holds, that is all that is shown
 pub plain_held : (ks : List Kept) (zs : List ℤ) → all_plain ks ≡ true → length zs ≡ length ks → kept_as ks zs ≡ held (map name_and_type ks) zs

@@ -1,4 +1,4 @@
--- Whether all that statements assign is known, told by one part after the other.
+-- Whether all that statements assign is known, one part after the other.
 use Rattle.std.proofs.Common.{◌≡◌, ◌↔◌, ℕ, ◌+◌, ◌<◌, ◌≤◌, Bool, true, false, List, [], ◌∷◌, drop, length, get_or, refl, sym, ◌∙◌, ap, subst}
 use Rattle.std.proofs.lemmas.Bool.{false≢true}
 use Rattle.fb_types.specs.Syntax.{Stmts}
@@ -30,10 +30,10 @@ module _ {A : Type 0} (F : List A → Type 0) (f : A → Type 0) (parts : (x : A
 -- ---- One test, or two of which the second is made where the first is passed
 
 pub fails_by : {P : Type 0} (b : Bool) → ((b ≡ true) ↔ P) → b ≡ false → P → ⊥
-fails_by b told is p = false≢true (sym is ∙ told.1 p)
+fails_by b known_so is p = false≢true (sym is ∙ known_so.1 p)
 
 pub holds_by : {P : Type 0} (b : Bool) → ((b ≡ true) ↔ P) → b ≡ true → P
-holds_by b told is = told.0 is
+holds_by b known_so is = known_so.0 is
 
 pub same_test : (b d : Bool) → b ≡ d → ((b ≡ true) ↔ (d ≡ true))
 same_test b d is = (λ e. sym is ∙ e, λ e. is ∙ e)

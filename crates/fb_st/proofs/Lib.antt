@@ -2,7 +2,7 @@ pub mod Arguments
 pub mod Divided
 pub mod Faults
 pub mod Knowing
-pub mod Wanted
+pub mod Required
 pub mod Once
 pub mod Indexes
 pub mod Ranges

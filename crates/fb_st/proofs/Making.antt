@@ -10,14 +10,14 @@ use Rattle.fb_types.specs.declared.function.Function.TheVariants as function
 use Rattle.fb_types.specs.declared.text.BinaryOperator.{BinaryOperator}
 use Rattle.fb_types.specs.declared.text.UnaryOperator.TheVariants as unary
 use Rattle.fb_types.proofs.NameLaws.{same_from_same_name}
-use Rattle.fb_st.specs.Wanted.{gives_number}
+use Rattle.fb_st.specs.Required.{gives_number}
 use Rattle.fb_st.specs.Frames.{Declared}
 use Rattle.fb_st.specs.declared.compiled.NumberExpr.{NumberExpr, fold-roll-NumberExpr}
 use Rattle.fb_st.specs.declared.compiled.NumberExpr.TheVariants as number
 use Rattle.fb_st.specs.declared.compiled.TruthExpr.{TruthExpr, fold-roll-TruthExpr}
 use Rattle.fb_st.specs.declared.compiled.TruthExpr.TheVariants as truth
 use Rattle.fb_st.specs.Compiled.{Number, Constant, Slot, UnsignedSlot, Binary, Negated, Magnitude, Lesser, Larger, Limited, Chosen, Truth, Known, TruthSlot, Compared, Joined, Not, TruthChosen, number_said, truth_said, fits_number, fits_truth, is_comparison, is_joint}
-use Rattle.fb_st.specs.Placed.{name_at, ty_at, ty_or, expr_of_number, expr_of_truth, kinds_number, kinds_truth, right_number, right_truth, is_plain, is_plain_type, is_unsigned, is_unsigned_type, is_truth, is_truth_type}
+use Rattle.fb_st.specs.Fitting.{name_at, ty_at, ty_or, expr_of_number, expr_of_truth, kinds_number, kinds_truth, right_number, right_truth, is_plain, is_plain_type, is_unsigned, is_unsigned_type, is_truth, is_truth_type}
 use Rattle.fb_st.specs.Made.{SaysNumber, SaysTruth, call_of_one, call_of_two, call_of_three}
 use Rattle.fb_st.proofs.Comes.{both_true}
 use Rattle.fb_st.proofs.Assigning.{there}

@@ -18,7 +18,7 @@ use Rattle.fb_st.specs.declared.compiled.CompiledStmt.TheVariants as variants
 use Rattle.fb_st.specs.declared.compiled.CompiledChoice.{CompiledChoice, out-CompiledChoice, fold_out-CompiledChoice}
 use Rattle.fb_st.specs.declared.compiled.CompiledBranch.{CompiledBranch, out-CompiledBranch, fold_out-CompiledBranch}
 use Rattle.fb_st.specs.Compiled.{number_said, truth_said}
-use Rattle.fb_st.specs.Placed.{all_right, arm_right, arm_said, arms_right, code_right, codes_right, count_right, fork_right, fork_said, forks_right, is_long, is_long_type, is_truth, is_truth_type, is_within, is_within_type, name_at, right_number, right_truth, ty_at, ty_or}
+use Rattle.fb_st.specs.Fitting.{all_right, arm_right, arm_said, arms_right, code_right, codes_right, count_right, fork_right, fork_said, forks_right, is_long, is_long_type, is_truth, is_truth_type, is_within, is_within_type, name_at, right_number, right_truth, ty_at, ty_or}
 use Rattle.fb_st.specs.Made.{SaysAll, SaysBranches, SaysChoices, SaysCount, SaysNumber, SaysStmt, SaysTruth}
 use Rattle.fb_st.proofs.Comes.{both_true}
 use Rattle.fb_st.proofs.Assigning.{there}

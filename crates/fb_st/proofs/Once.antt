@@ -1,4 +1,4 @@
--- A name that is new, behind names that differ.
+-- A name that is new, after names that differ.
 use Rattle.std.proofs.Common.{◌≡◌, ◌⊎◌, ◌||◌, true, false, List, [], ◌∷◌, ◌++◌, Contains, refl, sym, ◌∙◌, ap, subst, inl, inr}
 use Rattle.std.specs.List.{list_any}
 use Rattle.std.proofs.lemmas.Bool.{true≢false}

@@ -8,7 +8,7 @@ use Rattle.fb_types.specs.declared.value.Ty.{Ty}
 use Rattle.fb_types.specs.declared.value.Ty.TheVariants.{Sint, Int, Dint, Lint, Usint, Uint, Udint, Ulint, Time, Bool as Boolean}
 use Rattle.fb_types.specs.declared.value.Value.TheVariants as value
 use Rattle.fb_st.specs.Compiled.{unsigned_of}
-use Rattle.fb_st.specs.Placed.{value_of_word}
+use Rattle.fb_st.specs.Fitting.{value_of_word}
 use Rattle.fb_st.specs.Variables.{least_of, most_of}
 
 first_part : (a b : Bool) → (a && b) ≡ true → a ≡ true
@@ -43,7 +43,7 @@ between Udint z low high = both _ _ low (below z (pos (2 ^ 32)) high)
 between Ulint z low high = both _ _ low (below_all z high)
 between Boolean z low high = absurd (true≢false (sym high ∙ none_between z low))
 
--- the same, where the two stand apart
+-- the same, where the two are given one by one
 pub held_between : (t : Ty) (least z most : ℤ) → (least ≡ least_of t) × (most ≡ most_of t) → (int_le least z && int_le z most) ≡ true → fits t (value.Whole z) ≡ true
 held_between t least z most is h =
     between t z

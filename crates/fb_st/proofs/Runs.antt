@@ -202,8 +202,8 @@ stopped_by result r is = ap end_of is
 pub ended_by : (result : Result Flow Reason) (f g : Flow) → result ≡ Ok f → f ≡ g → end_of result ≡ end_of (Ok g)
 ended_by result f g is same = ap end_of (is ∙ ap (λ (h : Flow). Ok h) same)
 
-pub told_by : (result : Result Bool Reason) (a b : Bool) → result ≡ Ok a → a ≡ b → result ≡ Ok b
-told_by result a b is same = is ∙ ap (λ (v : Bool). Ok v) same
+pub ok_by : (result : Result Bool Reason) (a b : Bool) → result ≡ Ok a → a ≡ b → result ≡ Ok b
+ok_by result a b is same = is ∙ ap (λ (v : Bool). Ok v) same
 
 pub ends_as : (R : Running) (p q : Point) (e f : End) → e ≡ f → R p f q → R p e q
 ends_as R p q e f same run = subst (λ (g : End). R p g q) (sym same) run
@@ -218,9 +218,9 @@ turn_as a b body p m e f declared same run =
     subst (λ (ds : List Declared). Step (RunsAll (types_in ds) body) p f m) declared
     (subst (λ (g : End). Step (RunsAll (types_in a) body) p g m) same run)
 
-pub counted_as : (a b : List Declared) (n : Name) (end step : ℤ) (body : Stmts) (p m : Point) (e f : End) → a ≡ b → e ≡ f
+pub whole_as : (a b : List Declared) (n : Name) (end step : ℤ) (body : Stmts) (p m : Point) (e f : End) → a ≡ b → e ≡ f
     → Step (Then (RunsAll (types_in a) body) (Advances (types_in a) n end step)) p e m → Step (Then (RunsAll (types_in b) body) (Advances (types_in b) n end step)) p f m
-counted_as a b n end step body p m e f declared same run =
+whole_as a b n end step body p m e f declared same run =
     subst (λ (ds : List Declared). Step (Then (RunsAll (types_in ds) body) (Advances (types_in ds) n end step)) p f m) declared
     (subst (λ (g : End). Step (Then (RunsAll (types_in a) body) (Advances (types_in a) n end step)) p g m) same run)
 
@@ -287,10 +287,10 @@ pub ends_at : (R : Running) (p : Point) (e : End) (f g : List Slot) (m n : Meter
 ends_at R p e f g m n same_frame same_meter run =
     subst (λ (h : List Slot). R p e (point h m)) (sym same_frame) (subst (λ (k : Meter). R p e (point g k)) (sym same_meter) run)
 
-pub choice_told : (c : Choice) (f g : List Slot) (r s : Result Bool Reason) → f ≡ g → r ≡ truth_of (expr_of (out-Choice c).condition) (values_of f) → r ≡ s
+pub choice_holds : (c : Choice) (f g : List Slot) (r s : Result Bool Reason) → f ≡ g → r ≡ truth_of (expr_of (out-Choice c).condition) (values_of f) → r ≡ s
     → truth_of (choice_of c).0 (values_of g) ≡ s
-choice_told c f g r s same is told =
-    ap (λ x. truth_of x.0 (values_of g)) (choice_says c) ∙ ap (λ h. truth_of (expr_of (out-Choice c).condition) (values_of h)) (sym same) ∙ sym is ∙ told
+choice_holds c f g r s same is known_so =
+    ap (λ x. truth_of x.0 (values_of g)) (choice_says c) ∙ ap (λ h. truth_of (expr_of (out-Choice c).condition) (values_of h)) (sym same) ∙ sym is ∙ known_so
 
 pub choice_ran : (c : Choice) (f g : List Slot) (m n : Meter) (xs : List read.Stmt) (e : End) (q : Point) → f ≡ g → m ≡ n → xs ≡ (out-Choice c).body
     → RunsAll (types_in (declared_in f)) (all_of xs) (point f m) e q → RunsAll (types_in (declared_in g)) (choice_of c).1 (point g n) e q
@@ -298,9 +298,9 @@ choice_ran c f g m n xs e q same_frame same_meter same run =
     subst (λ (x : Expr × Stmts). RunsAll (types_in (declared_in g)) x.1 (point g n) e q) (sym (choice_says c))
     (all_as f g m n xs (out-Choice c).body e q same_frame same_meter same run)
 
-pub branch_told : (b : Branch) (labels : List Label) (z : ℤ) (r s : Bool) → labels ≡ (out-Branch b).labels → r ≡ label_fits labels z → r ≡ s → label_fits (branch_of b).0 z ≡ s
-branch_told b labels z r s same is told =
-    ap (λ x. label_fits x.0 z) (branch_says b) ∙ ap (λ l. label_fits l z) (sym same) ∙ sym is ∙ told
+pub branch_fits : (b : Branch) (labels : List Label) (z : ℤ) (r s : Bool) → labels ≡ (out-Branch b).labels → r ≡ label_fits labels z → r ≡ s → label_fits (branch_of b).0 z ≡ s
+branch_fits b labels z r s same is known_so =
+    ap (λ x. label_fits x.0 z) (branch_says b) ∙ ap (λ l. label_fits l z) (sym same) ∙ sym is ∙ known_so
 
 pub branch_ran : (b : Branch) (f g : List Slot) (m n : Meter) (xs : List read.Stmt) (e : End) (q : Point) → f ≡ g → m ≡ n → xs ≡ (out-Branch b).body
     → RunsAll (types_in (declared_in f)) (all_of xs) (point f m) e q → RunsAll (types_in (declared_in g)) (branch_of b).1 (point g n) e q

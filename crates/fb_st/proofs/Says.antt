@@ -1,4 +1,4 @@
--- What the expressions that were read say, each by its parts, and what they come to (IEC 61131-3, 7.3.2).
+-- What the expressions that were read say, each by its parts, and their results (IEC 61131-3, 7.3.2).
 use Rattle.std.proofs.Common.{◌≡◌, ℤ, Bool, List, map, Ok, refl, sym, ap}
 use Rattle.fb_types.specs.Names.{Name}
 use Rattle.fb_types.specs.Syntax.{Whole, Truth, Variable, Unary, Binary, Call, expr_of, exprs}

@@ -24,7 +24,7 @@ held o = elim o [ None ↦ zero_value | Some s ↦ s.value ]
 
 -- ---- Reading
 
--- an element with a name that was read at an index stands there, and the name first stands there
+-- an element with a name that was read at an index is there, and the name first is there
 pub stands : (slots : List Slot) (i : ℕ) (s : Slot) (n : Name) → ¬ (Twice (names_of slots)) → i < length slots → s ≡ get_or slots i s → same_name n s.name ≡ true
     → (slice_get slots i ≡ Some s) × (index_of n slots ≡ Some i)
 stands slots i s n once within is same =

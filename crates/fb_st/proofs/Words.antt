@@ -7,7 +7,7 @@ use Rattle.fb_types.proofs.NameLaws.{same_name-itself}
 use Rattle.fb_st.specs.declared.frame.Slot.{Slot as Variable}
 use Rattle.fb_st.specs.Frames.{Declared, names_of, values_of, index_of, declared_in, types_in}
 use Rattle.fb_st.specs.Compiled.{word_at}
-use Rattle.fb_st.specs.Placed.{held, values_at, value_of_word, name_at, name_or}
+use Rattle.fb_st.specs.Fitting.{held, values_at, value_of_word, name_at, name_or}
 use Rattle.fb_st.proofs.Indexes.{index_of_once}
 use Rattle.fb_st.proofs.Slots.{value_here, type_here, written}
 

@@ -8,7 +8,7 @@ use Rattle.fb_types.specs.declared.text.BinaryOperator.{BinaryOperator}
 use Rattle.fb_types.specs.declared.text.BinaryOperator.TheVariants.{Or, Xor, And, Equal, NotEqual, Less, Greater, LessOrEqual, GreaterOrEqual, Add, Subtract, Multiply, Divide, Modulo}
 use Rattle.fb_types.specs.declared.value.Reason.{Reason}
 use Rattle.fb_types.specs.declared.value.Value.TheVariants as value
-use Rattle.fb_st.specs.Wanted.{wholes}
+use Rattle.fb_st.specs.Required.{wholes}
 use Rattle.fb_st.specs.declared.compiled.NumberExpr as made
 use Rattle.fb_st.specs.declared.compiled.NumberExpr.TheOpen.{NumberExpr-F, TruthExpr-F}
 use Rattle.fb_st.specs.declared.compiled.TruthExpr as made_truth

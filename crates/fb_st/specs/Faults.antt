@@ -3,7 +3,7 @@ use Rattle.std.specs.Prelude.{ℤ, pos, Bool, Option, Some, None, Result, Ok, Er
 use Rattle.fb_types.specs.Values.{and_then}
 use Rattle.fb_types.specs.declared.value.Reason.{Reason}
 use Rattle.fb_types.specs.declared.value.Value.{Value}
-use Rattle.fb_st.specs.Wanted.{truths}
+use Rattle.fb_st.specs.Required.{truths}
 
 -- a number, where no reason was met
 abbrev pub met : Option Reason → ℤ → Result ℤ Reason
@@ -16,10 +16,10 @@ after None next = next
 after (Some r) next = Err r
 
 -- the number that a truth value is
-abbrev pub zero_if_told : Result Bool Reason → Result ℤ Reason
-zero_if_told t = and_then t (λ b. Ok (pos 0))
+abbrev pub zero_if_known : Result Bool Reason → Result ℤ Reason
+zero_if_known t = and_then t (λ b. Ok (pos 0))
 
 -- the truth value of a value, unless a reason was met before
-abbrev pub told_after : Option Reason → Result Value Reason → Result Bool Reason
-told_after None next = truths next
-told_after (Some r) next = Err r
+abbrev pub truth_after : Option Reason → Result Value Reason → Result Bool Reason
+truth_after None next = truths next
+truth_after (Some r) next = Err r

@@ -1,7 +1,7 @@
 -- Variables as a frame keeps them: by words, and by values where these are not of their types (this project's own).
 use Rattle.std.specs.Prelude.{ℤ, List, [], ◌∷◌, Bool, unwrap_or, is_none}
 use Rattle.std.specs.List.{list_all}
-use Rattle.fb_st.specs.Placed.{value_of_word}
+use Rattle.fb_st.specs.Fitting.{value_of_word}
 use Rattle.fb_st.specs.declared.frame.Slot.{Slot}
 use Rattle.fb_st.specs.declared.slot_list.Kept.{Kept}
 

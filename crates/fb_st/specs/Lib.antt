@@ -1,10 +1,10 @@
 pub mod Faults
 pub mod Flows
 pub mod Frames
-pub mod Wanted
+pub mod Required
 pub mod Known
 pub mod Variables
 pub mod Compiled
-pub mod Placed
+pub mod Fitting
 pub mod Made
 pub mod Kept

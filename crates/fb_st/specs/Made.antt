@@ -6,7 +6,7 @@ use Rattle.fb_types.specs.declared.text.BinaryOperator.{BinaryOperator}
 use Rattle.fb_types.specs.declared.text.Label.{Label}
 use Rattle.fb_st.specs.Compiled.{number_said, truth_said}
 use Rattle.fb_st.specs.Frames.{Declared}
-use Rattle.fb_st.specs.Placed.{arm_said, arms_right, code_right, code_said, codes_right, count_right, expr_of_number, expr_of_truth, fork_said, forks_right, name_at, right_number, right_truth}
+use Rattle.fb_st.specs.Fitting.{arm_said, arms_right, code_right, code_said, codes_right, count_right, expr_of_number, expr_of_truth, fork_said, forks_right, name_at, right_number, right_truth}
 use Rattle.fb_st.specs.declared.compiled.CompiledBranch.{CompiledBranch}
 use Rattle.fb_st.specs.declared.compiled.CompiledChoice.{CompiledChoice}
 use Rattle.fb_st.specs.declared.compiled.CompiledStmt.{CompiledStmt}

@@ -2,9 +2,9 @@
 
 ghost use Rattle.std.specs.Prelude.{◌≡◌, map, IfOk, IfSome};
 ghost use Rattle.fb_types.specs.Syntax.{Call, Variable, expr_of, exprs};
-ghost use Rattle.fb_st.specs.Wanted.{gives_number};
+ghost use Rattle.fb_st.specs.Required.{gives_number};
 ghost use Rattle.fb_st.specs.Compiled.{Binary, Compared, Constant, Slot, is_comparison, is_joint, number_said, truth_said};
-ghost use Rattle.fb_st.specs.Placed.{is_plain, is_truth, is_unsigned};
+ghost use Rattle.fb_st.specs.Fitting.{is_plain, is_truth, is_unsigned};
 ghost use Rattle.fb_st.specs.Made.{SaysNumber, SaysTruth, binary_of, call_of_one, call_of_three, call_of_two};
 
 use crate::compiled::{NumberExpr, TruthExpr};

@@ -3,7 +3,7 @@
 ghost use Rattle.std.specs.Prelude.{◌≡◌, map, IfOk};
 ghost use Rattle.fb_types.specs.Syntax.{Assign, expr_of, step_of, stmt_of};
 ghost use Rattle.fb_st.specs.Flows.{branch_of, choice_of};
-ghost use Rattle.fb_st.specs.Placed.{is_long};
+ghost use Rattle.fb_st.specs.Fitting.{is_long};
 ghost use Rattle.fb_st.specs.Made.{SaysAll, SaysBranches, SaysChoices, SaysCount, SaysNumber, SaysStmt};
 
 use crate::compile_expr::{CompileError, compile_number, compile_truth, is_bool};

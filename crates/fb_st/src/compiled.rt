@@ -6,7 +6,7 @@
 
 use fb_types::{BinaryOperator, Boxed, Items, Label};
 
-/// An expression that comes to a whole number.
+/// An expression of a whole number.
 #[cycle(compiled_expr)]
 pub enum NumberExpr {
     /// A number of 64 bits.
@@ -98,7 +98,7 @@ impl Drop for NumberExpr {
     }
 }
 
-/// An expression that comes to a truth value.
+/// An expression of a truth value.
 #[cycle(compiled_expr)]
 pub enum TruthExpr {
     Known(bool),

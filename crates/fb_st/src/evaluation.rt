@@ -6,7 +6,7 @@ ghost use Rattle.fb_types.specs.Syntax.{expr_of, exprs};
 ghost use Rattle.fb_types.specs.Values.{truth_of, value_of, values_of as values_of_all, and_then, value_if_known, function_named};
 ghost use Rattle.fb_st.specs.Frames.{values_of};
 ghost use Rattle.fb_st.specs.Faults.{after, met};
-ghost use Rattle.fb_st.specs.Wanted.{wholes, truths, as_whole, as_bool, false_if_known, both, told_joined, told_equal};
+ghost use Rattle.fb_st.specs.Required.{wholes, truths, as_whole, as_bool, false_if_known, both, join_truths, equality_of};
 
 use crate::fault::{compared, keep_fault, keep_truth_fault, keep_value_fault};
 use crate::frame::Frame;
@@ -103,7 +103,7 @@ fn operand(expr: &Expr, frame: &Frame, fault: &mut Option<Reason>) -> i128
 }
 
 /// The truth value of an expression. A whole number, which no accepted text has where a truth value is
-/// wanted, counts as FALSE.
+/// required, counts as FALSE.
 #[cycle(eval)]
 fn truth(expr: &Expr, frame: &Frame) -> Result<bool, Reason>
     ensures { result ≡ truths (value_of (expr_of expr.now) (values_of frame.now)) }
@@ -163,7 +163,7 @@ fn joined_truths(
     right: &Expr,
     frame: &Frame,
 ) -> Result<bool, Reason>
-    ensures { result ≡ told_joined operator (truths (value_of (expr_of left.now) (values_of frame.now))) (truths (value_of (expr_of right.now) (values_of frame.now))) }
+    ensures { result ≡ join_truths operator (truths (value_of (expr_of left.now) (values_of frame.now))) (truths (value_of (expr_of right.now) (values_of frame.now))) }
 {
     let first = truth(left, frame)?;
     Ok(joined(operator, first, truth(right, frame)?))
@@ -182,11 +182,11 @@ fn both_values(left: &Expr, right: &Expr, frame: &Frame) -> Result<(Value, Value
 /// Whether two operands have the same value, where that is required, or else whether they have not.
 #[cycle(eval)]
 #[inline(always)]
-fn are_equal(left: &Expr, right: &Expr, wanted: bool, frame: &Frame) -> Result<bool, Reason>
-    ensures { result ≡ told_equal wanted (value_of (expr_of left.now) (values_of frame.now)) (value_of (expr_of right.now) (values_of frame.now)) }
+fn are_equal(left: &Expr, right: &Expr, expected: bool, frame: &Frame) -> Result<bool, Reason>
+    ensures { result ≡ equality_of expected (value_of (expr_of left.now) (values_of frame.now)) (value_of (expr_of right.now) (values_of frame.now)) }
 {
     let (first, second) = both_values(left, right, frame)?;
-    Ok(are_same(first, second) == wanted)
+    Ok(are_same(first, second) == expected)
 }
 /// The function of this name at its arguments.
 #[cycle(eval)]

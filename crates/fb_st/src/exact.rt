@@ -4,7 +4,7 @@
 ghost use Rattle.std.specs.Prelude.{◌≡◌, ◌<◌, true, length, Ok, pos, ◌+ℤ◌};
 ghost use Rattle.std.specs.Int.{int_min, int_max};
 ghost use Rattle.fb_types.specs.Values.{absolute, judged};
-ghost use Rattle.fb_st.specs.Wanted.{wholes};
+ghost use Rattle.fb_st.specs.Required.{wholes};
 ghost use Rattle.fb_st.specs.Compiled.{number_said, truth_said, number_at, truth_at, fits_number, fits_truth, two_numbers, compared_by, joined_by, word_at, unsigned_of};
 
 use crate::compiled::{NumberExpr, TruthExpr};

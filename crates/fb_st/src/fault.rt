@@ -2,10 +2,10 @@
 
 ghost use Rattle.std.specs.Prelude.{◌≡◌, Err, false};
 ghost use Rattle.fb_types.specs.Values.{binary_value};
-ghost use Rattle.fb_st.specs.Faults.{after, met, told_after, zero_if_told};
-ghost use Rattle.fb_st.specs.Wanted.{gives_number, wholes};
+ghost use Rattle.fb_st.specs.Faults.{after, met, truth_after, zero_if_known};
+ghost use Rattle.fb_st.specs.Required.{gives_number, wholes};
 
-use crate::operator::{is_told, whole_of};
+use crate::operator::{comparison_holds, whole_of};
 use fb_types::{BinaryOperator, Reason, Value};
 
 /// Keeps a reason, unless there is one. The number is of no use then.
@@ -44,7 +44,7 @@ pub fn keep_value_fault(value: Result<Value, Reason>, fault: &mut Option<Reason>
 /// The number that a truth value is, which is 0, or the reason why there is none.
 #[inline(always)]
 pub fn keep_truth_fault(truth: Result<bool, Reason>, fault: &mut Option<Reason>) -> i128
-    ensures { met fault.new result ≡ after fault.old (zero_if_told truth) }
+    ensures { met fault.new result ≡ after fault.old (zero_if_known truth) }
 {
     match truth {
         Ok(_) => 0,
@@ -60,10 +60,10 @@ pub fn compared(
     y: i128,
     fault: Option<Reason>,
 ) -> Result<bool, Reason>
-    ensures { gives_number operator ≡ false → result ≡ told_after fault (binary_value operator (Value.Whole x) (Value.Whole y)) }
+    ensures { gives_number operator ≡ false → result ≡ truth_after fault (binary_value operator (Value.Whole x) (Value.Whole y)) }
 {
     match fault {
-        None => Ok(is_told(operator, x, y)),
+        None => Ok(comparison_holds(operator, x, y)),
         Some(reason) => Err(reason),
     }
 }

@@ -7,7 +7,7 @@ ghost use Rattle.fb_types.specs.Repeated.{Twice};
 ghost use Rattle.fb_types.specs.Values.{fits, truth_of, whole};
 ghost use Rattle.fb_st.specs.Compiled.{truth_said};
 ghost use Rattle.fb_st.specs.Flows.{end_of, point};
-ghost use Rattle.fb_st.specs.Placed.{codes_right, codes_said, expr_of_truth, right_truth};
+ghost use Rattle.fb_st.specs.Fitting.{codes_right, codes_said, expr_of_truth, right_truth};
 ghost use Rattle.fb_st.specs.Variables.{least_of, most_of};
 ghost use Rattle.fb_st.specs.Frames.{values_of, declared_in, is_declared, names_of, types_in};
 

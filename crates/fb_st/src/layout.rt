@@ -3,7 +3,7 @@
 ghost use Rattle.std.specs.Prelude.{◌≡◌, ◌<◌, map, true, false, length, IfOk, IfErr};
 ghost use Rattle.fb_types.specs.Repeated.{Twice};
 ghost use Rattle.fb_types.specs.Values.{fits, whole};
-ghost use Rattle.fb_st.specs.Placed.{name_at, ty_at, value_of_word};
+ghost use Rattle.fb_st.specs.Fitting.{name_at, ty_at, value_of_word};
 
 use crate::exact;
 use fb_types::{Name, Reason, Ty, Value};

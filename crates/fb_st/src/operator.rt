@@ -2,7 +2,7 @@
 
 ghost use Rattle.std.specs.Prelude.{◌≡◌, false, ◌+ℤ◌, ◌-ℤ◌, ◌*ℤ◌, neg_ℤ, int_div, int_rem, IfSome};
 ghost use Rattle.fb_types.specs.Values.{judged, bool_result, whole, truth, binary_value, same_value, quotient, modulus};
-ghost use Rattle.fb_st.specs.Wanted.{wholes, gives_number, both_joined};
+ghost use Rattle.fb_st.specs.Required.{wholes, gives_number, both_joined};
 
 use fb_types::{BinaryOperator, Reason, Value};
 
@@ -165,7 +165,7 @@ pub fn number_of_two(operator: BinaryOperator, x: i128, y: i128) -> Result<i128,
 
 /// The truth value that an operator gives at two numbers, where it does not give a number.
 #[inline(always)]
-pub fn is_told(operator: BinaryOperator, x: i128, y: i128) -> bool
+pub fn comparison_holds(operator: BinaryOperator, x: i128, y: i128) -> bool
     ensures { gives_number operator ≡ false → binary_value operator (Value.Whole x) (Value.Whole y) ≡ bool_result result }
 {
     match operator {

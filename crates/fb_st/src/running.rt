@@ -8,7 +8,7 @@ ghost use Rattle.fb_types.specs.Repeated.{Twice};
 ghost use Rattle.fb_st.specs.Frames.{types_in};
 ghost use Rattle.fb_st.specs.Flows.{end_of};
 ghost use Rattle.fb_st.specs.Compiled.{number_said, truth_said, number_at, truth_at, fits_number, fits_truth, word_at};
-ghost use Rattle.fb_st.specs.Placed.{spot, begun, values_at, name_at, expr_of_number, expr_of_truth, is_long_type, is_within_type, is_truth_type, right_number, right_truth, code_said, codes_said, arms_said, forks_said, code_right, codes_right, arms_right, forks_right, count_right};
+ghost use Rattle.fb_st.specs.Fitting.{spot, begun, values_at, name_at, expr_of_number, expr_of_truth, is_long_type, is_within_type, is_truth_type, right_number, right_truth, code_said, codes_said, arms_said, forks_said, code_right, codes_right, arms_right, forks_right, count_right};
 
 use crate::assign::is_any_around;
 use crate::compiled::{

@@ -1,7 +1,7 @@
 //! Finds the slots of names while algorithms and guards are compiled.
 
 ghost use Rattle.std.specs.Prelude.{◌≡◌, ◌<◌, length, IfSome, IfOk};
-ghost use Rattle.fb_st.specs.Placed.{name_at, ty_at};
+ghost use Rattle.fb_st.specs.Fitting.{name_at, ty_at};
 
 use crate::layout::Layout;
 use fb_types::{Name, Ty};

@@ -9,7 +9,7 @@ ghost use Rattle.fb_types.specs.Values.{fits, truth_of};
 ghost use Rattle.fb_st.specs.Compiled.{truth_said};
 ghost use Rattle.fb_st.specs.Flows.{end_of, point};
 ghost use Rattle.fb_st.specs.Frames.{declared_in, index_of, names_of, types_in, values_of};
-ghost use Rattle.fb_st.specs.Placed.{codes_right, codes_said, expr_of_truth, right_truth, value_of_word};
+ghost use Rattle.fb_st.specs.Fitting.{codes_right, codes_said, expr_of_truth, right_truth, value_of_word};
 
 use crate::compiled::{CompiledStmt, TruthExpr};
 use crate::exact;

@@ -1,4 +1,4 @@
--- The initial values of the variables of an instance, for the inputs that a system stands for.
+-- The initial values of the variables of an instance, for the inputs that a system represents.
 use Rattle.std.proofs.Common.{◌≡◌, ℕ, List, [], map, Option, Some, None, refl, sym, ◌∙◌, ap, subst}
 use Rattle.std.specs.Prelude.{option_and_then}
 use Rattle.fb_types.specs.Names.{Path}

@@ -6,7 +6,7 @@ use Rattle.std.proofs.lemmas.List.Elements.{Contains-append_left, Contains-appen
 use Rattle.fb_types.specs.Names.{Name, Path}
 use Rattle.fb_types.specs.Blocks.{Kind, Event, variable_names, ports_of, ports_of_event_block}
 use Rattle.fb_types.specs.Flat.{kind_of, type_named, kind_at, kind_of_instance, instance_at, resource_names_of}
-use Rattle.fb_types.specs.Repeated.{Twice, Placed, NameTwice, networks, port_names, internals_of, name_spaces, block_type_names, algorithm_names, state_names, basics, instance_names, with_lists, interfaces, parameter_lists}
+use Rattle.fb_types.specs.Repeated.{Twice, OwnedNetwork, NameTwice, networks, port_names, internals_of, name_spaces, block_type_names, algorithm_names, state_names, basics, instance_names, with_lists, interfaces, parameter_lists}
 use Rattle.fb_types.specs.Unknown.{event_ins, event_outs, data_ins, data_outs}
 use Rattle.fb_types.specs.declared.library.Library.{Library}
 use Rattle.fb_types.specs.declared.library.BlockType.{BlockType}
@@ -86,7 +86,7 @@ among_types lib plan ns h =
     let states = map state_names (basics lib) in
     let instances = instances_space lib in
     let withs = flat_map with_lists (interfaces lib) in
-    let parameters = flat_map (λ (n : Placed). parameter_lists n.1) (networks lib) in
+    let parameters = flat_map (λ (n : OwnedNetwork). parameter_lists n.1) (networks lib) in
     Contains-append_left (types ++ algorithms ++ states ++ instances ++ withs ++ parameters) (resource_names_of plan ∷ []) ns
     (Contains-append_left (types ++ algorithms ++ states ++ instances ++ withs) parameters ns
     (Contains-append_left (types ++ algorithms ++ states ++ instances) withs ns
@@ -101,18 +101,18 @@ among_instances lib plan ns h =
     let states = map state_names (basics lib) in
     let instances = instances_space lib in
     let withs = flat_map with_lists (interfaces lib) in
-    let parameters = flat_map (λ (n : Placed). parameter_lists n.1) (networks lib) in
+    let parameters = flat_map (λ (n : OwnedNetwork). parameter_lists n.1) (networks lib) in
     Contains-append_left (types ++ algorithms ++ states ++ instances ++ withs ++ parameters) (resource_names_of plan ∷ []) ns
     (Contains-append_left (types ++ algorithms ++ states ++ instances ++ withs) parameters ns
     (Contains-append_left (types ++ algorithms ++ states ++ instances) withs ns
     (Contains-append_right (types ++ algorithms ++ states) instances ns h)))
 
 -- the names of the instances of each network differ
-pub instances_once : (lib : Library) (plan : Plan) (n : Placed) → ¬ (NameTwice lib plan) → Contains (networks lib) n → ¬ (Twice (instance_names n.1))
+pub instances_once : (lib : Library) (plan : Plan) (n : OwnedNetwork) → ¬ (NameTwice lib plan) → Contains (networks lib) n → ¬ (Twice (instance_names n.1))
 instances_once lib plan n once there twice =
     once (inl (
       instance_names n.1,
-      among_instances lib plan (instance_names n.1) (Contains-map (λ (n : Placed). instance_names n.1) (networks lib) n there),
+      among_instances lib plan (instance_names n.1) (Contains-map (λ (n : OwnedNetwork). instance_names n.1) (networks lib) n there),
       twice,
     ))
 

@@ -6,7 +6,7 @@ use Rattle.std.proofs.lemmas.List.{length-append}
 use Rattle.std.proofs.lemmas.List.Elements.{Contains-append_left, Contains-append_cases}
 use Rattle.fb_types.specs.Names.{Name, Path, same_path}
 use Rattle.fb_types.specs.Flat.{inside, paths_inside}
-use Rattle.fb_types.specs.Repeated.{Twice, Placed, networks, instance_names}
+use Rattle.fb_types.specs.Repeated.{Twice, OwnedNetwork, networks, instance_names}
 use Rattle.fb_types.specs.declared.library.Library.{Library}
 use Rattle.fb_types.specs.declared.library.Instance.{Instance}
 use Rattle.fb_types.specs.declared.library.Network.{Network}
@@ -97,7 +97,7 @@ below_through (suc d) lib p (Some net) q h =
 
 -- the names in each network differ
 pub record AreOnce (lib : Library) : Type 0 where
-  pub each : (n : Placed) → Contains (networks lib) n → ¬ (Twice (instance_names n.1))
+  pub each : (n : OwnedNetwork) → Contains (networks lib) n → ¬ (Twice (instance_names n.1))
 
 once_each :
     (d : ℕ) (lib : Library) (p : Path) (is : List Instance) → ¬ (Twice (map (λ (i : Instance). i.name) is))
@@ -129,7 +129,7 @@ once_each d lib p (i ∷ is) once inner t =
     ]
 
 below_once :
-    (d : ℕ) (lib : Library) (p : Path) (i : Instance) → ((n : Placed) → Contains (networks lib) n → ¬ (Twice (paths_inside d lib p n.1)))
+    (d : ℕ) (lib : Library) (p : Path) (i : Instance) → ((n : OwnedNetwork) → Contains (networks lib) n → ¬ (Twice (paths_inside d lib p n.1)))
     → ¬ (Twice (below d lib p (inside lib i)))
 below_once d lib p i once =
     elim (inside lib i) as (λ o. inside lib i ≡ o → ¬ (Twice (below d lib p o))) [
@@ -137,7 +137,7 @@ below_once d lib p i once =
       | Some net ↦ λ e. let known = network_known lib i net e in once (Some known.0, net) known.1
     ] refl
 
-pub paths_once : (d : ℕ) (lib : Library) (p : Path) (n : Placed) → AreOnce lib → Contains (networks lib) n → ¬ (Twice (paths_inside d lib p n.1))
+pub paths_once : (d : ℕ) (lib : Library) (p : Path) (n : OwnedNetwork) → AreOnce lib → Contains (networks lib) n → ¬ (Twice (paths_inside d lib p n.1))
 paths_once zero lib p n once h = λ t. t
 paths_once (suc d) lib p n once h =
     once_each d lib p n.1.instances (once.each n h) (λ i. below_once d lib (i.name ∷ p) i (λ n h. paths_once d lib (i.name ∷ p) n once h))

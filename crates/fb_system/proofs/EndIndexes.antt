@@ -1,4 +1,4 @@
--- What the numbers of a connection's end stand for, in the network at a path.
+-- What the numbers of a connection's end represent, in the network at a path.
 use Rattle.std.proofs.Common.{◌≡◌, ◌&&◌, ℕ, suc, true, false, List, [], ◌∷◌, map, length, Option, Some, None, refl, sym, ◌∙◌, ap, subst, inl, inr, arith}
 use Rattle.std.specs.Prelude.{slice_get, option_map, option_and_then, position, nat_eq}
 use Rattle.std.proofs.lemmas.Bool.{cases_eq, ne_eqb, eq-eqb, false_from_ne_true, true≢false}
@@ -120,7 +120,7 @@ pub side_once : (component boundary : Ports → List Name) (c : Option ℕ) (p :
 side_once component boundary None p d = d.second_once
 side_once component boundary (Some j) p d = d.first_once
 
--- ends stand for one port exactly if they are the same
+-- ends represent one port exactly if they are the same
 pub ends_there :
     (lib : Library) (p : Path) (net : Network) (component boundary : Ports → List Name) (e f : ConnectionEnd) (q r : Port) → network_at lib p ≡ Some net
     → ¬ (Twice (instance_names net)) → AreApart lib component boundary → IsEndOf lib p component boundary e q → IsEndOf lib p component boundary f r
@@ -196,7 +196,7 @@ component_there lib p net component boundary e c w is h =
       name = name_there (component (ports_of k.0)) e.port j.0 j.1;
     })
 
--- an end stands for the port that its names stand for
+-- an end represents the port that its names represent
 pub end_there :
     (lib : Library) (p : Path) (net : Network) (component boundary : Ports → List Name) (e : PortName) (w : ConnectionEnd) → network_at lib p ≡ Some net
     → end_number lib (composite_of (kind_at lib p), net) component boundary e ≡ Some w → IsEndOf lib p component boundary w (port_in p e)

@@ -18,7 +18,7 @@ use Rattle.fb_types.specs.declared.library.Ports.{Ports}
 use Rattle.fb_types.proofs.AllKinds.{kinds, kind_stands}
 use Rattle.fb_types.proofs.LoopSteps.{map_take_more}
 use Rattle.fb_system.specs.declared.with_indexes.WithIndexes.{WithIndexes}
-use Rattle.fb_system.specs.Stands.{AreIndexes, AreIndexesUpTo, AreIndexesOfEach, AreWithIndexes, variable_at}
+use Rattle.fb_system.specs.IndexLists.{AreIndexes, AreIndexesUpTo, AreIndexesOfEach, AreWithIndexes, variable_at}
 use Rattle.fb_types.proofs.ByIndex.{slice_get-push, element_at}
 use Rattle.fb_system.specs.Tables.{AreOfEventBlocks}
 

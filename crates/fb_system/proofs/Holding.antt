@@ -17,7 +17,7 @@ use Rattle.fb_system.proofs.Distinct.{below, below_through, IsThrough, paths_fro
 use Rattle.fb_system.specs.Layouts.{path_of, index_at, route_to}
 use Rattle.fb_types.proofs.Options.{some_from_is_some}
 use Rattle.fb_system.specs.Linking.{holder_at, IsLinked, Linked}
-use Rattle.fb_system.specs.Systems.{inputs_of, StandFor}
+use Rattle.fb_system.specs.Systems.{inputs_of, AreTables}
 use Rattle.fb_system.specs.declared.whole.Whole.{Whole}
 
 -- ---- Every path leads through an instance of the application
@@ -99,13 +99,13 @@ resource_by_index lib plan x k index linked h found =
 
 -- ---- In a system
 
-pub home_there : (v w : Whole) (i : Inputs) (k : ℕ) → StandFor w → v ≡ w → inputs_of w ≡ i → k < length (paths_of i.library) → k < length v.homes
+pub home_there : (v w : Whole) (i : Inputs) (k : ℕ) → AreTables w → v ≡ w → inputs_of w ≡ i → k < length (paths_of i.library) → k < length v.homes
 home_there v w i k is e s h =
     let lt : k < length (paths_of w.netlist) = subst (λ (i : Inputs). k < length (paths_of i.library)) (sym s) h in
     subst (λ (w : Whole). k < length w.homes) (sym e) (slice_get_within w.homes k (resource_of w.deploy (path_of w.netlist k)) (is.homes k lt))
 
 pub home_seen :
-    (v w : Whole) (i : Inputs) (k d : ℕ) → StandFor w → v ≡ w → inputs_of w ≡ i → k < length (paths_of i.library)
+    (v w : Whole) (i : Inputs) (k d : ℕ) → AreTables w → v ≡ w → inputs_of w ≡ i → k < length (paths_of i.library)
     → get_or v.homes k d ≡ resource_of i.plan (path_of i.library k)
 home_seen v w i k d is e s h =
     let lt : k < length (paths_of w.netlist) = subst (λ (i : Inputs). k < length (paths_of i.library)) (sym s) h in

@@ -115,7 +115,7 @@ inputs_begin lib plan p i k once h of =
     by_name (λ n. initial_at lib (record { at = p; name = n })) (begin_value i.parameters) (ports_of k).inputs
     (λ j v at. input_begins lib p i k j v (variables_once lib plan i.block_type k once of) h of at)
 
--- If in addition each name stands for something, `output_values` returns the initial values of the outputs.
+-- If in addition each name is known, `output_values` returns the initial values of the outputs.
 pub outputs_begin :
     (lib : Library) (plan : Plan) (p : Path) (i : Instance) (k : Kind) → ¬ (NameTwice lib plan) → ¬ (NameUnknown lib plan) → instance_at lib p ≡ Some i
     → kind_of_instance lib i ≡ Some k

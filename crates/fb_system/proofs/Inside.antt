@@ -69,7 +69,7 @@ network_known lib i net h =
 
 -- ---- Types by their numbers
 
--- a name and its number stand for one type
+-- a name and its number represent one type
 type_numbered : (lib : Library) (n : Name) → type_named lib n ≡ option_and_then (kind_of_number lib) (type_number lib n)
 type_numbered lib n =
     elim (named (λ e. e.0) n event_blocks) as
@@ -87,7 +87,7 @@ pub type_by_number :
     (lib : Library) (n : Name) (t : TypeNumber) → type_number lib n ≡ Some t → type_named lib n ≡ kind_of_number lib t
 type_by_number lib n t h = type_numbered lib n ∙ ap (option_and_then (kind_of_number lib)) h
 
--- the kind that a number stands for
+-- the kind that a number represents
 pub kind_known : (lib : Library) (n : Name) (t : TypeNumber) → type_number lib n ≡ Some t → (k : Kind) × (kind_of_number lib t ≡ Some k)
 kind_known lib n t =
     elim (named (λ e. e.0) n event_blocks) as

@@ -11,7 +11,7 @@ use Rattle.fb_types.specs.Systems.{System}
 use Rattle.fb_types.specs.declared.library.EventPort.{EventPort}
 use Rattle.fb_types.specs.declared.library.Variable.{Variable}
 use Rattle.fb_system.specs.Heads.{AreHeads, IsHead, IsRowOfHead, first_text}
-use Rattle.fb_system.specs.Stands.{AreIndexes, variable_at}
+use Rattle.fb_system.specs.IndexLists.{AreIndexes, variable_at}
 use Rattle.fb_system.specs.declared.heads.Head.{Head}
 use Rattle.fb_system.specs.declared.heads.HeadOf.{HeadOf}
 

@@ -4,14 +4,14 @@ use Rattle.std.proofs.lemmas.List.Elements.{All-nil}
 use Rattle.fb_types.specs.Headline.{Inputs, system_of}
 use Rattle.fb_system.specs.Ends.{AreSources, AreTargets, ComesFrom, LeadsTo}
 use Rattle.fb_system.specs.Heads.{AreHeads, IsRowOfHead}
-use Rattle.fb_system.specs.Systems.{HaveRows, inputs_of, IsBare, IsKept, StandFor}
+use Rattle.fb_system.specs.Systems.{HaveRows, inputs_of, IsBare, IsKept, AreTables}
 use Rattle.fb_system.specs.declared.ends.SourceRow.{SourceRow}
 use Rattle.fb_system.specs.declared.ends.TargetRow.{TargetRow}
 use Rattle.fb_system.specs.declared.heads.Head.{Head}
 use Rattle.fb_system.specs.declared.kept.Kept.{Kept}
 use Rattle.fb_system.specs.declared.whole.Whole.{Whole}
 
--- ---- The rows of the inputs that a system stands for
+-- ---- The rows of the inputs that a system represents
 
 pub rows_kept : (h : Kept) (v w : Whole) (i : Inputs) → h ≡ v.kept → v ≡ w → inputs_of w ≡ i → HaveRows w → IsKept i h
 rows_kept h v w i e f s is =
@@ -29,8 +29,8 @@ sources_seen v w i e s is = (rows_kept v.kept v w i refl e s is).sources
 
 -- ---- Making
 
--- Tables with these rows stand for what they stood for, with rows of the inputs that they stood for.
-pub with_rows : (u v w : Whole) (h : Kept) (i : Inputs) → u ≡ record v { kept = h } → v ≡ w → inputs_of w ≡ i → StandFor w → IsKept i h → HaveRows u
+-- Tables with these rows represent what they represented, with rows of the inputs that they represented.
+pub with_rows : (u v w : Whole) (h : Kept) (i : Inputs) → u ≡ record v { kept = h } → v ≡ w → inputs_of w ≡ i → AreTables w → IsKept i h → HaveRows u
 with_rows u v w h i e f s is rows =
     subst (λ (x : Whole). HaveRows x) (sym (e ∙ ap (λ (w : Whole). record w { kept = h }) f))
     (let all : IsKept (inputs_of w) h = subst (λ (i : Inputs). IsKept i h) (sym s) rows in
@@ -42,7 +42,7 @@ with_rows u v w h i e f s is rows =
     })
 
 -- a system without rows
-pub without_rows : (v w : Whole) → v ≡ w → IsBare w.kept → StandFor w → HaveRows v
+pub without_rows : (v w : Whole) → v ≡ w → IsBare w.kept → AreTables w → HaveRows v
 without_rows v w e bare is =
     let sys = system_of (inputs_of w) in
     subst (λ (x : Whole). HaveRows x) (sym e)

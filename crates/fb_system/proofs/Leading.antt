@@ -7,7 +7,7 @@ use Rattle.std.proofs.lemmas.Option.{same_Some}
 use Rattle.fb_types.specs.Names.{Name, Path, Port, same_port}
 use Rattle.fb_types.specs.Blocks.{Kind, ports_of}
 use Rattle.fb_types.specs.Flat.{kind_at, network_at, parent, port_in, pairs_in, first_of, events_inside, data_inside, targets_of, source_of}
-use Rattle.fb_types.specs.Repeated.{NameTwice, Placed}
+use Rattle.fb_types.specs.Repeated.{NameTwice, OwnedNetwork}
 use Rattle.fb_types.specs.Unknown.{event_ins, event_outs, data_ins, data_outs}
 use Rattle.fb_types.specs.declared.library.Library.{Library}
 use Rattle.fb_types.specs.declared.library.Connection.{Connection}
@@ -78,7 +78,7 @@ event_ends :
     (lib : Library) (p : Path) (net : Network) (c : Connection) (w : NumberedConnection) → network_at lib p ≡ Some net → event_wire lib (composite_of (kind_at lib p), net) c ≡ Some w
     → IsEndOf lib p event_outs event_ins w.from (port_in p c.from) × IsEndOf lib p event_ins event_outs w.to (port_in p c.to)
 event_ends lib p net c w is h =
-    let n : Placed = (composite_of (kind_at lib p), net) in
+    let n : OwnedNetwork = (composite_of (kind_at lib p), net) in
     let ends = both_parts (end_number lib n event_outs event_ins c.from) (end_number lib n event_ins event_outs c.to) w h in
     (end_there lib p net event_outs event_ins c.from w.from is ends.0, end_there lib p net event_ins event_outs c.to w.to is ends.1)
 
@@ -86,7 +86,7 @@ data_ends :
     (lib : Library) (p : Path) (net : Network) (c : Connection) (w : NumberedConnection) → network_at lib p ≡ Some net → data_wire lib (composite_of (kind_at lib p), net) c ≡ Some w
     → IsEndOf lib p data_outs data_ins w.from (port_in p c.from) × IsEndOf lib p data_ins data_outs w.to (port_in p c.to)
 data_ends lib p net c w is h =
-    let n : Placed = (composite_of (kind_at lib p), net) in
+    let n : OwnedNetwork = (composite_of (kind_at lib p), net) in
     let ends = both_parts (end_number lib n data_outs data_ins c.from) (end_number lib n data_ins data_outs c.to) w h in
     (end_there lib p net data_outs data_ins c.from w.from is ends.0, end_there lib p net data_ins data_outs c.to w.to is ends.1)
 
@@ -102,7 +102,7 @@ no_events lib p is = ap (λ (o : Option Network). elim o as (λ _. List (Port ×
 pub no_data : (lib : Library) (p : Path) → network_at lib p ≡ None → data_inside lib p ≡ []
 no_data lib p is = ap (λ (o : Option Network). elim o as (λ _. List (Port × Port)) [ None ↦ [] | Some net ↦ pairs_in p net.data_connections ]) is
 
--- The targets by numbers stand for those by names, one by one.
+-- The targets by numbers represent those by names, one by one.
 pub targets_there :
     (lib : Library) (plan : Plan) (p : Path) (x : NetworkNumbers) (e : ConnectionEnd) (q : Port) → ¬ (NameTwice lib plan) → IsWired lib p x
     → IsEndOf lib p event_outs event_ins e q

@@ -1,4 +1,4 @@
--- What the numbers of resources and links stand for.
+-- What the numbers of resources and links represent.
 use Rattle.std.proofs.Common.{◌≡◌, ℕ, zero, suc, ◌<◌, ◌+◌, Bool, true, false, cond, nat_eq, ◌&&◌, List, [], ◌∷◌, length, map, get_or, Option, Some, None, refl, sym, ◌∙◌, ap, inl, arith}
 use Rattle.std.specs.Prelude.{position, slice_get, unwrap_or, option_map}
 use Rattle.std.proofs.lemmas.Bool.{true≢false, false_from_ne_true}

@@ -21,8 +21,8 @@ use Rattle.fb_types.proofs.Positions.{is_some-position, position_is, position_of
 use Rattle.fb_types.proofs.Elements.{Contains-here, Contains-there, Contains-map, map-Contains}
 use Rattle.fb_types.proofs.NameLaws.{same_name-itself, same_from_same_name, any_from_contains, contains_from_any}
 use Rattle.fb_types.proofs.Options.{some_from_is_some}
-use Rattle.fb_system.specs.Stands.{AreIndexes, variable_at}
-use Rattle.fb_system.specs.Lookups.{StandFrom, IsList, AreEvents}
+use Rattle.fb_system.specs.IndexLists.{AreIndexes, variable_at}
+use Rattle.fb_system.specs.Lookups.{AreIndexedFrom, IsList, AreEvents}
 use Rattle.fb_system.proofs.Rising.{AreOnce, once_nil, once_cons, once_permuted, sorted_filter}
 
 abbrev name_of : Variable → Name
@@ -51,7 +51,7 @@ known_at vs n c =
     }
 
 known_index :
-    (vs : List Variable) (indexes : BTreeMap (Bor Name) ℕ) (first : ℕ) (n : Name) → StandFrom first vs indexes → Contains (variable_names vs) n
+    (vs : List Variable) (indexes : BTreeMap (Bor Name) ℕ) (first : ℕ) (n : Name) → AreIndexedFrom first vs indexes → Contains (variable_names vs) n
     → index_in indexes n ≡ Some (first + own_index vs n)
 known_index vs indexes first n stand c =
     let at = known_at vs n c in
@@ -62,7 +62,7 @@ known_within vs n c = let at = known_at vs n c in slice_get_within vs (own_index
 
 -- the lookup of the name at an index of a list, that there are variables, and that its own index is one of them
 pub found_index :
-    (vs : List Variable) (indexes : BTreeMap (Bor Name) ℕ) (first : ℕ) (list : List Name) (i : ℕ) (n b : Name) (o : Option ℕ) → StandFrom first vs indexes
+    (vs : List Variable) (indexes : BTreeMap (Bor Name) ℕ) (first : ℕ) (list : List Name) (i : ℕ) (n b : Name) (o : Option ℕ) → AreIndexedFrom first vs indexes
     → IsList vs list → i < length list → n ≡ get_or list i n → b ≡ n → o ≡ index_in indexes b → (o ≡ Some (first + own_index vs n)) × (0 < length vs) × (own_index vs n < length vs)
 found_index vs indexes first list i n b o stand is h e same looked =
     let listed : Contains list n = subst (λ (m : Name). Contains list m) (sym e) (Contains-get_or list i n h) in
@@ -105,7 +105,7 @@ own_once vs (n ∷ ns) once known =
 
 -- sorted, the indices of the names of a list are those of the variables that it names
 pub list_indexes :
-    (vs : List Variable) (indexes : BTreeMap (Bor Name) ℕ) (first : ℕ) (list : List Name) (found ks : List ℕ) → StandFrom first vs indexes → IsList vs list
+    (vs : List Variable) (indexes : BTreeMap (Bor Name) ℕ) (first : ℕ) (list : List Name) (found ks : List ℕ) → AreIndexedFrom first vs indexes → IsList vs list
     → found ≡ map (own_index vs) list → IsPermutation found ks → IsSorted nat_cmp ks → AreIndexes vs (filter (among list) (variable_names vs)) ks
 list_indexes vs indexes first list found ks stand is made moved sorted =
     let up : IsNonDecreasing ks = IsNonDecreasingBy-from_sort (λ (k : ℕ). k) ks sorted in

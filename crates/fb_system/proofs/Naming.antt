@@ -7,8 +7,8 @@ use Rattle.std.proofs.lemmas.Option.{same_Some}
 use Rattle.fb_types.specs.Names.{Name, Path}
 use Rattle.fb_types.specs.Blocks.{Kind, Event, named, event_blocks, event_names, ports_of, variable_names}
 use Rattle.fb_types.specs.Flat.{kind_of, type_name, type_named, network_of, instance_in, kind_of_instance, inside, network_at, instance_at}
-use Rattle.fb_types.specs.Repeated.{Twice, Placed, NameTwice, networks, networks_in, internals_of, port_names, parameter_lists}
-use Rattle.fb_types.specs.Unknown.{NameUnknown, Wanted, all_of, data_ins, required_parameters, required_types}
+use Rattle.fb_types.specs.Repeated.{Twice, OwnedNetwork, NameTwice, networks, networks_in, internals_of, port_names, parameter_lists}
+use Rattle.fb_types.specs.Unknown.{NameUnknown, Required, all_of, data_ins, required_parameters, required_types}
 use Rattle.fb_types.specs.declared.event_kind.EventKind.{EventKind}
 use Rattle.fb_types.specs.declared.deploy.Plan.{Plan}
 use Rattle.fb_types.specs.declared.library.BlockType.{BlockType}
@@ -56,7 +56,7 @@ record IsBlock (lib : Library) (k : Kind) : Type 0 where
   pub is : kind_of type ≡ k
   pub there : Contains lib.blocks type
 
--- a name stands for an event block or for a type of the declaration
+-- a name represents an event block or for a type of the declaration
 kind_cases : (lib : Library) (n : Name) (k : Kind) → type_named lib n ≡ Some k → ((e : EventKind) × (Event e ≡ k)) ⊎ IsBlock lib k
 kind_cases lib n k h =
     elim (named (λ (e : Name × EventKind). e.0) n event_blocks) as
@@ -88,7 +88,7 @@ inputs_once lib plan n k once h t =
 
 -- A network of the declaration.
 record IsMember (lib : Library) (net : Network) : Type 0 where
-  pub placed : Placed
+  pub placed : OwnedNetwork
   pub there : Contains (networks lib) placed
   pub is : placed.1 ≡ net
   pub twice : (plan : Plan) → NetworkTwice net → NameTwice lib plan
@@ -96,7 +96,7 @@ record IsMember (lib : Library) (net : Network) : Type 0 where
 composite_member : (lib : Library) (net : Network) (t : BlockType) → Contains lib.blocks t → network_of (kind_of t) ≡ Some net → IsMember lib net
 composite_member lib net (block.Basic b) c h = absurd (cc)
 composite_member lib net (block.Composite b) c h =
-    let placed : Placed = (Some b, b.network) in
+    let placed : OwnedNetwork = (Some b, b.network) in
     record {
       placed = placed;
       there = Contains-there (None, lib.application.network) (flat_map networks_in lib.blocks) placed
@@ -118,7 +118,7 @@ inside_member lib i net h =
 
 network_member : (lib : Library) (p : Path) (net : Network) → network_at lib p ≡ Some net → IsMember lib net
 network_member lib [] net h =
-    let placed : Placed = (None, lib.application.network) in
+    let placed : OwnedNetwork = (None, lib.application.network) in
     let same : lib.application.network ≡ net = same_Some lib.application.network net h in
     record {
       placed = placed;
@@ -174,12 +174,12 @@ pub parameter_unknown :
 parameter_unknown lib plan p i k n known h of other c =
     let at = instance_placed lib p i h in
     let ins = variable_names (ports_of k).inputs in
-    let w : Wanted = (n, ins) in
+    let w : Required = (n, ins) in
     let here : Contains (all_of (parameter_names i.parameters) ins) w = Contains-map (λ (n : Name). (n, ins)) (parameter_names i.parameters) n c in
-    let wanted : Contains (required_parameters lib i) w =
-    subst (λ (o : Option Kind). Contains (elim o as (λ _. List Wanted) [ None ↦ [] | Some k ↦ all_of (parameter_names i.parameters) (variable_names (ports_of k).inputs) ]) w)
+    let required : Contains (required_parameters lib i) w =
+    subst (λ (o : Option Kind). Contains (elim o as (λ _. List Required) [ None ↦ [] | Some k ↦ all_of (parameter_names i.parameters) (variable_names (ports_of k).inputs) ]) w)
     (sym of) here in
-    let inside_net = Contains-flat_map (required_parameters lib) at.network.instances i w at.there wanted in
+    let inside_net = Contains-flat_map (required_parameters lib) at.network.instances i w at.there required in
     let all : Contains (flat_map (required_parameters lib) at.member.placed.1.instances) w =
     subst (λ (net : Network). Contains (flat_map (required_parameters lib) net.instances) w) (sym at.member.is) inside_net in
     known (of_network lib plan at.member.placed at.member.there

@@ -183,7 +183,7 @@ rising_filter name_at test (n ∷ ns) low high ks e up are =
           (kept_rest name_at test low n ns ks ks are (λ i lt c. c) (λ i c. c))
     ] refl
 
--- what a sort leaves of indices that differ
+-- what sorting leaves of indices that differ
 pub sorted_filter :
     (name_at : ℕ → Name) (test : Name → Bool) (ns : List Name) (ks : List ℕ) → IsNonDecreasing ks → AreOnce ks
     → ((k : ℕ) → Contains ks k → k < length ns) → AreKept name_at test 0 ns ks → map name_at ks ≡ filter test ns

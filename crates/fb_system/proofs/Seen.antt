@@ -1,4 +1,4 @@
--- What the tables say of the inputs that a system stands for.
+-- What the tables say of the inputs that a system represents.
 use Rattle.std.proofs.Common.{◌≡◌, ℕ, ◌<◌, ◌≤◌, ◌+◌, List, [], length, get_or, Option, Some, None, Ok, refl, sym, ◌∙◌, ap, subst, inl, inr}
 use Rattle.std.specs.Prelude.{IfOk, IfSome, IsTrue, ◌↔◌, Result, option_map, slice_get}
 use Rattle.std.proofs.lemmas.Bool.{cases_lt}
@@ -31,7 +31,7 @@ use Rattle.fb_system.specs.Rows.{AreRows}
 use Rattle.fb_system.specs.declared.rows.StimulusRow.{StimulusRow}
 use Rattle.fb_system.specs.Linking.{AreHomes, IsLinked, Linked, link_at, receiver_at, sender_at}
 use Rattle.fb_system.specs.Ports.{IsPort, IsSource, IsTarget, IsVariable, variable_of}
-use Rattle.fb_system.specs.Systems.{inputs_of, StandFor}
+use Rattle.fb_system.specs.Systems.{inputs_of, AreTables}
 use Rattle.fb_system.specs.declared.kept.Kept.{Kept}
 use Rattle.fb_system.specs.declared.whole.Whole.{Whole}
 
@@ -61,7 +61,7 @@ library_seen v w i e s = ap (λ (w : Whole). w.netlist) e ∙ ap (λ (i : Inputs
 pub plan_seen : (v w : Whole) (i : Inputs) → v ≡ w → inputs_of w ≡ i → v.deploy ≡ i.plan
 plan_seen v w i e s = ap (λ (w : Whole). w.deploy) e ∙ ap (λ (i : Inputs). i.plan) s
 
-pub accepted_seen : (w : Whole) (i : Inputs) → StandFor w → inputs_of w ≡ i → AreAccepted i
+pub accepted_seen : (w : Whole) (i : Inputs) → AreTables w → inputs_of w ≡ i → AreAccepted i
 accepted_seen w i is s = subst (λ (i : Inputs). AreAccepted i) s is.accepted
 
 pub within_seen : (v w : Whole) (i : Inputs) (k : ℕ) → v ≡ w → inputs_of w ≡ i → k < length (paths_of i.library) → k < length (paths_of v.netlist)
@@ -70,8 +70,8 @@ within_seen v w i k e s h = subst (λ (lib : Library). k < length (paths_of lib)
 pub count_seen : (v w : Whole) (i : Inputs) → v ≡ w → inputs_of w ≡ i → length (paths_of v.netlist) ≡ length (paths_of i.library)
 count_seen v w i e s = ap (λ (lib : Library). length (paths_of lib)) (library_seen v w i e s)
 
-pub stand_seen : (v w : Whole) → v ≡ w → StandFor w → StandFor v
-stand_seen v w e is = subst (λ (w : Whole). StandFor w) (sym e) is
+pub stand_seen : (v w : Whole) → v ≡ w → AreTables w → AreTables v
+stand_seen v w e is = subst (λ (w : Whole). AreTables w) (sym e) is
 
 -- ---- Instances
 
@@ -188,17 +188,17 @@ resources_counted v w i p e s r =
 
 -- ---- Links
 
-pub linked_seen : (w : Whole) (i : Inputs) → StandFor w → inputs_of w ≡ i → IsLinked i.library i.plan w.links
+pub linked_seen : (w : Whole) (i : Inputs) → AreTables w → inputs_of w ≡ i → IsLinked i.library i.plan w.links
 linked_seen w i is s = subst (λ (i : Inputs). IsLinked i.library i.plan w.links) s is.links
 
-pub sender_seen : (v w : Whole) (i : Inputs) (l : ℕ) → StandFor w → v ≡ w → inputs_of w ≡ i → sender_at v.links l ≡ (system_of i).sender l
+pub sender_seen : (v w : Whole) (i : Inputs) (l : ℕ) → AreTables w → v ≡ w → inputs_of w ≡ i → sender_at v.links l ≡ (system_of i).sender l
 sender_seen v w i l is e s = ap (λ (w : Whole). sender_at w.links l) e ∙ (linked_seen w i is s).senders l
 
-pub receiver_seen : (v w : Whole) (i : Inputs) (l : ℕ) → StandFor w → v ≡ w → inputs_of w ≡ i → receiver_at v.links l ≡ (system_of i).receiver l
+pub receiver_seen : (v w : Whole) (i : Inputs) (l : ℕ) → AreTables w → v ≡ w → inputs_of w ≡ i → receiver_at v.links l ≡ (system_of i).receiver l
 receiver_seen v w i l is e s = ap (λ (w : Whole). receiver_at w.links l) e ∙ (linked_seen w i is s).receivers l
 
 pub link_seen :
-    (v w : Whole) (i : Inputs) (from to : ℕ) → StandFor w → v ≡ w → inputs_of w ≡ i → from < length (system_of i).resource_names
+    (v w : Whole) (i : Inputs) (from to : ℕ) → AreTables w → v ≡ w → inputs_of w ≡ i → from < length (system_of i).resource_names
     → to < length (system_of i).resource_names → link_at v.links from to ≡ link_between i.plan from to
 link_seen v w i from to is e s f t =
     let counted : length (system_of i).resource_names ≡ length i.plan.resources = length-map i.plan.resources (λ (x : ResourceEntry). x.name) in
@@ -243,7 +243,7 @@ pub made :
     (lib f : Library) (plan p : Plan) (stimuli xs : List Stimulus) (links : Linked) (blocks : List Ports) (interfaces its : Interfaces) (rows rs : List StimulusRow) (kept : Kept)
     → AreAccepted (inputs lib plan stimuli) → AreInterfaces lib interfaces → AreRows lib stimuli rows → IsLinked lib plan links → ArePortsOfKinds blocks
     → f ≡ lib → p ≡ plan → xs ≡ stimuli → its ≡ interfaces → rs ≡ rows
-    → (homes : List ℕ) → (IsLinked f p links → AreHomes f p homes) → StandFor (whole_of p xs f links blocks its rs homes kept)
+    → (homes : List ℕ) → (IsLinked f p links → AreHomes f p homes) → AreTables (whole_of p xs f links blocks its rs homes kept)
 made lib f plan p stimuli xs links blocks interfaces its rows rs kept accepted of_types by_number linked of_kinds library deploy same types numbers homes at =
     let view = view_made lib f plan p stimuli xs library deploy same in
     let joined : IsLinked f p links = subst (λ (i : Inputs). IsLinked i.library i.plan links) (sym view) linked in

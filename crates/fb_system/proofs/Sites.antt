@@ -5,7 +5,7 @@ use Rattle.std.proofs.lemmas.List.Elements.{Contains-append_left, Contains-appen
 use Rattle.fb_types.specs.Names.{Name, Path, same_name}
 use Rattle.fb_types.specs.Flat.{instance_in, inside, network_at, instance_at, parent}
 use Rattle.fb_types.specs.Joined.{Holds, Descends, TooHigh}
-use Rattle.fb_types.specs.Repeated.{Twice, Placed, NameTwice, networks, instance_names, name_spaces, block_type_names, port_names, basics, algorithm_names, state_names, with_lists, interfaces, parameter_lists}
+use Rattle.fb_types.specs.Repeated.{Twice, OwnedNetwork, NameTwice, networks, instance_names, name_spaces, block_type_names, port_names, basics, algorithm_names, state_names, with_lists, interfaces, parameter_lists}
 use Rattle.fb_types.specs.Flat.{resource_names_of}
 use Rattle.fb_types.specs.Text.{path_text}
 use Rattle.fb_types.specs.declared.library.Library.{Library}
@@ -31,10 +31,10 @@ all_once lib plan once = record {
       let types = block_type_names lib ∷ map port_names lib.blocks in
       let algorithms = map algorithm_names (basics lib) in
       let states = map state_names (basics lib) in
-      let instances = map (λ (n : Placed). instance_names n.1) (networks lib) in
+      let instances = map (λ (n : OwnedNetwork). instance_names n.1) (networks lib) in
       let withs = flat_map with_lists (interfaces lib) in
-      let parameters = flat_map (λ (n : Placed). parameter_lists n.1) (networks lib) in
-      let among_instances : Contains instances names = Contains-map (λ (n : Placed). instance_names n.1) (networks lib) n h in
+      let parameters = flat_map (λ (n : OwnedNetwork). parameter_lists n.1) (networks lib) in
+      let among_instances : Contains instances names = Contains-map (λ (n : OwnedNetwork). instance_names n.1) (networks lib) n h in
       let among_all : Contains (name_spaces lib plan) names =
       Contains-append_left (types ++ algorithms ++ states ++ instances ++ withs ++ parameters) (resource_names_of plan ∷ []) names
       (Contains-append_left (types ++ algorithms ++ states ++ instances ++ withs) parameters names

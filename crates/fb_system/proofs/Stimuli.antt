@@ -1,4 +1,4 @@
--- The stimuli by number, for the inputs that a system stands for.
+-- The stimuli by number, for the inputs that a system represents.
 use Rattle.std.proofs.Common.{◌≡◌, ℕ, ◌<◌, false, All, List, [], ◌∷◌, map, length, Option, Some, None, refl, sym, ◌∙◌, ap, subst, arith}
 use Rattle.std.specs.Prelude.{option_map, slice_get, unwrap_or}
 use Rattle.std.specs.Borrow.{Bor}
@@ -20,17 +20,17 @@ use Rattle.fb_system.specs.Rows.{AreRows, IsRow, set_at}
 use Rattle.fb_system.specs.declared.rows.SlotValue.{SlotValue}
 use Rattle.fb_system.specs.declared.rows.StimulusRow.{StimulusRow}
 use Rattle.fb_system.specs.Stimuli.{IsStimulusAt, set_of}
-use Rattle.fb_system.specs.Systems.{inputs_of, StandFor}
+use Rattle.fb_system.specs.Systems.{inputs_of, AreTables}
 use Rattle.fb_system.specs.declared.whole.Whole.{Whole}
 use Rattle.fb_types.proofs.ByIndex.{all_at, element_at}
 
 -- ---- The rows
 
-pub rows_seen : (v w : Whole) (i : Inputs) → StandFor w → v ≡ w → inputs_of w ≡ i → AreRows i.library i.stimuli v.rows
+pub rows_seen : (v w : Whole) (i : Inputs) → AreTables w → v ≡ w → inputs_of w ≡ i → AreRows i.library i.stimuli v.rows
 rows_seen v w i is e s =
     subst (λ (x : Whole). AreRows i.library i.stimuli x.rows) (sym e) (subst (λ (i : Inputs). AreRows i.library i.stimuli w.rows) s is.rows)
 
-pub row_within : (v w : Whole) (i : Inputs) (k : ℕ) → StandFor w → v ≡ w → inputs_of w ≡ i → k < length i.stimuli → k < length v.rows
+pub row_within : (v w : Whole) (i : Inputs) (k : ℕ) → AreTables w → v ≡ w → inputs_of w ≡ i → k < length i.stimuli → k < length v.rows
 row_within v w i k is e s h = let counted = (rows_seen v w i is e s).counted in omega (arith, h, counted)
 
 -- ---- The instance of a row

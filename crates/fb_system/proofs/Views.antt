@@ -1,4 +1,4 @@
--- What the tables say of the declaration that a netlist stands for.
+-- What the tables say of the declaration that a netlist represents.
 use Rattle.std.proofs.Common.{◌≡◌, ℕ, ◌<◌, ◌≤◌, List, length, Option, None, Some, ◌+◌, sym, ◌∙◌, ap, subst}
 use Rattle.fb_types.specs.Flat.{instance_at, kind_at, number_of, paths_of, source_of, targets_of}
 use Rattle.fb_types.specs.declared.library.Instance.{Instance}

@@ -20,7 +20,7 @@ use Rattle.fb_check_names.specs.declared.numbers.NetworkNumbers.{NetworkNumbers}
 use Rattle.fb_check_names.specs.declared.numbers.TypeNumber.{TypeNumber}
 use Rattle.fb_check_names.specs.declared.numbers.TypeNumber.TheVariants as number
 use Rattle.fb_check_names.specs.Numbers.{IsNetwork, kind_of_number}
-use Rattle.fb_system.specs.Layouts.{AreComponents, AreNumbers, IsParent, IsPlaced, IsRow, path_of, index_at, route_to}
+use Rattle.fb_system.specs.Layouts.{AreComponents, AreNumbers, IsParent, IsInNetwork, IsRow, path_of, index_at, route_to}
 use Rattle.fb_system.specs.declared.layout.Layout.{Layout}
 use Rattle.fb_system.specs.declared.layout.InstanceRow.{InstanceRow}
 use Rattle.fb_system.specs.Networks.{AreTables, IsAround, IsThere, IsWired, composite_of, path_around}
@@ -45,7 +45,7 @@ network_of_kind lib n p =
       | Some i ↦ refl
     ]
 
-pub network_by_kind : (lib : Library) (i : ℕ) → IsPlaced lib i → network_at lib (path_of lib i) ≡ option_and_then network_of (kind_at lib (path_of lib i))
+pub network_by_kind : (lib : Library) (i : ℕ) → IsInNetwork lib i → network_at lib (path_of lib i) ≡ option_and_then network_of (kind_at lib (path_of lib i))
 network_by_kind lib i is =
     ap (network_at lib) is.is_path ∙ network_of_kind lib is.instance.name (parent (path_of lib i))
     ∙ ap (λ p. option_and_then network_of (kind_at lib p)) (sym is.is_path)

@@ -1,4 +1,4 @@
--- The interfaces of types, for the inputs that a system stands for.
+-- The interfaces of types, for the inputs that a system represents.
 use Rattle.std.proofs.Common.{◌≡◌, ℕ, ◌<◌, List, [], length, get_or, Option, Some, None, refl, sym, ◌∙◌, ap, subst, arith}
 use Rattle.std.specs.Prelude.{option_map, slice_get}
 use Rattle.std.proofs.lemmas.Option.{same_Some, slice_get_read}
@@ -13,7 +13,7 @@ use Rattle.fb_check_names.specs.Numbers.{kind_of_number}
 use Rattle.fb_check_names.specs.declared.numbers.TypeNumber.{TypeNumber}
 use Rattle.fb_check_names.specs.declared.numbers.TypeNumber.TheVariants as number
 use Rattle.fb_system.specs.Layouts.{path_of}
-use Rattle.fb_system.specs.Stands.{AreIndexes, AreWithIndexes}
+use Rattle.fb_system.specs.IndexLists.{AreIndexes, AreWithIndexes}
 use Rattle.fb_system.specs.declared.with_indexes.WithIndexes.{WithIndexes}
 use Rattle.fb_system.specs.Systems.{inputs_of}
 use Rattle.fb_system.specs.declared.whole.Whole.{Whole}

@@ -11,7 +11,7 @@ use Rattle.fb_types.specs.Names.{Name, same_name}
 use Rattle.fb_types.specs.Blocks.{event_names, variable_names, ports_of}
 use Rattle.fb_types.specs.Flat.{kind_of}
 use Rattle.fb_types.specs.Repeated.{Twice, NameTwice, networks, basics, interfaces, internals_of, with_lists}
-use Rattle.fb_types.specs.Unknown.{NameUnknown, Wanted, all_of, wanted, required_types, required_withs, required_chart, required_parameters, required_deployment}
+use Rattle.fb_types.specs.Unknown.{NameUnknown, Required, all_of, required, required_types, required_withs, required_chart, required_parameters, required_deployment}
 use Rattle.fb_types.specs.declared.library.Library.{Library}
 use Rattle.fb_types.specs.declared.library.BlockType.{BlockType}
 use Rattle.fb_types.specs.declared.library.BlockType.TheVariants as block
@@ -29,9 +29,9 @@ use Rattle.fb_types.proofs.Positions.{position_of_once}
 use Rattle.fb_types.proofs.TwiceLaws.{Twice-append_left, Twice-append_right}
 use Rattle.fb_check_names.proofs.NameTwice.{block_twice}
 use Rattle.fb_types.proofs.ByIndex.{slice_get-append_left, slice_get-push, slice_get-after, element_of_index}
-use Rattle.fb_system.specs.Lookups.{StandFrom, AreEvents, IsPlaced}
+use Rattle.fb_system.specs.Lookups.{AreIndexedFrom, AreEvents, IsIndexed}
 use Rattle.fb_system.specs.declared.with_indexes.WithIndexes.{WithIndexes}
-use Rattle.fb_system.specs.Stands.{AreWithIndexes}
+use Rattle.fb_system.specs.IndexLists.{AreWithIndexes}
 use Rattle.fb_system.specs.Tables.{AreBlocks, AreOfBlocksUpTo}
 
 -- ---- Lists
@@ -49,7 +49,7 @@ position_once ns i n once h =
 
 stand_from :
     (before : List Name) (vs : List Variable) (after : List Name) (indexes : BTreeMap (Bor Name) ℕ) → IsIndex ((before ++ variable_names vs) ++ after) indexes
-    → StandFrom (length before) vs indexes
+    → AreIndexedFrom (length before) vs indexes
 stand_from before vs after indexes index = record {
   once = λ t. index.once (Twice-append_left (before ++ variable_names vs) after (Twice-append_right before (variable_names vs) t));
   index = λ k v h.
@@ -75,15 +75,15 @@ list_once lib plan t e once there among twice =
     let lists : TwiceIn (with_lists p) = (e.with, Contains-map (λ (e : EventPort). e.with) (p.event_inputs ++ p.event_outputs) e all, twice) in
     once (block_twice lib plan t there (list_twice t lists))
 
-known_from_wanted : (lib : Library) (plan : Plan) (n : Name) (ns : List Name) → ¬ (NameUnknown lib plan) → Contains (wanted lib plan) (n, ns) → Contains ns n
-known_from_wanted lib plan n ns known c =
+known_from_required : (lib : Library) (plan : Plan) (n : Name) (ns : List Name) → ¬ (NameUnknown lib plan) → Contains (required lib plan) (n, ns) → Contains ns n
+known_from_required lib plan n ns known c =
     elim (list_any (same_name n) ns) as (λ b. list_any (same_name n) ns ≡ b → Contains ns n) [
       | true ↦ λ e. contains_from_any n ns e
       | false ↦ λ e. absurd (known (inl ((n, ns), c, λ there. true≢false (sym (any_from_contains n ns there) ∙ e))))
     ] refl
 
-withs_in_wanted : (lib : Library) (plan : Plan) (t : BlockType) (w : Wanted) → Contains lib.blocks t → Contains (required_withs (ports_of (kind_of t))) w → Contains (wanted lib plan) w
-withs_in_wanted lib plan t w there c =
+withs_in_required : (lib : Library) (plan : Plan) (t : BlockType) (w : Required) → Contains lib.blocks t → Contains (required_withs (ports_of (kind_of t))) w → Contains (required lib plan) w
+withs_in_required lib plan t w there c =
     let p = ports_of (kind_of t) in
     let types = flat_map (λ n. required_types lib n.1) (networks lib) in
     let withs = flat_map required_withs (interfaces lib) in
@@ -97,7 +97,7 @@ events_are :
     (lib : Library) (plan : Plan) (t : BlockType) (vs : List Variable) (events : List EventPort) → ¬ (NameTwice lib plan) → ¬ (NameUnknown lib plan) → Contains lib.blocks t
     → ¬ (Twice (event_names events))
     → ((e : EventPort) → Contains events e → Contains (ports_of (kind_of t)).event_inputs e ⊎ Contains (ports_of (kind_of t)).event_outputs e)
-    → ((w : Wanted) → Contains (flat_map (λ e. all_of e.with (variable_names vs)) events) w → Contains (required_withs (ports_of (kind_of t))) w)
+    → ((w : Required) → Contains (flat_map (λ e. all_of e.with (variable_names vs)) events) w → Contains (required_withs (ports_of (kind_of t))) w)
     → AreEvents vs events
 events_are lib plan t vs events once known there differ among lists = record {
   once = differ;
@@ -107,8 +107,8 @@ events_are lib plan t vs events once known there differ among lists = record {
         once = list_once lib plan t e once there (among e c);
         known = λ n m.
             let w : Contains (all_of e.with (variable_names vs)) (n, variable_names vs) = Contains-map (λ n. (n, variable_names vs)) e.with n m in
-            known_from_wanted lib plan n (variable_names vs) known
-            (withs_in_wanted lib plan t (n, variable_names vs) there
+            known_from_required lib plan n (variable_names vs) known
+            (withs_in_required lib plan t (n, variable_names vs) there
             (lists (n, variable_names vs) (Contains-flat_map (λ e. all_of e.with (variable_names vs)) events e (n, variable_names vs) c w)));
       };
 }
@@ -117,7 +117,7 @@ events_are lib plan t vs events once known there differ among lists = record {
 
 interface_is :
     (lib : Library) (plan : Plan) (t : BlockType) (x : BlockIndexes) → ¬ (NameTwice lib plan) → ¬ (NameUnknown lib plan) → Contains lib.blocks t → IsBlock t x
-    → IsPlaced (ports_of (kind_of t)) x.ports
+    → IsIndexed (ports_of (kind_of t)) x.ports
 interface_is lib plan t x once known there is =
     let p = ports_of (kind_of t) in
     let ins = event_names p.event_inputs in

@@ -40,7 +40,7 @@ IsParent lib k None = parent (path_of lib k) ≡ []
 IsParent lib k (Some j) = (j < k) × (path_of lib j ≡ parent (path_of lib k))
 
 -- The instance is in the network of its composite, under its name.
-pub record IsPlaced (lib : Library) (k : ℕ) : Type 0 where
+pub record IsInNetwork (lib : Library) (k : ℕ) : Type 0 where
   pub network : Network
   pub is_network : network_at lib (parent (path_of lib k)) ≡ Some network
   pub index : ℕ
@@ -55,7 +55,7 @@ pub record IsRow (lib : Library) (k : ℕ) (r : InstanceRow) : Type 0 where
   pub is_kind : kind_at lib (path_of lib k) ≡ Some kind
   pub numbered : kind_of_number lib r.kind ≡ Some kind
   pub parent_is : IsParent lib k r.parent
-  pub placed : IsPlaced lib k
+  pub placed : IsInNetwork lib k
   pub route : r.route ≡ route_to lib (path_of lib k)
   pub components : AreComponents lib (path_of lib k) r.components
 

@@ -9,7 +9,7 @@ pub mod Ports
 pub mod Stimuli
 pub mod Systems
 pub mod Linking
-pub mod Stands
+pub mod IndexLists
 pub mod Lookups
 pub mod Tables
 pub mod Begins

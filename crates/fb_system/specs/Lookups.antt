@@ -12,7 +12,7 @@ use Rattle.fb_types.specs.declared.library.Variable.{Variable}
 use Rattle.fb_check_names.specs.Indexes.{index_in}
 
 -- Variables of different names that follow each other among all names, the first at an index.
-pub record StandFrom (first : ℕ) (vs : List Variable) (indexes : BTreeMap (Bor Name) ℕ) : Type 0 where
+pub record AreIndexedFrom (first : ℕ) (vs : List Variable) (indexes : BTreeMap (Bor Name) ℕ) : Type 0 where
   pub once : ¬ (Twice (variable_names vs))
   pub index : (k : ℕ) (v : Variable) → slice_get vs k ≡ Some v → index_in indexes v.name ≡ Some (first + k)
 
@@ -28,10 +28,10 @@ pub record AreEvents (vs : List Variable) (events : List EventPort) : Type 0 whe
 
 -- An interface in which no name is given twice and each WITH list names variables, and a map from its names to their
 -- indices.
-pub record IsPlaced (its : Ports) (indexes : BTreeMap (Bor Name) ℕ) : Type 0 where
+pub record IsIndexed (its : Ports) (indexes : BTreeMap (Bor Name) ℕ) : Type 0 where
   pub first_input : ℕ
-  pub inputs : StandFrom first_input its.inputs indexes
+  pub inputs : AreIndexedFrom first_input its.inputs indexes
   pub first_output : ℕ
-  pub outputs : StandFrom first_output its.outputs indexes
+  pub outputs : AreIndexedFrom first_output its.outputs indexes
   pub event_inputs : AreEvents its.inputs its.event_inputs
   pub event_outputs : AreEvents its.outputs its.event_outputs

@@ -15,7 +15,7 @@ ends_in first port = slice_index_or first port []
 
 -- the ends at a port, of those of the later ports that have any
 abbrev pub further_ends : List (ℕ × List ConnectionEnd) → ℕ → List ConnectionEnd
-further_ends behind port = unwrap_or (lookup (is_at (nat_cmp port)) behind) []
+further_ends further port = unwrap_or (lookup (is_at (nat_cmp port)) further) []
 
 -- the ends at a port
 abbrev pub ends_of : List (List ConnectionEnd) × List (ℕ × List ConnectionEnd) → ℕ → List ConnectionEnd

@@ -24,7 +24,7 @@ abbrev pub inputs_of : Whole → Inputs
 inputs_of w = record { library = w.netlist; plan = w.deploy; stimuli = w.stimuli }
 
 -- Accepted inputs, with the tables in which their numbers are looked up.
-pub record StandFor (w : Whole) : Type 0 where
+pub record AreTables (w : Whole) : Type 0 where
   pub accepted : AreAccepted (inputs_of w)
   pub links : IsLinked w.netlist w.deploy w.links
   pub event_blocks : ArePortsOfKinds w.event_blocks
@@ -34,7 +34,7 @@ pub record StandFor (w : Whole) : Type 0 where
 
 -- .. and the rows that are kept among them: heads of lines, and ends of connections
 pub record HaveRows (w : Whole) : Type 0 where
-  pub tables : StandFor w
+  pub tables : AreTables w
   pub heads : AreHeads (system_of (inputs_of w)) w.kept.heads.rows
   pub targets : AreTargets (system_of (inputs_of w)) w.kept.ends.targets
   pub sources : AreSources (system_of (inputs_of w)) w.kept.ends.sources

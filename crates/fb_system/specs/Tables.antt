@@ -10,8 +10,8 @@ use Rattle.fb_types.specs.declared.library.Library.{Library}
 use Rattle.fb_check_names.specs.declared.catalog.BlockIndexes.{BlockIndexes}
 use Rattle.fb_system.specs.declared.with_indexes.WithIndexes.{WithIndexes}
 use Rattle.fb_system.specs.declared.interfaces.Interfaces.{Interfaces}
-use Rattle.fb_system.specs.Stands.{AreWithIndexes}
-use Rattle.fb_system.specs.Lookups.{IsPlaced}
+use Rattle.fb_system.specs.IndexLists.{AreWithIndexes}
+use Rattle.fb_system.specs.Lookups.{IsIndexed}
 
 -- each event block's entry at its index
 abbrev pub AreOfEventBlocks : List WithIndexes → Type 0
@@ -28,7 +28,7 @@ AreOfBlocks ts xs = AreOfBlocksUpTo (length ts) ts xs
 -- Block types, and the indices of the names of each.
 pub record AreBlocks (ts : List BlockType) (xs : List BlockIndexes) : Type 0 where
   pub counted : length xs ≡ length ts
-  pub each : (k : ℕ) (t : BlockType) (x : BlockIndexes) → slice_get ts k ≡ Some t → slice_get xs k ≡ Some x → IsPlaced (ports_of (kind_of t)) x.ports
+  pub each : (k : ℕ) (t : BlockType) (x : BlockIndexes) → slice_get ts k ≡ Some t → slice_get xs k ≡ Some x → IsIndexed (ports_of (kind_of t)) x.ports
 
 -- the entries of the types of a declaration, and of the event blocks
 pub record AreInterfaces (lib : Library) (x : Interfaces) : Type 0 where

@@ -22,7 +22,7 @@ pub(crate) struct PortEnds {
     /// The ends of each of the first ports, up to the last connected one.
     first: Vec<Items<ConnectionEnd>>,
     /// The ends of the later ports that are connected.
-    behind: PortMap,
+    further: PortMap,
 }
 
 type PortMap = BTreeMap<usize, Items<ConnectionEnd>, Global>;
@@ -33,7 +33,7 @@ impl Model for PortEnds {
 
     ghost Value = { List (List ConnectionEnd) × List (ℕ × List ConnectionEnd) };
 
-    ghost view = { λ r. (r.first.items, r.behind.entries) };
+    ghost view = { λ r. (r.first.items, r.further.entries) };
 }
 
 /// Adds an end to one of the first ports.
@@ -55,20 +55,20 @@ fn push_first(
 
 /// Adds an end to a later port.
 fn push_further(
-    behind: &mut PortMap,
+    further: &mut PortMap,
     alloc: Global,
     port: usize,
     end: ConnectionEnd,
 ) -> Result<(), AllocError>
-    ensures { OnOk result ((p : ℕ) → further_ends behind.new.entries p ≡ cond (nat_eq port p) (further_ends behind.old.entries p ++ end ∷ []) (further_ends behind.old.entries p)) }
+    ensures { OnOk result ((p : ℕ) → further_ends further.new.entries p ≡ cond (nat_eq port p) (further_ends further.old.entries p ++ end ∷ []) (further_ends further.old.entries p)) }
 {
-    if let Some(ends) = behind.get_mut(&port) {
+    if let Some(ends) = further.get_mut(&port) {
         ends.push(end)?;
         return Ok(());
     }
     let mut ends = Items::new(alloc);
     ends.push(end)?;
-    behind.insert(port, ends)?;
+    further.insert(port, ends)?;
     Ok(())
 }
 
@@ -78,7 +78,7 @@ impl PortEnds {
     {
         PortEnds {
             first: Vec::new(alloc),
-            behind: BTreeMap::new(alloc),
+            further: BTreeMap::new(alloc),
         }
     }
 
@@ -102,7 +102,7 @@ impl PortEnds {
     fn get_further(&self, port: usize) -> &[ConnectionEnd]
         ensures { result.now ≡ further_ends self.now.1 port }
     {
-        match self.behind.get(&port) {
+        match self.further.get(&port) {
             Some(ends) => ends.as_slice(),
             None => &[],
         }
@@ -115,7 +115,7 @@ impl PortEnds {
         if port < FIRST_PORTS {
             push_first(&mut self.first, alloc, port, end)
         } else {
-            push_further(&mut self.behind, alloc, port, end)
+            push_further(&mut self.further, alloc, port, end)
         }
     }
 }

@@ -5,7 +5,7 @@ ghost use Rattle.std.specs.List.{list_any};
 ghost use Rattle.fb_types.specs.Names.{same_name};
 ghost use Rattle.fb_types.specs.Blocks.{among, variables_with, ports_of_event_block};
 ghost use Rattle.fb_types.specs.declared.event_kind.EventKind.{EventKind};
-ghost use Rattle.fb_system.specs.Stands.{AreIndexes, AreIndexesOfEach, AreWithIndexes};
+ghost use Rattle.fb_system.specs.IndexLists.{AreIndexes, AreIndexesOfEach, AreWithIndexes};
 ghost use Rattle.fb_system.specs.Tables.{AreOfEventBlocks};
 
 use crate::with_indexes::WithIndexes;

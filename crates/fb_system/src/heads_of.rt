@@ -3,7 +3,7 @@
 ghost use Rattle.std.specs.Prelude.{◌≡◌, ◌<◌, List, [], ◌++◌, codes, length, if◌then◌else◌, IfNone, IfOk, IfSome, OnOk};
 ghost use Rattle.fb_types.specs.Headline.{system_of};
 ghost use Rattle.fb_types.specs.Names.{Name};
-ghost use Rattle.fb_system.specs.Stands.{AreIndexes};
+ghost use Rattle.fb_system.specs.IndexLists.{AreIndexes};
 ghost use Rattle.fb_system.specs.Heads.{AreHeads, IsOfHead, IsRowOfHead, first_text, head_event, head_variables};
 
 use crate::heads::{Firsts, Head, HeadOf, Heads, MOST_ROWS, ROW};

@@ -8,7 +8,7 @@ ghost use Rattle.fb_types.specs.declared.deploy.Plan.{Plan};
 ghost use Rattle.fb_types.specs.declared.library.BlockType.{BlockType as Declared};
 ghost use Rattle.fb_types.specs.declared.library.Library.{Library as Declaration};
 ghost use Rattle.fb_check_names.specs.Catalog.{IsCatalog};
-ghost use Rattle.fb_system.specs.Stands.{AreWithIndexes};
+ghost use Rattle.fb_system.specs.IndexLists.{AreWithIndexes};
 ghost use Rattle.fb_system.specs.Tables.{AreBlocks, AreInterfaces, AreOfBlocks};
 
 use crate::event_block_with_indexes::of_event_blocks;

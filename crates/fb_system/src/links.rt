@@ -75,8 +75,8 @@ fn note_to(row: &mut Items<Option<usize>>, to: usize, link: usize) -> Result<(),
     while row.len() <= to {
         row.push(None)?;
     }
-    let noted = way_in(row.as_slice(), to);
-    if noted.is_none() {
+    let known_way = way_in(row.as_slice(), to);
+    if known_way.is_none() {
         row.set(to, Some(link));
     }
     Ok(())

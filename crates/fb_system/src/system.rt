@@ -7,7 +7,7 @@ ghost use Rattle.fb_types.specs.Headline.{AreAccepted, system_of, inputs};
 ghost use Rattle.fb_types.specs.Limits.{IsWithinLimits};
 ghost use Rattle.fb_types.specs.Numbers.{event_at, path_at, port_of, ports_at};
 ghost use Rattle.fb_types.specs.Blocks.{inputs_with, outputs_with};
-ghost use Rattle.fb_system.specs.Stands.{AreIndexes, AreWithIndexes};
+ghost use Rattle.fb_system.specs.IndexLists.{AreIndexes, AreWithIndexes};
 ghost use Rattle.fb_system.specs.Stimuli.{IsStimulusAt, initial_inputs, initial_outputs};
 ghost use Rattle.fb_types.specs.Text.{path_text};
 ghost use Rattle.fb_system.specs.Layouts.{AreComponents, AreNumbers, IsParent, route_to};
@@ -16,7 +16,7 @@ ghost use Rattle.fb_system.specs.Ends.{ComesFrom, LeadsTo};
 ghost use Rattle.fb_system.specs.Heads.{IsHead};
 ghost use Rattle.fb_system.specs.Linking.{AreHomes, IsLinked};
 ghost use Rattle.fb_system.specs.Ports.{IsPort, IsSource, IsTarget, IsVariable, variable_of};
-ghost use Rattle.fb_system.specs.Systems.{inputs_of, IsBare, IsGiven, IsKept, StandFor};
+ghost use Rattle.fb_system.specs.Systems.{inputs_of, IsBare, IsGiven, IsKept, AreTables};
 
 use crate::given::Given;
 use crate::heads::{Head, HeadOf};
@@ -121,7 +121,7 @@ impl System {
 
     /// The system of tables of accepted inputs. It fills in the resources of all instances.
     fn of_tables(alloc: Global, mut tables: Whole) -> Result<System, AllocError>
-        requires stands { (homes : List ℕ) → (IsLinked tables.netlist tables.deploy tables.links → AreHomes tables.netlist tables.deploy homes) → StandFor (record tables { homes = homes }) }
+        requires stands { (homes : List ℕ) → (IsLinked tables.netlist tables.deploy tables.links → AreHomes tables.netlist tables.deploy homes) → AreTables (record tables { homes = homes }) }
         requires bare { IsBare tables.kept }
         ensures { IfOk result (λ s. s ≡ inputs_of tables) }
     {

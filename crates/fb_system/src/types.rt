@@ -2,9 +2,9 @@
 
 ghost use Rattle.std.specs.Prelude.{◌≡◌, Some, option_map};
 ghost use Rattle.fb_types.specs.Blocks.{Kind, ports_of};
-ghost use Rattle.fb_system.specs.Stands.{AreWithIndexes};
+ghost use Rattle.fb_system.specs.IndexLists.{AreWithIndexes};
 ghost use Rattle.fb_check_names.specs.Numbers.{kind_of_number};
-ghost use Rattle.fb_system.specs.Systems.{StandFor};
+ghost use Rattle.fb_system.specs.Systems.{AreTables};
 
 use crate::whole::Whole;
 use crate::with_indexes::WithIndexes;
@@ -13,7 +13,7 @@ use fb_types::Ports;
 
 /// The interface of a type.
 pub(crate) fn ports_of_type(tables: &Whole, kind: TypeNumber) -> &Ports
-    requires tables { StandFor tables.now }
+    requires tables { AreTables tables.now }
     requires known { (k : Kind) × (kind_of_number tables.now.netlist kind ≡ Some k) }
     ensures { option_map ports_of (kind_of_number tables.now.netlist kind) ≡ Some result.now }
 {
@@ -25,7 +25,7 @@ pub(crate) fn ports_of_type(tables: &Whole, kind: TypeNumber) -> &Ports
 
 /// For each event of a type, the indices of the variables WITH it.
 pub(crate) fn with_indexes_of_type(tables: &Whole, kind: TypeNumber) -> &WithIndexes
-    requires tables { StandFor tables.now }
+    requires tables { AreTables tables.now }
     requires known { (k : Kind) × (kind_of_number tables.now.netlist kind ≡ Some k) }
     ensures { (k : Kind) → kind_of_number tables.now.netlist kind ≡ Some k → AreWithIndexes (ports_of k) result.now }
 {

@@ -3,8 +3,8 @@
 ghost use Rattle.std.specs.Prelude.{◌≡◌, ◌<◌, ◌^◌, ℕ, IfOk, length};
 ghost use Rattle.std.specs.List.{filter};
 ghost use Rattle.fb_types.specs.Blocks.{among, variable_names};
-ghost use Rattle.fb_system.specs.Stands.{AreIndexes, AreIndexesOfEach, AreWithIndexes};
-ghost use Rattle.fb_system.specs.Lookups.{AreEvents, IsPlaced, IsList, StandFrom};
+ghost use Rattle.fb_system.specs.IndexLists.{AreIndexes, AreIndexesOfEach, AreWithIndexes};
+ghost use Rattle.fb_system.specs.Lookups.{AreEvents, IsIndexed, IsList, AreIndexedFrom};
 
 use fb_check_names::{Indexes, index_of};
 use fb_types::{EventPort, Items, Name, Ports, Variable};
@@ -22,7 +22,7 @@ pub struct WithIndexes {
 
 /// The index of the first of some variables among all names of their type, or 0 if there are no variables.
 fn first_index(variables: &[Variable], indexes: &Indexes) -> usize
-    ensures { (first : ℕ) → StandFrom first variables.now indexes.now → 0 < length variables.now → result ≡ first }
+    ensures { (first : ℕ) → AreIndexedFrom first variables.now indexes.now → 0 < length variables.now → result ≡ first }
 {
     match variables.first() {
         Some(variable) => index_of(indexes, variable.name.as_bytes()).unwrap_or(0),
@@ -37,7 +37,7 @@ fn indexes_of_list(
     indexes: &Indexes,
     list: &[Name],
 ) -> Result<Items<u32>, AllocError>
-    requires stand { (first : ℕ) × StandFrom first variables.now indexes.now }
+    requires stand { (first : ℕ) × AreIndexedFrom first variables.now indexes.now }
     requires list { IsList variables.now list.now }
     requires few { length variables.now < 2 ^ 32 }
     ensures { IfOk result (AreIndexes variables.now (filter (among list.now) (variable_names variables.now))) }
@@ -61,7 +61,7 @@ fn indexes_of_lists(
     variables: &[Variable],
     indexes: &Indexes,
 ) -> Result<Items<Items<u32>>, AllocError>
-    requires stand { (first : ℕ) × StandFrom first variables.now indexes.now }
+    requires stand { (first : ℕ) × AreIndexedFrom first variables.now indexes.now }
     requires events { AreEvents variables.now events.now }
     requires few { length variables.now < 2 ^ 32 }
     ensures { IfOk result (AreIndexesOfEach events.now variables.now) }
@@ -79,7 +79,7 @@ pub(crate) fn with_indexes(
     ports: &Ports,
     indexes: &Indexes,
 ) -> Result<WithIndexes, AllocError>
-    requires { IsPlaced ports.now indexes.now }
+    requires { IsIndexed ports.now indexes.now }
     ensures { IfOk result (AreWithIndexes ports.now) }
 {
     ports.inputs.count();

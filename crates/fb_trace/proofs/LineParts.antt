@@ -25,6 +25,6 @@ abbrev pub after_key : System → Line → List (List ℕ)
 after_key sys l = tick_and_resource_text sys l.key.tick l.key.resource ∷ sign_text l ∷ path_text l.at ∷ codes "." ∷ l.event ∷ after_event l
 
 -- a head after what is before it
-pub behind : (k index sign path dot event : List ℕ) → k ++ (index ++ sign ++ path ++ dot ++ event) ≡ k ++ index ++ sign ++ path ++ dot ++ event
-behind k index sign path dot event =
+pub following : (k index sign path dot event : List ℕ) → k ++ (index ++ sign ++ path ++ dot ++ event) ≡ k ++ index ++ sign ++ path ++ dot ++ event
+following k index sign path dot event =
     rw (append_assoc k index sign, append_assoc k (index ++ sign) path, append_assoc k (index ++ sign ++ path) dot, append_assoc k (index ++ sign ++ path ++ dot) event) refl

@@ -28,7 +28,7 @@ module _ (sys : System) (limit : ℕ) where
   order_over [] h = tt
   order_over (x ∷ xs) h = (each_over (NotAfter x) _ (line_of sys) xs (λ y n. n) h.0, order_over xs h.1)
 
-  -- of the lists that stand, by names, for those that were merged
+  -- of the remaining lists, by names, for those that were merged
   pub is_merge : (lists : Lists) (all : List Line) (named : ℕ → List model.Line) → AreMerged lists all
       → ((r : ℕ) (list : Vec Line Global) → slice_get lists r ≡ Some list → named r ≡ map (line_of sys) list.items)
       → merges.IsMerge (machine sys limit) (length lists) named (map (line_of sys) all)

@@ -14,9 +14,9 @@ use Rattle.fb_types.specs.declared.run.Line as run
 use Rattle.fb_types.specs.declared.value.Value.{Value}
 use Rattle.fb_system.specs.Heads.{first_text, head_event, head_text, head_variables}
 use Rattle.fb_system.specs.Lines.{BelongsTo, line_variables}
-use Rattle.fb_system.specs.Stands.{AreIndexes, variable_at}
+use Rattle.fb_system.specs.IndexLists.{AreIndexes, variable_at}
 use Rattle.fb_trace.specs.Starts.{first_value, head_of_line}
-use Rattle.fb_trace.proofs.LineParts.{behind, sign_text}
+use Rattle.fb_trace.proofs.LineParts.{following, sign_text}
 use Rattle.fb_trace.proofs.Values.{pair_up-none}
 
 -- a line of any form begins with its key, and goes on as one of form one
@@ -27,7 +27,7 @@ with_key form sys l =
     let head = index ++ sign_text l ++ path_text l.at ++ codes "." ++ l.event in
     let values = values_text l.values in
     sym (append_assoc k (head ++ values) (10 ∷ []))
-    ∙ ap (λ (t : List ℕ). t ++ 10 ∷ []) (sym (append_assoc k head values) ∙ ap (λ (t : List ℕ). t ++ values) (behind k index (sign_text l) (path_text l.at) (codes ".") l.event))
+    ∙ ap (λ (t : List ℕ). t ++ 10 ∷ []) (sym (append_assoc k head values) ∙ ap (λ (t : List ℕ). t ++ values) (following k index (sign_text l) (path_text l.at) (codes ".") l.event))
 
 -- the values after the first
 others : (f : ℕ → Name) (ks : List ℕ) (vs : List Value) → pair_up (map f (drop 1 ks)) (drop 1 vs) ≡ drop 1 (pair_up (map f ks) vs)
@@ -40,20 +40,20 @@ others_of :
     → values_text (pair_up (map (variable_at vs) (drop 1 ks)) (drop 1 l.values)) ≡ values_text (drop 1 (line_of sys l).values)
 others_of sys l vs ks are = ap values_text (others (variable_at vs) ks l.values ∙ ap (λ (ns : List Name). drop 1 (pair_up ns l.values)) are.named)
 
-all_behind : {X : Type 0} (xs : List X) → take (length xs - 1) (drop 1 xs) ≡ drop 1 xs
-all_behind xs = take_all (length xs - 1) (drop 1 xs) (omega (arith, length-drop 1 xs))
+all_after : {X : Type 0} (xs : List X) → take (length xs - 1) (drop 1 xs) ≡ drop 1 xs
+all_after xs = take_all (length xs - 1) (drop 1 xs) (omega (arith, length-drop 1 xs))
 
 pub others_counted :
     {X Y : Type 0} (xs : List X) (ys : List Y) → length xs ≡ length ys → length (take (length xs - 1) (drop 1 xs)) ≡ length (take (length ys - 1) (drop 1 ys))
 others_counted xs ys same =
-    ap length (all_behind xs) ∙ length-drop 1 xs ∙ ap (λ (n : ℕ). n - 1) same ∙ sym (length-drop 1 ys) ∙ sym (ap length (all_behind ys))
+    ap length (all_after xs) ∙ length-drop 1 xs ∙ ap (λ (n : ℕ). n - 1) same ∙ sym (length-drop 1 ys) ∙ sym (ap length (all_after ys))
 
 -- .. as they are sliced
 pub others_sliced :
     (sys : System) (l : run.Line) (vs : List Variable) (ks : List ℕ) → AreIndexes vs (line_variables sys l) ks
     → values_text (pair_up (map (variable_at vs) (take (length ks - 1) (drop 1 ks))) (take (length l.values - 1) (drop 1 l.values)))
     ≡ values_text (drop 1 (line_of sys l).values)
-others_sliced sys l vs ks are = (λ j. values_text (pair_up (map (variable_at vs) (all_behind ks j)) (all_behind l.values j))) ∙ others_of sys l vs ks are
+others_sliced sys l vs ks are = (λ j. values_text (pair_up (map (variable_at vs) (all_after ks j)) (all_after l.values j))) ∙ others_of sys l vs ks are
 
 -- the first value and the others
 values_parts :
@@ -92,7 +92,7 @@ by_head sys l belongs =
     let others = values_text (drop 1 (line_of sys l).values) in
     let head : tick ++ head_text sys x ≡ until ++ first_text ns =
     sym (append_assoc tick (name ++ sign ++ path ++ codes "." ++ head_event sys x) (first_text ns))
-    ∙ ap (λ (t : List ℕ). t ++ first_text ns) (behind tick name sign path (codes ".") (head_event sys x)) in
+    ∙ ap (λ (t : List ℕ). t ++ first_text ns) (following tick name sign path (codes ".") (head_event sys x)) in
     ap (λ (t : List ℕ). t ++ 10 ∷ [])
     (ap (λ (t : List ℕ). t ++ first_value l.values ++ others) head
     ∙ sym (inward until (first_text ns) (first_value l.values) others)

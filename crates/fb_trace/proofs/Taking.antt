@@ -348,7 +348,7 @@ none_early t (x ∷ xs) h =
 pub record IsSorted (lists : List (List Line)) (all : List Line) (left : List (List Line)) : Type 0 where
   pub up : AllRise left
   pub risen : Rises tick_of all
-  pub behind : Each (λ x. Each (λ y. tick_of x ≤ tick_of y) (joint left)) all
+  pub following : Each (λ x. Each (λ y. tick_of x ≤ tick_of y) (joint left)) all
   pub stable : (x : Line) → filter (tie tick_of x) (all ++ joint left) ≡ filter (tie tick_of x) (joint lists)
 
 -- These lines were taken off the lists, and this is left.
@@ -362,7 +362,7 @@ begin xss = record {
   order = λ up. record {
     up = each_present (Rises tick_of) xss up;
     risen = tt;
-    behind = tt;
+    following = tt;
     stable = λ x. ap (filter (tie tick_of x)) (joint_present xss);
   };
 }
@@ -381,9 +381,9 @@ further t xss all left it from =
           record {
             up = all_late_rise t left s.up;
             risen = rises_append tick_of all e s.risen (level t e (all_early_low t left) first)
-                (each_map _ _ all (λ x h. taken_each t (λ y. tick_of x ≤ tick_of y) left h) s.behind);
-            behind = each_append (λ x. Each (λ y. tick_of x ≤ tick_of y) l) all e
-                (each_map _ _ all (λ x h. left_each t (λ y. tick_of x ≤ tick_of y) left h) s.behind)
+                (each_map _ _ all (λ x h. taken_each t (λ y. tick_of x ≤ tick_of y) left h) s.following);
+            following = each_append (λ x. Each (λ y. tick_of x ≤ tick_of y) l) all e
+                (each_map _ _ all (λ x h. left_each t (λ y. tick_of x ≤ tick_of y) left h) s.following)
                 (each_map (λ x. tick_of x ≤ t) (λ x. Each (λ y. tick_of x ≤ tick_of y) l) e
                 (λ x (a : tick_of x ≤ t). each_map (λ y. t < tick_of y) (λ y. tick_of x ≤ tick_of y) l (λ y (b : t < tick_of y). let w : tick_of x ≤ tick_of y = omega arith in w) (all_late_high t left s.up))
                 (all_early_low t left));

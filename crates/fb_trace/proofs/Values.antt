@@ -9,7 +9,7 @@ use Rattle.fb_types.specs.Numbers.{pair_up}
 use Rattle.fb_types.specs.Text.{value_text, values_text}
 use Rattle.fb_types.specs.declared.library.Variable.{Variable}
 use Rattle.fb_types.specs.declared.value.Value.{Value}
-use Rattle.fb_system.specs.Stands.{variable_at}
+use Rattle.fb_system.specs.IndexLists.{variable_at}
 
 -- a variable and its value, as a line has them
 abbrev pub binding_text : Name → Value → List ℕ

@@ -13,7 +13,7 @@ ghost use Rattle.fb_trace.specs.Progress.{Gathers, IsPartWritten, bounded};
 
 use crate::fault::WriteFault;
 use crate::names::{event_name, head_of, shown_by};
-use crate::number::Noted;
+use crate::number::LastNumber;
 use crate::page::{Page, SIZE};
 use crate::pieces::{put_head, put_key, put_values};
 use crate::start::{START, append_start};
@@ -100,7 +100,7 @@ fn put_by_names<W: Write>(
     page: &mut Page,
     out: &mut W,
     system: &System,
-    tick: &Noted,
+    tick: &LastNumber,
     line: &Line,
 ) -> Result<(), WriteFault>
     requires belongs { BelongsTo (system_of system.now) line.now }
@@ -131,7 +131,7 @@ fn put_by_head<W: Write>(
     page: &mut Page,
     out: &mut W,
     system: &System,
-    tick: &Noted,
+    tick: &LastNumber,
     head: &Head,
     line: &Line,
 ) -> Result<(), WriteFault>
@@ -155,7 +155,7 @@ fn put_any<W: Write>(
     out: &mut W,
     system: &System,
     form: Form,
-    tick: &Noted,
+    tick: &LastNumber,
     line: &Line,
 ) -> Result<(), WriteFault>
     requires belongs { BelongsTo (system_of system.now) line.now }
@@ -173,7 +173,7 @@ fn put_any<W: Write>(
 /// Puts a line in one step if it can: a line of form one, whose head is kept, with at most one value, if the page has
 /// room for any such line. Otherwise it returns that it has put nothing.
 #[inline(always)]
-fn append_line(page: &mut Page, system: &System, form: Form, tick: &Noted, line: &Line) -> bool
+fn append_line(page: &mut Page, system: &System, form: Form, tick: &LastNumber, line: &Line) -> bool
     requires belongs { BelongsTo (system_of system.now) line.now }
     requires tick { tick.now ≡ line.now.key.tick }
     ensures put { IsTrue result → page.new ≡ record page.old {
@@ -204,14 +204,14 @@ fn put_line<W: Write>(
     out: &mut W,
     system: &System,
     form: Form,
-    tick: &mut Noted,
+    tick: &mut LastNumber,
     line: &Line,
 ) -> Result<(), WriteFault>
     requires { BelongsTo (system_of system.now) line.now }
     ensures { Gathers (W.contents out.old) (W.contents out.new) page.old page.new
         (let sys = system_of system.now in line_text form sys (line_of sys line.now)) result }
 {
-    tick.note(line.key.tick);
+    tick.replace(line.key.tick);
     if append_line(page, system, form, tick, line) {
         return Ok(());
     }
@@ -230,7 +230,7 @@ fn put_lines<W: Write>(
     ensures { Gathers (W.contents out.old) (W.contents out.new) page.old page.new
         (let sys = system_of system.now in lines_text form sys (map (line_of sys) lines.now)) result }
 {
-    let mut tick = Noted::of(0);
+    let mut tick = LastNumber::of(0);
     for line in lines {
         put_line(page, out, system, form, &mut tick, line)?;
     }

@@ -10,7 +10,7 @@ use fb_types::Line;
 use std::alloc::{AllocError, Global};
 use std::collections::VecDeque;
 
-/// With fewer lines than this a sort is faster, since the merge looks at each list in each tick.
+/// With fewer lines than this, sorting is faster, since the merge looks at each list in each tick.
 const FEW: usize = 4096;
 
 /// All lines, one list after another. The first lines stay in their own list.

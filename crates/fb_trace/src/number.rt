@@ -37,7 +37,7 @@ pub(crate) const LAST_TICK: usize = 24;
 
 /// The last number as digits and a blank. Usually a line has the tick of the line before.
 #[derive(Drop)]
-pub(crate) struct Noted {
+pub(crate) struct LastNumber {
     number: u64,
     /// The number without its last digit.
     tens: u64,
@@ -45,7 +45,7 @@ pub(crate) struct Noted {
     width: usize,
 }
 
-impl Model for Noted {
+impl Model for LastNumber {
     ghost use Rattle.std.specs.Prelude.{◌≡◌, ◌≤◌, ◌/◌, ◌++◌, ℕ, codes, decimal, take};
     ghost use Rattle.fb_trace.specs.declared.number.TheConstants.{LAST_TICK};
 
@@ -56,9 +56,9 @@ impl Model for Noted {
     ghost invariant = { λ n. (n.width ≤ LAST_TICK) × (take n.width n.text ≡ decimal n.number ++ codes " ") × (n.tens ≡ n.number / 10) };
 }
 
-impl Noted {
+impl LastNumber {
     /// A number as its digits and a blank.
-    pub(crate) fn of(number: u64) -> Noted
+    pub(crate) fn of(number: u64) -> LastNumber
         ensures { result ≡ number }
     {
         let mut digits = [0; MOST_DIGITS];
@@ -67,7 +67,7 @@ impl Noted {
         let mut text = [0; LAST_TICK];
         copy_text(&mut text[..count], &digits[start..]);
         text[count] = b' ';
-        Noted {
+        LastNumber {
             number,
             tens: number / 10,
             text,
@@ -80,12 +80,12 @@ impl Noted {
     fn renew(&mut self, number: u64)
         ensures { self.new ≡ number }
     {
-        *self = Noted::of(number);
+        *self = LastNumber::of(number);
     }
 
     /// Replaces the number. If only the last digit differs, only this digit is written.
     #[inline(always)]
-    pub(crate) fn note(&mut self, number: u64)
+    pub(crate) fn replace(&mut self, number: u64)
         ensures { self.new ≡ number }
     {
         if number == self.number {

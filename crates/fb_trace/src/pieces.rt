@@ -4,11 +4,11 @@ ghost use Rattle.std.specs.Prelude.{◌≡◌, ◌<◌, ◌≤◌, ◌+◌, ◌+
 ghost use Rattle.fb_types.specs.Headline.{system_of};
 ghost use Rattle.fb_types.specs.Numbers.{pair_up};
 ghost use Rattle.fb_types.specs.Text.{key_text, tick_and_resource_text, value_text, values_text};
-ghost use Rattle.fb_system.specs.Stands.{variable_at};
+ghost use Rattle.fb_system.specs.IndexLists.{variable_at};
 ghost use Rattle.fb_trace.specs.Progress.{Gathers, Puts};
 
 use crate::fault::WriteFault;
-use crate::number::{LAST_TICK, Noted};
+use crate::number::{LAST_TICK, LastNumber};
 use crate::page::{Page, SHORT, SIZE};
 use fb_system::System;
 use fb_types::{Form, Key, Value, Variable};
@@ -87,7 +87,7 @@ fn append_sign(page: &mut Page, taken: bool)
 #[inline(always)]
 fn append_head(
     page: &mut Page,
-    tick: &Noted,
+    tick: &LastNumber,
     resource: &[u8],
     taken: bool,
     path: &[u8],
@@ -111,7 +111,7 @@ fn append_head(
 fn put_long_head<W: Write>(
     page: &mut Page,
     out: &mut W,
-    tick: &Noted,
+    tick: &LastNumber,
     resource: &[u8],
     taken: bool,
     path: &[u8],
@@ -136,7 +136,7 @@ fn put_long_head<W: Write>(
 pub(crate) fn put_head<W: Write>(
     page: &mut Page,
     out: &mut W,
-    tick: &Noted,
+    tick: &LastNumber,
     resource: &[u8],
     taken: bool,
     path: &[u8],

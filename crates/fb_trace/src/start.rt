@@ -3,7 +3,7 @@
 ghost use Rattle.std.specs.Prelude.{◌≡◌, ◌≤◌, ◌+◌, ◌++◌, codes, decimal, length, take};
 ghost use Rattle.fb_trace.specs.Starts.{first_value};
 
-use crate::number::{LAST_TICK, Noted};
+use crate::number::{LAST_TICK, LastNumber};
 use crate::page::{Page, SIZE};
 use crate::pieces::{VALUE, append_value};
 use fb_system::{Head, ROW};
@@ -27,7 +27,7 @@ fn append_first(page: &mut Page, values: &[Value])
 
 /// Puts the start of a line with these values. It fits.
 #[inline(always)]
-pub(crate) fn append_start(page: &mut Page, tick: &Noted, head: &Head, values: &[Value])
+pub(crate) fn append_start(page: &mut Page, tick: &LastNumber, head: &Head, values: &[Value])
     requires within { head.now.width ≤ ROW }
     requires room { length page.old.waiting + START ≤ SIZE }
     ensures text { page.new ≡ record page.old {

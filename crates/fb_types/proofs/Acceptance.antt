@@ -8,8 +8,8 @@ use Rattle.fb_types.specs.Values.{fits}
 use Rattle.fb_types.specs.Blocks.{Kind, among, ports_of, outputs_with, is_event_input}
 use Rattle.fb_types.specs.Flat.{pairs_in, kind_of, variables_in, kind_at, resource_of, link_between, paths_of}
 use Rattle.fb_types.specs.Syntax.{body_of}
-use Rattle.fb_types.specs.Repeated.{Twice, NameTwice, name_spaces, Placed, networks, basics, event_pairs, link_pairs}
-use Rattle.fb_types.specs.Unknown.{Wanted, wanted, mentioned, is_known, ends_known, NameUnknown, guards_of}
+use Rattle.fb_types.specs.Repeated.{Twice, NameTwice, name_spaces, OwnedNetwork, networks, basics, event_pairs, link_pairs}
+use Rattle.fb_types.specs.Unknown.{Required, required, mentioned, is_known, ends_known, NameUnknown, guards_of}
 use Rattle.fb_types.specs.Kinds.{KindWrong, is_condition, body_right, context_in, declared_right, parameters_right}
 use Rattle.fb_types.specs.Joined.{OutOfRange, type_at_end, TwoSources, TooHigh}
 use Rattle.fb_types.specs.Mapped.{mapped, NotMapped, event_pairs_of, data_pairs_of, NoLink, IsServed, NoEvent}
@@ -78,18 +78,18 @@ names-once : (lib : Library) (plan : Plan) → NamesOnce lib plan → ¬ (NameTw
 names-once lib plan h (inl r) =
     once same_name same_name-itself r.0 (passes_at (apart same_name) (name_spaces lib plan) r.0 h.spaces r.1) r.2
 names-once lib plan h (inr (inl r)) =
-    once same_ports ports_itself (event_pairs r.0.1) (passes_at (λ (n : Placed). apart same_ports (event_pairs n.1)) (networks lib) r.0 h.events r.1) r.2
+    once same_ports ports_itself (event_pairs r.0.1) (passes_at (λ (n : OwnedNetwork). apart same_ports (event_pairs n.1)) (networks lib) r.0 h.events r.1) r.2
 names-once lib plan h (inr (inr t)) = once same_names names_itself (link_pairs plan) h.links t
 
 -- E21
 pub record NamesKnown (lib : Library) (plan : Plan) : Type 0 where
-  pub names : list_all (λ w. among w.1 w.0) (wanted lib plan) ≡ true
+  pub names : list_all (λ w. among w.1 w.0) (required lib plan) ≡ true
   pub mentions : list_all (λ t. list_all (is_known t) (mentioned t)) (basics lib) ≡ true
   pub ends : list_all (ends_known lib) (networks lib) ≡ true
 
 names-known : (lib : Library) (plan : Plan) → NamesKnown lib plan → ¬ (NameUnknown lib plan)
 names-known lib plan h (inl r) =
-    r.2 (among-contains r.0.1 r.0.0 (passes_at (λ (w : Wanted). among w.1 w.0) (wanted lib plan) r.0 h.names r.1))
+    r.2 (among-contains r.0.1 r.0.0 (passes_at (λ (w : Required). among w.1 w.0) (required lib plan) r.0 h.names r.1))
 names-known lib plan h (inr (inl r)) =
     no (is_known r.0 r.1)
     (passes_at (is_known r.0) (mentioned r.0) r.1 (passes_at (λ (t : BasicType). list_all (is_known t) (mentioned t)) (basics lib) r.0 h.mentions r.2) r.3) r.4
@@ -128,7 +128,7 @@ kinds-right lib h (inr (inr r)) =
     no (parameters_right lib r.1)
     (
     passes_at (parameters_right lib) r.0.1.instances r.1
-    (passes_at (λ (n : Placed). list_all (parameters_right lib) n.1.instances) (networks lib) r.0 h.parameters r.2) r.3
+    (passes_at (λ (n : OwnedNetwork). list_all (parameters_right lib) n.1.instances) (networks lib) r.0 h.parameters r.2) r.3
     )
     r.4
 
@@ -141,7 +141,7 @@ boolean_is : (t : Ty) → is_boolean (Some t) ≡ true → t ≡ Boolean
 boolean_is Boolean h = refl
 boolean_is _ h = absurd (true≢false (sym h))
 
-abbrev pub joins_booleans : Library → Placed → Connection → Bool
+abbrev pub joins_booleans : Library → OwnedNetwork → Connection → Bool
 joins_booleans lib n c = is_boolean (type_at_end lib n c.from) && is_boolean (type_at_end lib n c.to)
 
 abbrev pub InRange : Library → Type 0
@@ -151,7 +151,7 @@ in-range : (lib : Library) → InRange lib → ¬ (OutOfRange lib)
 in-range lib h r =
     let joined =
     passes_at (joins_booleans lib r.0) r.0.1.data_connections r.1
-    (passes_at (λ (n : Placed). list_all (joins_booleans lib n) n.1.data_connections) (networks lib) r.0 h r.4) r.5 in
+    (passes_at (λ (n : OwnedNetwork). list_all (joins_booleans lib n) n.1.data_connections) (networks lib) r.0 h r.4) r.5 in
     let parts = and_parts (is_boolean (type_at_end lib r.0 r.1.from)) (is_boolean (type_at_end lib r.0 r.1.to)) joined in
     let s : r.2 ≡ Boolean = boolean_is r.2 (subst (λ (o : Option Ty). is_boolean o ≡ true) r.6 parts.0) in
     let t : r.3 ≡ Boolean = boolean_is r.3 (subst (λ (o : Option Ty). is_boolean o ≡ true) r.7 parts.1) in
@@ -164,7 +164,7 @@ OneSource lib = list_all (λ n. apart same_port (map (λ c. c.1) (pairs_in [] n.
 one-source : (lib : Library) → OneSource lib → ¬ (TwoSources lib)
 one-source lib h r =
     once same_port port_itself (map (λ c. c.1) (pairs_in [] r.0.1.data_connections))
-    (passes_at (λ (n : Placed). apart same_port (map (λ c. c.1) (pairs_in [] n.1.data_connections))) (networks lib) r.0 h r.1) r.2
+    (passes_at (λ (n : OwnedNetwork). apart same_port (map (λ c. c.1) (pairs_in [] n.1.data_connections))) (networks lib) r.0 h r.1) r.2
 
 -- E25, if no type is a composite
 abbrev pub is_basic : BlockType → Bool

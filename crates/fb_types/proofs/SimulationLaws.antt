@@ -46,7 +46,7 @@ takes_with-one sys s k e m zero x y h i = h ∙ sym i
 takes_with-one sys s k e m (suc left) x y h i =
     h.2 ∙ (ap (effect_of sys k e m s) (reacts-one sys k (world_of s k.resource) e left h.0 i.0 h.1 i.1) ∙ sym i.2)
 
--- So is the taking of one event.
+-- So is taking one event.
 pub takes-one : (sys : System) (limit : ℕ) (s : State) (k : Key) (e : AnEvent) (x y : Effect)
     → Takes sys limit s k e x → Takes sys limit s k e y → x ≡ y
 unfolding Takes
@@ -109,12 +109,12 @@ module _ (sys : System) (limit horizon : ℕ) where
       chain-one ts us (after c t) h.2 (subst (λ z. Chain sys limit (after c z) us) (sym e) i.2)
       (All-tail (λ t. t.key.tick < horizon) t ts below) (All-tail (λ t. t.key.tick < horizon) u us under) (rests-on c t ts goes x)
       (subst (λ z. Rests (after c z) us) (sym e) (rests-on c u us (same_stop ∙ goes) y)) in
-      let rest = behind (t.effect.stop) refl same_stop after_none in
+      let rest = following (t.effect.stop) refl same_stop after_none in
       λ j. e j ∷ rest j
     where
-      behind : (s : Option Reason) → t.effect.stop ≡ s → u.effect.stop ≡ t.effect.stop → (t.effect.stop ≡ None → ts ≡ us) → ts ≡ us
-      behind None goes same_stop rest = rest goes
-      behind (Some r) stops same_stop rest =
+      following : (s : Option Reason) → t.effect.stop ≡ s → u.effect.stop ≡ t.effect.stop → (t.effect.stop ≡ None → ts ≡ us) → ts ≡ us
+      following None goes same_stop rest = rest goes
+      following (Some r) stops same_stop rest =
           let first : ts ≡ [] = subst (λ s. NothingAfter s ts) stops h.1 in
           let second : us ≡ [] = subst (λ s. NothingAfter s us) (same_stop ∙ stops) i.1 in
           first ∙ sym second

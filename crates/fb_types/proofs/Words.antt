@@ -60,7 +60,7 @@ short bs apart =
       | false ↦ λ e. absurd (e refl)
     ] apart
 
--- two names that one number stands for are the same
+-- two names that one number represents are the same
 pub is_the_name : (bs cs : List ℕ) (w v : ℕ) → w ≡ word_of bs → v ≡ word_of cs → ¬ (w ≡ 0) → w ≡ v → bs ≡ cs
 is_the_name bs cs w v is other apart same =
     let first = short bs (λ e. apart (is ∙ e)) in

@@ -4,7 +4,7 @@ use Rattle.std.specs.Prelude.{◌≡◌, ◌⊎◌, ℕ, zero, suc, [], map, ◌
 use Rattle.fb_types.specs.Values.{fits}
 use Rattle.fb_types.specs.Blocks.{Composite, named, ports_of}
 use Rattle.fb_types.specs.Flat.{type_named, instance_in, kind_of_instance, pairs_in}
-use Rattle.fb_types.specs.Repeated.{Twice, Placed, networks}
+use Rattle.fb_types.specs.Repeated.{Twice, OwnedNetwork, networks}
 use Rattle.fb_types.specs.declared.value.Value.{Value}
 use Rattle.fb_types.specs.declared.value.Ty.{Ty}
 use Rattle.fb_types.specs.declared.library.Library.{Library}
@@ -21,7 +21,7 @@ abbrev pub type_among : Ports → PortName → Option Ty
 type_among its e = option_map (λ v. v.ty) (named (λ v. v.name) e.port (its.inputs ++ its.outputs))
 
 -- the type of the variable at the end of a connection
-abbrev pub type_at_end : Library → Placed → PortName → Option Ty
+abbrev pub type_at_end : Library → OwnedNetwork → PortName → Option Ty
 type_at_end lib n e =
     elim e.component [
       | None ↦ option_and_then (λ t. type_among t.ports e) n.0
@@ -35,7 +35,7 @@ IsWithin s t = (v : Value) → fits s v ≡ true → fits t v ≡ true
 -- A data connection leads to a type that does not contain all values of the source type.
 abbrev pub OutOfRange : Library → Type 0
 OutOfRange lib =
-    (n : Placed) × (c : Connection) × (s : Ty) × (t : Ty) × Contains (networks lib) n × Contains n.1.data_connections c
+    (n : OwnedNetwork) × (c : Connection) × (s : Ty) × (t : Ty) × Contains (networks lib) n × Contains n.1.data_connections c
     × (type_at_end lib n c.from ≡ Some s) × (type_at_end lib n c.to ≡ Some t) × ¬ (IsWithin s t)
 
 -- ---- E24
@@ -43,7 +43,7 @@ OutOfRange lib =
 -- Two data connections lead to one port.
 abbrev pub TwoSources : Library → Type 0
 TwoSources lib =
-    (n : Placed) × Contains (networks lib) n × Twice (map (λ c. c.1) (pairs_in [] n.1.data_connections))
+    (n : OwnedNetwork) × Contains (networks lib) n × Twice (map (λ c. c.1) (pairs_in [] n.1.data_connections))
 
 -- ---- E25
 

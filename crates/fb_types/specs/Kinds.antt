@@ -6,12 +6,12 @@ use Rattle.fb_types.specs.Syntax.{Expr, Whole, Truth, Variable, Unary, Binary, C
 use Rattle.fb_types.specs.Values.{Types, fits, function_named}
 use Rattle.fb_types.specs.Blocks.{named, ports_of, is_input, types_of}
 use Rattle.fb_types.specs.Flat.{kind_of, kind_of_instance, variables_in}
-use Rattle.fb_types.specs.Repeated.{Placed, networks, basics}
+use Rattle.fb_types.specs.Repeated.{OwnedNetwork, networks, basics}
 use Rattle.fb_types.specs.Unknown.{guards_of}
 use Rattle.fb_types.specs.declared.function.Function.{Function}
 use Rattle.fb_types.specs.declared.function.Function.TheVariants.{Min, Max, Abs, Limit, Sel}
-use Rattle.fb_types.specs.declared.sort.Sort.{Sort}
-use Rattle.fb_types.specs.declared.sort.Sort.TheVariants.{TruthValue, WholeNumber}
+use Rattle.fb_types.specs.declared.value_kind.ValueKind.{ValueKind}
+use Rattle.fb_types.specs.declared.value_kind.ValueKind.TheVariants.{TruthValue, WholeNumber}
 use Rattle.fb_types.specs.declared.text.UnaryOperator.{UnaryOperator}
 use Rattle.fb_types.specs.declared.text.UnaryOperator.TheVariants.{Negate, Not}
 use Rattle.fb_types.specs.declared.text.BinaryOperator.{BinaryOperator}
@@ -27,69 +27,69 @@ use Rattle.fb_types.specs.declared.library.Ports.{Ports}
 use Rattle.fb_types.specs.declared.library.Variable as declared
 
 -- the kind of the values of a type
-abbrev pub sort_of_type : Ty → Sort
-sort_of_type Boolean = TruthValue
-sort_of_type _ = WholeNumber
+abbrev pub value_kind_of_type : Ty → ValueKind
+value_kind_of_type Boolean = TruthValue
+value_kind_of_type _ = WholeNumber
 
-abbrev pub same_sort : Sort → Sort → Bool
-same_sort TruthValue TruthValue = true
-same_sort WholeNumber WholeNumber = true
-same_sort _ _ = false
+abbrev pub same_value_kind : ValueKind → ValueKind → Bool
+same_value_kind TruthValue TruthValue = true
+same_value_kind WholeNumber WholeNumber = true
+same_value_kind _ _ = false
 
 -- the kind of a value, if its operands have the right ones
-abbrev pub if_right : Bool → Sort → Option Sort
+abbrev pub if_right : Bool → ValueKind → Option ValueKind
 if_right true s = Some s
 if_right false s = None
 
-abbrev pub are_truths : Sort → Sort → Bool
-are_truths s t = same_sort s TruthValue && same_sort t TruthValue
+abbrev pub are_truths : ValueKind → ValueKind → Bool
+are_truths s t = same_value_kind s TruthValue && same_value_kind t TruthValue
 
-abbrev pub are_whole : Sort → Sort → Bool
-are_whole s t = same_sort s WholeNumber && same_sort t WholeNumber
+abbrev pub are_whole : ValueKind → ValueKind → Bool
+are_whole s t = same_value_kind s WholeNumber && same_value_kind t WholeNumber
 
-abbrev pub unary_sort : UnaryOperator → Sort → Option Sort
-unary_sort Negate s = if_right (same_sort s WholeNumber) WholeNumber
-unary_sort Not s = if_right (same_sort s TruthValue) TruthValue
+abbrev pub unary_value_kind : UnaryOperator → ValueKind → Option ValueKind
+unary_value_kind Negate s = if_right (same_value_kind s WholeNumber) WholeNumber
+unary_value_kind Not s = if_right (same_value_kind s TruthValue) TruthValue
 
-abbrev pub binary_sort : BinaryOperator → Sort → Sort → Option Sort
-binary_sort Or s t = if_right (are_truths s t) TruthValue
-binary_sort Xor s t = if_right (are_truths s t) TruthValue
-binary_sort And s t = if_right (are_truths s t) TruthValue
-binary_sort Equal s t = if_right (same_sort s t) TruthValue
-binary_sort NotEqual s t = if_right (same_sort s t) TruthValue
-binary_sort Less s t = if_right (are_whole s t) TruthValue
-binary_sort Greater s t = if_right (are_whole s t) TruthValue
-binary_sort LessOrEqual s t = if_right (are_whole s t) TruthValue
-binary_sort GreaterOrEqual s t = if_right (are_whole s t) TruthValue
-binary_sort _ s t = if_right (are_whole s t) WholeNumber
+abbrev pub binary_value_kind : BinaryOperator → ValueKind → ValueKind → Option ValueKind
+binary_value_kind Or s t = if_right (are_truths s t) TruthValue
+binary_value_kind Xor s t = if_right (are_truths s t) TruthValue
+binary_value_kind And s t = if_right (are_truths s t) TruthValue
+binary_value_kind Equal s t = if_right (same_value_kind s t) TruthValue
+binary_value_kind NotEqual s t = if_right (same_value_kind s t) TruthValue
+binary_value_kind Less s t = if_right (are_whole s t) TruthValue
+binary_value_kind Greater s t = if_right (are_whole s t) TruthValue
+binary_value_kind LessOrEqual s t = if_right (are_whole s t) TruthValue
+binary_value_kind GreaterOrEqual s t = if_right (are_whole s t) TruthValue
+binary_value_kind _ s t = if_right (are_whole s t) WholeNumber
 
 -- A wrong number of arguments has no kind.
-abbrev pub function_sort : Function → List Sort → Option Sort
-function_sort Min (s ∷ t ∷ []) = if_right (are_whole s t) WholeNumber
-function_sort Max (s ∷ t ∷ []) = if_right (are_whole s t) WholeNumber
-function_sort Abs (s ∷ []) = if_right (same_sort s WholeNumber) WholeNumber
-function_sort Limit (s ∷ t ∷ u ∷ []) = if_right (same_sort s WholeNumber && are_whole t u) WholeNumber
-function_sort Sel (s ∷ t ∷ u ∷ []) = if_right (same_sort s TruthValue && same_sort t u) t
-function_sort _ _ = None
+abbrev pub function_value_kind : Function → List ValueKind → Option ValueKind
+function_value_kind Min (s ∷ t ∷ []) = if_right (are_whole s t) WholeNumber
+function_value_kind Max (s ∷ t ∷ []) = if_right (are_whole s t) WholeNumber
+function_value_kind Abs (s ∷ []) = if_right (same_value_kind s WholeNumber) WholeNumber
+function_value_kind Limit (s ∷ t ∷ u ∷ []) = if_right (same_value_kind s WholeNumber && are_whole t u) WholeNumber
+function_value_kind Sel (s ∷ t ∷ u ∷ []) = if_right (same_value_kind s TruthValue && same_value_kind t u) t
+function_value_kind _ _ = None
 
 -- the kind of an expression, or none if an operand or the number of arguments is wrong
 abbrev mutual
-  pub sort_of : Types → Expr → Option Sort
-  sort_of types (Whole z) = Some WholeNumber
-  sort_of types (Truth b) = Some TruthValue
-  sort_of types (Variable n) = Some (sort_of_type (types n))
-  sort_of types (Unary o e) = option_and_then (unary_sort o) (sort_of types e)
-  sort_of types (Binary o e f) = option_and_then (λ s. option_and_then (binary_sort o s) (sort_of types f)) (sort_of types e)
-  sort_of types (Call f args) =
-      option_and_then (λ g. option_and_then (function_sort g) (sorts_of types args)) (function_named f)
+  pub value_kind_of : Types → Expr → Option ValueKind
+  value_kind_of types (Whole z) = Some WholeNumber
+  value_kind_of types (Truth b) = Some TruthValue
+  value_kind_of types (Variable n) = Some (value_kind_of_type (types n))
+  value_kind_of types (Unary o e) = option_and_then (unary_value_kind o) (value_kind_of types e)
+  value_kind_of types (Binary o e f) = option_and_then (λ s. option_and_then (binary_value_kind o s) (value_kind_of types f)) (value_kind_of types e)
+  value_kind_of types (Call f args) =
+      option_and_then (λ g. option_and_then (function_value_kind g) (value_kinds_of types args)) (function_named f)
 
-  pub sorts_of : Types → Exprs → Option (List Sort)
-  sorts_of types no_expr = Some []
-  sorts_of types (then_exprs e rest) = option_and_then (λ s. option_map (λ ss. s ∷ ss) (sorts_of types rest)) (sort_of types e)
+  pub value_kinds_of : Types → Exprs → Option (List ValueKind)
+  value_kinds_of types no_expr = Some []
+  value_kinds_of types (then_exprs e rest) = option_and_then (λ s. option_map (λ ss. s ∷ ss) (value_kinds_of types rest)) (value_kind_of types e)
 
-abbrev pub is_sort : Sort → Option Sort → Bool
-is_sort s None = false
-is_sort s (Some t) = same_sort s t
+abbrev pub is_value_kind : ValueKind → Option ValueKind → Bool
+is_value_kind s None = false
+is_value_kind s (Some t) = same_value_kind s t
 
 -- ---- Statements
 
@@ -103,21 +103,21 @@ abbrev pub looped : Context → Context
 looped p = record p { in_loop = true }
 
 abbrev pub is_whole : Context → Expr → Bool
-is_whole p e = is_sort WholeNumber (sort_of p.types e)
+is_whole p e = is_value_kind WholeNumber (value_kind_of p.types e)
 
 abbrev pub is_condition : Context → Expr → Bool
-is_condition p e = is_sort TruthValue (sort_of p.types e)
+is_condition p e = is_value_kind TruthValue (value_kind_of p.types e)
 
 abbrev mutual
   pub is_right : Context → Stmt → Bool
   is_right p Empty = true
   is_right p Exit = p.in_loop
   is_right p Return = true
-  is_right p (Assign n e) = not (p.fixed n) && is_sort (sort_of_type (p.types n)) (sort_of p.types e)
+  is_right p (Assign n e) = not (p.fixed n) && is_value_kind (value_kind_of_type (p.types n)) (value_kind_of p.types e)
   is_right p (If cs others) = choices_right p cs && body_right p others
   is_right p (Case e bs others) = is_whole p e && branches_right p bs && body_right p others
   is_right p (For n a b c body) =
-      not (p.fixed n) && same_sort WholeNumber (sort_of_type (p.types n))
+      not (p.fixed n) && same_value_kind WholeNumber (value_kind_of_type (p.types n))
       && is_whole p a && is_whole p b && is_whole p c && body_right (looped p) body
   is_right p (While c body) = is_condition p c && body_right (looped p) body
   is_right p (Repeat body c) = body_right (looped p) body && is_condition p c
@@ -162,4 +162,4 @@ abbrev pub KindWrong : Library → Type 0
 KindWrong lib =
     ((t : BasicType) × Contains (basics lib) t × ChartWrong t)
     ⊎ ((t : BlockType) × (v : declared.Variable) × Contains lib.blocks t × Contains (variables_in (kind_of t)) v × (declared_right v ≡ false))
-    ⊎ ((n : Placed) × (i : Instance) × Contains (networks lib) n × Contains n.1.instances i × (parameters_right lib i ≡ false))
+    ⊎ ((n : OwnedNetwork) × (i : Instance) × Contains (networks lib) n × Contains n.1.instances i × (parameters_right lib i ≡ false))

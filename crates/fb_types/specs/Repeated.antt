@@ -21,14 +21,14 @@ Twice (x ∷ xs) = Contains xs x ⊎ Twice xs
 -- ---- Parts of a declaration
 
 -- A network, with the composite type that contains it, or none for the application's.
-abbrev pub Placed : Type 0
-Placed = Option CompositeType × Network
+abbrev pub OwnedNetwork : Type 0
+OwnedNetwork = Option CompositeType × Network
 
-abbrev pub networks_in : BlockType → List Placed
+abbrev pub networks_in : BlockType → List OwnedNetwork
 networks_in (block.Basic b) = []
 networks_in (block.Composite c) = (Some c, c.network) ∷ []
 
-abbrev pub networks : Library → List Placed
+abbrev pub networks : Library → List OwnedNetwork
 networks lib = (None, lib.application.network) ∷ flat_map networks_in lib.blocks
 
 abbrev pub basics_in : BlockType → List BasicType
@@ -92,5 +92,5 @@ link_pairs plan = map (λ l. (l.from, l.to)) plan.links
 abbrev pub NameTwice : Library → Plan → Type 0
 NameTwice lib plan =
     ((ns : List Name) × Contains (name_spaces lib plan) ns × Twice ns)
-    ⊎ ((n : Placed) × Contains (networks lib) n × Twice (event_pairs n.1))
+    ⊎ ((n : OwnedNetwork) × Contains (networks lib) n × Twice (event_pairs n.1))
     ⊎ Twice (link_pairs plan)

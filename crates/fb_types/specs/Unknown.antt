@@ -6,7 +6,7 @@ use Rattle.fb_types.specs.Syntax.{Expr, Whole, Truth, Variable, Unary, Binary, C
 use Rattle.fb_types.specs.Values.{function_named}
 use Rattle.fb_types.specs.Blocks.{ports_of, event_names, variable_names, variables_of, among}
 use Rattle.fb_types.specs.Flat.{instance_in, kind_of_instance, resource_names_of}
-use Rattle.fb_types.specs.Repeated.{Placed, networks, basics, interfaces, block_type_names, algorithm_names, state_names, instance_names}
+use Rattle.fb_types.specs.Repeated.{OwnedNetwork, networks, basics, interfaces, block_type_names, algorithm_names, state_names, instance_names}
 use Rattle.fb_types.specs.declared.library.Library.{Library}
 use Rattle.fb_types.specs.declared.library.BasicType.{BasicType}
 use Rattle.fb_types.specs.declared.library.Network.{Network}
@@ -18,11 +18,11 @@ use Rattle.fb_types.specs.declared.library.PortName.{PortName}
 use Rattle.fb_types.specs.declared.deploy.Plan.{Plan}
 
 -- A name, with all names of the kind that is required there.
-abbrev pub Wanted : Type 0
-Wanted = Name × List Name
+abbrev pub Required : Type 0
+Required = Name × List Name
 
-abbrev pub all_of : List Name → List Name → List Wanted
-all_of ns sort = map (λ n. (n, sort)) ns
+abbrev pub all_of : List Name → List Name → List Required
+all_of ns allowed = map (λ n. (n, allowed)) ns
 
 abbrev pub optional : Option Name → List Name
 optional None = []
@@ -30,16 +30,16 @@ optional (Some n) = n ∷ []
 
 -- ---- Types, WITH lists and parameters
 
-abbrev pub required_types : Library → Network → List Wanted
+abbrev pub required_types : Library → Network → List Required
 required_types lib net = all_of (map (λ i. i.block_type) net.instances) (block_type_names lib)
 
-abbrev pub required_withs : Ports → List Wanted
+abbrev pub required_withs : Ports → List Required
 required_withs p =
     flat_map (λ e. all_of e.with (variable_names p.inputs)) p.event_inputs
     ++ flat_map (λ e. all_of e.with (variable_names p.outputs)) p.event_outputs
 
 -- a parameter sets a data input
-abbrev pub required_parameters : Library → Instance → List Wanted
+abbrev pub required_parameters : Library → Instance → List Required
 required_parameters lib i =
     elim (kind_of_instance lib i) [
       | None ↦ []
@@ -48,27 +48,27 @@ required_parameters lib i =
 
 -- ---- Charts
 
-abbrev pub required_transition : BasicType → Transition → List Wanted
+abbrev pub required_transition : BasicType → Transition → List Required
 required_transition t x =
     (x.from, state_names t) ∷ (x.to, state_names t) ∷ all_of (optional x.condition.event) (event_names t.ports.event_inputs)
 
-abbrev pub required_actions : BasicType → State → List Wanted
+abbrev pub required_actions : BasicType → State → List Required
 required_actions t s =
     flat_map (λ a. all_of (optional a.algorithm) (algorithm_names t) ++ all_of (optional a.output) (event_names t.ports.event_outputs)) s.actions
 
-abbrev pub required_chart : BasicType → List Wanted
+abbrev pub required_chart : BasicType → List Required
 required_chart t = flat_map (required_transition t) t.transitions ++ flat_map (required_actions t) t.states
 
 -- ---- Deployments
 
 -- mapped instances, and the ends of links
-abbrev pub required_deployment : Library → Plan → List Wanted
+abbrev pub required_deployment : Library → Plan → List Required
 required_deployment lib plan =
     flat_map (λ r. all_of r.instances (instance_names lib.application.network)) plan.resources
     ++ flat_map (λ l. all_of (l.from ∷ l.to ∷ []) (resource_names_of plan)) plan.links
 
-abbrev pub wanted : Library → Plan → List Wanted
-wanted lib plan =
+abbrev pub required : Library → Plan → List Required
+required lib plan =
     flat_map (λ n. required_types lib n.1) (networks lib) ++ flat_map required_withs (interfaces lib)
     ++ flat_map required_chart (basics lib) ++ flat_map (λ n. flat_map (required_parameters lib) n.1.instances) (networks lib)
     ++ required_deployment lib plan
@@ -130,7 +130,7 @@ is_known t (OfFunction n) = is_some (function_named n)
 -- ---- Connections
 
 -- whether the end of a connection is among the ports of the one kind at a component, or of the other at the boundary
-abbrev pub is_end : Library → Placed → (component boundary : Ports → List Name) → PortName → Bool
+abbrev pub is_end : Library → OwnedNetwork → (component boundary : Ports → List Name) → PortName → Bool
 is_end lib n component boundary e =
     elim e.component [
       | None ↦ elim n.0 [ None ↦ false | Some t ↦ among (boundary t.ports) e.port ]
@@ -150,7 +150,7 @@ abbrev pub data_outs : Ports → List Name
 data_outs p = variable_names p.outputs
 
 -- A connection goes from an output of a component, or an input of the boundary, to an input of a component, or an output of the boundary.
-abbrev pub ends_known : Library → Placed → Bool
+abbrev pub ends_known : Library → OwnedNetwork → Bool
 ends_known lib n =
     list_all (λ c. is_end lib n event_outs event_ins c.from && is_end lib n event_ins event_outs c.to) n.1.event_connections
     && list_all (λ c. is_end lib n data_outs data_ins c.from && is_end lib n data_ins data_outs c.to) n.1.data_connections
@@ -159,6 +159,6 @@ ends_known lib n =
 
 abbrev pub NameUnknown : Library → Plan → Type 0
 NameUnknown lib plan =
-    ((w : Wanted) × Contains (wanted lib plan) w × ¬ (Contains w.1 w.0))
+    ((w : Required) × Contains (required lib plan) w × ¬ (Contains w.1 w.0))
     ⊎ ((t : BasicType) × (m : Mention) × Contains (basics lib) t × Contains (mentioned t) m × (is_known t m ≡ false))
-    ⊎ ((n : Placed) × Contains (networks lib) n × (ends_known lib n ≡ false))
+    ⊎ ((n : OwnedNetwork) × Contains (networks lib) n × (ends_known lib n ≡ false))

@@ -4,7 +4,7 @@
 //! definitions say. Contracts see a container as what it contains. A system has at most one simulation, and the worked
 //! examples have the traces that were worked out by hand.
 //!
-//! Read in this order: `library`, `text`, `value`, `sort`, `function` and `name`, what is read; `deploy` and `latency`;
+//! Read in this order: `library`, `text`, `value`, `value_kind`, `function` and `name`, what is read; `deploy` and `latency`;
 //! `event_kind` and `event_ports`, the event blocks; `limits`; `key`, `run` and `emits`, what a simulation gives;
 //! `items`, `numbered`, `few`, `short`, `boxed` and `reference`; `laws`. The definitions are in `specs/`.
 #![tactic(auto)]
@@ -27,9 +27,9 @@ pub mod numbered;
 pub mod reference;
 pub mod run;
 mod short;
-pub mod sort;
 pub mod text;
 pub mod value;
+pub mod value_kind;
 
 pub use boxed::Boxed;
 pub use deploy::{Deploy, Link, Plan, ResourceEntry, Setting, Stimulus};
@@ -59,6 +59,6 @@ pub use run::{
     Carried, Emission, Emits, Event, Form, Halt, InstanceVariable, Line, Message, StopMark, Target,
     TimerAsk, Values,
 };
-pub use sort::Sort;
 pub use text::{BinaryOperator, Body, Branch, Choice, Expr, Label, Stmt, UnaryOperator};
 pub use value::{Reason, Ty, Value};
+pub use value_kind::ValueKind;

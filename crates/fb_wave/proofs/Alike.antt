@@ -86,7 +86,7 @@ names_once n m (h ∷ p) (k ∷ q) are other e =
 
 -- ---- Ports
 
--- an event behind a path is one more name
+-- an event after a path is one more name
 event_joined : (p : Path) (n : Name) → 0 < length p → (path_text p ++ codes ".") ++ n ≡ path_text (n ∷ p)
 event_joined [] n some = absurd (omega (arith, some))
 event_joined (m ∷ p) n some = refl

@@ -9,7 +9,7 @@ use Rattle.fb_types.specs.declared.run.Line.{Line}
 use Rattle.fb_wave.specs.ByTick.{AreTickByTick, before_tick, of_tick, tick_text}
 use Rattle.fb_wave.specs.Changes.{line, time_text}
 use Rattle.fb_wave.specs.Dumps.{tick_changes, ticks_text}
-use Rattle.fb_wave.specs.Levels.{is_in, noted}
+use Rattle.fb_wave.specs.Levels.{is_in, marked}
 use Rattle.fb_wave.specs.Waves.{RiseFrom}
 
 -- ---- Lines below a tick, and of a tick
@@ -84,7 +84,7 @@ rise_not_before t u (l ∷ ls) later rise =
     left_out (λ l. nat_lt l.key.tick t) l ls (false_from_ne_true (nat_lt l.key.tick t) (λ h. let low = ltb-true l.key.tick t h in omega (arith, low, up, later)))
     ∙ rise_not_before t l.key.tick ls (omega (arith, up, later)) rise.1
 
--- ---- The ticks of lines behind a tick
+-- ---- The ticks of lines after a tick
 
 abbrev later_ticks : ℕ → List Line → List ℕ
 later_ticks t [] = []
@@ -106,30 +106,30 @@ above : (t u : ℕ) → t ≤ u → (u ≡ t → ⊥) → t < u
 above t u up differ = elim (cases_lt t u) [ inl less ↦ less | inr past ↦ (let same : u ≡ t = omega (arith, up, past) in absurd (differ same)) ]
 
 abbrev Notes : (seen : List ℕ) → (t : ℕ) → (ls : List Line) → Type 0
-Notes seen t ls = noted (seen ++ t ∷ []) (map (λ l. l.key.tick) ls) ≡ (seen ++ t ∷ []) ++ later_ticks t ls
+Notes seen t ls = marked (seen ++ t ∷ []) (map (λ l. l.key.tick) ls) ≡ (seen ++ t ∷ []) ++ later_ticks t ls
 
-noted_step :
+marked_step :
     (seen : List ℕ) (t : ℕ) (l : Line) (ls : List Line) → IsGreatest seen t → t ≤ l.key.tick → (l.key.tick ≡ t → Notes seen t ls)
     → (t < l.key.tick → Notes (seen ++ t ∷ []) l.key.tick ls) → (b : Bool) → (l.key.tick == t) ≡ b → Notes seen t (l ∷ ls)
-noted_step seen t l ls greatest up same_tick next_tick true e =
+marked_step seen t l ls greatest up same_tick next_tick true e =
     let all = seen ++ t ∷ [] in
     let u = l.key.tick in
     let same = eqb-true u t e in
-    ap (λ (b : Bool). noted (cond b all (all ++ u ∷ [])) (map (λ (l : Line). l.key.tick) ls)) (ap (is_in all) same ∙ last_seen seen t)
+    ap (λ (b : Bool). marked (cond b all (all ++ u ∷ [])) (map (λ (l : Line). l.key.tick) ls)) (ap (is_in all) same ∙ last_seen seen t)
     ∙ same_tick same ∙ ap (λ (b : Bool). all ++ cond b (later_ticks t ls) (u ∷ later_ticks u ls)) (sym e)
-noted_step seen t l ls greatest up same_tick next_tick false e =
+marked_step seen t l ls greatest up same_tick next_tick false e =
     let all = seen ++ t ∷ [] in
     let u = l.key.tick in
     let later : t < u = above t u up (eqb-false u t e) in
-    ap (λ (b : Bool). noted (cond b all (all ++ u ∷ [])) (map (λ (l : Line). l.key.tick) ls)) (not_among seen t u (greatest u later) later)
+    ap (λ (b : Bool). marked (cond b all (all ++ u ∷ [])) (map (λ (l : Line). l.key.tick) ls)) (not_among seen t u (greatest u later) later)
     ∙ next_tick later ∙ append_assoc all (u ∷ []) (later_ticks u ls)
     ∙ ap (λ (b : Bool). all ++ cond b (later_ticks t ls) (u ∷ later_ticks u ls)) (sym e)
 
-noted_later : (seen : List ℕ) (t : ℕ) (ls : List Line) → IsGreatest seen t → RiseFrom t ls → Notes seen t ls
-noted_later seen t [] greatest rise = sym (append-nil (seen ++ t ∷ []))
-noted_later seen t (l ∷ ls) greatest rise =
-    noted_step seen t l ls greatest rise.0 (λ e. noted_later seen t ls greatest (subst (λ (k : ℕ). RiseFrom k ls) e rise.1))
-    (λ later. noted_later (seen ++ t ∷ []) l.key.tick ls
+marked_later : (seen : List ℕ) (t : ℕ) (ls : List Line) → IsGreatest seen t → RiseFrom t ls → Notes seen t ls
+marked_later seen t [] greatest rise = sym (append-nil (seen ++ t ∷ []))
+marked_later seen t (l ∷ ls) greatest rise =
+    marked_step seen t l ls greatest rise.0 (λ e. marked_later seen t ls greatest (subst (λ (k : ℕ). RiseFrom k ls) e rise.1))
+    (λ later. marked_later (seen ++ t ∷ []) l.key.tick ls
     (λ v high. not_among seen t v (greatest v (omega (arith, high, later))) (omega (arith, high, later))) rise.1)
     (l.key.tick == t) refl
 
@@ -222,4 +222,4 @@ pub ticks_are : AreTickByTick
 ticks_are sys ls rise =
     shown_from sys 0 [] [] ls tt tt rise
     ∙ ap (λ (xs : List Line). tick_changes sys xs (of_tick 0 ls) ++ flat_map (tick_text sys ls) (later_ticks 0 ls)) (sym (rise_not_before 0 0 ls (omega arith) rise))
-    ∙ ap (flat_map (tick_text sys ls)) (sym (noted_later [] 0 ls (λ v high. refl) rise))
+    ∙ ap (flat_map (tick_text sys ls)) (sym (marked_later [] 0 ls (λ v high. refl) rise))

@@ -34,30 +34,30 @@ other_end text w r cut other h small e =
 abbrev name_at : System → ℕ → Name
 name_at sys r = unwrap_or (slice_get sys.resource_names r) []
 
-abbrev behind_name : Reason → List ℕ
-behind_name reason = codes " " ++ (reason_text reason ++ 10 ∷ [])
+abbrev after_name : Reason → List ℕ
+after_name reason = codes " " ++ (reason_text reason ++ 10 ∷ [])
 
 stop_parts : (n h b r l : List ℕ) → (((n ++ h) ++ b) ++ r) ++ l ≡ n ++ (h ++ (b ++ (r ++ l)))
 stop_parts n h b r l = simp append_assoc
 
-stop_is : (sys : System) (k r : ℕ) (reason : Reason) → stop_text sys k r reason ≡ number_text k ++ (name_at sys r ++ behind_name reason)
+stop_is : (sys : System) (k r : ℕ) (reason : Reason) → stop_text sys k r reason ≡ number_text k ++ (name_at sys r ++ after_name reason)
 stop_is sys k r reason = stop_parts (number_text k) (name_at sys r) (codes " ") (reason_text reason) (10 ∷ [])
 
 pub no_tick : (sys : System) (text : List ℕ) → HasNoNumber (2 ^ 64) text → IsNoStop sys text
 no_tick sys text none k r reason small within e = none k _ small (e ∙ stop_is sys k r reason)
 
 module _ (sys : System) (text rest : List ℕ) (t : ℕ) (small : t < 2 ^ 64) (tick : text ≡ number_text t ++ rest) where
-  rest_is : (k r : ℕ) (reason : Reason) → k < 2 ^ 64 → text ≡ stop_text sys k r reason → rest ≡ name_at sys r ++ behind_name reason
+  rest_is : (k r : ℕ) (reason : Reason) → k < 2 ^ 64 → text ≡ stop_text sys k r reason → rest ≡ name_at sys r ++ after_name reason
   rest_is k r reason little e =
       (number_once t k rest _ (omega (arith, small)) (omega (arith, little)) (sym tick ∙ e ∙ stop_is sys k r reason)).1
 
   pub no_word : is_word rest ≡ true → IsNoStop sys text
-  no_word word k r reason little within e = uncut rest (name_at sys r) (behind_name reason) word (rest_is k r reason little e) refl
+  no_word word k r reason little within e = uncut rest (name_at sys r) (after_name reason) word (rest_is k r reason little e) refl
 
   module _ (w more : List ℕ) (cut : IsCut rest w more) (names : HasNames sys) where
-    cut_is : (k r : ℕ) (reason : Reason) → k < 2 ^ 64 → r < length sys.resource_names → text ≡ stop_text sys k r reason → (w ≡ name_at sys r) × (more ≡ behind_name reason)
+    cut_is : (k r : ℕ) (reason : Reason) → k < 2 ^ 64 → r < length sys.resource_names → text ≡ stop_text sys k r reason → (w ≡ name_at sys r) × (more ≡ after_name reason)
     cut_is k r reason little within e =
-        cut_once rest w more (name_at sys r) (behind_name reason) cut (name_word (name_at sys r) (names.resources (name_at sys r) (there sys.resource_names r [] within))) refl
+        cut_once rest w more (name_at sys r) (after_name reason) cut (name_word (name_at sys r) (names.resources (name_at sys r) (there sys.resource_names r [] within))) refl
         (rest_is k r reason little e)
 
     pub no_resource : ((r : ℕ) → r < length sys.resource_names → w ≡ get_or sys.resource_names r [] → ⊥) → IsNoStop sys text

@@ -62,7 +62,7 @@ word_at (n ∷ ns) (suc r) are = word_at ns r (names_rest n ns are)
 abbrev pub sign : Bool → List ℕ
 sign b = if b then codes ">" else codes "<"
 
--- what a line has of a port behind the sign
+-- what a line has of a port after the sign
 abbrev pub path_event : System → Port → List ℕ
 path_event sys p = (path_text (path_at sys p.instance) ++ codes ".") ++ event_at (side sys p.instance p.taken) p.event
 
@@ -173,7 +173,7 @@ front_is_port sys text p rest size names begins has =
     let long : size ≡ length (port_text sys p) = has.long ∙ ap length (once.0 ∙ sym (port_is_three sys p)) in
     ap (λ (k : ℕ). take k text) long ∙ ap (take (length (port_text sys p))) begins.parts ∙ take-append_seam (port_text sys p) rest
 
--- a text that goes on in the word behind the text of a port does not begin with it
+-- a text that goes on in the word after the text of a port does not begin with it
 pub unended_port : (sys : System) (text rest : List ℕ) (p : Port) (more : List ℕ) → text ≡ port_text sys p ++ rest → BeginsWith sys text p more → is_ended rest ≡ false → ⊥
 unended_port sys text rest p more parts begins on =
     let same = append_cancel_left (port_text sys p) rest more (sym parts ∙ begins.parts) in

@@ -11,7 +11,7 @@ use Rattle.fb_wave.specs.Named.{HasNames, is_digit}
 use Rattle.fb_wave.specs.Ports.{holder_name, port_text}
 use Rattle.fb_wave.specs.Reading.{number_text}
 use Rattle.fb_wave.specs.Words.{is_word}
-use Rattle.fb_wave.proofs.Lining.{behind_holder, behind_key, holder_named, key_three, line_end, line_parts, port_of_line, port_spread}
+use Rattle.fb_wave.proofs.Lining.{after_holder, after_key, holder_named, key_three, line_end, line_parts, port_of_line, port_spread}
 use Rattle.fb_wave.proofs.Numerals.{digits_of, number_cut}
 use Rattle.fb_wave.proofs.Plain.{name_first}
 
@@ -44,9 +44,9 @@ pub form_shown : (sys : System) (f g : Form) (l : Line) (text : List ℕ) → Ha
 form_shown sys f One l text names sets is =
     let tick = is.line.range.tick in
     let h = holder_name sys l.instance in
-    let b : ℕ = get_or (h ++ behind_holder sys l) 0 0 in
-    let low = name_first h (behind_holder sys l) (holder_named sys l names is.line) in
-    let more = begun (h ++ behind_holder sys l) (some_of h (behind_holder sys l) low) in
+    let b : ℕ = get_or (h ++ after_holder sys l) 0 0 in
+    let low = name_first h (after_holder sys l) (holder_named sys l names is.line) in
+    let more = begun (h ++ after_holder sys l) (some_of h (after_holder sys l) low) in
     let first : more.first ≡ b = ap (λ (t : List ℕ). get_or t 0 0) (sym more.is) in
     let parts : text ≡ decimal l.key.tick ++ 32 ∷ (more.first ∷ more.rest) =
     is.is ∙ line_parts sys One l is.line.held ∙ number_cut l.key.tick (port_text sys (port_of_line l) ++ line_end sys l)
@@ -67,12 +67,12 @@ form_shown sys f Two l text names sets is =
     let more = begun (decimal l.key.a) are.some in
     let one = are.each 0 0 are.some in
     let first : more.first ≡ get_or (decimal l.key.a) 0 0 = ap (λ (t : List ℕ). get_or t 0 0) (sym more.is) in
-    let behind = codes " " ++ (number_text l.key.b ++ behind_key sys l) in
-    let parts : text ≡ decimal l.key.class ++ 32 ∷ (more.first ∷ (more.rest ++ behind)) =
-    is.is ∙ line_parts sys Two l is.line.held ∙ key_three l.key (behind_key sys l) ∙ number_cut l.key.class (number_text l.key.a ++ (number_text l.key.b ++ behind_key sys l))
-    ∙ ap (λ (t : List ℕ). decimal l.key.class ++ 32 ∷ t) (append_assoc (decimal l.key.a) (codes " ") (number_text l.key.b ++ behind_key sys l) ∙ ap (λ (t : List ℕ). t ++ behind) more.is)
+    let after_front = codes " " ++ (number_text l.key.b ++ after_key sys l) in
+    let parts : text ≡ decimal l.key.class ++ 32 ∷ (more.first ∷ (more.rest ++ after_front)) =
+    is.is ∙ line_parts sys Two l is.line.held ∙ key_three l.key (after_key sys l) ∙ number_cut l.key.class (number_text l.key.a ++ (number_text l.key.b ++ after_key sys l))
+    ∙ ap (λ (t : List ℕ). decimal l.key.class ++ 32 ∷ t) (append_assoc (decimal l.key.a) (codes " ") (number_text l.key.b ++ after_key sys l) ∙ ap (λ (t : List ℕ). t ++ after_front) more.is)
     in
     let low = one.low in
     let high = one.high in
-    sym (sets (decimal l.key.class) (more.rest ++ behind) more.first (digits_of l.key.class (omega (arith, class))).word parts
+    sym (sets (decimal l.key.class) (more.rest ++ after_front) more.first (digits_of l.key.class (omega (arith, class))).word parts
     ∙ ap (λ (t : Bool). if t then Two else One) (digit_is more.first (omega (arith, first, low)) (omega (arith, first, high))))

@@ -15,7 +15,7 @@ use Rattle.fb_types.specs.declared.run.Form.TheVariants.{One, Two}
 use Rattle.fb_types.specs.declared.run.Line.{Line}
 use Rattle.fb_types.specs.declared.value.Reason.{Reason}
 use Rattle.fb_types.specs.declared.value.Value.{Value}
-use Rattle.fb_system.specs.Stands.{AreIndexes}
+use Rattle.fb_system.specs.IndexLists.{AreIndexes}
 use Rattle.fb_wave.specs.Reading.{AreRead, name_at, number_text}
 use Rattle.fb_wave.specs.Lines.{AreValuesOf, IsHead, IsInRange, IsTextOf}
 use Rattle.fb_wave.specs.Ports.{IsPortOf, holder_name, port_text}

@@ -27,7 +27,7 @@ pub on_passed : {A E : Type 0} (r : Result A E) (e : E) (P : E → Type 0) → I
 on_passed (Ok a) e P is p = tt
 on_passed (Err g) e P is p = subst P (sym is) p
 
--- bytes were put behind a text where the call goes well
+-- bytes were put after a text where the call goes well
 pub on_put :
     {A E : Type 0} (r : Result A E) (new put old : List ℕ) (P : Type 0) → new ≡ (if is_ok r then put else old) → (new ≡ put → P) → OnOk r P
 on_put (Ok x) new put old P is f = f is

@@ -122,7 +122,7 @@ some_inside (suc d) lib p net q c =
       | inr b ↦ some_below d lib (f.0.name ∷ p) q (λ net. some_inside d lib (f.0.name ∷ p) net q) (inside lib f.0) b
     ]
 
--- what stands at an index of a list
+-- what is at an index of a list
 pub there : {A : Type 0} (xs : List A) (k : ℕ) (d : A) → k < length xs → Contains xs (unwrap_or (slice_get xs k) d)
 there [] k d h = absurd (omega (arith, h))
 there (x ∷ xs) zero d h = Contains-here x xs

@@ -1,4 +1,4 @@
--- What the text of a line begins with, and what it has behind that.
+-- What the text of a line begins with, and what it has after that.
 use Rattle.std.proofs.Common.{◌≡◌, ℕ, ◌<◌, ◌≤◌, ◌^◌, Bool, true, false, List, [], ◌∷◌, ◌++◌, length, map, get_or, codes, decimal, Contains, refl, sym, ap, subst, ◌∙◌, arith, append_assoc}
 use Rattle.std.specs.Prelude.{if◌then◌else◌, slice_get, unwrap_or}
 use Rattle.std.proofs.lemmas.List.{get_or_append_left, length-map}
@@ -21,7 +21,7 @@ use Rattle.fb_types.specs.declared.value.Reason.TheVariants.{Steps, Divide, Rang
 use Rattle.fb_types.specs.declared.value.Value.{Value}
 use Rattle.fb_types.proofs.Elements.{map-Contains}
 use Rattle.fb_system.specs.Lines.{line_variables}
-use Rattle.fb_system.specs.Stands.{AreIndexes, variable_at}
+use Rattle.fb_system.specs.IndexLists.{AreIndexes, variable_at}
 use Rattle.fb_wave.specs.Lines.{IsEndOf, IsInRange, IsLineOf, line_side}
 use Rattle.fb_wave.specs.Named.{AreNames, HasNames, is_name}
 use Rattle.fb_wave.specs.Ports.{BeginsWith, IsPortOf, holder_name, port_text, side}
@@ -41,24 +41,24 @@ with_sign l b = record l { taken = b }
 abbrev pub port_of_line : Line → Port
 port_of_line l = port_at l.instance l.event l.taken
 
--- what a line has behind its port
+-- what a line has after its port
 abbrev pub line_end : System → Line → List ℕ
 line_end sys l = values_text (pair_up (line_variables sys l) l.values) ++ 10 ∷ []
 
-abbrev pub behind_key : System → Line → List ℕ
-behind_key sys l = number_text l.key.tick ++ (port_text sys (port_of_line l) ++ line_end sys l)
+abbrev pub after_key : System → Line → List ℕ
+after_key sys l = number_text l.key.tick ++ (port_text sys (port_of_line l) ++ line_end sys l)
 
 ungroup :
     (k n h s p d e v l : List ℕ) → (((((k ++ (n ++ h)) ++ s) ++ p) ++ d) ++ e) ++ v ++ l ≡ k ++ (n ++ (((((h ++ s) ++ p) ++ d) ++ e) ++ (v ++ l)))
 ungroup k n h s p d e v l = simp append_assoc
 
-pub line_parts : (sys : System) (form : Form) (l : Line) → l.key.resource ≡ sys.resource (path_at sys l.instance) → line_text form sys (line_of sys l) ≡ key_text form l.key ++ behind_key sys l
+pub line_parts : (sys : System) (form : Form) (l : Line) → l.key.resource ≡ sys.resource (path_at sys l.instance) → line_text form sys (line_of sys l) ≡ key_text form l.key ++ after_key sys l
 line_parts sys form l held = by l.taken
   where
     holder : unwrap_or (slice_get sys.resource_names l.key.resource) [] ≡ holder_name sys l.instance
     holder = unwrap_or-slice_get sys.resource_names l.key.resource [] ∙ ap (λ (r : ℕ). get_or sys.resource_names r []) held
 
-    by : (b : Bool) → line_text form sys (line_of sys (with_sign l b)) ≡ key_text form l.key ++ behind_key sys (with_sign l b)
+    by : (b : Bool) → line_text form sys (line_of sys (with_sign l b)) ≡ key_text form l.key ++ after_key sys (with_sign l b)
     by true =
         let its = ports_at sys (path_at sys l.instance) in
         let n = event_at its.event_inputs l.event in
@@ -77,7 +77,7 @@ end_ended [] vs = refl
 end_ended (n ∷ ns) [] = refl
 end_ended (n ∷ ns) (v ∷ vs) = refl
 
--- the text of a line begins with that of its port, behind the tick
+-- the text of a line begins with that of its port, after the tick
 pub line_begins : (sys : System) (l : Line) → IsLineOf sys l → BeginsWith sys (port_text sys (port_of_line l) ++ line_end sys l) (port_of_line l) (line_end sys l)
 line_begins sys l is =
     record { port = record { instance = is.belongs.instance; small = is.small; event = is.belongs.event }; ended = end_ended (line_variables sys l) l.values; parts = refl }
@@ -250,8 +250,8 @@ line_first sys One l is =
     subst (λ (t : List ℕ). get_or t 0 0 < 58) (sym (line_parts sys One l is.held)) high
 line_first sys Two l is =
     let class = is.range.class in
-    let high = (number_first l.key.class (number_text l.key.a ++ (number_text l.key.b ++ behind_key sys l)) (omega (arith, class))).1 in
-    subst (λ (t : List ℕ). get_or t 0 0 < 58) (sym (line_parts sys Two l is.held ∙ key_three l.key (behind_key sys l))) high
+    let high = (number_first l.key.class (number_text l.key.a ++ (number_text l.key.b ++ after_key sys l)) (omega (arith, class))).1 in
+    subst (λ (t : List ℕ). get_or t 0 0 < 58) (sym (line_parts sys Two l is.held ∙ key_three l.key (after_key sys l))) high
 
 -- the last line begins with a letter
 pub last_first : (sys : System) (end : Ending) → 58 ≤ get_or (last_line sys end) 0 0
@@ -270,12 +270,12 @@ line_not_last sys form l end is e =
 spread : (h s p d e v : List ℕ) → ((((h ++ s) ++ p) ++ d) ++ e) ++ v ≡ h ++ (s ++ (p ++ (d ++ (e ++ v))))
 spread h s p d e v = simp append_assoc
 
--- what a line has behind the name of its resource
-abbrev pub behind_holder : System → Line → List ℕ
-behind_holder sys l =
+-- what a line has after the name of its resource
+abbrev pub after_holder : System → Line → List ℕ
+after_holder sys l =
     (if l.taken then codes " > " else codes " < ") ++ (path_text (path_at sys l.instance) ++ (codes "." ++ (event_at (side sys l.instance l.taken) l.event ++ line_end sys l)))
 
-pub port_spread : (sys : System) (l : Line) → port_text sys (port_of_line l) ++ line_end sys l ≡ holder_name sys l.instance ++ behind_holder sys l
+pub port_spread : (sys : System) (l : Line) → port_text sys (port_of_line l) ++ line_end sys l ≡ holder_name sys l.instance ++ after_holder sys l
 port_spread sys l =
     spread (holder_name sys l.instance) (if l.taken then codes " > " else codes " < ") (path_text (path_at sys l.instance)) (codes ".") (event_at (side sys l.instance l.taken) l.event) (line_end sys l)
 
@@ -283,7 +283,7 @@ port_spread sys l =
 pub name_not_number : (sys : System) (l : Line) (n : ℕ) (rest : List ℕ) → HasNames sys → IsLineOf sys l → n < 2 ^ 128 → port_text sys (port_of_line l) ++ line_end sys l ≡ number_text n ++ rest → ⊥
 name_not_number sys l n rest names is small e =
     let h = holder_name sys l.instance in
-    let low = name_first h (behind_holder sys l) (holder_named sys l names is) in
+    let low = name_first h (after_holder sys l) (holder_named sys l names is) in
     let high = (number_first n rest small).1 in
     let same = ap (λ (t : List ℕ). get_or t 0 0) (sym (port_spread sys l) ∙ e) in
     omega (arith, low, high, same)
@@ -294,7 +294,7 @@ one_not_two sys l m names is other e =
     let class = other.range.class in
     let a = other.range.a in
     let first = number_once l.key.tick m.key.class _ _ (omega (arith, tick)) (omega (arith, class))
-    (sym (line_parts sys One l is.held) ∙ e ∙ line_parts sys Two m other.held ∙ key_three m.key (behind_key sys m))
+    (sym (line_parts sys One l is.held) ∙ e ∙ line_parts sys Two m other.held ∙ key_three m.key (after_key sys m))
     in
     name_not_number sys l m.key.a _ names is a first.1
 
@@ -314,7 +314,7 @@ same_line sys Two Two l m names is other e =
     let class = is.range.class in
     let second = other.range.class in
     let one = number_once l.key.class m.key.class _ _ (omega (arith, class)) (omega (arith, second))
-    (sym (line_parts sys Two l is.held ∙ key_three l.key (behind_key sys l)) ∙ e ∙ line_parts sys Two m other.held ∙ key_three m.key (behind_key sys m))
+    (sym (line_parts sys Two l is.held ∙ key_three l.key (after_key sys l)) ∙ e ∙ line_parts sys Two m other.held ∙ key_three m.key (after_key sys m))
     in
     let two = number_once l.key.a m.key.a _ _ is.range.a other.range.a one.1 in
     let three = number_once l.key.b m.key.b _ _ is.range.b other.range.b two.1 in

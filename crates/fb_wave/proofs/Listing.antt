@@ -8,7 +8,7 @@ pub record Goes {X : Type 0} (F : ℕ → List X → List ℕ) (E : ℕ → X �
   pub none : (s : ℕ) → F s [] ≡ []
   pub more : (s : ℕ) (x : X) (xs : List X) → F s (x ∷ xs) ≡ E s x ++ F (s + 1) xs
 
--- So far the text behind the old one is that of the elements before an index: with that of the rest it is that of all.
+-- So far the text after the old one is that of the elements before an index: with that of the rest it is that of all.
 abbrev pub SoFar : {X : Type 0} → (ℕ → List X → List ℕ) → (old text : List ℕ) → (first s index : ℕ) → List X → Type 0
 SoFar F old text first s index xs = text ++ F s (drop index xs) ≡ old ++ F first xs
 

@@ -39,7 +39,7 @@ first_is sys done rest q numbered all =
     let number : sys.number q ≡ length done = ap sys.number (sym at) ∙ numbered (length done) within in
     sym (ap (first_signal sys) number ∙ ap (λ (ps : List Path). sizes_of sys (take (length done) ps)) all ∙ ap (sizes_of sys) (take-append_seam done (q ∷ rest)))
 
--- ---- Where the instances inside another one lie
+-- ---- Where the instances inside another one are
 
 held_below :
     (d : ℕ) (lib : Library) (plan : Plan) (n : Name) (p : Path) (o : Option Network) (z : Path) → Contains (below d lib (n ∷ p) o) z
@@ -138,19 +138,19 @@ module _ (i : Inputs) (numbered : AreNumbered (system_of i)) (r : ℕ) where
 
   -- ---- Instances side by side
 
-  abbrev paths_beside : ℕ → Path → List Instance → List Path
-  paths_beside d p xs = flat_map (paths_from d lib p) xs
+  abbrev sibling_paths : ℕ → Path → List Instance → List Path
+  sibling_paths d p xs = flat_map (paths_from d lib p) xs
 
-  beside :
+  siblings :
       (d : ℕ) (n : Name) (p : Path) (held : sys.resource (n ∷ p) ≡ r) (inner : (x : Instance) → IsInside d (x.name ∷ n ∷ p) (inside lib x)) (xs : List Instance)
-      (depth : ℕ) (done rest : List Path) → length (n ∷ p) ≤ depth → sys.paths ≡ done ++ (paths_beside d (n ∷ p) xs ++ rest)
-      → Closes (length (n ∷ p)) (sizes_of sys (done ++ paths_beside d (n ∷ p) xs)) rest
-      → shown depth (sizes_of sys done) (paths_beside d (n ∷ p) xs ++ rest)
-      ≡ closed (depth - length (n ∷ p)) ++ (flat_map (scope_from d (n ∷ p)) xs ++ shown (length (n ∷ p)) (sizes_of sys (done ++ paths_beside d (n ∷ p) xs)) rest)
-  beside d n p held inner [] depth done rest deep all closes = none_inside depth (length (n ∷ p)) done rest deep closes
-  beside d n p held inner (x ∷ xs) depth done rest deep all closes =
+      (depth : ℕ) (done rest : List Path) → length (n ∷ p) ≤ depth → sys.paths ≡ done ++ (sibling_paths d (n ∷ p) xs ++ rest)
+      → Closes (length (n ∷ p)) (sizes_of sys (done ++ sibling_paths d (n ∷ p) xs)) rest
+      → shown depth (sizes_of sys done) (sibling_paths d (n ∷ p) xs ++ rest)
+      ≡ closed (depth - length (n ∷ p)) ++ (flat_map (scope_from d (n ∷ p)) xs ++ shown (length (n ∷ p)) (sizes_of sys (done ++ sibling_paths d (n ∷ p) xs)) rest)
+  siblings d n p held inner [] depth done rest deep all closes = none_inside depth (length (n ∷ p)) done rest deep closes
+  siblings d n p held inner (x ∷ xs) depth done rest deep all closes =
       let here : List Path = paths_from d lib (n ∷ p) x in
-      let others : List Path = paths_beside d (n ∷ p) xs in
+      let others : List Path = sibling_paths d (n ∷ p) xs in
       let last : List ℕ = shown (length (n ∷ p)) (sizes_of sys (done ++ (here ++ others))) rest in
       let more : List ℕ = flat_map (scope_from d (n ∷ p)) xs ++ last in
       let grown : done ++ (here ++ others) ≡ (done ++ here) ++ others = sym (append_assoc done here others) in
@@ -158,7 +158,7 @@ module _ (i : Inputs) (numbered : AreNumbered (system_of i)) (r : ℕ) where
       let whole : sys.paths ≡ done ++ (here ++ (others ++ rest)) = all ∙ ap (λ (ps : List Path). done ++ ps) split in
       let next : (k : ℕ) → length (n ∷ p) ≤ k → shown k (sizes_of sys (done ++ here)) (others ++ rest) ≡ closed (k - length (n ∷ p)) ++ more =
       λ k far.
-      beside d n p held inner xs k (done ++ here) rest far (whole ∙ sym (append_assoc done here (others ++ rest)))
+      siblings d n p held inner xs k (done ++ here) rest far (whole ∙ sym (append_assoc done here (others ++ rest)))
       (subst (λ (ps : List Path). Closes (length (n ∷ p)) (sizes_of sys ps) rest) grown closes)
       ∙ ap (λ (ps : List Path). closed (k - length (n ∷ p)) ++ (flat_map (scope_from d (n ∷ p)) xs ++ shown (length (n ∷ p)) (sizes_of sys ps) rest)) (sym grown)
       in
@@ -170,7 +170,7 @@ module _ (i : Inputs) (numbered : AreNumbered (system_of i)) (r : ℕ) where
   inside_is d n p None held depth done rest deep all closes = none_inside depth (length (n ∷ p)) done rest deep closes
   inside_is zero n p (Some net) held depth done rest deep all closes = none_inside depth (length (n ∷ p)) done rest deep closes
   inside_is (suc d) n p (Some net) held depth done rest deep all closes =
-      beside d n p held (λ x. inside_is d x.name (n ∷ p) (inside lib x) held) net.instances depth done rest deep all closes
+      siblings d n p held (λ x. inside_is d x.name (n ∷ p) (inside lib x) held) net.instances depth done rest deep all closes
 
   -- ---- The instances of the application
 
@@ -196,13 +196,13 @@ module _ (i : Inputs) (numbered : AreNumbered (system_of i)) (r : ℕ) where
 
   abbrev Tops : List Instance → Type 0
   Tops xs =
-      (depth : ℕ) (done : List Path) → sys.paths ≡ done ++ paths_beside 16 [] xs
-      → shown depth (sizes_of sys done) (paths_beside 16 [] xs) ≡ closed depth ++ flat_map (scope_from 16 []) (filter (λ x. holder i.plan x.name == r) xs)
+      (depth : ℕ) (done : List Path) → sys.paths ≡ done ++ sibling_paths 16 [] xs
+      → shown depth (sizes_of sys done) (sibling_paths 16 [] xs) ≡ closed depth ++ flat_map (scope_from 16 []) (filter (λ x. holder i.plan x.name == r) xs)
 
   top_step : (x : Instance) (xs : List Instance) → Tops xs → (b : Bool) → (holder i.plan x.name == r) ≡ b → Tops (x ∷ xs)
   top_step x xs more true e depth done all =
       let here : List Path = paths_from 16 lib [] x in
-      let others : List Path = paths_beside 16 [] xs in
+      let others : List Path = sibling_paths 16 [] xs in
       let held : sys.resource (x.name ∷ []) ≡ r = eqb-true (holder i.plan x.name) r e in
       let scopes : List ℕ = flat_map (scope_from 16 []) (filter (λ x. holder i.plan x.name == r) xs) in
       one_scope 16 x [] depth done others scopes held (omega arith) (inside_is 16 x.name [] (inside lib x) held) all
@@ -211,7 +211,7 @@ module _ (i : Inputs) (numbered : AreNumbered (system_of i)) (r : ℕ) where
       ∙ ap (λ (b : Bool). closed depth ++ flat_map (scope_from 16 []) (cond b (x ∷ filter (λ x. holder i.plan x.name == r) xs) (filter (λ x. holder i.plan x.name == r) xs))) (sym e)
   top_step x xs more false e depth done all =
       let here : List Path = paths_from 16 lib [] x in
-      let others : List Path = paths_beside 16 [] xs in
+      let others : List Path = sibling_paths 16 [] xs in
       left_out here depth (sizes_of sys done) others (elsewhere x e)
       ∙ ap (λ (k : ℕ). shown depth k others) (sym (sizes_of-append sys done here))
       ∙ more depth (done ++ here) (all ∙ sym (append_assoc done here others))

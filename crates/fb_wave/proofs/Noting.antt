@@ -1,4 +1,4 @@
--- What signals show after one more event or value, and which are noted.
+-- What signals show after one more event or value, and which are marked.
 use Rattle.std.proofs.Common.{◌≡◌, ◌≢◌, ℕ, ◌+◌, ◌%◌, ◌^◌, ◌<◌, Bool, true, false, cond, ◌||◌, List, [], ◌∷◌, ◌++◌, length, Option, Some, None, get_or, set, refl, sym, ap, subst, ◌∙◌, arith, inl, inr}
 use Rattle.std.specs.Prelude.{◌==◌, count_by}
 use Rattle.std.proofs.lemmas.Bool.{cases_lt}
@@ -7,7 +7,7 @@ use Rattle.std.proofs.lemmas.List.Folds.{list_any-append}
 use Rattle.std.proofs.lemmas.List.Sums.{sum_by-append}
 use borrow.Author.Tests.{eq-eqb, ne_eqb}
 use Rattle.fb_types.specs.declared.value.Value.{Value}
-use Rattle.fb_wave.specs.Levels.{or_else, last_shown, count_in, shows, shown_of, after_event, is_in, with_one, noted, IsCell, AreLevels}
+use Rattle.fb_wave.specs.Levels.{or_else, last_shown, count_in, shows, shown_of, after_event, is_in, with_one, marked, IsCell, AreLevels}
 use Rattle.fb_wave.specs.declared.levels.Cell.{Cell}
 use Rattle.fb_wave.specs.declared.levels.Levels as code
 use Rattle.fb_wave.specs.declared.levels.Level.{Level}
@@ -31,9 +31,9 @@ count_by-more s fs k = sum_by-append (λ (j : ℕ). cond (j == s) 1 0) fs (k ∷
     zeroth : (m : ℕ) → 0 + m ≡ m
     zeroth m = omega arith
 
-noted-append : (b ss us : List ℕ) → noted b (ss ++ us) ≡ noted (noted b ss) us
-noted-append b [] us = refl
-noted-append b (s ∷ ss) us = noted-append (with_one b s) ss us
+marked-append : (b ss us : List ℕ) → marked b (ss ++ us) ≡ marked (marked b ss) us
+marked-append b [] us = refl
+marked-append b (s ∷ ss) us = marked-append (with_one b s) ss us
 
 pub is_in-more : (ss : List ℕ) (s k : ℕ) → is_in (ss ++ s ∷ []) k ≡ (is_in ss k || ((s == k) || false))
 is_in-more ss s k = list_any-append (λ (j : ℕ). j == k) ss (s ∷ [])
@@ -48,7 +48,7 @@ is_fresh s = record { shown = refl; is_marked = refl }
 
 -- a signal of which no line shown
 pub one_more_signal :
-    (n : ℕ) (x y : code.Levels) → AreLevels n [] [] [] x → y.cells.items ≡ x.cells.items ++ fresh ∷ [] → y.noted.items ≡ x.noted.items
+    (n : ℕ) (x y : code.Levels) → AreLevels n [] [] [] x → y.cells.items ≡ x.cells.items ++ fresh ∷ [] → y.marked.items ≡ x.marked.items
     → AreLevels (n + 1) [] [] [] y
 one_more_signal n x y are more same =
     let xs = x.cells.items in
@@ -63,7 +63,7 @@ one_more_signal n x y are more same =
                 (let last : length xs ≡ s = omega (arith, h, past, length_push xs fresh) in
                 subst (IsCell [] [] [] s) (sym (get_or_push xs fresh d s last)) (is_fresh s))
           ]);
-      noted = same ∙ are.noted;
+      marked = same ∙ are.marked;
     }
 
 -- ---- A table with one cell changed
@@ -88,46 +88,46 @@ at_set P Q xs s x all other within here k d h =
 
 -- ---- Notes
 
-pub noted_old :
+pub marked_old :
     (n : ℕ) (f : List ℕ) (t : List (ℕ × Value)) (u : List ℕ) (x : code.Levels) (s : ℕ) (d : Cell) → AreLevels n f t u x → s < length x.cells.items
     → (get_or x.cells.items s d).is_marked ≡ true → AreLevels n f t (u ++ s ∷ []) x
-noted_old n f t u x s d all within is =
-    let there : is_in (noted [] u) s ≡ true = sym ((all.cells s d within).is_marked) ∙ is in
-    let same : noted [] u ≡ noted [] (u ++ s ∷ []) = sym (noted-append [] u (s ∷ []) ∙ ap (λ (b : Bool). cond b (noted [] u) (noted [] u ++ s ∷ [])) there) in
+marked_old n f t u x s d all within is =
+    let there : is_in (marked [] u) s ≡ true = sym ((all.cells s d within).is_marked) ∙ is in
+    let same : marked [] u ≡ marked [] (u ++ s ∷ []) = sym (marked-append [] u (s ∷ []) ∙ ap (λ (b : Bool). cond b (marked [] u) (marked [] u ++ s ∷ [])) there) in
     record {
       counted = all.counted;
       cells = λ k e h.
           let c = all.cells k e h in
           record { shown = c.shown; is_marked = c.is_marked ∙ ap (λ (l : List ℕ). is_in l k) same };
-      noted = all.noted ∙ same;
+      marked = all.marked ∙ same;
     }
 
-pub noted_new :
+pub marked_new :
     (n : ℕ) (f : List ℕ) (t : List (ℕ × Value)) (u : List ℕ) (x y : code.Levels) (s : ℕ) (d : Cell) → AreLevels n f t u x → s < length x.cells.items
     → (get_or x.cells.items s d).is_marked ≡ false
     → y.cells.items ≡ set x.cells.items s (record { shown = (get_or x.cells.items s d).shown; is_marked = true })
-    → y.noted.items ≡ x.noted.items ++ s ∷ [] → AreLevels n f t (u ++ s ∷ []) y
-noted_new n f t u x y s d all within is cells listed =
-    let none : is_in (noted [] u) s ≡ false = sym ((all.cells s d within).is_marked) ∙ is in
-    let grown : noted [] (u ++ s ∷ []) ≡ noted [] u ++ s ∷ [] = noted-append [] u (s ∷ []) ∙ ap (λ (b : Bool). cond b (noted [] u) (noted [] u ++ s ∷ [])) none in
+    → y.marked.items ≡ x.marked.items ++ s ∷ [] → AreLevels n f t (u ++ s ∷ []) y
+marked_new n f t u x y s d all within is cells listed =
+    let none : is_in (marked [] u) s ≡ false = sym ((all.cells s d within).is_marked) ∙ is in
+    let grown : marked [] (u ++ s ∷ []) ≡ marked [] u ++ s ∷ [] = marked-append [] u (s ∷ []) ∙ ap (λ (b : Bool). cond b (marked [] u) (marked [] u ++ s ∷ [])) none in
     let other : (k : ℕ) (c : Cell) → k ≢ s → IsCell f t u k c → IsCell f t (u ++ s ∷ []) k c =
     λ k c differ is'. record {
       shown = is'.shown;
-      is_marked = is'.is_marked ∙ sym (ap (λ (l : List ℕ). is_in l k) grown ∙ is_in-more (noted [] u) s k
-          ∙ ap (λ (b : Bool). is_in (noted [] u) k || (b || false)) (ne_eqb s k (λ e. differ (sym e))) ∙ or_false (is_in (noted [] u) k));
+      is_marked = is'.is_marked ∙ sym (ap (λ (l : List ℕ). is_in l k) grown ∙ is_in-more (marked [] u) s k
+          ∙ ap (λ (b : Bool). is_in (marked [] u) k || (b || false)) (ne_eqb s k (λ e. differ (sym e))) ∙ or_false (is_in (marked [] u) k));
     }
     in
     let here : IsCell f t (u ++ s ∷ []) s (record { shown = (get_or x.cells.items s d).shown; is_marked = true }) =
     record {
       shown = (all.cells s d within).shown;
-      is_marked = sym (ap (λ (l : List ℕ). is_in l s) grown ∙ is_in-more (noted [] u) s s ∙ ap (λ (b : Bool). is_in (noted [] u) s || (b || false)) (eq-eqb s s refl) ∙ or_true (is_in (noted [] u) s));
+      is_marked = sym (ap (λ (l : List ℕ). is_in l s) grown ∙ is_in-more (marked [] u) s s ∙ ap (λ (b : Bool). is_in (marked [] u) s || (b || false)) (eq-eqb s s refl) ∙ or_true (is_in (marked [] u) s));
     }
     in
     record {
       counted = ap length cells ∙ length-set x.cells.items s _ ∙ all.counted;
       cells = subst (λ (l : List Cell). (k : ℕ) (e : Cell) → k < length l → IsCell f t (u ++ s ∷ []) k (get_or l k e)) (sym cells)
           (at_set (IsCell f t u) (IsCell f t (u ++ s ∷ [])) x.cells.items s _ all.cells other within here);
-      noted = listed ∙ ap (λ (l : List ℕ). l ++ s ∷ []) all.noted ∙ sym grown;
+      marked = listed ∙ ap (λ (l : List ℕ). l ++ s ∷ []) all.marked ∙ sym grown;
     }
   where
     or_false : (b : Bool) → (b || (false || false)) ≡ b
@@ -145,7 +145,7 @@ reshown :
     (n : ℕ) (f g : List ℕ) (t w : List (ℕ × Value)) (u : List ℕ) (x y : code.Levels) (s : ℕ) (d : Cell) (v : Level) → AreLevels n f t u x → s < length x.cells.items
     → ((k : ℕ) → k ≢ s → shown_of k f t ≡ shown_of k g w) → v ≡ shown_of s g w
     → y.cells.items ≡ set x.cells.items s (record { shown = v; is_marked = (get_or x.cells.items s d).is_marked })
-    → y.noted.items ≡ x.noted.items → AreLevels n g w u y
+    → y.marked.items ≡ x.marked.items → AreLevels n g w u y
 reshown n f g t w u x y s d v all within others is cells listed =
     let other : (k : ℕ) (c : Cell) → k ≢ s → IsCell f t u k c → IsCell g w u k c =
     λ k c differ is'. record { shown = is'.shown ∙ others k differ; is_marked = is'.is_marked }
@@ -157,13 +157,13 @@ reshown n f g t w u x y s d v all within others is cells listed =
       counted = ap length cells ∙ length-set x.cells.items s _ ∙ all.counted;
       cells = subst (λ (l : List Cell). (k : ℕ) (e : Cell) → k < length l → IsCell g w u k (get_or l k e)) (sym cells)
           (at_set (IsCell f t u) (IsCell g w u) x.cells.items s _ all.cells other within here);
-      noted = listed ∙ all.noted;
+      marked = listed ∙ all.marked;
     }
 
 pub shown_one :
     (n : ℕ) (f : List ℕ) (t : List (ℕ × Value)) (u : List ℕ) (x y : code.Levels) (s : ℕ) (d : Cell) (v : Value) → AreLevels n f t u x → s < length x.cells.items
     → y.cells.items ≡ set x.cells.items s (record { shown = Last v; is_marked = (get_or x.cells.items s d).is_marked })
-    → y.noted.items ≡ x.noted.items → AreLevels n f (t ++ (s, v) ∷ []) u y
+    → y.marked.items ≡ x.marked.items → AreLevels n f (t ++ (s, v) ∷ []) u y
 shown_one n f t u x y s d v all within cells listed =
     reshown n f f t (t ++ (s, v) ∷ []) u x y s d (Last v) all within
     (λ k differ. ap (λ (o : Option Value). shows o (count_in k f)) (sym (last_shown-more k t s v ∙ ap (λ (b : Bool). cond b (Some v) (last_shown k t)) (ne_eqb s k (λ e. differ (sym e))))))
@@ -190,7 +190,7 @@ pub fired_one :
     (n : ℕ) (f : List ℕ) (t : List (ℕ × Value)) (u : List ℕ) (x y : code.Levels) (s : ℕ) (d e : Cell) (v : Level) → AreLevels n f t u x → s < length x.cells.items
     → v ≡ after_event ((get_or x.cells.items s e).shown)
     → y.cells.items ≡ set x.cells.items s (record { shown = v; is_marked = (get_or x.cells.items s d).is_marked })
-    → y.noted.items ≡ x.noted.items → AreLevels n (f ++ s ∷ []) t u y
+    → y.marked.items ≡ x.marked.items → AreLevels n (f ++ s ∷ []) t u y
 fired_one n f t u x y s d e v all within is cells listed =
     reshown n f (f ++ s ∷ []) t t u x y s d v all within
     (λ k differ. ap (shows (last_shown k t)) (count_same f s k differ))

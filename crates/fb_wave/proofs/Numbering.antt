@@ -14,7 +14,7 @@ pub sizes_of-append : (sys : System) (ps qs : List Path) → sizes_of sys (ps ++
 sizes_of-append sys [] qs = omega arith
 sizes_of-append sys (p ∷ ps) qs = let e = sizes_of-append sys ps qs in omega arith
 
--- the instance behind one begins behind its signals
+-- the instance after one begins after its signals
 pub first_signal-next : (sys : System) (i : ℕ) → i < length sys.paths → first_signal sys (i + 1) ≡ first_signal sys i + size_of (ports_at sys (path_at sys i))
 first_signal-next sys i within =
     let one : take (i + 1) sys.paths ≡ take i sys.paths ++ path_at sys i ∷ [] =

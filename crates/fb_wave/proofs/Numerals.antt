@@ -12,7 +12,7 @@ use Rattle.fb_wave.specs.Words.{is_end, is_word, IsCut}
 
 -- ---- What the digits of a number are
 
--- the number that digits say behind another
+-- the number that digits say after another
 abbrev pub read_on : ℕ → List ℕ → ℕ
 read_on v [] = v
 read_on v (c ∷ cs) = read_on (v * 10 + (c - 48)) cs
@@ -171,7 +171,7 @@ number_once m n rest more low high e =
     let once = word_once (decimal m) (decimal n) (32 ∷ rest) (32 ∷ more) (digits_of m low).word (digits_of n high).word refl refl
     (sym (number_cut m rest) ∙ e ∙ number_cut n more)
     in
-    let behind : 32 ∷ rest ≡ 32 ∷ more = once.1 in
+    let after_front : 32 ∷ rest ≡ 32 ∷ more = once.1 in
     (decimal_once m n low high once.0, (cc))
 
 pub numbered : (text w r rest : List ℕ) (n : ℕ) → IsCut text w r → w ≡ decimal n → r ≡ codes " " ++ rest → text ≡ number_text n ++ rest

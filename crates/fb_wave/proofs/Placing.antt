@@ -8,7 +8,7 @@ use Rattle.fb_types.specs.Names.{Name}
 use Rattle.fb_types.specs.Repeated.{Twice}
 use Rattle.fb_types.specs.declared.library.Variable.{Variable}
 use Rattle.fb_types.proofs.Positions.{position_of_once}
-use Rattle.fb_system.specs.Stands.{AreIndexes, variable_at}
+use Rattle.fb_system.specs.IndexLists.{AreIndexes, variable_at}
 use Rattle.fb_wave.specs.LineSignals.{index_of}
 
 name_of : Variable → Name
@@ -19,7 +19,7 @@ some_there [] k h = absurd (omega arith)
 some_there (v ∷ vs) zero h = (v, refl)
 some_there (v ∷ vs) (suc k) h = some_there vs k (omega arith)
 
--- the index of a variable is that at which its name stands
+-- the index of a variable is that at which its name is
 index_is : (vs : List Variable) (k : ℕ) → ¬ (Twice (variable_names vs)) → k < length vs → index_of vs (variable_at vs k) ≡ k
 unfolding name_of some_there
 index_is vs k once within =

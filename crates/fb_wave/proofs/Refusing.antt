@@ -86,9 +86,9 @@ pub one_first : (text : List ℕ) → (text ≡ [] → ⊥) → take 1 (lines_in
 one_first [] some = absurd (some refl)
 one_first (b ∷ bs) some = ap (take 1) (first_line b bs).1
 
--- ---- What another trace has behind the same lines
+-- ---- What another trace has after the same lines
 
--- The first of these lines is an end that can come behind a tick, or a line that can.
+-- The first of these lines is an end that can come after a tick, or a line that can.
 abbrev Follows : System → Form → ℕ → List (List ℕ) → Type 0
 Follows sys form t texts =
     ((end : Ending) × IsEndOf sys end × EndsAfter t end × (take 1 texts ≡ last_line sys end ∷ []))
@@ -140,7 +140,7 @@ goes_on sys form ls rest names some small are =
 
 -- ---- Refusals
 
--- No end of the system that can come behind the tick has this text.
+-- No end of the system that can come after the tick has this text.
 abbrev pub IsNoEndFrom : System → ℕ → List ℕ → Type 0
 IsNoEndFrom sys t text = (end : Ending) → IsEndOf sys end → EndsAfter t end → text ≡ last_line sys end → ⊥
 
@@ -185,7 +185,7 @@ refused sys form ls next rest names some small are first formed no_line no_end =
               no_line line.0 (subst (λ (f : Form). IsTextOf sys f line.0 next) same is) line.2)
         ]
 
--- ---- What stands behind the end
+-- ---- What comes after the end
 
 beyond :
     (sys : System) (f g : Form) (ls ms : List Line) (end last : Ending) (x : List ℕ) (xs : List (List ℕ)) → HasNames sys → All (IsLineOf sys) ls → All (IsLineOf sys) ms
@@ -199,12 +199,12 @@ beyond sys f g (l ∷ ls) [] end last x xs names all each e =
 beyond sys f g (l ∷ ls) (m ∷ ms) end last x xs names all each e =
     beyond sys f g ls ms end last x xs names (All-tail (IsLineOf sys) l ls all) (All-tail (IsLineOf sys) m ms each) (heads (text_in sys g m) (text_in sys f l) _ _ e).1
 
--- a text that goes on behind an end
-pub refused_behind :
+-- a text that goes on after an end
+pub refused_after :
     (sys : System) (form : Form) (ls : List Line) (end : Ending) (rest : List ℕ) → HasNames sys → AreLinesOf sys ls → IsEndOf sys end → EndsAfter (last_tick 0 ls) end
     → 0 < length rest → IsFirstBad sys (suc (suc (length ls))) (all_text sys form ls ++ (last_line sys end ++ rest))
-refused_behind sys form ls end [] names are last ends more = absurd (omega (arith, more))
-refused_behind sys form ls end (b ∷ bs) names are last ends more =
+refused_after sys form ls end [] names are last ends more = absurd (omega (arith, more))
+refused_after sys form ls end (b ∷ bs) names are last ends more =
     record {
       before = suc (length ls);
       next = refl;

@@ -141,7 +141,7 @@ module _ (sys : System) (form : Form) (number : ℕ) (x : Progress) (next : List
   whole_line : HasNames sys → 1 ≤ feeds next → IfSome input (λ text. IsWhole number text ⊎ HasTrace sys text)
   whole_line names some =
       known input left (all_text sys form is.lines) next (λ text. IsWhole number text ⊎ HasTrace sys text) is.read
-      (λ text rest at behind parts.
+      (λ text rest at after_front parts.
       let many = lines_feeds sys form is.lines names is.are.each in
       let counted : feeds text ≡ feeds (all_text sys form is.lines) + (feeds next + feeds rest) =
       ap feeds parts ∙ feeds-append (all_text sys form is.lines) (next ++ rest) ∙ ap (λ (k : ℕ). feeds (all_text sys form is.lines) + k) (feeds-append next rest)
@@ -149,11 +149,11 @@ module _ (sys : System) (form : Form) (number : ℕ) (x : Progress) (next : List
       let numbered = is.numbered in
       inl (omega (arith, many, counted, numbered, some)))
 
-  -- a refused line behind a trace
-  behind_trace : (end : Outcome) → IsLast sys next end → IsAfter x.tick end → (k : ℕ) → IfSome input (λ text. IsWhole k text ⊎ HasTrace sys text)
-  behind_trace end last after k =
+  -- a refused line after a trace
+  after_trace : (end : Outcome) → IsLast sys next end → IsAfter x.tick end → (k : ℕ) → IfSome input (λ text. IsWhole k text ⊎ HasTrace sys text)
+  after_trace end last after k =
       known input left (all_text sys form is.lines) next (λ text. IsWhole k text ⊎ HasTrace sys text) is.read
-      (λ text rest at behind parts.
+      (λ text rest at after_front parts.
       inr
       (record {
         trace = all_text sys form is.lines ++ next;
@@ -184,7 +184,7 @@ module _ (sys : System) (form : Form) (number : ℕ) (x : Progress) (next : List
   end_no_cut names end last (Refused n) (inl early) =
       subst (λ (k : ℕ). IfSome input (λ text. IsWhole k text ⊎ HasTrace sys text)) (sym early.0)
       (whole_line names (subst (λ (t : List ℕ). 1 ≤ feeds t) (sym last.is) (one_feed _ (last_one sys (ending_of end) names last.can))))
-  end_no_cut names end last (Refused n) (inr late) = behind_trace end last late.1 n
+  end_no_cut names end last (Refused n) (inr late) = after_trace end last late.1 n
   end_no_cut names end last Names refuses = tt
   end_no_cut names end last Memory refuses = tt
   end_no_cut names end last Read refuses = tt
@@ -195,8 +195,8 @@ module _ (sys : System) (form : Form) (number : ℕ) (x : Progress) (next : List
   cut_shown new cut.Refused here finished = absurd (cc)
   cut_shown new cut.Allowed here finished =
       known input left (all_text sys form is.lines) next (λ text. IsWave sys text old new ⊎ IsCutWave sys text old new) is.read
-      (λ text rest at behind parts.
-      let last = unended_all next rest (is.first text rest at behind) here in
+      (λ text rest at after_front parts.
+      let last = unended_all next rest (is.first text rest at after_front) here in
       inr
       (record {
         form = form;

@@ -31,7 +31,7 @@ last_tick-one t (m ∷ ls) l = last_tick-one m.key.tick ls l
 
 -- ---- Ticks
 
--- the text behind a tick, where the next line is one of it, and where it is not
+-- the text after a tick, where the next line is one of it, and where it is not
 abbrev rest_text : System → (last : ℕ) → (before now : List Line) → (l : Line) → (rest : List Line) → (b : Bool) → List ℕ
 rest_text sys last before now l rest b =
     cond b (ticks_text sys last before (now ++ l ∷ []) rest)

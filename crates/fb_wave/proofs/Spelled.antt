@@ -6,7 +6,7 @@ use borrow.Author.Tests.{eq-eqb, ne_eqb, lt-ltb}
 use lib.Dec.{eqb}
 use native.Mathlib.Nat.{mod-lt}
 
--- The digits from an index on, behind those of the rest, are the digits of the number.
+-- The digits from an index on, after those of the rest, are the digits of the number.
 pub record Spells (base number rest start : ℕ) (indexes : List ℕ) : Type 0 where
   pub within : start ≤ 64
   pub sized : length indexes ≡ 64

@@ -8,7 +8,7 @@ use borrow.Author.Tests.{eq-eqb, ne_eqb}
 use Rattle.fb_types.specs.declared.value.Value.{Value}
 use Rattle.fb_wave.proofs.Noting.{at_set, is_in-more}
 use Rattle.fb_wave.specs.Changes.{changed, changes}
-use Rattle.fb_wave.specs.Levels.{shown_of, is_in, noted, IsCell, AreLevels}
+use Rattle.fb_wave.specs.Levels.{shown_of, is_in, marked, IsCell, AreLevels}
 use Rattle.fb_wave.specs.declared.levels.Cell.{Cell}
 use Rattle.fb_wave.specs.declared.levels.Levels as code
 
@@ -21,12 +21,12 @@ pub record IsLater (gone : List ℕ) (k : ℕ) (old new : Cell) : Type 0 where
 abbrev pub shown_by : List Cell → Cell → List ℕ → List ℕ
 shown_by cells d ss = flat_map (λ s. changed s (get_or cells s d).shown) ss
 
--- The changes of the noted signals before an index are put.
+-- The changes of the marked signals before an index are put.
 pub record IsTurned (old text : List ℕ) (from to : code.Levels) (index : ℕ) : Type 0 where
   pub counted : length to.cells.items ≡ length from.cells.items
-  pub noted : to.noted.items ≡ from.noted.items
-  pub cells : (k : ℕ) (d e : Cell) → k < length from.cells.items → IsLater (take index from.noted.items) k (get_or from.cells.items k d) (get_or to.cells.items k e)
-  pub shown : (d : Cell) → text ++ shown_by from.cells.items d (drop index from.noted.items) ≡ old ++ shown_by from.cells.items d from.noted.items
+  pub marked : to.marked.items ≡ from.marked.items
+  pub cells : (k : ℕ) (d e : Cell) → k < length from.cells.items → IsLater (take index from.marked.items) k (get_or from.cells.items k d) (get_or to.cells.items k e)
+  pub shown : (d : Cell) → text ++ shown_by from.cells.items d (drop index from.marked.items) ≡ old ++ shown_by from.cells.items d from.marked.items
 
 and_true : (b : Bool) → b ≡ (b && true)
 and_true true = refl
@@ -52,7 +52,7 @@ pub turned_none : (old : List ℕ) (from : code.Levels) → IsTurned old old fro
 turned_none old from =
     record {
       counted = refl;
-      noted = refl;
+      marked = refl;
       cells = λ k d e h.
           let same : get_or from.cells.items k e ≡ get_or from.cells.items k d = get_or_default from.cells.items k e d h in
           record {
@@ -63,17 +63,17 @@ turned_none old from =
     }
 
 pub turned_more :
-    (old text grown : List ℕ) (from to past : code.Levels) (p s : ℕ) (x y : Cell) → IsTurned old text from to p → p < length from.noted.items
-    → s ≡ get_or from.noted.items p s → s < length from.cells.items
+    (old text grown : List ℕ) (from to past : code.Levels) (p s : ℕ) (x y : Cell) → IsTurned old text from to p → p < length from.marked.items
+    → s ≡ get_or from.marked.items p s → s < length from.cells.items
     → x ≡ get_or to.cells.items s x → grown ≡ text ++ changed s x.shown
     → past.cells.items ≡ set to.cells.items s (record { shown = (get_or to.cells.items s y).shown; is_marked = false })
-    → past.noted.items ≡ to.noted.items → IsTurned old grown from past (p + 1)
+    → past.marked.items ≡ to.marked.items → IsTurned old grown from past (p + 1)
 turned_more old text grown from to past p s x y turned within at there cell put cells listed =
-    let gone : List ℕ = take p from.noted.items in
-    let all : List ℕ = take (p + 1) from.noted.items in
-    let one : all ≡ gone ++ s ∷ [] = take_more from.noted.items p s within ∙ ap (λ (k : ℕ). gone ++ k ∷ []) (sym at) in
-    let next : drop p from.noted.items ≡ s ∷ drop (p + 1) from.noted.items =
-    drop_more from.noted.items p s within ∙ ap (λ (k : ℕ). k ∷ drop (p + 1) from.noted.items) (sym at)
+    let gone : List ℕ = take p from.marked.items in
+    let all : List ℕ = take (p + 1) from.marked.items in
+    let one : all ≡ gone ++ s ∷ [] = take_more from.marked.items p s within ∙ ap (λ (k : ℕ). gone ++ k ∷ []) (sym at) in
+    let next : drop p from.marked.items ≡ s ∷ drop (p + 1) from.marked.items =
+    drop_more from.marked.items p s within ∙ ap (λ (k : ℕ). k ∷ drop (p + 1) from.marked.items) (sym at)
     in
     let Was : ℕ → Cell → Type 0 = λ k c. (d : Cell) → k < length from.cells.items → IsLater gone k (get_or from.cells.items k d) c in
     let Is : ℕ → Cell → Type 0 = λ k c. (d : Cell) → k < length from.cells.items → IsLater all k (get_or from.cells.items k d) c in
@@ -99,14 +99,14 @@ turned_more old text grown from to past p s x y turned within at there cell put 
     let set_all = at_set Was Is to.cells.items s _ (λ k e h d g. turned.cells k d e g) other (omega (arith, turned.counted, there)) here in
     record {
       counted = sized;
-      noted = listed ∙ turned.noted;
+      marked = listed ∙ turned.marked;
       cells = λ k d e h.
           subst (λ (l : List Cell). k < length l → IsLater all k (get_or from.cells.items k d) (get_or l k e)) (sym cells) (λ g. set_all k e g d h)
           (omega (arith, sized, h));
       shown = λ d.
-          ap (λ (l : List ℕ). l ++ shown_by from.cells.items d (drop (p + 1) from.noted.items)) put
-          ∙ append_assoc text (changed s x.shown) (shown_by from.cells.items d (drop (p + 1) from.noted.items))
-          ∙ ap (λ (l : List ℕ). text ++ (l ++ shown_by from.cells.items d (drop (p + 1) from.noted.items)))
+          ap (λ (l : List ℕ). l ++ shown_by from.cells.items d (drop (p + 1) from.marked.items)) put
+          ∙ append_assoc text (changed s x.shown) (shown_by from.cells.items d (drop (p + 1) from.marked.items))
+          ∙ ap (λ (l : List ℕ). text ++ (l ++ shown_by from.cells.items d (drop (p + 1) from.marked.items)))
           (ap (λ (c : Cell). changed s c.shown) cell ∙ ap (changed s) ((turned.cells s d x there).shown))
           ∙ ap (λ (l : List ℕ). text ++ shown_by from.cells.items d l) (sym next) ∙ turned.shown d;
     }
@@ -118,17 +118,17 @@ shown_same F G P (s ∷ ss) all same =
 
 pub turned_text :
     (n : ℕ) (f : List ℕ) (t : List (ℕ × Value)) (u : List ℕ) (old text : List ℕ) (from to : code.Levels) (p : ℕ) (d : Cell) → AreLevels n f t u from
-    → All (λ s. s < length from.cells.items) from.noted.items → IsTurned old text from to p → length from.noted.items ≤ p → text ≡ old ++ changes f t u
+    → All (λ s. s < length from.cells.items) from.marked.items → IsTurned old text from to p → length from.marked.items ≤ p → text ≡ old ++ changes f t u
 turned_text n f t u old text from to p d are within turned past =
-    sym (append-nil text) ∙ ap (λ (l : List ℕ). text ++ shown_by from.cells.items d l) (sym (drop_all p from.noted.items past)) ∙ turned.shown d
+    sym (append-nil text) ∙ ap (λ (l : List ℕ). text ++ shown_by from.cells.items d l) (sym (drop_all p from.marked.items past)) ∙ turned.shown d
     ∙ ap (λ (l : List ℕ). old ++ l)
-    (shown_same (λ s. changed s (get_or from.cells.items s d).shown) (λ s. changed s (shown_of s f t)) (λ s. s < length from.cells.items) from.noted.items within
+    (shown_same (λ s. changed s (get_or from.cells.items s d).shown) (λ s. changed s (shown_of s f t)) (λ s. s < length from.cells.items) from.marked.items within
     (λ s h. ap (changed s) ((are.cells s d h).shown))
-    ∙ ap (flat_map (λ (s : ℕ). changed s (shown_of s f t))) are.noted)
+    ∙ ap (flat_map (λ (s : ℕ). changed s (shown_of s f t))) are.marked)
 
 pub turned_levels :
     (n : ℕ) (f : List ℕ) (t : List (ℕ × Value)) (u : List ℕ) (old text : List ℕ) (from to past : code.Levels) (p : ℕ) → AreLevels n f t u from → IsTurned old text from to p
-    → length from.noted.items ≤ p → past.cells.items ≡ to.cells.items → past.noted.items ≡ [] → AreLevels n f t [] past
+    → length from.marked.items ≤ p → past.cells.items ≡ to.cells.items → past.marked.items ≡ [] → AreLevels n f t [] past
 turned_levels n f t u old text from to past p are turned end cells none =
     record {
       counted = ap length cells ∙ turned.counted ∙ are.counted;
@@ -140,9 +140,9 @@ turned_levels n f t u old text from to past p are turned end cells none =
           record {
             shown = is.shown ∙ was.shown;
             is_marked = is.is_marked
-                ∙ ap (λ (b : Bool). b && not (is_in (take p from.noted.items) s)) was.is_marked
-                ∙ ap (λ (l : List ℕ). is_in (noted [] u) s && not (is_in l s)) (take_all p from.noted.items end ∙ are.noted)
-                ∙ and_not (is_in (noted [] u) s);
+                ∙ ap (λ (b : Bool). b && not (is_in (take p from.marked.items) s)) was.is_marked
+                ∙ ap (λ (l : List ℕ). is_in (marked [] u) s && not (is_in l s)) (take_all p from.marked.items end ∙ are.marked)
+                ∙ and_not (is_in (marked [] u) s);
           });
-      noted = none;
+      marked = none;
     }

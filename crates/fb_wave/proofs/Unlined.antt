@@ -14,7 +14,7 @@ use Rattle.fb_types.specs.declared.run.Form.{Form}
 use Rattle.fb_types.specs.declared.run.Form.TheVariants.{One, Two}
 use Rattle.fb_types.specs.declared.run.Line.{Line}
 use Rattle.fb_types.specs.declared.value.Value.{Value}
-use Rattle.fb_system.specs.Stands.{AreIndexes, variable_at}
+use Rattle.fb_system.specs.IndexLists.{AreIndexes, variable_at}
 use Rattle.fb_wave.specs.Lines.{AreInRange, AreNoValuesOf, AreValuesOf, HasNoHead, IsHead, IsInRange, IsLineOf, IsNoTextOf, IsTextOf}
 use Rattle.fb_wave.specs.Named.{HasNames}
 use Rattle.fb_wave.specs.Ports.{BeginsWith, HasNoPort}
@@ -25,13 +25,13 @@ use Rattle.fb_wave.specs.declared.ports.Port.{Port}
 use Rattle.fb_wave.specs.declared.table.PortTable.{PortTable}
 use Rattle.fb_wave.proofs.Finding.{begins_once, same_port}
 use Rattle.fb_wave.proofs.Gluing.{port_at}
-use Rattle.fb_wave.proofs.Lining.{behind_key, key_parts, line_begins, line_end, line_parts, port_of_line, with_sign}
+use Rattle.fb_wave.proofs.Lining.{after_key, key_parts, line_begins, line_end, line_parts, port_of_line, with_sign}
 use Rattle.fb_wave.proofs.Numerals.{number_once}
 use Rattle.fb_wave.proofs.Placing.{names_shown}
 
 -- ---- Heads
 
--- a class and a part, and no number behind them
+-- a class and a part, and no number after them
 pub no_a : (text t : List ℕ) (c : ℕ) → c < 2 ^ 128 → text ≡ number_text c ++ t → HasNoNumber (2 ^ 128) t → HasNoHead Two text
 no_a text t c small is none p rest range head =
     let class = range.class in
@@ -69,18 +69,18 @@ parts_of k = record { class = k.class; a = k.a; b = k.b }
 in_range : (k : Key) → IsInRange k → AreInRange (parts_of k)
 in_range k range = record { class = range.class; a = range.a; b = range.b }
 
-line_head : (sys : System) (form : Form) (l : Line) (text : List ℕ) → IsTextOf sys form l text → IsHead form text (parts_of l.key) (behind_key sys l)
+line_head : (sys : System) (form : Form) (l : Line) (text : List ℕ) → IsTextOf sys form l text → IsHead form text (parts_of l.key) (after_key sys l)
 line_head sys One l text is = is.is ∙ line_parts sys One l is.line.held
 line_head sys Two l text is = is.is ∙ line_parts sys Two l is.line.held
 
 -- ---- Lines
 
 pub headless : (sys : System) (form : Form) (text : List ℕ) → HasNoHead form text → IsNoTextOf sys form text
-headless sys form text none l is = none (parts_of l.key) (behind_key sys l) (in_range l.key is.line.range) (line_head sys form l text is)
+headless sys form text none l is = none (parts_of l.key) (after_key sys l) (in_range l.key is.line.range) (line_head sys form l text is)
 
 module _ (sys : System) (form : Form) (text rest : List ℕ) (p : Parts) (head : IsHead form text p rest) (range : AreInRange p) where
-  rest_is : (l : Line) → IsTextOf sys form l text → rest ≡ behind_key sys l
-  rest_is l is = head_once form text p (parts_of l.key) rest (behind_key sys l) range (in_range l.key is.line.range) head (line_head sys form l text is)
+  rest_is : (l : Line) → IsTextOf sys form l text → rest ≡ after_key sys l
+  rest_is l is = head_once form text p (parts_of l.key) rest (after_key sys l) range (in_range l.key is.line.range) head (line_head sys form l text is)
 
   pub tickless : HasNoNumber (2 ^ 64) rest → IsNoTextOf sys form text
   tickless none l is = none l.key.tick _ is.line.range.tick (rest_is l is)
@@ -121,7 +121,7 @@ plain_sums [] = refl
 plain_sums (k ∷ ks) =
     let same : 0 + k ≡ k = omega arith in ap (λ (j : ℕ). j ∷ map (λ k. 0 + k) ks) same ∙ ap (λ (js : List ℕ). k ∷ js) (plain_sums ks)
 
--- names stand at the same indexes, where each stands at one
+-- names are at the same indexes, where each is at one
 indexes_once : (vs : List Variable) (names : List Name) (ks js : List ℕ) → ¬ (Twice (variable_names vs)) → AreIndexes vs names ks → AreIndexes vs names js → js ≡ ks
 indexes_once vs names ks js once stand other =
     sym (plain_sums js) ∙ names_shown vs 0 names js once other ∙ sym (names_shown vs 0 names ks once stand) ∙ plain_sums ks

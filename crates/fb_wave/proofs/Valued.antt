@@ -56,7 +56,7 @@ pub plain_is_none : (text : List ℕ) → ((rest : List ℕ) → text ≡ codes 
 plain_is_none text plain none (pos n) small e = none n small e
 plain_is_none text plain none (negsuc n) small e = plain (decimal (suc n)) e
 
--- a sign, and no digits of a number above 0 behind it
+-- a sign, and no digits of a number above 0 after it
 pub signed_is_none : (text digits : List ℕ) → text ≡ codes "-" ++ digits → HasNoDigits digits → IsNoWhole text
 signed_is_none text digits parts none (pos n) small e = first_of n small (ap (λ (l : List ℕ). get_or l 0 0) (sym e ∙ parts))
 signed_is_none text digits parts none (negsuc n) small e = none n small (append_cancel_left (codes "-") digits (decimal (suc n)) (sym parts ∙ e))
@@ -168,9 +168,9 @@ pub bound_so :
     (n : Name) (ty : Ty) (text t u w x r : List ℕ) (v : Value) → text ≡ codes " " ++ t → t ≡ n ++ u → u ≡ codes "=" ++ w → IsCut w x r
     → (fits ty v ≡ true) × (x ≡ value_text v) → IsBound n ty text v r
 bound_so n ty text t u w x r v is named signed cut valued =
-    let behind : w ≡ value_text v ++ r = cut.parts ∙ ap (λ (l : List ℕ). l ++ r) valued.1 in
+    let after_front : w ≡ value_text v ++ r = cut.parts ∙ ap (λ (l : List ℕ). l ++ r) valued.1 in
     record {
-      parts = is ∙ ap (λ (l : List ℕ). codes " " ++ l) (named ∙ ap (λ (l : List ℕ). n ++ l) (signed ∙ ap (λ (l : List ℕ). codes "=" ++ l) behind)) ∙ sym (spread n v r);
+      parts = is ∙ ap (λ (l : List ℕ). codes " " ++ l) (named ∙ ap (λ (l : List ℕ). n ++ l) (signed ∙ ap (λ (l : List ℕ). codes "=" ++ l) after_front)) ∙ sym (spread n v r);
       typed = valued.0;
       ended = cut.ended;
     }
@@ -217,7 +217,7 @@ fit_each-push (u ∷ ts) (w ∷ vs) t v e all is =
 next : (i : ℕ) → suc (i + 1) ≡ suc i + 1
 next i = omega arith
 
--- what is left of a list of values behind an index, by one
+-- what is left of a list of values after an index, by one
 left_over : (ns : List Name) (ts : List Ty) (vs : List Value) (i : ℕ) (n : Name) (t : Ty) → i < length ns → length ts ≡ length ns → length vs ≡ length ns → n ≡ get_or ns i n → t ≡ get_or ts i t
     → fit_each ts vs ≡ true → (v : Value) × (drop i (pair_up ns vs) ≡ record { variable = n; value = v } ∷ drop (i + 1) (pair_up ns vs)) × (fits t v ≡ true)
 left_over [] ts vs i n t within sized counted named typed all = absurd (omega arith)
@@ -231,7 +231,7 @@ left_over (m ∷ ns) (u ∷ ts) (v ∷ vs) (suc i) n t within sized counted name
     (more.0, more.1 ∙ ap (λ (k : ℕ). record { variable = n; value = more.0 } ∷ drop k (record { variable = m; value = v } ∷ bs)) (next i), more.2)
 
 -- Values of the variables before an index were read, and a rest is left. Where the text is that of values of all, the rest is
--- that of those behind the index.
+-- that of those after the index.
 pub record AreSoFar (us : List Variable) (ks : List ℕ) (text : List ℕ) (i : ℕ) (vs : List Value) (rest : List ℕ) : Type 0 where
   pub counted : length vs ≡ i
   pub typed : fit_each (map (type_at us) (take i ks)) vs ≡ true

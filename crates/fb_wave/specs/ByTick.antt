@@ -5,7 +5,7 @@ use Rattle.fb_types.specs.Systems.{System}
 use Rattle.fb_types.specs.declared.run.Line.{Line}
 use Rattle.fb_wave.specs.Changes.{time_text}
 use Rattle.fb_wave.specs.Dumps.{tick_changes, ticks_text}
-use Rattle.fb_wave.specs.Levels.{noted}
+use Rattle.fb_wave.specs.Levels.{marked}
 use Rattle.fb_wave.specs.Waves.{RiseFrom}
 
 -- the lines of a tick, and those before it
@@ -21,7 +21,7 @@ tick_text sys ls t = time_text 0 t ++ tick_changes sys (before_tick t ls) (of_ti
 
 -- tick 0 and the ticks of lines, each once, in the order in which they come first
 abbrev pub ticks_of : List Line → List ℕ
-ticks_of ls = noted (0 ∷ []) (map (λ l. l.key.tick) ls)
+ticks_of ls = marked (0 ∷ []) (map (λ l. l.key.tick) ls)
 
 -- The changes of lines whose ticks do not fall are those of each tick, one tick after another.
 abbrev pub AreTickByTick : Type 0

@@ -4,7 +4,7 @@ use Rattle.std.specs.List.{flat_map}
 use Rattle.std.specs.Fmt.{digits}
 use Rattle.fb_types.specs.declared.value.Value.{Value}
 use Rattle.fb_types.specs.declared.value.Value.TheVariants as value
-use Rattle.fb_wave.specs.Levels.{shown_of, noted}
+use Rattle.fb_wave.specs.Levels.{shown_of, marked}
 use Rattle.fb_wave.specs.declared.levels.Level.{Level}
 use Rattle.fb_wave.specs.declared.levels.Level.TheVariants.{Count, Last}
 
@@ -55,7 +55,7 @@ changed s (Count n) = event_changed s n
 
 -- What changes in a tick: each signal that its lines touch, once, with what it shows by then.
 abbrev pub changes : (fires : List ℕ) → (sets : List (ℕ × Value)) → (touches : List ℕ) → List ℕ
-changes fires sets touches = flat_map (λ s. changed s (shown_of s fires sets)) (noted [] touches)
+changes fires sets touches = flat_map (λ s. changed s (shown_of s fires sets)) (marked [] touches)
 
 -- the time, unless it is reported already
 abbrev pub time_text : (shown tick : ℕ) → List ℕ

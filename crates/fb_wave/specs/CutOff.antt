@@ -24,7 +24,7 @@ use Rattle.fb_wave.specs.declared.error.WaveError.TheVariants.{Refused, Names, M
 abbrev pub has_no_feed : List ℕ → Bool
 has_no_feed text = list_all (λ b. not (b == 10)) text
 
--- Lines that a trace of the system can begin with, and behind them nothing, or a part of a line.
+-- Lines that a trace of the system can begin with, and after them nothing, or a part of a line.
 pub record IsCutTrace (sys : System) (form : Form) (text : List ℕ) (ls : List Line) : Type 0 where
   pub lines : AreLinesOf sys ls
   pub part : List ℕ

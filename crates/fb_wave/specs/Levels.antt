@@ -45,19 +45,19 @@ abbrev pub with_one : List ℕ → ℕ → List ℕ
 with_one ss s = if is_in ss s then ss else ss ++ s ∷ []
 
 -- numbers in the order in which each comes first, after others
-abbrev pub noted : (before : List ℕ) → List ℕ → List ℕ
-noted before [] = before
-noted before (s ∷ ss) = noted (with_one before s) ss
+abbrev pub marked : (before : List ℕ) → List ℕ → List ℕ
+marked before [] = before
+marked before (s ∷ ss) = marked (with_one before s) ss
 
 -- ---- The table of the code
 
 -- A cell of a signal.
 pub record IsCell (fires : List ℕ) (sets : List (ℕ × Value)) (touches : List ℕ) (s : ℕ) (x : Cell) : Type 0 where
   pub shown : x.shown ≡ shown_of s fires sets
-  pub is_marked : x.is_marked ≡ is_in (noted [] touches) s
+  pub is_marked : x.is_marked ≡ is_in (marked [] touches) s
 
 -- This many signals, with what they show after events and values, and those of a tick.
 pub record AreLevels (count : ℕ) (fires : List ℕ) (sets : List (ℕ × Value)) (touches : List ℕ) (x : code.Levels) : Type 0 where
   pub counted : length x.cells.items ≡ count
   pub cells : (s : ℕ) (d : Cell) → s < length x.cells.items → IsCell fires sets touches s (slice_index_or x.cells.items s d)
-  pub noted : x.noted.items ≡ noted [] touches
+  pub marked : x.marked.items ≡ marked [] touches

@@ -17,7 +17,7 @@ use Rattle.fb_types.specs.declared.value.Value.{Value}
 use Rattle.fb_wave.specs.Ports.{side}
 use Rattle.fb_wave.specs.declared.line.Parts.{Parts}
 use Rattle.fb_wave.specs.declared.ports.Port.{Port}
-use Rattle.fb_system.specs.Stands.{AreIndexes}
+use Rattle.fb_system.specs.IndexLists.{AreIndexes}
 use Rattle.fb_system.specs.Lines.{BelongsTo, line_variables}
 use Rattle.fb_trace.specs.End.{EndsIn, ending_of}
 use Rattle.fb_trace.specs.declared.last.Outcome.{Outcome}

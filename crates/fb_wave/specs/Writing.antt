@@ -2,7 +2,7 @@
 use Rattle.std.specs.Prelude.{◌≡◌, ◌<◌, ◌≤◌, ℕ, ◌+◌, ◌^◌, List, [], ◌∷◌, ◌++◌, length, All, slice_index}
 use Rattle.fb_types.specs.Systems.{System}
 use Rattle.fb_types.specs.declared.run.Line.{Line}
-use Rattle.fb_system.specs.Stands.{AreIndexes}
+use Rattle.fb_system.specs.IndexLists.{AreIndexes}
 use Rattle.fb_system.specs.Lines.{line_variables}
 use Rattle.fb_wave.specs.Levels.{AreLevels}
 use Rattle.fb_wave.specs.Signals.{first_signal, first_variable, sizes_of}
@@ -23,7 +23,7 @@ pub record AreFirsts (sys : System) (firsts : List ℕ) : Type 0 where
 -- A cell for each signal of the system, and the marked ones are among them.
 pub record AreFit (sys : System) (x : Levels) : Type 0 where
   pub counted : length x.cells.items ≡ sizes_of sys sys.paths
-  pub within : All (λ s. s < length x.cells.items) x.noted.items
+  pub within : All (λ s. s < length x.cells.items) x.marked.items
 
 -- The signals of a line are those of the system.
 pub record AreMarks (sys : System) (l : Line) (x : Marks) : Type 0 where

@@ -72,19 +72,19 @@ pub(crate) fn put_time(text: &mut Vec<u8>, shown: u64, tick: u64) -> Result<(), 
 
 /// Puts the changes of a tick after a text, and goes on to the next tick.
 pub(crate) fn put_changes(text: &mut Vec<u8>, levels: &mut Levels) -> Result<(), AllocError>
-    requires { All (λ s. s < length levels.old.cells.items) levels.old.noted.items }
+    requires { All (λ s. s < length levels.old.cells.items) levels.old.marked.items }
     ensures counted { length levels.new.cells.items ≡ length levels.old.cells.items }
-    ensures none { OnOk result (levels.new.noted.items ≡ []) }
+    ensures none { OnOk result (levels.new.marked.items ≡ []) }
     ensures text { (n : ℕ) (fires : List ℕ) (sets : List (ℕ × Value)) (touches : List ℕ) → AreLevels n fires sets touches levels.old
         → OnOk result (text.new.items ≡ text.old.items ++ changes fires sets touches) }
     ensures levels { (n : ℕ) (fires : List ℕ) (sets : List (ℕ × Value)) (touches : List ℕ) → AreLevels n fires sets touches levels.old
         → OnOk result (AreLevels n fires sets [] levels.new) }
 {
-    for index in 0..levels.noted.len() {
-        let signal = levels.noted[index];
+    for index in 0..levels.marked.len() {
+        let signal = levels.marked[index];
         put_change(text, signal, levels.cells[signal].shown)?;
         levels.cells[signal].is_marked = false;
     }
-    levels.noted.clear();
+    levels.marked.clear();
     Ok(())
 }

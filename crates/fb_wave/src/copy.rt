@@ -150,7 +150,7 @@ impl Progress {
 
     /// Shows that the trace is cut off, and writes all that waits.
     fn finish_cut<W: Write>(&mut self, out: &mut W) -> Result<(), WaveError>
-        requires { All (λ s. s < length self.old.dump.levels.cells.items) self.old.dump.levels.noted.items }
+        requires { All (λ s. s < length self.old.dump.levels.cells.items) self.old.dump.levels.marked.items }
         ensures whole { (sys : Flat) → OnOk result (IsCutFinished sys self.old (W.contents out.old) (W.contents out.new)) }
         ensures part { (sys : Flat) → IfErr result (IsCutUnfinished sys self.old (W.contents out.old) (W.contents out.new)) }
     {

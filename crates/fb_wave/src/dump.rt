@@ -105,9 +105,9 @@ fn marks_of<'a>(firsts: &[usize], system: &'a System, line: &Line) -> Marks<'a>
 
 /// Goes on to a tick: puts what changed in the one before after a text, unless it is the same.
 fn turn(levels: &mut Levels, shown: u64, tick: u64, text: &mut Vec<u8>) -> Result<(), AllocError>
-    requires { All (λ s. s < length levels.old.cells.items) levels.old.noted.items }
+    requires { All (λ s. s < length levels.old.cells.items) levels.old.marked.items }
     ensures counted { length levels.new.cells.items ≡ length levels.old.cells.items }
-    ensures within { OnOk result (All (λ s. s < length levels.new.cells.items) levels.new.noted.items) }
+    ensures within { OnOk result (All (λ s. s < length levels.new.cells.items) levels.new.marked.items) }
     ensures turned { (sys : Flat) (ls : List Line) (sent : List ℕ) → Shows sys ls (sent ++ text.old.items) shown levels.old
         → OnOk result (Turns sys ls (sent ++ text.new.items) tick levels.new) }
 {
@@ -126,9 +126,9 @@ fn show_values(
     values: &[Value],
 ) -> Result<(), AllocError>
     requires indexes { All (λ k. first + k < length levels.old.cells.items) indexes.now }
-    requires within { All (λ s. s < length levels.old.cells.items) levels.old.noted.items }
+    requires within { All (λ s. s < length levels.old.cells.items) levels.old.marked.items }
     ensures counted { length levels.new.cells.items ≡ length levels.old.cells.items }
-    ensures within { All (λ s. s < length levels.new.cells.items) levels.new.noted.items }
+    ensures within { All (λ s. s < length levels.new.cells.items) levels.new.marked.items }
     ensures levels { (n : ℕ) (fires : List ℕ) (sets : List (ℕ × Value)) (touches : List ℕ) → AreLevels n fires sets touches levels.old
         → OnOk result (let more = pairs (map (λ k. first + k) indexes.now) values.now in
         AreLevels n fires (sets ++ more) (touches ++ map (λ t. t.0) more) levels.new) }
@@ -149,9 +149,9 @@ fn show(
 ) -> Result<(), AllocError>
     requires event { event < length levels.old.cells.items }
     requires indexes { All (λ k. first + k < length levels.old.cells.items) indexes.now }
-    requires within { All (λ s. s < length levels.old.cells.items) levels.old.noted.items }
+    requires within { All (λ s. s < length levels.old.cells.items) levels.old.marked.items }
     ensures counted { length levels.new.cells.items ≡ length levels.old.cells.items }
-    ensures within { All (λ s. s < length levels.new.cells.items) levels.new.noted.items }
+    ensures within { All (λ s. s < length levels.new.cells.items) levels.new.marked.items }
     ensures levels { (n : ℕ) (fires : List ℕ) (sets : List (ℕ × Value)) (touches : List ℕ) → AreLevels n fires sets touches levels.old
         → OnOk result (let more = pairs (map (λ k. first + k) indexes.now) values.now in
         AreLevels n (fires ++ event ∷ []) (sets ++ more) (touches ++ event ∷ [] ++ map (λ t. t.0) more) levels.new) }
@@ -209,7 +209,7 @@ impl Dump {
 
     /// Puts what changed in the last tick, and that the trace is cut off, after a text.
     pub(crate) fn cut_off(&mut self, text: &mut Vec<u8>) -> Result<(), AllocError>
-        requires { All (λ s. s < length self.old.levels.cells.items) self.old.levels.noted.items }
+        requires { All (λ s. s < length self.old.levels.cells.items) self.old.levels.marked.items }
         ensures { (sys : Flat) (ls : List Line) (sent : List ℕ) → HasShown sys ls (sent ++ text.old.items) self.old
             → OnOk result (sent ++ text.new.items ≡ cut_text sys ls) }
     {

@@ -13,7 +13,7 @@ pub enum WaveError {
     #[error("refused trace line {0}")]
     Refused(u64),
     /// A resource, an instance or a port has a name of other bytes than letters in upper case, digits and underscores, so
-    /// that lines may not tell the ports. No declaration or deployment that was read from a text has such a name.
+    /// that lines may not show the ports. No declaration or deployment that was read from a text has such a name.
     #[error("two ports of the declaration are written alike")]
     Names,
     #[error("out of memory")]

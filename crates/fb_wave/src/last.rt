@@ -8,7 +8,7 @@ ghost use Rattle.fb_wave.specs.Lines.{IsLast, IsNoLast, IsNoStop, IsStop};
 ghost use Rattle.fb_wave.specs.Named.{HasNames};
 
 use crate::number::{magnitude, tick};
-use crate::words::{behind, cut};
+use crate::words::{after_front, cut};
 use fb_system::System;
 use fb_trace::Outcome;
 use fb_types::{Reason, StopMark};
@@ -81,8 +81,8 @@ pub fn read_last(system: &System, text: &[u8]) -> Option<Outcome>
     if let Some(b'0'..=b'9') = text.first() {
         return None;
     }
-    if let Some(rest) = behind(text, b"end ") {
+    if let Some(rest) = after_front(text, b"end ") {
         return Some(Outcome::End(horizon_of(rest)?));
     }
-    Some(Outcome::Stop(stop_of(system, behind(text, b"stop ")?)?))
+    Some(Outcome::Stop(stop_of(system, after_front(text, b"stop ")?)?))
 }

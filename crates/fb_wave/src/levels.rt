@@ -31,7 +31,7 @@ pub(crate) struct Levels {
     /// Each signal at the index of its number.
     pub(crate) cells: Vec<Cell>,
     /// The numbers of those of the lines of this tick.
-    pub(crate) noted: Vec<usize>,
+    pub(crate) marked: Vec<usize>,
 }
 
 /// What is shown after one more event.
@@ -51,7 +51,7 @@ impl Levels {
     {
         Levels {
             cells: Vec::new(alloc),
-            noted: Vec::new(alloc),
+            marked: Vec::new(alloc),
         }
     }
 
@@ -79,18 +79,18 @@ impl Levels {
     }
 
     /// Marks a signal of a line of this tick.
-    fn note(&mut self, signal: usize) -> Result<(), AllocError>
+    fn mark(&mut self, signal: usize) -> Result<(), AllocError>
         requires signal { signal < length self.old.cells.items }
-        requires within { All (λ s. s < length self.old.cells.items) self.old.noted.items }
+        requires within { All (λ s. s < length self.old.cells.items) self.old.marked.items }
         ensures counted { length self.new.cells.items ≡ length self.old.cells.items }
-        ensures within { All (λ s. s < length self.new.cells.items) self.new.noted.items }
+        ensures within { All (λ s. s < length self.new.cells.items) self.new.marked.items }
         ensures levels { (n : ℕ) (fires : List ℕ) (sets : List (ℕ × Value)) (touches : List ℕ) → AreLevels n fires sets touches self.old
             → OnOk result (AreLevels n fires sets (touches ++ signal ∷ []) self.new) }
     {
         if self.cells[signal].is_marked {
             return Ok(());
         }
-        self.noted.push(signal)?;
+        self.marked.push(signal)?;
         self.cells[signal].is_marked = true;
         Ok(())
     }
@@ -98,27 +98,27 @@ impl Levels {
     /// A port had an event.
     pub(crate) fn fire(&mut self, signal: usize) -> Result<(), AllocError>
         requires signal { signal < length self.old.cells.items }
-        requires within { All (λ s. s < length self.old.cells.items) self.old.noted.items }
+        requires within { All (λ s. s < length self.old.cells.items) self.old.marked.items }
         ensures counted { length self.new.cells.items ≡ length self.old.cells.items }
-        ensures within { All (λ s. s < length self.new.cells.items) self.new.noted.items }
+        ensures within { All (λ s. s < length self.new.cells.items) self.new.marked.items }
         ensures levels { (n : ℕ) (fires : List ℕ) (sets : List (ℕ × Value)) (touches : List ℕ) → AreLevels n fires sets touches self.old
             → OnOk result (AreLevels n (fires ++ signal ∷ []) sets (touches ++ signal ∷ []) self.new) }
     {
         let shown = after_event(self.cells[signal].shown);
         self.cells[signal].shown = shown;
-        self.note(signal)
+        self.mark(signal)
     }
 
     /// A variable got a value.
     pub(crate) fn show(&mut self, signal: usize, value: Value) -> Result<(), AllocError>
         requires signal { signal < length self.old.cells.items }
-        requires within { All (λ s. s < length self.old.cells.items) self.old.noted.items }
+        requires within { All (λ s. s < length self.old.cells.items) self.old.marked.items }
         ensures counted { length self.new.cells.items ≡ length self.old.cells.items }
-        ensures within { All (λ s. s < length self.new.cells.items) self.new.noted.items }
+        ensures within { All (λ s. s < length self.new.cells.items) self.new.marked.items }
         ensures levels { (n : ℕ) (fires : List ℕ) (sets : List (ℕ × Value)) (touches : List ℕ) → AreLevels n fires sets touches self.old
             → OnOk result (AreLevels n fires (sets ++ (signal, value) ∷ []) (touches ++ signal ∷ []) self.new) }
     {
         self.cells[signal].shown = Level::Last(value);
-        self.note(signal)
+        self.mark(signal)
     }
 }

@@ -3,7 +3,7 @@
 ghost use Rattle.std.specs.Prelude.{◌≡◌, ◌+◌, ◌-◌, ◌*◌, ◌^◌, ◌<◌, ◌≤◌, ◌++◌, decimal, IfSome, MatchOption};
 ghost use Rattle.fb_wave.specs.Reading.{HasNoNumber, IsGrown, IsNoNumber, IsWide, number_text};
 
-use crate::words::{behind, cut};
+use crate::words::{after_front, cut};
 
 /// A number with one more digit after its digits, below 2^128.
 fn grown(number: u128, byte: u8) -> Option<u128>
@@ -53,7 +53,7 @@ pub(crate) fn number(text: &[u8]) -> Option<(u128, &[u8])>
     ensures range { IfSome result (λ p. p.0 < 2 ^ 128) }
 {
     let parts = cut(text)?;
-    Some((natural(parts.0)?, behind(parts.1, b" ")?))
+    Some((natural(parts.0)?, after_front(parts.1, b" ")?))
 }
 
 /// A number of 64 bits before a blank, and what comes after the blank.

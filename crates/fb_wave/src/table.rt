@@ -11,7 +11,7 @@ ghost use Rattle.fb_wave.specs.Tables.{IsTable};
 ghost use Rattle.fb_wave.specs.Words.{HasNoThree, HasThree, is_ended};
 
 use crate::ports::{Port, port_text};
-use crate::words::{behind, cut, is_end};
+use crate::words::{after_front, cut, is_end};
 use fb_check_names::{Indexes, index_of, indexes_of};
 use fb_system::System;
 use fb_types::Name;
@@ -56,7 +56,7 @@ impl Guess {
     }
 
     /// Keeps that a line of the port at this index was read.
-    fn note(&mut self, index: usize) {
+    fn mark(&mut self, index: usize) {
         if let Some(next) = self.next.get_mut(self.last) {
             *next = index;
         }
@@ -102,8 +102,8 @@ fn port_len(text: &[u8]) -> Option<usize>
     ensures within { IfSome result (λ n. n ≤ length text.now) }
 {
     let resource = cut(text)?;
-    let sign = cut(behind(resource.1, b" ")?)?;
-    let event = cut(behind(sign.1, b" ")?)?;
+    let sign = cut(after_front(resource.1, b" ")?)?;
+    let event = cut(after_front(sign.1, b" ")?)?;
     Some(text.len() - event.1.len())
 }
 
@@ -143,7 +143,7 @@ impl<'a> PortTable<'a> {
     {
         let port = self.ports.get(index)?;
         let name = self.texts.get(index)?;
-        let rest = behind(text, name.as_bytes())?;
+        let rest = after_front(text, name.as_bytes())?;
         if !ends_word(rest) {
             return None;
         }
@@ -164,7 +164,7 @@ impl<'a> PortTable<'a> {
         }
         let length = port_len(text)?;
         let index = index_of(&self.indexes, &text[..length])?;
-        guess.note(index);
+        guess.mark(index);
         self.at(index, text)
     }
 }

@@ -6,7 +6,7 @@ ghost use Rattle.fb_types.specs.Values.{fits};
 ghost use Rattle.fb_wave.specs.Reading.{AreRead, AreUnread, HasNoDigits, IsBound, IsNoTruth, IsNoValue, IsNoWhole, IsNone, IsTextOfValue, IsTextOfWhole, IsUnbound};
 
 use crate::number::magnitude;
-use crate::words::{behind, cut};
+use crate::words::{after_front, cut};
 use fb_types::{Ty, Value, Values, Variable};
 use std::alloc::{AllocError, Global};
 
@@ -24,7 +24,7 @@ fn below_zero(digits: &[u8]) -> Option<i128>
 fn whole(text: &[u8]) -> Option<i128>
     ensures { MatchOption result (IsNoWhole text.now) (λ z. IsTextOfWhole z text.now) }
 {
-    match behind(text, b"-") {
+    match after_front(text, b"-") {
         Some(digits) => below_zero(digits),
         None => Some(i128::from(magnitude(text)?)),
     }
@@ -66,9 +66,9 @@ fn binding<'a>(variable: &Variable, text: &'a [u8]) -> Option<(Value, &'a [u8])>
     ensures { MatchOption result (IsUnbound variable.now.name variable.now.ty text.now)
         (λ p. IsBound variable.now.name variable.now.ty text.now p.0 p.1.now) }
 {
-    let text = behind(text, b" ")?;
-    let text = behind(text, variable.name.as_bytes())?;
-    let text = behind(text, b"=")?;
+    let text = after_front(text, b" ")?;
+    let text = after_front(text, variable.name.as_bytes())?;
+    let text = after_front(text, b"=")?;
     let parts = cut(text)?;
     Some((value_of(variable.ty, parts.0)?, parts.1))
 }

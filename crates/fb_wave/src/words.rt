@@ -32,7 +32,7 @@ pub fn cut(text: &[u8]) -> Option<(&[u8], &[u8])>
 }
 
 /// What comes after a front.
-pub fn behind<'a>(text: &'a [u8], front: &[u8]) -> Option<&'a [u8]>
+pub fn after_front<'a>(text: &'a [u8], front: &[u8]) -> Option<&'a [u8]>
     ensures { MatchOption result ((rest : List ℕ) → text.now ≡ front.now ++ rest → ⊥) (λ rest. text.now ≡ front.now ++ rest.now) }
 {
     text.strip_prefix(front)

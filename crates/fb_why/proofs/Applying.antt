@@ -8,7 +8,7 @@ use Rattle.fb_types.specs.Blocks.{event_block_named, event_blocks}
 use Rattle.fb_types.specs.Flat.{pairs_in, resource_names_of, type_name}
 use Rattle.fb_types.specs.Joined.{Holds, TwoSources}
 use Rattle.fb_types.specs.Mapped.{data_pairs_of, event_pairs_of, mapped}
-use Rattle.fb_types.specs.Repeated.{Placed, Twice, algorithm_names, event_pairs, instance_names, link_pairs, networks_in, state_names}
+use Rattle.fb_types.specs.Repeated.{OwnedNetwork, Twice, algorithm_names, event_pairs, instance_names, link_pairs, networks_in, state_names}
 use Rattle.fb_types.specs.declared.library.BlockType.{BlockType}
 use Rattle.fb_types.specs.declared.library.BlockType.TheVariants as block
 use Rattle.fb_types.specs.declared.library.CompositeType.{CompositeType}
@@ -117,22 +117,22 @@ targets_twice cs r p = subst (λ (ps : List Port). Twice ps) (sym (targets_are c
 inside_applies : (lib : Library) (t : BlockType) (k : ℕ) (r : ℕ × ℕ) → slice_get lib.blocks k ≡ Some t → IsJoinedInside t r → TwoSources lib
 inside_applies lib (block.Basic t) k r at h = absurd h
 inside_applies lib (block.Composite t) k r at h =
-    let top : Placed = (None, lib.application.network) in
-    let n : Placed = (Some t, t.network) in
+    let top : OwnedNetwork = (None, lib.application.network) in
+    let n : OwnedNetwork = (Some t, t.network) in
     let inside : Contains (flat_map networks_in lib.blocks) n =
     Contains-flat_map networks_in lib.blocks (block.Composite t) n (element_of_index lib.blocks k (block.Composite t) at) (Contains-here n []) in
     (n, Contains-there top (flat_map networks_in lib.blocks) n inside, targets_twice t.network.data_connections r h)
 
 pub joined_applies : JoinedApplies
 joined_applies lib (joined.Application r) h =
-    let n : Placed = (None, lib.application.network) in
+    let n : OwnedNetwork = (None, lib.application.network) in
     (n, Contains-here n (flat_map networks_in lib.blocks), targets_twice lib.application.network.data_connections r h)
 joined_applies lib (joined.Inside k r) h = inside_applies lib h.0 k r h.1 h.2
 
 -- ---- E25
 
 held : (lib : Library) (k i : ℕ) (t u : CompositeType) → IsHeld lib k i t u → Holds lib t u
-held lib k i t u h = (h.instance, element_of_index t.network.instances i h.instance h.stands, h.of_type)
+held lib k i t u h = (h.instance, element_of_index t.network.instances i h.instance h.at_index, h.of_type)
 
 pub height_applies : HeightApplies
 height_applies lib (Circle k i) h =
@@ -143,14 +143,14 @@ height_applies lib (Height k i) h =
 -- ---- E26 to E28
 
 pub unmapped_applies : UnmappedApplies
-unmapped_applies lib plan (Unlisted k) h = inl (h.instance, element_of_index lib.application.network.instances k h.instance h.stands, h.unlisted)
+unmapped_applies lib plan (Unlisted k) h = inl (h.instance, element_of_index lib.application.network.instances k h.instance h.at_index, h.unlisted)
 unmapped_applies lib plan (Again r) h = inr (pair_twice (mapped lib plan) r h)
 
 pub unlinked_applies : UnlinkedApplies
 unlinked_applies lib plan (unlinked.Event k) h =
-    (h.stands, Contains-append_left (event_pairs_of lib) (data_pairs_of lib) h.stands (element_of_index (event_pairs_of lib) k h.stands h.found), h.cut, h.none)
+    (h.at_index, Contains-append_left (event_pairs_of lib) (data_pairs_of lib) h.at_index (element_of_index (event_pairs_of lib) k h.at_index h.found), h.cut, h.none)
 unlinked_applies lib plan (unlinked.Data k) h =
-    (h.stands, Contains-append_right (event_pairs_of lib) (data_pairs_of lib) h.stands (element_of_index (data_pairs_of lib) k h.stands h.found), h.cut, h.none)
+    (h.at_index, Contains-append_right (event_pairs_of lib) (data_pairs_of lib) h.at_index (element_of_index (data_pairs_of lib) k h.at_index h.found), h.cut, h.none)
 
 pub unserved_applies : UnservedApplies
-unserved_applies lib plan k h = (h.stands, element_of_index (data_pairs_of lib) k h.stands h.found, h.cut, h.alone)
+unserved_applies lib plan k h = (h.at_index, element_of_index (data_pairs_of lib) k h.at_index h.found, h.cut, h.alone)

@@ -30,7 +30,7 @@ composite_from_kind None u h = absurd (cc)
 composite_from_kind (Some (block.Basic t)) u h = absurd (cc)
 composite_from_kind (Some (block.Composite t)) u h = let e : t ≡ u = cc in ap (λ (t : CompositeType). Some (block.Composite t)) e
 
--- the instance of which the type was found, and that its name stands for the type
+-- the instance of which the type was found, and that its name is the name of the type
 inside_at :
     (lib : Library) (t : CompositeType) (i j : ℕ) → type_inside lib (block.Composite t) i ≡ Some j
     → (x : Instance) × (slice_get t.network.instances i ≡ Some x) × (type_named lib x.block_type ≡ option_map kind_of (slice_get lib.blocks j))
@@ -84,15 +84,15 @@ leads_on lib marks from k j leads h = (
 circle_at :
     (lib : Library) (marks : List Bool) (k i : ℕ) (t : BlockType) → marks ≡ marks_after 15 lib → slice_get lib.blocks k ≡ Some t → marked_in lib marks t ≡ Some i
     → LeadsBack lib k t i → IsTooHighAt lib (Circle k i)
-circle_at lib marks k i (block.Basic t) after stands found back = absurd (cc)
-circle_at lib marks k i (block.Composite t) after stands found back =
-    let w = held_at lib marks k i t after stands found in
+circle_at lib marks k i (block.Basic t) after at_index found back = absurd (cc)
+circle_at lib marks k i (block.Composite t) after at_index found back =
+    let w = held_at lib marks k i t after at_index found in
     let x = inside_at lib t i back.through back.inside in
-    let same : x.0 ≡ w.1.instance = let both : Some x.0 ≡ Some w.1.instance = sym x.1 ∙ w.1.stands in cc in
+    let same : x.0 ≡ w.1.instance = let both : Some x.0 ≡ Some w.1.instance = sym x.1 ∙ w.1.at_index in cc in
     let kind : option_map kind_of (slice_get lib.blocks back.through) ≡ Some (Composite w.0) =
     sym x.2 ∙ ap (λ (x : Instance). type_named lib x.block_type) same ∙ w.1.of_type in
     let there : slice_get lib.blocks back.through ≡ Some (block.Composite w.0) = composite_from_kind (slice_get lib.blocks back.through) w.0 kind in
-    (t, w.0, w.1, (back.leads.0, back.leads.1 w.0 t there stands))
+    (t, w.0, w.1, (back.leads.0, back.leads.1 w.0 t there at_index))
 
 pub round_at :
     (lib : Library) (bs : List BlockType) (marks : List Bool) (k i : ℕ) → marks ≡ marks_after 15 lib → bs ≡ lib.blocks → IsRound lib bs marks (k, i)

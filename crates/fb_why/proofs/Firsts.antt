@@ -7,18 +7,18 @@ use Rattle.std.proofs.lemmas.Option.{slice_get-get_or}
 use Rattle.fb_types.proofs.Positions.{position-first, position-later}
 
 -- the index after this number of elements
-abbrev pub behind : ℕ → Option ℕ → Option ℕ
-behind k o = option_map (λ i. i + k) o
+abbrev pub following : ℕ → Option ℕ → Option ℕ
+following k o = option_map (λ i. i + k) o
 
-pub at_first : (o : Option ℕ) → o ≡ behind 0 o
+pub at_first : (o : Option ℕ) → o ≡ following 0 o
 at_first None = refl
 at_first (Some i) = ap (λ (n : ℕ). Some n) (omega arith)
 
-one_on : (k : ℕ) (o : Option ℕ) → behind k (option_map (λ i. i + 1) o) ≡ behind (k + 1) o
+one_on : (k : ℕ) (o : Option ℕ) → following k (option_map (λ i. i + 1) o) ≡ following (k + 1) o
 one_on k None = refl
 one_on k (Some i) = ap (λ (n : ℕ). Some n) (omega arith)
 
-at_none : (k : ℕ) → behind k (Some 0) ≡ Some k
+at_none : (k : ℕ) → following k (Some 0) ≡ Some k
 at_none k = ap (λ (n : ℕ). Some n) (omega arith)
 
 -- what the loop has before it
@@ -27,20 +27,20 @@ here :
 here {A} p xs k x within is = at_drop_more (position p) xs k x within ∙ ap (λ (y : A). position p (y ∷ drop (k + 1) xs)) (sym is)
 
 pub found_first :
-    {A : Type 0} (p : A → Bool) (xs : List A) (k : ℕ) (x : A) → k < length xs → x ≡ get_or xs k x → position p xs ≡ behind k (position p (drop k xs))
+    {A : Type 0} (p : A → Bool) (xs : List A) (k : ℕ) (x : A) → k < length xs → x ≡ get_or xs k x → position p xs ≡ following k (position p (drop k xs))
     → p x ≡ true → Some k ≡ position p xs
 found_first p xs k x within is before passes =
-    sym (before ∙ ap (behind k) (here p xs k x within is ∙ position-first p x (drop (k + 1) xs) passes) ∙ at_none k)
+    sym (before ∙ ap (following k) (here p xs k x within is ∙ position-first p x (drop (k + 1) xs) passes) ∙ at_none k)
 
 pub not_first :
-    {A : Type 0} (p : A → Bool) (xs : List A) (k : ℕ) (x : A) → k < length xs → x ≡ get_or xs k x → position p xs ≡ behind k (position p (drop k xs))
-    → p x ≡ false → position p xs ≡ behind (k + 1) (position p (drop (k + 1) xs))
+    {A : Type 0} (p : A → Bool) (xs : List A) (k : ℕ) (x : A) → k < length xs → x ≡ get_or xs k x → position p xs ≡ following k (position p (drop k xs))
+    → p x ≡ false → position p xs ≡ following (k + 1) (position p (drop (k + 1) xs))
 not_first p xs k x within is before fails =
-    before ∙ ap (behind k) (here p xs k x within is ∙ position-later p x (drop (k + 1) xs) fails) ∙ one_on k (position p (drop (k + 1) xs))
+    before ∙ ap (following k) (here p xs k x within is ∙ position-later p x (drop (k + 1) xs) fails) ∙ one_on k (position p (drop (k + 1) xs))
 
 pub found_none :
-    {A : Type 0} (p : A → Bool) (xs : List A) (k : ℕ) → length xs ≤ k → position p xs ≡ behind k (position p (drop k xs)) → None ≡ position p xs
-found_none p xs k past before = sym (before ∙ ap (behind k) (at_drop_all (position p) xs k past))
+    {A : Type 0} (p : A → Bool) (xs : List A) (k : ℕ) → length xs ≤ k → position p xs ≡ following k (position p (drop k xs)) → None ≡ position p xs
+found_none p xs k past before = sym (before ∙ ap (following k) (at_drop_all (position p) xs k past))
 
 -- ---- A loop that searches the first element of which something does not hold
 

@@ -10,12 +10,12 @@ use Rattle.fb_why.specs.declared.spot.Finding.{Finding}
 use Rattle.fb_why.specs.declared.spot.Spot.{Spot}
 
 -- what is found at a location
-pub told_at :
+pub found_at :
     {E : Type 0} (made : Result (Option Finding) E) (location : Spot) (N : Type 0) (P : Spot → Type 0) → IfOk made (IsFoundAt location) → P location
     → IfOk made (λ o. MatchOption o N (λ r. P r.location))
-told_at (Err e) location N P said holds = tt
-told_at (Ok None) location N P said holds = absurd said
-told_at (Ok (Some r)) location N P said holds = subst P (sym said) holds
+found_at (Err e) location N P said holds = tt
+found_at (Ok None) location N P said holds = absurd said
+found_at (Ok (Some r)) location N P said holds = subst P (sym said) holds
 
 -- a location, none, or one of the two, if it is known what is refused
 pub some_by :

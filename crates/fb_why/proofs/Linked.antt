@@ -51,7 +51,7 @@ unlinked_at plan cs ds k same f =
     let p : Port × Port = ports_of c in
     let a = apart plan (resource_of plan p.0.at) (resource_of plan p.1.at) f.2 in
     record {
-      stands = p;
+      at_index = p;
       found = slice_get-map ports_of ds k ∙ ap (option_map ports_of) (ap (λ (cs : List Connection). slice_get cs k) (sym same) ∙ f.1);
       cut = a.0;
       none = a.1;

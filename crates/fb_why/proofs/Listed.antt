@@ -26,7 +26,7 @@ pub unlisted_at :
     (ns : List (Bor Name)) (is : List Instance) (k : ℕ) (i : Instance) → slice_get is k ≡ Some i → is_listed ns i ≡ false → IsUnlisted (names_in ns) is k
 unlisted_at ns is k i at fails = record {
   instance = i;
-  stands = at;
+  at_index = at;
   unlisted = λ c. true≢false (sym (any_from_contains i.name (names_in ns) c) ∙ sym (listed_any ns i) ∙ fails);
 }
 

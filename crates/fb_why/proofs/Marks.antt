@@ -232,10 +232,10 @@ none_high lib bs marks after blocks none w =
 pub held_at :
     (lib : Library) (marks : List Bool) (k i : ℕ) (t : CompositeType) → marks ≡ marks_after 15 lib → slice_get lib.blocks k ≡ Some (block.Composite t)
     → marked_in lib marks (block.Composite t) ≡ Some i → (u : CompositeType) × IsHeld lib k i t u × Leads lib 15 u
-held_at lib marks k i t after stands found =
+held_at lib marks k i t after at_index found =
     let at = position_at (is_marked lib marks) t.network.instances i found in
     let w = leads_from_marked lib 15 marks at.0 (right_after lib marks after) at.2 in
-    (w.0, record { holder = stands; instance = at.0; stands = at.1; of_type = w.1 }, w.2)
+    (w.0, record { holder = at_index; instance = at.0; at_index = at.1; of_type = w.1 }, w.2)
 
 abbrev pub FoundHolder : Library → List BlockType → List Bool → ℕ × ℕ → Type 0
 FoundHolder lib bs marks r = (t : BlockType) × (slice_get bs r.0 ≡ Some t) × (marked_in lib marks t ≡ Some r.1)
@@ -243,9 +243,9 @@ FoundHolder lib bs marks r = (t : BlockType) × (slice_get bs r.0 ≡ Some t) ×
 high_at :
     (lib : Library) (marks : List Bool) (k i : ℕ) (t : BlockType) → marks ≡ marks_after 15 lib → slice_get lib.blocks k ≡ Some t → marked_in lib marks t ≡ Some i
     → IsTooHighAt lib (Height k i)
-high_at lib marks k i (block.Basic t) after stands found = absurd (cc)
-high_at lib marks k i (block.Composite t) after stands found =
-    let w = held_at lib marks k i t after stands found in
+high_at lib marks k i (block.Basic t) after at_index found = absurd (cc)
+high_at lib marks k i (block.Composite t) after at_index found =
+    let w = held_at lib marks k i t after at_index found in
     (t, w.0, w.1, w.2)
 
 pub too_high_at :

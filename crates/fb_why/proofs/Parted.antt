@@ -5,7 +5,7 @@ use Rattle.std.proofs.lemmas.List.Elements.{All-contains}
 use Rattle.fb_types.specs.Names.{Port}
 use Rattle.fb_types.specs.Flat.{pairs_in, port_in}
 use Rattle.fb_types.specs.Joined.{TwoSources}
-use Rattle.fb_types.specs.Repeated.{Twice, Placed, networks_in}
+use Rattle.fb_types.specs.Repeated.{Twice, OwnedNetwork, networks_in}
 use Rattle.fb_types.specs.declared.library.BlockType.{BlockType}
 use Rattle.fb_types.specs.declared.library.BlockType.TheVariants as block
 use Rattle.fb_types.specs.declared.library.Connection.{Connection}
@@ -19,12 +19,12 @@ pub targets_are : (cs : List Connection) → map (λ c. c.1) (pairs_in [] cs) �
 targets_are [] = refl
 targets_are (c ∷ cs) = ap (λ (ps : List Port). port_in [] c.to ∷ ps) (targets_are cs)
 
-inside_parted : (t : BlockType) (n : Placed) → IsParted t → Contains (networks_in t) n → ¬ (Twice (targets n.1.data_connections))
+inside_parted : (t : BlockType) (n : OwnedNetwork) → IsParted t → Contains (networks_in t) n → ¬ (Twice (targets n.1.data_connections))
 inside_parted (block.Basic b) n parted h twice = Contains-nil n h
 inside_parted (block.Composite b) n parted h twice =
-    let here : Placed = (Some b, b.network) in
+    let here : OwnedNetwork = (Some b, b.network) in
     elim (Contains-cons_cases here [] n h) [
-      | inl e ↦ parted (subst (λ (n : Placed). Twice (targets n.1.data_connections)) (sym e) twice)
+      | inl e ↦ parted (subst (λ (n : OwnedNetwork). Twice (targets n.1.data_connections)) (sym e) twice)
       | inr none ↦ Contains-nil n none
     ]
 
@@ -33,11 +33,11 @@ pub all_parted :
     → ¬ (Twice (targets cs)) → All IsParted ts → ¬ (TwoSources lib)
 all_parted lib cs ts connections blocks once each w =
     let twice : Twice (targets w.0.1.data_connections) = subst (λ (ps : List Port). Twice ps) (targets_are w.0.1.data_connections) w.2 in
-    let top : Placed = (None, lib.application.network) in
+    let top : OwnedNetwork = (None, lib.application.network) in
     elim (Contains-cons_cases top (flat_map networks_in lib.blocks) w.0 w.1) [
       | inl e ↦
           once (subst (λ (cs : List Connection). Twice (targets cs)) (sym connections)
-          (subst (λ (n : Placed). Twice (targets n.1.data_connections)) (sym e) twice))
+          (subst (λ (n : OwnedNetwork). Twice (targets n.1.data_connections)) (sym e) twice))
       | inr rest ↦
           let r = flat_map-Contains networks_in lib.blocks w.0 rest in
           inside_parted r.0 w.0 (All-contains IsParted ts r.0 each (subst (λ (ts : List BlockType). Contains ts r.0) (sym blocks) r.1)) r.2 twice
@@ -50,12 +50,12 @@ Twice-map f [] t = absurd t
 Twice-map f (x ∷ xs) t = elim t [ inl c ↦ inl (Contains-map f xs x c) | inr rest ↦ inr (Twice-map f xs rest) ]
 
 -- where a connection leads, paired with none
-abbrev beside_none : Port → Port × Port
-beside_none p = (record { at = []; name = [] }, p)
+abbrev before_none : Port → Port × Port
+before_none p = (record { at = []; name = [] }, p)
 
-compared_are : (cs : List Connection) → map beside_none (targets cs) ≡ map (compared false) cs
+compared_are : (cs : List Connection) → map before_none (targets cs) ≡ map (compared false) cs
 compared_are [] = refl
-compared_are (c ∷ cs) = ap (λ (ps : List (Port × Port)). beside_none (port_in [] c.to) ∷ ps) (compared_are cs)
+compared_are (c ∷ cs) = ap (λ (ps : List (Port × Port)). before_none (port_in [] c.to) ∷ ps) (compared_are cs)
 
 led_to : (cs : List Connection) (k : ℕ) (p : Port × Port) → slice_get (map (compared false) cs) k ≡ Some p → slice_get (targets cs) k ≡ Some p.1
 led_to [] k p h = absurd (cc)
@@ -64,7 +64,7 @@ led_to (c ∷ cs) (suc k) p h = led_to cs k p h
 
 pub paired_targets : (cs : List Connection) (o : Option (ℕ × ℕ)) → Paired (map (compared false) cs) o → Paired (targets cs) o
 paired_targets cs None once = λ t.
-    once (subst (λ (ps : List (Port × Port)). Twice ps) (compared_are cs) (Twice-map beside_none (targets cs) t))
+    once (subst (λ (ps : List (Port × Port)). Twice ps) (compared_are cs) (Twice-map before_none (targets cs) t))
 paired_targets cs (Some r) pair = record {
   in_order = pair.in_order;
   what = pair.what.1;

@@ -178,10 +178,10 @@ set_twice lib s bad fine fit once =
 pub grown : {A : Type 0} (xs : List A) (k : ℕ) (x : A) → k < length xs → x ≡ get_or xs k x → take (k + 1) xs ≡ take k xs ++ x ∷ []
 grown {A} xs k x lt is = take_more xs k x lt ∙ ap (λ (y : A). take k xs ++ y ∷ []) (sym is)
 
-pub stands : {A : Type 0} (xs : List A) (k : ℕ) (x : A) → k < length xs → x ≡ get_or xs k x → slice_get xs k ≡ Some x
-stands [] k x lt is = absurd (omega arith)
-stands {A} (y ∷ xs) zero x lt is = ap (λ (z : A). Some z) (sym is)
-stands (y ∷ xs) (suc k) x lt is = stands xs k x (omega arith) is
+pub at_index : {A : Type 0} (xs : List A) (k : ℕ) (x : A) → k < length xs → x ≡ get_or xs k x → slice_get xs k ≡ Some x
+at_index [] k x lt is = absurd (omega arith)
+at_index {A} (y ∷ xs) zero x lt is = ap (λ (z : A). Some z) (sym is)
+at_index (y ∷ xs) (suc k) x lt is = at_index xs k x (omega arith) is
 
 -- ---- Stimuli from the front
 

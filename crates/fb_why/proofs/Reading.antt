@@ -6,44 +6,44 @@ use Rattle.fb_types.specs.declared.deploy.Stimulus.{Stimulus}
 use Rattle.fb_types.specs.declared.library.Library.{Library}
 use Rattle.fb_read.specs.Whole.{IsLibraryText}
 use Rattle.fb_why.specs.Causes.{IsCause}
-use Rattle.fb_why.specs.Findings.{AppliesAt, AppliesNowhere, AreStimuli, ExceedsAt, ExceedsNowhere, HasNoExcess, HasNoFlaw, IsPlan, IsSilent, IsSilentOf, Tells, TellsExcess, TellsFlaw, FindsOf}
+use Rattle.fb_why.specs.Findings.{AppliesAt, AppliesNowhere, AreStimuli, ExceedsAt, ExceedsNowhere, HasNoExcess, HasNoFlaw, IsPlan, IsSilent, IsSilentOf, Finds, FindsExcess, FindsFlaw, FindsOf}
 use Rattle.fb_why.specs.declared.cause.Cause.{Cause}
 use Rattle.fb_why.specs.declared.cause.Excess.{Excess}
 use Rattle.fb_why.specs.declared.cause.Flaw.{Flaw}
 use Rattle.fb_why.specs.declared.spot.Finding.{Finding}
 
 -- a declaration and a deployment
-pub flaw_told :
+pub flaw_found :
     {E : Type 0} (flaw : Flaw) (text : List ℕ) (bytes : Option (List ℕ)) (library : Library) (plan : Plan) (made : Result (Option Finding) E) → IsLibraryText text library → IsPlan bytes plan
     → IfOk made (λ o. MatchOption o (AppliesNowhere flaw library plan) (λ r. AppliesAt flaw library plan r.location))
-    → IfOk made (λ o. MatchOption o (HasNoFlaw flaw text bytes) (λ r. TellsFlaw flaw text bytes r.location))
-flaw_told flaw text bytes library plan (Err e) read planned holds = tt
-flaw_told flaw text bytes library plan (Ok None) read planned holds = inl (record { library = library; plan = plan; read = read; planned = planned; nowhere = holds })
-flaw_told flaw text bytes library plan (Ok (Some r)) read planned holds = record { library = library; plan = plan; read = read; planned = planned; applies = holds }
+    → IfOk made (λ o. MatchOption o (HasNoFlaw flaw text bytes) (λ r. FindsFlaw flaw text bytes r.location))
+flaw_found flaw text bytes library plan (Err e) read planned holds = tt
+flaw_found flaw text bytes library plan (Ok None) read planned holds = inl (record { library = library; plan = plan; read = read; planned = planned; nowhere = holds })
+flaw_found flaw text bytes library plan (Ok (Some r)) read planned holds = record { library = library; plan = plan; read = read; planned = planned; applies = holds }
 
 -- and stimuli
-pub excess_told :
+pub excess_found :
     {E : Type 0} (excess : Excess) (text : List ℕ) (bytes given : Option (List ℕ)) (library : Library) (plan : Plan) (rows : List Stimulus) (made : Result (Option Finding) E)
     → IsLibraryText text library → IsPlan bytes plan → AreStimuli given rows
     → IfOk made (λ o. MatchOption o (ExceedsNowhere excess library plan rows) (λ r. ExceedsAt excess library rows r.location))
-    → IfOk made (λ o. MatchOption o (HasNoExcess excess text bytes given) (λ r. TellsExcess excess text bytes given r.location))
-excess_told excess text bytes given library plan rows (Err e) read planned fed holds = tt
-excess_told excess text bytes given library plan rows (Ok None) read planned fed holds =
+    → IfOk made (λ o. MatchOption o (HasNoExcess excess text bytes given) (λ r. FindsExcess excess text bytes given r.location))
+excess_found excess text bytes given library plan rows (Err e) read planned fed holds = tt
+excess_found excess text bytes given library plan rows (Ok None) read planned fed holds =
     inl (record { library = library; plan = plan; list = rows; read = read; planned = planned; listed = fed; nowhere = holds })
-excess_told excess text bytes given library plan rows (Ok (Some r)) read planned fed holds = record { library = library; list = rows; read = read; listed = fed; applies = holds }
+excess_found excess text bytes given library plan rows (Ok (Some r)) read planned fed holds = record { library = library; list = rows; read = read; listed = fed; applies = holds }
 
 -- a declaration that can't be read, if memory did not run out
-pub unread_told :
+pub unread_found :
     {E : Type 0} (made : Result (Option Finding) E) (F N : Type 0) (T : Finding → Type 0) → IfOk made (λ o. (o ≡ None) × F) → (F → N) → IfOk made (λ o. MatchOption o N T)
-unread_told (Err e) F N T said so = tt
-unread_told (Ok None) F N T said so = so said.1
-unread_told (Ok (Some r)) F N T said so = absurd (let other : Some r ≡ None = said.0 in cc)
+unread_found (Err e) F N T said so = tt
+unread_found (Ok None) F N T said so = so said.1
+unread_found (Ok (Some r)) F N T said so = absurd (let other : Some r ≡ None = said.0 in cc)
 
 -- and by the number
 pub numbered :
     {E : Type 0} (cause : Cause) (n : ℕ) (text : List ℕ) (bytes given : Option (List ℕ)) (made : Result (Option Finding) E) → IsCause n cause
     → IfOk made (λ o. MatchOption o (IsSilentOf cause n text bytes given) (λ r. FindsOf cause n text bytes given r.location))
-    → IfOk made (λ o. MatchOption o (IsSilent text bytes given n) (λ r. Tells text bytes given n r.location))
+    → IfOk made (λ o. MatchOption o (IsSilent text bytes given n) (λ r. Finds text bytes given n r.location))
 numbered cause n text bytes given (Err e) is holds = tt
 numbered cause n text bytes given (Ok None) is holds = (cause, is, holds)
 numbered cause n text bytes given (Ok (Some r)) is holds = (cause, is, holds)

@@ -114,7 +114,7 @@ unserved_at lib plan cs k same f =
     let ds = lib.application.network.data_connections in
     let u = unserved lib plan f.0 f.2 in
     record {
-      stands = ends_of f.0;
+      at_index = ends_of f.0;
       found = slice_get-map ends_of ds k ∙ ap (option_map ends_of) (ap (λ (cs : List Connection). slice_get cs k) (sym same) ∙ f.1);
       cut = u.0;
       alone = u.1;

@@ -1,22 +1,11 @@
 -- What a refusal is about, by its number (this project's own).
-use Rattle.std.specs.Prelude.{◌≡◌, ◌≢◌, ◌≤◌, ℕ, Option, Some, None}
-use Rattle.fb_read.specs.declared.error.ReadError.{ReadError}
-use Rattle.fb_read.specs.declared.error.ReadError.TheVariants as read
+use Rattle.std.specs.Prelude.{◌≡◌, ◌≢◌, ◌≤◌, ℕ}
 use Rattle.fb_why.specs.declared.cause.Cause.{Cause}
 use Rattle.fb_why.specs.declared.cause.Cause.TheVariants as cause
 use Rattle.fb_why.specs.declared.cause.Excess.{Excess}
 use Rattle.fb_why.specs.declared.cause.Excess.TheVariants as excess
 use Rattle.fb_why.specs.declared.cause.Flaw.{Flaw}
 use Rattle.fb_why.specs.declared.cause.Flaw.TheVariants as flaw
-
--- The number of the refusal of a text. Memory has none.
-abbrev pub text_number : ReadError → Option ℕ
-text_number read.Memory = None
-text_number read.Byte = Some 1
-text_number read.Token = Some 2
-text_number (read.Syntax line) = Some 3
-text_number read.TooLong = Some 4
-text_number read.Nesting = Some 5
 
 abbrev pub flaw_number : Flaw → ℕ
 flaw_number flaw.Twice = 20

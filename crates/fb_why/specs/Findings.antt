@@ -18,7 +18,8 @@ use Rattle.fb_types.specs.Unknown.{NameUnknown}
 use Rattle.fb_types.specs.declared.deploy.Plan.{Plan}
 use Rattle.fb_types.specs.declared.deploy.Stimulus.{Stimulus}
 use Rattle.fb_types.specs.declared.library.Library.{Library}
-use Rattle.fb_why.specs.Causes.{IsCause, excess_number, text_number}
+use Rattle.fb_why.specs.Causes.{IsCause, excess_number}
+use Rattle.fb_read.specs.Errors.{number_of}
 use Rattle.fb_why_kinds.specs.Unknown.{IsUnknownAt}
 use Rattle.fb_why.specs.declared.cause.Cause.TheVariants as cause
 use Rattle.fb_why.specs.declared.cause.Cause.{Cause}
@@ -42,7 +43,7 @@ use Rattle.fb_inputs.specs.DeployFaults as tables
 use Rattle.fb_inputs.specs.DeployFaults.{IsPlanned}
 use Rattle.fb_inputs.specs.DeployPlaces as places
 use Rattle.fb_why.specs.Stimuli.{IsBadAt, IsOver}
-use Rattle.fb_why_bytes.specs.Faults.{TellsFault}
+use Rattle.fb_why_bytes.specs.Faults.{FindsFault}
 use Rattle.fb_inputs.specs.declared.deploy_location.DeployLocation.{DeployLocation}
 use Rattle.fb_inputs.specs.declared.location.StimuliLocation.{StimuliLocation}
 use Rattle.fb_why_kinds.specs.Misfits.{IsMisfitAt}
@@ -98,7 +99,7 @@ AppliesNowhere flaw.Unlinked lib plan = ¬ (NoLink lib plan)
 AppliesNowhere flaw.Unserved lib plan = ¬ (NoEvent lib plan)
 
 -- They were read, and the refusal applies to them at this location.
-pub record TellsFlaw (flaw : Flaw) (declaration : List ℕ) (deploy : Option (List ℕ)) (location : Spot) : Type 0 where
+pub record FindsFlaw (flaw : Flaw) (declaration : List ℕ) (deploy : Option (List ℕ)) (location : Spot) : Type 0 where
   pub library : Library
   pub plan : Plan
   pub read : IsLibraryText declaration library
@@ -121,7 +122,7 @@ HasNoFlaw flaw declaration deploy = IsFlawless flaw declaration deploy ⊎ IsNoT
 
 -- A fault of the text has this number, and applies at this location.
 abbrev pub FindsInText : (number : ℕ) → (declaration : List ℕ) → Spot → Type 0
-FindsInText number declaration (spot.Text p) = (fault : ReadError) × (text_number fault ≡ Some number) × TellsFault declaration fault p
+FindsInText number declaration (spot.Text p) = (fault : ReadError) × (number_of fault ≡ Some number) × FindsFault declaration fault p
 FindsInText number declaration _ = ⊥
 
 -- ---- The bytes of the deployment and of the stimuli
@@ -194,7 +195,7 @@ abbrev pub ExceedsNowhere : Excess → Library → Plan → List Stimulus → Ty
 ExceedsNowhere excess lib plan stimuli = ¬ (IsLeastFault (excess_number excess) lib plan stimuli)
 
 -- All were read, and the refusal applies to them at this location.
-pub record TellsExcess (excess : Excess) (declaration : List ℕ) (deploy stimuli : Option (List ℕ)) (location : Spot) : Type 0 where
+pub record FindsExcess (excess : Excess) (declaration : List ℕ) (deploy stimuli : Option (List ℕ)) (location : Spot) : Type 0 where
   pub library : Library
   pub list : List Stimulus
   pub read : IsLibraryText declaration library
@@ -222,8 +223,8 @@ HasNoExcess excess declaration deploy stimuli =
 abbrev pub FindsOf : Cause → (number : ℕ) → (declaration : List ℕ) → (deploy stimuli : Option (List ℕ)) → Spot → Type 0
 FindsOf cause.Text number declaration deploy stimuli location = FindsInText number declaration location
 FindsOf cause.Bytes number declaration deploy stimuli location = FindsInBytes number deploy stimuli location
-FindsOf (cause.Flaw flaw) number declaration deploy stimuli location = TellsFlaw flaw declaration deploy location
-FindsOf (cause.Excess excess) number declaration deploy stimuli location = TellsExcess excess declaration deploy stimuli location
+FindsOf (cause.Flaw flaw) number declaration deploy stimuli location = FindsFlaw flaw declaration deploy location
+FindsOf (cause.Excess excess) number declaration deploy stimuli location = FindsExcess excess declaration deploy stimuli location
 FindsOf cause.Other number declaration deploy stimuli location = ⊥
 
 -- Nothing is reported if the refusal does not apply, or if something can't be read or is refused with another number. For
@@ -236,8 +237,8 @@ IsSilentOf (cause.Excess excess) number declaration deploy stimuli = HasNoExcess
 IsSilentOf cause.Other number declaration deploy stimuli = Unit {0}
 
 -- The refusal with this number applies at this location.
-abbrev pub Tells : (declaration : List ℕ) → (deploy stimuli : Option (List ℕ)) → (number : ℕ) → Spot → Type 0
-Tells declaration deploy stimuli number location = (cause : Cause) × IsCause number cause × FindsOf cause number declaration deploy stimuli location
+abbrev pub Finds : (declaration : List ℕ) → (deploy stimuli : Option (List ℕ)) → (number : ℕ) → Spot → Type 0
+Finds declaration deploy stimuli number location = (cause : Cause) × IsCause number cause × FindsOf cause number declaration deploy stimuli location
 
 -- No location is reported.
 abbrev pub IsSilent : (declaration : List ℕ) → (deploy stimuli : Option (List ℕ)) → (number : ℕ) → Type 0

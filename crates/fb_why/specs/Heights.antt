@@ -72,7 +72,7 @@ IsRound lib ts marks r = (t : BlockType) × (slice_get ts r.0 ≡ Some t) × (ma
 pub record IsHeld (lib : Library) (k i : ℕ) (t u : CompositeType) : Type 0 where
   pub holder : slice_get lib.blocks k ≡ Some (block.Composite t)
   pub instance : Instance
-  pub stands : slice_get t.network.instances i ≡ Some instance
+  pub at_index : slice_get t.network.instances i ≡ Some instance
   pub of_type : type_named lib instance.block_type ≡ Some (Composite u)
 
 -- some steps lead from the one to the other

@@ -24,10 +24,10 @@ is_linked plan c = are_linked plan (resource_of plan (port_in [] c.from).at) (re
 
 -- The connection is there, its ends are in two resources, and there is no link.
 pub record IsUnlinked (plan : Plan) (pairs : List (Port × Port)) (k : ℕ) : Type 0 where
-  pub stands : Port × Port
-  pub found : slice_get pairs k ≡ Some stands
-  pub cut : IsCut plan stands
-  pub none : link_between plan (resource_of plan stands.0.at) (resource_of plan stands.1.at) ≡ None
+  pub at_index : Port × Port
+  pub found : slice_get pairs k ≡ Some at_index
+  pub cut : IsCut plan at_index
+  pub none : link_between plan (resource_of plan at_index.0.at) (resource_of plan at_index.1.at) ≡ None
 
 abbrev pub IsUnlinkedAt : Library → Plan → Unlinked → Type 0
 IsUnlinkedAt lib plan (location.Event k) = IsUnlinked plan (event_pairs_of lib) k

@@ -18,7 +18,7 @@ is_listed ns i = list_any (λ n. same_name i.name n.now) ns
 -- The instance is at the index, and has none of the names.
 pub record IsUnlisted (ns : List Name) (is : List Instance) (location : ℕ) : Type 0 where
   pub instance : Instance
-  pub stands : slice_get is location ≡ Some instance
+  pub at_index : slice_get is location ≡ Some instance
   pub unlisted : ¬ (Contains ns instance.name)
 
 abbrev pub IsUnmappedAmong : List Name → List Instance → Unmapped → Type 0

@@ -38,7 +38,7 @@ is_served lib plan d = is_whole plan d || list_any (brings lib plan d) lib.appli
 
 -- The data connection is there, its ends are in two resources, and no event serves it.
 pub record IsUnservedAt (lib : Library) (plan : Plan) (k : ℕ) : Type 0 where
-  pub stands : Port × Port
-  pub found : slice_get (data_pairs_of lib) k ≡ Some stands
-  pub cut : IsCut plan stands
-  pub alone : ¬ (IsServed lib plan stands)
+  pub at_index : Port × Port
+  pub found : slice_get (data_pairs_of lib) k ≡ Some at_index
+  pub cut : IsCut plan at_index
+  pub alone : ¬ (IsServed lib plan at_index)

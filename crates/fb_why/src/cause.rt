@@ -1,9 +1,7 @@
 //! What a refusal is about, by its number.
 
 ghost use Rattle.std.specs.Prelude.{◌≡◌};
-ghost use Rattle.fb_why.specs.Causes.{IsCause, text_number};
-
-use fb_read::ReadError;
+ghost use Rattle.fb_why.specs.Causes.{IsCause};
 
 /// A refusal of a declaration and a deployment that can be read.
 #[derive(Clone, Copy)]
@@ -71,19 +69,5 @@ pub(crate) fn cause_of(number: u8) -> Cause
         29 => Cause::Excess(Excess::Stimulus),
         30 => Cause::Excess(Excess::Limit),
         _ => Cause::Other,
-    }
-}
-
-/// The number of the refusal of a text, from 1 to 5. `Memory` has none.
-pub(crate) fn text_number(fault: &ReadError) -> Option<u8>
-    ensures { result ≡ text_number fault.now }
-{
-    match fault {
-        ReadError::Memory => None,
-        ReadError::Byte => Some(1),
-        ReadError::Token => Some(2),
-        ReadError::Syntax { .. } => Some(3),
-        ReadError::TooLong => Some(4),
-        ReadError::Nesting => Some(5),
     }
 }

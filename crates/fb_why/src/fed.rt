@@ -5,9 +5,9 @@ ghost use Rattle.fb_why.specs.Findings.{ExceedsAt, ExceedsNowhere};
 
 use crate::cause::Excess;
 use crate::limit::limit_location;
+use crate::limit_messages::{limit_message, stimulus_message};
 use crate::spot::{Finding, Spot, found};
 use crate::stimulus::stimulus_location;
-use crate::tell::{limit_message, stimulus_message};
 use fb_types::{Library, Plan, Stimulus};
 use std::alloc::{AllocError, Global};
 

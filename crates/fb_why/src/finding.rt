@@ -2,7 +2,7 @@
 
 ghost use Rattle.std.specs.Prelude.{◌≡◌, ℕ, List, Option, None, IfOk, MatchOption, option_map};
 ghost use Rattle.fb_read.specs.Whole.{IsLibraryText, IsMemory};
-ghost use Rattle.fb_why.specs.Findings.{AreNoStimuli, AreStimuli, HasNoExcess, HasNoFlaw, IsNoPlan, IsPlan, IsSilent, IsSilentOf, Tells, TellsExcess, TellsFlaw, FindsOf};
+ghost use Rattle.fb_why.specs.Findings.{AreNoStimuli, AreStimuli, HasNoExcess, HasNoFlaw, IsNoPlan, IsPlan, IsSilent, IsSilentOf, Finds, FindsExcess, FindsFlaw, FindsOf};
 
 use crate::cause::{Cause, Excess, Flaw, cause_of};
 use crate::declared::finding_in;
@@ -60,7 +60,7 @@ fn flaw_finding_in(
     deploy: Option<&[u8]>,
 ) -> Result<Option<Finding>, AllocError>
     ensures { let plan = option_map (λ b. b.now) deploy.entry in (declaration : List ℕ) → IsLibraryText declaration library.now →
-        IfOk result (λ o. MatchOption o (HasNoFlaw flaw declaration plan) (λ r. TellsFlaw flaw declaration plan r.location)) }
+        IfOk result (λ o. MatchOption o (HasNoFlaw flaw declaration plan) (λ r. FindsFlaw flaw declaration plan r.location)) }
 {
     let Some(deploy) = deploy_of(alloc, deploy)? else {
         return Ok(None);
@@ -75,7 +75,7 @@ fn flaw_finding(
     declaration: &[u8],
     deploy: Option<&[u8]>,
 ) -> Result<Option<Finding>, AllocError>
-    ensures { let plan = option_map (λ b. b.now) deploy.entry in IfOk result (λ o. MatchOption o (HasNoFlaw flaw declaration.now plan) (λ r. TellsFlaw flaw declaration.now plan r.location)) }
+    ensures { let plan = option_map (λ b. b.now) deploy.entry in IfOk result (λ o. MatchOption o (HasNoFlaw flaw declaration.now plan) (λ r. FindsFlaw flaw declaration.now plan r.location)) }
 {
     match read_library(alloc, declaration) {
         Ok(library) => {
@@ -96,7 +96,7 @@ fn excess_finding_with(
     stimuli: Option<&[u8]>,
 ) -> Result<Option<Finding>, AllocError>
     ensures { let rows = option_map (λ b. b.now) stimuli.entry in (declaration : List ℕ) (deploy : Option (List ℕ)) → IsLibraryText declaration library.now → IsPlan deploy plan.now →
-        IfOk result (λ o. MatchOption o (HasNoExcess excess declaration deploy rows) (λ r. TellsExcess excess declaration deploy rows r.location)) }
+        IfOk result (λ o. MatchOption o (HasNoExcess excess declaration deploy rows) (λ r. FindsExcess excess declaration deploy rows r.location)) }
 {
     let Some(stimuli) = stimuli_of(alloc, stimuli)? else {
         return Ok(None);
@@ -113,7 +113,7 @@ fn excess_finding_in(
     stimuli: Option<&[u8]>,
 ) -> Result<Option<Finding>, AllocError>
     ensures { let plan = option_map (λ b. b.now) deploy.entry in let rows = option_map (λ b. b.now) stimuli.entry in (declaration : List ℕ) → IsLibraryText declaration library.now →
-        IfOk result (λ o. MatchOption o (HasNoExcess excess declaration plan rows) (λ r. TellsExcess excess declaration plan rows r.location)) }
+        IfOk result (λ o. MatchOption o (HasNoExcess excess declaration plan rows) (λ r. FindsExcess excess declaration plan rows r.location)) }
 {
     let Some(deploy) = deploy_of(alloc, deploy)? else {
         return Ok(None);
@@ -130,7 +130,7 @@ fn excess_finding(
     stimuli: Option<&[u8]>,
 ) -> Result<Option<Finding>, AllocError>
     ensures { let plan = option_map (λ b. b.now) deploy.entry in let rows = option_map (λ b. b.now) stimuli.entry in
-        IfOk result (λ o. MatchOption o (HasNoExcess excess declaration.now plan rows) (λ r. TellsExcess excess declaration.now plan rows r.location)) }
+        IfOk result (λ o. MatchOption o (HasNoExcess excess declaration.now plan rows) (λ r. FindsExcess excess declaration.now plan rows r.location)) }
 {
     match read_library(alloc, declaration) {
         Ok(library) => {
@@ -177,7 +177,7 @@ pub fn finding_of(
     stimuli: Option<&[u8]>,
 ) -> Result<Option<Finding>, AllocError>
     ensures { let plan = option_map (λ b. b.now) deploy.entry in let rows = option_map (λ b. b.now) stimuli.entry in
-        IfOk result (λ o. MatchOption o (IsSilent declaration.now plan rows number) (λ r. Tells declaration.now plan rows number r.location)) }
+        IfOk result (λ o. MatchOption o (IsSilent declaration.now plan rows number) (λ r. Finds declaration.now plan rows number r.location)) }
 {
     finding_by(
         alloc,

@@ -8,7 +8,7 @@ use crate::unlinked_messages::push_unlinked;
 use crate::unmapped_messages::push_unmapped;
 use crate::unserved_messages::push_unserved;
 use fb_types::{Library, Plan};
-use fb_why_kinds::{Text, misfit_message, misjoin_message, tell_unknown};
+use fb_why_kinds::{Text, misfit_message, misjoin_message, unknown_message};
 use std::alloc::{AllocError, Global};
 
 /// Says where the refusal applies, and what is wrong there.
@@ -19,7 +19,7 @@ pub fn flaw_message(
     location: Spot,
 ) -> Result<String, AllocError> {
     match location {
-        Spot::Unknown(location) => tell_unknown(alloc, library, plan, location),
+        Spot::Unknown(location) => unknown_message(alloc, library, plan, location),
         Spot::Misfit(location) => misfit_message(alloc, library, location),
         Spot::Misjoin(location) => misjoin_message(alloc, library, location),
         _ => {

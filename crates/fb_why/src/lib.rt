@@ -18,7 +18,7 @@
 //! connections and the mapping: `among`, whether a name is in a list, and `pair`, what is in a list twice; `twice`,
 //! `sources`, `heights`, `unmapped`, `unlinked` and `unserved`; `laws`; the modules `tell_..`, a location as text. Then
 //! stimuli and limits: `location`, their locations; `verdict`, the least fault; `trial`, which applies the check to a part
-//! of a stimulus; `stimulus`, `limit` and `tell`. Then `refused`, `declared` and `fed`, locations in bytes, in what they
+//! of a stimulus; `stimulus`, `limit` and `limit_messages`. Then `refused`, `declared` and `fed`, locations in bytes, in what they
 //! declare, and in stimuli; `finding`, which reads the bytes again. All of this runs only after a refusal.
 #![tactic(auto)]
 
@@ -34,6 +34,7 @@ pub mod heights;
 mod joined_messages;
 pub mod laws;
 mod limit;
+mod limit_messages;
 pub mod location;
 pub mod pair;
 mod refused;
@@ -41,7 +42,6 @@ pub mod sources;
 pub mod spot;
 mod stimulus;
 pub mod table;
-mod tell;
 mod trial;
 pub mod twice;
 mod twice_messages;

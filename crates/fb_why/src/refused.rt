@@ -3,7 +3,6 @@
 ghost use Rattle.std.specs.Prelude.{IfOk, IfSome, MatchOption, option_map};
 ghost use Rattle.fb_why.specs.Findings.{IsDeploymentSpot, IsSilentOfBytes, IsSilentOfDeployment, IsSilentOfStimuli, IsStimuliSpot, FindsInBytes, FindsInDeployment, FindsInStimuli, FindsInText};
 
-use crate::cause::text_number;
 use crate::spot::{Finding, Spot, found};
 use fb_inputs::{deployment_location, stimuli_location};
 use fb_read::{discard, read_library};
@@ -25,7 +24,7 @@ pub fn text_finding(
         }
         Err(fault) => fault,
     };
-    if text_number(&fault) != Some(number) {
+    if fault.number() != Some(number) {
         return Ok(None);
     }
     match text_location(alloc, declaration, &fault)? {

@@ -122,13 +122,13 @@ fn push_with(text: &mut Text, words: &str, events: &[EventPort], location: usize
 type Found<'a> = Result<(&'static str, &'a Name), usize>;
 
 /// Looks in one more list, if nothing is found yet.
-fn or_in<'a, T: Named>(found: Found<'a>, sort: &'static str, items: &'a [T]) -> Found<'a> {
+fn or_in<'a, T: Named>(found: Found<'a>, kind: &'static str, items: &'a [T]) -> Found<'a> {
     let location = match found {
         Ok(_) => return found,
         Err(location) => location,
     };
     match items.get(location) {
-        Some(item) => Ok((sort, item.name())),
+        Some(item) => Ok((kind, item.name())),
         None => Err(location.saturating_sub(items.len())),
     }
 }
@@ -151,15 +151,15 @@ fn variable_at(block: &BlockType, location: usize) -> Found<'_> {
 }
 
 fn push_ports(text: &mut Text, block: &BlockType, (first, second): Repeat) {
-    let Ok((sort, name)) = variable_at(block, first) else {
+    let Ok((kind, name)) = variable_at(block, first) else {
         return;
     };
     text.named(": ", name);
     text.words(AGAIN);
     text.words(", as ");
-    text.words(sort);
-    if let Ok((sort, _)) = variable_at(block, second) {
+    text.words(kind);
+    if let Ok((kind, _)) = variable_at(block, second) {
         text.words(" and as ");
-        text.words(sort);
+        text.words(kind);
     }
 }

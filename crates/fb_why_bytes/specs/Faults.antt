@@ -15,7 +15,7 @@ use Rattle.fb_why_bytes.specs.Locations.{IsLocation}
 abbrev pub Agrees : ReadError → TextFault → ℕ → Type 0
 Agrees error.Byte text_fault.Byte line = Unit {0}
 Agrees error.Token text_fault.Token line = Unit {0}
-Agrees (error.Syntax told) text_fault.Syntax line = told ≡ line
+Agrees (error.Syntax refused_line) text_fault.Syntax line = refused_line ≡ line
 Agrees error.TooLong text_fault.TooLong line = Unit {0}
 Agrees error.Nesting text_fault.Nesting line = Unit {0}
 Agrees _ found line = ⊥
@@ -26,7 +26,7 @@ pub record IsNoLibrary (text : Text) : Type 0 where
   pub none : (library : Library) → IsLibraryText text library → ⊥
 
 -- The location is in the text, and the refusal applies there. If it is for nesting, the text up to there is no library.
-pub record TellsFault (text : Text) (fault : ReadError) (location : TextLocation) : Type 0 where
+pub record FindsFault (text : Text) (fault : ReadError) (location : TextLocation) : Type 0 where
   pub is_location : IsLocation text location
   pub found : TextFault
   pub agrees : Agrees fault found location.line

@@ -15,7 +15,7 @@ column_at text offset = 1 + suffix_len (λ b. not (b == 10)) (take offset text)
 
 -- The location is in the text, after its byte order mark, and its line and its column are those at which it begins.
 pub record IsLocation (text : Text) (location : TextLocation) : Type 0 where
-  pub behind : length text ≤ location.start + length (after_mark text)
+  pub columns : length text ≤ location.start + length (after_mark text)
   pub ordered : location.start ≤ location.end
   pub within : location.end ≤ length text
   pub line : location.line ≡ line_at text location.start

@@ -2,7 +2,7 @@
 
 ghost use Rattle.std.specs.Prelude.{◌≡◌, IfOk, IfSome, IsTrue, take};
 ghost use Rattle.fb_read.specs.Refusals.{IsFaultAt};
-ghost use Rattle.fb_why_bytes.specs.Faults.{Agrees, IsNoLibrary, TellsFault};
+ghost use Rattle.fb_why_bytes.specs.Faults.{Agrees, IsNoLibrary, FindsFault};
 ghost use Rattle.fb_why_bytes.specs.Locations.{IsLocation};
 
 use crate::text_locations::{TextLocation, location_at};
@@ -16,7 +16,8 @@ fn agrees(fault: &ReadError, found: TextFault, line: usize) -> bool
     match (fault, found) {
         (ReadError::Byte, TextFault::Byte) => true,
         (ReadError::Token, TextFault::Token) => true,
-        (ReadError::Syntax { line: told }, TextFault::Syntax) => *told as usize == line,
+        (ReadError::Syntax { line: refused_line }, TextFault::Syntax) => *refused_line as usize
+            == line,
         (ReadError::TooLong, TextFault::TooLong) => true,
         (ReadError::Nesting, TextFault::Nesting) => true,
         _ => false,
@@ -62,7 +63,7 @@ fn location_of(
     found: Refusal,
 ) -> Result<Option<TextLocation>, AllocError>
     requires { IsFaultAt found.fault text.now found.start found.end }
-    ensures { IfOk result (λ o. IfSome o (λ location. TellsFault text.now fault.now location)) }
+    ensures { IfOk result (λ o. IfSome o (λ location. FindsFault text.now fault.now location)) }
 {
     let Some(location) = location_at(text, found.start, found.end) else {
         return Ok(None);
@@ -87,7 +88,7 @@ pub fn text_location(
     text: &[u8],
     fault: &ReadError,
 ) -> Result<Option<TextLocation>, AllocError>
-    ensures { IfOk result (λ o. IfSome o (λ location. TellsFault text.now fault.now location)) }
+    ensures { IfOk result (λ o. IfSome o (λ location. FindsFault text.now fault.now location)) }
 {
     match read_located(alloc, text) {
         Ok(library) => {

@@ -18,7 +18,7 @@ pub mod text_messages;
 
 pub use deployment_messages::deployment_message;
 pub use find::text_location;
-pub use rules_messages::{tell_rules, tell_unknown};
+pub use rules_messages::{rules_message, unknown_key_message};
 pub use stimuli_messages::stimuli_message;
 pub use text_locations::{TextLocation, after_mark, location_at};
 pub use text_messages::text_message;

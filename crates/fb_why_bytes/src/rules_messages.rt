@@ -24,7 +24,7 @@ const KEYS: &[RuleKey] = &[
 ];
 
 /// Where rules are refused, and what was expected there.
-pub fn tell_rules(alloc: Global, bytes: &[u8], place: RulesPlace) -> Result<String, AllocError> {
+pub fn rules_message(alloc: Global, bytes: &[u8], place: RulesPlace) -> Result<String, AllocError> {
     let mut text = ByteText::new(alloc);
     text.words("rules: ");
     match place {
@@ -66,7 +66,7 @@ fn push_place(text: &mut ByteText, keys: &Table, place: RulesPlace) {
 /// What is wrong with the array of the rules: there is no rule, or a key next to them.
 fn push_list(text: &mut ByteText, keys: &Table) {
     match keys.get("rule") {
-        Some(_) if keys.len() > 1 => push_beside(text, keys),
+        Some(_) if keys.len() > 1 => push_other_keys(text, keys),
         _ => text.words("there is no rule"),
     }
 }
@@ -169,7 +169,7 @@ fn push_further(text: &mut ByteText, keys: &Table) {
 }
 
 /// Adds the first key next to the rules.
-fn push_beside(text: &mut ByteText, keys: &Table) {
+fn push_other_keys(text: &mut ByteText, keys: &Table) {
     text.words("there is a further key");
     for (key, _) in keys {
         if key.as_str() != "rule" {
@@ -181,7 +181,7 @@ fn push_beside(text: &mut ByteText, keys: &Table) {
 }
 
 /// What is wrong with the pattern at a key of a rule: the declaration has no port for it.
-pub fn tell_unknown(alloc: Global, rule: usize, key: RuleKey) -> Result<String, AllocError> {
+pub fn unknown_key_message(alloc: Global, rule: usize, key: RuleKey) -> Result<String, AllocError> {
     let mut text = ByteText::new(alloc);
     text.words("rules: ");
     push_rule(&mut text, rule);

@@ -57,15 +57,15 @@ fn after_line_feed(text: &[u8]) -> usize
     ensures value { result ≡ suffix_len (λ b. not (b == 10)) text.now }
     ensures within { result ≤ length text.now }
 {
-    let mut behind = 0;
+    let mut columns = 0;
     for b in text {
         if *b == b'\n' {
-            behind = 0;
+            columns = 0;
         } else {
-            behind += 1;
+            columns += 1;
         }
     }
-    behind
+    columns
 }
 
 /// The bytes between two offsets, if the text has them after its byte order mark.

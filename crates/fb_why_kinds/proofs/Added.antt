@@ -11,12 +11,12 @@ both_added {X} a b c p q first last = last ∙ ap (λ (xs : List X). xs ++ q) fi
 -- the same, if the last call may fail, and if what is added is known by another name
 pub then_added :
     {X T E : Type 0} (r : Result T E) (a b c p q w : List X) → w ≡ p ++ q → b ≡ a ++ p → IfOk r (λ _. c ≡ b ++ q) → IfOk r (λ _. c ≡ a ++ w)
-then_added {X} r a b c p q w told first last =
-    IfOk-equal r c (b ++ q) (a ++ w) last (ap (λ (xs : List X). xs ++ q) first ∙ append_assoc a p q ∙ ap (λ (xs : List X). a ++ xs) (sym told))
+then_added {X} r a b c p q w shown first last =
+    IfOk-equal r c (b ++ q) (a ++ w) last (ap (λ (xs : List X). xs ++ q) first ∙ append_assoc a p q ∙ ap (λ (xs : List X). a ++ xs) (sym shown))
 
 -- one call alone
 pub all_added : {X T E : Type 0} (r : Result T E) (a c q w : List X) → w ≡ q → IfOk r (λ _. c ≡ a ++ q) → IfOk r (λ _. c ≡ a ++ w)
-all_added {X} r a c q w told last = IfOk-equal r c (a ++ q) (a ++ w) last (ap (λ (xs : List X). a ++ xs) (sym told))
+all_added {X} r a c q w shown last = IfOk-equal r c (a ++ q) (a ++ w) last (ap (λ (xs : List X). a ++ xs) (sym shown))
 
 -- one element of a list adds its part of what the whole list is to add
 pub one_added :

@@ -1,9 +1,9 @@
--- Declarations and deployments in which each name stands for something.
+-- Declarations and deployments in which each name is known.
 use Rattle.std.proofs.Common.{◌≡◌, ◌&&◌, true, List, [], ◌∷◌, Some, None, Option, Contains, MatchOption, refl, sym, subst, inl, inr}
 use Rattle.std.specs.Prelude.{flat_map, All}
 use Rattle.std.specs.List.{list_all}
 use Rattle.std.proofs.lemmas.List.Elements.{All-contains}
-use Rattle.fb_types.specs.Repeated.{Placed, networks_in}
+use Rattle.fb_types.specs.Repeated.{OwnedNetwork, networks_in}
 use Rattle.fb_types.specs.Unknown.{NameUnknown}
 use Rattle.fb_types.specs.declared.library.BlockType.{BlockType}
 use Rattle.fb_types.specs.declared.library.BlockType.TheVariants as block
@@ -38,12 +38,12 @@ names_known lib ts [] inside h = refl
 names_known lib ts (u ∷ us) inside h =
     λ i. (All-contains (IsBlockKnown lib) ts u h (inside u (Contains-here u us))).names i && names_known lib ts us (λ t c. inside t (Contains-there u us t c)) h i
 
-inside_known : (lib : Library) (t : BlockType) (n : Placed) → IsBlockKnown lib t → Contains (networks_in t) n → ¬ (NetworkUnknown lib n)
+inside_known : (lib : Library) (t : BlockType) (n : OwnedNetwork) → IsBlockKnown lib t → Contains (networks_in t) n → ¬ (NetworkUnknown lib n)
 inside_known lib (block.Basic t) n known c = absurd (Contains-nil n c)
 inside_known lib (block.Composite t) n known c =
-    let here : Placed = (Some t, t.network) in
+    let here : OwnedNetwork = (Some t, t.network) in
     elim (Contains-cons_cases here [] n c) [
-      | inl e ↦ subst (λ (n : Placed). ¬ (NetworkUnknown lib n)) e (known.network here refl)
+      | inl e ↦ subst (λ (n : OwnedNetwork). ¬ (NetworkUnknown lib n)) e (known.network here refl)
       | inr none ↦ absurd (Contains-nil n none)
     ]
 
@@ -51,10 +51,10 @@ pub name_known :
     (lib : Library) (plan : Plan) → ¬ (NetworkUnknown lib (None, lib.application.network)) → All (IsBlockKnown lib) lib.blocks → ¬ (DeploymentUnknown lib plan)
     → ¬ (NameUnknown lib plan)
 name_known lib plan application blocks deployment =
-    let of_application : Placed = (None, lib.application.network) in
+    let of_application : OwnedNetwork = (None, lib.application.network) in
     all_known lib plan ((known_answer lib true (sym (names_known lib lib.blocks lib.blocks (λ t c. c) blocks))).0 refl)
     (λ n c. elim (Contains-cons_cases of_application (flat_map networks_in lib.blocks) n c) [
-      | inl e ↦ subst (λ (n : Placed). ¬ (NetworkUnknown lib n)) e application
+      | inl e ↦ subst (λ (n : OwnedNetwork). ¬ (NetworkUnknown lib n)) e application
       | inr rest ↦
           let r = flat_map-Contains networks_in lib.blocks n rest in
           inside_known lib r.0 n (All-contains (IsBlockKnown lib) lib.blocks r.0 blocks r.1) r.2

@@ -9,7 +9,7 @@ use Rattle.fb_types.specs.Blocks.{Kind, ports_of}
 use Rattle.fb_types.specs.Flat.{kind_of, variables_in}
 use Rattle.fb_types.specs.Kinds.{KindWrong, declared_right, parameter_right}
 use Rattle.fb_types.specs.Joined.{OutOfRange}
-use Rattle.fb_types.specs.Repeated.{Placed, networks, networks_in}
+use Rattle.fb_types.specs.Repeated.{OwnedNetwork, networks, networks_in}
 use Rattle.fb_types.specs.Syntax.{body_of}
 use Rattle.fb_types.specs.declared.library.BasicType.{BasicType}
 use Rattle.fb_types.specs.declared.library.BlockType.{BlockType}
@@ -38,18 +38,18 @@ use Rattle.fb_why_kinds.proofs.Parts.{part_fails}
 
 -- ---- Networks and types at their indices
 
-inside_networks : (t : BlockType) (n : Placed) → network_inside t ≡ Some n → Contains (networks_in t) n
+inside_networks : (t : BlockType) (n : OwnedNetwork) → network_inside t ≡ Some n → Contains (networks_in t) n
 inside_networks (block.Basic t) n h = absurd (cc)
 inside_networks (block.Composite t) n h =
-    let here : Placed = (Some t, t.network) in
-    subst (λ (m : Placed). Contains (networks_in (block.Composite t)) m) (same_Some here n h) (Contains-here here [])
+    let here : OwnedNetwork = (Some t, t.network) in
+    subst (λ (m : OwnedNetwork). Contains (networks_in (block.Composite t)) m) (same_Some here n h) (Contains-here here [])
 
-site_network : (lib : Library) (s : Site) (n : Placed) → network_at lib s ≡ Some n → Contains (networks lib) n
+site_network : (lib : Library) (s : Site) (n : OwnedNetwork) → network_at lib s ≡ Some n → Contains (networks lib) n
 site_network lib Application n h =
-    let here : Placed = (None, lib.application.network) in
-    subst (λ (m : Placed). Contains (networks lib) m) (same_Some here n h) (Contains-here here (flat_map networks_in lib.blocks))
+    let here : OwnedNetwork = (None, lib.application.network) in
+    subst (λ (m : OwnedNetwork). Contains (networks lib) m) (same_Some here n h) (Contains-here here (flat_map networks_in lib.blocks))
 site_network lib (Inside k) n h =
-    let here : Placed = (None, lib.application.network) in
+    let here : OwnedNetwork = (None, lib.application.network) in
     elim (slice_get lib.blocks k) as (λ o. slice_get lib.blocks k ≡ o → option_and_then network_inside o ≡ Some n → Contains (networks lib) n) [
       | None ↦ λ e h. absurd (cc)
       | Some t ↦ λ e h.
@@ -73,11 +73,11 @@ basic_among lib k b h =
 pub misjoin_applies : (lib : Library) (p : Misjoin) → IsMisjoinedAt lib p → OutOfRange lib
 misjoin_applies lib p m = (
   m.network,
-  m.stands,
+  m.at_index,
   m.source,
   m.target,
   site_network lib p.site m.network m.network_is,
-  element_of_index m.network.1.data_connections p.connection m.stands m.found,
+  element_of_index m.network.1.data_connections p.connection m.at_index m.found,
   m.from,
   m.to,
   m.out,
@@ -111,16 +111,16 @@ initial_applies : (lib : Library) (b : ℕ) (l : Variables) (k : ℕ) → IsInit
 initial_applies lib b l k m =
     inr (inl (
       m.in_type,
-      m.stands,
+      m.at_index,
       element_of_index lib.blocks b m.in_type m.at,
-      variable_among l m.in_type m.stands (element_of_index (variables_at l m.in_type) k m.stands m.found),
+      variable_among l m.in_type m.at_index (element_of_index (variables_at l m.in_type) k m.at_index m.found),
       m.wrong,
     ))
 
 guard_applies : (lib : Library) (b k : ℕ) → IsGuardMisfit lib b k → KindWrong lib
 guard_applies lib b k m =
     let t = m.in_type in
-    let guards = fails_from (is_guard_right t) t.transitions m.stands (element_of_index t.transitions k m.stands m.found) m.wrong in
+    let guards = fails_from (is_guard_right t) t.transitions m.at_index (element_of_index t.transitions k m.at_index m.found) m.wrong in
     chart_wrong lib b t m.at
     (chart_right_met t ∙ and_left (list_all (is_guard_right t) t.transitions) (list_all (algorithm_right t) t.algorithms) guards)
 
@@ -130,7 +130,7 @@ statement_applies lib b a k o m =
     let ss = each_in_body false (body_of m.algorithm.body) in
     let body : algorithm_right t m.algorithm ≡ false =
     sym (body_each t false (body_of m.algorithm.body))
-    ∙ fails_from (stands_right t) ss m.stands (element_of_index ss k m.stands m.found) (part_fails (in_place t m.stands.0) m.stands.1 o m.wrong) in
+    ∙ fails_from (stands_right t) ss m.at_index (element_of_index ss k m.at_index m.found) (part_fails (in_place t m.at_index.0) m.at_index.1 o m.wrong) in
     let bodies = fails_from (algorithm_right t) t.algorithms m.algorithm (element_of_index t.algorithms a m.algorithm m.algorithm_is) body in
     chart_wrong lib b t m.at
     (chart_right_met t ∙ and_right (list_all (is_guard_right t) t.transitions) (list_all (algorithm_right t) t.algorithms) bodies)
@@ -140,7 +140,7 @@ statement_applies lib b a k o m =
 parameter_applies : (lib : Library) (s : Site) (i p : ℕ) → IsParameterMisfit lib s i p → KindWrong lib
 parameter_applies lib s i p m =
     let x = m.of_instance in
-    let wrong = fails_from (parameter_right (ports_of m.kind)) x.parameters m.stands (element_of_index x.parameters p m.stands m.found) m.wrong in
+    let wrong = fails_from (parameter_right (ports_of m.kind)) x.parameters m.at_index (element_of_index x.parameters p m.at_index m.found) m.wrong in
     inr (inr (
       m.network,
       x,

@@ -1,4 +1,4 @@
--- Block types in which a name stands for nothing, and those in which each stands for something.
+-- Block types in which a name is unknown, and those in which each is known.
 use Rattle.std.proofs.Common.{◌≡◌, ◌&&◌, ℕ, true, false, List, Some, Option, sym, ◌∙◌, ap, subst}
 use Rattle.std.specs.Prelude.{slice_get, option_map, option_and_then}
 use Rattle.std.specs.List.{list_all}
@@ -20,7 +20,7 @@ use Rattle.fb_why_kinds.specs.declared.location.ActionPart.{ActionPart}
 use Rattle.fb_why_kinds.specs.declared.location.Direction.{Direction}
 use Rattle.fb_why_kinds.specs.declared.location.TransitionPart.{TransitionPart}
 use Rattle.fb_why_kinds.specs.Sites.{basic_at}
-use Rattle.fb_why_kinds.specs.Unknown.{Unmet, UnknownAmong, IsUnknownMention, events_of, variables_for, with_wanted, required_transition, required_action}
+use Rattle.fb_why_kinds.specs.Unknown.{Unmet, UnknownAmong, IsUnknownMention, events_of, variables_for, with_required, required_transition, required_action}
 use Rattle.fb_why_kinds.proofs.NetworkLocations.{unmet_is}
 
 -- ---- WITH lists
@@ -31,13 +31,13 @@ FoundWith ns es r = (e : EventPort) × (slice_get es r.0 ≡ Some e) × ((n : Na
 
 pub with_location :
     (lib : Library) (b : ℕ) (t : BlockType) (d : Direction) (p : Ports) (es : List EventPort) (r : ℕ × ℕ) → slice_get lib.blocks b ≡ Some t → p ≡ ports_of_block t
-    → es ≡ events_of d p → FoundWith (variables_for d p) es r → Unmet (option_and_then (λ t. with_wanted (ports_of_block t) d r.0 r.1) (slice_get lib.blocks b))
+    → es ≡ events_of d p → FoundWith (variables_for d p) es r → Unmet (option_and_then (λ t. with_required (ports_of_block t) d r.0 r.1) (slice_get lib.blocks b))
 with_location lib b t d p es r at of_type of_side found =
     let q = ports_of_block t in
     let all : es ≡ events_of d q = of_side ∙ ap (events_of d) of_type in
     let n = found.2.0 in (
       (n, variables_for d q),
-      ap (option_and_then (λ (t : BlockType). with_wanted (ports_of_block t) d r.0 r.1)) at
+      ap (option_and_then (λ (t : BlockType). with_required (ports_of_block t) d r.0 r.1)) at
           ∙ ap (option_and_then (λ (x : EventPort). option_map (λ (n : Name). (n, variables_for d q)) (slice_get x.with r.1))) (ap (λ (es : List EventPort). slice_get es r.0) (sym all) ∙ found.1)
           ∙ ap (option_map (λ (n : Name). (n, variables_for d q))) found.2.1,
       unmet_is (n, variables_for d q) (ap (λ (p : Ports). among (variables_for d p) n) (sym of_type) ∙ found.2.2),
@@ -96,4 +96,4 @@ pub mention_location :
     (lib : Library) (b : ℕ) (t : BasicType) (all : BasicType → Option (List Mention)) (ms : List Mention) (k : ℕ) → basic_at lib b ≡ Some t → all t ≡ Some ms
     → UnknownAmong t ms k → IsUnknownMention lib b all k
 mention_location lib b t all ms k at there found =
-    record { in_type = t; among = ms; stands = found.0; at = at; there = there; found = found.1; unknown = found.2 }
+    record { in_type = t; among = ms; at_index = found.0; at = at; there = there; found = found.1; unknown = found.2 }

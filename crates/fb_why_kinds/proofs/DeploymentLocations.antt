@@ -1,4 +1,4 @@
--- Deployments in which a name stands for nothing, and those in which each stands for something.
+-- Deployments in which a name is unknown, and those in which each is known.
 use Rattle.std.proofs.Common.{◌≡◌, ◌&&◌, ℕ, true, false, List, [], ◌∷◌, map, Some, sym, ◌∙◌, ap}
 use Rattle.std.specs.Prelude.{flat_map, slice_get, option_map, option_and_then}
 use Rattle.std.specs.List.{list_all, list_any}
@@ -15,9 +15,9 @@ use Rattle.fb_types.specs.declared.deploy.ResourceEntry.{ResourceEntry}
 use Rattle.fb_check_types.proofs.Checks.{and_true}
 use Rattle.fb_check_names.specs.Unknown.{DeploymentUnknown}
 use Rattle.fb_types.proofs.ListTests.{list_all-flat_map, list_all-agree}
-use Rattle.fb_check_names.proofs.NetworkUnknown.{met, met_wanted, list_all-all_of}
+use Rattle.fb_check_names.proofs.NetworkUnknown.{met, met_required, list_all-all_of}
 use Rattle.fb_why_kinds.specs.declared.location.Side.{Side}
-use Rattle.fb_why_kinds.specs.Unknown.{Unmet, mapped_wanted, link_wanted, side_of, is_instance, is_resource, are_mapped, are_sides_met}
+use Rattle.fb_why_kinds.specs.Unknown.{Unmet, mapped_required, link_required, side_of, is_instance, is_resource, are_mapped, are_sides_met}
 use Rattle.fb_why_kinds.proofs.NetworkLocations.{any_map, unmet_is}
 
 abbrev named_instances : List Instance → List Name
@@ -33,7 +33,7 @@ FoundMapped is rs r = (x : ResourceEntry) × (slice_get rs r.0 ≡ Some x) × ((
 
 pub mapped_location :
     (lib : Library) (plan : Plan) (is : List Instance) (rs : List ResourceEntry) (r : ℕ × ℕ) → is ≡ lib.application.network.instances → rs ≡ plan.resources
-    → FoundMapped is rs r → Unmet (mapped_wanted lib plan r.0 r.1)
+    → FoundMapped is rs r → Unmet (mapped_required lib plan r.0 r.1)
 mapped_location lib plan is rs r same all found =
     let ns : List Name = instance_names lib.application.network in
     let n = found.2.0 in (
@@ -50,7 +50,7 @@ abbrev pub FoundLink : List ResourceEntry → List Link → ℕ × Side → Type
 FoundLink rs ls r = (l : Link) × (slice_get ls r.0 ≡ Some l) × (is_resource rs (side_of r.1 l) ≡ false)
 
 pub link_location :
-    (plan : Plan) (rs : List ResourceEntry) (ls : List Link) (r : ℕ × Side) → rs ≡ plan.resources → ls ≡ plan.links → FoundLink rs ls r → Unmet (link_wanted plan r.0 r.1)
+    (plan : Plan) (rs : List ResourceEntry) (ls : List Link) (r : ℕ × Side) → rs ≡ plan.resources → ls ≡ plan.links → FoundLink rs ls r → Unmet (link_required plan r.0 r.1)
 link_location plan rs ls r same all found =
     let ns : List Name = resource_names_of plan in
     let n : Name = side_of r.1 found.0 in (
@@ -85,7 +85,7 @@ deployment_known lib plan is rs ls instances resources links mapped joined unkno
     list_all-flat_map met (λ (l : Link). all_of (l.from ∷ l.to ∷ []) (resource_names_of plan)) plan.links
     ∙ list_all-agree (λ (l : Link). list_all met (all_of (l.from ∷ l.to ∷ []) (named_resources plan.resources))) (are_sides_met plan.resources) (link_met plan.resources) plan.links
     ∙ (λ i. list_all (are_sides_met (sym resources i)) (sym links i)) ∙ joined in
-    met_wanted (required_deployment lib plan)
+    met_required (required_deployment lib plan)
     (list_all-append met (flat_map (λ (r : ResourceEntry). all_of r.instances (named_instances js)) plan.resources) (flat_map (λ (l : Link). all_of (l.from ∷ l.to ∷ []) (resource_names_of plan)) plan.links)
     ∙ (λ i. lists i && ends i))
     unknown.0 unknown.1 unknown.2

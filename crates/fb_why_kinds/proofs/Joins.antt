@@ -7,7 +7,7 @@ use Rattle.fb_types.specs.Blocks.{Kind, ports_of}
 use Rattle.fb_types.specs.Flat.{instance_in, kind_of_instance}
 use Rattle.fb_types.specs.Joined.{IsWithin, OutOfRange, type_among, type_at_end}
 use Rattle.fb_types.specs.Names.{Name, same_name}
-use Rattle.fb_types.specs.Repeated.{Placed}
+use Rattle.fb_types.specs.Repeated.{OwnedNetwork}
 use Rattle.fb_types.specs.declared.library.Instance.{Instance}
 use Rattle.fb_types.specs.declared.library.Library.{Library}
 use Rattle.fb_types.specs.declared.library.PortName.{PortName}
@@ -25,7 +25,7 @@ use Rattle.fb_why_kinds.proofs.NetworkTests.{network_passes}
 -- ---- The type at an end
 
 pub boundary_end :
-    (lib : Library) (n : Placed) (e : PortName) → e.component ≡ None → type_at_end lib n e ≡ option_and_then (λ t. type_among t.ports e) n.0
+    (lib : Library) (n : OwnedNetwork) (e : PortName) → e.component ≡ None → type_at_end lib n e ≡ option_and_then (λ t. type_among t.ports e) n.0
 boundary_end lib n e h =
     ap (λ (o : Option Name). elim o as (λ _. Option Ty) [
       | None ↦ option_and_then (λ t. type_among t.ports e) n.0
@@ -33,7 +33,7 @@ boundary_end lib n e h =
     ]) h
 
 component_end :
-    (lib : Library) (n : Placed) (e : PortName) (c : Name) → e.component ≡ Some c
+    (lib : Library) (n : OwnedNetwork) (e : PortName) (c : Name) → e.component ≡ Some c
     → type_at_end lib n e ≡ option_and_then (λ k. type_among (ports_of k) e) (option_and_then (kind_of_instance lib) (instance_in n.1 c))
 component_end lib n e c h =
     ap (λ (o : Option Name). elim o as (λ _. Option Ty) [
@@ -43,7 +43,7 @@ component_end lib n e c h =
 
 -- at an instance that was found by its name, and whose type was
 pub instance_end :
-    (lib : Library) (n : Placed) (e : PortName) (c : Name) (is : List Instance) (o : Option Instance) (k : Option Kind) → e.component ≡ Some c
+    (lib : Library) (n : OwnedNetwork) (e : PortName) (c : Name) (is : List Instance) (o : Option Instance) (k : Option Kind) → e.component ≡ Some c
     → is ≡ n.1.instances → o ≡ find (λ i. same_name i.name c) is → k ≡ option_and_then (kind_of_instance lib) o
     → type_at_end lib n e ≡ option_and_then (λ k. type_among (ports_of k) e) k
 instance_end lib n e c is o k at all found kind =
@@ -81,12 +81,12 @@ out_types (Some s) None h = absurd (true≢false h)
 out_types None p h = absurd (true≢false h)
 
 pub misjoined_at :
-    (lib : Library) (at : Misjoin) (n : Placed) → network_at lib at.site ≡ Some n → MisjoinedIn lib n at.connection → IsMisjoinedAt lib at
+    (lib : Library) (at : Misjoin) (n : OwnedNetwork) → network_at lib at.site ≡ Some n → MisjoinedIn lib n at.connection → IsMisjoinedAt lib at
 misjoined_at lib at n is m =
     let ends = out_types (type_at_end lib n m.0.from) (type_at_end lib n m.0.to) m.2 in
     record {
       network = n;
-      stands = m.0;
+      at_index = m.0;
       source = ends.source;
       target = ends.target;
       network_is = is;

@@ -7,7 +7,7 @@ mod NetworkTests
 mod Joins
 pub mod Typed
 mod Bodies
-mod Placed
+mod OwnedNetwork
 mod Parts
 mod Applying
 mod Searches

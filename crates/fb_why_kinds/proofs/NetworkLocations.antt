@@ -1,4 +1,4 @@
--- Networks in which a name stands for nothing, and networks in which each stands for something.
+-- Networks in which a name is unknown, and networks in which each is known.
 use Rattle.std.proofs.Common.{◌≡◌, ◌&&◌, ◌||◌, ℕ, zero, suc, Bool, true, false, List, [], ◌∷◌, map, Some, None, Option, Contains, MatchOption, refl, sym, ◌∙◌, ap, subst, inl, inr}
 use Rattle.std.specs.Prelude.{flat_map, slice_get, option_map, option_and_then}
 use Rattle.std.specs.List.{find, list_all, list_any}
@@ -8,8 +8,8 @@ use Rattle.std.proofs.lemmas.List.Elements.{Contains-append_cases}
 use Rattle.fb_types.specs.Names.{Name, same_name}
 use Rattle.fb_types.specs.Blocks.{Kind, among, ports_of}
 use Rattle.fb_types.specs.Flat.{instance_in, kind_of_instance}
-use Rattle.fb_types.specs.Repeated.{Placed, block_type_names}
-use Rattle.fb_types.specs.Unknown.{Wanted, all_of, required_types, required_parameters, data_ins, is_end}
+use Rattle.fb_types.specs.Repeated.{OwnedNetwork, block_type_names}
+use Rattle.fb_types.specs.Unknown.{Required, all_of, required_types, required_parameters, data_ins, is_end}
 use Rattle.fb_types.specs.declared.library.Connection.{Connection}
 use Rattle.fb_types.specs.declared.library.Instance.{Instance}
 use Rattle.fb_types.specs.declared.library.Library.{Library}
@@ -21,13 +21,13 @@ use Rattle.fb_types.proofs.NameLaws.{any_from_contains, find-named}
 use Rattle.fb_check_types.specs.Checks.{is_met, all_met}
 use Rattle.fb_types.proofs.ListTests.{list_all-map, list_all-flat_map}
 use Rattle.fb_check_names.specs.Unknown.{NetworkUnknown}
-use Rattle.fb_check_names.proofs.NetworkUnknown.{met, met_wanted, list_all-all_of}
+use Rattle.fb_check_names.proofs.NetworkUnknown.{met, met_required, list_all-all_of}
 use Rattle.fb_why_kinds.specs.declared.location.FlowKind.{FlowKind}
 use Rattle.fb_why_kinds.specs.declared.location.FlowKind.TheVariants.{Events, Data}
 use Rattle.fb_why_kinds.specs.declared.location.Side.{Side}
 use Rattle.fb_why_kinds.specs.declared.location.Site.{Site}
 use Rattle.fb_why_kinds.specs.Sites.{network_at, instance_at, connections_of}
-use Rattle.fb_why_kinds.specs.Unknown.{Unmet, UnmetParameter, IsUnknownEnd, type_wanted, parameter_wanted, is_type_met, are_parameters_met, is_side_known, are_ends_known}
+use Rattle.fb_why_kinds.specs.Unknown.{Unmet, UnmetParameter, IsUnknownEnd, type_required, parameter_required, is_type_met, are_parameters_met, is_side_known, are_ends_known}
 
 -- ---- Names that are required
 
@@ -37,7 +37,7 @@ slice_get_map f [] (suc k) = refl
 slice_get_map f (x ∷ xs) zero = refl
 slice_get_map f (x ∷ xs) (suc k) = slice_get_map f xs k
 
-pub unmet_is : (w : Wanted) → is_met w ≡ false → ¬ (Contains w.1 w.0)
+pub unmet_is : (w : Required) → is_met w ≡ false → ¬ (Contains w.1 w.0)
 unmet_is w h c = true≢false (sym (any_from_contains w.0 w.1 c) ∙ h)
 
 -- what two tests of a list of names find
@@ -49,7 +49,7 @@ any_map f n (x ∷ xs) = ap (λ b. same_name n (f x) || b) (any_map f n xs)
 pub none_answer : {A : Type 0} (o : Option A) (N : Type 0) (P : A → Type 0) → o ≡ None → N → MatchOption o N P
 none_answer {A} o N P e h = subst (λ (o : Option A). MatchOption o N P) (sym e) h
 
-pub unmet_from : (o : Option Wanted) (w : Wanted) → o ≡ Some w → is_met w ≡ false → Unmet o
+pub unmet_from : (o : Option Required) (w : Required) → o ≡ Some w → is_met w ≡ false → Unmet o
 unmet_from o w e h = (w, e, unmet_is w h)
 
 -- ---- Parameters
@@ -59,13 +59,13 @@ set_names xs = map (λ x. x.name) xs
 
 parameters_are : (lib : Library) (i : Instance) (k : Kind) → kind_of_instance lib i ≡ Some k → required_parameters lib i ≡ all_of (set_names i.parameters) (data_ins (ports_of k))
 parameters_are lib i k e =
-    ap (λ (o : Option Kind). elim o as (λ _. List Wanted) [ None ↦ [] | Some k ↦ all_of (set_names i.parameters) (data_ins (ports_of k)) ]) e
+    ap (λ (o : Option Kind). elim o as (λ _. List Required) [ None ↦ [] | Some k ↦ all_of (set_names i.parameters) (data_ins (ports_of k)) ]) e
 
 -- the data inputs that are required of an instance, if the ports of its type are known
-wanted_of :
+required_of :
     (lib : Library) (i : Instance) (p : Ports) → Some p ≡ option_map ports_of (kind_of_instance lib i)
     → required_parameters lib i ≡ all_of (set_names i.parameters) (data_ins p)
-wanted_of lib i p h =
+required_of lib i p h =
     elim (kind_of_instance lib i) as
     (λ o. kind_of_instance lib i ≡ o → Some p ≡ option_map ports_of o → required_parameters lib i ≡ all_of (set_names i.parameters) (data_ins p)) [
       | None ↦ λ e h. absurd (cc)
@@ -83,14 +83,14 @@ pub parameters_answer :
     → InputAnswer p xs r → MatchOption r (are_parameters_met lib i ≡ true) (UnmetParameter lib i)
 parameters_answer lib i p xs r of_type all answer =
     let ins : List Name = data_ins p in
-    let wanted : required_parameters lib i ≡ all_of (set_names xs) ins =
-    wanted_of lib i p of_type ∙ ap (λ (xs : List Parameter). all_of (set_names xs) ins) (sym all) in
+    let required : required_parameters lib i ≡ all_of (set_names xs) ins =
+    required_of lib i p of_type ∙ ap (λ (xs : List Parameter). all_of (set_names xs) ins) (sym all) in
     elim r as (λ r. InputAnswer p xs r → MatchOption r (are_parameters_met lib i ≡ true) (UnmetParameter lib i)) [
       | None ↦ λ h.
-          ap all_met wanted ∙ list_all-all_of (set_names xs) ins ∙ list_all-map (λ m. list_any (same_name m) ins) (λ (x : Parameter). x.name) xs ∙ h
+          ap all_met required ∙ list_all-all_of (set_names xs) ins ∙ list_all-map (λ m. list_any (same_name m) ins) (λ (x : Parameter). x.name) xs ∙ h
       | Some k ↦ λ h. (
         (h.0.name, ins),
-        ap (λ (ws : List Wanted). slice_get ws k) wanted ∙ slice_get_map (λ (n : Name). (n, ins)) (set_names xs) k
+        ap (λ (ws : List Required). slice_get ws k) required ∙ slice_get_map (λ (n : Name). (n, ins)) (set_names xs) k
             ∙ ap (option_map (λ (n : Name). (n, ins))) (slice_get_map (λ (x : Parameter). x.name) xs k ∙ ap (option_map (λ (x : Parameter). x.name)) h.1),
         unmet_is (h.0.name, ins) h.2,
       )
@@ -109,7 +109,7 @@ kind_ports component n None = refl
 kind_ports component n (Some k) = refl
 
 end_from :
-    (lib : Library) (n : Placed) (component boundary : Ports → List Name) (e : PortName) (c : Name) → e.component ≡ Some c
+    (lib : Library) (n : OwnedNetwork) (component boundary : Ports → List Name) (e : PortName) (c : Name) → e.component ≡ Some c
     → is_end lib n component boundary e ≡ at_kind component e.port (option_and_then (kind_of_instance lib) (instance_in n.1 c))
 end_from lib n component boundary e c h =
     ap (λ (o : Option Name). elim o as (λ _. Bool) [
@@ -118,7 +118,7 @@ end_from lib n component boundary e c h =
     ]) h
 
 pub component_end :
-    (lib : Library) (n : Placed) (component boundary : Ports → List Name) (e : PortName) (c : Name) (i : Instance) (o : Option Ports) → e.component ≡ Some c
+    (lib : Library) (n : OwnedNetwork) (component boundary : Ports → List Name) (e : PortName) (c : Name) (i : Instance) (o : Option Ports) → e.component ≡ Some c
     → instance_in n.1 c ≡ Some i → o ≡ option_map ports_of (kind_of_instance lib i) → is_end lib n component boundary e ≡ at_ports component e.port o
 component_end lib n component boundary e c i o named there ports =
     end_from lib n component boundary e c named
@@ -127,7 +127,7 @@ component_end lib n component boundary e c i o named there ports =
     ∙ ap (at_ports component e.port) (sym ports)
 
 pub no_component_end :
-    (lib : Library) (n : Placed) (component boundary : Ports → List Name) (e : PortName) (c : Name) → e.component ≡ Some c → instance_in n.1 c ≡ None
+    (lib : Library) (n : OwnedNetwork) (component boundary : Ports → List Name) (e : PortName) (c : Name) → e.component ≡ Some c → instance_in n.1 c ≡ None
     → is_end lib n component boundary e ≡ false
 no_component_end lib n component boundary e c named none =
     end_from lib n component boundary e c named
@@ -140,42 +140,42 @@ instance_found net n is o all found =
 
 -- ---- Locations in a network
 
-instance_is : (lib : Library) (s : Site) (n : Placed) (k : ℕ) (i : Instance) → network_at lib s ≡ Some n → slice_get n.1.instances k ≡ Some i → instance_at lib s k ≡ Some i
-instance_is lib s n k i at found = ap (option_and_then (λ (n : Placed). slice_get n.1.instances k)) at ∙ found
+instance_is : (lib : Library) (s : Site) (n : OwnedNetwork) (k : ℕ) (i : Instance) → network_at lib s ≡ Some n → slice_get n.1.instances k ≡ Some i → instance_at lib s k ≡ Some i
+instance_is lib s n k i at found = ap (option_and_then (λ (n : OwnedNetwork). slice_get n.1.instances k)) at ∙ found
 
 pub type_location :
-    (lib : Library) (s : Site) (n : Placed) (k : ℕ) (i : Instance) → network_at lib s ≡ Some n → slice_get n.1.instances k ≡ Some i → is_type_met lib i ≡ false
-    → Unmet (option_map (type_wanted lib) (instance_at lib s k))
+    (lib : Library) (s : Site) (n : OwnedNetwork) (k : ℕ) (i : Instance) → network_at lib s ≡ Some n → slice_get n.1.instances k ≡ Some i → is_type_met lib i ≡ false
+    → Unmet (option_map (type_required lib) (instance_at lib s k))
 type_location lib s n k i at found h =
-    (type_wanted lib i, ap (option_map (type_wanted lib)) (instance_is lib s n k i at found), unmet_is (type_wanted lib i) h)
+    (type_required lib i, ap (option_map (type_required lib)) (instance_is lib s n k i at found), unmet_is (type_required lib i) h)
 
 pub parameter_location :
-    (lib : Library) (s : Site) (n : Placed) (k p : ℕ) (i : Instance) → network_at lib s ≡ Some n → slice_get n.1.instances k ≡ Some i → UnmetParameter lib i p
-    → Unmet (option_and_then (λ x. parameter_wanted lib x p) (instance_at lib s k))
+    (lib : Library) (s : Site) (n : OwnedNetwork) (k p : ℕ) (i : Instance) → network_at lib s ≡ Some n → slice_get n.1.instances k ≡ Some i → UnmetParameter lib i p
+    → Unmet (option_and_then (λ x. parameter_required lib x p) (instance_at lib s k))
 parameter_location lib s n k p i at found h =
-    (h.0, ap (option_and_then (λ (x : Instance). parameter_wanted lib x p)) (instance_is lib s n k i at found) ∙ h.1, h.2)
+    (h.0, ap (option_and_then (λ (x : Instance). parameter_required lib x p)) (instance_is lib s n k i at found) ∙ h.1, h.2)
 
 pub end_location :
-    (lib : Library) (s : Site) (n : Placed) (f : FlowKind) (k : ℕ) (side : Side) (c : Connection) → network_at lib s ≡ Some n
+    (lib : Library) (s : Site) (n : OwnedNetwork) (f : FlowKind) (k : ℕ) (side : Side) (c : Connection) → network_at lib s ≡ Some n
     → slice_get (connections_of f n.1) k ≡ Some c → is_side_known lib n f side c ≡ false → IsUnknownEnd lib s f k side
-end_location lib s n f k side c at found h = record { network = n; stands = c; at = at; found = found; unknown = h }
+end_location lib s n f k side c at found h = record { network = n; at_index = c; at = at; found = found; unknown = h }
 
 -- ---- Networks in which all is known
 
-types_met : (lib : Library) (n : Placed) → list_all (is_type_met lib) n.1.instances ≡ true → list_all met (required_types lib n.1) ≡ true
+types_met : (lib : Library) (n : OwnedNetwork) → list_all (is_type_met lib) n.1.instances ≡ true → list_all met (required_types lib n.1) ≡ true
 types_met lib n h =
     list_all-all_of (map (λ i. i.block_type) n.1.instances) (block_type_names lib)
     ∙ list_all-map (λ m. list_any (same_name m) (block_type_names lib)) (λ i. i.block_type) n.1.instances ∙ h
 
 pub network_known :
-    (lib : Library) (n : Placed) → list_all (is_type_met lib) n.1.instances ≡ true → list_all (are_parameters_met lib) n.1.instances ≡ true
+    (lib : Library) (n : OwnedNetwork) → list_all (is_type_met lib) n.1.instances ≡ true → list_all (are_parameters_met lib) n.1.instances ≡ true
     → list_all (are_ends_known lib n Events) n.1.event_connections ≡ true → list_all (are_ends_known lib n Data) n.1.data_connections ≡ true
     → ¬ (NetworkUnknown lib n)
 network_known lib n types parameters events values unknown =
     elim unknown [
       | inl w ↦ elim (Contains-append_cases (required_types lib n.1) (flat_map (required_parameters lib) n.1.instances) w.0 w.1) [
-        | inl t ↦ met_wanted (required_types lib n.1) (types_met lib n types) w.0 t w.2
-        | inr p ↦ met_wanted (flat_map (required_parameters lib) n.1.instances) (list_all-flat_map met (required_parameters lib) n.1.instances ∙ parameters) w.0 p w.2
+        | inl t ↦ met_required (required_types lib n.1) (types_met lib n types) w.0 t w.2
+        | inr p ↦ met_required (flat_map (required_parameters lib) n.1.instances) (list_all-flat_map met (required_parameters lib) n.1.instances ∙ parameters) w.0 p w.2
       ]
       | inr f ↦ true≢false (sym (λ i. events i && values i) ∙ f)
     ]

@@ -1,10 +1,10 @@
 -- A statement that is right by itself is right in each of its parts.
 use Rattle.std.proofs.Common.{◌≡◌, ℕ, zero, suc, Bool, true, false, not, ◌&&◌, refl, sym, ◌∙◌}
 use Rattle.std.proofs.lemmas.Bool.{and_parts, true≢false}
-use Rattle.fb_types.specs.Kinds.{Context, is_condition, is_sort, is_whole, same_sort, sort_of, sort_of_type}
+use Rattle.fb_types.specs.Kinds.{Context, is_condition, is_value_kind, is_whole, same_value_kind, value_kind_of, value_kind_of_type}
 use Rattle.fb_types.specs.Names.{Name}
 use Rattle.fb_types.specs.Syntax.{Expr, Stmt, Empty, Exit, Return, Assign, If, Case, For, While, Repeat, no_stmt, Choices, no_choice, then_choices}
-use Rattle.fb_types.specs.declared.sort.Sort.TheVariants.{WholeNumber}
+use Rattle.fb_types.specs.declared.value_kind.ValueKind.TheVariants.{WholeNumber}
 use Rattle.fb_why_kinds.specs.declared.location.StatementPart.{StatementPart}
 use Rattle.fb_why_kinds.specs.declared.location.StatementPart.TheVariants as part
 use Rattle.fb_why_kinds.specs.Statements.{choice_right, conditions_right, own_right, part_right}
@@ -22,7 +22,7 @@ choice_passes p (then_choices c body rest) (suc k) h = choice_passes p rest k (l
 
 record ForParts (p : Context) (n : Name) (a b c : Expr) : Type 0 where
   assigned : not (p.fixed n) ≡ true
-  control : same_sort WholeNumber (sort_of_type (p.types n)) ≡ true
+  control : same_value_kind WholeNumber (value_kind_of_type (p.types n)) ≡ true
   start : is_whole p a ≡ true
   end : is_whole p b ≡ true
   step : is_whole p c ≡ true
@@ -30,7 +30,7 @@ record ForParts (p : Context) (n : Name) (a b c : Expr) : Type 0 where
 parts_of_for : (p : Context) (n : Name) (a b c : Expr) → own_right p (For n a b c no_stmt) ≡ true → ForParts p n a b c
 parts_of_for p n a b c h =
     let free : Bool = not (p.fixed n) in
-    let number : Bool = same_sort WholeNumber (sort_of_type (p.types n)) in
+    let number : Bool = same_value_kind WholeNumber (value_kind_of_type (p.types n)) in
     let four = and_parts (((free && number) && is_whole p a) && is_whole p b) (is_whole p c) h in
     let three = and_parts ((free && number) && is_whole p a) (is_whole p b) four.0 in
     let two = and_parts (free && number) (is_whole p a) three.0 in
@@ -69,8 +69,8 @@ part_passes p Return part.End h = refl
 part_passes p Return part.Step h = refl
 part_passes p Return part.Condition h = refl
 part_passes p (Assign n e) part.Exit h = refl
-part_passes p (Assign n e) part.Assigned h = first (not (p.fixed n)) (is_sort (sort_of_type (p.types n)) (sort_of p.types e)) h
-part_passes p (Assign n e) part.Value h = last (not (p.fixed n)) (is_sort (sort_of_type (p.types n)) (sort_of p.types e)) h
+part_passes p (Assign n e) part.Assigned h = first (not (p.fixed n)) (is_value_kind (value_kind_of_type (p.types n)) (value_kind_of p.types e)) h
+part_passes p (Assign n e) part.Value h = last (not (p.fixed n)) (is_value_kind (value_kind_of_type (p.types n)) (value_kind_of p.types e)) h
 part_passes p (Assign n e) (part.Choice k) h = refl
 part_passes p (Assign n e) part.Selector h = refl
 part_passes p (Assign n e) part.Control h = refl

@@ -1,4 +1,4 @@
--- The ports of the type that a name stands for.
+-- The ports of the type that a name represents.
 use Rattle.std.proofs.Common.{◌≡◌, ◌||◌, List, map, Some, None, Option, Bor, refl, sym, ◌∙◌, ap}
 use Rattle.std.specs.Prelude.{slice_get, option_map, is_some}
 use Rattle.std.specs.List.{find}

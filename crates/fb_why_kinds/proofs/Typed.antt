@@ -1,4 +1,4 @@
--- What the names of types stand for.
+-- What the names of types represent.
 use Rattle.std.proofs.Common.{◌≡◌, List, Option, Some, None, refl, sym, ◌∙◌, ap}
 use Rattle.std.specs.Prelude.{option_map}
 use Rattle.std.specs.List.{find}

@@ -4,7 +4,7 @@ use Rattle.std.specs.List.{list_all}
 use Rattle.fb_types.specs.Blocks.{Kind, ports_of}
 use Rattle.fb_types.specs.Flat.{kind_of, kind_of_instance, variables_in}
 use Rattle.fb_types.specs.Kinds.{declared_right, parameter_right, parameters_right}
-use Rattle.fb_types.specs.Repeated.{Placed}
+use Rattle.fb_types.specs.Repeated.{OwnedNetwork}
 use Rattle.fb_types.specs.Syntax.{body_of}
 use Rattle.fb_types.specs.declared.library.Algorithm.{Algorithm}
 use Rattle.fb_types.specs.declared.library.BasicType.{BasicType}
@@ -29,10 +29,10 @@ use Rattle.fb_why_kinds.specs.Statements.{Standing, each_in_body, part_right}
 -- The variable is declared with a value that is not of its type.
 pub record IsInitialMisfit (lib : Library) (b : ℕ) (list : Variables) (k : ℕ) : Type 0 where
   pub in_type : BlockType
-  pub stands : Variable
+  pub at_index : Variable
   pub at : slice_get lib.blocks b ≡ Some in_type
-  pub found : slice_get (variables_at list in_type) k ≡ Some stands
-  pub wrong : declared_right stands ≡ false
+  pub found : slice_get (variables_at list in_type) k ≡ Some at_index
+  pub wrong : declared_right at_index ≡ false
 
 -- the same for a list of variables by itself, and for a block type
 abbrev pub MisfitAmong : List Variable → ℕ → Type 0
@@ -48,23 +48,23 @@ are_initials_right t = list_all declared_right (variables_in (kind_of t))
 
 -- The parameter of the instance is not a value of its input's type.
 pub record IsParameterMisfit (lib : Library) (s : Site) (i p : ℕ) : Type 0 where
-  pub network : Placed
+  pub network : OwnedNetwork
   pub of_instance : Instance
-  pub stands : Parameter
+  pub at_index : Parameter
   pub kind : Kind
   pub at : network_at lib s ≡ Some network
   pub instance_is : slice_get network.1.instances i ≡ Some of_instance
-  pub found : slice_get of_instance.parameters p ≡ Some stands
+  pub found : slice_get of_instance.parameters p ≡ Some at_index
   pub kind_is : kind_of_instance lib of_instance ≡ Some kind
-  pub wrong : parameter_right (ports_of kind) stands ≡ false
+  pub wrong : parameter_right (ports_of kind) at_index ≡ false
 
 -- the same for an instance by itself
 pub record IsParameterWrong (lib : Library) (of_instance : Instance) (p : ℕ) : Type 0 where
-  pub stands : Parameter
+  pub at_index : Parameter
   pub kind : Kind
-  pub found : slice_get of_instance.parameters p ≡ Some stands
+  pub found : slice_get of_instance.parameters p ≡ Some at_index
   pub kind_is : kind_of_instance lib of_instance ≡ Some kind
-  pub wrong : parameter_right (ports_of kind) stands ≡ false
+  pub wrong : parameter_right (ports_of kind) at_index ≡ false
 
 -- the same for a list of instances by itself
 abbrev pub ParameterAmong : Library → List Instance → ℕ × ℕ → Type 0
@@ -82,20 +82,20 @@ are_set_right_inside lib = each_inside (λ n. are_set_right lib n.1)
 -- The guard of the transition is not a truth value.
 pub record IsGuardMisfit (lib : Library) (b k : ℕ) : Type 0 where
   pub in_type : BasicType
-  pub stands : Transition
+  pub at_index : Transition
   pub at : basic_at lib b ≡ Some in_type
-  pub found : slice_get in_type.transitions k ≡ Some stands
-  pub wrong : is_guard_right in_type stands ≡ false
+  pub found : slice_get in_type.transitions k ≡ Some at_index
+  pub wrong : is_guard_right in_type at_index ≡ false
 
 -- A part of the statement is wrong.
 pub record IsStatementMisfit (lib : Library) (b a k : ℕ) (part : StatementPart) : Type 0 where
   pub in_type : BasicType
   pub algorithm : Algorithm
-  pub stands : Standing
+  pub at_index : Standing
   pub at : basic_at lib b ≡ Some in_type
   pub algorithm_is : slice_get in_type.algorithms a ≡ Some algorithm
-  pub found : slice_get (each_in_body false (body_of algorithm.body)) k ≡ Some stands
-  pub wrong : part_right (in_place in_type stands.0) stands.1 part ≡ false
+  pub found : slice_get (each_in_body false (body_of algorithm.body)) k ≡ Some at_index
+  pub wrong : part_right (in_place in_type at_index.0) at_index.1 part ≡ false
 
 -- ---- All
 

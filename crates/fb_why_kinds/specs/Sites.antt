@@ -3,7 +3,7 @@
 use Rattle.std.specs.Prelude.{ℕ, List, Option, Some, None, slice_get, option_and_then, ◌≡◌, Bool, true, option_map}
 use Rattle.fb_types.specs.Blocks.{ports_of}
 use Rattle.fb_types.specs.Flat.{kind_of}
-use Rattle.fb_types.specs.Repeated.{Placed, internals_of}
+use Rattle.fb_types.specs.Repeated.{OwnedNetwork, internals_of}
 use Rattle.fb_types.specs.declared.library.BasicType.{BasicType}
 use Rattle.fb_types.specs.declared.library.BlockType.TheVariants as block
 use Rattle.fb_types.specs.declared.library.BlockType.{BlockType}
@@ -20,11 +20,11 @@ use Rattle.fb_why_kinds.specs.declared.location.Site.{Site}
 use Rattle.fb_why_kinds.specs.declared.location.Variables.TheVariants.{Inputs, Outputs, Internals}
 use Rattle.fb_why_kinds.specs.declared.location.Variables.{Variables}
 
-abbrev pub network_inside : BlockType → Option Placed
+abbrev pub network_inside : BlockType → Option OwnedNetwork
 network_inside (block.Basic t) = None
 network_inside (block.Composite t) = Some (Some t, t.network)
 
-abbrev pub network_at : Library → Site → Option Placed
+abbrev pub network_at : Library → Site → Option OwnedNetwork
 network_at lib Application = Some (None, lib.application.network)
 network_at lib (Inside k) = option_and_then network_inside (slice_get lib.blocks k)
 
@@ -36,17 +36,17 @@ connections_of Events net = net.event_connections
 connections_of Data net = net.data_connections
 
 -- the network that the code searches, with the composite type around it
-abbrev pub placed : LocatedNetwork → Placed
+abbrev pub placed : LocatedNetwork → OwnedNetwork
 placed s = (option_map (λ c. c.now) s.composite, s.network.now)
 
 -- whether the network inside a block type passes a test
-abbrev pub each_inside : (Placed → Bool) → BlockType → Bool
+abbrev pub each_inside : (OwnedNetwork → Bool) → BlockType → Bool
 each_inside test (block.Basic t) = true
 each_inside test (block.Composite t) = test (Some t, t.network)
 
 -- the network is there, inside a composite type or not
 abbrev pub IsNetworkAt : Library → Site → Network → Type 0
-IsNetworkAt lib s net = (n : Placed) × (network_at lib s ≡ Some n) × (n.1 ≡ net)
+IsNetworkAt lib s net = (n : OwnedNetwork) × (network_at lib s ≡ Some n) × (n.1 ≡ net)
 
 abbrev pub basic_inside : BlockType → Option BasicType
 basic_inside (block.Basic t) = Some t

@@ -1,9 +1,9 @@
 -- The statements of an algorithm, and what is required of each by itself (IEC 61131-3, 7.3.3).
 use Rattle.std.specs.Prelude.{◌≡◌, ℕ, zero, suc, List, [], ◌∷◌, ◌++◌, map, Bool, true, false, not, ◌&&◌, Some, slice_get}
 use Rattle.fb_types.specs.Syntax.{Stmt, Empty, Exit, Return, Assign, If, Case, For, While, Repeat, Stmts, no_stmt, then_stmts, Choices, no_choice, then_choices, Branches, no_branch, then_branches, stmt_of}
-use Rattle.fb_types.specs.Kinds.{Context, is_sort, sort_of, sort_of_type, same_sort, is_whole, is_condition}
+use Rattle.fb_types.specs.Kinds.{Context, is_value_kind, value_kind_of, value_kind_of_type, same_value_kind, is_whole, is_condition}
 use Rattle.fb_types.specs.declared.library.BasicType.{BasicType}
-use Rattle.fb_types.specs.declared.sort.Sort.TheVariants.{WholeNumber}
+use Rattle.fb_types.specs.declared.value_kind.ValueKind.TheVariants.{WholeNumber}
 use Rattle.fb_check_types.specs.Checks.{in_place}
 use Rattle.fb_why_kinds.specs.declared.location.StatementPart.{StatementPart}
 use Rattle.fb_why_kinds.specs.declared.location.StatementPart.TheVariants as part
@@ -54,11 +54,11 @@ abbrev pub own_right : Context → Stmt → Bool
 own_right p Empty = true
 own_right p Exit = p.in_loop
 own_right p Return = true
-own_right p (Assign n e) = not (p.fixed n) && is_sort (sort_of_type (p.types n)) (sort_of p.types e)
+own_right p (Assign n e) = not (p.fixed n) && is_value_kind (value_kind_of_type (p.types n)) (value_kind_of p.types e)
 own_right p (If cs others) = conditions_right p cs
 own_right p (Case e bs others) = is_whole p e
 own_right p (For n a b c body) =
-    not (p.fixed n) && same_sort WholeNumber (sort_of_type (p.types n)) && is_whole p a && is_whole p b && is_whole p c
+    not (p.fixed n) && same_value_kind WholeNumber (value_kind_of_type (p.types n)) && is_whole p a && is_whole p b && is_whole p c
 own_right p (While c body) = is_condition p c
 own_right p (Repeat body c) = is_condition p c
 
@@ -66,11 +66,11 @@ own_right p (Repeat body c) = is_condition p c
 abbrev pub part_right : Context → Stmt → StatementPart → Bool
 part_right p Exit part.Exit = p.in_loop
 part_right p (Assign n e) part.Assigned = not (p.fixed n)
-part_right p (Assign n e) part.Value = is_sort (sort_of_type (p.types n)) (sort_of p.types e)
+part_right p (Assign n e) part.Value = is_value_kind (value_kind_of_type (p.types n)) (value_kind_of p.types e)
 part_right p (If cs others) (part.Choice k) = choice_right p cs k
 part_right p (Case e bs others) part.Selector = is_whole p e
 part_right p (For n a b c body) part.Assigned = not (p.fixed n)
-part_right p (For n a b c body) part.Control = same_sort WholeNumber (sort_of_type (p.types n))
+part_right p (For n a b c body) part.Control = same_value_kind WholeNumber (value_kind_of_type (p.types n))
 part_right p (For n a b c body) part.Start = is_whole p a
 part_right p (For n a b c body) part.End = is_whole p b
 part_right p (For n a b c body) part.Step = is_whole p c

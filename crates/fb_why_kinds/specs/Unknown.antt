@@ -4,8 +4,8 @@ use Rattle.std.specs.Prelude.{◌≡◌, ℕ, List, Bool, true, false, ◌&&◌,
 use Rattle.std.specs.List.{list_all, list_any}
 use Rattle.fb_types.specs.Names.{Name, same_name}
 use Rattle.fb_types.specs.Flat.{resource_names_of}
-use Rattle.fb_types.specs.Repeated.{Placed, block_type_names, instance_names, algorithm_names, state_names}
-use Rattle.fb_types.specs.Unknown.{Wanted, required_parameters, is_end, event_ins, event_outs, data_ins, data_outs, Mention, mentions_body, is_known}
+use Rattle.fb_types.specs.Repeated.{OwnedNetwork, block_type_names, instance_names, algorithm_names, state_names}
+use Rattle.fb_types.specs.Unknown.{Required, required_parameters, is_end, event_ins, event_outs, data_ins, data_outs, Mention, mentions_body, is_known}
 use Rattle.fb_types.specs.Syntax.{body_of}
 use Rattle.fb_types.specs.declared.library.Action.{Action}
 use Rattle.fb_types.specs.declared.library.BasicType.{BasicType}
@@ -41,25 +41,25 @@ use Rattle.fb_why_kinds.specs.Sites.{basic_at, network_at, network_inside, insta
 
 -- ---- Names that are required
 
-abbrev pub type_wanted : Library → Instance → Wanted
-type_wanted lib i = (i.block_type, block_type_names lib)
+abbrev pub type_required : Library → Instance → Required
+type_required lib i = (i.block_type, block_type_names lib)
 
 abbrev pub is_type_met : Library → Instance → Bool
-is_type_met lib i = is_met (type_wanted lib i)
+is_type_met lib i = is_met (type_required lib i)
 
 -- a parameter, with the data inputs of the instance's type
-abbrev pub parameter_wanted : Library → Instance → ℕ → Option Wanted
-parameter_wanted lib i p = slice_get (required_parameters lib i) p
+abbrev pub parameter_required : Library → Instance → ℕ → Option Required
+parameter_required lib i p = slice_get (required_parameters lib i) p
 
 abbrev pub are_parameters_met : Library → Instance → Bool
 are_parameters_met lib i = all_met (required_parameters lib i)
 
 -- A name is there that is not among those of its kind.
-abbrev pub Unmet : Option Wanted → Type 0
-Unmet o = (w : Wanted) × (o ≡ Some w) × ¬ (Contains w.1 w.0)
+abbrev pub Unmet : Option Required → Type 0
+Unmet o = (w : Required) × (o ≡ Some w) × ¬ (Contains w.1 w.0)
 
 abbrev pub UnmetParameter : Library → Instance → ℕ → Type 0
-UnmetParameter lib i p = Unmet (parameter_wanted lib i p)
+UnmetParameter lib i p = Unmet (parameter_required lib i p)
 
 -- ---- Ends of connections
 
@@ -73,20 +73,20 @@ abbrev pub inputs_of : FlowKind → Ports → List Name
 inputs_of Events = event_ins
 inputs_of Data = data_ins
 
-abbrev pub is_side_known : Library → Placed → FlowKind → Side → Connection → Bool
+abbrev pub is_side_known : Library → OwnedNetwork → FlowKind → Side → Connection → Bool
 is_side_known lib n f From c = is_end lib n (outputs_of f) (inputs_of f) c.from
 is_side_known lib n f To c = is_end lib n (inputs_of f) (outputs_of f) c.to
 
-abbrev pub are_ends_known : Library → Placed → FlowKind → Connection → Bool
+abbrev pub are_ends_known : Library → OwnedNetwork → FlowKind → Connection → Bool
 are_ends_known lib n f c = is_side_known lib n f From c && is_side_known lib n f To c
 
 -- The connection is there, and its end represents no port of the right direction.
 pub record IsUnknownEnd (lib : Library) (s : Site) (f : FlowKind) (k : ℕ) (side : Side) : Type 0 where
-  pub network : Placed
-  pub stands : Connection
+  pub network : OwnedNetwork
+  pub at_index : Connection
   pub at : network_at lib s ≡ Some network
-  pub found : slice_get (connections_of f network.1) k ≡ Some stands
-  pub unknown : is_side_known lib network f side stands ≡ false
+  pub found : slice_get (connections_of f network.1) k ≡ Some at_index
+  pub unknown : is_side_known lib network f side at_index ≡ false
 
 -- ---- WITH lists and charts
 
@@ -98,15 +98,15 @@ abbrev pub variables_for : Direction → Ports → List Name
 variables_for Input = data_ins
 variables_for Output = data_outs
 
-abbrev pub with_wanted : Ports → Direction → (event variable : ℕ) → Option Wanted
-with_wanted p d e v = option_and_then (λ x. option_map (λ n. (n, variables_for d p)) (slice_get x.with v)) (slice_get (events_of d p) e)
+abbrev pub with_required : Ports → Direction → (event variable : ℕ) → Option Required
+with_required p d e v = option_and_then (λ x. option_map (λ n. (n, variables_for d p)) (slice_get x.with v)) (slice_get (events_of d p) e)
 
-abbrev pub required_transition : BasicType → Transition → TransitionPart → Option Wanted
+abbrev pub required_transition : BasicType → Transition → TransitionPart → Option Required
 required_transition t x part.From = Some (x.from, state_names t)
 required_transition t x part.To = Some (x.to, state_names t)
 required_transition t x part.Event = option_map (λ n. (n, event_ins t.ports)) x.condition.event
 
-abbrev pub required_action : BasicType → Action → ActionPart → Option Wanted
+abbrev pub required_action : BasicType → Action → ActionPart → Option Required
 required_action t a Algorithm = option_map (λ n. (n, algorithm_names t)) a.algorithm
 required_action t a actions.Output = option_map (λ n. (n, event_outs t.ports)) a.output
 
@@ -116,11 +116,11 @@ required_action t a actions.Output = option_map (λ n. (n, event_outs t.ports)) 
 pub record IsUnknownMention (lib : Library) (b : ℕ) (all : BasicType → Option (List Mention)) (k : ℕ) : Type 0 where
   pub in_type : BasicType
   pub among : List Mention
-  pub stands : Mention
+  pub at_index : Mention
   pub at : basic_at lib b ≡ Some in_type
   pub there : all in_type ≡ Some among
-  pub found : slice_get among k ≡ Some stands
-  pub unknown : is_known in_type stands ≡ false
+  pub found : slice_get among k ≡ Some at_index
+  pub unknown : is_known in_type at_index ≡ false
 
 -- the same for a list of mentions by itself
 abbrev pub UnknownAmong : BasicType → List Mention → ℕ → Type 0
@@ -136,10 +136,10 @@ body_at a t = option_map (λ a. mentions_body (body_of a.body)) (slice_get t.alg
 
 -- Something is unknown at this location of the declaration.
 abbrev pub IsUnknownIn : Library → UnknownName → Type 0
-IsUnknownIn lib (InstanceType s i) = Unmet (option_map (type_wanted lib) (instance_at lib s i))
-IsUnknownIn lib (Parameter s i p) = Unmet (option_and_then (λ x. parameter_wanted lib x p) (instance_at lib s i))
+IsUnknownIn lib (InstanceType s i) = Unmet (option_map (type_required lib) (instance_at lib s i))
+IsUnknownIn lib (Parameter s i p) = Unmet (option_and_then (λ x. parameter_required lib x p) (instance_at lib s i))
 IsUnknownIn lib (End s f k side) = IsUnknownEnd lib s f k side
-IsUnknownIn lib (With b d e v) = Unmet (option_and_then (λ t. with_wanted (ports_of_block t) d e v) (slice_get lib.blocks b))
+IsUnknownIn lib (With b d e v) = Unmet (option_and_then (λ t. with_required (ports_of_block t) d e v) (slice_get lib.blocks b))
 IsUnknownIn lib (location.Transition b x part) =
     Unmet (option_and_then (λ t. option_and_then (λ y. required_transition t y part) (slice_get t.transitions x)) (basic_at lib b))
 IsUnknownIn lib (location.Action b s a part) =
@@ -151,21 +151,21 @@ IsUnknownIn lib _ = ⊥
 -- Nothing is unknown in a block type.
 pub record IsBlockKnown (lib : Library) (t : BlockType) : Type 0 where
   pub names : is_known_block t ≡ true
-  pub network : (n : Placed) → network_inside t ≡ Some n → ¬ (NetworkUnknown lib n)
+  pub network : (n : OwnedNetwork) → network_inside t ≡ Some n → ¬ (NetworkUnknown lib n)
 
 -- ---- Locations in a deployment
 
 -- an instance that a resource lists
-abbrev pub mapped_wanted : Library → Plan → (resource instance : ℕ) → Option Wanted
-mapped_wanted lib plan r i =
+abbrev pub mapped_required : Library → Plan → (resource instance : ℕ) → Option Required
+mapped_required lib plan r i =
     option_and_then (λ x. option_map (λ n. (n, instance_names lib.application.network)) (slice_get x.instances i)) (slice_get plan.resources r)
 
 abbrev pub side_of : Side → Link → Name
 side_of From l = l.from
 side_of To l = l.to
 
-abbrev pub link_wanted : Plan → ℕ → Side → Option Wanted
-link_wanted plan k side = option_map (λ l. (side_of side l, resource_names_of plan)) (slice_get plan.links k)
+abbrev pub link_required : Plan → ℕ → Side → Option Required
+link_required plan k side = option_map (λ l. (side_of side l, resource_names_of plan)) (slice_get plan.links k)
 
 -- a name is one of these instances, or of these resources
 abbrev pub is_instance : List Instance → Name → Bool
@@ -182,6 +182,6 @@ are_sides_met rs l = is_resource rs l.from && is_resource rs l.to
 
 -- Something is unknown at this location.
 abbrev pub IsUnknownAt : Library → Plan → UnknownName → Type 0
-IsUnknownAt lib plan (Mapped r i) = Unmet (mapped_wanted lib plan r i)
-IsUnknownAt lib plan (LinkEnd k side) = Unmet (link_wanted plan k side)
+IsUnknownAt lib plan (Mapped r i) = Unmet (mapped_required lib plan r i)
+IsUnknownAt lib plan (LinkEnd k side) = Unmet (link_required plan k side)
 IsUnknownAt lib plan p = IsUnknownIn lib p

@@ -17,7 +17,7 @@ use crate::location::{Direction, Site, UnknownName};
 use crate::lookup::BlockTypes;
 use crate::mentions::{Mention, is_mention_known, push_body, push_expression};
 use crate::networks::{LocatedNetwork, unknown_in_network};
-use fb_check_names::PortSort;
+use fb_check_names::PortKind;
 use fb_types::{Algorithm, BasicType, BlockType, Library, Transition};
 use std::alloc::{AllocError, Global};
 
@@ -27,7 +27,7 @@ fn unknown_in_withs(library: &Library, block: usize, declared: &BlockType) -> Op
     ensures { MatchOption result (all_met (required_withs (ports_of_block declared.now)) ≡ true) (IsUnknownIn library.now) }
 {
     let ports = declared.ports();
-    let inputs = unknown_with(ports, PortSort::Input, ports.event_inputs.as_slice());
+    let inputs = unknown_with(ports, PortKind::Input, ports.event_inputs.as_slice());
     if let Some((event, variable)) = inputs {
         return Some(UnknownName::With {
             block,
@@ -36,7 +36,7 @@ fn unknown_in_withs(library: &Library, block: usize, declared: &BlockType) -> Op
             variable,
         });
     }
-    let (event, variable) = unknown_with(ports, PortSort::Output, ports.event_outputs.as_slice())?;
+    let (event, variable) = unknown_with(ports, PortKind::Output, ports.event_outputs.as_slice())?;
     Some(UnknownName::With {
         block,
         direction: Direction::Output,

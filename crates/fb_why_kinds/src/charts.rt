@@ -10,20 +10,20 @@ ghost use Rattle.fb_types.specs.declared.library.State.{State};
 ghost use Rattle.fb_types.specs.declared.library.Transition.{Transition};
 ghost use Rattle.fb_types.specs.Names.{Name};
 ghost use Rattle.fb_check_types.specs.Checks.{action_met, actions_met, transition_met};
-ghost use Rattle.fb_check_names.specs.Sorts.{names_of_sort};
+ghost use Rattle.fb_check_names.specs.PortKinds.{names_of_kind};
 ghost use Rattle.fb_why_kinds.specs.Unknown.{Unmet, required_action, required_transition};
 
 use crate::location::{ActionPart, TransitionPart};
 use crate::lookup::{has_port, is_called};
-use fb_check_names::PortSort;
+use fb_check_names::PortKind;
 use fb_types::{Action, BasicType, EventPort, Name, Ports, State, Transition};
 
 /// The first name that is not a variable of the kind.
-fn unknown_variable(ports: &Ports, sort: PortSort, names: &[Name]) -> Option<usize>
-    ensures { MatchOption result (list_all (among (names_of_sort sort ports.now)) names.now ≡ true) (λ k. (n : Name) × (slice_get names.now k ≡ Some n) × (among (names_of_sort sort ports.now) n ≡ false)) }
+fn unknown_variable(ports: &Ports, port_kind: PortKind, names: &[Name]) -> Option<usize>
+    ensures { MatchOption result (list_all (among (names_of_kind port_kind ports.now)) names.now ≡ true) (λ k. (n : Name) × (slice_get names.now k ≡ Some n) × (among (names_of_kind port_kind ports.now) n ≡ false)) }
 {
     for (location, name) in names.iter().enumerate() {
-        if !has_port(ports, sort, name) {
+        if !has_port(ports, port_kind, name) {
             return Some(location);
         }
     }
@@ -31,11 +31,15 @@ fn unknown_variable(ports: &Ports, sort: PortSort, names: &[Name]) -> Option<usi
 }
 
 /// The first event with such a name in its WITH list, and the index of the name there.
-pub fn unknown_with(ports: &Ports, sort: PortSort, events: &[EventPort]) -> Option<(usize, usize)>
-    ensures { MatchOption result (list_all (λ e. list_all (among (names_of_sort sort ports.now)) e.with) events.now ≡ true) (λ r. (e : EventPort) × (slice_get events.now r.0 ≡ Some e) × ((n : Name) × (slice_get e.with r.1 ≡ Some n) × (among (names_of_sort sort ports.now) n ≡ false))) }
+pub fn unknown_with(
+    ports: &Ports,
+    port_kind: PortKind,
+    events: &[EventPort],
+) -> Option<(usize, usize)>
+    ensures { MatchOption result (list_all (λ e. list_all (among (names_of_kind port_kind ports.now)) e.with) events.now ≡ true) (λ r. (e : EventPort) × (slice_get events.now r.0 ≡ Some e) × ((n : Name) × (slice_get e.with r.1 ≡ Some n) × (among (names_of_kind port_kind ports.now) n ≡ false))) }
 {
     for (location, event) in events.iter().enumerate() {
-        if let Some(variable) = unknown_variable(ports, sort, event.with.as_slice()) {
+        if let Some(variable) = unknown_variable(ports, port_kind, event.with.as_slice()) {
             return Some((location, variable));
         }
     }
@@ -65,7 +69,7 @@ fn unknown_part(basic: &BasicType, transition: &Transition) -> Option<Transition
         return Some(TransitionPart::To);
     }
     match &transition.condition.event {
-        Some(event) if !has_port(&basic.ports, PortSort::EventInput, event) => {
+        Some(event) if !has_port(&basic.ports, PortKind::EventInput, event) => {
             Some(TransitionPart::Event)
         }
         _ => None,
@@ -97,7 +101,7 @@ fn unknown_action(basic: &BasicType, action: &Action) -> Option<ActionPart>
         }
     }
     match &action.output {
-        Some(output) if !has_port(&basic.ports, PortSort::EventOutput, output) => {
+        Some(output) if !has_port(&basic.ports, PortKind::EventOutput, output) => {
             Some(ActionPart::Output)
         }
         _ => None,

@@ -9,8 +9,10 @@ use crate::site_messages::{
 use crate::statements::{Standing, all_statements};
 use crate::types::type_named;
 use crate::words::{Text, type_words};
-use fb_check_types::{Typing, sort_of, sort_of_type};
-use fb_types::{BasicType, BlockType, Choice, Expr, Library, Reference, Sort, Stmt, Ty, Variable};
+use fb_check_types::{Typing, value_kind_of, value_kind_of_type};
+use fb_types::{
+    BasicType, BlockType, Choice, Expr, Library, Reference, Stmt, Ty, ValueKind, Variable,
+};
 use std::alloc::{AllocError, Global};
 
 /// Says where a value, an expression or a statement has the wrong kind.
@@ -135,24 +137,29 @@ fn push_guard(text: &mut Text, library: &Library, block: usize, transition: usiz
     };
     push_transition(text, transition);
     if let Some(guard) = &transition.condition.guard {
-        push_kind(text, basic, ": guard", (Sort::TruthValue, guard));
+        push_kind(text, basic, ": guard", (ValueKind::TruthValue, guard));
     }
 }
 
-fn words_for_expected(sort: Sort) -> &'static str {
-    match sort {
-        Sort::TruthValue => ": a truth value is expected, and ",
-        Sort::WholeNumber => ": a number is expected, and ",
+fn words_for_expected(port_kind: ValueKind) -> &'static str {
+    match port_kind {
+        ValueKind::TruthValue => ": a truth value is expected, and ",
+        ValueKind::WholeNumber => ": a number is expected, and ",
     }
 }
 
 /// Adds words for an expression, the kind that is expected, and its kind.
-fn push_kind(text: &mut Text, basic: &BasicType, words: &str, (wanted, expr): (Sort, &Expr)) {
+fn push_kind(
+    text: &mut Text,
+    basic: &BasicType,
+    words: &str,
+    (required, expr): (ValueKind, &Expr),
+) {
     text.words(words);
-    text.words(words_for_expected(wanted));
-    text.words(match sort_of(expr, basic) {
-        Some(Sort::TruthValue) => "it is a truth value",
-        Some(Sort::WholeNumber) => "it is a number",
+    text.words(words_for_expected(required));
+    text.words(match value_kind_of(expr, basic) {
+        Some(ValueKind::TruthValue) => "it is a truth value",
+        Some(ValueKind::WholeNumber) => "it is a number",
         None => "an operand or an argument in it is wrong",
     });
 }
@@ -196,16 +203,16 @@ fn push_part(text: &mut Text, basic: &BasicType, statement: &Stmt, part: Stateme
         Stmt::Assign(variable, expr) => push_assignment(text, basic, variable, expr, part),
         Stmt::If(choices, _) => push_choice(text, basic, choices.as_slice(), part),
         Stmt::Case(selector, _, _) => {
-            push_kind(text, basic, "CASE ..", (Sort::WholeNumber, selector));
+            push_kind(text, basic, "CASE ..", (ValueKind::WholeNumber, selector));
         }
         Stmt::While(condition, _) => {
-            push_kind(text, basic, "WHILE ..", (Sort::TruthValue, condition));
+            push_kind(text, basic, "WHILE ..", (ValueKind::TruthValue, condition));
         }
         Stmt::Repeat(_, condition) => push_kind(
             text,
             basic,
             "REPEAT, UNTIL ..",
-            (Sort::TruthValue, condition),
+            (ValueKind::TruthValue, condition),
         ),
         Stmt::For(variable, start, end, step, _) => {
             push_for(text, basic, variable, (start, end, step), part);
@@ -232,8 +239,8 @@ fn push_assignment(
         return;
     }
     text.name(variable.name());
-    let wanted = sort_of_type(basic.type_of(variable.name()));
-    push_kind(text, basic, " := ..", (wanted, expr));
+    let required = value_kind_of_type(basic.type_of(variable.name()));
+    push_kind(text, basic, " := ..", (required, expr));
 }
 
 fn push_choice(text: &mut Text, basic: &BasicType, choices: &[Choice], part: StatementPart) {
@@ -249,7 +256,12 @@ fn push_choice(text: &mut Text, basic: &BasicType, choices: &[Choice], part: Sta
         text.numbered("IF .., ELSIF number ", location as i128);
         ""
     };
-    push_kind(text, basic, words, (Sort::TruthValue, &choice.condition));
+    push_kind(
+        text,
+        basic,
+        words,
+        (ValueKind::TruthValue, &choice.condition),
+    );
 }
 
 fn push_for(
@@ -265,11 +277,11 @@ fn push_for(
     }
     text.named("FOR ", variable.name());
     match part {
-        StatementPart::Start => push_kind(text, basic, " := ..", (Sort::WholeNumber, start)),
-        StatementPart::End => push_kind(text, basic, " TO ..", (Sort::WholeNumber, end)),
+        StatementPart::Start => push_kind(text, basic, " := ..", (ValueKind::WholeNumber, start)),
+        StatementPart::End => push_kind(text, basic, " TO ..", (ValueKind::WholeNumber, end)),
         StatementPart::Step => {
             if let Some(step) = step {
-                push_kind(text, basic, " BY ..", (Sort::WholeNumber, step));
+                push_kind(text, basic, " BY ..", (ValueKind::WholeNumber, step));
             }
         }
         _ => text.words(": a number is expected, and it is a truth value"),

@@ -41,5 +41,5 @@ pub use misfits::misfit_location;
 pub use misjoins::misjoin_location;
 pub use site_messages::push_instance;
 pub use unknown::unknown_location;
-pub use unknown_messages::tell_unknown;
+pub use unknown_messages::unknown_message;
 pub use words::{Text, type_words};

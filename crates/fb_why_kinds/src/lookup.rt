@@ -4,13 +4,13 @@ ghost use Rattle.std.specs.Prelude.{◌≡◌, IfOk, option_map};
 ghost use Rattle.std.specs.List.{list_any};
 ghost use Rattle.std.specs.Option.{option_copied};
 ghost use Rattle.fb_types.specs.Blocks.{among, ports_of};
-ghost use Rattle.fb_check_names.specs.Sorts.{names_of_sort};
+ghost use Rattle.fb_check_names.specs.PortKinds.{names_of_kind};
 ghost use Rattle.fb_types.specs.Names.{same_name};
 ghost use Rattle.fb_types.specs.EventPorts.{ArePortsOfKinds};
 ghost use Rattle.fb_types.specs.Flat as spec;
 ghost use Rattle.fb_types.specs.Repeated.{block_type_names};
 
-use fb_check_names::{Named, PortSort};
+use fb_check_names::{Named, PortKind};
 use fb_types::{Items, Library, Name, Ports, all_ports, block_named, kind_named};
 use std::alloc::{AllocError, Global};
 
@@ -36,14 +36,14 @@ pub(crate) fn is_called<T: Named>(items: &[T], name: &Name) -> bool
 }
 
 /// Whether an interface has a port of the kind with the name.
-pub fn has_port(ports: &Ports, sort: PortSort, name: &Name) -> bool
-    ensures { result ≡ among (names_of_sort sort ports.now) name.now }
+pub fn has_port(ports: &Ports, port_kind: PortKind, name: &Name) -> bool
+    ensures { result ≡ among (names_of_kind port_kind ports.now) name.now }
 {
-    match sort {
-        PortSort::EventInput => is_called(ports.event_inputs.as_slice(), name),
-        PortSort::EventOutput => is_called(ports.event_outputs.as_slice(), name),
-        PortSort::Input => is_called(ports.inputs.as_slice(), name),
-        PortSort::Output => is_called(ports.outputs.as_slice(), name),
+    match port_kind {
+        PortKind::EventInput => is_called(ports.event_inputs.as_slice(), name),
+        PortKind::EventOutput => is_called(ports.event_outputs.as_slice(), name),
+        PortKind::Input => is_called(ports.inputs.as_slice(), name),
+        PortKind::Output => is_called(ports.outputs.as_slice(), name),
     }
 }
 

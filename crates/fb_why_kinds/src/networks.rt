@@ -11,13 +11,13 @@ ghost use Rattle.fb_types.specs.declared.library.Instance.{Instance};
 ghost use Rattle.fb_types.specs.declared.library.Parameter.{Parameter};
 ghost use Rattle.fb_check_names.specs.Unknown.{NetworkUnknown};
 ghost use Rattle.fb_why_kinds.specs.Sites.{connections_of, network_at, placed};
-ghost use Rattle.fb_check_names.specs.Sorts.{names_of_sort};
+ghost use Rattle.fb_check_names.specs.PortKinds.{names_of_kind};
 ghost use Rattle.fb_why_kinds.specs.declared.location.UnknownName.TheVariants.{End};
 ghost use Rattle.fb_why_kinds.specs.Unknown.{IsUnknownIn, UnmetParameter, are_ends_known, are_parameters_met, inputs_of, is_side_known, is_type_met, outputs_of};
 
 use crate::location::{FlowKind, Side, Site, UnknownName};
 use crate::lookup::{BlockTypes, has_port};
-use fb_check_names::PortSort;
+use fb_check_names::PortKind;
 use fb_types::{
     CompositeType, Connection, Instance, Network, Parameter, PortName, Ports, instance_named,
 };
@@ -48,7 +48,7 @@ fn unknown_input(ports: &Ports, parameters: &[Parameter]) -> Option<usize>
     ensures { MatchOption result (list_all (λ x. among (data_ins ports.now) x.name) parameters.now ≡ true) (λ k. (x : Parameter) × (slice_get parameters.now k ≡ Some x) × (among (data_ins ports.now) x.name ≡ false)) }
 {
     for (location, parameter) in parameters.iter().enumerate() {
-        if !has_port(ports, PortSort::Input, &parameter.name) {
+        if !has_port(ports, PortKind::Input, &parameter.name) {
             return Some(location);
         }
     }
@@ -79,11 +79,11 @@ fn unknown_parameters(types: &BlockTypes, instances: &[Instance]) -> Option<(usi
 fn is_end(
     types: &BlockTypes,
     scope: &LocatedNetwork,
-    component: PortSort,
-    boundary: PortSort,
+    component: PortKind,
+    boundary: PortKind,
     end: &PortName,
 ) -> bool
-    ensures { result ≡ spec.is_end types.now.library.now (placed scope.now) (names_of_sort component) (names_of_sort boundary) end.now }
+    ensures { result ≡ spec.is_end types.now.library.now (placed scope.now) (names_of_kind component) (names_of_kind boundary) end.now }
 {
     match &end.component {
         None => match scope.composite {
@@ -101,22 +101,22 @@ fn is_end(
 }
 
 /// The kind of the ports of components from which a connection leads.
-pub(crate) fn output_of(flow: FlowKind) -> PortSort
-    ensures { names_of_sort result ≡ outputs_of flow }
+pub(crate) fn output_of(flow: FlowKind) -> PortKind
+    ensures { names_of_kind result ≡ outputs_of flow }
 {
     match flow {
-        FlowKind::Events => PortSort::EventOutput,
-        FlowKind::Data => PortSort::Output,
+        FlowKind::Events => PortKind::EventOutput,
+        FlowKind::Data => PortKind::Output,
     }
 }
 
 /// The kind of the ports of components to which a connection leads.
-pub(crate) fn input_of(flow: FlowKind) -> PortSort
-    ensures { names_of_sort result ≡ inputs_of flow }
+pub(crate) fn input_of(flow: FlowKind) -> PortKind
+    ensures { names_of_kind result ≡ inputs_of flow }
 {
     match flow {
-        FlowKind::Events => PortSort::EventInput,
-        FlowKind::Data => PortSort::Input,
+        FlowKind::Events => PortKind::EventInput,
+        FlowKind::Data => PortKind::Input,
     }
 }
 

@@ -11,9 +11,9 @@ ghost use Rattle.fb_why_kinds.specs.Statements.{WrongAmong, all_standing, choice
 use crate::location::StatementPart;
 use crate::types::is_input;
 use fb_check_types::{
-    Typing, are_same, is_condition, is_sort, is_step_whole, is_whole, sort_of_type,
+    Typing, are_same, is_condition, is_step_whole, is_value_kind, is_whole, value_kind_of_type,
 };
-use fb_types::{Algorithm, BasicType, Body, Branch, Choice, Expr, Reference, Sort, Stmt};
+use fb_types::{Algorithm, BasicType, Body, Branch, Choice, Expr, Reference, Stmt, ValueKind};
 use std::alloc::{AllocError, Global};
 
 /// A statement, and whether it is in a loop.
@@ -138,8 +138,8 @@ fn wrong_in_assignment(
     if is_input(basic, variable.name()) {
         return Some(StatementPart::Assigned);
     }
-    let sort = sort_of_type(basic.type_of(variable.name()));
-    if !is_sort(sort, expr, basic) {
+    let port_kind = value_kind_of_type(basic.type_of(variable.name()));
+    if !is_value_kind(port_kind, expr, basic) {
         return Some(StatementPart::Value);
     }
     None
@@ -158,8 +158,8 @@ fn wrong_in_for(
     if is_input(basic, variable.name()) {
         return Some(StatementPart::Assigned);
     }
-    let sort = sort_of_type(basic.type_of(variable.name()));
-    if !are_same(Sort::WholeNumber, sort) {
+    let port_kind = value_kind_of_type(basic.type_of(variable.name()));
+    if !are_same(ValueKind::WholeNumber, port_kind) {
         return Some(StatementPart::Control);
     }
     if !is_whole(start, basic) {

@@ -8,12 +8,12 @@ use crate::site_messages::{
     instance_of, push_basic, push_block, push_instance, push_site, push_transition, scope_of,
 };
 use crate::words::Text;
-use fb_check_names::PortSort;
+use fb_check_names::PortKind;
 use fb_types::{Action, BasicType, CompositeType, Instance, Library, Name, Plan, instance_named};
 use std::alloc::{AllocError, Global};
 
 /// Says where the name is, what is there, and what was expected.
-pub fn tell_unknown(
+pub fn unknown_message(
     alloc: Global,
     library: &Library,
     plan: &Plan,
@@ -31,11 +31,11 @@ fn unknown_text(
     location: UnknownName,
 ) -> Result<String, AllocError> {
     let mut text = Text::new(alloc);
-    tell_location(alloc, &mut text, types, plan, location)?;
+    write_location(alloc, &mut text, types, plan, location)?;
     text.into_string()
 }
 
-fn tell_location(
+fn write_location(
     alloc: Global,
     text: &mut Text,
     types: &BlockTypes,
@@ -44,28 +44,28 @@ fn tell_location(
 ) -> Result<(), AllocError> {
     let library = types.library;
     match location {
-        UnknownName::InstanceType { site, instance } => tell_type(text, library, site, instance),
+        UnknownName::InstanceType { site, instance } => write_type(text, library, site, instance),
         UnknownName::Parameter {
             site,
             instance,
             parameter,
-        } => tell_parameter(text, types, site, (instance, parameter)),
+        } => write_parameter(text, types, site, (instance, parameter)),
         UnknownName::End {
             site,
             flow,
             connection,
             side,
-        } => tell_end(text, types, site, (flow, connection, side)),
+        } => write_end(text, types, site, (flow, connection, side)),
         UnknownName::Mapped { resource, instance } => {
-            tell_mapped(text, library, plan, resource, instance);
+            write_mapped(text, library, plan, resource, instance);
         }
-        UnknownName::LinkEnd { link, side } => tell_link(text, plan, link, side),
-        _ => return tell_in_block(alloc, text, library, location),
+        UnknownName::LinkEnd { link, side } => write_link(text, plan, link, side),
+        _ => return write_in_block(alloc, text, library, location),
     }
     Ok(())
 }
 
-fn tell_type(text: &mut Text, library: &Library, site: Site, instance: usize) {
+fn write_type(text: &mut Text, library: &Library, site: Site, instance: usize) {
     push_site(text, library, site);
     let Some(instance) = instance_of(library, site, instance) else {
         return;
@@ -74,7 +74,7 @@ fn tell_type(text: &mut Text, library: &Library, site: Site, instance: usize) {
     text.named(": there is no block type ", &instance.block_type);
 }
 
-fn tell_parameter(
+fn write_parameter(
     text: &mut Text,
     types: &BlockTypes,
     site: Site,
@@ -89,10 +89,10 @@ fn tell_parameter(
         return;
     };
     text.named(", parameter ", &parameter.name);
-    tell_port(text, types, instance, (PortSort::Input, &parameter.name));
+    write_port(text, types, instance, (PortKind::Input, &parameter.name));
 }
 
-fn tell_end(
+fn write_end(
     text: &mut Text,
     types: &BlockTypes,
     site: Site,
@@ -111,7 +111,7 @@ fn tell_end(
     };
     text.connection(words, connection);
     let (output, input) = (output_of(flow), input_of(flow));
-    let (end, sort, boundary) = match side {
+    let (end, port_kind, boundary) = match side {
         Side::From => (&connection.from, output, input),
         Side::To => (&connection.to, input, output),
     };
@@ -119,44 +119,44 @@ fn tell_end(
         Some(component) => {
             let instances = network.instances.as_slice();
             match instance_named(instances, component) {
-                Some(instance) => tell_port(text, types, instance, (sort, &end.port)),
+                Some(instance) => write_port(text, types, instance, (port_kind, &end.port)),
                 None => text.named(": there is no instance ", component),
             }
         }
-        None => tell_boundary(text, composite, boundary, &end.port),
+        None => write_boundary(text, composite, boundary, &end.port),
     }
 }
 
 /// Adds what the composite type around a network lacks, or that there is none.
-fn tell_boundary(
+fn write_boundary(
     text: &mut Text,
     composite: Option<&CompositeType>,
-    sort: PortSort,
-    wanted: &Name,
+    port_kind: PortKind,
+    required: &Name,
 ) {
     match composite {
-        Some(composite) => { text.lacks(&composite.name, sort, wanted, &composite.ports) }
+        Some(composite) => { text.lacks(&composite.name, port_kind, required, &composite.ports) }
         None => {
-            text.named(": ", wanted);
+            text.named(": ", required);
             text.words(" has no instance before it, and an application has no ports");
         }
     }
 }
 
 /// Adds what the type of an instance lacks.
-fn tell_port(
+fn write_port(
     text: &mut Text,
     types: &BlockTypes,
     instance: &Instance,
-    (sort, wanted): (PortSort, &Name),
+    (port_kind, required): (PortKind, &Name),
 ) {
     match types.ports_named(&instance.block_type) {
-        Some(ports) => { text.lacks(&instance.block_type, sort, wanted, ports) }
+        Some(ports) => { text.lacks(&instance.block_type, port_kind, required, ports) }
         None => text.named(": there is no block type ", &instance.block_type),
     }
 }
 
-fn tell_mapped(text: &mut Text, library: &Library, plan: &Plan, resource: usize, instance: usize) {
+fn write_mapped(text: &mut Text, library: &Library, plan: &Plan, resource: usize, instance: usize) {
     let Some(resource) = plan.resources.get(resource) else {
         return;
     };
@@ -169,21 +169,21 @@ fn tell_mapped(text: &mut Text, library: &Library, plan: &Plan, resource: usize,
     text.named(" has no instance ", instance);
 }
 
-fn tell_link(text: &mut Text, plan: &Plan, link: usize, side: Side) {
+fn write_link(text: &mut Text, plan: &Plan, link: usize, side: Side) {
     let Some(link) = plan.links.get(link) else {
         return;
     };
     text.named("link from ", &link.from);
     text.named(" to ", &link.to);
-    let wanted = match side {
+    let required = match side {
         Side::From => &link.from,
         Side::To => &link.to,
     };
-    text.named(": there is no resource ", wanted);
+    text.named(": there is no resource ", required);
 }
 
 /// The same for locations in a block type.
-fn tell_in_block(
+fn write_in_block(
     alloc: Global,
     text: &mut Text,
     library: &Library,
@@ -195,34 +195,34 @@ fn tell_in_block(
             direction,
             event,
             variable,
-        } => tell_with(text, library, block, direction, (event, variable)),
+        } => write_with(text, library, block, direction, (event, variable)),
         UnknownName::Transition {
             block,
             transition,
             part,
-        } => tell_transition(text, library, block, transition, part),
+        } => write_transition(text, library, block, transition, part),
         UnknownName::Action {
             block,
             state,
             action,
             part,
-        } => tell_action(text, library, block, (state, action), part),
+        } => write_action(text, library, block, (state, action), part),
         UnknownName::Guard {
             block,
             transition,
             mention,
-        } => return tell_guard(alloc, text, library, block, (transition, mention)),
+        } => return write_guard(alloc, text, library, block, (transition, mention)),
         UnknownName::Body {
             block,
             algorithm,
             mention,
-        } => return tell_body(alloc, text, library, block, (algorithm, mention)),
+        } => return write_body(alloc, text, library, block, (algorithm, mention)),
         _ => {}
     }
     Ok(())
 }
 
-fn tell_with(
+fn write_with(
     text: &mut Text,
     library: &Library,
     block: usize,
@@ -234,9 +234,9 @@ fn tell_with(
         return;
     };
     let ports = block.ports();
-    let (words, sort, events) = match direction {
-        Direction::Input => (": event input ", PortSort::Input, &ports.event_inputs),
-        Direction::Output => (": event output ", PortSort::Output, &ports.event_outputs),
+    let (words, port_kind, events) = match direction {
+        Direction::Input => (": event input ", PortKind::Input, &ports.event_inputs),
+        Direction::Output => (": event output ", PortKind::Output, &ports.event_outputs),
     };
     let Some(event) = events.get(event) else {
         return;
@@ -246,10 +246,10 @@ fn tell_with(
         return;
     };
     text.named(" WITH ", variable);
-    text.lacks(block.type_name(), sort, variable, ports);
+    text.lacks(block.type_name(), port_kind, variable, ports);
 }
 
-fn tell_body(
+fn write_body(
     alloc: Global,
     text: &mut Text,
     library: &Library,
@@ -265,11 +265,11 @@ fn tell_body(
     text.named(": algorithm ", &algorithm.name);
     let mut mentions = Vec::new(alloc);
     push_body(&mut mentions, &algorithm.body)?;
-    tell_mention(text, basic, mentions.as_slice(), mention);
+    write_mention(text, basic, mentions.as_slice(), mention);
     Ok(())
 }
 
-fn tell_transition(
+fn write_transition(
     text: &mut Text,
     library: &Library,
     block: usize,
@@ -284,23 +284,23 @@ fn tell_transition(
     };
     push_transition(text, transition);
     match part {
-        TransitionPart::From => tell_state(text, basic, &transition.from),
-        TransitionPart::To => tell_state(text, basic, &transition.to),
+        TransitionPart::From => write_state(text, basic, &transition.from),
+        TransitionPart::To => write_state(text, basic, &transition.to),
         TransitionPart::Event => {
             if let Some(event) = &transition.condition.event {
-                text.lacks(&basic.name, PortSort::EventInput, event, &basic.ports);
+                text.lacks(&basic.name, PortKind::EventInput, event, &basic.ports);
             }
         }
     }
 }
 
-fn tell_state(text: &mut Text, basic: &BasicType, wanted: &Name) {
+fn write_state(text: &mut Text, basic: &BasicType, required: &Name) {
     text.named(": ", &basic.name);
-    text.named(" has no state ", wanted);
+    text.named(" has no state ", required);
     text.names(basic.states.as_slice());
 }
 
-fn tell_action(
+fn write_action(
     text: &mut Text,
     library: &Library,
     block: usize,
@@ -315,11 +315,11 @@ fn tell_action(
     };
     text.named(": state ", &state.name);
     if let Some(action) = state.actions.get(action) {
-        tell_action_part(text, basic, action, part);
+        write_action_part(text, basic, action, part);
     }
 }
 
-fn tell_action_part(text: &mut Text, basic: &BasicType, action: &Action, part: ActionPart) {
+fn write_action_part(text: &mut Text, basic: &BasicType, action: &Action, part: ActionPart) {
     match (part, &action.algorithm, &action.output) {
         (ActionPart::Algorithm, Some(algorithm), _) => {
             text.named(": ", &basic.name);
@@ -327,13 +327,13 @@ fn tell_action_part(text: &mut Text, basic: &BasicType, action: &Action, part: A
             text.names(basic.algorithms.as_slice());
         }
         (ActionPart::Output, _, Some(output)) => {
-            text.lacks(&basic.name, PortSort::EventOutput, output, &basic.ports);
+            text.lacks(&basic.name, PortKind::EventOutput, output, &basic.ports);
         }
         _ => {}
     }
 }
 
-fn tell_guard(
+fn write_guard(
     alloc: Global,
     text: &mut Text,
     library: &Library,
@@ -352,11 +352,11 @@ fn tell_guard(
     };
     let mut mentions = Vec::new(alloc);
     push_expression(&mut mentions, guard)?;
-    tell_mention(text, basic, mentions.as_slice(), mention);
+    write_mention(text, basic, mentions.as_slice(), mention);
     Ok(())
 }
 
-fn tell_mention(text: &mut Text, basic: &BasicType, mentions: &[Mention], mention: usize) {
+fn write_mention(text: &mut Text, basic: &BasicType, mentions: &[Mention], mention: usize) {
     match mentions.get(mention) {
         Some(Mention::Variable(name)) => {
             text.named(": ", &basic.name);

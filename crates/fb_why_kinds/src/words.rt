@@ -1,6 +1,6 @@
 //! Texts that are composed of words, names and numbers.
 
-use fb_check_names::{Named, PortSort};
+use fb_check_names::{Named, PortKind};
 use fb_types::{Connection, Name, PortName, Ports, Ty, Value};
 use std::alloc::{AllocError, Global};
 
@@ -108,24 +108,24 @@ impl Text {
     }
 
     /// Appends that the owner has no port of this kind with the name, and which ports it has.
-    pub fn lacks(&mut self, owner: &Name, sort: PortSort, wanted: &Name, ports: &Ports) {
+    pub fn lacks(&mut self, owner: &Name, port_kind: PortKind, required: &Name, ports: &Ports) {
         self.named(": ", owner);
-        self.named(words_for(sort), wanted);
-        match sort {
-            PortSort::EventInput => self.names(ports.event_inputs.as_slice()),
-            PortSort::EventOutput => self.names(ports.event_outputs.as_slice()),
-            PortSort::Input => self.names(ports.inputs.as_slice()),
-            PortSort::Output => self.names(ports.outputs.as_slice()),
+        self.named(words_for(port_kind), required);
+        match port_kind {
+            PortKind::EventInput => self.names(ports.event_inputs.as_slice()),
+            PortKind::EventOutput => self.names(ports.event_outputs.as_slice()),
+            PortKind::Input => self.names(ports.inputs.as_slice()),
+            PortKind::Output => self.names(ports.outputs.as_slice()),
         }
     }
 }
 
-fn words_for(sort: PortSort) -> &'static str {
-    match sort {
-        PortSort::EventInput => " has no event input ",
-        PortSort::EventOutput => " has no event output ",
-        PortSort::Input => " has no data input ",
-        PortSort::Output => " has no data output ",
+fn words_for(port_kind: PortKind) -> &'static str {
+    match port_kind {
+        PortKind::EventInput => " has no event input ",
+        PortKind::EventOutput => " has no event output ",
+        PortKind::Input => " has no data input ",
+        PortKind::Output => " has no data output ",
     }
 }
 

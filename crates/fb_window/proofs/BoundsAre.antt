@@ -1,4 +1,4 @@
--- The bounds of a core at the resources that stand for it.
+-- The bounds of a core at the resources that represent it.
 use Rattle.std.proofs.Common.{◌≡◌, ℕ, ◌^◌, ◌<◌, ◌≤◌, min, Option, None, List, length, sym, ap, ◌∙◌, ⊎_elim, arith}
 use Rattle.std.specs.Prelude.{slice_index_or, option_map}
 use Rattle.std.proofs.lemmas.Bool.{cases_lt}

@@ -17,7 +17,7 @@ use Rattle.fb_resource.specs.Posts.{IsMessage, arriving, receiver_of}
 use Rattle.fb_link.specs.Exchanges.{keyed}
 use Rattle.fb_laws.specs.Facts.{IsLawful}
 use Rattle.fb_laws.specs.Worlds.{World}
-use Rattle.fb_resource.specs.Resources.{HasReceived, IsFor, IsOf, StandsFor, with_messages}
+use Rattle.fb_resource.specs.Resources.{HasReceived, IsFor, IsOf, Represents, with_messages}
 use Rattle.fb_resource.specs.declared.resource.Resource.{Resource}
 use Rattle.fb_window.specs.Standing.{IsQuiet, Sits}
 use Rattle.fb_laws.proofs.AtHome.{arrives_at_clock, outbox_sends}
@@ -54,9 +54,9 @@ all_filter {X} P p (x ∷ xs) h = step (p x) (All-head (λ y. p y ≡ true → P
     step true f g = All-cons P x (filter p xs) (f refl) g
     step false f g = g
 
--- ---- What stands under keys
+-- ---- What is under keys
 
--- no message stands under a key of another class
+-- no message is under a key of another class
 pub found_class : (i : Inputs) (ms : List Message) (j : Key) → (j.class == 2) ≡ false → found j (map (arriving i) ms) ≡ None
 found_class i [] j e = refl
 found_class i (m ∷ ms) j e =
@@ -77,10 +77,10 @@ found_keyed i (m ∷ ms) j = step (found j (map (arriving i) ms)) (found j (keye
     step a (Some n) true e = rw e refl
     step a (Some n) false e = rw e refl
 
--- ---- What a resource stands for
+-- ---- What a resource represents
 
-pub stands_alike : (i : Inputs) (limit : ℕ) (l n : Local (machine (system_of i) limit)) (x : Resource) → StandsFor i limit l x → n.part ≡ l.part → n.stop ≡ l.stop → ((j : Key) → n.own j ≡ l.own j)
-    → ((j : Key) → j.resource ≡ x.tree.resource → n.inbox j ≡ l.inbox j) → ((j : Key) → (j.class == 2) ≡ false → n.inbox j ≡ None) → StandsFor i limit n x
+pub stands_alike : (i : Inputs) (limit : ℕ) (l n : Local (machine (system_of i) limit)) (x : Resource) → Represents i limit l x → n.part ≡ l.part → n.stop ≡ l.stop → ((j : Key) → n.own j ≡ l.own j)
+    → ((j : Key) → j.resource ≡ x.tree.resource → n.inbox j ≡ l.inbox j) → ((j : Key) → (j.class == 2) ≡ false → n.inbox j ≡ None) → Represents i limit n x
 stands_alike i limit l n x s part stop own inbox class = record {
   state = s.state;
   part = part ∙ s.part;
@@ -100,10 +100,10 @@ stands_alike i limit l n x s part stop own inbox class = record {
 pub record IsBackAs (i : Inputs) (limit : ℕ) (m : Member (machine (system_of i) limit)) (r : ℕ) (y : Resource) : Type 0 where
   pub number : y.tree.resource ≡ r
   pub of : IsOf i y
-  pub state : StandsFor i limit m.state y
+  pub state : Represents i limit m.state y
   pub clock : m.clock ≡ y.clock
 
--- All are at home, and what is on its way stands under its keys in this list.
+-- All are at home, and what is on its way is under its keys in this list.
 module _ (i : Inputs) (limit horizon : ℕ) (d : Core (machine (system_of i) limit)) (all : List Message)
     (law : IsLawful (machine (system_of i) limit)) (w : World (machine (system_of i) limit)) (runs : ℕ → List (Item (machine (system_of i) limit)))
     (v : Inv (machine (system_of i) limit) horizon w d runs) (home : (r : ℕ) → (d r).out ≡ None)
@@ -111,7 +111,7 @@ module _ (i : Inputs) (limit horizon : ℕ) (d : Core (machine (system_of i) lim
   abbrev M : Machine
   M = machine (system_of i) limit
 
-  -- a message may come to its receiver
+  -- a message may be received
   pub fits : (s : ℕ) (m : Message) (x : model.Event) → found (arriving i m).0 (d s).outbox ≡ Some x → IsMessage i m
       → (r : ℕ) (y : Resource) → y.tree.resource ≡ r → (d r).clock ≡ y.clock → receiver_of (system_of i) m ≡ r → IsFor i y m
   fits s m x f message r y number clock to =
@@ -124,7 +124,7 @@ module _ (i : Inputs) (limit horizon : ℕ) (d : Core (machine (system_of i) lim
   inbox_is : (r : ℕ) (j : Key) → (exchanged M d r).state.inbox j ≡ or_else (found j (map (arriving i) all)) ((d r).state.inbox j)
   inbox_is r j = ap (λ o. or_else o ((d r).state.inbox j)) (out_found j)
 
-  inbox_class : (r : ℕ) (y : Resource) → StandsFor i limit (d r).state y → (j : Key) → (j.class == 2) ≡ false → (exchanged M d r).state.inbox j ≡ None
+  inbox_class : (r : ℕ) (y : Resource) → Represents i limit (d r).state y → (j : Key) → (j.class == 2) ≡ false → (exchanged M d r).state.inbox j ≡ None
   inbox_class r y s j e = inbox_is r j ∙ or_else_nones _ _ (found_class i all j e) (s.inbox j e)
 
   -- where nothing is on its way
@@ -139,7 +139,7 @@ module _ (i : Inputs) (limit horizon : ℕ) (d : Core (machine (system_of i) lim
     posted = refl;
   }
 
-  -- who has received these messages, under whose keys stands what stands there of all
+  -- who has received these messages, under whose keys is what is there of all
   pub sits_received : (r : ℕ) (y u : Resource) (ms : List Message) → IsBackAs i limit (d r) r y → All (IsFor i y) ms
       → ((j : Key) → j.resource ≡ r → found j (map (arriving i) ms) ≡ found j (map (arriving i) all)) → HasReceived ms y u → Sits i limit (exchanged M d r) r u
   sits_received r y u ms b fit last g =
@@ -147,7 +147,7 @@ module _ (i : Inputs) (limit horizon : ℕ) (d : Core (machine (system_of i) lim
       record {
         number = there ∙ b.number;
         of = g.of i b.of fit;
-        state = stands_alike i limit (with_messages i limit ms (d r).state) (exchanged M d r).state u (g.stands i limit b.of fit (d r).state b.state) refl refl (λ j. refl)
+        state = stands_alike i limit (with_messages i limit ms (d r).state) (exchanged M d r).state u (g.represents i limit b.of fit (d r).state b.state) refl refl (λ j. refl)
             (λ j e. inbox_is r j ∙ ap (λ o. or_else o ((d r).state.inbox j)) (sym (last j (e ∙ there ∙ b.number))))
             (inbox_class r y b.state);
         clock = b.clock ∙ ap (λ (q : Resource). q.clock) (sym g.besides);

@@ -96,7 +96,7 @@ done_awaited rs ks a =
     (job_there f.inputs f.limit (slice_index_or f.bounds f.index 0) f.first (resting_none f.first (sym f.is))) f.done in
     absurd jobs
 
--- the others are awaited behind one that has rested
+-- the others are awaited after one that has rested
 pub awaited_rested : (y : Resource) (rs : List (Option Resource)) (k : Vec Line) (ks : List (Vec Line)) (ds : List WindowDone) → AreAwaited (Some y ∷ rs) (k ∷ ks) ds → AreAwaited rs ks ds
 awaited_rested y rs k ks ds a =
     let f = awaits_first (Some y) rs (k ∷ ks) ds a in
@@ -114,7 +114,7 @@ awaited_rested y rs k ks ds a =
           (no_job f.inputs f.limit (slice_index_or f.bounds f.index 0) f.first stop.0 stop.1) f.done;
     }
 
--- and behind one that has come back
+-- and after one that has come back
 pub awaited_ran : (rs : List (Option Resource)) (k : Vec Line) (ks : List (Vec Line)) (d : WindowDone) (ds : List WindowDone) → AreAwaited (None ∷ rs) (k ∷ ks) (d ∷ ds) → AreAwaited rs ks ds
 awaited_ran rs k ks d ds a =
     let f = awaits_first None rs (k ∷ ks) (d ∷ ds) a in
@@ -134,7 +134,7 @@ awaited_ran rs k ks d ds a =
 
 -- ---- One more
 
--- one more was put behind what was there
+-- one more was put after what was there
 pub record IsPushed (y : Resource) (lines : Vec Line) (sent : Vec Message) (old new : Home) : Type 0 where
   pub resources : new.resources.items ≡ old.resources.items ++ y ∷ []
   pub pending : new.pending.items ≡ old.pending.items ++ lines ∷ []

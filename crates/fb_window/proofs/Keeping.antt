@@ -27,7 +27,7 @@ use Rattle.fb_laws.proofs.Phasing.{after_append}
 use Rattle.fb_laws.proofs.Reached.{inv_after, runs_after}
 use Rattle.fb_window.specs.Jobs.{MayLeave}
 use Rattle.fb_window.specs.Leaving.{AreLegal, HasLeft}
-use Rattle.fb_window.specs.Reached.{IsBehind, IsBrought, IsReached, KeepHorizon, MayGo}
+use Rattle.fb_window.specs.Reached.{IsAway, IsBrought, IsReached, KeepHorizon, MayGo}
 use Rattle.fb_window.specs.Reaching.{OfEachCore}
 use Rattle.fb_window.specs.Standing.{IsAt}
 use Rattle.fb_window.specs.Walking.{AreSingle, IsSingle, Leads, Single, Walks, after_walk, single_steps, walk_steps}
@@ -101,7 +101,7 @@ module _ (i : Inputs) (good : AreGood i) (limit : ℕ) (xs : List Resource) wher
           omega arith)
           (cases_lt r (count_of (system_of i)))
 
-  -- what stands for the resources there
+  -- what represents the resources there
   pub at_within : (horizon : ℕ) (es : List (CoreStep (machine (system_of i) limit))) (to : LeadsWithin horizon es) → IsAt i limit (core_of i limit es) xs → IsAt i limit (core_of i limit to.steps) xs
   at_within horizon es to at = subst (λ (c : Core M). IsAt i limit c xs) (sym to.same) at
 
@@ -166,9 +166,9 @@ module _ (s : CoreState) (good : AreGood s.system) (reached : IsReached s) where
         legal = legal horizon led.steps led.schedule led_at;
       }
 
-      -- What stays behind when the resources leave.
-      pub is_behind : (a : AwayState) → a.system ≡ s.system → a.steps ≡ s.steps → a.horizon ≡ horizon → a.pending ≡ s.pending → HasLeft s.resources.items bounds a → IsBehind a
-      is_behind a system steps to pending left = record {
+      -- What remains when the resources leave.
+      pub is_away : (a : AwayState) → a.system ≡ s.system → a.steps ≡ s.steps → a.horizon ≡ horizon → a.pending ≡ s.pending → HasLeft s.resources.items bounds a → IsAway a
+      is_away a system steps to pending left = record {
         resources = s.resources.items;
         bounds = bounds;
         left = left;

@@ -1,4 +1,4 @@
--- What is noted of the resources' next events.
+-- The ticks of the resources' next events.
 use Rattle.std.proofs.Common.{◌≡◌, ℕ, ◌+◌, ◌<◌, ◌≤◌, Some, None, Result, Ok, Err, List, [], ◌∷◌, ◌++◌, length, sym, ap, ◌∙◌, subst, ⊎_elim, arith}
 use Rattle.std.specs.Prelude.{OnOk, slice_get, slice_set}
 use Rattle.std.proofs.lemmas.Bool.{cases_eq, cases_lt}
@@ -11,25 +11,25 @@ use Rattle.fb_resource.proofs.Lists.{set_apart, set_here}
 use Rattle.fb_resource.specs.Posts.{receiver_of}
 use Rattle.fb_resource.specs.declared.resource.Resource.{Resource}
 use Rattle.fb_window.specs.Mails.{AreGiven}
-use Rattle.fb_window.specs.Noting.{AreNoted, IsHanded, IsNoted}
+use Rattle.fb_window.specs.Noting.{AreCurrent, IsHanded, IsCurrent}
 use Rattle.fb_laws.proofs.Indexes.{has_at, is_at, one_at, push_before, push_counted, push_here}
 use Rattle.fb_window.proofs.Receives.{given_more, given_none}
 
--- ---- Of so many resources
+-- ---- Of this many resources
 
-pub record AreNotedTo (horizon : ℕ) (xs : List Resource) (count : ℕ) (ticks : List ℕ) : Type 0 where
+pub record AreCurrentTo (horizon : ℕ) (xs : List Resource) (count : ℕ) (ticks : List ℕ) : Type 0 where
   pub counted : length ticks ≡ count
-  pub each : (r : ℕ) (x : Resource) (tick : ℕ) → slice_get xs r ≡ Some x → slice_get ticks r ≡ Some tick → IsNoted horizon x tick
+  pub each : (r : ℕ) (x : Resource) (tick : ℕ) → slice_get xs r ≡ Some x → slice_get ticks r ≡ Some tick → IsCurrent horizon x tick
 
-pub noted_none : (horizon : ℕ) (xs : List Resource) (ticks : List ℕ) → ticks ≡ [] → AreNotedTo horizon xs 0 ticks
-noted_none horizon xs ticks e = record {
+pub current_none : (horizon : ℕ) (xs : List Resource) (ticks : List ℕ) → ticks ≡ [] → AreCurrentTo horizon xs 0 ticks
+current_none horizon xs ticks e = record {
   counted = ap (λ z. length z) e;
   each = λ r x tick f g. let h = is_at ticks r tick g in let n : length ticks ≡ 0 = ap (λ z. length z) e in absurd (omega arith);
 }
 
-pub noted_more : (horizon : ℕ) (xs : List Resource) (count : ℕ) (old new : List ℕ) (x : Resource) (tick : ℕ) → AreNotedTo horizon xs count old → slice_get xs count ≡ Some x
-    → IsNoted horizon x tick → new ≡ old ++ tick ∷ [] → AreNotedTo horizon xs (count + 1) new
-noted_more horizon xs count old new x tick h at here e = record {
+pub current_more : (horizon : ℕ) (xs : List Resource) (count : ℕ) (old new : List ℕ) (x : Resource) (tick : ℕ) → AreCurrentTo horizon xs count old → slice_get xs count ≡ Some x
+    → IsCurrent horizon x tick → new ≡ old ++ tick ∷ [] → AreCurrentTo horizon xs (count + 1) new
+current_more horizon xs count old new x tick h at here e = record {
   counted = ap (λ z. length z) e ∙ push_counted old tick count h.counted;
   each = λ r y t f g.
       let counted = h.counted in
@@ -46,20 +46,20 @@ noted_more horizon xs count old new x tick h at here e = record {
       (cases_lt r count);
 }
   where
-    last : (r : ℕ) → count ≡ r → (y : Resource) (t : ℕ) → slice_get xs r ≡ Some y → slice_get (old ++ tick ∷ []) r ≡ Some t → IsNoted horizon y t
+    last : (r : ℕ) → count ≡ r → (y : Resource) (t : ℕ) → slice_get xs r ≡ Some y → slice_get (old ++ tick ∷ []) r ≡ Some t → IsCurrent horizon y t
     last r q y t f put =
         let same : tick ≡ t = one_at (old ++ tick ∷ []) r tick t (push_here old tick r (h.counted ∙ q)) put in
         let one : x ≡ y = one_at xs r x y (subst (λ (n : ℕ). slice_get xs n ≡ Some x) q at) f in
-        subst (λ (z : Resource). IsNoted horizon z t) one (subst (λ (n : ℕ). IsNoted horizon x n) same here)
+        subst (λ (z : Resource). IsCurrent horizon z t) one (subst (λ (n : ℕ). IsCurrent horizon x n) same here)
 
-pub noted_all : (horizon : ℕ) (xs : List Resource) (count : ℕ) (ticks : List ℕ) → AreNotedTo horizon xs count ticks → count ≡ length xs → AreNoted horizon xs ticks
-noted_all horizon xs count ticks h e = record { counted = h.counted ∙ e; each = h.each }
+pub current_all : (horizon : ℕ) (xs : List Resource) (count : ℕ) (ticks : List ℕ) → AreCurrentTo horizon xs count ticks → count ≡ length xs → AreCurrent horizon xs ticks
+current_all horizon xs count ticks h e = record { counted = h.counted ∙ e; each = h.each }
 
 -- ---- One of them again
 
-pub noted_set : (horizon : ℕ) (xs : List Resource) (ticks : List ℕ) (index : ℕ) (x : Resource) (tick : ℕ) → AreNoted horizon xs ticks → index < length ticks → IsNoted horizon x tick
-    → AreNoted horizon (slice_set xs index x) (slice_set ticks index tick)
-noted_set horizon xs ticks index x tick h within here = record {
+pub current_set : (horizon : ℕ) (xs : List Resource) (ticks : List ℕ) (index : ℕ) (x : Resource) (tick : ℕ) → AreCurrent horizon xs ticks → index < length ticks → IsCurrent horizon x tick
+    → AreCurrent horizon (slice_set xs index x) (slice_set ticks index tick)
+current_set horizon xs ticks index x tick h within here = record {
   counted = length-set ticks index tick ∙ h.counted ∙ sym (length-set xs index x);
   each = λ r y t f g. ⊎_elim (λ q. same r q y t f g) (λ n. h.each r y t (set_apart xs index r x y n f) (set_apart ticks index r tick t n g)) (cases_eq r index);
 }
@@ -67,15 +67,15 @@ noted_set horizon xs ticks index x tick h within here = record {
     inside : index < length xs
     inside = let c = h.counted in omega arith
 
-    same : (r : ℕ) → r ≡ index → (y : Resource) (t : ℕ) → slice_get (slice_set xs index x) r ≡ Some y → slice_get (slice_set ticks index tick) r ≡ Some t → IsNoted horizon y t
+    same : (r : ℕ) → r ≡ index → (y : Resource) (t : ℕ) → slice_get (slice_set xs index x) r ≡ Some y → slice_get (slice_set ticks index tick) r ≡ Some t → IsCurrent horizon y t
     same r q y t f g =
         let one : x ≡ y = set_here xs index x y inside (subst (λ (n : ℕ). slice_get (slice_set xs index x) n ≡ Some y) q f) in
         let number : tick ≡ t = set_here ticks index tick t within (subst (λ (n : ℕ). slice_get (slice_set ticks index tick) n ≡ Some t) q g) in
-        subst (λ (z : Resource). IsNoted horizon z t) one (subst (λ (n : ℕ). IsNoted horizon x n) number here)
+        subst (λ (z : Resource). IsCurrent horizon z t) one (subst (λ (n : ℕ). IsCurrent horizon x n) number here)
 
 -- ---- The least
 
--- no tick of so many is below the least
+-- no tick of this many is below the least
 pub record IsLeastTick (horizon : ℕ) (ticks : List ℕ) (count first least : ℕ) : Type 0 where
   pub cap : least ≤ horizon
   pub low : (r tick : ℕ) → r < count → slice_get ticks r ≡ Some tick → least ≤ tick
@@ -108,7 +108,7 @@ least_tick_more horizon ticks count first least tick h at b = record {
   there = h.there;
 }
 
-pub low_since : (horizon : ℕ) (xs : List Resource) (ticks : List ℕ) (least : ℕ) → ((r tick : ℕ) → slice_get ticks r ≡ Some tick → least ≤ tick) → AreNoted horizon xs ticks
+pub low_since : (horizon : ℕ) (xs : List Resource) (ticks : List ℕ) (least : ℕ) → ((r tick : ℕ) → slice_get ticks r ≡ Some tick → least ≤ tick) → AreCurrent horizon xs ticks
     → (r : ℕ) (x : Resource) (j : Key) → slice_get xs r ≡ Some x → j.tick < least → waiting x.agenda j ≡ None
 low_since horizon xs ticks least low h r x j e b =
     let counted = h.counted in
@@ -117,7 +117,7 @@ low_since horizon xs ticks least low h r x j e b =
     let over = low r t.0 t.1 in
     (h.each r x t.0 e t.1).rests j (omega arith)
 
-pub there_since : (horizon : ℕ) (xs : List Resource) (ticks : List ℕ) (first least : ℕ) → slice_get ticks first ≡ Some least → AreNoted horizon xs ticks → least < horizon
+pub there_since : (horizon : ℕ) (xs : List Resource) (ticks : List ℕ) (first least : ℕ) → slice_get ticks first ≡ Some least → AreCurrent horizon xs ticks → least < horizon
     → (x : Resource) × (slice_get xs first ≡ Some x) × IsNext x.agenda least
 there_since horizon xs ticks first least at h b =
     let counted = h.counted in

@@ -27,7 +27,7 @@ Rests x t = (j : Key) → j.tick < t → waiting x.agenda j ≡ None
 
 -- ---- The least event
 
--- The least tick of the agendas of so many resources, or the horizon.
+-- The least tick of the agendas of this many resources, or the horizon.
 pub record IsLeastOf (xs : List Resource) (count horizon m : ℕ) : Type 0 where
   pub cap : m ≤ horizon
   pub low : (r : ℕ) (x : Resource) (j : Key) → r < count → slice_get xs r ≡ Some x → j.tick < m → waiting x.agenda j ≡ None

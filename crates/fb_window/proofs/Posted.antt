@@ -77,7 +77,7 @@ module _ (i : Inputs) (limit horizon : ℕ) (c : Core (machine (system_of i) lim
       past (a ∷ boxes) zero l = absurd (omega arith)
       past (a ∷ boxes) (suc n) l = past boxes n (omega arith)
 
-  -- under a key stands in the outbox of its sender what stands in all messages
+  -- under a key is in the outbox of its sender what is in all messages
   out_found : (k : Key) → found k (d (M.sender k)).outbox ≡ found k (map (arriving i) all)
   out_found k =
       box_found k
@@ -89,7 +89,7 @@ module _ (i : Inputs) (limit horizon : ℕ) (c : Core (machine (system_of i) lim
   as_back : (r : ℕ) (l : r < count_of (system_of i)) → IsBackAs i limit (d r) r (b.each r l).at.new
   as_back r l = let it = (b.each r l).back in record { number = it.number; of = it.of; state = it.state; clock = it.clock }
 
-  -- each message may come to its receiver
+  -- each message may be received
   due : (r : ℕ) (y : Resource) → y.tree.resource ≡ r → (d r).clock ≡ y.clock → All (λ m. receiver_of (system_of i) m ≡ r → IsFor i y m) all
   due r y number clock =
       all_flat (λ m. receiver_of (system_of i) m ≡ r → IsFor i y m) (λ (a : Vec Message). a.items) h.outboxes.items

@@ -1,4 +1,4 @@
--- Messages that come to resources one after another.
+-- Messages that resources receive one after another.
 use Rattle.std.proofs.Common.{◌≡◌, ◌≢◌, ℕ, ◌<◌, Some, List, [], ◌∷◌, ◌++◌, map, length, refl, sym, ap, ◌∙◌, subst, arith, All, inl, inr, ◌⊎◌}
 use Rattle.std.specs.Prelude.{slice_get, slice_set}
 use Rattle.std.specs.List.{filter}
@@ -17,7 +17,7 @@ use Rattle.fb_resource.specs.Posts.{arriving, receiver_of}
 use Rattle.fb_link.specs.Exchanges.{goes_to}
 use Rattle.fb_link.proofs.Dealt.{goes, stays}
 use Rattle.fb_resource.proofs.Lists.{set_here, set_apart}
-use Rattle.fb_resource.specs.Resources.{HasReceived, IsFor, StandsFor, with_messages}
+use Rattle.fb_resource.specs.Resources.{HasReceived, IsFor, Represents, with_messages}
 use Rattle.fb_resource.specs.declared.resource.Resource.{Resource}
 use Rattle.fb_window.specs.Mails.{AreGiven}
 use Rattle.fb_window.proofs.Delivers.{map_append}
@@ -27,7 +27,7 @@ use Rattle.fb_laws.proofs.Indexes.{has_at, is_at, one_at}
 
 -- where none come, it is as it was
 received_none : (x : Resource) → HasReceived [] x x
-received_none x = record { besides = refl; of = λ i of fit. of; stands = λ i limit of fit l s. s }
+received_none x = record { besides = refl; of = λ i of fit. of; represents = λ i limit of fit l s. s }
 
 all_front : {X : Type 0} (P : X → Type 0) (xs ys : List X) → All P (xs ++ ys) → All P xs
 all_front P [] ys h = All-nil P
@@ -37,14 +37,14 @@ all_back : {X : Type 0} (P : X → Type 0) (xs ys : List X) → All P (xs ++ ys)
 all_back P [] ys h = h
 all_back P (x ∷ xs) ys h = all_back P xs ys (All-tail P x (xs ++ ys) h)
 
--- and of one more behind the others
+-- and of one more after the others
 received_more : (ms : List Message) (m : Message) (x y z : Resource) → HasReceived ms x y → HasReceived (m ∷ []) y z → HasReceived (ms ++ m ∷ []) x z
 received_more ms m x y z f g = record {
   besides = g.besides ∙ ap (λ (u : Resource). record u { agenda = z.agenda }) f.besides;
   of = λ i of fit. g.of i (f.of i of (front i fit)) (last i fit);
-  stands = λ i limit of fit l s.
-      subst (λ (n : Local (machine (system_of i) limit)). StandsFor i limit n z) (joined i limit l)
-      (g.stands i limit (f.of i of (front i fit)) (last i fit) (with_messages i limit ms l) (f.stands i limit of (front i fit) l s));
+  represents = λ i limit of fit l s.
+      subst (λ (n : Local (machine (system_of i) limit)). Represents i limit n z) (joined i limit l)
+      (g.represents i limit (f.of i of (front i fit)) (last i fit) (with_messages i limit ms l) (f.represents i limit of (front i fit) l s));
 }
   where
     front : (i : Inputs) → All (IsFor i x) (ms ++ m ∷ []) → All (IsFor i x) ms
@@ -89,7 +89,7 @@ set_same xs i x b =
     let f = has_at (slice_set xs i x) i (omega arith) in
     f.1 ∙ ap (λ z. Some z) (sym (set_here xs i x f.0 b f.1))
 
--- one more message comes to its receiver
+-- one more message is received
 pub given_more : (sys : System) (ms : List Message) (m : Message) (xs ys : List Resource) (r : ℕ) (y z : Resource) → AreGiven sys ms xs ys → slice_get ys r ≡ Some y → receiver_of sys m ≡ r
     → HasReceived (m ∷ []) y z → AreGiven sys (ms ++ m ∷ []) xs (slice_set ys r z)
 given_more sys ms m xs ys r y z g at to h = record {

@@ -308,7 +308,7 @@ module _ (i : Inputs) (good : AreGood i) (limit horizon : ℕ) (es : List (CoreS
     settled = λ fs phase. subst (λ (z : Core M). IsSettled i limit horizon c z bounds (lists_of before) s) (sym (round fs phase).comes_to) (settled fs phase);
   }
 
--- ---- What settling comes to
+-- ---- The result of settling
 
 -- What was done when all came home, whatever they left with.
 pub record HasGathered (i : Inputs) (limit horizon : ℕ) (resting : List (Option Resource)) (before : List (Vec Line)) (dones : List WindowDone) (h : Home) (zs : List Resource) (fronts rests : List (Vec Line)) (out : List Line) (end : End) : Type 0 where

@@ -249,7 +249,7 @@ module _ (i : Inputs) (good : AreGood i) (limit horizon : ℕ) (es : List (CoreS
   as_back : (q : ℕ) (u : Resource) → slice_get (slice_set xs r y) q ≡ Some u → IsBackAs i limit (back q) q u
   as_back =
       set_each (λ q u. IsBackAs i limit (back q) q u) xs r y within
-      (subst (λ (s : Member M). IsBackAs i limit s r y) (sym (back_at r refl)) (record { number = number; of = ran.0; state = it.stands; clock = sym it.clock }))
+      (subst (λ (s : Member M). IsBackAs i limit s r y) (sym (back_at r refl)) (record { number = number; of = ran.0; state = it.represents; clock = sym it.clock }))
       (λ q u n e. subst (λ (s : Member M). IsBackAs i limit s q u) (sym (back_other q n)) (let s = at.each q u e in record { number = s.number; of = s.of; state = s.state; clock = s.clock }))
 
   due : (q : ℕ) (u : Resource) → IsBackAs i limit (back q) q u → All (IsFor i u) (filter (goes_to (system_of i) q) sent.items)
@@ -306,8 +306,8 @@ module _ (i : Inputs) (good : AreGood i) (limit horizon : ℕ) (es : List (CoreS
   parts : core_of i limit after ≡ core_after (machine (system_of i) limit) (core_of i limit es) (single_steps (machine (system_of i) limit) single)
   parts = after_append M es (single_steps M single) (start.opening M w)
 
-  pub stands : IsAt i limit (core_of i limit after) zs
-  stands = subst (λ (z : Core M). IsAt i limit z zs) (sym comes) is_at
+  pub represents : IsAt i limit (core_of i limit after) zs
+  represents = subst (λ (z : Core M). IsAt i limit z zs) (sym comes) is_at
 
   pub floors : (n : ℕ) → IsFloor (machine (system_of i) limit) (core_of i limit es) n → IsFloor (machine (system_of i) limit) (core_of i limit after) n
   floors n f = subst (λ (z : Core M). IsFloor M z n) (sym parts) (floor_stays M law w horizon (single_steps M single) c (runs_after M es) v steps n f)
@@ -373,7 +373,7 @@ module _ (i : Inputs) (good : AreGood i) (limit horizon : ℕ) (es : List (CoreS
       record {
         singles = (is_single, tt);
         schedule = schedule;
-        at = subst (λ (z : List Resource). IsAt i limit (core_of i limit after) z) (sym b_is) stands;
+        at = subst (λ (z : List Resource). IsAt i limit (core_of i limit after) z) (sym b_is) represents;
         left = λ ls h.
             subst (λ (z : List (Vec Line)). HasKept i limit horizon (core_of i limit after) (lists_of z) ls) (sym b_keeps)
             (kept ls (subst (λ (z : List (Vec Line)). HasKept i limit horizon (core_of i limit es) (lists_of z) ls) a_keeps h));

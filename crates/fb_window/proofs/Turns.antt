@@ -14,7 +14,7 @@ use Rattle.fb_types.specs.declared.run.Message.{Message}
 use Rattle.fb_types.specs.declared.value.Reason.{Reason}
 use Rattle.fb_types.proofs.Lookups.{none_some, option_cases}
 use Rattle.fb_resource.specs.Posts.{IsMessage, arriving}
-use Rattle.fb_resource.specs.Resources.{IsOf, StandsFor, RanTo}
+use Rattle.fb_resource.specs.Resources.{IsOf, Represents, RanTo}
 use Rattle.fb_resource.specs.declared.resource.Resource.{Resource}
 use Rattle.fb_window.specs.Homes.{HasCome, IsHomeAt, AreHome}
 use Rattle.fb_laws.specs.Phases.{Turn, MayTurn, turned}
@@ -34,7 +34,7 @@ module _ (i : Inputs) (limit horizon : ℕ) (c : Core (machine (system_of i) lim
     pub may : (t : Turn (machine (system_of i) limit)) → turn ≡ Some t → MayTurn (machine (system_of i) limit) horizon c r t
     pub number : y.tree.resource ≡ r
     pub of : IsOf i y
-    pub state : StandsFor i limit (turned (machine (system_of i) limit) (c r) turn).state y
+    pub state : Represents i limit (turned (machine (system_of i) limit) (c r) turn).state y
     pub clock : (turned (machine (system_of i) limit) (c r) turn).clock ≡ y.clock
     pub home : (turned (machine (system_of i) limit) (c r) turn).out ≡ None
     pub posted : (turned (machine (system_of i) limit) (c r) turn).outbox ≡ map (arriving i) sent
@@ -78,7 +78,7 @@ module _ (i : Inputs) (limit horizon : ℕ) (c : Core (machine (system_of i) lim
               may = λ u q. let f : t ≡ u = cc in subst (λ (v : Turn M). MayTurn M horizon c r v) f may_turn;
               number = number;
               of = done.0;
-              state = it.stands;
+              state = it.represents;
               clock = sym it.clock;
               home = refl;
               posted = ap (λ z. z ++ sent_by M it.items) sits.posted ∙ sym it.sent;
@@ -101,7 +101,7 @@ module _ (i : Inputs) (limit horizon : ℕ) (c : Core (machine (system_of i) lim
               may = λ u e. absurd (let f : None ≡ Some u = e in cc);
               number = ap (λ (z : Resource). z.tree.resource) h.0 ∙ sits.number;
               of = subst (λ (z : Resource). IsOf i z) same sits.of;
-              state = subst (λ (z : Resource). StandsFor i limit (c r).state z) same sits.state;
+              state = subst (λ (z : Resource). Represents i limit (c r).state z) same sits.state;
               clock = sits.clock ∙ ap (λ (z : Resource). z.clock) same;
               home = sits.home;
               posted = sits.posted ∙ ap (λ z. map (arriving i) z) (sym h.2);

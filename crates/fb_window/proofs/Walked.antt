@@ -33,7 +33,7 @@ use Rattle.fb_types.proofs.ByIndex.{all_at}
 use Rattle.fb_window.proofs.Targets.{all_by_index}
 use Rattle.fb_window.proofs.Walking.{leads_more, leads_none}
 
--- So many turns have led from the one core to the other.
+-- This many turns have led from the one core to the other.
 pub record HasGone (i : Inputs) (limit horizon : ℕ) (first core : CoreState) (k : ℕ) : Type 0 where
   pub system : core.system ≡ i
   pub steps : core.steps ≡ limit
@@ -105,7 +105,7 @@ module _ (i : Inputs) (limit horizon : ℕ) (first : CoreState) where
         (λ n p e.
         set_each (λ q (o : Vec Line). All (BelongsTo (system_of i)) o.items) old.pending.items index turned.lines within
         (subst (All (BelongsTo (system_of i))) (sym turned.joined)
-        (All-append (BelongsTo (system_of i)) turned.kept.items turned.told.items
+        (All-append (BelongsTo (system_of i)) turned.kept.items turned.added.items
         (all_at (λ (o : Vec Line). All (BelongsTo (system_of i)) o.items) old.pending.items index turned.kept gone.belong turned.kept_was) turned.ran.2))
         (λ q o apart f. all_at (λ (z : Vec Line). All (BelongsTo (system_of i)) z.items) old.pending.items q o gone.belong f)
         n p (sym (ap (λ z. slice_get z n) turned.pending) ∙ e))
@@ -119,7 +119,7 @@ module _ (i : Inputs) (limit horizon : ℕ) (first : CoreState) where
       leads = λ es sc at.
           let h = gone.leads es sc at in
           let here = after_walk i limit es h.0 in
-          let step = leads i good limit horizon here h.1.schedule old.resources.items h.1.at live m early low index turned.before turned.was next_of turned.after turned.told turned.sent stop turned.ran
+          let step = leads i good limit horizon here h.1.schedule old.resources.items h.1.at live m early low index turned.before turned.was next_of turned.after turned.added turned.sent stop turned.ran
           new.resources.items turned.given old.pending.items gone.counted turned.kept turned.lines turned.kept_was turned.joined old new refl refl refl turned.pending in
           (h.0 ++ step.0 ∷ [], leads_more i limit horizon es first old new h.0 (step.0 ∷ []) h.1 step.1, push_counted h.0 step.0 k h.2);
     }

@@ -40,7 +40,7 @@ module _ (i : Inputs) (limit horizon : ℕ) (es : List (CoreStep (machine (syste
         floors = λ m f. subst (λ (z : List (CoreStep M)). IsFloor M (core_of i limit z) m) same f;
       }
 
-  -- one walk behind another
+  -- one walk after another
   pub leads_more : (a b c : CoreState) (ts us : List (Single (machine (system_of i) limit))) → Leads i limit horizon es a b ts → Leads i limit horizon (after_walk i limit es ts) b c us
       → Leads i limit horizon es a c (ts ++ us)
   leads_more a b c ts us f g =

@@ -64,7 +64,7 @@ module _ (m : ℕ) (xs : List Resource) where
 
 -- ---- Stops
 
--- the least stop of the first so many, if one of them has stopped
+-- the least stop of the first ones, if one of them has stopped
 abbrev pub FirstOf : List Resource → (n : ℕ) → Option StopMark → Type 0
 FirstOf xs n None = (r : ℕ) (x : Resource) → r < n → slice_get xs r ≡ Some x → x.stopped ≡ None
 FirstOf xs n (Some m) = IsFirstStop xs n m
@@ -129,9 +129,9 @@ module _ (xs : List Resource) where
   stopped_open horizon m f h = let t = f.there in none_some _ _ (h m.resource t.0 t.1).0 t.2
 
   -- nor is there a least stop that all are past, where one that has not stopped is not past the least
-  pub behind_open : (m : StopMark) → IsFirstStop xs (length xs) m → (r : ℕ) (x : Resource) → slice_get xs r ≡ Some x → x.stopped ≡ None → x.clock ≤ m.tick
+  pub after_open : (m : StopMark) → IsFirstStop xs (length xs) m → (r : ℕ) (x : Resource) → slice_get xs r ≡ Some x → x.stopped ≡ None → x.clock ≤ m.tick
       → (n : StopMark) → IsFirstStop xs (length xs) n → AreAllPast n.tick xs → ⊥
-  behind_open m f r x at live low n g past = let e = first_tick m n f g in let b : n.tick < x.clock = past r x at live in absurd (omega arith)
+  after_open m f r x at live low n g past = let e = first_tick m n f g in let b : n.tick < x.clock = past r x at live in absurd (omega arith)
 
   -- where the pass has found none, nobody has stopped
   pub none_found : (n : ℕ) (o : Option StopMark) → length xs ≤ n → FirstOf xs n o → IfNone o (AreLive xs)
@@ -144,7 +144,7 @@ module _ (xs : List Resource) where
 
 -- ---- Lines
 
--- Where ticks do not fall, and the first so many are below the tick, and the next is not, this is the cut.
+-- Where ticks do not fall, and the first ones are below the tick, and the next is not, this is the cut.
 pub cut_at : (tick n : ℕ) (xs : List Line) → ((k : ℕ) (x : Line) → slice_get xs k ≡ Some x → k < n → tick_of x < tick) → ((k : ℕ) (x : Line) → slice_get xs k ≡ Some x → n ≤ k → tick ≤ tick_of x)
     → (take n xs ≡ filter (λ x. nat_lt x.key.tick tick) xs) × (drop n xs ≡ filter (λ x. not (nat_lt x.key.tick tick)) xs)
 cut_at tick zero [] low high = (refl, refl)
@@ -228,7 +228,7 @@ split_point tick n xs before from p q point = record {
 
 -- ---- Lists that were cut
 
--- the first so many lists are cut
+-- the first lists are cut
 pub record AreCutTo (e : Edge) (lists : List (Vec Line)) (n : ℕ) (befores froms : List (Vec Line)) : Type 0 where
   pub fronts : length befores ≡ n
   pub rests : length froms ≡ n
@@ -271,7 +271,7 @@ cut_every e lists n befores froms h same = record {
 
 -- ---- Messages that were delivered
 
--- the first so many resources have received
+-- the first resources have received
 pub record AreDeliveredTo (xs : List Resource) (boxes : List (Vec Message)) (n : ℕ) (ys : List Resource) : Type 0 where
   pub counted : length ys ≡ n
   pub each : (r : ℕ) (x : Resource) → r < n → slice_get xs r ≡ Some x

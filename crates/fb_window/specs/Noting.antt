@@ -7,14 +7,14 @@ use Rattle.fb_resource.specs.Resources.{HasReceived}
 use Rattle.fb_resource.specs.declared.resource.Resource.{Resource}
 
 -- The tick is that of the resource's next event where it is below the horizon; nothing waits below it.
-pub record IsNoted (horizon : ℕ) (x : Resource) (tick : ℕ) : Type 0 where
+pub record IsCurrent (horizon : ℕ) (x : Resource) (tick : ℕ) : Type 0 where
   pub rests : (j : Key) → j.tick < tick → waiting x.agenda j ≡ None
   pub next : tick < horizon → IsNext x.agenda tick
 
 -- So it is for each resource.
-pub record AreNoted (horizon : ℕ) (xs : List Resource) (ticks : List ℕ) : Type 0 where
+pub record AreCurrent (horizon : ℕ) (xs : List Resource) (ticks : List ℕ) : Type 0 where
   pub counted : length ticks ≡ length xs
-  pub each : (r : ℕ) (x : Resource) (tick : ℕ) → slice_get xs r ≡ Some x → slice_get ticks r ≡ Some tick → IsNoted horizon x tick
+  pub each : (r : ℕ) (x : Resource) (tick : ℕ) → slice_get xs r ≡ Some x → slice_get ticks r ≡ Some tick → IsCurrent horizon x tick
 
 -- One resource has received messages, and all others are as they were.
 pub record IsHanded (index : ℕ) (ms : List Message) (xs ys : List Resource) : Type 0 where

@@ -42,7 +42,7 @@ pub record MayGo (i : Inputs) (limit horizon : ℕ) (xs : List Resource) (bounds
   pub legal : AreLegal i limit horizon (core_of i limit steps) bounds
 
 -- What remains of such a core, where its resources have left with legal bounds.
-pub record IsBehind (a : AwayState) : Type 0 where
+pub record IsAway (a : AwayState) : Type 0 where
   pub resources : List Resource
   pub bounds : List ℕ
   pub left : HasLeft resources bounds a

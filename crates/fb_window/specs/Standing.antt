@@ -5,14 +5,14 @@ use Rattle.fb_types.specs.Machines.{Machine, waiting}
 use Rattle.fb_types.specs.Parts.{machine, count_of}
 use Rattle.fb_types.specs.Cores.{Core, Member}
 use Rattle.fb_types.specs.declared.key.Key.{Key}
-use Rattle.fb_resource.specs.Resources.{IsOf, StandsFor}
+use Rattle.fb_resource.specs.Resources.{IsOf, Represents}
 use Rattle.fb_resource.specs.declared.resource.Resource.{Resource}
 
 -- The resource at an index is what a member of the core has there: at home, with an empty outbox.
 pub record Sits (i : Inputs) (limit : ℕ) (m : Member (machine (system_of i) limit)) (r : ℕ) (x : Resource) : Type 0 where
   pub number : x.tree.resource ≡ r
   pub of : IsOf i x
-  pub state : StandsFor i limit m.state x
+  pub state : Represents i limit m.state x
   pub clock : m.clock ≡ x.clock
   pub home : m.out ≡ None
   pub posted : m.outbox ≡ []

@@ -83,13 +83,13 @@ Walks i limit horizon most before after =
 pub record HasTurned (i : Inputs) (limit index to : ℕ) (old new : CoreState) (stop : Option StopMark) : Type 0 where
   pub before : Resource
   pub after : Resource
-  pub told : Vec Line
+  pub added : Vec Line
   pub sent : Vec Message
   pub was : slice_get old.resources.items index ≡ Some before
-  pub ran : HasRun i limit before to (Ran after told sent stop)
+  pub ran : HasRun i limit before to (Ran after added sent stop)
   pub given : AreGiven (system_of i) sent.items (slice_set old.resources.items index after) new.resources.items
   pub kept : Vec Line
   pub lines : Vec Line
   pub kept_was : slice_get old.pending.items index ≡ Some kept
-  pub joined : lines.items ≡ kept.items ++ told.items
+  pub joined : lines.items ≡ kept.items ++ added.items
   pub pending : new.pending.items ≡ slice_set old.pending.items index lines

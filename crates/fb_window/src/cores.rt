@@ -87,7 +87,7 @@ pub struct Away {
 }
 
 impl Model for Away {
-    ghost use Rattle.fb_window.specs.Reached.{IsBehind};
+    ghost use Rattle.fb_window.specs.Reached.{IsAway};
     ghost use Rattle.fb_window.specs.declared.cores.AwayState.{AwayState};
     ghost use Rattle.fb_window.specs.contracts.cores.AwayState.{the_row};
 
@@ -97,7 +97,7 @@ impl Model for Away {
 
     ghost view = { λ a. a.state };
 
-    ghost invariant = { λ a. IsBehind a.state };
+    ghost invariant = { λ a. IsAway a.state };
 }
 
 /// How far the run is when all resources are home again.

@@ -4,7 +4,7 @@ ghost use Rattle.std.specs.Prelude.{◌≡◌, ◌<◌, ◌≤◌, ℕ, List, No
 ghost use Rattle.fb_agenda.specs.Agendas.{IsNext, waiting};
 ghost use Rattle.fb_resource.specs.declared.resource.Resource.{Resource};
 ghost use Rattle.fb_types.specs.declared.key.Key.{Key};
-ghost use Rattle.fb_window.specs.Noting.{AreNoted, IsNoted};
+ghost use Rattle.fb_window.specs.Noting.{AreCurrent, IsCurrent};
 
 use fb_resource::Resource;
 use std::alloc::{AllocError, Global};
@@ -21,7 +21,7 @@ pub(crate) struct Nexts {
 
 /// The tick of a resource's next event, or the horizon where none comes before it.
 fn next_of(resource: &Resource, horizon: u64) -> u64
-    ensures { IsNoted horizon resource.now result }
+    ensures { IsCurrent horizon resource.now result }
 {
     match resource.next() {
         Some(tick) => tick.min(horizon),
@@ -57,7 +57,7 @@ impl Nexts {
         horizon: u64,
     ) -> Result<Nexts, AllocError>
         ensures horizon { IfOk result (λ n. n.horizon ≡ horizon) }
-        ensures noted { IfOk result (λ n. AreNoted horizon resources.now n.ticks.items) }
+        ensures current { IfOk result (λ n. AreCurrent horizon resources.now n.ticks.items) }
     {
         let mut ticks = Vec::with_capacity(alloc, resources.len())?;
         for resource in resources {
@@ -67,11 +67,11 @@ impl Nexts {
     }
 
     /// Looks again at the resource at an index.
-    pub(crate) fn note(&mut self, index: usize, resource: &Resource)
+    pub(crate) fn look_again(&mut self, index: usize, resource: &Resource)
         requires { index < length self.old.ticks.items }
         ensures horizon { self.new.horizon ≡ self.old.horizon }
-        ensures noted { (xs : List Resource) → AreNoted self.old.horizon xs self.old.ticks.items
-            → AreNoted self.new.horizon (slice_set xs index resource.now) self.new.ticks.items }
+        ensures current { (xs : List Resource) → AreCurrent self.old.horizon xs self.old.ticks.items
+            → AreCurrent self.new.horizon (slice_set xs index resource.now) self.new.ticks.items }
     {
         self.ticks[index] = next_of(resource, self.horizon);
     }
@@ -80,9 +80,9 @@ impl Nexts {
     /// comes before it.
     pub(crate) fn least(&self) -> (usize, u64)
         ensures cap { result.1 ≤ self.now.horizon }
-        ensures low { (xs : List Resource) → AreNoted self.now.horizon xs self.now.ticks.items
+        ensures low { (xs : List Resource) → AreCurrent self.now.horizon xs self.now.ticks.items
             → (r : ℕ) (x : Resource) (j : Key) → slice_get xs r ≡ Some x → j.tick < result.1 → waiting x.agenda j ≡ None }
-        ensures there { (xs : List Resource) → AreNoted self.now.horizon xs self.now.ticks.items
+        ensures there { (xs : List Resource) → AreCurrent self.now.horizon xs self.now.ticks.items
             → result.1 < self.now.horizon → (x : Resource) × (slice_get xs result.0 ≡ Some x) × IsNext x.agenda result.1 }
     {
         first_least(&self.ticks, self.horizon)

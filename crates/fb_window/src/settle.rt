@@ -10,7 +10,7 @@ ghost use Rattle.fb_resource.specs.declared.resource.Resource.{Resource};
 ghost use Rattle.fb_laws.specs.Finality.{core_of};
 ghost use Rattle.fb_window.specs.Jobs.{Does};
 ghost use Rattle.fb_window.specs.Leaving.{AreLegal, HasLeft};
-ghost use Rattle.fb_window.specs.Reached.{IsBehind};
+ghost use Rattle.fb_window.specs.Reached.{IsAway};
 ghost use Rattle.fb_window.specs.Settling.{Settles, lists_of};
 ghost use Rattle.fb_window.specs.Standing.{IsAt};
 
@@ -36,7 +36,7 @@ impl AwayState {
         dones: Vec<WindowDone>,
     ) -> Result<Settled, Failed>
         requires system { system.now ≡ self.system }
-        requires behind { IsBehind self }
+        requires away { IsAway self }
         requires done { AllZip Does self.jobs.value.items dones.items }
         ensures { IfOk result (λ s. (xs : List Resource) (bounds : List ℕ) (es : List (CoreStep (machine (system_of self.system) self.steps))) (workers : ℕ → ℕ)
             → HasLeft xs bounds self

@@ -11,7 +11,7 @@ ghost use Rattle.fb_system.specs.Lines.{BelongsTo};
 ghost use Rattle.fb_laws.specs.Finality.{core_of};
 ghost use Rattle.fb_window.specs.Frontiers.{AreLive};
 ghost use Rattle.fb_window.specs.Mails.{AreGiven};
-ghost use Rattle.fb_window.specs.Noting.{AreNoted, IsHanded};
+ghost use Rattle.fb_window.specs.Noting.{AreCurrent, IsHanded};
 ghost use Rattle.fb_window.specs.Reached.{KeepHorizon};
 ghost use Rattle.fb_window.specs.Standing.{IsAt};
 ghost use Rattle.fb_window.specs.Walking.{HasTurned, Walks};
@@ -33,14 +33,14 @@ fn hand(
     messages: Vec<Message>,
 ) -> Result<(), AllocError>
     requires index { index < length resources.old.items }
-    requires noted { AreNoted nexts.old.horizon resources.old.items nexts.old.ticks.items }
+    requires current { AreCurrent nexts.old.horizon resources.old.items nexts.old.ticks.items }
     ensures horizon { nexts.new.horizon ≡ nexts.old.horizon }
-    ensures noted { OnOk result (AreNoted nexts.new.horizon resources.new.items nexts.new.ticks.items) }
+    ensures current { OnOk result (AreCurrent nexts.new.horizon resources.new.items nexts.new.ticks.items) }
     ensures handed { OnOk result (IsHanded index messages.items resources.old.items resources.new.items) }
 {
     match resources[index].receive(messages) {
         Ok(()) => {
-            nexts.note(index, &resources[index]);
+            nexts.look_again(index, &resources[index]);
             Ok(())
         }
         Err((error, _messages)) => Err(error),
@@ -57,9 +57,9 @@ fn give_one(
     requires one { length sent.items ≡ 1 }
     requires targets { All (λ m. m.target.instance < length (system_of system.now).paths) sent.items }
     requires counted { length resources.old.items ≡ count_of (system_of system.now) }
-    requires noted { AreNoted nexts.old.horizon resources.old.items nexts.old.ticks.items }
+    requires current { AreCurrent nexts.old.horizon resources.old.items nexts.old.ticks.items }
     ensures horizon { nexts.new.horizon ≡ nexts.old.horizon }
-    ensures noted { OnOk result (AreNoted nexts.new.horizon resources.new.items nexts.new.ticks.items) }
+    ensures current { OnOk result (AreCurrent nexts.new.horizon resources.new.items nexts.new.ticks.items) }
     ensures given { OnOk result (AreGiven (system_of system.now) sent.items resources.old.items resources.new.items) }
 {
     system.facts();
@@ -78,9 +78,9 @@ fn give(
 ) -> Result<(), AllocError>
     requires targets { All (λ m. m.target.instance < length (system_of system.now).paths) sent.items }
     requires counted { length resources.old.items ≡ count_of (system_of system.now) }
-    requires noted { AreNoted nexts.old.horizon resources.old.items nexts.old.ticks.items }
+    requires current { AreCurrent nexts.old.horizon resources.old.items nexts.old.ticks.items }
     ensures horizon { OnOk result (nexts.new.horizon ≡ nexts.old.horizon) }
-    ensures noted { OnOk result (AreNoted nexts.new.horizon resources.new.items nexts.new.ticks.items) }
+    ensures current { OnOk result (AreCurrent nexts.new.horizon resources.new.items nexts.new.ticks.items) }
     ensures given { OnOk result (AreGiven (system_of system.now) sent.items resources.old.items resources.new.items) }
 {
     if sent.len() == 1 {
@@ -115,9 +115,9 @@ impl CoreState {
         requires ahead { (x : Resource) → slice_get self.old.resources.items index ≡ Some x → x.clock ≤ to }
         requires early { to ≤ 10 ^ 12 }
         requires few_steps { self.old.steps ≤ 10 ^ 7 }
-        requires noted { AreNoted nexts.old.horizon self.old.resources.items nexts.old.ticks.items }
+        requires current { AreCurrent nexts.old.horizon self.old.resources.items nexts.old.ticks.items }
         ensures horizon { OnOk result (nexts.new.horizon ≡ nexts.old.horizon) }
-        ensures noted { OnOk result (AreNoted nexts.new.horizon self.new.resources.items nexts.new.ticks.items) }
+        ensures current { OnOk result (AreCurrent nexts.new.horizon self.new.resources.items nexts.new.ticks.items) }
         ensures system { OnOk result (self.new.system ≡ self.old.system) }
         ensures steps { OnOk result (self.new.steps ≡ self.old.steps) }
         ensures turned { IfOk result (HasTurned self.old.system self.old.steps index to self.old self.new) }
@@ -125,7 +125,7 @@ impl CoreState {
         let steps = self.steps;
         let output = self.resources[index].run_here(alloc, system, to, steps)?;
         append_lines(&mut self.pending[index], output.lines)?;
-        nexts.note(index, &self.resources[index]);
+        nexts.look_again(index, &self.resources[index]);
         give(alloc, system, &mut self.resources, nexts, output.sent)?;
         Ok(output.stop)
     }
@@ -212,7 +212,7 @@ fn take_turns(
     requires pending { All (λ p. All (BelongsTo (system_of core.old.system)) p.items) core.old.pending.items }
     requires live { AreLive core.old.resources.items }
     requires same { nexts.old.horizon ≡ horizon }
-    requires noted { AreNoted nexts.old.horizon core.old.resources.items nexts.old.ticks.items }
+    requires current { AreCurrent nexts.old.horizon core.old.resources.items nexts.old.ticks.items }
     requires early { horizon ≤ 10 ^ 12 }
     requires few_steps { core.old.steps ≤ 10 ^ 7 }
     ensures system { OnOk result (core.new.system ≡ core.old.system) }

@@ -160,13 +160,13 @@ module _ (g : ValueParser → ValueParser) (alike : IsAlike g) where
   defaults_fault_is rows (a ∷ c) = ap₂ or_else (default_fault_is rows a)
       (ap (λ rs. defaults_fault rs (all c)) (with_default_is g alike rows a) ∙ defaults_fault_is (with_default rows a) c)
 
-  wanted_is : (rows : List Row) (c : List Rule) → list_any (λ a. a.required && not (is_given a.id rows)) (all c) ≡ list_any (λ a. a.required && not (is_given a.id rows)) c
-  wanted_is rows [] = refl
-  wanted_is rows (a ∷ c) = ap (λ b. (a.required && not (is_given a.id rows)) || b) (wanted_is rows c)
+  required_is : (rows : List Row) (c : List Rule) → list_any (λ a. a.required && not (is_given a.id rows)) (all c) ≡ list_any (λ a. a.required && not (is_given a.id rows)) c
+  required_is rows [] = refl
+  required_is rows (a ∷ c) = ap (λ b. (a.required && not (is_given a.id rows)) || b) (required_is rows c)
 
   check_fault_is : (s : Shape) (rows : List Row) (b : Bool) → check_fault (shape s) rows b ≡ check_fault s rows b
   check_fault_is s rows b = ap (λ x. check_kinds (not b && (s.arg_required_else_help && not (list_any (λ r. explicit_source r.source) rows)))
-      (not b && s.subcommand_required) (not (s.subcommand_negates_reqs && b) && x)) (wanted_is rows s.rules)
+      (not b && s.subcommand_required) (not (s.subcommand_negates_reqs && b) && x)) (required_is rows s.rules)
 
   level_fault_is : (s : Shape) (names : Names) (h : Held) (words : List Text) (b : Bool) (below : Kinds) → level_fault (shape s) names h words b below ≡ level_fault s names h words b below
   level_fault_is s names h words b below =

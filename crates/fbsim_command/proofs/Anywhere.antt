@@ -4,7 +4,7 @@ use Rattle.std.specs.Prelude.{◌&&◌, ◌||◌}
 use Rattle.std.specs.List.{list_any}
 use Rattle.std.proofs.lemmas.Bool.{cases_eq}
 use Rattle.std.proofs.lemmas.List.{drop_more}
-use Rattle.fb_system.specs.Stands.{AreIndexes, variable_at}
+use Rattle.fb_system.specs.IndexLists.{AreIndexes, variable_at}
 use Rattle.fb_types.specs.Names.{Name}
 use Rattle.fb_types.specs.Systems.{System}
 use Rattle.fb_types.specs.declared.library.Variable.{Variable}

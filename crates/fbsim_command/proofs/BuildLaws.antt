@@ -6,30 +6,30 @@ use Rattle.clap.specs.declared.builder.arg.Arg.{Arg}
 use Rattle.clap.specs.declared.builder.command.Command.{Command}
 use Rattle.clap.specs.declared.builder.command.Command.TheViews.{out-Command as fields_of}
 
--- what a command stands for, and that nothing in it is global
-pub record Stands (c : Command) (a : App) : Type 0 where
+-- what a command represents, and that nothing in it is global
+pub record Builds (c : Command) (a : App) : Type 0 where
   pub app : app_of c ≡ a
   pub local : (fields_of c).has_globals ≡ false
 
 -- one more argument
-pub grown : (old new : Command) (x : Arg) (a : App) (r : Rule) → AddsArg old x new → x.global ≡ false → rule_of x ≡ r → Stands old a → Stands new (with_rule a r)
+pub grown : (old new : Command) (x : Arg) (a : App) (r : Rule) → AddsArg old x new → x.global ≡ false → rule_of x ≡ r → Builds old a → Builds new (with_rule a r)
 grown old new x a r adds local is at =
     record {
       app = adds.shape local ∙ ap (λ (b : App). with_rule b (rule_of x)) at.app ∙ ap (with_rule a) is;
       local = adds.globals ∙ ap (λ (b : Bool). b || x.global) at.local ∙ local;
     }
 
-pub grown_well : {E : Type 0} (old : Command) (made : Result Command E) (x : Arg) (a : App) (r : Rule) → IfOk made (AddsArg old x) → x.global ≡ false → rule_of x ≡ r → Stands old a
-    → IfOk made (λ c. Stands c (with_rule a r))
+pub grown_well : {E : Type 0} (old : Command) (made : Result Command E) (x : Arg) (a : App) (r : Rule) → IfOk made (AddsArg old x) → x.global ≡ false → rule_of x ≡ r → Builds old a
+    → IfOk made (λ c. Builds c (with_rule a r))
 grown_well old (Err e) x a r adds local is at = tt
 grown_well old (Ok new) x a r adds local is at = grown old new x a r adds local is at
 
 -- what is asked of the command that is made
-pub app_well : {E : Type 0} (made : Result Command E) (a : App) → IfOk made (λ c. Stands c a) → IfOk made (λ c. app_of c ≡ a)
+pub app_well : {E : Type 0} (made : Result Command E) (a : App) → IfOk made (λ c. Builds c a) → IfOk made (λ c. app_of c ≡ a)
 app_well (Err e) a at = tt
 app_well (Ok c) a at = at.app
 
-pub local_well : {E : Type 0} (made : Result Command E) (a : App) → IfOk made (λ c. Stands c a) → IfOk made (λ c. (fields_of c).has_globals ≡ false)
+pub local_well : {E : Type 0} (made : Result Command E) (a : App) → IfOk made (λ c. Builds c a) → IfOk made (λ c. (fields_of c).has_globals ≡ false)
 local_well (Err e) a at = tt
 local_well (Ok c) a at = at.local
 
@@ -41,9 +41,9 @@ joined old new sub a b adds local is of = adds.shape local ∙ ap₂ with_subcom
 pub made_so : {M E : Type 0} (r : Result M E) (x : M) (P : M → Type 0) → IfOk r P → r ≡ Ok x → P x
 made_so {M} {E} r x P holds is = subst (λ (s : Result M E). IfOk s P) is holds
 
--- what a command that may not be there stands for, and that nothing in it is global
+-- what a command that may not be there represents, and that nothing in it is global
 pub stands_well :
-    {E : Type 0} (made : Result Command E) (a : App) → IfOk made (λ c. app_of c ≡ a) → IfOk made (λ c. (fields_of c).has_globals ≡ false) → IfOk made (λ c. Stands c a)
+    {E : Type 0} (made : Result Command E) (a : App) → IfOk made (λ c. app_of c ≡ a) → IfOk made (λ c. (fields_of c).has_globals ≡ false) → IfOk made (λ c. Builds c a)
 stands_well (Err e) a app local = tt
 stands_well (Ok c) a app local = record { app = app; local = local }
 
@@ -53,9 +53,9 @@ AddsArgTo before x new = (old : Command) × (before ≡ Ok old) × AddsArg old x
 
 pub grown_on :
     {E : Type 0} (before made : Result Command E) (x : Arg) (a : App) (r : Rule) → IfOk made (AddsArgTo before x) → x.global ≡ false → rule_of x ≡ r
-    → IfOk before (λ c. Stands c a) → IfOk made (λ c. Stands c (with_rule a r))
+    → IfOk before (λ c. Builds c a) → IfOk made (λ c. Builds c (with_rule a r))
 grown_on before (Err e) x a r adds local is at = tt
-grown_on before (Ok new) x a r adds local is at = grown adds.0 new x a r adds.2 local is (made_so before adds.0 (λ c. Stands c a) at adds.1)
+grown_on before (Ok new) x a r adds local is at = grown adds.0 new x a r adds.2 local is (made_so before adds.0 (λ c. Builds c a) at adds.1)
 
 -- one more subcommand, where both may not be there
 abbrev pub AddsSubcommandTo : {E : Type 0} → (before sub : Result Command E) → Command → Type 0
@@ -69,12 +69,12 @@ subcommand_added before sub (Ok new) old s is of adds = (old, s, is, of, adds)
 
 pub joined_on :
     {E : Type 0} (before sub made : Result Command E) (a b : App) → IfOk made (AddsSubcommandTo before sub) → IfOk before (λ c. app_of c ≡ a)
-    → IfOk sub (λ c. Stands c b) → IfOk made (λ c. app_of c ≡ with_subcommand a b.top)
+    → IfOk sub (λ c. Builds c b) → IfOk made (λ c. app_of c ≡ with_subcommand a b.top)
 joined_on before sub (Err e) a b adds is of = tt
 joined_on before sub (Ok new) a b adds is of =
-    let joins : Stands adds.1 b = made_so sub adds.1 (λ c. Stands c b) of adds.3 in
+    let joins : Builds adds.1 b = made_so sub adds.1 (λ c. Builds c b) of adds.3 in
     joined adds.0 new adds.1 a b adds.4 joins.local (made_so before adds.0 (λ c. app_of c ≡ a) is adds.2) joins.app
 
--- what a command that may not be there stands for, in other words
+-- what a command that may not be there represents, in other words
 pub app_on : {E : Type 0} (made : Result Command E) (f : App → App) (a b : App) → IfOk made (λ c. app_of c ≡ f a) → a ≡ b → IfOk made (λ c. app_of c ≡ f b)
 app_on made f a b at is = subst (λ x. IfOk made (λ c. app_of c ≡ f x)) is at

@@ -1,10 +1,11 @@
--- The declaration in which the names of rules are to be, where one is named.
-use Rattle.std.proofs.Common.{◌≡◌, Bor, Option, Some, None, Ok, Err, Result, refl, sym, ap, subst, inl, inr}
+-- The declaration in which the names of rules must be, where one is named.
+use Rattle.std.proofs.Common.{◌≡◌, ℕ, Bor, List, [], map, Option, Some, None, Ok, Err, Result, refl, sym, ap, subst, inl, inr}
 use Rattle.clap.specs.Words.{Text}
 use Rattle.fb_sim.specs.Given.{Given}
-use Rattle.fbsim_command.specs.Expecting.{AreRulesRead, AreUnread, Expects, Holds, IsUndeclared, MayDeclare, NotesRules, asked_rules, files_of}
+use Rattle.fbsim_command.specs.Expecting.{AreRulesRead, AreUnread, Expects, Holds, IsUndeclared, MayDeclare, NotesRules, asked_rules, files_of, own_of, types_of}
 use Rattle.fbsim_command.specs.Failures.{failure_of_source}
 use Rattle.fbsim_command.specs.Outcomes.{End, Held}
+use Rattle.fbsim_command.specs.OwnLines.{EndsIn}
 use Rattle.fbsim_command.specs.Reading.{Reading, AreRead, IsUnread}
 use Rattle.fbsim_command.specs.Showing.{Opening}
 use Rattle.fbsim_command.specs.declared.bench_line.Expect.{Expect}
@@ -13,20 +14,26 @@ use Rattle.fbsim_command.specs.declared.line.Task.{Task}
 use Rattle.fbsim_command.specs.declared.sources.SourceFault.{SourceFault}
 use Rattle.fbsim_command.specs.declared.texts.Part.{Part}
 
-pub declares-none : {S : Type 0} (reads : Reading S) (x : Expect) (o : Option (Bor Text)) (s : S) → o ≡ None → MayDeclare reads x o s s None
-declares-none reads x o s none = subst (λ (o : Option (Bor Text)). MayDeclare reads x o s s None) (sym none) refl
+pub declares-none : {S : Type 0} (reads : Reading S) (x : Expect) (o : Option (Bor Text)) (s : S) → o ≡ None → MayDeclare reads x o s s [] None
+declares-none reads x o s none = subst (λ (o : Option (Bor Text)). MayDeclare reads x o s s [] None) (sym none) (refl, refl)
+
+-- the names of the files of block types, as a slice has them
+abbrev names : List (Bor Text) → List Text
+names ns = map (λ (n : Bor Text). n.now) ns
 
 pub declares :
-    {S : Type 0} (reads : Reading S) (x : Expect) (o : Option (Bor Text)) (name : Bor Text) (old new : S) (given : Given) (task : Task) → o ≡ Some name → task ≡ files_of x name
-    → AreRead reads task old new given → MayDeclare reads x o old new (Some given)
-declares reads x o name old new given task is same read =
-    subst (λ (o : Option (Bor Text)). MayDeclare reads x o old new (Some given)) (sym is) (subst (λ (k : Task). AreRead reads k old new given) same read)
+    {S : Type 0} (reads : Reading S) (x : Expect) (o : Option (Bor Text)) (name : Bor Text) (old new : S) (lines : List ℕ) (given : Given) (types : List (Bor Text)) (task : Task) → o ≡ Some name
+    → types ≡ x.types.items → task ≡ files_of x name → AreRead reads (names types) task old new lines given → MayDeclare reads x o old new lines (Some given)
+declares reads x o name old new lines given types task is typed same read =
+    subst (λ (o : Option (Bor Text)). MayDeclare reads x o old new lines (Some given)) (sym is)
+    (subst (λ (k : Task). AreRead reads (types_of x) k old new lines given) same (subst (λ (ns : List (Bor Text)). AreRead reads (names ns) task old new lines given) typed read))
 
 pub undeclared :
-    {S : Type 0} (reads : Reading S) (x : Expect) (o : Option (Bor Text)) (name : Bor Text) (old new : S) (part : Part) (fault : SourceFault) (task : Task) → o ≡ Some name → task ≡ files_of x name
-    → IsUnread reads task old new part fault → IsUndeclared reads x o old new part fault
-undeclared reads x o name old new part fault task is same unread =
-    subst (λ (o : Option (Bor Text)). IsUndeclared reads x o old new part fault) (sym is) (subst (λ (k : Task). IsUnread reads k old new part fault) same unread)
+    {S : Type 0} (reads : Reading S) (x : Expect) (o : Option (Bor Text)) (name : Bor Text) (old new : S) (part : Part) (fault : SourceFault) (types : List (Bor Text)) (task : Task) → o ≡ Some name
+    → types ≡ x.types.items → task ≡ files_of x name → IsUnread reads (names types) task old new part fault → IsUndeclared reads x o old new part fault
+undeclared reads x o name old new part fault types task is typed same unread =
+    subst (λ (o : Option (Bor Text)). IsUndeclared reads x o old new part fault) (sym is)
+    (subst (λ (k : Task). IsUnread reads (types_of x) k old new part fault) same (subst (λ (ns : List (Bor Text)). IsUnread reads (names ns) task old new part fault) typed unread))
 
 -- ---- The call
 
@@ -38,8 +45,18 @@ module _ {S : Type 0} (reads : Reading S) (opens : Opening S) (x : Expect) (a : 
 
   -- all are
   pub read-and-held :
-      (old mid between new : S) (b : Held) (bytes : Text) (declared : Option Given) (end : End) (note : Option Text) → reads old x.rules.now asked_rules (Ok bytes) mid
-      → MayDeclare reads x x.declaration mid between declared → Holds opens x between new bytes declared a b end → NotesRules bytes declared x.why end note
-      → Expects reads opens old new x a b end note
-  read-and-held old mid between new b bytes declared end note rules declaration done noted =
-      inl (record { between = between; bytes = bytes; declared = declared; read = record { between = mid; rules = rules; declaration = declaration }; done = done; noted = noted })
+      (old mid between new : S) (b : Held) (bytes : Text) (lines : List ℕ) (declared : Option Given) (inner end : End) (note : Option Text) → reads old x.rules.now asked_rules (Ok bytes) mid
+      → MayDeclare reads x x.declaration mid between lines declared → Holds opens x between new bytes declared a b inner → NotesRules x bytes lines declared inner note
+      → EndsIn (types_of x) (own_of x.declaration) lines inner end → Expects reads opens old new x a b end note
+  read-and-held old mid between new b bytes lines declared inner end note rules declaration done noted ends =
+      inl (record {
+        between = between;
+        bytes = bytes;
+        lines = lines;
+        declared = declared;
+        read = record { between = mid; rules = rules; declaration = declaration };
+        inner = inner;
+        done = done;
+        noted = noted;
+        ends = ends;
+      })

@@ -64,16 +64,16 @@ pub refused : (given : Given) (asked : Option Text) (error : RunError) → IsRef
 refused given asked (run.Refused r) is = refusal r is
   where
     numbered : (r : sim.Refusal) → IsRightly given r → (o : Option ℕ) → failure_of (run.Refused r) ≡ numbered_input o → IsUndrawn given asked (numbered_input o)
-    numbered r is (Some n) told = inl (record { error = run.Refused r; refused = is; told = told })
-    numbered r is None told = tt
+    numbered r is (Some n) reported = inl (record { error = run.Refused r; refused = is; reported = reported })
+    numbered r is None reported = tt
 
     unread : (e : ReadError) → IsRightly given (of.Declaration e) → IsUndrawn given asked (failure_of (run.Refused (of.Declaration e)))
     unread read.Memory is = tt
-    unread read.Byte is = inl (record { error = run.Refused (of.Declaration read.Byte); refused = is; told = refl })
-    unread read.Token is = inl (record { error = run.Refused (of.Declaration read.Token); refused = is; told = refl })
-    unread (read.Syntax line) is = inl (record { error = run.Refused (of.Declaration (read.Syntax line)); refused = is; told = refl })
-    unread read.TooLong is = inl (record { error = run.Refused (of.Declaration read.TooLong); refused = is; told = refl })
-    unread read.Nesting is = inl (record { error = run.Refused (of.Declaration read.Nesting); refused = is; told = refl })
+    unread read.Byte is = inl (record { error = run.Refused (of.Declaration read.Byte); refused = is; reported = refl })
+    unread read.Token is = inl (record { error = run.Refused (of.Declaration read.Token); refused = is; reported = refl })
+    unread (read.Syntax line) is = inl (record { error = run.Refused (of.Declaration (read.Syntax line)); refused = is; reported = refl })
+    unread read.TooLong is = inl (record { error = run.Refused (of.Declaration read.TooLong); refused = is; reported = refl })
+    unread read.Nesting is = inl (record { error = run.Refused (of.Declaration read.Nesting); refused = is; reported = refl })
 
     refusal : (r : sim.Refusal) → IsRightly given r → IsUndrawn given asked (failure_of (run.Refused r))
     refusal (of.Declaration e) is = unread e is

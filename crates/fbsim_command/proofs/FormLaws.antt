@@ -1,4 +1,4 @@
--- Where the words of the forms lie in memory changes no answer of the parser.
+-- Where the words of the forms are in memory changes no answer of the parser.
 use Rattle.std.proofs.Common.{◌≡◌, ◌∙◌, Bool, List, [], ◌∷◌, map, drop, refl, sym, ap}
 use Rattle.std.specs.Borrow.{Bor}
 use Rattle.clap.specs.Values.{reading_of, refused_kind, same_text}

@@ -5,7 +5,7 @@ use Rattle.std.specs.Io.KnownBytes.{Consumes, IsAtEnd}
 use Rattle.std.proofs.KnownBytes.{Consumes-trans}
 use Rattle.std.proofs.lemmas.List.{take_all, take_at}
 
--- as many as are wanted were read
+-- as many as are required were read
 pub front_full :
     (old new : Option (List ℕ)) (bytes : List ℕ) (most : ℕ) → length bytes ≡ most → Consumes old new bytes → IfSome old (λ all. bytes ≡ take most all)
 front_full None new bytes most full read = tt

@@ -52,13 +52,13 @@ unopened opens old new name source.Memory is = tt
 pub refused-at :
     {S : Type 0} (opens : Opening S) (old new : S) (name : Text) (line : ℕ) (trace : Held) (f : Failure) → opens old name (Ok trace) new → IsRefusedAt name line f
     → IsUnheld opens old new name f
-refused-at opens old new name line trace (RefusedTrace text) is told = (trace, is, (line, told))
-refused-at opens old new name line trace Memory is told = tt
-refused-at opens old new name line trace (Refused refusal) is told = absurd told
-refused-at opens old new name line trace File is told = absurd told
-refused-at opens old new name line trace (Write n) is told = absurd told
-refused-at opens old new name line trace (Line message) is told = absurd told
-refused-at opens old new name line trace BadOption is told = absurd told
+refused-at opens old new name line trace (RefusedTrace text) is reported = (trace, is, (line, reported))
+refused-at opens old new name line trace Memory is reported = tt
+refused-at opens old new name line trace (Refused refusal) is reported = absurd reported
+refused-at opens old new name line trace File is reported = absurd reported
+refused-at opens old new name line trace (Write n) is reported = absurd reported
+refused-at opens old new name line trace (Line message) is reported = absurd reported
+refused-at opens old new name line trace BadOption is reported = absurd reported
 
 -- it is held
 pub held-one :
@@ -67,7 +67,7 @@ pub held-one :
 held-one opens x rules old new name trace cut js same is judged =
     record { trace = trace; opened = is; judged = subst (λ (k : Cut). IfSome trace (λ text. Judges k text rules js)) same judged }
 
--- its points are put behind a text
+-- its points are put after a text
 pub put-one :
     {S : Type 0} (opens : Opening S) (x : Expect) (rules : List Rule) (i : ℕ) (t : Bor Text) (old new : S) (before text : Text) (well named : Bool) (count : ℕ) (js ks ls : List Judged)
     → IsHeld opens x rules old new t.now js → text ≡ before ++ points x.is_strict (record { trace = t; is_named = named }) count rules ks
@@ -184,7 +184,7 @@ comes-to opens x rules i d old mid before text well lt puts =
     let ts = x.traces.items in
     record {
       before = map now (take i ts);
-      behind = map now (drop (i + 1) ts);
+      following = map now (drop (i + 1) ts);
       all = puts.all;
       parts =
           sym (ap (map now) (take-append-drop i ts)) ∙ map-append now (take i ts) (drop i ts)
@@ -196,7 +196,7 @@ pub unheld-at :
     {S : Type 0} (opens : Opening S) (x : Expect) (rules : List Rule) (name : Text) (old mid new : S) (f : Failure) → ComesTo opens x rules old mid name
     → IsUnheld opens mid new name f → AreUnheld opens x rules old new f
 unheld-at opens x rules name old mid new (RefusedTrace text) comes is =
-    record { name = name; between = mid; comes = comes; trace = is.0; opened = is.1; line = is.2.0; told = is.2.1 }
+    record { name = name; between = mid; comes = comes; trace = is.0; opened = is.1; line = is.2.0; reported = is.2.1 }
 unheld-at opens x rules name old mid new File comes is = record { name = name; between = mid; comes = comes; lacks = is }
 unheld-at opens x rules name old mid new Memory comes is = tt
 unheld-at opens x rules name old mid new (Refused refusal) comes is = absurd is
@@ -205,10 +205,10 @@ unheld-at opens x rules name old mid new (Line message) comes is = absurd is
 unheld-at opens x rules name old mid new BadOption comes is = absurd is
 
 -- the whole report
-pub reported :
+pub rules_reported :
     {S : Type 0} (opens : Opening S) (x : Expect) (rules : List Rule) (old new : S) (first text : Text) (well : Bool) → first ≡ plan (length rules * length x.traces.items)
     → Puts opens x rules x.traces.items old new first text well → Reports opens x rules old new well text
-reported opens x rules old new first text well is puts =
+rules_reported opens x rules old new first text well is puts =
     record {
       all = puts.all;
       held = puts.held;

@@ -6,6 +6,10 @@ pub mod FormLaws
 pub mod GetterLaws
 pub mod LineLaws
 mod Fronts
+mod Gathering
+mod OpenLaws
+mod LinesLaws
+mod FileNames
 mod Anywhere
 mod Holding
 mod Naming

@@ -1,5 +1,6 @@
 -- Where the words name no call.
-use Rattle.std.proofs.Common.{◌≡◌, ◌&&◌, ℕ, Bool, Bor, Option, Some, None, Result, Ok, Err, List, false, true, not, is_some, option_map, refl, sym, ap, ◌∙◌, subst, inl, inr, codes}
+use Rattle.std.proofs.Common.{◌≡◌, ◌&&◌, ℕ, Bool, Bor, Option, Some, None, Result, Ok, Err, List, false, true, not, is_some, map, option_map, refl, sym, ap, ◌∙◌, subst, inl, inr, codes}
+use Rattle.std.specs.Global.{Vec}
 use Rattle.std.specs.Str.{bytes_eq}
 use Rattle.std.proofs.lemmas.Slice.Eq.{bytes_eq-Decides}
 use Rattle.std.specs.Prelude.{◌≢◌, IfNone, IfOk, IfErr, IfSome, OnOk, []}
@@ -10,7 +11,7 @@ use Rattle.clap.specs.declared.error.kind.ErrorKind.TheVariants.{DisplayHelp, Di
 use Rattle.fb_types.specs.declared.run.Form.{Form}
 use Rattle.fb_types.specs.declared.run.Form.TheVariants.{One, Two}
 use Rattle.clap.specs.declared.builder.value_parser.ValueParser.{ValueParser}
-use Rattle.fbsim_command.specs.Line.{AreCall, AreNoCall, AskHelp, IsTaken, NameNoCall, IsForm, AsksDiff, AsksDraw, AsksExpect, AsksWave, IsNumber, IsAction, IsTask, IsCall, IsCallOf, IsFault, IsFlag, IsText, command_name, call_name, deploys_nothing, AreForms, simulator, simulator_with}
+use Rattle.fbsim_command.specs.Line.{AreCall, AreNoCall, AreTypes, AskHelp, IsTaken, NameNoCall, IsForm, AsksDiff, AsksDraw, AsksExpect, AsksWave, IsNumber, IsAction, IsTask, IsCall, IsCallOf, IsFault, IsFlag, IsText, command_name, call_name, declares_nothing, or_none, AreForms, simulator, simulator_with}
 use Rattle.fbsim_command.proofs.FormLaws.{same_fault, same_subcommand, same_takes}
 use Rattle.fbsim_command.specs.declared.line.LineFault.{LineFault}
 use Rattle.fbsim_command.specs.declared.line.Task.{Task}
@@ -108,53 +109,53 @@ no_task o name word is no_check no_run named = own_name o name named (other_than
 
 pub no_name : (rows : List Row) (name : Text) → name ≡ codes "explain" → first_of (codes "NAME") rows ≡ None → (r : Call) → name ≡ call_name r → IsCall rows r → ⊥
 no_name rows name is none (call.Explain word) named given = let bad : None ≡ Some word.now = sym none ∙ given in cc
-no_name rows name is none (call.Task c) named given = no_task c.action name (codes "explain") is (λ e. cc) (λ e. cc) named
-no_name rows name is none (call.Wave w) named given = differs (codes "explain") (codes "wave") refl (sym is ∙ named)
+no_name rows name is none (call.Task c types) named given = no_task c.action name (codes "explain") is (λ e. cc) (λ e. cc) named
+no_name rows name is none (call.Wave w types) named given = differs (codes "explain") (codes "wave") refl (sym is ∙ named)
 no_name rows name is none (call.Expect x) named given = differs (codes "explain") (codes "expect") refl (sym is ∙ named)
 no_name rows name is none (call.Diff d) named given = differs (codes "explain") (codes "diff") refl (sym is ∙ named)
-no_name rows name is none (call.Draw d) named given = differs (codes "explain") (codes "draw") refl (sym is ∙ named)
+no_name rows name is none (call.Draw d types) named given = differs (codes "explain") (codes "draw") refl (sym is ∙ named)
 
 pub no_wave : (rows : List Row) (name : Text) → name ≡ codes "wave" → ((w : Wave) → AsksWave rows w → ⊥) → (r : Call) → name ≡ call_name r → IsCall rows r → ⊥
 no_wave rows name is none (call.Explain word) named given = differs (codes "wave") (codes "explain") refl (sym is ∙ named)
-no_wave rows name is none (call.Task c) named given = no_task c.action name (codes "wave") is (λ e. cc) (λ e. cc) named
-no_wave rows name is none (call.Wave w) named given = none w given
+no_wave rows name is none (call.Task c types) named given = no_task c.action name (codes "wave") is (λ e. cc) (λ e. cc) named
+no_wave rows name is none (call.Wave w types) named given = none w given.0
 no_wave rows name is none (call.Expect x) named given = differs (codes "wave") (codes "expect") refl (sym is ∙ named)
 no_wave rows name is none (call.Diff d) named given = differs (codes "wave") (codes "diff") refl (sym is ∙ named)
-no_wave rows name is none (call.Draw d) named given = differs (codes "wave") (codes "draw") refl (sym is ∙ named)
+no_wave rows name is none (call.Draw d types) named given = differs (codes "wave") (codes "draw") refl (sym is ∙ named)
 
 pub no_expect : (rows : List Row) (name : Text) → name ≡ codes "expect" → ((x : Expect) → AsksExpect rows x → ⊥) → (r : Call) → name ≡ call_name r → IsCall rows r → ⊥
 no_expect rows name is none (call.Explain word) named given = differs (codes "expect") (codes "explain") refl (sym is ∙ named)
-no_expect rows name is none (call.Task c) named given = no_task c.action name (codes "expect") is (λ e. cc) (λ e. cc) named
-no_expect rows name is none (call.Wave w) named given = differs (codes "expect") (codes "wave") refl (sym is ∙ named)
+no_expect rows name is none (call.Task c types) named given = no_task c.action name (codes "expect") is (λ e. cc) (λ e. cc) named
+no_expect rows name is none (call.Wave w types) named given = differs (codes "expect") (codes "wave") refl (sym is ∙ named)
 no_expect rows name is none (call.Expect x) named given = none x given
 no_expect rows name is none (call.Diff d) named given = differs (codes "expect") (codes "diff") refl (sym is ∙ named)
-no_expect rows name is none (call.Draw d) named given = differs (codes "expect") (codes "draw") refl (sym is ∙ named)
+no_expect rows name is none (call.Draw d types) named given = differs (codes "expect") (codes "draw") refl (sym is ∙ named)
 
 pub no_diff : (rows : List Row) (name : Text) → name ≡ codes "diff" → ((d : Diff) → AsksDiff rows d → ⊥) → (r : Call) → name ≡ call_name r → IsCall rows r → ⊥
 no_diff rows name is none (call.Explain word) named given = differs (codes "diff") (codes "explain") refl (sym is ∙ named)
-no_diff rows name is none (call.Task c) named given = no_task c.action name (codes "diff") is (λ e. cc) (λ e. cc) named
-no_diff rows name is none (call.Wave w) named given = differs (codes "diff") (codes "wave") refl (sym is ∙ named)
+no_diff rows name is none (call.Task c types) named given = no_task c.action name (codes "diff") is (λ e. cc) (λ e. cc) named
+no_diff rows name is none (call.Wave w types) named given = differs (codes "diff") (codes "wave") refl (sym is ∙ named)
 no_diff rows name is none (call.Expect x) named given = differs (codes "diff") (codes "expect") refl (sym is ∙ named)
 no_diff rows name is none (call.Diff d) named given = none d given
-no_diff rows name is none (call.Draw d) named given = differs (codes "diff") (codes "draw") refl (sym is ∙ named)
+no_diff rows name is none (call.Draw d types) named given = differs (codes "diff") (codes "draw") refl (sym is ∙ named)
 
 pub no_draw : (rows : List Row) (name : Text) → name ≡ codes "draw" → ((d : Draw) → AsksDraw rows d → ⊥) → (r : Call) → name ≡ call_name r → IsCall rows r → ⊥
 no_draw rows name is none (call.Explain word) named given = differs (codes "draw") (codes "explain") refl (sym is ∙ named)
-no_draw rows name is none (call.Task c) named given = no_task c.action name (codes "draw") is (λ e. cc) (λ e. cc) named
-no_draw rows name is none (call.Wave w) named given = differs (codes "draw") (codes "wave") refl (sym is ∙ named)
+no_draw rows name is none (call.Task c types) named given = no_task c.action name (codes "draw") is (λ e. cc) (λ e. cc) named
+no_draw rows name is none (call.Wave w types) named given = differs (codes "draw") (codes "wave") refl (sym is ∙ named)
 no_draw rows name is none (call.Expect x) named given = differs (codes "draw") (codes "expect") refl (sym is ∙ named)
 no_draw rows name is none (call.Diff d) named given = differs (codes "draw") (codes "diff") refl (sym is ∙ named)
-no_draw rows name is none (call.Draw d) named given = none d given
+no_draw rows name is none (call.Draw d types) named given = none d given.0
 
 pub no_other_call :
     (rows : List Row) (name : Text) → (name ≡ codes "explain" → ⊥) → (name ≡ codes "wave" → ⊥) → (name ≡ codes "expect" → ⊥) → (name ≡ codes "diff" → ⊥) → (name ≡ codes "draw" → ⊥)
     → ((c : Task) → name ≡ command_name c.action → IsTask rows c → ⊥) → (r : Call) → name ≡ call_name r → IsCall rows r → ⊥
 no_other_call rows name no_explain no_wave no_expect no_diff no_draw none (call.Explain word) named given = no_explain named
-no_other_call rows name no_explain no_wave no_expect no_diff no_draw none (call.Task c) named given = none c named given
-no_other_call rows name no_explain no_wave no_expect no_diff no_draw none (call.Wave w) named given = no_wave named
+no_other_call rows name no_explain no_wave no_expect no_diff no_draw none (call.Task c types) named given = none c named given.0
+no_other_call rows name no_explain no_wave no_expect no_diff no_draw none (call.Wave w types) named given = no_wave named
 no_other_call rows name no_explain no_wave no_expect no_diff no_draw none (call.Expect x) named given = no_expect named
 no_other_call rows name no_explain no_wave no_expect no_diff no_draw none (call.Diff d) named given = no_diff named
-no_other_call rows name no_explain no_wave no_expect no_diff no_draw none (call.Draw d) named given = no_draw named
+no_other_call rows name no_explain no_wave no_expect no_diff no_draw none (call.Draw d types) named given = no_draw named
 
 -- ---- Rules and traces
 
@@ -164,29 +165,31 @@ no_rules rows none x is = let given = is.rules in absurd cc
 pub no_traces : (rows : List Row) → all_of (codes "TRACE") rows ≡ None → (x : Expect) → AsksExpect rows x → ⊥
 no_traces rows none x is = let given = is.traces in absurd cc
 
-name_none : (o : Option (Bor Text)) → option_map (λ (n : Bor Text). n.now) o ≡ None → o ≡ None
-name_none None e = refl
-name_none (Some n) e = cc
-
 abbrev text : Bor Text → Text
 text n = n.now
 
--- a deployment of no declaration
-pub deploys_alone :
-    (rows : List Row) (declaration deploy : Option Text) → first_of (codes "decl") rows ≡ declaration → first_of (codes "deploy") rows ≡ deploy → deploys_nothing declaration deploy ≡ true
-    → (x : Expect) → AsksExpect rows x → ⊥
-deploys_alone rows (Some n) deploy is-declared is-deployed on x is = absurd (let bad : false ≡ true = on in cc)
-deploys_alone rows None None is-declared is-deployed on x is = absurd (let bad : false ≡ true = on in cc)
-deploys_alone rows None (Some word) is-declared is-deployed on x is =
-    let alone = name_none x.declaration (sym is.declaration ∙ is-declared) in
-    let bad : Some word ≡ None = sym is-deployed ∙ is.deploy ∙ ap (option_map text) (is.of_a_declaration alone) in
-    cc
+-- the names of the files of block types
+pub types-some :
+    {E : Type 0} (rows : List Row) (names : List (Bor Text)) (r : Result (Vec (Bor Text)) E) → all_of (codes "types") rows ≡ Some (map text names) → IfOk r (λ v. v.items ≡ names)
+    → IfOk r (λ v. AreTypes rows v.items)
+types-some rows names (Err e) is same = tt
+types-some rows names (Ok v) is same = ap or_none is ∙ ap (map text) (sym same)
 
--- where a deployment is not named, or a declaration is
-pub is_declared : (declaration deploy : Option (Bor Text)) → deploys_nothing (option_map text declaration) (option_map text deploy) ≡ false → declaration ≡ None → deploy ≡ None
-is_declared declaration None off none = refl
-is_declared (Some n) (Some d) off none = cc
-is_declared None (Some d) off none = absurd (let bad : true ≡ false = off in cc)
+pub types-none : (rows : List Row) (names : List (Bor Text)) → all_of (codes "types") rows ≡ None → names ≡ [] → AreTypes rows names
+types-none rows names is none = ap or_none is ∙ ap (map text) (sym none)
+
+-- a deployment or block types of no declaration
+pub declares_alone :
+    (rows : List Row) (declaration deploy : Option Text) (types : List Text) → first_of (codes "decl") rows ≡ declaration → first_of (codes "deploy") rows ≡ deploy
+    → or_none (all_of (codes "types") rows) ≡ types → declares_nothing declaration deploy types ≡ true → (x : Expect) → AsksExpect rows x → ⊥
+declares_alone rows declaration deploy types is-declared is-deployed are-types on x is =
+    let declared : declaration ≡ option_map text x.declaration = sym is-declared ∙ is.declaration in
+    let deployed : deploy ≡ option_map text x.deploy = sym is-deployed ∙ is.deploy in
+    let typed : types ≡ map text x.types.items = sym are-types ∙ is.types in
+    let same : declares_nothing declaration deploy types ≡ declares_nothing (option_map text x.declaration) (option_map text x.deploy) (map text x.types.items) =
+    λ k. declares_nothing (declared k) (deployed k) (typed k) in
+    let bad : true ≡ false = sym on ∙ same ∙ is.of_a_declaration in
+    cc
 
 pub no_first : (rows : List Row) → first_of (codes "A") rows ≡ None → (d : Diff) → AsksDiff rows d → ⊥
 no_first rows none d is = let given = is.first in absurd cc

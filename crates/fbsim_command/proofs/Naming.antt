@@ -32,16 +32,16 @@ pub refused-inputs : (given : Given) (rs : List Rule) (error : RunError) → IsR
 refused-inputs given rs (run.Refused r) is = refusal r is
   where
     numbered : (r : sim.Refusal) → IsRightly given r → (o : Option ℕ) → failure_of (run.Refused r) ≡ numbered_input o → IsUnnamed given rs (numbered_input o)
-    numbered r is (Some n) told = inl (record { error = run.Refused r; refused = is; told = told })
-    numbered r is None told = tt
+    numbered r is (Some n) reported = inl (record { error = run.Refused r; refused = is; reported = reported })
+    numbered r is None reported = tt
 
     unread : (e : ReadError) → IsRightly given (of.Declaration e) → IsUnnamed given rs (failure_of (run.Refused (of.Declaration e)))
     unread read.Memory is = tt
-    unread read.Byte is = inl (record { error = run.Refused (of.Declaration read.Byte); refused = is; told = refl })
-    unread read.Token is = inl (record { error = run.Refused (of.Declaration read.Token); refused = is; told = refl })
-    unread (read.Syntax line) is = inl (record { error = run.Refused (of.Declaration (read.Syntax line)); refused = is; told = refl })
-    unread read.TooLong is = inl (record { error = run.Refused (of.Declaration read.TooLong); refused = is; told = refl })
-    unread read.Nesting is = inl (record { error = run.Refused (of.Declaration read.Nesting); refused = is; told = refl })
+    unread read.Byte is = inl (record { error = run.Refused (of.Declaration read.Byte); refused = is; reported = refl })
+    unread read.Token is = inl (record { error = run.Refused (of.Declaration read.Token); refused = is; reported = refl })
+    unread (read.Syntax line) is = inl (record { error = run.Refused (of.Declaration (read.Syntax line)); refused = is; reported = refl })
+    unread read.TooLong is = inl (record { error = run.Refused (of.Declaration read.TooLong); refused = is; reported = refl })
+    unread read.Nesting is = inl (record { error = run.Refused (of.Declaration read.Nesting); refused = is; reported = refl })
 
     refusal : (r : sim.Refusal) → IsRightly given r → IsUnnamed given rs (failure_of (run.Refused r))
     refusal (of.Declaration e) is = unread e is
@@ -60,7 +60,7 @@ refused-rules bytes declared e is = by (rules.number_of e) is
   where
     by : (o : Option ℕ) → IfSome o (λ n. rules_of bytes ≡ Err n) → RefusesFor bytes declared (numbered_input o)
     by None is = tt
-    by (Some n) is = inl (record { number = n; are = is; told = refl })
+    by (Some n) is = inl (record { number = n; are = is; reported = refl })
 
 -- their names are not in what is declared
 pub unnamed :
@@ -68,7 +68,7 @@ pub unnamed :
     → RefusesFor bytes declared f
 unnamed bytes declared given rs (Refused refusal) same are (inl is) = inr (inl (record { rules = rs; are = are; given = given; is = same; refused = is }))
 unnamed bytes declared given rs (Refused refusal) same are (inr is) =
-    inr (inr (record { rules = rs; are = are; given = given; is = same; unknown = is.0; told = is.1 }))
+    inr (inr (record { rules = rs; are = are; given = given; is = same; unknown = is.0; reported = is.1 }))
 unnamed bytes declared given rs Memory same are is = tt
 unnamed bytes declared given rs (RefusedTrace text) same are is = absurd is
 unnamed bytes declared given rs File same are is = absurd is

@@ -22,24 +22,24 @@ parted d first second a b (Ok x) f bad is = absurd bad
 parted d first second a b (Err g) f same is = subst (λ (h : Failure). Differs d first second a b (Err h)) (sym same) is
 
 -- what is reported of two lines
-pub told-of :
+pub reported-of :
     (d : Diff) (first second : Held) (o : Option Difference) (x : Difference) (text : Text) → o ≡ Some x → MayPart first second o → ShowsDifference d.first.now d.second.now x text
     → IsReported d first second text
-told-of d first second o x text is part tells = record { difference = x; part = subst (λ (p : Option Difference). MayPart first second p) is part; tells = tells }
+reported-of d first second o x text is part shows = record { difference = x; part = subst (λ (p : Option Difference). MayPart first second p) is part; shows = shows }
 
 -- it is written
 pub wrote : (d : Diff) (first second a b : Held) (text bytes : Text) → bytes ≡ text → IsReported d first second text → Appends a b bytes → Differs d first second a b (Ok Different)
-wrote d first second a b text bytes same told got = (text, told, subst (λ (z : Text). Appends a b z) same got)
+wrote d first second a b text bytes same reported got = (text, reported, subst (λ (z : Text). Appends a b z) same got)
 
 -- the writer fails
-pub untold : (d : Diff) (first second a b : Held) (text bytes : Text) → bytes ≡ text → IsReported d first second text → (f : Failure) → WritesPart a b bytes f → Differs d first second a b (Err f)
-untold d first second a b text bytes same told (Write n) part = (bytes, subst (λ (z : Text). IsReported d first second z) (sym same) told, part)
-untold d first second a b text bytes same told (Refused refusal) part = absurd part
-untold d first second a b text bytes same told (RefusedTrace message) part = absurd part
-untold d first second a b text bytes same told File part = absurd part
-untold d first second a b text bytes same told Memory part = absurd part
-untold d first second a b text bytes same told (Line message) part = absurd part
-untold d first second a b text bytes same told BadOption part = absurd part
+pub not_reported : (d : Diff) (first second a b : Held) (text bytes : Text) → bytes ≡ text → IsReported d first second text → (f : Failure) → WritesPart a b bytes f → Differs d first second a b (Err f)
+not_reported d first second a b text bytes same reported (Write n) part = (bytes, subst (λ (z : Text). IsReported d first second z) (sym same) reported, part)
+not_reported d first second a b text bytes same reported (Refused refusal) part = absurd part
+not_reported d first second a b text bytes same reported (RefusedTrace message) part = absurd part
+not_reported d first second a b text bytes same reported File part = absurd part
+not_reported d first second a b text bytes same reported Memory part = absurd part
+not_reported d first second a b text bytes same reported (Line message) part = absurd part
+not_reported d first second a b text bytes same reported BadOption part = absurd part
 
 -- a file is not opened
 pub unopened :

@@ -35,10 +35,10 @@ ran serial given options old new (sim_end.End h) d is writes = subst (λ (x : Do
 ran serial given options old new (sim_end.Stop mark) d is writes =
     subst (λ (x : Done). Runs serial given options old new (Ok x)) (sym is) (mark.tick, mark.resource, mark.reason, writes)
 
-pub reported :
+pub has_reported :
     (given : Given) (options : Options) (out_old out_new : Held) (r : Result Outcome RunError) (end : End) (heard : Bool) (old new : Held) → IsEndOf r end
     → (x : Text) × AreReports given options out_old out_new r x × Hears heard old new x → (x : Text) × ReportsOn false true given options out_old out_new end x × Hears heard old new x
-reported given options out_old out_new r end heard old new is told = (told.0, (r, is, told.1), told.2)
+has_reported given options out_old out_new r end heard old new is reported = (reported.0, (r, is, reported.1), reported.2)
 
 pub ends_as : (r : Result Outcome RunError) (o : Outcome) (d : Done) → r ≡ Ok o → IsDoneOf o d → IsEndOf r (Ok d)
 ends_as r o d is done = subst (λ (x : Result Outcome RunError). IsEndOf x (Ok d)) (sym is) (d, done, refl)
@@ -65,13 +65,13 @@ helped words old new help asked (Err BadOption) whole bad = absurd bad
 
 -- ---- The end
 
-pub told_all : (h t : Bool) (old mid new : Held) (x y : Text) → Hears h old mid x → (IsTrue t → Appends mid new y) → IsTrue (h && t) → Appends old new (x ++ y)
-told_all true true old mid new x y hears told is =
+pub reported_all : (h t : Bool) (old mid new : Held) (x y : Text) → Hears h old mid x → (IsTrue t → Appends mid new y) → IsTrue (h && t) → Appends old new (x ++ y)
+reported_all true true old mid new x y hears reported is =
     let e : hears.rest ≡ [] = hears.all refl in
     let whole : x ≡ hears.front = hears.parts ∙ ap (λ (t : Text). hears.front ++ t) e ∙ append-nil hears.front in
-    Appends-trans old mid new x y (subst (λ (t : Text). Appends old mid t) (sym whole) hears.got) (told refl)
-told_all true false old mid new x y hears told is = absurd (let f : false ≡ true = is in cc)
-told_all false t old mid new x y hears told is = absurd (let f : false ≡ true = is in cc)
+    Appends-trans old mid new x y (subst (λ (t : Text). Appends old mid t) (sym whole) hears.got) (reported refl)
+reported_all true false old mid new x y hears reported is = absurd (let f : false ≡ true = is in cc)
+reported_all false t old mid new x y hears reported is = absurd (let f : false ≡ true = is in cc)
 
 pub quiet_all : (h : Bool) (old mid new : Held) (x : Text) (end : End) → Hears h old mid x → OnOk end (new ≡ mid) → OnOk end (x ≡ [] → new ≡ old)
 quiet_all h old mid new x (Ok d) hears same = λ e. same ∙ hears.none e

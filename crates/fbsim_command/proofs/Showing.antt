@@ -1,5 +1,5 @@
 -- How a call for waveforms ends where there are none, or no whole ones.
-use Rattle.std.proofs.Common.{◌≡◌, ℕ, Option, Some, None, Ok, Err, inl, inr, refl, sym, ap, subst}
+use Rattle.std.proofs.Common.{◌≡◌, ℕ, List, Option, Some, None, Ok, Err, inl, inr, refl, sym, ap, subst}
 use Rattle.std.specs.Prelude.{IsErrAnd}
 use Rattle.fb_types.specs.Headline.{Inputs, system_of}
 use Rattle.fb_read.specs.declared.error.ReadError.{ReadError}
@@ -25,6 +25,7 @@ use Rattle.fbsim_command.specs.Failures.{failure_of, failure_of_source, failure_
 use Rattle.fbsim_command.specs.declared.failure.Failure.{Failure}
 use Rattle.fbsim_command.specs.Outcomes.{End, Held}
 use Rattle.fbsim_command.specs.Notes.{IsFileNote, Notes, NotesOf}
+use Rattle.fbsim_command.specs.OwnLines.{EndsIn}
 use Rattle.fbsim_command.specs.Reading.{Reading, AreRead, IsUnread}
 use Rattle.fbsim_command.specs.Showing.{Dumps, IsTraceFileNote, Opening, Shows, cut_of, files_of}
 use Rattle.fbsim_command.specs.declared.sources.SourceFault.{SourceFault}
@@ -35,16 +36,16 @@ pub dumps_none : (may : Cut) (given : Given) (trace old : Held) (error : RunErro
 dumps_none may given trace old (run.Refused r) is = refusal r is
   where
     numbered : (r : sim.Refusal) → IsRightly given r → (o : Option ℕ) → failure_of (run.Refused r) ≡ numbered_input o → Dumps may given trace old old (Err (numbered_input o))
-    numbered r is (Some n) told = inl (record { error = run.Refused r; refused = is; told = told }, refl)
-    numbered r is None told = inl refl
+    numbered r is (Some n) reported = inl (record { error = run.Refused r; refused = is; reported = reported }, refl)
+    numbered r is None reported = inl refl
 
     unread : (e : ReadError) → IsRightly given (of.Declaration e) → Dumps may given trace old old (Err (failure_of (run.Refused (of.Declaration e))))
     unread read.Memory is = inl refl
-    unread read.Byte is = inl (record { error = run.Refused (of.Declaration read.Byte); refused = is; told = refl }, refl)
-    unread read.Token is = inl (record { error = run.Refused (of.Declaration read.Token); refused = is; told = refl }, refl)
-    unread (read.Syntax line) is = inl (record { error = run.Refused (of.Declaration (read.Syntax line)); refused = is; told = refl }, refl)
-    unread read.TooLong is = inl (record { error = run.Refused (of.Declaration read.TooLong); refused = is; told = refl }, refl)
-    unread read.Nesting is = inl (record { error = run.Refused (of.Declaration read.Nesting); refused = is; told = refl }, refl)
+    unread read.Byte is = inl (record { error = run.Refused (of.Declaration read.Byte); refused = is; reported = refl }, refl)
+    unread read.Token is = inl (record { error = run.Refused (of.Declaration read.Token); refused = is; reported = refl }, refl)
+    unread (read.Syntax line) is = inl (record { error = run.Refused (of.Declaration (read.Syntax line)); refused = is; reported = refl }, refl)
+    unread read.TooLong is = inl (record { error = run.Refused (of.Declaration read.TooLong); refused = is; reported = refl }, refl)
+    unread read.Nesting is = inl (record { error = run.Refused (of.Declaration read.Nesting); refused = is; reported = refl }, refl)
 
     refusal : (r : sim.Refusal) → IsRightly given r → Dumps may given trace old old (Err (failure_of (run.Refused r)))
     refusal (of.Declaration e) is = unread e is
@@ -83,57 +84,62 @@ passed may given trace old new (Err g) f is ends = subst (λ (h : Failure). Dump
 
 -- the trace is opened, and its dump is written
 pub read_and_shown :
-    {S : Type 0} (reads : Reading S) (opens : Opening S) (from between to : S) (w : Wave) (old new : Held) (given : Given) (task : Task) (may : Cut) (trace : Held) (x : Given)
-    (end : End) (note : Option Text) → task ≡ files_of w → may ≡ cut_of w → x ≡ given → AreRead reads task from between given → opens between w.trace.now (Ok trace) to
-    → Dumps may x trace old new end → NotesOf given w.why end note → Shows reads opens from to w old new end note
-read_and_shown reads opens from between to w old new given task may trace x end note as_task as_cut as_given was_read opened done noted =
+    {S : Type 0} (reads : Reading S) (opens : Opening S) (from between to : S) (types : List Text) (w : Wave) (old new : Held) (lines : List ℕ) (given : Given) (task : Task) (may : Cut)
+    (trace : Held) (x : Given) (inner end : End) (note : Option Text) → task ≡ files_of w → may ≡ cut_of w → x ≡ given → AreRead reads types task from between lines given
+    → opens between w.trace.now (Ok trace) to → Dumps may x trace old new inner → NotesOf types task lines given inner note → EndsIn types w.declaration.now lines inner end
+    → Shows reads opens from to types w old new end note
+read_and_shown reads opens from between to types w old new lines given task may trace x inner end note as_task as_cut as_given was_read opened done noted ends =
     inl
     (record {
+      lines = lines;
       given = given;
       between = between;
-      read = subst (λ (k : Task). AreRead reads k from between given) as_task was_read;
+      read = subst (λ (k : Task). AreRead reads types k from between lines given) as_task was_read;
       trace = trace;
       opened = opened;
-      done = subst (λ (m : Cut). Dumps m given trace old new end) as_cut (subst (λ (z : Given). Dumps may z trace old new end) as_given done);
-      noted = noted;
+      inner = inner;
+      done = subst (λ (m : Cut). Dumps m given trace old new inner) as_cut (subst (λ (z : Given). Dumps may z trace old new inner) as_given done);
+      noted = subst (λ (k : Task). NotesOf types k lines given inner note) as_task noted;
+      ends = ends;
     })
 
 -- a file is not read that the trace is of
 pub unread_for :
-    {S : Type 0} (reads : Reading S) (opens : Opening S) (from to : S) (w : Wave) (same : Held) (task : Task) (part : Part) (fault : SourceFault) (failed : Failure) (note : Option Text)
-    → task ≡ files_of w → failed ≡ failure_of_source fault → IsUnread reads task from to part fault → Notes task.why (IsFileNote task part fault) note
-    → Shows reads opens from to w same same (Err failed) note
-unread_for reads opens from to w same task part fault failed note as_task is unread noted =
-    let told : ◌≡◌ {A = End} (Err failed) (Err (failure_of_source fault)) = ap (λ (f : Failure). Err f) is in
+    {S : Type 0} (reads : Reading S) (opens : Opening S) (from to : S) (types : List Text) (w : Wave) (same : Held) (task : Task) (part : Part) (fault : SourceFault) (failed : Failure)
+    (note : Option Text) → task ≡ files_of w → failed ≡ failure_of_source fault → IsUnread reads types task from to part fault
+    → Notes task.why (IsFileNote types task part fault) note → Shows reads opens from to types w same same (Err failed) note
+unread_for reads opens from to types w same task part fault failed note as_task is unread noted =
+    let reported : ◌≡◌ {A = End} (Err failed) (Err (failure_of_source fault)) = ap (λ (f : Failure). Err f) is in
     inr (
       fault,
       inl
           (record {
             part = part;
-            unread = subst (λ (k : Task). IsUnread reads k from to part fault) as_task unread;
-            noted = subst (λ (k : Task). Notes k.why (IsFileNote k part fault) note) as_task noted;
+            unread = subst (λ (k : Task). IsUnread reads types k from to part fault) as_task unread;
+            noted = subst (λ (k : Task). Notes k.why (IsFileNote types k part fault) note) as_task noted;
           }),
-      told,
+      reported,
       refl,
     )
 
 -- the trace is not opened
 pub unopened :
-    {S : Type 0} (reads : Reading S) (opens : Opening S) (from between to : S) (w : Wave) (same : Held) (given : Given) (task : Task) (fault : SourceFault) (failed : Failure)
-    (note : Option Text) → task ≡ files_of w → failed ≡ failure_of_source fault → AreRead reads task from between given → opens between w.trace.now (Err fault) to
-    → Notes w.why (IsTraceFileNote w fault) note → Shows reads opens from to w same same (Err failed) note
-unopened reads opens from between to w same given task fault failed note as_task is was_read unread noted =
-    let told : ◌≡◌ {A = End} (Err failed) (Err (failure_of_source fault)) = ap (λ (f : Failure). Err f) is in
+    {S : Type 0} (reads : Reading S) (opens : Opening S) (from between to : S) (types : List Text) (w : Wave) (same : Held) (lines : List ℕ) (given : Given) (task : Task) (fault : SourceFault)
+    (failed : Failure) (note : Option Text) → task ≡ files_of w → failed ≡ failure_of_source fault → AreRead reads types task from between lines given
+    → opens between w.trace.now (Err fault) to → Notes w.why (IsTraceFileNote w fault) note → Shows reads opens from to types w same same (Err failed) note
+unopened reads opens from between to types w same lines given task fault failed note as_task is was_read unread noted =
+    let reported : ◌≡◌ {A = End} (Err failed) (Err (failure_of_source fault)) = ap (λ (f : Failure). Err f) is in
     inr (
       fault,
       inr
           (record {
+            lines = lines;
             given = given;
             between = between;
-            read = subst (λ (k : Task). AreRead reads k from between given) as_task was_read;
+            read = subst (λ (k : Task). AreRead reads types k from between lines given) as_task was_read;
             unread = unread;
             noted = noted;
           }),
-      told,
+      reported,
       refl,
     )

@@ -1,6 +1,7 @@
 -- What a call of the program does (this project's own).
-use Rattle.std.specs.Prelude.{◌≡◌, ◌⊎◌, ℕ, Bool, true, false, List, [], Option, None, Result, Ok, Err, codes, string_bytes}
+use Rattle.std.specs.Prelude.{◌≡◌, ◌⊎◌, ℕ, Bool, true, false, List, [], map, Option, None, Result, Ok, Err, codes, string_bytes}
 use Rattle.std.specs.Borrow.{Bor}
+use Rattle.std.specs.Global.{Vec}
 use Rattle.std.specs.List.{list_any}
 use Rattle.std.specs.Io.KnownBytes.{Appends}
 use Rattle.std.specs.Str.{str_eq_ignore_ascii_case}
@@ -22,6 +23,7 @@ use Rattle.fbsim_command.specs.Line.{AreCall, AreNoCall, AskHelp, IsTaken}
 use Rattle.fbsim_command.specs.Failures.{IsPartWritten, explained_text, failure_of, failure_of_source, no_refusal}
 use Rattle.fbsim_command.specs.Notes.{IsFileNote, Notes, NotesOf}
 use Rattle.fbsim_command.specs.Outcomes.{End, Held, IsRefused}
+use Rattle.fbsim_command.specs.OwnLines.{EndsIn}
 use Rattle.fbsim_command.specs.Reading.{Reading, AreRead, IsUnread}
 use Rattle.fbsim_command.specs.Showing.{Opening, Shows}
 use Rattle.fbsim_command.specs.Comparing.{Compares}
@@ -113,26 +115,30 @@ Reports given (Run horizon steps workers serial form progress) old new end repor
 
 -- ---- The call
 
--- The files are read, and what the task asks for is done with them.
-pub record AreReadAndDone {S : Type 0} (reads : Reading S) (from to : S) (c : Task) (old new : Held) (end : End) (reports : Text) (note : Option Text) : Type 0 where
+-- The files are read, and what the task asks for is done with them. A syntax fault is one of the file that has it.
+pub record AreReadAndDone {S : Type 0} (reads : Reading S) (from to : S) (types : List Text) (c : Task) (old new : Held) (end : End) (reports : Text) (note : Option Text) : Type 0 where
+  pub lines : List ℕ
   pub given : Given
-  pub read : AreRead reads c from to given
-  pub done : Meets given c.action old new end
-  pub reported : Reports given c.action old new end reports
-  pub noted : NotesOf given c.why end note
+  pub read : AreRead reads types c from to lines given
+  pub inner : End
+  pub done : Meets given c.action old new inner
+  pub reported : Reports given c.action old new inner reports
+  pub noted : NotesOf types c lines given inner note
+  pub ends : EndsIn types c.declaration.now lines inner end
 
 -- A file is not read.
-pub record IsFileFault {S : Type 0} (reads : Reading S) (from to : S) (c : Task) (old new : Held) (end : End) (reports : Text) (note : Option Text) : Type 0 where
+pub record IsFileFault {S : Type 0} (reads : Reading S) (from to : S) (types : List Text) (c : Task) (old new : Held) (end : End) (reports : Text) (note : Option Text) : Type 0 where
   pub part : Part
   pub fault : SourceFault
-  pub unread : IsUnread reads c from to part fault
+  pub unread : IsUnread reads types c from to part fault
   pub failed : end ≡ Err (failure_of_source fault)
   pub same : new ≡ old
   pub reported : reports ≡ []
-  pub noted : Notes c.why (IsFileNote c part fault) note
+  pub noted : Notes c.why (IsFileNote types c part fault) note
 
-abbrev pub Performs : {S : Type 0} → Reading S → (from to : S) → Task → (old new : Held) → End → (reports : Text) → (note : Option Text) → Type 0
-Performs reads from to c old new end reports note = AreReadAndDone reads from to c old new end reports note ⊎ IsFileFault reads from to c old new end reports note
+abbrev pub Performs : {S : Type 0} → Reading S → (from to : S) → (types : List Text) → Task → (old new : Held) → End → (reports : Text) → (note : Option Text) → Type 0
+Performs reads from to types c old new end reports note =
+    AreReadAndDone reads from to types c old new end reports note ⊎ IsFileFault reads from to types c old new end reports note
 
 -- whether a refusal or a reason has this name, in any letter case
 abbrev pub is_explained : (name : Text) → Bool
@@ -188,14 +194,18 @@ Explains words old new (Err (RefusedTrace text)) = ⊥
 abbrev pub ReportsNoMore : {S : Type 0} → (from to : S) → (reports : Text) → (note : Option Text) → Type 0
 ReportsNoMore from to reports note = (to ≡ from) × (reports ≡ []) × (note ≡ None)
 
+-- the names of a list of files
+abbrev pub names_of : Vec (Bor Text) → List Text
+names_of v = map (λ n. n.now) v.items
+
 -- The words are done as the call that they name: a task, a trace that is shown, a refusal that is explained, rules that are
 -- held against traces, traces that are compared, or what is declared, which is drawn. Or they name none.
 abbrev pub Does : {S : Type 0} → Reading S → Opening S → (from to : S) → List Text → (old new : Held) → End → (reports : Text) → (note : Option Text) → Type 0
 Does reads opens from to words old new end reports note =
-    ((c : Task) × AreCall words (call.Task c) × IsTaken words × Performs reads from to c old new end reports note)
-    ⊎ ((w : Wave) × AreCall words (call.Wave w) × IsTaken words × Shows reads opens from to w old new end note × (reports ≡ []))
+    ((c : Task) × (types : Vec (Bor Text)) × AreCall words (call.Task c types) × IsTaken words × Performs reads from to (names_of types) c old new end reports note)
+    ⊎ ((w : Wave) × (types : Vec (Bor Text)) × AreCall words (call.Wave w types) × IsTaken words × Shows reads opens from to (names_of types) w old new end note × (reports ≡ []))
     ⊎ ((name : Bor Text) × AreCall words (call.Explain name) × IsTaken words × ExplainsRefusal name.now old new end × ReportsNoMore from to reports note)
     ⊎ ((x : Expect) × AreCall words (call.Expect x) × IsTaken words × Expects reads opens from to x old new end note × (reports ≡ []))
     ⊎ ((d : Diff) × AreCall words (call.Diff d) × IsTaken words × Compares opens from to d old new end × (reports ≡ []) × (note ≡ None))
-    ⊎ ((d : Draw) × AreCall words (call.Draw d) × IsTaken words × Draws reads from to d old new end × (reports ≡ []) × (note ≡ None))
+    ⊎ ((d : Draw) × (types : Vec (Bor Text)) × AreCall words (call.Draw d types) × IsTaken words × Draws reads from to (names_of types) d old new end × (reports ≡ []) × (note ≡ None))
     ⊎ (Explains words old new end × ReportsNoMore from to reports note)

@@ -17,7 +17,7 @@ use Rattle.fbsim_command.specs.declared.statuses.Done.TheVariants.{Helped, Expla
 pub record IsReported (d : Diff) (first second : Held) (text : Text) : Type 0 where
   pub difference : Difference
   pub part : MayPart first second (Some difference)
-  pub tells : ShowsDifference d.first.now d.second.now difference text
+  pub shows : ShowsDifference d.first.now d.second.now difference text
 
 -- two files, of which these bytes are known, are compared
 abbrev pub Differs : Diff → (first second : Held) → (old new : Held) → End → Type 0

@@ -1,5 +1,5 @@
 -- What a call that draws what is declared does (docs/FORMATS.md, "Pictures (DOT)"; this project's own).
-use Rattle.std.specs.Prelude.{◌≡◌, ◌⊎◌, false, Option, Some, None, option_and_then, option_map, Ok, Err}
+use Rattle.std.specs.Prelude.{◌≡◌, ◌⊎◌, ℕ, List, false, Option, Some, None, option_and_then, option_map, Ok, Err}
 use Rattle.std.specs.Io.KnownBytes.{Appends}
 use Rattle.clap.specs.Words.{Text}
 use Rattle.fb_types.specs.Headline.{Inputs}
@@ -9,6 +9,7 @@ use Rattle.fb_sim.specs.Given.{Given}
 use Rattle.fb_sim.specs.Serial.{Declares}
 use Rattle.fbsim_command.specs.Failures.{IsPartWritten, failure_of_source}
 use Rattle.fbsim_command.specs.Outcomes.{End, Held, IsRefused}
+use Rattle.fbsim_command.specs.OwnLines.{EndsIn}
 use Rattle.fbsim_command.specs.Reading.{Reading, AreRead, IsUnread}
 use Rattle.fbsim_command.specs.declared.draw.Draw.{Draw}
 use Rattle.fbsim_command.specs.declared.failure.Failure.{Failure}
@@ -79,19 +80,22 @@ WritesGraph given asked old new (Err BadOption) = ⊥
 
 -- ---- What is read
 
--- The files are read, and the graph of what they declare is written.
-pub record IsReadAndDrawn {S : Type 0} (reads : Reading S) (from to : S) (d : Draw) (old new : Held) (end : End) : Type 0 where
+-- The files are read, and the graph of what they declare is written. A syntax fault is one of the file that has it.
+pub record IsReadAndDrawn {S : Type 0} (reads : Reading S) (from to : S) (types : List Text) (d : Draw) (old new : Held) (end : End) : Type 0 where
+  pub lines : List ℕ
   pub given : Given
-  pub read : AreRead reads (files_of d) from to given
-  pub done : WritesGraph given (type_asked d) old new end
+  pub read : AreRead reads types (files_of d) from to lines given
+  pub inner : End
+  pub done : WritesGraph given (type_asked d) old new inner
+  pub ends : EndsIn types d.declaration.now lines inner end
 
 -- A file is not read.
-pub record IsNotRead {S : Type 0} (reads : Reading S) (from to : S) (d : Draw) (old new : Held) (end : End) : Type 0 where
+pub record IsNotRead {S : Type 0} (reads : Reading S) (from to : S) (types : List Text) (d : Draw) (old new : Held) (end : End) : Type 0 where
   pub part : Part
   pub fault : SourceFault
-  pub unread : IsUnread reads (files_of d) from to part fault
+  pub unread : IsUnread reads types (files_of d) from to part fault
   pub failed : end ≡ Err (failure_of_source fault)
   pub same : new ≡ old
 
-abbrev pub Draws : {S : Type 0} → Reading S → (from to : S) → Draw → (old new : Held) → End → Type 0
-Draws reads from to d old new end = IsReadAndDrawn reads from to d old new end ⊎ IsNotRead reads from to d old new end
+abbrev pub Draws : {S : Type 0} → Reading S → (from to : S) → (types : List Text) → Draw → (old new : Held) → End → Type 0
+Draws reads from to types d old new end = IsReadAndDrawn reads from to types d old new end ⊎ IsNotRead reads from to types d old new end

@@ -21,6 +21,7 @@ use Rattle.fbsim_command.specs.Failures.{IsPartWritten, failure_of_source, refus
 use Rattle.fbsim_command.specs.Known.{IsUnknownAt, has_names}
 use Rattle.fbsim_command.specs.Notes.{IsFileNote, IsNoteOfName, IsNoteOfNumber, Notes, number_of}
 use Rattle.fbsim_command.specs.Outcomes.{End, Held, IsRefused}
+use Rattle.fbsim_command.specs.OwnLines.{EndsIn}
 use Rattle.fbsim_command.specs.Reading.{Reading, AreRead, IsUnread}
 use Rattle.fbsim_command.specs.Showing.{Opening}
 use Rattle.fbsim_command.specs.declared.bench_line.Expect.{Expect}
@@ -45,23 +46,32 @@ files_of x declaration = record { action = Check; declaration = declaration; dep
 abbrev pub asked_rules : ℕ
 asked_rules = most_bytes + 1
 
+-- the names of the files of block types
+abbrev pub types_of : Expect → List Text
+types_of x = map (λ t. t.now) x.types.items
+
+-- the name of the declaration's own file, if there is one
+abbrev pub own_of : Option (Bor Text) → Text
+own_of None = []
+own_of (Some name) = name.now
+
 -- the declaration and the deployment are read, where a declaration is named
-abbrev pub MayDeclare : {S : Type 0} → Reading S → Expect → Option (Bor Text) → (old new : S) → Option Given → Type 0
-MayDeclare reads x None old new None = new ≡ old
-MayDeclare reads x None old new (Some given) = ⊥
-MayDeclare reads x (Some name) old new None = ⊥
-MayDeclare reads x (Some name) old new (Some given) = AreRead reads (files_of x name) old new given
+abbrev pub MayDeclare : {S : Type 0} → Reading S → Expect → Option (Bor Text) → (old new : S) → (lines : List ℕ) → Option Given → Type 0
+MayDeclare reads x None old new lines None = (new ≡ old) × (lines ≡ [])
+MayDeclare reads x None old new lines (Some given) = ⊥
+MayDeclare reads x (Some name) old new lines None = ⊥
+MayDeclare reads x (Some name) old new lines (Some given) = AreRead reads (types_of x) (files_of x name) old new lines given
 
 -- The rules are read, and then what their names must be in.
-pub record AreRulesRead {S : Type 0} (reads : Reading S) (x : Expect) (old new : S) (bytes : Text) (declared : Option Given) : Type 0 where
+pub record AreRulesRead {S : Type 0} (reads : Reading S) (x : Expect) (old new : S) (bytes : Text) (lines : List ℕ) (declared : Option Given) : Type 0 where
   pub between : S
   pub rules : reads old x.rules.now asked_rules (Ok bytes) between
-  pub declaration : MayDeclare reads x x.declaration between new declared
+  pub declaration : MayDeclare reads x x.declaration between new lines declared
 
 -- this file is the first of them that is not read, for this fault
 abbrev pub IsUndeclared : {S : Type 0} → Reading S → Expect → Option (Bor Text) → (old new : S) → Part → SourceFault → Type 0
 IsUndeclared reads x None old new part fault = ⊥
-IsUndeclared reads x (Some name) old new part fault = IsUnread reads (files_of x name) old new part fault
+IsUndeclared reads x (Some name) old new part fault = IsUnread reads (types_of x) (files_of x name) old new part fault
 
 -- The rules are read, and then this file is not, for this fault.
 pub record AreNamesUnread {S : Type 0} (reads : Reading S) (x : Expect) (old new : S) (part : Part) (fault : SourceFault) : Type 0 where
@@ -78,7 +88,7 @@ pub record IsRulesFileNote (x : Expect) (fault : SourceFault) (note : Text) : Ty
 -- the note to this file of the declaration, which is not read
 abbrev pub IsNamesFileNote : Expect → Option (Bor Text) → Part → SourceFault → Text → Type 0
 IsNamesFileNote x None part fault note = ⊥
-IsNamesFileNote x (Some name) part fault note = IsFileNote (files_of x name) part fault note
+IsNamesFileNote x (Some name) part fault note = IsFileNote (types_of x) (files_of x name) part fault note
 
 -- a file is not read, for this fault, and such a note is given
 abbrev pub AreUnread : {S : Type 0} → Reading S → Expect → (old new : S) → SourceFault → Option Text → Type 0
@@ -105,7 +115,7 @@ pub record AreRules (bytes : Text) (declared : Option Given) (rules : List Rule)
 pub record AreRefused (bytes : Text) (refusal : RefusalLine) : Type 0 where
   pub number : ℕ
   pub are : rules_of bytes ≡ Err number
-  pub told : refusal ≡ Numbered number
+  pub reported : refusal ≡ Numbered number
 
 -- The bytes are rules, and what is declared is refused, as a check refuses it.
 pub record IsPlanRefused (bytes : Text) (declared : Option Given) (refusal : RefusalLine) : Type 0 where
@@ -122,7 +132,7 @@ pub record AreUnnamed (bytes : Text) (declared : Option Given) (refusal : Refusa
   pub given : Given
   pub is : declared ≡ Some given
   pub unknown : Names given rules false
-  pub told : refusal ≡ Numbered 45
+  pub reported : refusal ≡ Numbered 45
 
 abbrev pub RefusesRules : Text → Option Given → RefusalLine → Type 0
 RefusesRules bytes declared refusal = AreRefused bytes refusal ⊎ IsPlanRefused bytes declared refusal ⊎ AreUnnamed bytes declared refusal
@@ -191,9 +201,9 @@ pub record Reports {S : Type 0} (opens : Opening S) (x : Expect) (rules : List R
 -- Those before this trace were held against the rules.
 pub record ComesTo {S : Type 0} (opens : Opening S) (x : Expect) (rules : List Rule) (old new : S) (name : Text) : Type 0 where
   pub before : List Text
-  pub behind : List Text
+  pub following : List Text
   pub all : List (List Judged)
-  pub parts : names_of x ≡ before ++ name ∷ behind
+  pub parts : names_of x ≡ before ++ name ∷ following
   pub held : AreHeld opens x rules old new before all
 
 -- A trace is refused, at the line in the text, with the trace's name.
@@ -204,7 +214,7 @@ pub record RefusesTrace {S : Type 0} (opens : Opening S) (x : Expect) (rules : L
   pub trace : Held
   pub opened : opens between name (Ok trace) new
   pub line : ℕ
-  pub told : text ≡ refused_trace name line
+  pub reported : text ≡ refused_trace name line
 
 -- A trace is not opened, or can't be read to its end.
 abbrev pub IsNoTrace : {S : Type 0} → Opening S → (old new : S) → (name : Text) → Type 0
@@ -297,10 +307,10 @@ pub record IsPlaceOf (bytes : Text) (number : ℕ) : Type 0 where
   pub number_is : number_at place ≡ number
 
 -- The bytes are rules, and what is declared is refused with this number, as the note of a check says.
-pub record IsPlanNote (declared : Option Given) (number : ℕ) (note : Text) : Type 0 where
+pub record IsPlanNote (x : Expect) (lines : List ℕ) (declared : Option Given) (number : ℕ) (note : Text) : Type 0 where
   pub given : Given
   pub is : declared ≡ Some given
-  pub noted : IsNoteOfNumber given number note
+  pub noted : IsNoteOfNumber (types_of x) (own_of x.declaration) lines given number note
 
 -- The bytes are rules, and what is declared does not have the pattern at a key of a rule.
 pub record IsUnknownPlace (bytes : Text) (declared : Option Given) (rule : ℕ) (key : RuleKey) : Type 0 where
@@ -313,23 +323,27 @@ pub record IsUnknownPlace (bytes : Text) (declared : Option Given) (rule : ℕ) 
   pub unknown : IsUnknownAt (system_of inputs) rules rule key
 
 -- The note is that of a place at which the refusal of this number applies.
-abbrev pub IsNoteAt : Text → Option Given → (number : ℕ) → Text → Type 0
-IsNoteAt bytes declared number note =
-    IsPlaceOf bytes number ⊎ IsPlanNote declared number note ⊎ ((number ≡ 45) × ((rule : ℕ) × (key : RuleKey) × IsUnknownPlace bytes declared rule key))
+abbrev pub IsNoteAt : Expect → (bytes : Text) → (lines : List ℕ) → Option Given → (number : ℕ) → Text → Type 0
+IsNoteAt x bytes lines declared number note =
+    IsPlaceOf bytes number ⊎ IsPlanNote x lines declared number note ⊎ ((number ≡ 45) × ((rule : ℕ) × (key : RuleKey) × IsUnknownPlace bytes declared rule key))
 
 -- where a call that has read these files fails, such a note
-abbrev pub NotesRules : Text → Option Given → (why : Bool) → End → Option Text → Type 0
-NotesRules bytes declared why (Ok d) note = note ≡ None
-NotesRules bytes declared why (Err failure) note = Notes why (λ t. (number : ℕ) × (number_of failure ≡ Some number) × IsNoteAt bytes declared number t) note
+abbrev pub NotesRules : Expect → (bytes : Text) → (lines : List ℕ) → Option Given → End → Option Text → Type 0
+NotesRules x bytes lines declared (Ok d) note = note ≡ None
+NotesRules x bytes lines declared (Err failure) note =
+    Notes x.why (λ t. (number : ℕ) × (number_of failure ≡ Some number) × IsNoteAt x bytes lines declared number t) note
 
--- All is read, and all traces are held against the rules.
+-- All is read, and all traces are held against the rules. A syntax fault of the declaration is one of the file that has it.
 pub record IsReadAndHeld {S : Type 0} (reads : Reading S) (opens : Opening S) (old new : S) (x : Expect) (a b : Held) (end : End) (note : Option Text) : Type 0 where
   pub between : S
   pub bytes : Text
+  pub lines : List ℕ
   pub declared : Option Given
-  pub read : AreRulesRead reads x old between bytes declared
-  pub done : Holds opens x between new bytes declared a b end
-  pub noted : NotesRules bytes declared x.why end note
+  pub read : AreRulesRead reads x old between bytes lines declared
+  pub inner : End
+  pub done : Holds opens x between new bytes declared a b inner
+  pub noted : NotesRules x bytes lines declared inner note
+  pub ends : EndsIn (types_of x) (own_of x.declaration) lines inner end
 
 -- What a call that holds rules against traces does, from one state of the source to the next, and its note.
 abbrev pub Expects : {S : Type 0} → Reading S → Opening S → (old new : S) → Expect → (a b : Held) → End → Option Text → Type 0

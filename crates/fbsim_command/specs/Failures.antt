@@ -93,15 +93,15 @@ failure_text (Line text) = string_bytes text
 failure_text BadOption = codes "an option is out of range"
 
 -- what standard error gets: the text, and a line end if the text has none of its own
-abbrev pub told : Failure → List ℕ
-told (Line text) = string_bytes text
-told failure = failure_text failure ++ codes "\n"
+abbrev pub reported : Failure → List ℕ
+reported (Line text) = string_bytes text
+reported failure = failure_text failure ++ codes "\n"
 
 -- what standard error gets at the end of a call: the failure, and then the line of the note, if there is one
-abbrev pub told_of : Result Done Failure → Option (List ℕ) → List ℕ
-told_of (Ok d) text = []
-told_of (Err failure) None = told failure
-told_of (Err failure) (Some text) = told failure ++ text ++ codes "\n"
+abbrev pub reported_of : Result Done Failure → Option (List ℕ) → List ℕ
+reported_of (Ok d) text = []
+reported_of (Err failure) None = reported failure
+reported_of (Err failure) (Some text) = reported failure ++ text ++ codes "\n"
 
 -- ---- Explanations
 

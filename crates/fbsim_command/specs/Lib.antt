@@ -1,10 +1,12 @@
 pub mod Line
 pub mod Files
+pub mod Joining
 pub mod Failures
 pub mod Texts
 pub mod Reading
 pub mod Notes
 pub mod Outcomes
+pub mod OwnLines
 pub mod Showing
 pub mod Known
 pub mod Expecting

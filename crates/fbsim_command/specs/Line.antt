@@ -1,5 +1,5 @@
 -- The command line (this project's own): the program's commands, and what a parse of the words asks for.
-use Rattle.std.specs.Prelude.{◌≡◌, ◌⊎◌, ◌<◌, ◌^◌, ◌↔◌, ℕ, Bool, true, false, IsTrue, List, [], ◌∷◌, Option, Some, None, is_some, map, option_map, codes}
+use Rattle.std.specs.Prelude.{◌≡◌, ◌⊎◌, ◌<◌, ◌^◌, ◌↔◌, ℕ, Bool, true, false, IsTrue, List, [], ◌∷◌, Option, Some, None, map, option_map, codes}
 use Rattle.std.specs.Borrow.{Bor}
 use Rattle.std.specs.Str.Parse.{IsNumeral, digits_value, without_leading_plus}
 use Rattle.clap.specs.Words.{App, Rule, Row, Text, new_app, new_rule, with_rule, with_subcommand, subcommand_of, all_of, first_of, one_of, takes, fault_of, IsAmong}
@@ -64,6 +64,10 @@ several id = record (required id) { action = Some Append }
 abbrev pub file : Text → Rule
 file id = record (new_rule id) { long = Some id }
 
+-- an option that takes the name of a file, and may be there several times
+abbrev pub repeated : Text → Rule
+repeated id = record (file id) { action = Some Append }
+
 -- an option without a value
 abbrev pub flag : Text → Rule
 flag id = record (new_rule id) { long = Some id; action = Some SetTrue }
@@ -72,9 +76,9 @@ flag id = record (new_rule id) { long = Some id; action = Some SetTrue }
 abbrev pub begun : Text → Text → App
 begun name id = with_rule (new_app name) (required id)
 
--- a command with the names of a declaration and of its deployment
+-- a command with the names of a declaration, of the files of block types before it, and of its deployment
 abbrev pub deployed : Text → App
-deployed name = with_rule (begun name (codes "DECL")) (file (codes "deploy"))
+deployed name = with_rule (with_rule (begun name (codes "DECL")) (repeated (codes "types"))) (file (codes "deploy"))
 
 -- a command with the names of its files, and whether a refusal is reported with its place
 abbrev pub files : Text → App
@@ -106,12 +110,14 @@ wave =
     (flag (codes "cut")))
     (flag (codes "why"))
 
--- a command with the names of rules and of traces, of a declaration and of its deployment, and how the rules are held
+-- a command with the names of rules and of traces, of a declaration with its files of block types and its deployment, and how
+-- the rules are held
 abbrev pub expect : App
 expect =
-    with_rule (with_rule (with_rule (with_rule (with_rule (with_rule (begun (codes "expect") (codes "RULES"))
+    with_rule (with_rule (with_rule (with_rule (with_rule (with_rule (with_rule (begun (codes "expect") (codes "RULES"))
     (several (codes "TRACE")))
     (file (codes "decl")))
+    (repeated (codes "types")))
     (file (codes "deploy")))
     (flag (codes "strict")))
     (flag (codes "cut")))
@@ -152,11 +158,11 @@ command_name (Run horizon steps workers serial form progress) = codes "run"
 
 abbrev pub call_name : Call → Text
 call_name (call.Explain name) = codes "explain"
-call_name (call.Task c) = command_name c.action
-call_name (call.Wave w) = codes "wave"
+call_name (call.Task c types) = command_name c.action
+call_name (call.Wave w types) = codes "wave"
 call_name (call.Expect x) = codes "expect"
 call_name (call.Diff d) = codes "diff"
-call_name (call.Draw d) = codes "draw"
+call_name (call.Draw d types) = codes "draw"
 
 -- the option has one text, a decimal numeral that may begin with a plus, and this is its number
 pub record IsNumber (rows : List Row) (id : Text) (n : ℕ) : Type 0 where
@@ -186,6 +192,15 @@ abbrev pub IsAction : List Row → Action → Type 0
 IsAction rows Check = Unit {0}
 IsAction rows (Run horizon steps workers serial form progress) = IsRun rows horizon steps workers serial form progress
 
+-- the texts of an option that may be absent
+abbrev pub or_none : Option (List Text) → List Text
+or_none None = []
+or_none (Some texts) = texts
+
+-- these are the names of the files of block types, in their order
+abbrev pub AreTypes : List Row → List (Bor Text) → Type 0
+AreTypes rows types = or_none (all_of (codes "types") rows) ≡ map (λ t. t.now) types
+
 -- the call has what the rows of its command say
 pub record IsTask (rows : List Row) (c : Task) : Type 0 where
   pub declaration : first_of (codes "DECL") rows ≡ Some c.declaration.now
@@ -202,18 +217,21 @@ pub record AsksWave (rows : List Row) (w : Wave) : Type 0 where
   pub cut : IsFlag rows (codes "cut") w.is_cut
   pub why : IsFlag rows (codes "why") w.why
 
--- a deployment is named, and no declaration
-abbrev pub deploys_nothing : (declaration deploy : Option Text) → Bool
-deploys_nothing (Some n) deploy = false
-deploys_nothing None deploy = is_some deploy
+-- a deployment or block types are named, and no declaration
+abbrev pub declares_nothing : (declaration deploy : Option Text) → (types : List Text) → Bool
+declares_nothing (Some n) deploy types = false
+declares_nothing None (Some d) types = true
+declares_nothing None None [] = false
+declares_nothing None None (t ∷ ts) = true
 
--- Rules must be held against these traces. A deployment is one of a declaration.
+-- Rules must be held against these traces. A deployment and block types are those of a declaration.
 pub record AsksExpect (rows : List Row) (x : Expect) : Type 0 where
   pub rules : first_of (codes "RULES") rows ≡ Some x.rules.now
   pub traces : all_of (codes "TRACE") rows ≡ Some (map (λ t. t.now) x.traces.items)
   pub declaration : first_of (codes "decl") rows ≡ option_map (λ n. n.now) x.declaration
+  pub types : AreTypes rows x.types.items
   pub deploy : first_of (codes "deploy") rows ≡ option_map (λ n. n.now) x.deploy
-  pub of_a_declaration : x.declaration ≡ None → x.deploy ≡ None
+  pub of_a_declaration : declares_nothing (option_map (λ n. n.now) x.declaration) (option_map (λ n. n.now) x.deploy) (map (λ t. t.now) x.types.items) ≡ false
   pub strict : IsFlag rows (codes "strict") x.is_strict
   pub cut : IsFlag rows (codes "cut") x.is_cut
   pub why : IsFlag rows (codes "why") x.why
@@ -231,11 +249,11 @@ pub record AsksDraw (rows : List Row) (d : Draw) : Type 0 where
 
 abbrev pub IsCall : List Row → Call → Type 0
 IsCall rows (call.Explain name) = first_of (codes "NAME") rows ≡ Some name.now
-IsCall rows (call.Task c) = IsTask rows c
-IsCall rows (call.Wave w) = AsksWave rows w
+IsCall rows (call.Task c types) = IsTask rows c × AreTypes rows types.items
+IsCall rows (call.Wave w types) = AsksWave rows w × AreTypes rows types.items
 IsCall rows (call.Expect x) = AsksExpect rows x
 IsCall rows (call.Diff d) = AsksDiff rows d
-IsCall rows (call.Draw d) = AsksDraw rows d
+IsCall rows (call.Draw d types) = AsksDraw rows d × AreTypes rows types.items
 
 -- a command's name and its rows ask for this
 pub record IsCallOf (found : Option (Text × List Row)) (r : Call) : Type 0 where

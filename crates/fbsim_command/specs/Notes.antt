@@ -1,9 +1,10 @@
 -- What is reported after the line of a failure (this project's own).
-use Rattle.std.specs.Prelude.{◌≡◌, ◌≢◌, ℕ, List, ◌++◌, Bool, IsTrue, Option, Some, None, Ok, Err, option_map, codes, string_bytes}
+use Rattle.std.specs.Prelude.{◌≡◌, ◌≢◌, ℕ, List, ◌++◌, Bool, IsTrue, Option, Some, None, Ok, Err, option_map, slice_get, codes, string_bytes}
 use Rattle.fbsim_command.specs.declared.line.Task.{Task}
 use Rattle.fb_sim.specs.Given.{Given}
-use Rattle.fb_why.specs.Findings.{Tells}
+use Rattle.fb_why.specs.Findings.{Finds}
 use Rattle.fb_why.specs.declared.spot.Finding.{Finding}
+use Rattle.fbsim_command.specs.OwnLines.{IsNoteIn}
 use Rattle.fbsim_command.specs.declared.failure.Failure.{Failure}
 use Rattle.fbsim_command.specs.declared.failure.Failure.TheVariants.{Refused}
 use Rattle.fbsim_command.specs.declared.failure.RefusalLine.TheVariants.{Numbered, Syntax}
@@ -11,20 +12,22 @@ use Rattle.fbsim_command.specs.declared.sources.SourceFault.{SourceFault}
 use Rattle.fbsim_command.specs.declared.sources.SourceFault.TheVariants.{File}
 use Rattle.fbsim_command.specs.declared.texts.Part.{Part}
 use Rattle.fbsim_command.specs.Outcomes.{End}
-use Rattle.fbsim_command.specs.declared.texts.Part.TheVariants.{Declaration, Deployment, Stimuli}
+use Rattle.fbsim_command.specs.declared.texts.Part.TheVariants.{BlockTypes, Declaration, Deployment, Stimuli}
 
 -- ---- Files
 
 abbrev pub file_word : Part → List ℕ
+file_word (BlockTypes index) = codes "types"
 file_word Declaration = codes "declaration"
 file_word Deployment = codes "deployment"
 file_word Stimuli = codes "stimuli"
 
 -- the name that a call gives to a file, where it gives one
-abbrev pub name_of : Task → Part → Option (List ℕ)
-name_of c Declaration = Some c.declaration.now
-name_of c Deployment = option_map (λ n. n.now) c.deploy
-name_of c Stimuli = option_map (λ n. n.now) c.stimuli
+abbrev pub name_of : (types : List (List ℕ)) → Task → Part → Option (List ℕ)
+name_of types c (BlockTypes index) = slice_get types index
+name_of types c Declaration = Some c.declaration.now
+name_of types c Deployment = option_map (λ n. n.now) c.deploy
+name_of types c Stimuli = option_map (λ n. n.now) c.stimuli
 
 -- what is the matter with a file of this name
 pub record IsMatter (name matter : List ℕ) : Type 0 where
@@ -38,10 +41,10 @@ pub record IsNoteOfName (word name note : List ℕ) : Type 0 where
   pub text : note ≡ word ++ codes " " ++ name ++ codes ": " ++ matter
 
 -- The note of a file that can't be read.
-pub record IsFileNote (c : Task) (part : Part) (fault : SourceFault) (note : List ℕ) : Type 0 where
+pub record IsFileNote (types : List (List ℕ)) (c : Task) (part : Part) (fault : SourceFault) (note : List ℕ) : Type 0 where
   pub unread : fault ≡ File
   pub name : List ℕ
-  pub named : name_of c part ≡ Some name
+  pub named : name_of types c part ≡ Some name
   pub is : IsNoteOfName (file_word part) name note
 
 -- ---- Refusals
@@ -52,13 +55,15 @@ number_of (Refused (Numbered n)) = Some n
 number_of (Refused (Syntax line)) = Some 3
 number_of _ = None
 
--- The note is the text of a place at which the refusal of this number applies.
-abbrev pub IsNoteOfNumber : Given → (number : ℕ) → List ℕ → Type 0
-IsNoteOfNumber given number note = (r : Finding) × (string_bytes r.text ≡ note) × Tells given.declaration given.deploy given.stimuli number r.location
+-- The note is that of a place at which the refusal of this number applies. In a declaration of several files it has the file's own
+-- name and line.
+abbrev pub IsNoteOfNumber : (types : List (List ℕ)) → (own : List ℕ) → (lines : List ℕ) → Given → (number : ℕ) → List ℕ → Type 0
+IsNoteOfNumber types own lines given number note =
+    (r : Finding) × IsNoteIn types own lines r.location (string_bytes r.text) note × Finds given.declaration given.deploy given.stimuli number r.location
 
 -- The note is that of the number of the refusal.
-abbrev pub IsNote : Given → Failure → List ℕ → Type 0
-IsNote given failure note = (number : ℕ) × (number_of failure ≡ Some number) × IsNoteOfNumber given number note
+abbrev pub IsNote : (types : List (List ℕ)) → (own : List ℕ) → (lines : List ℕ) → Given → Failure → List ℕ → Type 0
+IsNote types own lines given failure note = (number : ℕ) × (number_of failure ≡ Some number) × IsNoteOfNumber types own lines given number note
 
 -- A note is given only where one is asked for, and then it is such a one.
 abbrev pub Notes : (why : Bool) → (List ℕ → Type 0) → Option (List ℕ) → Type 0
@@ -66,6 +71,6 @@ Notes why is None = Unit {0}
 Notes why is (Some note) = IsTrue why × is note
 
 -- where a call has failed, such a note
-abbrev pub NotesOf : Given → (why : Bool) → End → Option (List ℕ) → Type 0
-NotesOf given why (Ok d) note = note ≡ None
-NotesOf given why (Err failure) note = Notes why (IsNote given failure) note
+abbrev pub NotesOf : (types : List (List ℕ)) → Task → (lines : List ℕ) → Given → End → Option (List ℕ) → Type 0
+NotesOf types c lines given (Ok d) note = note ≡ None
+NotesOf types c lines given (Err failure) note = Notes c.why (IsNote types c.declaration.now lines given failure) note

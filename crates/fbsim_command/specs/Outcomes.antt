@@ -22,4 +22,4 @@ Held = Option Text
 pub record IsRefused (given : Given) (refusal : RefusalLine) : Type 0 where
   pub error : RunError
   pub refused : IsRefusal given error
-  pub told : failure_of error ≡ Refused refusal
+  pub reported : failure_of error ≡ Refused refusal

@@ -1,5 +1,5 @@
 -- What a call for the waveforms of a trace does (this project's own).
-use Rattle.std.specs.Prelude.{◌≡◌, ◌⊎◌, ℕ, None, Option, Result, Ok, Err, IfSome, if◌then◌else◌, codes}
+use Rattle.std.specs.Prelude.{◌≡◌, ◌⊎◌, ℕ, List, None, Option, Result, Ok, Err, IfSome, if◌then◌else◌, codes}
 use Rattle.clap.specs.Words.{Text}
 use Rattle.fb_types.specs.Headline.{Inputs, system_of}
 use Rattle.fb_sim.specs.Given.{Given}
@@ -15,6 +15,7 @@ use Rattle.fbsim_command.specs.declared.line.Wave.{Wave}
 use Rattle.fbsim_command.specs.Failures.{failure_of_source}
 use Rattle.fbsim_command.specs.Notes.{IsFileNote, IsNoteOfName, Notes, NotesOf}
 use Rattle.fbsim_command.specs.Outcomes.{End, Held, IsRefused}
+use Rattle.fbsim_command.specs.OwnLines.{EndsIn}
 use Rattle.fbsim_command.specs.Reading.{Reading, AreRead, IsUnread}
 use Rattle.fbsim_command.specs.declared.failure.Failure.TheVariants.{Refused, RefusedTrace, File, Write, Memory, Line, BadOption}
 use Rattle.fbsim_command.specs.declared.failure.RefusalLine.{RefusalLine}
@@ -84,35 +85,39 @@ pub record IsTraceFileNote (w : Wave) (fault : SourceFault) (note : Text) : Type
   pub unread : fault ≡ source.File
   pub is : IsNoteOfName (codes "trace") w.trace.now note
 
--- All is read that the trace is of, the trace is opened, and its dump is written.
-pub record IsReadAndShown {S : Type 0} (reads : Reading S) (opens : Opening S) (from to : S) (w : Wave) (old new : Held) (end : End) (note : Option Text) : Type 0 where
+-- All is read that the trace is of, the trace is opened, and its dump is written. A syntax fault is one of the file that has it.
+pub record IsReadAndShown {S : Type 0} (reads : Reading S) (opens : Opening S) (from to : S) (types : List Text) (w : Wave) (old new : Held) (end : End) (note : Option Text) : Type 0 where
+  pub lines : List ℕ
   pub given : Given
   pub between : S
-  pub read : AreRead reads (files_of w) from between given
+  pub read : AreRead reads types (files_of w) from between lines given
   pub trace : Held
   pub opened : opens between w.trace.now (Ok trace) to
-  pub done : Dumps (cut_of w) given trace old new end
-  pub noted : NotesOf given w.why end note
+  pub inner : End
+  pub done : Dumps (cut_of w) given trace old new inner
+  pub noted : NotesOf types (files_of w) lines given inner note
+  pub ends : EndsIn types w.declaration.now lines inner end
 
 -- All is read that the trace is of, and the trace is not opened.
-pub record IsUnopened {S : Type 0} (reads : Reading S) (opens : Opening S) (from to : S) (w : Wave) (fault : SourceFault) (note : Option Text) : Type 0 where
+pub record IsUnopened {S : Type 0} (reads : Reading S) (opens : Opening S) (from to : S) (types : List Text) (w : Wave) (fault : SourceFault) (note : Option Text) : Type 0 where
+  pub lines : List ℕ
   pub given : Given
   pub between : S
-  pub read : AreRead reads (files_of w) from between given
+  pub read : AreRead reads types (files_of w) from between lines given
   pub unread : opens between w.trace.now (Err fault) to
   pub noted : Notes w.why (IsTraceFileNote w fault) note
 
 -- A file is not read that the trace is of.
-pub record IsUnreadFor {S : Type 0} (reads : Reading S) (from to : S) (w : Wave) (fault : SourceFault) (note : Option Text) : Type 0 where
+pub record IsUnreadFor {S : Type 0} (reads : Reading S) (from to : S) (types : List Text) (w : Wave) (fault : SourceFault) (note : Option Text) : Type 0 where
   pub part : Part
-  pub unread : IsUnread reads (files_of w) from to part fault
-  pub noted : Notes w.why (IsFileNote (files_of w) part fault) note
+  pub unread : IsUnread reads types (files_of w) from to part fault
+  pub noted : Notes w.why (IsFileNote types (files_of w) part fault) note
 
 -- this fault keeps a file from being read
-abbrev pub IsUnshown : {S : Type 0} → Reading S → Opening S → (from to : S) → Wave → SourceFault → Option Text → Type 0
-IsUnshown reads opens from to w fault note = IsUnreadFor reads from to w fault note ⊎ IsUnopened reads opens from to w fault note
+abbrev pub IsUnshown : {S : Type 0} → Reading S → Opening S → (from to : S) → (types : List Text) → Wave → SourceFault → Option Text → Type 0
+IsUnshown reads opens from to types w fault note = IsUnreadFor reads from to types w fault note ⊎ IsUnopened reads opens from to types w fault note
 
-abbrev pub Shows : {S : Type 0} → Reading S → Opening S → (from to : S) → Wave → (old new : Held) → End → Option Text → Type 0
-Shows reads opens from to w old new end note =
-    IsReadAndShown reads opens from to w old new end note
-    ⊎ ((fault : SourceFault) × IsUnshown reads opens from to w fault note × (end ≡ Err (failure_of_source fault)) × (new ≡ old))
+abbrev pub Shows : {S : Type 0} → Reading S → Opening S → (from to : S) → (types : List Text) → Wave → (old new : Held) → End → Option Text → Type 0
+Shows reads opens from to types w old new end note =
+    IsReadAndShown reads opens from to types w old new end note
+    ⊎ ((fault : SourceFault) × IsUnshown reads opens from to types w fault note × (end ≡ Err (failure_of_source fault)) × (new ≡ old))

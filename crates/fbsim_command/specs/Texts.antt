@@ -1,5 +1,5 @@
 -- The files of a call, as they were read (this project's own).
-use Rattle.std.specs.Prelude.{ℕ, List, Option, option_map, Result, Ok, Err}
+use Rattle.std.specs.Prelude.{ℕ, List, map, [], Option, Some, None, option_map, Result, Ok, Err}
 use Rattle.std.specs.Global.{Vec}
 use Rattle.fb_sim.specs.Given.{Given}
 use Rattle.fbsim_command.specs.declared.texts.Texts.{Texts}
@@ -13,6 +13,18 @@ given_of t =
       deploy = option_map (λ v. v.items) t.deploy;
       stimuli = option_map (λ v. v.items) t.stimuli;
     }
+
+-- the texts of a list
+abbrev pub texts_of : List (Vec ℕ) → List (List ℕ)
+texts_of ts = map (λ t. t.items) ts
+
+-- how many lines each file of a declaration has, where it is in several
+abbrev pub lines_of : Texts → List ℕ
+lines_of t = t.lines.items
+
+abbrev pub may_lines_of : Option Texts → List ℕ
+may_lines_of None = []
+may_lines_of (Some t) = lines_of t
 
 -- the bytes of a file that may be there
 abbrev pub contents_of : Result (Option (Vec ℕ)) SourceFault → Result (Option (List ℕ)) SourceFault

@@ -1,6 +1,6 @@
 //! The calls that compare traces: with rules, and with one another.
 
-ghost use Rattle.std.specs.Prelude.{◌≡◌, IfNone, IfOk, IfSome, codes, false, option_map};
+ghost use Rattle.std.specs.Prelude.{◌≡◌, IfNone, IfOk, IfSome, codes, false, map, option_map};
 ghost use Rattle.clap.specs.Words.{app_of, found_of, rows_of, rule_of};
 ghost use Rattle.clap.specs.declared.builder.command.Command.TheViews.{out-Command as fields_of};
 ghost use Rattle.fbsim_command.specs.Line as spec;
@@ -8,7 +8,9 @@ ghost use Rattle.fbsim_command.specs.Line.{AsksDiff, AsksExpect, IsCall, call_na
 ghost use Rattle.fbsim_command.specs.declared.bench_line.Diff.{Diff};
 ghost use Rattle.fbsim_command.specs.declared.bench_line.Expect.{Expect};
 
-use crate::line::{Call, begun, flag, has_flag, option, required, with_arg};
+use crate::line::{
+    Call, TYPES_HELP, begun, flag, has_flag, option, repeated, required, types_of, with_arg,
+};
 use clap::{Arg, ArgAction, ArgMatches, Command};
 use std::alloc::{AllocError, Global};
 
@@ -21,6 +23,8 @@ pub struct Expect<'a> {
     pub traces: Vec<&'a str>,
     /// The name of the declaration's file, where the names of the rules must be in it.
     pub declaration: Option<&'a str>,
+    /// The names of the files of block types that are read before the declaration, in their order.
+    pub types: Vec<&'a str>,
     /// The name of the deployment's file, where one is given.
     pub deploy: Option<&'a str>,
     /// Whether a rule that a trace leaves undecided counts as broken.
@@ -96,6 +100,7 @@ pub(crate) fn expect_command<'a>(alloc: Global) -> Result<Command<'a>, AllocErro
     );
     let command = with_arg(command, traces(alloc));
     let command = with_arg(command, option(alloc, "decl", DECL_HELP));
+    let command = with_arg(command, repeated(alloc, "types", TYPES_HELP));
     let command = with_arg(command, option(alloc, "deploy", DEPLOY_HELP));
     let command = with_arg(command, flag(alloc, "strict", STRICT_HELP));
     let command = with_arg(command, flag(alloc, "cut", CUT_HELP));
@@ -111,17 +116,19 @@ pub(crate) fn diff_command<'a>(alloc: Global) -> Result<Command<'a>, AllocError>
     with_arg(command, required(alloc, "B", SECOND_HELP))
 }
 
-/// Whether a deployment is named, and no declaration.
-fn deploys_nothing(declaration: Option<&str>, deploy: Option<&str>) -> bool
-    ensures { result ≡ spec.deploys_nothing (option_map (λ n. n.now) declaration.entry) (option_map (λ n. n.now) deploy.entry) }
+/// Whether a deployment or block types are named, and no declaration.
+fn declares_nothing(declaration: Option<&str>, deploy: Option<&str>, types: &[&str]) -> bool
+    ensures { result ≡ spec.declares_nothing (option_map (λ n. n.now) declaration.entry) (option_map (λ n. n.now) deploy.entry) (map (λ t. t.now) types.now) }
 {
-    match declaration {
-        Some(_) => false,
-        None => deploy.is_some(),
+    match (declaration, deploy) {
+        (Some(_), _) => false,
+        (None, Some(_)) => true,
+        (None, None) => !types.is_empty(),
     }
 }
 
-/// The call that holds rules against traces, with what was found. A deployment is one of a declaration.
+/// The call that holds rules against traces, with what was found. A deployment and block types
+/// are those of a declaration.
 pub(crate) fn expect_of<'a>(
     alloc: Global,
     found: &ArgMatches<'a>,
@@ -138,7 +145,8 @@ pub(crate) fn expect_of<'a>(
     };
     let declaration = found.get_str("decl");
     let deploy = found.get_str("deploy");
-    if deploys_nothing(declaration, deploy) {
+    let types = types_of(alloc, found)?;
+    if declares_nothing(declaration, deploy, types.as_slice()) {
         return Ok(None);
     }
     let traces = Vec::from_slice(alloc, names)?;
@@ -146,6 +154,7 @@ pub(crate) fn expect_of<'a>(
         rules,
         traces,
         declaration,
+        types,
         deploy,
         is_strict: has_flag(found, "strict"),
         is_cut: has_flag(found, "cut"),

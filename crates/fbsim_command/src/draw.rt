@@ -1,6 +1,6 @@
 //! Pictures of what is declared.
 
-ghost use Rattle.std.specs.Prelude.{◌≡◌, IfErr, IfNone, IfOk, IfSome, codes, false, option_map};
+ghost use Rattle.std.specs.Prelude.{◌≡◌, IfErr, IfNone, IfOk, IfSome, codes, false, map, option_map};
 ghost use Rattle.clap.specs.Words.{app_of, found_of, rows_of};
 ghost use Rattle.clap.specs.declared.builder.command.Command.TheViews.{out-Command as fields_of};
 ghost use Rattle.fb_types.specs.Headline.{inputs};
@@ -10,8 +10,9 @@ ghost use Rattle.fbsim_command.specs.Drawing.{Draws, IsGraph, IsUndrawn, WritesG
 ghost use Rattle.fbsim_command.specs.declared.draw.Draw.{Draw};
 
 use crate::failure::{Failure, RefusalLine};
-use crate::line::{Action, Call, Task, deployed, option, with_arg};
+use crate::line::{Action, Call, Task, deployed, option, types_of, with_arg};
 use crate::output::write_text;
+use crate::own_lines::end_with;
 use crate::sources::Source;
 use crate::statuses::Done;
 use crate::texts::read_files;
@@ -54,19 +55,26 @@ pub(crate) fn draw_command<'a>(alloc: Global) -> Result<Command<'a>, AllocError>
 }
 
 /// The call that draws what is declared, with what was found.
-pub(crate) fn draw_of<'a>(found: &ArgMatches<'a>) -> Option<Call<'a>>
-    ensures name { IfSome result (λ r. codes "draw" ≡ call_name r) }
-    ensures rows { IfSome result (IsCall (rows_of (found_of found.now))) }
-    ensures none { IfNone result ((d : Draw) → AsksDraw (rows_of (found_of found.now)) d → ⊥) }
+pub(crate) fn draw_of<'a>(
+    alloc: Global,
+    found: &ArgMatches<'a>,
+) -> Result<Option<Call<'a>>, AllocError>
+    ensures name { IfOk result (λ o. IfSome o (λ r. codes "draw" ≡ call_name r)) }
+    ensures rows { IfOk result (λ o. IfSome o (IsCall (rows_of (found_of found.now)))) }
+    ensures none { IfOk result (λ o. IfNone o ((d : Draw) → AsksDraw (rows_of (found_of found.now)) d → ⊥)) }
 {
-    let declaration = found.get_str("DECL")?;
+    let Some(declaration) = found.get_str("DECL") else {
+        return Ok(None);
+    };
     let deploy = found.get_str("deploy");
     let block_type = found.get_str("type");
-    Some(Call::Draw(Draw {
+    let types = types_of(alloc, found)?;
+    let draw = Draw {
         declaration,
         deploy,
         block_type,
-    }))
+    };
+    Ok(Some(Call::Draw(draw, types)))
 }
 
 /// The call that checks what is drawn.
@@ -135,15 +143,17 @@ fn write_graph<W: Write>(
 /// Reads the files of a call, and writes the graph that it asks for.
 pub(crate) fn show_graph<S: Source, W: Write>(
     alloc: Global,
+    types: &[&str],
     draw: &Draw<'_>,
     source: &mut S,
     out: &mut W,
 ) -> Result<Done, Failure>
-    ensures { Draws S.gives source.old source.new draw.now (W.contents out.old) (W.contents out.new) result }
+    ensures { Draws S.gives source.old source.new (map (λ t. t.now) types.now) draw.now (W.contents out.old) (W.contents out.new) result }
 {
-    let texts = match read_files(alloc, &files_of(draw), source) {
+    let texts = match read_files(alloc, types, &files_of(draw), source) {
         Ok(texts) => texts,
         Err(unread) => return Err(Failure::from(unread.fault)),
     };
-    write_graph(alloc, &texts.inputs(), draw.block_type, out)
+    let end = write_graph(alloc, &texts.inputs(), draw.block_type, out);
+    end_with(alloc, types, draw.declaration, &texts, end)
 }

@@ -2,18 +2,20 @@
 
 ghost use Rattle.std.specs.Prelude.{◌≡◌, ◌&&◌, ◌+◌, ◌*◌, ◌^◌, ◌<◌, IfErr, IfOk, OnOk, length, nat_lt, option_map, string_bytes, true};
 ghost use Rattle.fbsim_command.specs.Comparing.{Compares, Differs};
-ghost use Rattle.fbsim_command.specs.Expecting.{AreRules, AreUnheld, Expects, Holds, IsHeld, IsRefusedAt, IsUndeclared, IsUnheld, IsUnnamed, MayDeclare, Names, PutsAll, PutsOne, RefusesFor, Reports, cut_of, files_of};
-ghost use Rattle.fbsim_command.specs.Texts.{given_of};
+ghost use Rattle.fbsim_command.specs.Expecting.{AreRules, AreUnheld, Expects, Holds, IsHeld, IsRefusedAt, IsUndeclared, IsUnheld, IsUnnamed, MayDeclare, Names, PutsAll, PutsOne, RefusesFor, Reports, cut_of, files_of, own_of, types_of};
+ghost use Rattle.fbsim_command.specs.OwnLines.{EndsIn};
+ghost use Rattle.fbsim_command.specs.Texts.{given_of, may_lines_of};
 
 use crate::bench_line::{Diff, Expect};
 use crate::failure::{Failure, RefusalLine};
 use crate::known::has_names;
 use crate::line::{Action, Task};
 use crate::output::write_text;
+use crate::own_lines::end_in;
 use crate::rules_notes::{note_of_names, note_of_rules, note_to_rules};
 use crate::sources::{Source, Streams};
 use crate::statuses::Done;
-use crate::texts::{Texts, Unread, read_files};
+use crate::texts::{Texts, Unread, lines_in, read_files};
 use fb_expect::{
     Cut, Judged, Of, Rule, TraceError, are_well, difference_text, judge, part, plan, put_points,
     read_rules,
@@ -187,13 +189,14 @@ fn read_declared<S: Source>(
     expect: &Expect<'_>,
     source: &mut S,
 ) -> Result<Option<Texts>, Unread>
-    ensures read { IfOk result (λ t. MayDeclare S.gives expect.now expect.now.declaration source.old source.new (option_map given_of t)) }
+    ensures read { IfOk result (λ t. MayDeclare S.gives expect.now expect.now.declaration source.old source.new (may_lines_of t) (option_map given_of t)) }
     ensures unread { IfErr result (λ unread. IsUndeclared S.gives expect.now expect.now.declaration source.old source.new unread.part unread.fault) }
 {
     let Some(declaration) = expect.declaration else {
         return Ok(None);
     };
-    match read_files(alloc, &files_of(expect, declaration), source) {
+    let types = expect.types.as_slice();
+    match read_files(alloc, types, &files_of(expect, declaration), source) {
         Ok(texts) => Ok(Some(texts)),
         Err(unread) => Err(unread),
     }
@@ -254,6 +257,31 @@ fn hold_rules<S: Streams, W: Write>(
     }
 }
 
+/// The name of the declaration's own file, if there is one.
+pub(crate) fn own_name<'a>(declaration: Option<&'a str>) -> &'a str
+    ensures { result.now ≡ own_of declaration.entry }
+{
+    declaration.unwrap_or("")
+}
+
+/// How a call ends of which the declaration, if there is one, is in files with these many lines each.
+fn end_of(
+    alloc: Global,
+    expect: &Expect<'_>,
+    lines: &[usize],
+    end: Result<Done, Failure>,
+) -> Result<Done, Failure>
+    ensures { EndsIn (types_of expect.now) (own_of expect.now.declaration) lines.now end result }
+{
+    end_in(
+        alloc,
+        expect.types.as_slice(),
+        own_name(expect.declaration),
+        lines,
+        end,
+    )
+}
+
 /// Reads rules, and holds them against traces. It writes a point for each trace and each rule once all were read. It says
 /// how that ends, and what is reported after the line of a failure.
 pub(crate) fn expect<S: Source + Streams, W: Write>(
@@ -280,7 +308,8 @@ pub(crate) fn expect<S: Source + Streams, W: Write>(
     };
     let bytes = bytes.as_slice();
     let end = hold_rules(alloc, expect, bytes, &declared, source, out);
-    let note = note_to_rules(alloc, expect.why, &end, bytes, &declared);
+    let note = note_to_rules(alloc, expect, &end, bytes, &declared);
+    let end = end_of(alloc, expect, lines_in(&declared), end);
     (end, note)
 }
 

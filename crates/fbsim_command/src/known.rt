@@ -2,7 +2,7 @@
 
 ghost use Rattle.std.specs.Prelude.{◌≡◌, ◌<◌, ◌+◌, ◌++◌, ◌^◌, [], All, IfOk, IfSome, codes, length, map, slice_index_or};
 ghost use Rattle.std.specs.List.{list_any};
-ghost use Rattle.fb_system.specs.Stands.{AreIndexes, variable_at};
+ghost use Rattle.fb_system.specs.IndexLists.{AreIndexes, variable_at};
 ghost use Rattle.fb_types.specs.Headline.{system_of};
 ghost use Rattle.fb_types.specs.Names.{same_name};
 ghost use Rattle.fb_types.specs.Numbers.{event_at, path_at, ports_at};

@@ -7,7 +7,8 @@
 //! once.
 //!
 //! Read it in this order: `line` and `bench_line`, the words; `sources`, where files come from; `files`, those of the
-//! machine; `program`, the call; `texts`, what is read; `wave`; `expect` and `known`, rules and traces; `output`; `failure`,
+//! machine; `program`, the call; `texts`, what is read, with `join`, a declaration in several files, and `own_lines`, how its
+//! refusals name a file and a line, which agree by `laws`; `wave`; `expect` and `known`, rules and traces; `output`; `failure`,
 //! `notes`, `rules_notes` and `statuses`, how it ends.
 #![tactic(auto)]
 
@@ -16,10 +17,13 @@ mod draw;
 mod expect;
 pub mod failure;
 pub mod files;
+mod join;
 mod known;
+pub mod laws;
 pub mod line;
 mod notes;
 pub mod output;
+mod own_lines;
 pub mod program;
 mod rules_notes;
 pub mod sources;

@@ -2,7 +2,7 @@
 
 ghost use Rattle.std.specs.Prelude.{◌≡◌, ◌≢◌, ℕ, Ok, IfOk, IfErr, IfSome, IfNone, None, OnOk, map, codes, false};
 ghost use Rattle.fbsim_command.specs.Line as spec;
-ghost use Rattle.fbsim_command.specs.Line.{AreCall, AreNoCall, AskHelp, AsksWave, AreForms, IsTask, IsFault, IsFlag, IsForm, IsHelp, IsText, IsNumber, IsAction, IsCall, IsCallOf, IsTaken, command_name, call_name};
+ghost use Rattle.fbsim_command.specs.Line.{AreCall, AreNoCall, AreTypes, AskHelp, AsksWave, AreForms, IsTask, IsFault, IsFlag, IsForm, IsHelp, IsText, IsNumber, IsAction, IsCall, IsCallOf, IsTaken, command_name, call_name};
 ghost use Rattle.fbsim_command.specs.declared.line.LineFault.TheVariants.{Memory};
 ghost use Rattle.fbsim_command.specs.declared.line.Task.{Task};
 ghost use Rattle.fbsim_command.specs.declared.line.Action.{Action};
@@ -26,16 +26,17 @@ use std::alloc::{AllocError, Global};
 pub enum Call<'a> {
     /// Explains what the refusal or the reason of this name means, as `E21` or `divide`, in any letter case.
     Explain(&'a str),
-    /// Checks or runs an application.
-    Task(Task<'a>),
+    /// Checks or runs an application. The names are those of the files of block types that are read before the declaration,
+    /// in their order, here and below.
+    Task(Task<'a>, Vec<&'a str>),
     /// Shows a trace as waveforms.
-    Wave(Wave<'a>),
+    Wave(Wave<'a>, Vec<&'a str>),
     /// Holds rules against traces.
     Expect(Expect<'a>),
     /// Compares two traces.
     Diff(Diff<'a>),
     /// Draws what is declared.
-    Draw(Draw<'a>),
+    Draw(Draw<'a>, Vec<&'a str>),
 }
 
 /// A trace to be shown as waveforms, and what it is a trace of.
@@ -145,6 +146,9 @@ const NAME_HELP: &str =
 const DECLARATION_HELP: &str =
     "The file with the declaration of the types and the application, at most 1 MiB; `-` is standard input, here and below.";
 
+pub(crate) const TYPES_HELP: &str =
+    "A file with block types that is read before the declaration; give the option once for each file. All these texts together have at most 1 MiB.";
+
 const TRACE_FILE_HELP: &str =
     "The file with the trace, of any length and in either form, of a run of these files.";
 
@@ -193,6 +197,14 @@ pub(crate) fn option<'a>(alloc: Global, id: &'a str, help: &'a str) -> Arg<'a>
     ensures local { result.global ≡ false }
 {
     Arg::new(alloc, id).long(id).help(help)
+}
+
+/// An option that takes the name of a file, and may be given several times.
+pub(crate) fn repeated<'a>(alloc: Global, id: &'a str, help: &'a str) -> Arg<'a>
+    ensures rule { rule_of result ≡ spec.repeated id.entry.now }
+    ensures local { result.global ≡ false }
+{
+    option(alloc, id, help).action(ArgAction::Append)
 }
 
 /// An option that takes a value of this kind.
@@ -246,7 +258,8 @@ pub(crate) fn begun<'a>(
         .arg(required(alloc, id, help))
 }
 
-/// A command with the names of a declaration and of its deployment, and what the help says of it.
+/// A command with the names of a declaration, of the files of block types before it, and of its deployment, and what the
+/// help says of it.
 pub(crate) fn deployed<'a>(
     alloc: Global,
     name: &'a str,
@@ -257,6 +270,7 @@ pub(crate) fn deployed<'a>(
     ensures globals { IfOk result (λ c. (fields_of c).has_globals ≡ false) }
 {
     let command = begun(alloc, name, about, example, "DECL", DECLARATION_HELP);
+    let command = with_arg(command, repeated(alloc, "types", TYPES_HELP));
     with_arg(command, option(alloc, "deploy", DEPLOY_HELP))
 }
 
@@ -438,10 +452,23 @@ fn action_of(name: &str, found: &ArgMatches<'_>) -> Option<Action>
     }
 }
 
-/// The call for a run or a check with what was found, where the command has such a name.
-fn task_of<'a>(name: &str, found: &ArgMatches<'a>) -> Option<Call<'a>>
-    ensures name { IfSome result (λ r. name.now ≡ call_name r) }
-    ensures rows { IfSome result (IsCall (rows_of (found_of found.now))) }
+/// The names of the files of block types, in their order.
+pub(crate) fn types_of<'a>(
+    alloc: Global,
+    found: &ArgMatches<'a>,
+) -> Result<Vec<&'a str>, AllocError>
+    ensures { IfOk result (λ names. AreTypes (rows_of (found_of found.now)) names.items) }
+{
+    match found.get_strs("types") {
+        Some(names) => Vec::from_slice(alloc, names),
+        None => Ok(Vec::new(alloc)),
+    }
+}
+
+/// The files and the action of a run or a check, where the command has such a name.
+fn task_of<'a>(name: &str, found: &ArgMatches<'a>) -> Option<Task<'a>>
+    ensures name { IfSome result (λ c. name.now ≡ command_name c.action) }
+    ensures rows { IfSome result (IsTask (rows_of (found_of found.now))) }
     ensures none { IfNone result ((c : Task) → name.now ≡ command_name c.action → IsTask (rows_of (found_of found.now)) c → ⊥) }
 {
     let declaration = found.get_str("DECL")?;
@@ -449,31 +476,54 @@ fn task_of<'a>(name: &str, found: &ArgMatches<'a>) -> Option<Call<'a>>
     let stimuli = found.get_str("stim");
     let why = has_flag(found, "why");
     let action = action_of(name, found)?;
-    Some(Call::Task(Task {
+    Some(Task {
         action,
         declaration,
         deploy,
         stimuli,
         why,
-    }))
+    })
+}
+
+/// The call for a run or a check with what was found, where the command has such a name.
+fn task_call<'a>(
+    alloc: Global,
+    name: &str,
+    found: &ArgMatches<'a>,
+) -> Result<Option<Call<'a>>, AllocError>
+    ensures name { IfOk result (λ o. IfSome o (λ r. name.now ≡ call_name r)) }
+    ensures rows { IfOk result (λ o. IfSome o (IsCall (rows_of (found_of found.now)))) }
+    ensures none { IfOk result (λ o. IfNone o ((c : Task) → name.now ≡ command_name c.action → IsTask (rows_of (found_of found.now)) c → ⊥)) }
+{
+    let Some(task) = task_of(name, found) else {
+        return Ok(None);
+    };
+    let types = types_of(alloc, found)?;
+    Ok(Some(Call::Task(task, types)))
 }
 
 /// The call for waveforms with what was found.
-fn wave_of<'a>(found: &ArgMatches<'a>) -> Option<Call<'a>>
-    ensures name { IfSome result (λ r. codes "wave" ≡ call_name r) }
-    ensures rows { IfSome result (IsCall (rows_of (found_of found.now))) }
-    ensures none { IfNone result ((w : Wave) → AsksWave (rows_of (found_of found.now)) w → ⊥) }
+fn wave_of<'a>(alloc: Global, found: &ArgMatches<'a>) -> Result<Option<Call<'a>>, AllocError>
+    ensures name { IfOk result (λ o. IfSome o (λ r. codes "wave" ≡ call_name r)) }
+    ensures rows { IfOk result (λ o. IfSome o (IsCall (rows_of (found_of found.now)))) }
+    ensures none { IfOk result (λ o. IfNone o ((w : Wave) → AsksWave (rows_of (found_of found.now)) w → ⊥)) }
 {
-    let declaration = found.get_str("DECL")?;
+    let Some(declaration) = found.get_str("DECL") else {
+        return Ok(None);
+    };
     let deploy = found.get_str("deploy");
-    let trace = found.get_str("TRACE")?;
-    Some(Call::Wave(Wave {
+    let Some(trace) = found.get_str("TRACE") else {
+        return Ok(None);
+    };
+    let types = types_of(alloc, found)?;
+    let wave = Wave {
         declaration,
         deploy,
         trace,
         is_cut: has_flag(found, "cut"),
         why: has_flag(found, "why"),
-    }))
+    };
+    Ok(Some(Call::Wave(wave, types)))
 }
 
 /// The call for what a refusal means, with the name that was found.
@@ -496,11 +546,11 @@ fn call_of<'a>(
 {
     match name {
         "explain" => Ok(explain_of(found)),
-        "wave" => Ok(wave_of(found)),
+        "wave" => wave_of(alloc, found),
         "expect" => expect_of(alloc, found),
         "diff" => Ok(diff_of(found)),
-        "draw" => Ok(draw_of(found)),
-        _ => Ok(task_of(name, found)),
+        "draw" => draw_of(alloc, found),
+        _ => task_call(alloc, name, found),
     }
 }
 

@@ -1,11 +1,12 @@
 //! What is reported after the line of a failure: its place.
 
-ghost use Rattle.std.specs.Prelude.{◌≡◌, IfSome, option_map, string_bytes};
+ghost use Rattle.std.specs.Prelude.{◌≡◌, IfSome, map, option_map, string_bytes};
 ghost use Rattle.fbsim_command.specs.Notes.{IsFileNote, IsMatter, IsNote, IsNoteOfName, IsNoteOfNumber, Notes, file_word, name_of, number_of};
-ghost use Rattle.fbsim_command.specs.Texts.{given_of};
+ghost use Rattle.fbsim_command.specs.Texts.{given_of, lines_of};
 
 use crate::failure::{Failure, RefusalLine};
 use crate::line::Task;
+use crate::own_lines::note_in;
 use crate::sources::SourceFault;
 use crate::texts::{Part, Texts, Unread};
 use fb_why::finding_of;
@@ -19,6 +20,7 @@ fn word_for(part: Part) -> &'static str
     ensures { result.now ≡ file_word part }
 {
     match part {
+        Part::BlockTypes(_) => "types",
         Part::Declaration => "declaration",
         Part::Deployment => "deployment",
         Part::Stimuli => "stimuli",
@@ -37,10 +39,11 @@ fn words_for(name: &str) -> &'static str
 }
 
 /// The name that a call gives to a file, where it gives one.
-fn name_of<'a>(task: &Task<'a>, part: Part) -> Option<&'a str>
-    ensures { option_map (λ n. n.now) result ≡ name_of task.now part }
+fn name_of<'a>(types: &[&'a str], task: &Task<'a>, part: Part) -> Option<&'a str>
+    ensures { option_map (λ n. n.now) result ≡ name_of (map (λ t. t.now) types.now) task.now part }
 {
     match part {
+        Part::BlockTypes(index) => types.get(index).copied(),
         Part::Declaration => Some(task.declaration),
         Part::Deployment => task.deploy,
         Part::Stimuli => task.stimuli,
@@ -59,8 +62,13 @@ pub(crate) fn note_of_name(alloc: Global, word: &str, name: &str) -> Option<Stri
 }
 
 /// Which file is not read, where that is asked for.
-pub fn note_of_file(alloc: Global, task: &Task<'_>, unread: Unread) -> Option<String>
-    ensures { Notes task.now.why (IsFileNote task.now unread.part unread.fault) (option_map string_bytes result) }
+pub fn note_of_file(
+    alloc: Global,
+    types: &[&str],
+    task: &Task<'_>,
+    unread: Unread,
+) -> Option<String>
+    ensures { Notes task.now.why (IsFileNote (map (λ t. t.now) types.now) task.now unread.part unread.fault) (option_map string_bytes result) }
 {
     if !task.why {
         return None;
@@ -68,7 +76,7 @@ pub fn note_of_file(alloc: Global, task: &Task<'_>, unread: Unread) -> Option<St
     if let SourceFault::Memory = unread.fault {
         return None;
     }
-    let name = name_of(task, unread.part)?;
+    let name = name_of(types, task, unread.part)?;
     let word = word_for(unread.part);
     Some(note_of_name(alloc, word, name)?)
 }
@@ -85,23 +93,35 @@ pub(crate) fn number_of(failure: &Failure) -> Option<u8>
 }
 
 /// The place at which the refusal of this number applies. Without memory for it there is none.
-pub(crate) fn note_of_number(alloc: Global, number: u8, texts: &Texts) -> Option<String>
-    ensures { IfSome result (λ note. IsNoteOfNumber (given_of texts.now) number (string_bytes note)) }
+pub(crate) fn note_of_number(
+    alloc: Global,
+    types: &[&str],
+    own: &str,
+    number: u8,
+    texts: &Texts,
+) -> Option<String>
+    ensures { IfSome result (λ note. IsNoteOfNumber (map (λ t. t.now) types.now) own.now (lines_of texts.now) (given_of texts.now) number (string_bytes note)) }
 {
     let declaration = texts.declaration.as_slice();
     match finding_of(alloc, number, declaration, texts.deployment(), texts.rows()) {
-        Ok(Some(finding)) => Some(finding.text),
+        Ok(Some(finding)) => note_in(alloc, types, own, texts.lines.as_slice(), finding),
         Ok(None) | Err(_) => None,
     }
 }
 
 /// Where a failure applies, for those of which that is known, where it is asked for.
-pub fn note_of(alloc: Global, why: bool, failure: &Failure, texts: &Texts) -> Option<String>
-    ensures { Notes why (IsNote (given_of texts.now) failure.now) (option_map string_bytes result) }
+pub fn note_of(
+    alloc: Global,
+    types: &[&str],
+    task: &Task<'_>,
+    failure: &Failure,
+    texts: &Texts,
+) -> Option<String>
+    ensures { Notes task.now.why (IsNote (map (λ t. t.now) types.now) task.now.declaration.now (lines_of texts.now) (given_of texts.now) failure.now) (option_map string_bytes result) }
 {
-    if !why {
+    if !task.why {
         return None;
     }
     let number = number_of(failure)?;
-    note_of_number(alloc, number, texts)
+    note_of_number(alloc, types, task.declaration, number, texts)
 }

@@ -5,8 +5,8 @@ ghost use Rattle.std.specs.Prelude.{◌≡◌, ◌++◌, ℕ, List, [], Option, 
 ghost use Rattle.fb_sim.specs.Reports.{Hears};
 ghost use Rattle.fbsim_command.specs.Command.{Checks, Does, ExplainsRefusal, IsDoneOf, Meets, Performs, Reports, ReportsOn, Runs};
 ghost use Rattle.fbsim_command.specs.Notes.{NotesOf};
-ghost use Rattle.fbsim_command.specs.Texts.{given_of};
-ghost use Rattle.fbsim_command.specs.Failures.{WritesPart, explained_text, status_of, told, told_of};
+ghost use Rattle.fbsim_command.specs.Texts.{given_of, lines_of};
+ghost use Rattle.fbsim_command.specs.Failures.{WritesPart, explained_text, status_of, reported, reported_of};
 ghost use Rattle.fbsim_command.specs.declared.failure.Failure.{Failure};
 ghost use Rattle.fbsim_command.specs.declared.statuses.Done.{Done};
 ghost use Rattle.fbsim_command.specs.declared.statuses.Done.TheVariants.{Helped};
@@ -17,6 +17,7 @@ use crate::failure::Failure;
 use crate::line::{Action, Call, LineFault, Task, parse};
 use crate::notes::{note_of, note_of_file};
 use crate::output::write_text;
+use crate::own_lines::end_with;
 use crate::sources::{Source, Streams};
 use crate::statuses::{Done, ExitStatus, status};
 use crate::texts::{Texts, read_files};
@@ -76,7 +77,7 @@ fn run_and_report<R: Threads + Wait + Sync, W: Write, E: Write>(
     err: &mut E,
 ) -> (Result<Done, Failure>, bool)
     ensures run { Runs false inputs.now options (W.contents out.old) (W.contents out.new) result.0 }
-    ensures told { (reports : List ℕ) × ReportsOn false true inputs.now options (W.contents out.old) (W.contents out.new) result.0 reports × Hears result.1 (E.contents err.old) (E.contents err.new) reports }
+    ensures reported { (reports : List ℕ) × ReportsOn false true inputs.now options (W.contents out.old) (W.contents out.new) result.0 reports × Hears result.1 (E.contents err.old) (E.contents err.new) reports }
 {
     let ReportedRun { end, is_heard } = run_with_progress(rt, alloc, inputs, options, out, err);
     match end {
@@ -117,7 +118,7 @@ fn meet<R: Threads + Wait + Sync, W: Write, E: Write>(
     err: &mut E,
 ) -> (Result<Done, Failure>, bool)
     ensures done { Meets (given_of texts.now) action (W.contents out.old) (W.contents out.new) result.0 }
-    ensures told { (reports : List ℕ) × Reports (given_of texts.now) action (W.contents out.old) (W.contents out.new) result.0 reports × Hears result.1 (E.contents err.old) (E.contents err.new) reports }
+    ensures reported { (reports : List ℕ) × Reports (given_of texts.now) action (W.contents out.old) (W.contents out.new) result.0 reports × Hears result.1 (E.contents err.old) (E.contents err.new) reports }
 {
     let inputs = texts.inputs();
     match action {
@@ -148,15 +149,16 @@ fn meet<R: Threads + Wait + Sync, W: Write, E: Write>(
 /// The note to a call that ends so, where one is asked for.
 pub(crate) fn note_to(
     alloc: Global,
-    why: bool,
+    types: &[&str],
+    task: &Task<'_>,
     end: &Result<Done, Failure>,
     texts: &Texts,
 ) -> Option<String>
-    ensures { NotesOf (given_of texts.now) why end.now (option_map string_bytes result) }
+    ensures { NotesOf (map (λ t. t.now) types.now) task.now (lines_of texts.now) (given_of texts.now) end.now (option_map string_bytes result) }
 {
     match end {
         Ok(_) => None,
-        Err(failure) => note_of(alloc, why, failure, texts),
+        Err(failure) => note_of(alloc, types, task, failure, texts),
     }
 }
 
@@ -164,18 +166,20 @@ pub(crate) fn note_to(
 fn perform<R: Threads + Wait + Sync, S: Source, W: Write, E: Write>(
     rt: &R,
     alloc: Global,
+    types: &[&str],
     task: &Task<'_>,
     source: &mut S,
     out: &mut W,
     err: &mut E,
 ) -> Answer
     ensures { (reports : List ℕ) × Hears result.is_heard (E.contents err.old) (E.contents err.new) reports
-        × Performs S.gives source.old source.new task.now (W.contents out.old) (W.contents out.new) result.end reports (option_map string_bytes result.note) }
+        × Performs S.gives source.old source.new (map (λ t. t.now) types.now) task.now (W.contents out.old) (W.contents out.new) result.end reports (option_map string_bytes result.note) }
 {
-    match read_files(alloc, task, source) {
+    match read_files(alloc, types, task, source) {
         Ok(texts) => {
             let (end, is_heard) = meet(rt, alloc, task.action, &texts, out, err);
-            let note = note_to(alloc, task.why, &end, &texts);
+            let note = note_to(alloc, types, task, &end, &texts);
+            let end = end_with(alloc, types, task.declaration, &texts, end);
             Answer {
                 end,
                 is_heard,
@@ -185,7 +189,7 @@ fn perform<R: Threads + Wait + Sync, S: Source, W: Write, E: Write>(
         Err(unread) => Answer {
             end: Err(Failure::from(unread.fault)),
             is_heard: true,
-            note: note_of_file(alloc, task, unread),
+            note: note_of_file(alloc, types, task, unread),
         },
     }
 }
@@ -248,10 +252,12 @@ fn obey<'w, R: Threads + Wait + Sync, S: Source + Streams, W: Write, E: Write>(
         × Does S.gives S.opens source.old source.new (map (λ w. w.now) words.entry.now) (W.contents out.old) (W.contents out.new) result.end reports (option_map string_bytes result.note) }
 {
     match parse(alloc, words) {
-        Ok(Call::Task(task)) => perform(rt, alloc, &task, source, out, err),
+        Ok(Call::Task(task, types)) => {
+            perform(rt, alloc, types.as_slice(), &task, source, out, err)
+        }
         Ok(Call::Explain(name)) => ended(explain_to(alloc, name, out)),
-        Ok(Call::Wave(wave)) => {
-            let (end, note) = show(alloc, &wave, source, out);
+        Ok(Call::Wave(wave, types)) => {
+            let (end, note) = show(alloc, types.as_slice(), &wave, source, out);
             Answer {
                 end,
                 is_heard: true,
@@ -267,7 +273,9 @@ fn obey<'w, R: Threads + Wait + Sync, S: Source + Streams, W: Write, E: Write>(
             }
         }
         Ok(Call::Diff(call)) => ended(diff(alloc, &call, source, out)),
-        Ok(Call::Draw(call)) => ended(show_graph(alloc, &call, source, out)),
+        Ok(Call::Draw(call, types)) => {
+            ended(show_graph(alloc, types.as_slice(), &call, source, out))
+        }
         Err(LineFault::Help(text)) => ended(help_to(text.as_str(), out)),
         Err(LineFault::Fault(text)) => ended(Err(Failure::Line(text))),
         Err(LineFault::Memory) => ended(Err(Failure::Memory)),
@@ -279,7 +287,7 @@ fn obey<'w, R: Threads + Wait + Sync, S: Source + Streams, W: Write, E: Write>(
 /// # Errors
 /// That of the writer, which may have got a part.
 fn report<E: Write>(err: &mut E, failure: &Failure) -> io::Result<()>
-    ensures { OnOk result (Appends (E.contents err.old) (E.contents err.new) (told failure.now)) }
+    ensures { OnOk result (Appends (E.contents err.old) (E.contents err.new) (reported failure.now)) }
 {
     match failure {
         Failure::Line(text) => err.write_all(text.as_bytes()),
@@ -290,7 +298,7 @@ fn report<E: Write>(err: &mut E, failure: &Failure) -> io::Result<()>
 /// Reports how a call ends, if it failed: the line of its failure, and then the note. It says whether standard error
 /// took it all.
 fn report_end<E: Write>(err: &mut E, end: &Result<Done, Failure>, note: &Option<String>) -> bool
-    ensures told { IsTrue result → Appends (E.contents err.old) (E.contents err.new) (told_of end.now (option_map string_bytes note.now)) }
+    ensures reported { IsTrue result → Appends (E.contents err.old) (E.contents err.new) (reported_of end.now (option_map string_bytes note.now)) }
     ensures quiet { OnOk end.now (E.contents err.new ≡ E.contents err.old) }
 {
     let Err(failure) = end else {
@@ -317,15 +325,15 @@ pub fn command_exit<'w, R: Threads + Wait + Sync, S: Source + Streams, W: Write,
 ) -> ExitStatus
     ensures { (end : Result Done Failure) × (reports : List ℕ) × (note : Option (List ℕ)) × (result.status ≡ status_of end)
         × Does S.gives S.opens source.old source.new (map (λ w. w.now) words.entry.now) (W.contents out.old) (W.contents out.new) end reports note
-        × (IsTrue result.is_reported → Appends (E.contents err.old) (E.contents err.new) (reports ++ told_of end note))
+        × (IsTrue result.is_reported → Appends (E.contents err.old) (E.contents err.new) (reports ++ reported_of end note))
         × OnOk end (reports ≡ [] → E.contents err.new ≡ E.contents err.old) }
 {
     let answer = obey(rt, alloc, words, source, out, err);
     // A standard error that fails changes no status.
-    let is_told = report_end(err, &answer.end, &answer.note);
+    let is_end_reported = report_end(err, &answer.end, &answer.note);
     ExitStatus {
         status: status(&answer.end),
-        is_reported: answer.is_heard && is_told,
+        is_reported: answer.is_heard && is_end_reported,
     }
 }
 

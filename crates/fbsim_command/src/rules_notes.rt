@@ -4,13 +4,13 @@ ghost use Rattle.std.specs.Prelude.{◌≡◌, ℕ, IfOk, IfSome, Some, option_m
 ghost use Rattle.fb_types.specs.Headline.{Inputs, system_of};
 ghost use Rattle.fb_expect.specs.declared.place.RuleKey.{RuleKey};
 ghost use Rattle.fb_sim.specs.Serial.{Declares};
-ghost use Rattle.fbsim_command.specs.Expecting.{IsNamesFileNote, IsNoteAt, IsPlaceOf, IsRulesFileNote, IsUnknownPlace, NotesRules};
+ghost use Rattle.fbsim_command.specs.Expecting.{IsNamesFileNote, IsNoteAt, IsPlaceOf, IsRulesFileNote, IsUnknownPlace, NotesRules, own_of, types_of};
 ghost use Rattle.fbsim_command.specs.Known.{IsUnknownAt};
-ghost use Rattle.fbsim_command.specs.Notes.{Notes};
-ghost use Rattle.fbsim_command.specs.Texts.{given_of};
+ghost use Rattle.fbsim_command.specs.Notes.{IsNoteOfNumber, Notes};
+ghost use Rattle.fbsim_command.specs.Texts.{given_of, lines_of, may_lines_of};
 
 use crate::bench_line::Expect;
-use crate::expect::{UNKNOWN, files_of};
+use crate::expect::{UNKNOWN, files_of, own_name};
 use crate::failure::Failure;
 use crate::known::unknown_place;
 use crate::notes::{note_of_file, note_of_name, note_of_number, number_of};
@@ -19,7 +19,7 @@ use crate::statuses::Done;
 use crate::texts::{Texts, Unread};
 use fb_expect::{Rule, RuleKey, read_rules, rules_place};
 use fb_sim::{discard, open};
-use fb_why_bytes::{tell_rules, tell_unknown};
+use fb_why_bytes::{rules_message, unknown_key_message};
 use std::alloc::Global;
 
 /// The first number of a refusal of rules. Those below are of declarations, deployments and stimuli.
@@ -47,7 +47,10 @@ pub(crate) fn note_of_names(alloc: Global, expect: &Expect<'_>, unread: Unread) 
     ensures { Notes expect.now.why (IsNamesFileNote expect.now expect.now.declaration unread.part unread.fault) (option_map string_bytes result) }
 {
     match expect.declaration {
-        Some(declaration) => note_of_file(alloc, &files_of(expect, declaration), unread),
+        Some(declaration) => {
+            let types = expect.types.as_slice();
+            note_of_file(alloc, types, &files_of(expect, declaration), unread)
+        }
         None => None,
     }
 }
@@ -62,7 +65,7 @@ fn note_of_place(alloc: Global, number: u8, bytes: &[u8]) -> Option<String>
     if place.number() != number {
         return None;
     }
-    match tell_rules(alloc, bytes, place) {
+    match rules_message(alloc, bytes, place) {
         Ok(note) => Some(note),
         Err(_) => None,
     }
@@ -93,22 +96,36 @@ fn note_of_unknown(alloc: Global, bytes: &[u8], texts: &Texts) -> Option<String>
     let Ok(Some((rule, key))) = unknown_of(alloc, texts, rules.as_slice()) else {
         return None;
     };
-    match tell_unknown(alloc, rule, key) {
+    match unknown_key_message(alloc, rule, key) {
         Ok(note) => Some(note),
         Err(_) => None,
     }
 }
 
+/// Where the declaration of a call is refused with this number.
+fn note_of_plan(alloc: Global, expect: &Expect<'_>, number: u8, texts: &Texts) -> Option<String>
+    ensures { IfSome result (λ note. IsNoteOfNumber (types_of expect.now) (own_of expect.now.declaration) (lines_of texts.now) (given_of texts.now) number (string_bytes note)) }
+{
+    let own = own_name(expect.declaration);
+    note_of_number(alloc, expect.types.as_slice(), own, number, texts)
+}
+
 /// Where a call that has read these files is refused with this number.
-fn note_at(alloc: Global, number: u8, bytes: &[u8], declared: &Option<Texts>) -> Option<String>
-    ensures { IfSome result (λ note. IsNoteAt bytes.now (option_map given_of declared.now) number (string_bytes note)) }
+fn note_at(
+    alloc: Global,
+    expect: &Expect<'_>,
+    number: u8,
+    bytes: &[u8],
+    declared: &Option<Texts>,
+) -> Option<String>
+    ensures { IfSome result (λ note. IsNoteAt expect.now bytes.now (may_lines_of declared.now) (option_map given_of declared.now) number (string_bytes note)) }
 {
     if let Some(texts) = declared {
         if number == UNKNOWN {
             return note_of_unknown(alloc, bytes, texts);
         }
         if number < FIRST_OF_RULES {
-            return note_of_number(alloc, number, texts);
+            return note_of_plan(alloc, expect, number, texts);
         }
     }
     note_of_place(alloc, number, bytes)
@@ -117,19 +134,20 @@ fn note_at(alloc: Global, number: u8, bytes: &[u8], declared: &Option<Texts>) ->
 /// The note to a call that has read these files and ends so, where one is asked for.
 pub(crate) fn note_to_rules(
     alloc: Global,
-    why: bool,
+    expect: &Expect<'_>,
     end: &Result<Done, Failure>,
     bytes: &[u8],
     declared: &Option<Texts>,
 ) -> Option<String>
-    ensures { NotesRules bytes.now (option_map given_of declared.now) why end.now (option_map string_bytes result) }
+    ensures { NotesRules expect.now bytes.now (may_lines_of declared.now) (option_map given_of declared.now) end.now (option_map string_bytes result) }
 {
     let Err(failure) = end else {
         return None;
     };
-    if !why {
-        return None;
-    }
     let number = number_of(failure)?;
-    note_at(alloc, number, bytes, declared)
+    if expect.why {
+        note_at(alloc, expect, number, bytes, declared)
+    } else {
+        None
+    }
 }

@@ -1,12 +1,13 @@
 //! The waveforms of a trace.
 
-ghost use Rattle.std.specs.Prelude.{◌≡◌, option_map, string_bytes};
+ghost use Rattle.std.specs.Prelude.{◌≡◌, map, option_map, string_bytes};
 ghost use Rattle.fbsim_command.specs.Notes.{Notes};
 ghost use Rattle.fbsim_command.specs.Showing.{Dumps, IsTraceFileNote, Shows, cut_of, files_of};
 
 use crate::failure::Failure;
 use crate::line::{Action, Task, Wave};
 use crate::notes::{note_of_file, note_of_name};
+use crate::own_lines::end_with;
 use crate::program::note_to;
 use crate::sources::{Source, SourceFault, Streams};
 use crate::statuses::Done;
@@ -75,17 +76,18 @@ fn note_of_trace(alloc: Global, wave: &Wave<'_>, fault: SourceFault) -> Option<S
 /// the line of a failure.
 pub fn show<S: Source + Streams, W: Write>(
     alloc: Global,
+    types: &[&str],
     wave: &Wave<'_>,
     source: &mut S,
     out: &mut W,
 ) -> (Result<Done, Failure>, Option<String>)
-    ensures { Shows S.gives S.opens source.old source.new wave.now (W.contents out.old) (W.contents out.new) result.0 (option_map string_bytes result.1) }
+    ensures { Shows S.gives S.opens source.old source.new (map (λ t. t.now) types.now) wave.now (W.contents out.old) (W.contents out.new) result.0 (option_map string_bytes result.1) }
 {
     let task = files_of(wave);
-    let texts = match read_files(alloc, &task, source) {
+    let texts = match read_files(alloc, types, &task, source) {
         Ok(texts) => texts,
         Err(unread) => {
-            let note = note_of_file(alloc, &task, unread);
+            let note = note_of_file(alloc, types, &task, unread);
             return (Err(Failure::from(unread.fault)), note);
         }
     };
@@ -97,6 +99,7 @@ pub fn show<S: Source + Streams, W: Write>(
         }
     };
     let end = dump(alloc, cut_of(wave), &texts.inputs(), &mut trace, out);
-    let note = note_to(alloc, wave.why, &end, &texts);
+    let note = note_to(alloc, types, &task, &end, &texts);
+    let end = end_with(alloc, types, wave.declaration, &texts, end);
     (end, note)
 }

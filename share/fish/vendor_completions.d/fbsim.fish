@@ -15,6 +15,7 @@ complete -c fbsim -n "not __fish_seen_subcommand_from $commands" -a help -d "Pri
 complete -c fbsim -s h -l help -d "Print help"
 complete -c fbsim -n "not __fish_seen_subcommand_from $commands" -s V -l version -d "Print the version"
 
+complete -c fbsim -n "__fish_seen_subcommand_from run check wave expect draw" -l types -r -F -d "File with block types"
 complete -c fbsim -n "__fish_seen_subcommand_from run check wave expect draw" -l deploy -r -F -d "Deployment in TOML"
 complete -c fbsim -n "__fish_seen_subcommand_from run check" -l stim -r -F -d "Stimuli in CSV"
 complete -c fbsim -n "__fish_seen_subcommand_from run check wave expect" -l why -d "Print the location of a refusal"

@@ -143,11 +143,11 @@ fn wiring_of(
 fn expect_network(rt: &impl Abort, alloc: Global, network: &Network) {
     let (events, data, targets, sources) = *network;
     let wiring = wiring_of(rt, alloc, events, data);
-    for (end, wanted) in targets {
-        assert!(rt; wiring.targets(*end) == *wanted);
+    for (end, expected) in targets {
+        assert!(rt; wiring.targets(*end) == *expected);
     }
-    for (end, wanted) in sources {
-        assert!(rt; wiring.source(*end) == *wanted);
+    for (end, expected) in sources {
+        assert!(rt; wiring.source(*end) == *expected);
     }
     assert!(rt; wiring.numbers().data_wires.len() == data.len());
     forget(wiring);

@@ -5,7 +5,7 @@ ghost use Rattle.fb_types.specs.Headline.{stimuli_of, system_of};
 ghost use Rattle.fb_types.specs.Parts.{local_of};
 ghost use Rattle.fb_types.specs.Simulation.{opening};
 ghost use Rattle.fb_resource.specs.Openings.{IsOpened};
-ghost use Rattle.fb_resource.specs.Resources.{AreOpened, IsFresh, IsOf, StandsFor};
+ghost use Rattle.fb_resource.specs.Resources.{AreOpened, IsFresh, IsOf, Represents};
 
 use crate::opening::{open_agenda, open_agendas, open_sent};
 use crate::resource::Resource;
@@ -45,7 +45,7 @@ impl Resource {
     pub fn open(alloc: Global, system: &System, number: u32) -> Result<Resource, AllocError>
         requires { number < length (system_of system.now).resource_names }
         ensures of { IfOk result (IsOf system.now) }
-        ensures opened { IfOk result (λ x. (limit : ℕ) → StandsFor system.now limit (local_of (system_of system.now) limit number (opening (system_of system.now) (stimuli_of system.now)) None) x) }
+        ensures opened { IfOk result (λ x. (limit : ℕ) → Represents system.now limit (local_of (system_of system.now) limit number (opening (system_of system.now) (stimuli_of system.now)) None) x) }
         ensures fresh { IfOk result (λ x. (x.tree.resource ≡ number) × (x.clock ≡ 0) × (x.stopped ≡ None)) }
     {
         let agenda = open_agenda(alloc, system, Some(number))?;

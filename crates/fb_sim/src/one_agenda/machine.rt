@@ -56,7 +56,7 @@ impl Machine {
         event: &Event,
     ) -> Result<Option<Reason>, AllocError>
         requires ready { IsReady system.now limit key.now.tick self.old }
-        requires stands { (s : State) × (a : model.Agenda) × IsAt system.now s a self.old }
+        requires represents { (s : State) × (a : model.Agenda) × IsAt system.now s a self.old }
         requires event { IsEventIn system.now key.now.resource event.now }
         requires own { IsKeyOf key.now event.now }
         requires typed { IsTypedEvent (system_of system.now) (event_of system.now event.now) }
@@ -97,7 +97,7 @@ impl Machine {
         many: usize,
     ) -> Result<Pause, AllocError>
         requires ready { (tick : ℕ) × IsReady system.now limit tick self.old }
-        requires stands { (c : Config) × IsAt system.now c.state c.agenda self.old }
+        requires represents { (c : Config) × IsAt system.now c.state c.agenda self.old }
         requires early { horizon ≤ 10 ^ 12 }
         requires few { limit ≤ 10 ^ 7 }
         ensures pauses { IfOk result (λ p. (c : Config) → IsAt system.now c.state c.agenda self.old → Pauses system.now horizon limit c self.old self.new p) }

@@ -20,6 +20,8 @@ const RING_TRACE: &str =
 const LOOP_TRACE: &str = "7 R1 > A.EI1\n7 R1 < A.EO\n7 R2 > L.GO\n\
     7 R2 < L.TICKED\n7 R2 < L.TICKED\n7 R2 < L.TICKED\n7 R2 < L.TICKED\nstop 7 R2 steps\n";
 
+const LAMP_TRACE: &str = "0 MAIN < S.COLD\n0 MAIN > L.GO\n0 MAIN < L.DONE\nend 1\n";
+
 const HELP: &str =
     "Simulates IEC 61499-1 control applications in virtual time; one tick is a millisecond of it.\n\n\
     Usage: fbsim <COMMAND>\n\n\
@@ -61,12 +63,13 @@ const NO_FORM: &str = "error: invalid value '3' for '--trace <trace>'\n\
     \x20 [possible values: 1, 2]\n\nFor more information, try '--help'.\n";
 
 /// Calls with status 0, each with its output.
-static ENDED: [(&str, &str); 5] = [
+static ENDED: [(&str, &str); 6] = [
     ("fbsim run - --horizon 8", CYCLE_TRACE),
     ("fbsim run cycle --horizon 8 --serial", CYCLE_TRACE),
     ("fbsim check cycle", "accepted\n"),
     ("fbsim --help", HELP),
     ("fbsim --version", "fbsim 1.1.0\n"),
+    ("fbsim run lit --types lamp --horizon 1", LAMP_TRACE),
 ];
 
 /// Calls with status 1, each with its output.
@@ -88,7 +91,7 @@ static STOPPED: [(&str, &str); 4] = [
 
 /// Calls that fail, each with its status and its line. A fault of a file is reported before the refusal of a file that
 /// was read before it.
-static FAILED: [(&str, u8, &str); 18] = [
+static FAILED: [(&str, u8, &str); 20] = [
     (
         "fbsim run pair --deploy pair_at_once --horizon 5",
         2,
@@ -106,6 +109,12 @@ static FAILED: [(&str, u8, &str); 18] = [
     ),
     ("fbsim run cut_off --horizon 1", 2, "refused E03 line 2\n"),
     ("fbsim check cut_off", 2, "refused E03 line 2\n"),
+    (
+        "fbsim check lit --types lamp --types broken_lamp",
+        2,
+        "refused E03 broken_lamp line 2\n",
+    ),
+    ("fbsim check lit --types full", 4, "out of memory\n"),
     ("fbsim run nowhere --horizon 8", 3, "file fault\n"),
     ("fbsim check cycle --stim nowhere", 3, "file fault\n"),
     ("fbsim run - --deploy - --horizon 8", 3, "file fault\n"),

@@ -43,8 +43,20 @@ const VALUE_LINKED: &str = "[[resource]]\ndevice = 'D'\nname = 'R1'\ninstances =
 /// An algorithm that ends too early, in its second line.
 const CUT_OFF: &str = "FUNCTION_BLOCK F EC_STATES S; END_STATES\nALGORITHM A IN ST: X :=";
 
+/// A block type in a file of its own, the same without a semicolon, and an application of it.
+const LAMP: &str = "FUNCTION_BLOCK LAMP\n\
+    EVENT_INPUT GO; END_EVENT EVENT_OUTPUT DONE; END_EVENT\n\
+    EC_STATES OFF; ON : -> DONE; END_STATES\n\
+    EC_TRANSITIONS OFF TO ON := GO; ON TO OFF := 1; END_TRANSITIONS\n\
+    END_FUNCTION_BLOCK";
+
+const BROKEN_LAMP: &str = "FUNCTION_BLOCK LAMP\nEVENT_INPUT GO END_EVENT\n";
+
+const LIT: &str = "APPLICATION A FBS S : E_RESTART; L : LAMP; END_FBS\n\
+    EVENT_CONNECTIONS S.COLD TO L.GO; END_CONNECTIONS END_APPLICATION\n";
+
 /// All files by their names; `-` is standard input.
-pub static FILES: [(&str, &str); 12] = [
+pub static FILES: [(&str, &str); 15] = [
     ("-", CYCLE),
     ("cycle", CYCLE),
     ("ring", RING),
@@ -57,4 +69,7 @@ pub static FILES: [(&str, &str); 12] = [
     ("value_alone", VALUE_ALONE),
     ("value_linked", VALUE_LINKED),
     ("cut_off", CUT_OFF),
+    ("lamp", LAMP),
+    ("broken_lamp", BROKEN_LAMP),
+    ("lit", LIT),
 ];

@@ -46,7 +46,7 @@ pub struct HandPlan {
     /// the bit above it the one before the last is run before or after those before it, and so on.
     pub order: u64,
     /// Whether the bounds of each round are written before its lines.
-    pub tells_bounds: bool,
+    pub with_bounds: bool,
 }
 
 /// Runs jobs in an order. What became of them comes in their own.
@@ -88,7 +88,7 @@ fn push_number<R: Abort>(rt: &R, text: &mut Vec<u8>, number: u64) {
 }
 
 /// Writes the bounds of a round, in the order of the resources. A dash represents one that has stopped.
-fn tell<R: Abort>(rt: &R, core: &Core, bounds: &Bounds, out: &mut Vec<u8>) {
+fn write_bounds<R: Abort>(rt: &R, core: &Core, bounds: &Bounds, out: &mut Vec<u8>) {
     out.extend_from_slice(b"below").expect(rt, "memory");
     for (resource, bound) in core.state().resources.iter().zip(bounds.all.iter()) {
         out.push(b' ').expect(rt, "memory");
@@ -118,8 +118,8 @@ fn window<R: Abort>(
 {
     system.facts();
     let bounds = core.bounds(plan.horizon, CAP);
-    if plan.tells_bounds {
-        tell(rt, &core, &bounds, out);
+    if plan.with_bounds {
+        write_bounds(rt, &core, &bounds, out);
     }
     let Ok((away, jobs)) = core.jobs(alloc, system, bounds) else {
         panic!(rt; "memory");

@@ -132,10 +132,10 @@ fn expect_squares<R: Abort + Threads + Wait + Sync>(
     let work = Squares::new(first_waits);
     let squares = squares_of(rt, alloc, &work, count, workers);
     assert!(rt; squares.len() == count as usize);
-    let (mut wanted, mut odd): (u64, u64) = (0, 1);
+    let (mut expected, mut odd): (u64, u64) = (0, 1);
     for square in squares.iter() {
-        assert!(rt; *square == wanted);
-        wanted = wanted.wrapping_add(odd);
+        assert!(rt; *square == expected);
+        expected = expected.wrapping_add(odd);
         odd = odd.wrapping_add(2);
     }
     assert!(rt; !work.is_wrong.load(SeqCst));

@@ -320,7 +320,7 @@ fn expect_rounds<R: Abort>(rt: &R, alloc: Global, system: &System, row: &Row, or
         steps: row.steps,
         form: row.form,
         order,
-        tells_bounds: row.rounds.starts_with("below "),
+        with_bounds: row.rounds.starts_with("below "),
     };
     let mut rounds = Vec::new(alloc);
     run_by_hand(rt, alloc, system, plan, &mut rounds);

@@ -44,7 +44,7 @@ pub fn expect_serial<R: Abort>(
         steps,
         form: Form::One,
         order: RISING,
-        tells_bounds: false,
+        with_bounds: false,
     };
     for form in [Form::One, Form::Two] {
         let plan = HandPlan { form, ..plan };

@@ -6,7 +6,7 @@ use Rattle.fb_types.specs.declared.library.BlockType.{BlockType}
 use Rattle.fb_types.specs.declared.library.CompositeType.{CompositeType}
 use Rattle.fb_types.proofs.Options.{match_none, match_some}
 use Rattle.fb_check_names.specs.Numbers.{IsNetwork}
-use Rattle.fb_check_names.specs.Sorts.{AreIndexesOf}
+use Rattle.fb_check_names.specs.PortKinds.{AreIndexesOf}
 use Rattle.fb_check_names.specs.Unknown.{NetworkUnknown}
 use Rattle.fb_check_names.proofs.BlockNumbers.{composite_ports, composite_instances, composite_unknown, has_indexes}
 use Rattle.fb_check_names.proofs.blocks.block_numbers.Goals as goal

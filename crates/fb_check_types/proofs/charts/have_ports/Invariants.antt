@@ -5,4 +5,4 @@ use Rattle.fb_check_types.proofs.charts.have_ports.Given as goal
 
 abbrev pub invariant-loop-event : goal.invariant-loop-event
 invariant-loop-event l =
-    list_all (with_ports l.sort l.interface.ports) l.events ≡ list_all (with_ports l.sort l.interface.ports) (drop l.event-index l.events)
+    list_all (with_ports l.value_kind l.interface.ports) l.events ≡ list_all (with_ports l.value_kind l.interface.ports) (drop l.event-index l.events)

@@ -19,7 +19,7 @@ loop-event-preserved c = λ list index.
     let ns : List Name = variable_names list in
     let kept : EventPort → List Name = λ e. filter (among e.with) ns in
     let so_far : List (List Name) = map kept (take c.loop-event.event-index c.args.events.now) in
-    let told : c.in_ok-names_with.field-0 ≡ kept c.event-item.result = c.in_ok-names_with.ensures ns index ∙ search rules in
+    let shown : c.in_ok-names_with.field-0 ≡ kept c.event-item.result = c.in_ok-names_with.ensures ns index ∙ search rules in
     c.in_ok-push.ensures.ok ∙ ap (λ (all : List (List Name)). all ++ c.in_ok-names_with.field-0 ∷ []) (c.loop-event.invariant list index)
-    ∙ ap (λ (names : List Name). so_far ++ names ∷ []) told
+    ∙ ap (λ (names : List Name). so_far ++ names ∷ []) shown
     ∙ sym (map_take_more kept c.args.events.now c.loop-event.event-index c.event-item.result c.loop-event-test.true c.event-item.is)

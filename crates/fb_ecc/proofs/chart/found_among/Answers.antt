@@ -18,15 +18,15 @@ loop-name-preserved c = λ all index.
     let sofar : List Name = take c.loop-name.name-index names in
     let more : take (c.loop-name.name-index + 1) names ≡ sofar ++ name ∷ [] =
     take_more names c.loop-name.name-index name c.loop-name-test.true ∙ ap (λ (n : Name). sofar ++ n ∷ []) (sym c.name-item.is) in
-    let told : index_in c.args.indexes.now name ≡ c.index_of.result = ap (index_in c.args.indexes.now) (sym c.as_bytes.ensures) ∙ sym c.index_of.ensures in
+    let shown : index_in c.args.indexes.now name ≡ c.index_of.result = ap (index_in c.args.indexes.now) (sym c.as_bytes.ensures) ∙ sym c.index_of.ensures in
     elim c.match-index_of.branch [
       | in-Some+in_ok-insert w ↦
           rw w.found-is
-          (picks_found all sofar c.loop-name.found.entries _ _ w.in-Some.index c.args.indexes.now index (told ∙ w.in-Some.is) w.in_ok-insert.ensures.entries
+          (picks_found all sofar c.loop-name.found.entries _ _ w.in-Some.index c.args.indexes.now index (shown ∙ w.in-Some.is) w.in_ok-insert.ensures.entries
           (c.loop-name.invariant all index)
           ∙ ap (λ (ns : List Name). picked (among ns) all 0) (sym more))
       | in_default w ↦
           rw w.found-is
-          (picks_none all sofar c.loop-name.found.entries name c.args.indexes.now index (told ∙ w.in_default.is) (c.loop-name.invariant all index)
+          (picks_none all sofar c.loop-name.found.entries name c.args.indexes.now index (shown ∙ w.in_default.is) (c.loop-name.invariant all index)
           ∙ ap (λ (ns : List Name). picked (among ns) all 0) (sym more))
     ]

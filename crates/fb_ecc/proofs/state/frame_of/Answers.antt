@@ -8,11 +8,11 @@ use Rattle.fb_ecc.proofs.state.frame_of.Goals as goal
 
 pub of-requires : goal.of-requires
 of-requires c =
-    let told =
+    let shown =
     all_slots c.args.block.now _ _ _ _ _ _ _ c.new-slots.ensures c.as_slice.ensures c.as_slice-2.ensures c.as_slice-3.ensures
     c.in_ok-add_all.ensures c.in_ok-add_all-2.ensures c.in_ok-add_all-3.ensures in
     let P : List Name → Type 0 = λ ns. ¬ (Twice ns) in
-    subst P (sym (ap names_of told ∙ names_opened (variables_of c.args.block.now))) c.requires
+    subst P (sym (ap names_of shown ∙ names_opened (variables_of c.args.block.now))) c.requires
 
 pub returns : goal.returns
 returns c =

@@ -53,9 +53,9 @@ returns-then-branch-clause-trial c =
     let at = slice_get-get_or exits i unread c.loop-exit-test.true in
     let is = exit_here c.args.block.now exits i unread c.requires.exits c.loop-exit-test.true in
     let condition = condition_meant c.args.block.now f c.args.present vars c.requires.sound is c.requires.present ∙ sym c.is_true.ensures in
-    let told = c.in_ok-is_true.was ∙ ap (λ (b : Bool). Ok b) c.if-branch.true in
+    let shown = c.in_ok-is_true.was ∙ ap (λ (b : Bool). Ok b) c.if-branch.true in
     c.loop-exit.invariant.run
-    ∙ tried c.args.block.now event vars exits i f c.loop-exit.meter.left c.step.new.self.left (Ok true) at c.in_ok-step.ensures.ok (condition ∙ told)
+    ∙ tried c.args.block.now event vars exits i f c.loop-exit.meter.left c.step.new.self.left (Ok true) at c.in_ok-step.ensures.ok (condition ∙ shown)
 
 pub returns-then-branch-clause-first : goal.returns-then-branch-clause-first
 returns-then-branch-clause-first c =
@@ -83,10 +83,10 @@ loop-exit-preserved c =
     let at = slice_get-get_or exits i unread c.loop-exit-test.true in
     let is = exit_here c.args.block.now exits i unread c.requires.exits c.loop-exit-test.true in
     let condition = condition_meant c.args.block.now f c.args.present vars c.requires.sound is c.requires.present ∙ sym c.is_true.ensures in
-    let told = c.in_ok-is_true.was ∙ ap (λ (b : Bool). Ok b) c.if-branch.false in
+    let shown = c.in_ok-is_true.was ∙ ap (λ (b : Bool). Ok b) c.if-branch.false in
     record {
       run = c.loop-exit.invariant.run
-          ∙ tried c.args.block.now event vars exits i f c.loop-exit.meter.left c.step.new.self.left (Ok false) at c.in_ok-step.ensures.ok (condition ∙ told);
-      first = c.loop-exit.invariant.first ∙ first_tried c.args.block.now event vars exits i f (Ok false) at (condition ∙ told);
+          ∙ tried c.args.block.now event vars exits i f c.loop-exit.meter.left c.step.new.self.left (Ok false) at c.in_ok-step.ensures.ok (condition ∙ shown);
+      first = c.loop-exit.invariant.first ∙ first_tried c.args.block.now event vars exits i f (Ok false) at (condition ∙ shown);
       fewer = let a = c.in_ok-step.ensures.ok in let b = c.loop-exit.invariant.fewer in omega arith;
     }

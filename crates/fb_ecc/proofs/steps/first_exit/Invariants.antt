@@ -7,7 +7,7 @@ use Rattle.fb_ecc.specs.Steps.{first_true}
 use Rattle.fb_ecc.specs.Trials.{transitions_at}
 use Rattle.fb_ecc.proofs.steps.first_exit.Given as goal
 
--- trying all from the start comes to what trying the rest comes to from here
+-- trying all from the start has the result of trying the rest from here
 abbrev pub invariant-loop-exit : goal.invariant-loop-exit
 invariant-loop-exit l = record {
   run : let event = option_map (event_at l.block.ports.event_inputs) l.present in

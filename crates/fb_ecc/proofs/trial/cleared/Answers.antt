@@ -53,9 +53,9 @@ returns-then-branch-clause-trial c =
     let at = slice_get-get_or exits i unread c.loop-exit-test.true in
     let is = exit_here c.args.block.now exits i unread c.requires.exits c.loop-exit-test.true in
     let condition = condition_meant c.args.block.now f c.args.present vars c.requires.sound is c.requires.present ∙ sym c.is_true.ensures in
-    let told = c.in_ok-is_true.was ∙ ap (λ (b : Bool). Ok b) c.if-branch.true in
+    let shown = c.in_ok-is_true.was ∙ ap (λ (b : Bool). Ok b) c.if-branch.true in
     c.loop-exit.invariant.run
-    ∙ tried c.args.block.now event vars exits i f c.loop-exit.meter.left c.step.new.self.left (Ok true) at c.in_ok-step.ensures.ok (condition ∙ told)
+    ∙ tried c.args.block.now event vars exits i f c.loop-exit.meter.left c.step.new.self.left (Ok true) at c.in_ok-step.ensures.ok (condition ∙ shown)
     ∙ ap (λ (n : Name). Clears n c.step.new.self.left) (sym (target_meant c.args.block.now f c.requires.sound is).named)
 
 pub returns-then-branch-clause-target : goal.returns-then-branch-clause-target
@@ -75,9 +75,9 @@ loop-exit-preserved c =
     let at = slice_get-get_or exits i unread c.loop-exit-test.true in
     let is = exit_here c.args.block.now exits i unread c.requires.exits c.loop-exit-test.true in
     let condition = condition_meant c.args.block.now f c.args.present vars c.requires.sound is c.requires.present ∙ sym c.is_true.ensures in
-    let told = c.in_ok-is_true.was ∙ ap (λ (b : Bool). Ok b) c.if-branch.false in
+    let shown = c.in_ok-is_true.was ∙ ap (λ (b : Bool). Ok b) c.if-branch.false in
     record {
       run = c.loop-exit.invariant.run
-          ∙ tried c.args.block.now event vars exits i f c.loop-exit.meter.left c.step.new.self.left (Ok false) at c.in_ok-step.ensures.ok (condition ∙ told);
+          ∙ tried c.args.block.now event vars exits i f c.loop-exit.meter.left c.step.new.self.left (Ok false) at c.in_ok-step.ensures.ok (condition ∙ shown);
       fewer = let a = c.in_ok-step.ensures.ok in let b = c.loop-exit.invariant.fewer in omega arith;
     }

@@ -5,11 +5,11 @@ use Rattle.fb_expect.specs.Events.{IsKeyText, IsNumberText}
 use Rattle.fb_expect.specs.Words.{Text}
 use Rattle.fb_expect.proofs.event.after_key.Goals as goal
 
-abbrev Behind : (most : ℕ) → (text rest : Text) → Type 0
-Behind most text rest = (head : Text) × IsNumberText most head × (text ≡ head ++ rest)
+abbrev IsAfter : (most : ℕ) → (text rest : Text) → Type 0
+IsAfter most text rest = (head : Text) × IsNumberText most head × (text ≡ head ++ rest)
 
-key : (text first second : Text) (o : Option (Bor Text)) → Behind (2 ^ 8 - 1) text first → Behind (2 ^ 128 - 1) first second
-    → IfSome o (λ rest. Behind (2 ^ 128 - 1) second rest.now) → IfSome o (λ rest. (head : Text) × IsKeyText head × (text ≡ head ++ rest.now))
+key : (text first second : Text) (o : Option (Bor Text)) → IsAfter (2 ^ 8 - 1) text first → IsAfter (2 ^ 128 - 1) first second
+    → IfSome o (λ rest. IsAfter (2 ^ 128 - 1) second rest.now) → IfSome o (λ rest. (head : Text) × IsKeyText head × (text ≡ head ++ rest.now))
 key text first second None a b c = tt
 key text first second (Some rest) a b c = (
   a.0 ++ (b.0 ++ c.0),

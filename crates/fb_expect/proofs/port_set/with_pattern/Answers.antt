@@ -1,6 +1,6 @@
 use Rattle.std.proofs.Common.{◌%◌, List, Bool, true, set, sym, ap, ◌∙◌, subst}
 use Rattle.fb_expect.specs.Passing.{Adds}
-use Rattle.fb_expect.specs.Prints.{print}
+use Rattle.fb_expect.specs.Fingerprints.{fingerprint}
 use Rattle.fb_expect.specs.Words.{Text}
 use Rattle.fb_expect.proofs.Marked.{adds-all, adds-one}
 use Rattle.fb_expect.proofs.port_set.with_pattern.Goals as goal
@@ -12,4 +12,4 @@ pub returns : goal.returns
 returns c =
     let marks = c.args.marks in
     let p = c.args.pattern.now in
-    subst (λ (ms : List Bool). Adds marks p ms) (sym (c.with_port.ensures ∙ ap (λ (z : Text). set marks (print z % 64) true) c.as_slice.ensures)) (adds-one marks p c.if-pattern.false)
+    subst (λ (ms : List Bool). Adds marks p ms) (sym (c.with_port.ensures ∙ ap (λ (z : Text). set marks (fingerprint z % 64) true) c.as_slice.ensures)) (adds-one marks p c.if-pattern.false)

@@ -3,7 +3,7 @@ use Rattle.std.proofs.lemmas.Result.{err_from_is_err_and}
 use Rattle.csv.specs.Reading.{strip_bom}
 use Rattle.fb_inputs.proofs.Records.{at_end, failed_reading}
 use Rattle.fb_inputs.proofs.Rows.{start_read}
-use Rattle.fb_inputs.proofs.Turns.{heading_found, told_by}
+use Rattle.fb_inputs.proofs.Turns.{heading_found, ok_by}
 use Rattle.fb_inputs.proofs.stimuli.take_heading.Goals as goal
 
 pub is_headed-requires : goal.is_headed-requires
@@ -32,11 +32,11 @@ returns-then-branch c = λ bytes opened.
     let here = opened.0 in
     let step = rw c.in-Some.is at ((c.next.ensures.steps here.left here.trim).0 here.ready) in
     let found = heading_found bytes c.args.rows.now c.next.new.self c.in-Some.first _ opened step (rw c.in-Some.is at (c.next.ensures.steps here.left here.trim).3) c.is_headed.ensures in
-    rw (told_by _ _ true c.in_ok-is_headed.was c.if-branch.true) at found
+    rw (ok_by _ _ true c.in_ok-is_headed.was c.if-branch.true) at found
 
 pub returns-else-branch : goal.returns-else-branch
 returns-else-branch c = λ bytes opened.
     let here = opened.0 in
     let step = rw c.in-Some.is at ((c.next.ensures.steps here.left here.trim).0 here.ready) in
     let found = heading_found bytes c.args.rows.now c.next.new.self c.in-Some.first _ opened step (rw c.in-Some.is at (c.next.ensures.steps here.left here.trim).3) c.is_headed.ensures in
-    rw (told_by _ _ false c.in_ok-is_headed.was c.if-branch.false) at found
+    rw (ok_by _ _ false c.in_ok-is_headed.was c.if-branch.false) at found

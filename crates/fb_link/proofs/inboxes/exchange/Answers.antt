@@ -12,10 +12,10 @@ use Rattle.fb_link.proofs.inboxes.exchange.Goals as goal
 
 pub deal-requires-clause-targets : goal.deal-requires-clause-targets
 deal-requires-clause-targets c =
-    let told : Vec Message Global → Type 0 = λ box. All (λ m. m.target.instance < length (system_of c.args.system.now).paths) box.items in
+    let shown : Vec Message Global → Type 0 = λ box. All (λ m. m.target.instance < length (system_of c.args.system.now).paths) box.items in
     let ys = c.loop-outbox.yielded in
     let rest = ap (λ z. ys ++ z) (sym c.in-Some.ensures.steps.0) ∙ c.loop-outbox.invariant.rest in
-    next_of told ys (into_iter_items c.next.new.self) c.in-Some.outbox (subst (All told) (sym rest) c.requires.targets)
+    next_of shown ys (into_iter_items c.next.new.self) c.in-Some.outbox (subst (All shown) (sym rest) c.requires.targets)
 
 pub loop-outbox-preserved : goal.loop-outbox-preserved
 loop-outbox-preserved c =

@@ -4,7 +4,7 @@ use Rattle.std.specs.Prelude.{All}
 use Rattle.fb_types.specs.Headline.{system_of}
 use Rattle.fb_types.specs.Numbers.{port_of}
 use Rattle.fb_net.specs.Outs.{IsOut}
-use Rattle.fb_net.proofs.Going.{last_gone, none_behind, none_gone, none_to_go, one_more_gone, others_gone}
+use Rattle.fb_net.proofs.Going.{last_gone, none_after, none_gone, none_to_go, one_more_gone, others_gone}
 use Rattle.fb_net.proofs.emit.send_out.Goals as goal
 
 pub returns-clause-outs : goal.returns-clause-outs
@@ -34,7 +34,7 @@ returns-in_default-clause-sent c =
     let sys = system_of c.args.system.now in
     none_to_go sys c.args.forest.now.resource _ (sys.targets (port_of sys c.args.from)) c.args.outs.now.items c.reached.result c.reached.ensures.leads c.in_default.is
 
--- .. and none is behind the only one
+-- .. and none is after the only one
 pub returns-then-not-reached-clause-sent : goal.returns-then-not-reached-clause-sent
 returns-then-not-reached-clause-sent c =
     let put = c.in_ok-put_out.ensures in
@@ -44,7 +44,7 @@ returns-then-not-reached-clause-sent c =
     let targets = sys.targets (port_of sys c.args.from) in
     let gone = one_more_gone sys r _ targets outs 0 outs c.reached.result c.in-Some.reached put.0
     (none_gone sys r _ _ outs) c.reached.ensures.leads c.in-Some.is put.1 in
-    rw put.2 (last_gone sys r _ _ outs 1 _ gone (none_behind c.in-Some.reached.more 1 (length targets) c.in-Some.ensures.more c.if-not-reached.true))
+    rw put.2 (last_gone sys r _ _ outs 1 _ gone (none_after c.in-Some.reached.more 1 (length targets) c.in-Some.ensures.more c.if-not-reached.true))
 
 pub returns-then-not-reached-clause-outs : goal.returns-then-not-reached-clause-outs
 returns-then-not-reached-clause-outs c =

@@ -37,7 +37,7 @@ loop-instance-preserved t c =
       grown =
           grown_step c.args.system.now c.args.depth c.loop-instance.instance-index c.args.instances.now c.components-inside.result.now c.loop-instance.blocks
           c.in_ok-components.components _ c.in_ok-block_of.field-0 c.facts.ensures.accepted c.requires.deep c.loop-instance-test.true
-          c.components-inside.ensures c.in_ok-components.ensures.grown c.in_ok-block_of.ensures.stands c.in_ok-block_of.ensures.components c.in_ok-push.ensures.ok
+          c.components-inside.ensures c.in_ok-components.ensures.grown c.in_ok-block_of.ensures.represents c.in_ok-block_of.ensures.components c.in_ok-push.ensures.ok
           c.loop-instance.invariant.grown;
       charts = c.in_ok-block_of.ensures.charts;
     }

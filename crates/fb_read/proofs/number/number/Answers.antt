@@ -10,5 +10,5 @@ returns-in_default-clause-value c =
 pub loop-b-preserved : goal.loop-b-preserved
 loop-b-preserved c = grind (arith, common_steps)
 
-pub loop-b-preserved-then-not-wanted : goal.loop-b-preserved-then-not-wanted
-loop-b-preserved-then-not-wanted c = grind (arith, common_steps)
+pub loop-b-preserved-then-not-expected : goal.loop-b-preserved-then-not-expected
+loop-b-preserved-then-not-expected c = grind (arith, common_steps)

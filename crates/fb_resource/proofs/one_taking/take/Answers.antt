@@ -34,28 +34,28 @@ take_in-requires-clause-event c = subst (λ n. IsEventIn c.args.system.now n c.a
 
 pub take_in-requires-clause-belongs : goal.take_in-requires-clause-belongs
 take_in-requires-clause-belongs c =
-    let stands = c.requires.stands in
-    (world_of stands.0 c.args.key.now.resource, stands.1.blocks, stands.1.typed c.args.key.now.resource)
+    let represents = c.requires.represents in
+    (world_of represents.0 c.args.key.now.resource, represents.1.blocks, represents.1.typed c.args.key.now.resource)
 
 pub settle-requires-clause-later : goal.settle-requires-clause-later
 settle-requires-clause-later c =
     let i = c.args.system.now in
     let k = c.args.key.now in
     let here = c.in_ok-stop.ensures.resource ∙ c.requires.tree in
-    let stands = c.requires.stands in
-    let w = world_of stands.0 k.resource in
-    (came_good i k c.args.event.now _ _ _ c.take_in.new.tree c.take_in.new.outbox _ w c.facts.ensures.accepted c.facts.ensures.limits c.requires.event.here (stands.1.typed k.resource) c.requires.typed
-    (c.in_ok-stop.ensures.came w stands.1.blocks) (subst (λ n. All (IsOut (system_of i) n) c.take_in.new.outbox.outs.items) here c.in_ok-stop.ensures.outs.outs)).1
+    let represents = c.requires.represents in
+    let w = world_of represents.0 k.resource in
+    (came_good i k c.args.event.now _ _ _ c.take_in.new.tree c.take_in.new.outbox _ w c.facts.ensures.accepted c.facts.ensures.limits c.requires.event.here (represents.1.typed k.resource) c.requires.typed
+    (c.in_ok-stop.ensures.came w represents.1.blocks) (subst (λ n. All (IsOut (system_of i) n) c.take_in.new.outbox.outs.items) here c.in_ok-stop.ensures.outs.outs)).1
 
 pub settle-requires-clause-outs : goal.settle-requires-clause-outs
 settle-requires-clause-outs c =
     let i = c.args.system.now in
     let k = c.args.key.now in
     let here = c.in_ok-stop.ensures.resource ∙ c.requires.tree in
-    let stands = c.requires.stands in
-    let w = world_of stands.0 k.resource in
-    (came_good i k c.args.event.now _ _ _ c.take_in.new.tree c.take_in.new.outbox _ w c.facts.ensures.accepted c.facts.ensures.limits c.requires.event.here (stands.1.typed k.resource) c.requires.typed
-    (c.in_ok-stop.ensures.came w stands.1.blocks) (subst (λ n. All (IsOut (system_of i) n) c.take_in.new.outbox.outs.items) here c.in_ok-stop.ensures.outs.outs)).0
+    let represents = c.requires.represents in
+    let w = world_of represents.0 k.resource in
+    (came_good i k c.args.event.now _ _ _ c.take_in.new.tree c.take_in.new.outbox _ w c.facts.ensures.accepted c.facts.ensures.limits c.requires.event.here (represents.1.typed k.resource) c.requires.typed
+    (c.in_ok-stop.ensures.came w represents.1.blocks) (subst (λ n. All (IsOut (system_of i) n) c.take_in.new.outbox.outs.items) here c.in_ok-stop.ensures.outs.outs)).0
 
 pub returns-clause-taken : goal.returns-clause-taken
 returns-clause-taken c s from le here counts =

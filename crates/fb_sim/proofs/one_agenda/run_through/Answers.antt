@@ -3,7 +3,7 @@ use Rattle.fb_laws.specs.Sound.{AreGood}
 use Rattle.fb_sim.specs.Pauses.{Pauses}
 use Rattle.fb_sim.specs.Rounds.{RunsOn}
 use Rattle.fb_sim.specs.declared.outcome.RunError.TheVariants.{Memory}
-use Rattle.fb_sim.proofs.OneAgendaIs.{gone_first, gone_more, gone_short, gone_wanting, through_horizon, through_stop}
+use Rattle.fb_sim.proofs.OneAgendaIs.{gone_first, gone_more, gone_short, gone_out_of_memory, through_horizon, through_stop}
 use Rattle.fb_sim.proofs.RunIs.{err_is}
 use Rattle.fb_sim.proofs.one_agenda.run_through.Goals as goal
 
@@ -22,7 +22,7 @@ returns-in_err-pause-clause-failed g c =
     let mid = g.W.Write.contents c.loop-pause.out in
     let good : AreGood i = record { accepted = c.facts.ensures.accepted; limits = c.facts.ensures.limits } in
     err_is (λ e. RunsOn i o [] old mid (Err e)) c.from_residual.result Memory c.from_residual.ensures.1
-    (gone_wanting i o good c.loop-pause.machine old mid c.loop-pause.written c.loop-pause.invariant.gone)
+    (gone_out_of_memory i o good c.loop-pause.machine old mid c.loop-pause.written c.loop-pause.invariant.gone)
 
 pub returns-in-Err-clause-failed : goal.returns-in-Err-clause-failed
 returns-in-Err-clause-failed g c =

@@ -4,7 +4,7 @@ use Rattle.fb_laws.specs.Finality.{core_of}
 use Rattle.fb_sim.specs.Rounds.{RoundsWithCounts}
 use Rattle.fb_sim.specs.declared.progress.Round.{Round}
 use Rattle.fb_sim.specs.declared.tally.Tally.{Tally}
-use Rattle.fb_sim.proofs.WindowIs.{counted_failed, counted_passed, counted_wanting, counted_whole, home_since}
+use Rattle.fb_sim.proofs.WindowIs.{counted_failed, counted_passed, counted_out_of_memory, counted_whole, home_since}
 use Rattle.fb_sim.proofs.rounds.round_with_counts.Goals as goal
 
 pub window-requires-clause-come : goal.window-requires-clause-come
@@ -24,7 +24,7 @@ returns-in_err-core g c ls h =
     let before = core_of c.args.system.now o.steps h.steps in
     let old = g.W.Write.contents c.args.out.now in
     let e = c.in_err-core.field-0.0 in
-    counted_passed c.args.system.now o before ls old old _ e c.from_residual.ensures.1 (counted_wanting c.args.system.now o before ls old old e c.in_err-core.ensures.memory refl)
+    counted_passed c.args.system.now o before ls old old _ e c.from_residual.ensures.1 (counted_out_of_memory c.args.system.now o before ls old old e c.in_err-core.ensures.memory refl)
 
 pub returns-in_err-settled : goal.returns-in_err-settled
 returns-in_err-settled g c ls h =
@@ -32,7 +32,7 @@ returns-in_err-settled g c ls h =
     let before = core_of c.args.system.now o.steps h.steps in
     let old = g.W.Write.contents c.args.out.now in
     let e = c.in_err-settled.field-0.0 in
-    counted_passed c.args.system.now o before ls old old _ e c.from_residual-in_err-settled.ensures.1 (counted_wanting c.args.system.now o before ls old old e c.in_err-settled.ensures.memory refl)
+    counted_passed c.args.system.now o before ls old old _ e c.from_residual-in_err-settled.ensures.1 (counted_out_of_memory c.args.system.now o before ls old old e c.in_err-settled.ensures.memory refl)
 
 pub returns-in_err-bytes : goal.returns-in_err-bytes
 returns-in_err-bytes g c ls h =

@@ -31,14 +31,14 @@ loop-count-preserved g c =
     let new = g.W.Write.contents c.go_to_next.new.out in
     let quiet = g.E.Write.contents c.args.err.now in
     let err = g.E.Write.contents c.loop-count.err in
-    let told = g.E.Write.contents c.go_to_next.new.err in
+    let reported = g.E.Write.contents c.go_to_next.new.err in
     let t = c.go_to_next.new.simulation in
     let k = c.loop-count.count in
     let comes =
-    comes_so c.loop-count.simulation i o (hundredth o.horizon k) c.loop-count.invariant.at t first out new quiet err told k (k + 1) c.loop-count.tally c.go_to_next.new.tally
+    comes_so c.loop-count.simulation i o (hundredth o.horizon k) c.loop-count.invariant.at t first out new quiet err reported k (k + 1) c.loop-count.tally c.go_to_next.new.tally
     (Ok c.in-Ok-End.field-0) c.in-Ok-End.ensures c.loop-count.invariant.came in
-    let so : Comes i o t first new quiet told (k + 1) c.go_to_next.new.tally (Ok (End c.in-Ok-End.field-0-0)) =
-    subst (λ (x : Outcome). Comes i o t first new quiet told (k + 1) c.go_to_next.new.tally (Ok x)) c.in-Ok-End.field-0-is comes in
+    let so : Comes i o t first new quiet reported (k + 1) c.go_to_next.new.tally (Ok (End c.in-Ok-End.field-0-0)) =
+    subst (λ (x : Outcome). Comes i o t first new quiet reported (k + 1) c.go_to_next.new.tally (Ok x)) c.in-Ok-End.field-0-is comes in
     record { at = so.1; came = so.0 }
 
 pub returns-in-Ok-Stop : goal.returns-in-Ok-Stop
@@ -50,13 +50,13 @@ returns-in-Ok-Stop g c =
     let new = g.W.Write.contents c.go_to_next.new.out in
     let quiet = g.E.Write.contents c.args.err.now in
     let err = g.E.Write.contents c.loop-count.err in
-    let told = g.E.Write.contents c.go_to_next.new.err in
+    let reported = g.E.Write.contents c.go_to_next.new.err in
     let t = c.go_to_next.new.simulation in
     let k = c.loop-count.count in
     let comes =
-    comes_so c.loop-count.simulation i o (hundredth o.horizon k) c.loop-count.invariant.at t first out new quiet err told k (k + 1) c.loop-count.tally c.go_to_next.new.tally
+    comes_so c.loop-count.simulation i o (hundredth o.horizon k) c.loop-count.invariant.at t first out new quiet err reported k (k + 1) c.loop-count.tally c.go_to_next.new.tally
     (Ok c.in-Ok-Stop.field-0) c.in-Ok-Stop.ensures c.loop-count.invariant.came in
-    subst (λ (x : Outcome). Comes i o t first new quiet told (k + 1) c.go_to_next.new.tally (Ok x)) c.in-Ok-Stop.field-0-is comes
+    subst (λ (x : Outcome). Comes i o t first new quiet reported (k + 1) c.go_to_next.new.tally (Ok x)) c.in-Ok-Stop.field-0-is comes
 
 pub returns-in-Err : goal.returns-in-Err
 returns-in-Err g c =
@@ -67,7 +67,7 @@ returns-in-Err g c =
     (g.W.Write.contents c.go_to_next.new.out) (g.E.Write.contents c.args.err.now) (g.E.Write.contents c.loop-count.err) (g.E.Write.contents c.go_to_next.new.err) k (k + 1) c.loop-count.tally
     c.go_to_next.new.tally (Err c.in-Err.error) c.in-Err.ensures c.loop-count.invariant.came
 
--- all hundredths are gone through
+-- all hundredths are visited
 pub returns : goal.returns
 returns g c =
     let i = c.args.simulation.now.inputs in

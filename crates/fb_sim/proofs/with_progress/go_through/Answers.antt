@@ -1,8 +1,8 @@
 use Rattle.std.proofs.Common.{Result, Ok, Err, sym, subst}
 use Rattle.fb_trace.specs.declared.last.Outcome.{Outcome}
 use Rattle.fb_sim.specs.declared.outcome.RunError.{RunError}
-use Rattle.fb_sim.specs.Reports.{Comes, Fails, HasTold}
-use Rattle.fb_sim.proofs.Ending.{ends_short, ends_well, tells_short, tells_well}
+use Rattle.fb_sim.specs.Reports.{Comes, Fails, HasReported}
+use Rattle.fb_sim.proofs.Ending.{ends_short, ends_well, reports_short, reports_well}
 use Rattle.fb_sim.proofs.with_progress.go_through.Goals as goal
 
 pub returns-in-Ok-finish-clause-ends : goal.returns-in-Ok-finish-clause-ends
@@ -18,8 +18,8 @@ returns-in-Ok-finish-clause-ends g c =
     let comes : Comes i o t first mid quiet err 100 m (Ok c.in-Ok.field-0) = subst (λ (r : Result Outcome RunError). Comes i o t first mid quiet err 100 m r) c.in-Ok.is c.go_far-end.ensures in
     ends_well i o t first mid quiet err m c.in-Ok.field-0 comes (g.W.Write.contents c.finish.new.out) c.in-Ok-finish.outcome c.in-Ok-finish.ensures
 
-pub returns-in-Ok-finish-clause-tells : goal.returns-in-Ok-finish-clause-tells
-returns-in-Ok-finish-clause-tells g c =
+pub returns-in-Ok-finish-clause-reported : goal.returns-in-Ok-finish-clause-reported
+returns-in-Ok-finish-clause-reported g c =
     let i = c.args.simulation.inputs in
     let o = c.args.options in
     let t = c.go_far-end.new.simulation in
@@ -29,7 +29,7 @@ returns-in-Ok-finish-clause-tells g c =
     let quiet = g.E.Write.contents c.args.err.now in
     let err = g.E.Write.contents c.go_far-end.new.err in
     let comes : Comes i o t first mid quiet err 100 m (Ok c.in-Ok.field-0) = subst (λ (r : Result Outcome RunError). Comes i o t first mid quiet err 100 m r) c.in-Ok.is c.go_far-end.ensures in
-    tells_well i o t first mid quiet err m c.in-Ok.field-0 comes (g.W.Write.contents c.finish.new.out) c.in-Ok-finish.outcome c.in-Ok-finish.ensures
+    reports_well i o t first mid quiet err m c.in-Ok.field-0 comes (g.W.Write.contents c.finish.new.out) c.in-Ok-finish.outcome c.in-Ok-finish.ensures
 
 pub returns-in-Err-finish-clause-ends : goal.returns-in-Err-finish-clause-ends
 returns-in-Err-finish-clause-ends g c =
@@ -45,8 +45,8 @@ returns-in-Err-finish-clause-ends g c =
     let comes : Comes i o t first mid quiet err 100 m (Ok c.in-Ok.field-0) = subst (λ (r : Result Outcome RunError). Comes i o t first mid quiet err 100 m r) c.in-Ok.is c.go_far-end.ensures in
     subst (λ (e : RunError). Fails i o first new e) (sym c.later.ensures) (ends_short i o t first mid quiet err m c.in-Ok.field-0 comes new c.in-Err-finish.error c.in-Err-finish.ensures)
 
-pub returns-in-Err-finish-clause-tells : goal.returns-in-Err-finish-clause-tells
-returns-in-Err-finish-clause-tells g c =
+pub returns-in-Err-finish-clause-reported : goal.returns-in-Err-finish-clause-reported
+returns-in-Err-finish-clause-reported g c =
     let i = c.args.simulation.inputs in
     let o = c.args.options in
     let t = c.go_far-end.new.simulation in
@@ -57,4 +57,4 @@ returns-in-Err-finish-clause-tells g c =
     let err = g.E.Write.contents c.go_far-end.new.err in
     let comes : Comes i o t first mid quiet err 100 m (Ok c.in-Ok.field-0) = subst (λ (r : Result Outcome RunError). Comes i o t first mid quiet err 100 m r) c.in-Ok.is c.go_far-end.ensures in
     let new = g.W.Write.contents c.finish.new.out in
-    subst (λ (e : RunError). HasTold i o first new quiet err m.is_heard (Err e)) (sym c.later.ensures) (tells_short i o t first mid quiet err m c.in-Ok.field-0 comes new c.in-Err-finish.error c.in-Err-finish.ensures)
+    subst (λ (e : RunError). HasReported i o first new quiet err m.is_heard (Err e)) (sym c.later.ensures) (reports_short i o t first mid quiet err m c.in-Ok.field-0 comes new c.in-Err-finish.error c.in-Err-finish.ensures)

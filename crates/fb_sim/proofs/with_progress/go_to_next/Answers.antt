@@ -41,9 +41,9 @@ returns-then-tally g c first quiet came =
     let goes = goes_here i o first out quiet err n c.args.count came c.args.simulation.now t c.hundredth-tick.result mid m (Ok (End k)) c.requires.at tick went in
     let new = g.E.Write.contents c.report-tally.new.err in
     let heard = c.report-tally.result in
-    let told : Hears heard err new (report_text o.horizon (hundredth o.horizon (suc c.args.count)) m.lines) =
+    let reported : Hears heard err new (report_text o.horizon (hundredth o.horizon (suc c.args.count)) m.lines) =
     subst (λ (k : ℕ). Hears heard err new (report_text o.horizon k m.lines)) tick c.report-tally.ensures in
-    let hears = hears_more i o first out quiet err n c.args.count came mid t m k heard new goes c.if-tally.true told in
+    let hears = hears_more i o first out quiet err n c.args.count came mid t m k heard new goes c.if-tally.true reported in
     let comes = came_more i o first out quiet err n c.args.count came t mid m k heard new later goes hears in
     subst (λ (j : ℕ). Comes i o t first mid quiet new j (record m { is_heard = heard }) (Ok (End (hundredth o.horizon j)))) (sym more) comes
 

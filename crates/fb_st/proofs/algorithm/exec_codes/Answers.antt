@@ -4,7 +4,7 @@ use Rattle.fb_types.specs.Bodies.{End, Point, RunsAll}
 use Rattle.fb_st.specs.Flows.{end_of, point}
 use Rattle.fb_st.specs.Frames.{Declared, declared_in, types_in}
 use Rattle.fb_st.specs.Known.{AllKnown}
-use Rattle.fb_st.specs.Placed.{codes_said}
+use Rattle.fb_st.specs.Fitting.{codes_said}
 use Rattle.fb_st.specs.declared.frame.Slot.{Slot}
 use Rattle.fb_st.specs.declared.meter.Meter.{Meter}
 use Rattle.fb_st.proofs.algorithm.exec_codes.Goals as goal

@@ -1,5 +1,5 @@
 use Rattle.std.proofs.Common.{sym, ◌∙◌, ap}
-use Rattle.fb_st.specs.Placed.{is_plain, is_unsigned}
+use Rattle.fb_st.specs.Fitting.{is_plain, is_unsigned}
 use Rattle.fb_st.proofs.Making.{slot_says, unsigned_says}
 use Rattle.fb_st.proofs.compile_expr.number_variable.Goals as goal
 

@@ -1,5 +1,5 @@
 use Rattle.std.proofs.Common.{sym, ◌∙◌, ap}
-use Rattle.fb_st.specs.Placed.{is_truth}
+use Rattle.fb_st.specs.Fitting.{is_truth}
 use Rattle.fb_st.proofs.Making.{flag_says}
 use Rattle.fb_st.proofs.compile_expr.truth_variable.Goals as goal
 

@@ -4,12 +4,12 @@ use Rattle.fb_types.specs.Syntax.{Binary, expr_of, exprs}
 use Rattle.fb_types.specs.Values.{value_of, values_of as values_of_all, and_then, truth, value_if_known, function_named}
 use Rattle.fb_types.specs.declared.text.Expr.{Expr}
 use Rattle.fb_types.specs.declared.value.Value.{Value}
-use Rattle.fb_st.specs.Wanted.{both, told_joined, truths}
+use Rattle.fb_st.specs.Required.{both, join_truths, truths}
 use Rattle.fb_st.specs.Frames.{values_of}
 use Rattle.fb_st.proofs.Arguments.{argument_done, with_one, one_stops, with_two, two_stop, with_three, three_stop, third_stops}
-use Rattle.fb_st.proofs.Faults.{counted_at, compared_at}
+use Rattle.fb_st.proofs.Faults.{whole_at, compared_at}
 use Rattle.fb_st.proofs.Says.{binary_is, whole_comes, truth_comes, variable_comes, group_comes, call_comes}
-use Rattle.fb_st.proofs.Wanted.{compares_of, gives_of, number_again, number_untrue, truth_again, or_told, xor_told, and_told, same_told, other_told}
+use Rattle.fb_st.proofs.Required.{compares_of, gives_of, number_again, number_untrue, truth_again, or_truths, xor_truths, and_truths, same_truths, other_truths}
 use Rattle.fb_st.proofs.evaluation.+eval.Goals as goal
 
 pub eval-returns-in-Binary : goal.eval-returns-in-Binary
@@ -28,7 +28,7 @@ pub number_with_fault-returns-in-Binary : goal.number_with_fault-returns-in-Bina
 number_with_fault-returns-in-Binary t c =
     let is : expr_of c.args.expr.now ≡ Binary c.in-Binary.operator (expr_of c.get-in-Binary.result.now) (expr_of c.get-in-Binary-2.result.now) =
     rw c.get-in-Binary.ensures (rw c.get-in-Binary-2.ensures (binary_is _ _ _ _ c.in-Binary.is)) in
-    let known = counted_at (expr_of c.args.expr.now) c.in-Binary.operator _ _ is (values_of c.args.frame.now) _ _ _ _ _ _ _ _ _ _
+    let known = whole_at (expr_of c.args.expr.now) c.in-Binary.operator _ _ is (values_of c.args.frame.now) _ _ _ _ _ _ _ _ _ _
     c.operand-x.ensures c.operand-y.ensures c.number_of_two.ensures (search rules) (search rules) c.keep_fault-in-Binary.ensures in
     rw (← known) (search rules)
 
@@ -36,31 +36,31 @@ pub truth-returns-in-Or : goal.truth-returns-in-Or
 truth-returns-in-Or t c =
     let is : expr_of c.args.expr.now ≡ Binary c.in-Binary.operator (expr_of c.get-in-Or.result.now) (expr_of c.get-in-Or-2.result.now) =
     rw c.get-in-Or.ensures (rw c.get-in-Or-2.ensures (binary_is _ _ _ _ c.in-Binary.is)) in
-    c.joined_truths.ensures ∙ or_told (expr_of c.args.expr.now) c.in-Binary.operator _ _ is (values_of c.args.frame.now) c.in-Or.is
+    c.joined_truths.ensures ∙ or_truths (expr_of c.args.expr.now) c.in-Binary.operator _ _ is (values_of c.args.frame.now) c.in-Or.is
 
 pub truth-returns-in-Xor : goal.truth-returns-in-Xor
 truth-returns-in-Xor t c =
     let is : expr_of c.args.expr.now ≡ Binary c.in-Binary.operator (expr_of c.get-in-Xor.result.now) (expr_of c.get-in-Xor-2.result.now) =
     rw c.get-in-Xor.ensures (rw c.get-in-Xor-2.ensures (binary_is _ _ _ _ c.in-Binary.is)) in
-    c.joined_truths-in-Xor.ensures ∙ xor_told (expr_of c.args.expr.now) c.in-Binary.operator _ _ is (values_of c.args.frame.now) c.in-Xor.is
+    c.joined_truths-in-Xor.ensures ∙ xor_truths (expr_of c.args.expr.now) c.in-Binary.operator _ _ is (values_of c.args.frame.now) c.in-Xor.is
 
 pub truth-returns-in-And : goal.truth-returns-in-And
 truth-returns-in-And t c =
     let is : expr_of c.args.expr.now ≡ Binary c.in-Binary.operator (expr_of c.get-in-And.result.now) (expr_of c.get-in-And-2.result.now) =
     rw c.get-in-And.ensures (rw c.get-in-And-2.ensures (binary_is _ _ _ _ c.in-Binary.is)) in
-    c.joined_truths-in-And.ensures ∙ and_told (expr_of c.args.expr.now) c.in-Binary.operator _ _ is (values_of c.args.frame.now) c.in-And.is
+    c.joined_truths-in-And.ensures ∙ and_truths (expr_of c.args.expr.now) c.in-Binary.operator _ _ is (values_of c.args.frame.now) c.in-And.is
 
 pub truth-returns-in-Equal : goal.truth-returns-in-Equal
 truth-returns-in-Equal t c =
     let is : expr_of c.args.expr.now ≡ Binary c.in-Binary.operator (expr_of c.get-in-Equal.result.now) (expr_of c.get-in-Equal-2.result.now) =
     rw c.get-in-Equal.ensures (rw c.get-in-Equal-2.ensures (binary_is _ _ _ _ c.in-Binary.is)) in
-    c.are_equal.ensures ∙ same_told (expr_of c.args.expr.now) c.in-Binary.operator _ _ is (values_of c.args.frame.now) c.in-Equal.is
+    c.are_equal.ensures ∙ same_truths (expr_of c.args.expr.now) c.in-Binary.operator _ _ is (values_of c.args.frame.now) c.in-Equal.is
 
 pub truth-returns-in-NotEqual : goal.truth-returns-in-NotEqual
 truth-returns-in-NotEqual t c =
     let is : expr_of c.args.expr.now ≡ Binary c.in-Binary.operator (expr_of c.get-in-NotEqual.result.now) (expr_of c.get-in-NotEqual-2.result.now) =
     rw c.get-in-NotEqual.ensures (rw c.get-in-NotEqual-2.ensures (binary_is _ _ _ _ c.in-Binary.is)) in
-    c.are_equal-in-NotEqual.ensures ∙ other_told (expr_of c.args.expr.now) c.in-Binary.operator _ _ is (values_of c.args.frame.now) c.in-NotEqual.is
+    c.are_equal-in-NotEqual.ensures ∙ other_truths (expr_of c.args.expr.now) c.in-Binary.operator _ _ is (values_of c.args.frame.now) c.in-NotEqual.is
 
 pub truth-returns-in-Less : goal.truth-returns-in-Less
 truth-returns-in-Less t c =
@@ -181,9 +181,9 @@ both_values-returns t c = λ i. both ((sym c.in_ok-first.was ∙ c.eval.ensures)
 pub joined_truths-returns-in_err-first : goal.joined_truths-returns-in_err-first
 joined_truths-returns-in_err-first t c =
     let x = err_from_is_err_and c.from_residual.result c.from_residual.ensures.1 in
-    rw (x.1, x.2) (ap (λ r. told_joined c.args.operator r (truths (value_of (expr_of c.args.right.now) (values_of c.args.frame.now)))) (sym c.in_err-first.was ∙ c.truth.ensures))
+    rw (x.1, x.2) (ap (λ r. join_truths c.args.operator r (truths (value_of (expr_of c.args.right.now) (values_of c.args.frame.now)))) (sym c.in_err-first.was ∙ c.truth.ensures))
 
 pub joined_truths-returns-in_err-truth : goal.joined_truths-returns-in_err-truth
 joined_truths-returns-in_err-truth t c =
     let x = err_from_is_err_and c.from_residual-in_err-truth.result c.from_residual-in_err-truth.ensures.1 in
-    rw (x.1, x.2) (λ i. told_joined c.args.operator ((sym c.in_ok-first.was ∙ c.truth.ensures) i) ((sym c.in_err-truth.was ∙ c.truth-2.ensures) i))
+    rw (x.1, x.2) (λ i. join_truths c.args.operator ((sym c.in_ok-first.was ∙ c.truth.ensures) i) ((sym c.in_err-truth.was ∙ c.truth-2.ensures) i))

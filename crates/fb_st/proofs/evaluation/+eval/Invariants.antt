@@ -7,7 +7,7 @@ use Rattle.fb_types.specs.declared.value.Value.{Value}
 use Rattle.fb_st.specs.Frames.{values_of}
 use Rattle.fb_st.proofs.evaluation.+eval.Given as goal
 
--- the arguments before this one have values, and what the others come to all come to
+-- the arguments before this one have values, and the result of the others is the result of all
 abbrev pub invariant-call-loop-argument : goal.invariant-call-loop-argument
 invariant-call-loop-argument l =
     (done : List Value) × (length done ≡ l.argument-index)

@@ -13,7 +13,7 @@ use Rattle.fb_st.specs.declared.frame.Slot.{Slot}
 use Rattle.fb_st.specs.declared.meter.Flow.TheVariants as flow
 use Rattle.fb_st.specs.Frames.{declared_in, types_in, values_of}
 use Rattle.fb_st.specs.Flows.{end_of, point, before_step, all_of, branches_of, choices_of}
-use Rattle.fb_st.proofs.Runs.{one_runs, assign_says, if_says, case_says, for_says, while_says, case_runs, began, for_counts, for_not_begun, stopped_by, ended_by, told_by, turn_as, counted_as, counts_as, all_goes_on, all_ends, all_known, all_as, nothing_left, runs_as, ends_at, choice_told, choice_ran, choice_taken, choice_passed, choice_stops, choices_known, branch_told, branch_ran, branch_taken, branch_passed, branches_known, loop_over, loop_stops, loop_left, loop_returned, loop_stopped, loop_goes_on, repeat_says, repeat_goes_on, repeat_over, repeat_stops, repeat_left, repeat_returned, repeat_stopped}
+use Rattle.fb_st.proofs.Runs.{one_runs, assign_says, if_says, case_says, for_says, while_says, case_runs, began, for_counts, for_not_begun, stopped_by, ended_by, ok_by, turn_as, whole_as, counts_as, all_goes_on, all_ends, all_known, all_as, nothing_left, runs_as, ends_at, choice_holds, choice_ran, choice_taken, choice_passed, choice_stops, choices_known, branch_fits, branch_ran, branch_taken, branch_passed, branches_known, loop_over, loop_stops, loop_left, loop_returned, loop_stopped, loop_goes_on, repeat_says, repeat_goes_on, repeat_over, repeat_stops, repeat_left, repeat_returned, repeat_stopped}
 use Rattle.fb_st.proofs.execution.+exec.Goals as goal
 
 -- ---- FOR
@@ -166,7 +166,7 @@ run_repeat-returns-then-branch-clause-run t c =
     let m : Point = point c.turn.new.frame c.turn.new.meter in
     let ran = turn_as (declared_in c.loop-frame.frame) (declared_in c.args.frame.now) body p m (end_of c.turn.result) Went c.loop-frame.invariant.declared
     (ended_by c.turn.result c.in_ok-turn.field-0 flow.Went c.in_ok-turn.was c.in-Went.is) c.turn.ensures.run in
-    let holds = sym c.holds.ensures ∙ told_by c.holds.result c.in_ok-holds.field-0 true c.in_ok-holds.was c.if-branch.true in
+    let holds = sym c.holds.ensures ∙ ok_by c.holds.result c.in_ok-holds.field-0 true c.in_ok-holds.was c.if-branch.true in
     c.loop-frame.invariant.run Went m (repeat_over (expr_of c.args.condition.now) turn p m ran holds)
 
 pub run_repeat-loop-frame-preserved : goal.run_repeat-loop-frame-preserved
@@ -177,7 +177,7 @@ run_repeat-loop-frame-preserved t c =
     let m : Point = point c.turn.new.frame c.turn.new.meter in
     let ran = turn_as (declared_in c.loop-frame.frame) (declared_in c.args.frame.now) body p m (end_of c.turn.result) Went c.loop-frame.invariant.declared
     (ended_by c.turn.result c.in_ok-turn.field-0 flow.Went c.in_ok-turn.was c.in-Went.is) c.turn.ensures.run in
-    let fails = sym c.holds.ensures ∙ told_by c.holds.result c.in_ok-holds.field-0 false c.in_ok-holds.was c.if-branch.false in
+    let fails = sym c.holds.ensures ∙ ok_by c.holds.result c.in_ok-holds.field-0 false c.in_ok-holds.was c.if-branch.false in
     record {
       run = λ e q rest. c.loop-frame.invariant.run e q (repeat_goes_on (expr_of c.args.condition.now) turn p m ran fails e q rest);
       declared = c.turn.ensures.declared ∙ c.loop-frame.invariant.declared;
@@ -195,7 +195,7 @@ run_while-loop-frame-preserved t c =
     let m : Point = point c.turn.new.frame c.turn.new.meter in
     let ran = turn_as (declared_in c.loop-frame.frame) (declared_in c.args.frame.now) body p m (end_of c.turn.result) Went c.loop-frame.invariant.declared
     (ended_by c.turn.result c.in_ok-turn.field-0 flow.Went c.in_ok-turn.was c.in-Went.is) c.turn.ensures.run in
-    let holds = sym c.holds.ensures ∙ told_by c.holds.result c.in_ok-holds.field-0 true c.in_ok-holds.was c.if-branch.true in
+    let holds = sym c.holds.ensures ∙ ok_by c.holds.result c.in_ok-holds.field-0 true c.in_ok-holds.was c.if-branch.true in
     record {
       run = λ e q rest. c.loop-frame.invariant.run e q (loop_goes_on test turn p m holds ran e q rest);
       declared = c.turn.ensures.declared ∙ c.loop-frame.invariant.declared;
@@ -221,7 +221,7 @@ run_while-returns-in_err-turn-clause-run t c =
     let r : Reason = c.in_err-turn.field-0.0 in
     let ran = turn_as (declared_in c.loop-frame.frame) (declared_in c.args.frame.now) body p m (end_of c.turn.result) (Stopped r) c.loop-frame.invariant.declared
     (stopped_by c.turn.result r c.in_err-turn.was) c.turn.ensures.run in
-    let holds = sym c.holds.ensures ∙ told_by c.holds.result c.in_ok-holds.field-0 true c.in_ok-holds.was c.if-branch.true in
+    let holds = sym c.holds.ensures ∙ ok_by c.holds.result c.in_ok-holds.field-0 true c.in_ok-holds.was c.if-branch.true in
     let x = err_from_is_err_and c.from_residual-in_err-turn.result c.from_residual-in_err-turn.ensures.1 in
     rw (x.1, x.2) (c.loop-frame.invariant.run (Stopped r) m (loop_stopped test turn p m r holds ran))
 
@@ -234,7 +234,7 @@ run_while-returns-in-Left-clause-run t c =
     let m : Point = point c.turn.new.frame c.turn.new.meter in
     let ran = turn_as (declared_in c.loop-frame.frame) (declared_in c.args.frame.now) body p m (end_of c.turn.result) Left c.loop-frame.invariant.declared
     (ended_by c.turn.result c.in_ok-turn.field-0 flow.Left c.in_ok-turn.was c.in-Left.is) c.turn.ensures.run in
-    let holds = sym c.holds.ensures ∙ told_by c.holds.result c.in_ok-holds.field-0 true c.in_ok-holds.was c.if-branch.true in
+    let holds = sym c.holds.ensures ∙ ok_by c.holds.result c.in_ok-holds.field-0 true c.in_ok-holds.was c.if-branch.true in
     c.loop-frame.invariant.run Went m (loop_left test turn p m holds ran)
 
 pub run_while-returns-in-Returned-clause-run : goal.run_while-returns-in-Returned-clause-run
@@ -246,7 +246,7 @@ run_while-returns-in-Returned-clause-run t c =
     let m : Point = point c.turn.new.frame c.turn.new.meter in
     let ran = turn_as (declared_in c.loop-frame.frame) (declared_in c.args.frame.now) body p m (end_of c.turn.result) Returned c.loop-frame.invariant.declared
     (ended_by c.turn.result c.in_ok-turn.field-0 flow.Returned c.in_ok-turn.was c.in-Returned.is) c.turn.ensures.run in
-    let holds = sym c.holds.ensures ∙ told_by c.holds.result c.in_ok-holds.field-0 true c.in_ok-holds.was c.if-branch.true in
+    let holds = sym c.holds.ensures ∙ ok_by c.holds.result c.in_ok-holds.field-0 true c.in_ok-holds.was c.if-branch.true in
     c.loop-frame.invariant.run Returned m (loop_returned test turn p m holds ran)
 
 pub run_while-returns-clause-run : goal.run_while-returns-clause-run
@@ -254,7 +254,7 @@ run_while-returns-clause-run t c =
     let turn : Running = Step (RunsAll (types_in (declared_in c.args.frame.now)) (all_of c.args.body.now)) in
     let test : Values → Result Bool Reason = truth_of (expr_of c.args.condition.now) in
     let p : Point = point c.loop-frame.frame c.loop-frame.meter in
-    let fails = sym c.holds.ensures ∙ told_by c.holds.result c.in_ok-holds.field-0 false c.in_ok-holds.was c.if-branch.false in
+    let fails = sym c.holds.ensures ∙ ok_by c.holds.result c.in_ok-holds.field-0 false c.in_ok-holds.was c.if-branch.false in
     c.loop-frame.invariant.run Went p (loop_over test turn p fails)
 
 -- ---- The turns of FOR
@@ -293,7 +293,7 @@ run_counts-loop-preserved t c =
     let test : Values → Result Bool Reason = λ vars. Ok (not (passed end step (whole (vars n)))) in
     let p : Point = point c.loop.frame c.loop.meter in
     let m : Point = point c.turn_of_for.new.frame c.turn_of_for.new.meter in
-    let ran = counted_as (declared_in c.loop.frame) (declared_in c.args.frame.now) n end step body p m (end_of c.turn_of_for.result) Went c.loop.invariant.declared
+    let ran = whole_as (declared_in c.loop.frame) (declared_in c.args.frame.now) n end step body p m (end_of c.turn_of_for.result) Went c.loop.invariant.declared
     (ended_by c.turn_of_for.result c.in_ok-turn_of_for.field-0 flow.Went c.in_ok-turn_of_for.was c.in-Went.is) c.turn_of_for.ensures.run in
     let here : passed end step (whole (values_of c.loop.frame n)) ≡ false = c.loop.invariant.within in
     record {
@@ -316,7 +316,7 @@ run_counts-returns-in_err-turn_of_for-clause-run t c =
     let r : Reason = c.in_err-turn_of_for.field-0.0 in
     let here : passed end step (whole (values_of c.loop.frame n)) ≡ false = c.loop.invariant.within in
     let m : Point = point c.turn_of_for.new.frame c.turn_of_for.new.meter in
-    let ran = counted_as (declared_in c.loop.frame) (declared_in c.args.frame.now) n end step body p m (end_of c.turn_of_for.result) (Stopped r) c.loop.invariant.declared
+    let ran = whole_as (declared_in c.loop.frame) (declared_in c.args.frame.now) n end step body p m (end_of c.turn_of_for.result) (Stopped r) c.loop.invariant.declared
     (stopped_by c.turn_of_for.result r c.in_err-turn_of_for.was) c.turn_of_for.ensures.run in
     let x = err_from_is_err_and c.from_residual.result c.from_residual.ensures.1 in
     rw (x.1, x.2) (c.loop.invariant.run (Stopped r) m (loop_stopped test turn p m r (ap (λ b. Ok (not b)) here) ran))
@@ -333,7 +333,7 @@ run_counts-returns-in-Left-clause-run t c =
     let p : Point = point c.loop.frame c.loop.meter in
     let here : passed end step (whole (values_of c.loop.frame n)) ≡ false = c.loop.invariant.within in
     let m : Point = point c.turn_of_for.new.frame c.turn_of_for.new.meter in
-    let ran = counted_as (declared_in c.loop.frame) (declared_in c.args.frame.now) n end step body p m (end_of c.turn_of_for.result) Left c.loop.invariant.declared
+    let ran = whole_as (declared_in c.loop.frame) (declared_in c.args.frame.now) n end step body p m (end_of c.turn_of_for.result) Left c.loop.invariant.declared
     (ended_by c.turn_of_for.result c.in_ok-turn_of_for.field-0 flow.Left c.in_ok-turn_of_for.was c.in-Left.is) c.turn_of_for.ensures.run in
     c.loop.invariant.run Went m (loop_left test turn p m (ap (λ b. Ok (not b)) here) ran)
 
@@ -349,7 +349,7 @@ run_counts-returns-in-Returned-clause-run t c =
     let p : Point = point c.loop.frame c.loop.meter in
     let here : passed end step (whole (values_of c.loop.frame n)) ≡ false = c.loop.invariant.within in
     let m : Point = point c.turn_of_for.new.frame c.turn_of_for.new.meter in
-    let ran = counted_as (declared_in c.loop.frame) (declared_in c.args.frame.now) n end step body p m (end_of c.turn_of_for.result) Returned c.loop.invariant.declared
+    let ran = whole_as (declared_in c.loop.frame) (declared_in c.args.frame.now) n end step body p m (end_of c.turn_of_for.result) Returned c.loop.invariant.declared
     (ended_by c.turn_of_for.result c.in_ok-turn_of_for.field-0 flow.Returned c.in_ok-turn_of_for.was c.in-Returned.is) c.turn_of_for.ensures.run in
     c.loop.invariant.run Returned m (loop_returned test turn p m (ap (λ b. Ok (not b)) here) ran)
 
@@ -437,8 +437,8 @@ run_choice-loop-choice-preserved t c =
     let one : Choice = c.choice-item.result in
     let others : Running = RunsAll T (all_of c.args.others.now) in
     let p : Point = point c.args.frame.now c.args.meter.now in
-    let fails = choice_told one c.loop-choice.frame c.args.frame.now c.holds.result (Ok false) c.loop-choice.invariant.same_frame c.holds.ensures
-    (told_by c.holds.result c.in_ok-holds.field-0 false c.in_ok-holds.was c.if-branch.false) in
+    let fails = choice_holds one c.loop-choice.frame c.args.frame.now c.holds.result (Ok false) c.loop-choice.invariant.same_frame c.holds.ensures
+    (ok_by c.holds.result c.in_ok-holds.field-0 false c.in_ok-holds.was c.if-branch.false) in
     record {
       run = λ e q rest. c.loop-choice.invariant.run e q (choice_passed T cs i one others p c.loop-choice-test.true c.choice-item.is fails e q rest);
       known = (choices_known (declared_in c.args.frame.now) cs i one c.loop-choice-test.true c.choice-item.is c.loop-choice.invariant.known).1;
@@ -455,7 +455,7 @@ run_choice-returns-in_err-holds-clause-run t c =
     let others : Running = RunsAll T (all_of c.args.others.now) in
     let p : Point = point c.args.frame.now c.args.meter.now in
     let r : Reason = c.in_err-holds.field-0.0 in
-    let stops = choice_told one c.loop-choice.frame c.args.frame.now c.holds.result (Err r) c.loop-choice.invariant.same_frame c.holds.ensures c.in_err-holds.was in
+    let stops = choice_holds one c.loop-choice.frame c.args.frame.now c.holds.result (Err r) c.loop-choice.invariant.same_frame c.holds.ensures c.in_err-holds.was in
     let x = err_from_is_err_and c.from_residual.result c.from_residual.ensures.1 in
     rw (x.1, x.2)
     (ends_at (Runs T (If (choices_of cs) (all_of c.args.others.now))) (before_step c.args.frame.now c.args.meter.now) (Stopped r)
@@ -471,8 +471,8 @@ run_choice-returns-then-branch-clause-run t c =
     let others : Running = RunsAll T (all_of c.args.others.now) in
     let p : Point = point c.args.frame.now c.args.meter.now in
     let q : Point = point c.run_all.new.frame c.run_all.new.meter in
-    let holds = choice_told one c.loop-choice.frame c.args.frame.now c.holds.result (Ok true) c.loop-choice.invariant.same_frame c.holds.ensures
-    (told_by c.holds.result c.in_ok-holds.field-0 true c.in_ok-holds.was c.if-branch.true) in
+    let holds = choice_holds one c.loop-choice.frame c.args.frame.now c.holds.result (Ok true) c.loop-choice.invariant.same_frame c.holds.ensures
+    (ok_by c.holds.result c.in_ok-holds.field-0 true c.in_ok-holds.was c.if-branch.true) in
     let ran = choice_ran one c.loop-choice.frame c.args.frame.now c.loop-choice.meter c.args.meter.now c.as_slice.result.now (end_of c.run_all.result) q
     c.loop-choice.invariant.same_frame c.loop-choice.invariant.same_meter c.as_slice.ensures c.run_all.ensures.run in
     c.loop-choice.invariant.run (end_of c.run_all.result) q (choice_taken T cs i one others p c.loop-choice-test.true c.choice-item.is holds (end_of c.run_all.result) q ran)
@@ -500,7 +500,7 @@ run_branch-loop-branch-preserved t c =
     let one : Branch = c.branch-item.result in
     let others : Running = RunsAll T (all_of c.args.others.now) in
     let p : Point = point c.args.frame.now c.args.meter.now in
-    let fails = branch_told one c.as_slice.result.now z c.has_label.result false c.as_slice.ensures c.has_label.ensures c.if-has_label.false in
+    let fails = branch_fits one c.as_slice.result.now z c.has_label.result false c.as_slice.ensures c.has_label.ensures c.if-has_label.false in
     record {
       run = λ e q rest. c.loop-branch.invariant.run e q
           (branch_passed T bs c.loop-branch.branch-index one z others p c.loop-branch-test.true c.branch-item.is fails e q rest);
@@ -518,7 +518,7 @@ run_branch-returns-then-has_label-clause-run t c =
     let others : Running = RunsAll T (all_of c.args.others.now) in
     let p : Point = point c.args.frame.now c.args.meter.now in
     let q : Point = point c.run_all.new.frame c.run_all.new.meter in
-    let fits = branch_told one c.as_slice.result.now z c.has_label.result true c.as_slice.ensures c.has_label.ensures c.if-has_label.true in
+    let fits = branch_fits one c.as_slice.result.now z c.has_label.result true c.as_slice.ensures c.has_label.ensures c.if-has_label.true in
     let ran = branch_ran one c.loop-branch.frame c.args.frame.now c.loop-branch.meter c.args.meter.now c.as_slice-then-has_label.result.now (end_of c.run_all.result) q
     c.loop-branch.invariant.same_frame c.loop-branch.invariant.same_meter c.as_slice-then-has_label.ensures c.run_all.ensures.run in
     c.loop-branch.invariant.run (end_of c.run_all.result) q

@@ -9,7 +9,7 @@ use Rattle.fb_types.specs.Values.{Types, Values, truth_of, whole, fits}
 use Rattle.fb_types.specs.Bodies.{Point, End, Running, Went, Left, Returned, Stopped, Step, Then, RunsAll, RunsChoice, RunsBranch, Runs, Advances, passed}
 use Rattle.fb_types.specs.declared.value.Reason.{Reason}
 use Rattle.fb_types.specs.declared.value.Value.TheVariants as value
-use Rattle.fb_st.specs.Wanted.{as_whole}
+use Rattle.fb_st.specs.Required.{as_whole}
 use Rattle.fb_st.specs.declared.compiled.CountExpr.{CountExpr}
 use Rattle.fb_st.specs.declared.compiled.CompiledBranch.{CompiledBranch}
 use Rattle.fb_st.specs.declared.compiled.CompiledChoice.{CompiledChoice}
@@ -18,12 +18,12 @@ use Rattle.fb_st.specs.declared.meter.Flow.TheVariants as flow
 use Rattle.fb_st.specs.Frames.{types_in}
 use Rattle.fb_st.specs.Flows.{end_of}
 use Rattle.fb_st.specs.Compiled.{number_said, truth_said, fits_truth, fits_number}
-use Rattle.fb_st.specs.Placed.{spot, begun, values_at, name_at, expr_of_number, expr_of_truth, code_said, codes_said, arms_said, forks_said, code_right, codes_right, count_right, arm_right, fork_right, kinds_truth, kinds_number, ty_or, value_of_word}
+use Rattle.fb_st.specs.Fitting.{spot, begun, values_at, name_at, expr_of_number, expr_of_truth, code_said, codes_said, arms_said, forks_said, code_right, codes_right, count_right, arm_right, fork_right, kinds_truth, kinds_number, ty_or, value_of_word}
 use Rattle.fb_st.proofs.Comes.{both_true, condition_comes, number_comes}
 use Rattle.fb_st.proofs.Sizes.{statement_size, body_of_arm_size, body_of_for_size}
 use Rattle.fb_st.proofs.Words.{word_type}
-use Rattle.fb_st.proofs.CodeRuns.{one_right, codes_go_on, codes_end, codes_as, ends_here, one_code, long_right, long_says, within_says, truth_says, if_says, case_says, for_says, while_says, repeat_says, case_part, case_stops, count_parts, within_there, counted, for_no_start, for_no_end, for_no_step, first_set, first_read, arm_parts, for_right, arm_told, arm_ran, arm_taken, arm_passed, arm_stops, fork_told, fork_ran, fork_taken, fork_passed}
-use Rattle.fb_st.proofs.Runs.{began, case_runs, for_counts, for_not_begun, stopped_by, ended_by, told_by, ends_as, nothing_left, loop_over, loop_stops, loop_left, loop_returned, loop_stopped, loop_goes_on, repeat_goes_on, repeat_over, repeat_stops, repeat_left, repeat_returned, repeat_stopped}
+use Rattle.fb_st.proofs.CodeRuns.{one_right, codes_go_on, codes_end, codes_as, ends_here, one_code, long_right, long_says, within_says, truth_says, if_says, case_says, for_says, while_says, repeat_says, case_part, case_stops, count_parts, within_there, counted, for_no_start, for_no_end, for_no_step, first_set, first_read, arm_parts, for_right, arm_holds, arm_ran, arm_taken, arm_passed, arm_stops, fork_fits, fork_ran, fork_taken, fork_passed}
+use Rattle.fb_st.proofs.Runs.{began, case_runs, for_counts, for_not_begun, stopped_by, ended_by, ok_by, ends_as, nothing_left, loop_over, loop_stops, loop_left, loop_returned, loop_stopped, loop_goes_on, repeat_goes_on, repeat_over, repeat_stops, repeat_left, repeat_returned, repeat_stopped}
 use Rattle.fb_st.proofs.running.+running.Goals as goal
 
 pub run_repeat-returns-in_err-turn-clause-run : goal.run_repeat-returns-in_err-turn-clause-run
@@ -82,7 +82,7 @@ run_repeat-returns-then-branch-clause-run t c =
     let p : Point = spot ds c.loop-words.words c.loop-words.meter in
     let m : Point = spot ds c.turn.new.words c.turn.new.meter in
     let ran = ends_as turn p m Went (end_of c.turn.result) (sym (ended_by c.turn.result c.in_ok-turn.field-0 flow.Went c.in_ok-turn.was c.in-Went.is)) c.turn.ensures.run in
-    let holds = here ∙ sym c.is_true.ensures ∙ told_by c.is_true.result c.in_ok-is_true.field-0 true c.in_ok-is_true.was c.if-branch.true in
+    let holds = here ∙ sym c.is_true.ensures ∙ ok_by c.is_true.result c.in_ok-is_true.field-0 true c.in_ok-is_true.was c.if-branch.true in
     c.loop-words.invariant.run Went m (repeat_over (expr_of_truth ds (truth_said c.args.condition.now)) turn p m ran holds)
 
 pub run_repeat-loop-words-preserved : goal.run_repeat-loop-words-preserved
@@ -95,7 +95,7 @@ run_repeat-loop-words-preserved t c =
     let p : Point = spot ds c.loop-words.words c.loop-words.meter in
     let m : Point = spot ds c.turn.new.words c.turn.new.meter in
     let ran = ends_as turn p m Went (end_of c.turn.result) (sym (ended_by c.turn.result c.in_ok-turn.field-0 flow.Went c.in_ok-turn.was c.in-Went.is)) c.turn.ensures.run in
-    let fails = here ∙ sym c.is_true.ensures ∙ told_by c.is_true.result c.in_ok-is_true.field-0 false c.in_ok-is_true.was c.if-branch.false in
+    let fails = here ∙ sym c.is_true.ensures ∙ ok_by c.is_true.result c.in_ok-is_true.field-0 false c.in_ok-is_true.was c.if-branch.false in
     record {
       run = λ e q rest. c.loop-words.invariant.run e q (repeat_goes_on (expr_of_truth ds (truth_said c.args.condition.now)) turn p m ran fails e q rest);
       same_length = c.turn.ensures.length ∙ c.loop-words.invariant.same_length;
@@ -113,7 +113,7 @@ run_while-loop-words-preserved t c =
     let p : Point = spot ds c.loop-words.words c.loop-words.meter in
     let m : Point = spot ds c.turn.new.words c.turn.new.meter in
     let ran = ends_as turn p m Went (end_of c.turn.result) (sym (ended_by c.turn.result c.in_ok-turn.field-0 flow.Went c.in_ok-turn.was c.in-Went.is)) c.turn.ensures.run in
-    let holds = here ∙ sym c.is_true.ensures ∙ told_by c.is_true.result c.in_ok-is_true.field-0 true c.in_ok-is_true.was c.if-branch.true in
+    let holds = here ∙ sym c.is_true.ensures ∙ ok_by c.is_true.result c.in_ok-is_true.field-0 true c.in_ok-is_true.was c.if-branch.true in
     record {
       run = λ e q rest. c.loop-words.invariant.run e q (loop_goes_on test turn p m holds ran e q rest);
       same_length = c.turn.ensures.length ∙ c.loop-words.invariant.same_length;
@@ -144,7 +144,7 @@ run_while-returns-in_err-turn-clause-run t c =
     let m : Point = spot ds c.turn.new.words c.turn.new.meter in
     let r : Reason = c.in_err-turn.field-0.0 in
     let ran = ends_as turn p m (Stopped r) (end_of c.turn.result) (sym (stopped_by c.turn.result r c.in_err-turn.was)) c.turn.ensures.run in
-    let holds = here ∙ sym c.is_true.ensures ∙ told_by c.is_true.result c.in_ok-is_true.field-0 true c.in_ok-is_true.was c.if-branch.true in
+    let holds = here ∙ sym c.is_true.ensures ∙ ok_by c.is_true.result c.in_ok-is_true.field-0 true c.in_ok-is_true.was c.if-branch.true in
     let x = err_from_is_err_and c.from_residual-in_err-turn.result c.from_residual-in_err-turn.ensures.1 in
     rw (x.1, x.2) (c.loop-words.invariant.run (Stopped r) m (loop_stopped test turn p m r holds ran))
 
@@ -159,7 +159,7 @@ run_while-returns-in-Left-clause-run t c =
     let p : Point = spot ds c.loop-words.words c.loop-words.meter in
     let m : Point = spot ds c.turn.new.words c.turn.new.meter in
     let ran = ends_as turn p m Left (end_of c.turn.result) (sym (ended_by c.turn.result c.in_ok-turn.field-0 flow.Left c.in_ok-turn.was c.in-Left.is)) c.turn.ensures.run in
-    let holds = here ∙ sym c.is_true.ensures ∙ told_by c.is_true.result c.in_ok-is_true.field-0 true c.in_ok-is_true.was c.if-branch.true in
+    let holds = here ∙ sym c.is_true.ensures ∙ ok_by c.is_true.result c.in_ok-is_true.field-0 true c.in_ok-is_true.was c.if-branch.true in
     c.loop-words.invariant.run Went m (loop_left test turn p m holds ran)
 
 pub run_while-returns-in-Returned-clause-run : goal.run_while-returns-in-Returned-clause-run
@@ -173,7 +173,7 @@ run_while-returns-in-Returned-clause-run t c =
     let p : Point = spot ds c.loop-words.words c.loop-words.meter in
     let m : Point = spot ds c.turn.new.words c.turn.new.meter in
     let ran = ends_as turn p m Returned (end_of c.turn.result) (sym (ended_by c.turn.result c.in_ok-turn.field-0 flow.Returned c.in_ok-turn.was c.in-Returned.is)) c.turn.ensures.run in
-    let holds = here ∙ sym c.is_true.ensures ∙ told_by c.is_true.result c.in_ok-is_true.field-0 true c.in_ok-is_true.was c.if-branch.true in
+    let holds = here ∙ sym c.is_true.ensures ∙ ok_by c.is_true.result c.in_ok-is_true.field-0 true c.in_ok-is_true.was c.if-branch.true in
     c.loop-words.invariant.run Returned m (loop_returned test turn p m holds ran)
 
 pub run_while-returns-clause-run : goal.run_while-returns-clause-run
@@ -184,7 +184,7 @@ run_while-returns-clause-run t c =
     let turn : Running = Step (RunsAll (types_in ds) (codes_said ds c.args.body.now)) in
     let test : Values → Result Bool Reason = truth_of (expr_of_truth ds (truth_said c.args.condition.now)) in
     let p : Point = spot ds c.loop-words.words c.loop-words.meter in
-    let fails = here ∙ sym c.is_true.ensures ∙ told_by c.is_true.result c.in_ok-is_true.field-0 false c.in_ok-is_true.was c.if-branch.false in
+    let fails = here ∙ sym c.is_true.ensures ∙ ok_by c.is_true.result c.in_ok-is_true.field-0 false c.in_ok-is_true.was c.if-branch.false in
     c.loop-words.invariant.run Went p (loop_over test turn p fails)
 
 pub run_counts-loop-init : goal.run_counts-loop-init
@@ -386,8 +386,8 @@ run_choice-loop-choice-preserved t c =
     let one : CompiledChoice = c.choice-item.result in
     let right = one_right (arm_right ds) cs c.loop-choice.choice-index one c.loop-choice-test.true c.choice-item.is inv.right in
     let kinds = (arm_parts ds one right.0).1 in
-    let fails = arm_told ds one c.loop-choice.words c.args.words.now c.is_true.result (Ok false) (ap length inv.same_words ∙ c.requires.fit) c.requires.once inv.same_words kinds c.is_true.ensures
-    (told_by c.is_true.result c.in_ok-is_true.field-0 false c.in_ok-is_true.was c.if-branch.false) in
+    let fails = arm_holds ds one c.loop-choice.words c.args.words.now c.is_true.result (Ok false) (ap length inv.same_words ∙ c.requires.fit) c.requires.once inv.same_words kinds c.is_true.ensures
+    (ok_by c.is_true.result c.in_ok-is_true.field-0 false c.in_ok-is_true.was c.if-branch.false) in
     record {
       run = λ e q rest. inv.run e q (arm_passed ds T cs c.loop-choice.choice-index one others p c.loop-choice-test.true c.choice-item.is fails e q rest);
       right = right.1;
@@ -407,7 +407,7 @@ run_choice-returns-in_err-is_true-clause-run t c =
     let right = one_right (arm_right ds) cs c.loop-choice.choice-index one c.loop-choice-test.true c.choice-item.is inv.right in
     let kinds = (arm_parts ds one right.0).1 in
     let r : Reason = c.in_err-is_true.field-0.0 in
-    let stops = arm_told ds one c.loop-choice.words c.args.words.now c.is_true.result (Err r) (ap length inv.same_words ∙ c.requires.fit) c.requires.once inv.same_words kinds c.is_true.ensures
+    let stops = arm_holds ds one c.loop-choice.words c.args.words.now c.is_true.result (Err r) (ap length inv.same_words ∙ c.requires.fit) c.requires.once inv.same_words kinds c.is_true.ensures
     c.in_err-is_true.was in
     let x = err_from_is_err_and c.from_residual.result c.from_residual.ensures.1 in
     rw (x.1, x.2)
@@ -427,8 +427,8 @@ run_choice-returns-then-branch-clause-run t c =
     let right = one_right (arm_right ds) cs c.loop-choice.choice-index one c.loop-choice-test.true c.choice-item.is inv.right in
     let kinds = (arm_parts ds one right.0).1 in
     let q : Point = spot ds c.run_body.new.words c.run_body.new.meter in
-    let holds = arm_told ds one c.loop-choice.words c.args.words.now c.is_true.result (Ok true) (ap length inv.same_words ∙ c.requires.fit) c.requires.once inv.same_words kinds c.is_true.ensures
-    (told_by c.is_true.result c.in_ok-is_true.field-0 true c.in_ok-is_true.was c.if-branch.true) in
+    let holds = arm_holds ds one c.loop-choice.words c.args.words.now c.is_true.result (Ok true) (ap length inv.same_words ∙ c.requires.fit) c.requires.once inv.same_words kinds c.is_true.ensures
+    (ok_by c.is_true.result c.in_ok-is_true.field-0 true c.in_ok-is_true.was c.if-branch.true) in
     let ran = arm_ran ds T one c.loop-choice.words c.args.words.now c.loop-choice.meter c.args.meter.now c.as_slice.result.now (end_of c.run_body.result) q
     inv.same_words inv.same_meter c.as_slice.ensures c.run_body.ensures.run in
     inv.run (end_of c.run_body.result) q (arm_taken ds T cs c.loop-choice.choice-index one others p c.loop-choice-test.true c.choice-item.is holds (end_of c.run_body.result) q ran)
@@ -460,7 +460,7 @@ run_branch-loop-branch-preserved t c =
     let wide : SFits w128 z = search rules in
     let inv = rw (to_z-of_z wide) at c.loop-branch.invariant in
     let one : CompiledBranch = c.branch-item.result in
-    let fails = fork_told ds one c.as_slice.result.now z c.has_label.result false c.as_slice.ensures (rw (to_z-of_z wide) at c.has_label.ensures) c.if-has_label.false in
+    let fails = fork_fits ds one c.as_slice.result.now z c.has_label.result false c.as_slice.ensures (rw (to_z-of_z wide) at c.has_label.ensures) c.if-has_label.false in
     rw (to_z-of_z wide) (record {
       run = λ e q rest. inv.run e q (fork_passed ds T bs c.loop-branch.branch-index one z others p c.loop-branch-test.true c.branch-item.is fails e q rest);
       right = (one_right (fork_right ds) bs c.loop-branch.branch-index one c.loop-branch-test.true c.branch-item.is inv.right).1;
@@ -480,7 +480,7 @@ run_branch-returns-then-has_label-clause-run t c =
     let inv = rw (to_z-of_z wide) at c.loop-branch.invariant in
     let one : CompiledBranch = c.branch-item.result in
     let q : Point = spot ds c.run_body.new.words c.run_body.new.meter in
-    let fits = fork_told ds one c.as_slice.result.now z c.has_label.result true c.as_slice.ensures (rw (to_z-of_z wide) at c.has_label.ensures) c.if-has_label.true in
+    let fits = fork_fits ds one c.as_slice.result.now z c.has_label.result true c.as_slice.ensures (rw (to_z-of_z wide) at c.has_label.ensures) c.if-has_label.true in
     let ran = fork_ran ds T one c.loop-branch.words c.args.words.now c.loop-branch.meter c.args.meter.now c.as_slice-then-has_label.result.now (end_of c.run_body.result) q
     inv.same_words inv.same_meter c.as_slice-then-has_label.ensures c.run_body.ensures.run in
     inv.run (end_of c.run_body.result) q

@@ -4,7 +4,7 @@ use Rattle.fb_types.specs.Values.{truth_of, whole}
 use Rattle.fb_types.specs.Bodies.{RunsAll, RunsChoice, RunsBranch, Counts, Loop, Step, passed}
 use Rattle.fb_st.specs.Frames.{types_in}
 use Rattle.fb_st.specs.Compiled.{truth_said}
-use Rattle.fb_st.specs.Placed.{spot, codes_said, arms_said, forks_said, codes_right, arms_right, forks_right, expr_of_truth, name_at, values_at}
+use Rattle.fb_st.specs.Fitting.{spot, codes_said, arms_said, forks_said, codes_right, arms_right, forks_right, expr_of_truth, name_at, values_at}
 use Rattle.fb_st.proofs.compiled.CompiledStmt.TheLaws as stmt
 use Rattle.fb_st.proofs.compiled.CompiledChoice.TheLaws as choice
 use Rattle.fb_st.proofs.compiled.CompiledBranch.TheLaws as branch

@@ -7,8 +7,8 @@ use Rattle.fb_types.specs.Values.{fits}
 use Rattle.fb_types.specs.Bodies.{passed}
 use Rattle.fb_types.specs.declared.value.Value.TheVariants as value
 use Rattle.fb_st.specs.Frames.{types_in}
-use Rattle.fb_st.specs.Placed.{name_at, ty_or, value_of_word, values_at}
-use Rattle.fb_st.proofs.Assigning.{advances_not, advances_past, advances_to, counted_read}
+use Rattle.fb_st.specs.Fitting.{name_at, ty_or, value_of_word, values_at}
+use Rattle.fb_st.proofs.Assigning.{advances_not, advances_past, advances_to, whole_read}
 use Rattle.fb_st.proofs.CodeRuns.{first_read, first_set, within_there}
 use Rattle.fb_st.proofs.Words.{word_type}
 use Rattle.fb_st.proofs.running.advance_exact.Goals as goal
@@ -21,7 +21,7 @@ returns-in_default-clause-run c = λ left.
     let there = within_there k.least k.most (slice_get ds k.slot) c.requires.slot in
     let short : SFits w64 c.word.result = search rules in
     let number_is = rw (to_z-of_z short) at c.number_of-number.ensures in
-    let read = counted_read ds ws c.requires.fit c.requires.once k.slot there.0 there.1 c.word.result c.number_of-number.result c.word.ensures number_is in
+    let read = whole_read ds ws c.requires.fit c.requires.once k.slot there.0 there.1 c.word.result c.number_of-number.result c.word.ensures number_is in
     let own : SFits w128 c.number_of-number.result = search rules in
     let past = rw (to_z-of_z own) at c.next_of.ensures.past in
     advances_past (types_in ds) (name_at ds k.slot) c.args.span.end c.args.span.step (values_at ds ws) left _
@@ -35,7 +35,7 @@ returns-in_err-words-clause-run c = λ left.
     let there = within_there k.least k.most (slice_get ds k.slot) c.requires.slot in
     let short : SFits w64 c.word.result = search rules in
     let number_is = rw (to_z-of_z short) at c.number_of-number.ensures in
-    let read = counted_read ds ws c.requires.fit c.requires.once k.slot there.0 there.1 c.word.result c.number_of-number.result c.word.ensures number_is in
+    let read = whole_read ds ws c.requires.fit c.requires.once k.slot there.0 there.1 c.word.result c.number_of-number.result c.word.ensures number_is in
     let wide : SFits w128 c.in-Some.next = search rules in
     let own : SFits w128 c.number_of-number.result = search rules in
     let next = rw (to_z-of_z own) at c.in-Some.ensures.next in
@@ -58,7 +58,7 @@ returns-clause-run c = λ left.
     let there = within_there k.least k.most (slice_get ds k.slot) c.requires.slot in
     let short : SFits w64 c.word.result = search rules in
     let number_is = rw (to_z-of_z short) at c.number_of-number.ensures in
-    let read = counted_read ds ws c.requires.fit c.requires.once k.slot there.0 there.1 c.word.result c.number_of-number.result c.word.ensures number_is in
+    let read = whole_read ds ws c.requires.fit c.requires.once k.slot there.0 there.1 c.word.result c.number_of-number.result c.word.ensures number_is in
     let own : SFits w128 c.number_of-number.result = search rules in
     let next = rw (to_z-of_z own) at c.in-Some.ensures.next in
     rw (to_z-of_z fit)

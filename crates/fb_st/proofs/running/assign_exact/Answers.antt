@@ -4,10 +4,10 @@ use mir.Syntax.{w64, w128}
 use mir.Val.{SFits}
 use Rattle.fb_types.specs.Values.{fits}
 use Rattle.fb_types.specs.declared.value.Value.TheVariants as value
-use Rattle.fb_st.specs.Wanted.{as_whole}
+use Rattle.fb_st.specs.Required.{as_whole}
 use Rattle.fb_st.specs.Frames.{types_in}
 use Rattle.fb_st.specs.Compiled.{number_said, fits_number}
-use Rattle.fb_st.specs.Placed.{values_at, name_at, ty_or, value_of_word, kinds_number, expr_of_number}
+use Rattle.fb_st.specs.Fitting.{values_at, name_at, ty_or, value_of_word, kinds_number, expr_of_number}
 use Rattle.fb_st.proofs.Comes.{both_true, number_comes}
 use Rattle.fb_st.proofs.Assigning.{assign_writes, assign_refused, assign_stops, there}
 use Rattle.fb_st.proofs.running.assign_exact.Goals as goal

@@ -2,9 +2,9 @@ use Rattle.std.proofs.Common.{◌∙◌, ap, length, rules, to_z-of_z}
 use Rattle.std.specs.Prelude.{slice_get}
 use mir.Syntax.{w64}
 use mir.Val.{SFits}
-use Rattle.fb_st.specs.Wanted.{as_whole}
+use Rattle.fb_st.specs.Required.{as_whole}
 use Rattle.fb_st.specs.Compiled.{number_said, fits_number}
-use Rattle.fb_st.specs.Placed.{is_long_type, right_number, kinds_number, expr_of_number}
+use Rattle.fb_st.specs.Fitting.{is_long_type, right_number, kinds_number, expr_of_number}
 use Rattle.fb_st.proofs.Comes.{both_true, number_comes}
 use Rattle.fb_st.proofs.Assigning.{assign_writes, long_slot}
 use Rattle.fb_st.proofs.running.assign_long.Goals as goal

@@ -3,9 +3,9 @@ use Rattle.std.specs.Prelude.{slice_get, ◌≤ℤ◌}
 use Rattle.std.proofs.lemmas.Int.{ints}
 use mir.Syntax.{w64}
 use mir.Val.{SFits}
-use Rattle.fb_st.specs.Wanted.{as_whole}
+use Rattle.fb_st.specs.Required.{as_whole}
 use Rattle.fb_st.specs.Compiled.{number_said, fits_number}
-use Rattle.fb_st.specs.Placed.{is_within_type, right_number, kinds_number, expr_of_number}
+use Rattle.fb_st.specs.Fitting.{is_within_type, right_number, kinds_number, expr_of_number}
 use Rattle.fb_st.proofs.Comes.{both_true, number_comes}
 use Rattle.fb_st.proofs.Assigning.{assign_writes, within_slot}
 use Rattle.fb_st.proofs.running.assign_within.Goals as goal

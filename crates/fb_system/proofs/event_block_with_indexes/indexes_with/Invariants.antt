@@ -1,6 +1,6 @@
 use Rattle.std.proofs.Common.{take}
 use Rattle.fb_types.specs.Blocks.{variables_with}
-use Rattle.fb_system.specs.Stands.{AreIndexes}
+use Rattle.fb_system.specs.IndexLists.{AreIndexes}
 use Rattle.fb_system.proofs.event_block_with_indexes.indexes_with.Given as goal
 
 -- the indices are within all variables, and name those WITH the event among the variables so far

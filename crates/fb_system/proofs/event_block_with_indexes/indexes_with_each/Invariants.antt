@@ -1,4 +1,4 @@
-use Rattle.fb_system.specs.Stands.{AreIndexesUpTo}
+use Rattle.fb_system.specs.IndexLists.{AreIndexesUpTo}
 use Rattle.fb_system.proofs.event_block_with_indexes.indexes_with_each.Given as goal
 
 abbrev pub invariant-loop-event : goal.invariant-loop-event

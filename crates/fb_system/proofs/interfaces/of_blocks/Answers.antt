@@ -2,8 +2,8 @@ use Rattle.std.proofs.Common.{length, refl, sym, subst, arith}
 use Rattle.std.proofs.lemmas.Option.{slice_get_read}
 use Rattle.fb_types.specs.declared.library.Ports.{Ports}
 use Rattle.fb_check_names.specs.declared.catalog.BlockIndexes.{BlockIndexes}
-use Rattle.fb_system.specs.Lookups.{IsPlaced}
-use Rattle.fb_system.specs.Stands.{AreWithIndexes}
+use Rattle.fb_system.specs.Lookups.{IsIndexed}
+use Rattle.fb_system.specs.IndexLists.{AreWithIndexes}
 use Rattle.fb_system.proofs.Written.{blocks_more}
 use Rattle.fb_system.proofs.interfaces.of_blocks.Goals as goal
 
@@ -15,8 +15,8 @@ with_indexes-requires c =
     c.requires.each c.loop-index.index block names
     (slice_get_read c.args.blocks.now (length c.args.blocks.now) _ block refl c.loop-index-test.true c.index-blocks-index.is)
     (slice_get_read c.args.names.now (length c.args.names.now) _ names refl (omega (arith, c.requires.counted, c.loop-index-test.true)) c.index-names-index.is) in
-    subst (λ (x : BlockIndexes). IsPlaced c.ports.result.now x.ports) c.index-names-index.is
-    (subst (λ (p : Ports). IsPlaced p names.ports) (sym c.ports.ensures) is)
+    subst (λ (x : BlockIndexes). IsIndexed c.ports.result.now x.ports) c.index-names-index.is
+    (subst (λ (p : Ports). IsIndexed p names.ports) (sym c.ports.ensures) is)
 
 pub loop-index-preserved : goal.loop-index-preserved
 loop-index-preserved c =

@@ -3,7 +3,7 @@ use Rattle.std.specs.List.{filter}
 use Rattle.std.proofs.lemmas.Option.{slice_get_read}
 use Rattle.fb_types.specs.Names.{Name}
 use Rattle.fb_types.specs.Blocks.{among, variable_names}
-use Rattle.fb_system.specs.Stands.{AreIndexes}
+use Rattle.fb_system.specs.IndexLists.{AreIndexes}
 use Rattle.fb_system.specs.Lookups.{IsList}
 use Rattle.fb_system.proofs.EventBlocks.{each_more}
 use Rattle.fb_system.proofs.Listed.{with_event}

@@ -4,7 +4,7 @@ use Rattle.std.proofs.lemmas.List.Elements.{All-drop, All-take}
 use Rattle.fb_types.specs.Headline.{system_of}
 use Rattle.fb_types.specs.Numbers.{line_of}
 use Rattle.fb_types.specs.Text.{values_text}
-use Rattle.fb_system.specs.Stands.{variable_at}
+use Rattle.fb_system.specs.IndexLists.{variable_at}
 use Rattle.fb_trace.specs.Progress.{Fails, Gathers, Puts}
 use Rattle.fb_trace.proofs.Starts.{others_counted, others_sliced}
 use Rattle.fb_trace.proofs.Steps.{Gathers-after, Gathers-passed}

@@ -4,7 +4,7 @@ use Rattle.fb_wave.specs.Scopes.{variable_kind}
 use Rattle.fb_wave.proofs.Handing.{on_ok}
 use Rattle.fb_wave.proofs.declared.put_variable.Goals as goal
 
--- a letter that stands at the end of a front, or at the beginning of what the dump calls a signal
+-- a letter that is at the end of a front, or at the beginning of what the dump calls a signal
 with_letter : (k d n : List ℕ) → (((k ++ codes " v") ++ d) ++ codes " ") ++ (n ++ []) ≡ (((k ++ codes " ") ++ (codes "v" ++ d)) ++ codes " ") ++ n
 with_letter k d n = simp (append_assoc, append-nil)
 

@@ -7,6 +7,6 @@ use Rattle.fb_wave.proofs.dump.show_values.Given as goal
 abbrev pub invariant-loop-index : goal.invariant-loop-index
 invariant-loop-index l = record {
   counted : length l.levels.cells.items ≡ length l.initial.levels.cells.items;
-  within : All (λ s. s < length l.levels.cells.items) l.levels.noted.items;
+  within : All (λ s. s < length l.levels.cells.items) l.levels.marked.items;
   shown : AreShown l.initial.levels l.levels (take l.index (pairs (map (λ k. l.first + k) l.indexes) l.values));
 }

@@ -19,7 +19,7 @@ use Rattle.fb_wave.proofs.wave.write_wave_with.Goals as goal
 of_table : (o : Option PortTable) (t : PortTable) (s : Inputs) → o ≡ Some t → IfSome o (λ t. IsTable t × (t.system.now ≡ s)) → t.system.now ≡ s
 of_table o t s is are = (subst (λ (o : Option PortTable). IfSome o (λ t. IsTable t × (t.system.now ≡ s))) is are).1
 
--- behind the test of the names
+-- after the test of the names
 names_so : {P : Type 0} (b : Bool) → b ≡ true → (IsTrue b → P) → P
 names_so b is so = so is
 

@@ -1,9 +1,9 @@
 use Rattle.std.proofs.Common.{Bor, List, ℕ, inl, inr}
 use Rattle.std.specs.Prelude.{option_map}
 use Rattle.fb_read.specs.Whole.{IsMemory}
-use Rattle.fb_why.specs.Findings.{HasNoExcess, TellsExcess}
+use Rattle.fb_why.specs.Findings.{HasNoExcess, FindsExcess}
 use Rattle.fb_why.specs.declared.spot.Finding.{Finding}
-use Rattle.fb_why.proofs.Reading.{unread_told}
+use Rattle.fb_why.proofs.Reading.{unread_found}
 use Rattle.fb_why.proofs.finding.excess_finding.Goals as goal
 
 pub returns-in-Ok : goal.returns-in-Ok
@@ -14,5 +14,5 @@ returns-in-Err c =
     let text = c.args.declaration.now in
     let bytes = option_map (λ (b : Bor (List ℕ)). b.now) c.args.deploy in
     let given = option_map (λ (b : Bor (List ℕ)). b.now) c.args.stimuli in
-    unread_told c.no_finding.result (¬ (IsMemory c.in-Err.fault)) (HasNoExcess c.args.excess text bytes given) (λ (r : Finding). TellsExcess c.args.excess text bytes given r.location)
+    unread_found c.no_finding.result (¬ (IsMemory c.in-Err.fault)) (HasNoExcess c.args.excess text bytes given) (λ (r : Finding). FindsExcess c.args.excess text bytes given r.location)
     c.no_finding.ensures (λ m. inr (inl (c.in-Err.ensures.none m)))

@@ -1,9 +1,9 @@
 use Rattle.std.proofs.Common.{Bor, List, ℕ, inl, inr}
 use Rattle.std.specs.Prelude.{option_map}
 use Rattle.fb_read.specs.Whole.{IsMemory}
-use Rattle.fb_why.specs.Findings.{HasNoFlaw, TellsFlaw}
+use Rattle.fb_why.specs.Findings.{HasNoFlaw, FindsFlaw}
 use Rattle.fb_why.specs.declared.spot.Finding.{Finding}
-use Rattle.fb_why.proofs.Reading.{unread_told}
+use Rattle.fb_why.proofs.Reading.{unread_found}
 use Rattle.fb_why.proofs.finding.flaw_finding.Goals as goal
 
 pub returns-in-Ok : goal.returns-in-Ok
@@ -13,5 +13,5 @@ pub returns-in-Err : goal.returns-in-Err
 returns-in-Err c =
     let text = c.args.declaration.now in
     let bytes = option_map (λ (b : Bor (List ℕ)). b.now) c.args.deploy in
-    unread_told c.no_finding.result (¬ (IsMemory c.in-Err.fault)) (HasNoFlaw c.args.flaw text bytes) (λ (r : Finding). TellsFlaw c.args.flaw text bytes r.location) c.no_finding.ensures
+    unread_found c.no_finding.result (¬ (IsMemory c.in-Err.fault)) (HasNoFlaw c.args.flaw text bytes) (λ (r : Finding). FindsFlaw c.args.flaw text bytes r.location) c.no_finding.ensures
     (λ m. inr (inl (c.in-Err.ensures.none m)))

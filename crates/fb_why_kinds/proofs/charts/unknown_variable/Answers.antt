@@ -1,6 +1,6 @@
 use Rattle.std.proofs.Common.{sym, ◌∙◌}
 use Rattle.fb_types.specs.Blocks.{among}
-use Rattle.fb_check_names.specs.Sorts.{names_of_sort}
+use Rattle.fb_check_names.specs.PortKinds.{names_of_kind}
 use Rattle.fb_why_kinds.proofs.Searches.{at_hand, holds_on}
 use Rattle.fb_why_kinds.proofs.charts.unknown_variable.Goals as goal
 
@@ -10,5 +10,5 @@ returns-then-not-has_port c =
 
 pub loop-location-preserved : goal.loop-location-preserved
 loop-location-preserved c =
-    holds_on (among (names_of_sort c.args.sort c.args.ports.now)) c.args.names.now c.loop-location.location c.index-names-location.result c.loop-location-test.true c.index-names-location.is c.loop-location.invariant
+    holds_on (among (names_of_kind c.args.port_kind c.args.ports.now)) c.args.names.now c.loop-location.location c.index-names-location.result c.loop-location-test.true c.index-names-location.is c.loop-location.invariant
     (sym c.has_port.ensures ∙ c.if-not-has_port.false)

@@ -2,7 +2,7 @@ use Rattle.std.proofs.Common.{◌≡◌, None, true, refl, sym, ◌∙◌, ap}
 use Rattle.std.specs.List.{list_all}
 use Rattle.fb_types.proofs.Options.{match_none}
 use Rattle.fb_why_kinds.specs.Misfits.{IsMisfitAt, is_all_right}
-use Rattle.fb_why_kinds.proofs.Placed.{whole_answer}
+use Rattle.fb_why_kinds.proofs.OwnedNetwork.{whole_answer}
 use Rattle.fb_why_kinds.proofs.misfits.misfit_location.Goals as goal
 
 pub misfit_in_network-requires : goal.misfit_in_network-requires

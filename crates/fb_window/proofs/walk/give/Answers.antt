@@ -37,7 +37,7 @@ loop-message-preserved c =
       given = given_handed (system_of i) c.loop-message.yielded m _ xs c.hand.new.resources.items r inv.given (sym c.resource-receiver.ensures)
           (subst (λ (ms : List Message). IsHanded r ms xs c.hand.new.resources.items) one handed);
       horizon = c.hand.ensures.horizon ∙ inv.horizon;
-      noted = c.in_ok-hand.ensures.noted;
+      current = c.in_ok-hand.ensures.current;
       rest = append_assoc c.loop-message.yielded (m ∷ []) (into_iter_items c.next.new.self) ∙ rest;
       len = let same = ap length step.0 in omega (arith, inv.len, step.1, same);
     }

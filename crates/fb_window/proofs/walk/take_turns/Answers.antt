@@ -24,20 +24,20 @@ loop-init c =
       gone = gone_none core.system core.steps c.args.horizon core refl refl c.requires.counted c.requires.pending;
       live = c.requires.live;
       same = c.requires.same;
-      noted = c.requires.noted;
+      current = c.requires.current;
     }
 
 -- ---- What is known at the first resource that has the least event
 
 low_of : (c : After-least-index) (r : ℕ) (x : Resource) (j : Key) → slice_get c.loop.core.resources.items r ≡ Some x → j.tick < c.least-index.result.1 → waiting x.agenda j ≡ None
-low_of c = c.least-index.ensures.low c.loop.core.resources.items c.loop.invariant.noted
+low_of c = c.least-index.ensures.low c.loop.core.resources.items c.loop.invariant.current
 
 early_of : (c : After-least-index) → (c.least-index.result.1 ≡ c.args.horizon → ⊥) → c.least-index.result.1 < c.args.horizon
 early_of c n = let cap = c.least-index.ensures.cap in let same = c.loop.invariant.same in omega (arith, cap, same, n)
 
 there_of : (c : After-least-index) → (c.least-index.result.1 ≡ c.args.horizon → ⊥)
     → (x : Resource) × (slice_get c.loop.core.resources.items c.least-index.result.0 ≡ Some x) × IsNext x.agenda c.least-index.result.1
-there_of c n = let early = early_of c n in let same = c.loop.invariant.same in c.least-index.ensures.there c.loop.core.resources.items c.loop.invariant.noted (omega (arith, early, same))
+there_of c n = let early = early_of c n in let same = c.loop.invariant.same in c.least-index.ensures.there c.loop.core.resources.items c.loop.invariant.current (omega (arith, early, same))
 
 of_at : (c : After-least-index) (r : ℕ) (x : Resource) → slice_get c.loop.core.resources.items r ≡ Some x → IsOf c.args.core.now.system x
 of_at c r x e = each_of c.args.core.now.system c.args.core.now.steps c.args.horizon c.args.core.now c.loop.counter c.loop.core c.loop.invariant.gone c.requires.come r x e
@@ -109,7 +109,7 @@ loop-preserved c =
       gone = s.gone;
       live = s.live (none_from_is_some c.in_ok-stop.stop (sym c.is_some.ensures ∙ c.if-is_some.false));
       same = e.horizon ∙ c.loop.invariant.same;
-      noted = e.noted;
+      current = e.current;
     }
 
 pub returns-clause-walks : goal.returns-clause-walks

@@ -1,5 +1,4 @@
 use Rattle.fbsim_command.specs.Expecting.{IsUnnamed}
-use Rattle.fbsim_command.specs.declared.failure.Failure.TheVariants.{Memory}
 use Rattle.fbsim_command.proofs.Holding.{passed-on}
 use Rattle.fbsim_command.proofs.Naming.{refused-inputs}
 use Rattle.fbsim_command.proofs.expect.check_names.Goals as goal

@@ -1,4 +1,4 @@
-use Rattle.std.proofs.Common.{List, Option, Some, true, option_map, ap, subst}
+use Rattle.std.proofs.Common.{List, true, option_map, ap, subst}
 use Rattle.fb_sim.specs.Given.{Given}
 use Rattle.fb_expect.specs.declared.rule.Rule.{Rule}
 use Rattle.fbsim_command.specs.Expecting.{IsUnnamed, Names, RefusesFor}

@@ -1,7 +1,7 @@
 use Rattle.std.proofs.Common.{refl}
 use Rattle.fbsim_command.specs.Comparing.{IsReported}
 use Rattle.fbsim_command.specs.declared.failure.Failure.TheVariants.{Memory}
-use Rattle.fbsim_command.proofs.Parting.{parted, told-of, untold, wrote}
+use Rattle.fbsim_command.proofs.Parting.{parted, reported-of, not_reported, wrote}
 use Rattle.fbsim_command.proofs.expect.compare.Goals as goal
 
 pub returns-in_err-text : goal.returns-in_err-text
@@ -13,18 +13,18 @@ returns-in_err-write_text g c =
     let d = c.args.diff.now in
     let first = g.R.Read.remaining c.args.first.now in
     let second = g.T.Read.remaining c.args.second.now in
-    let told : IsReported d first second c.in_ok-text.text.items =
-    told-of d first second c.in-Ok.found c.in-Some.difference c.in_ok-text.text.items c.in-Some.is c.in-Ok.ensures c.in_ok-text.ensures
+    let reported : IsReported d first second c.in_ok-text.text.items =
+    reported-of d first second c.in-Ok.found c.in-Some.difference c.in_ok-text.text.items c.in-Some.is c.in-Ok.ensures c.in_ok-text.ensures
     in
     parted d first second _ _ c.from_residual-in_err-write_text.result _ c.from_residual-in_err-write_text.ensures.1
-    (untold d first second _ _ c.in_ok-text.text.items c.as_slice.result.now c.as_slice.ensures.value told c.in_err-write_text.field-0.0 c.in_err-write_text.ensures.part)
+    (not_reported d first second _ _ c.in_ok-text.text.items c.as_slice.result.now c.as_slice.ensures.value reported c.in_err-write_text.field-0.0 c.in_err-write_text.ensures.part)
 
 pub returns : goal.returns
 returns g c =
     let d = c.args.diff.now in
     let first = g.R.Read.remaining c.args.first.now in
     let second = g.T.Read.remaining c.args.second.now in
-    let told : IsReported d first second c.in_ok-text.text.items =
-    told-of d first second c.in-Ok.found c.in-Some.difference c.in_ok-text.text.items c.in-Some.is c.in-Ok.ensures c.in_ok-text.ensures
+    let reported : IsReported d first second c.in_ok-text.text.items =
+    reported-of d first second c.in-Ok.found c.in-Some.difference c.in_ok-text.text.items c.in-Some.is c.in-Ok.ensures c.in_ok-text.ensures
     in
-    wrote d first second _ _ c.in_ok-text.text.items c.as_slice.result.now c.as_slice.ensures.value told c.in_ok-write_text.ensures.whole
+    wrote d first second _ _ c.in_ok-text.text.items c.as_slice.result.now c.as_slice.ensures.value reported c.in_ok-write_text.ensures.whole

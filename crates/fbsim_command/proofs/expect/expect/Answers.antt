@@ -1,7 +1,8 @@
-use Rattle.std.proofs.Common.{Option, option_map, inl, inr, string_bytes, subst}
+use Rattle.std.proofs.Common.{List, ℕ, option_map, inl, inr, string_bytes, subst}
 use Rattle.clap.specs.Words.{Text}
-use Rattle.fbsim_command.specs.Expecting.{Holds, NotesRules}
-use Rattle.fbsim_command.specs.Texts.{given_of}
+use Rattle.fbsim_command.specs.Expecting.{Holds, NotesRules, own_of, types_of}
+use Rattle.fbsim_command.specs.OwnLines.{EndsIn}
+use Rattle.fbsim_command.specs.Texts.{given_of, may_lines_of}
 use Rattle.fbsim_command.proofs.Declaring.{read-and-held, unread}
 use Rattle.fbsim_command.proofs.expect.expect.Goals as goal
 
@@ -23,11 +24,14 @@ returns-in-Err-read_declared g c =
 
 pub returns : goal.returns
 returns g c =
+    let x = c.args.expect.now in
     let declared = option_map given_of c.in-Ok-read_declared.declared in
+    let lines = may_lines_of c.in-Ok-read_declared.declared in
     let note = option_map string_bytes c.note_to_rules-note.result in
-    let end = c.hold_rules-end.result in
-    read-and-held g.S.Source.gives g.S.Streams.opens c.args.expect.now (g.W.Write.contents c.args.out.now) c.args.source.now c.read.new.self c.read_declared.new.source c.hold_rules-end.new.source _
-    c.in-Ok.bytes.items declared end note c.in-Ok.ensures.gives c.in-Ok-read_declared.ensures.read
-    (subst (λ (bytes : Text). Holds g.S.Streams.opens c.args.expect.now c.read_declared.new.source c.hold_rules-end.new.source bytes declared
-    (g.W.Write.contents c.args.out.now) (g.W.Write.contents c.hold_rules-end.new.out) end) c.as_slice-bytes.ensures.value c.hold_rules-end.ensures)
-    (subst (λ (bytes : Text). NotesRules bytes declared c.args.expect.now.why end note) c.as_slice-bytes.ensures.value c.note_to_rules-note.ensures)
+    let inner = c.hold_rules-end.result in
+    read-and-held g.S.Source.gives g.S.Streams.opens x (g.W.Write.contents c.args.out.now) c.args.source.now c.read.new.self c.read_declared.new.source c.hold_rules-end.new.source _
+    c.in-Ok.bytes.items lines declared inner c.end_of-end.result note c.in-Ok.ensures.gives c.in-Ok-read_declared.ensures.read
+    (subst (λ (bytes : Text). Holds g.S.Streams.opens x c.read_declared.new.source c.hold_rules-end.new.source bytes declared
+    (g.W.Write.contents c.args.out.now) (g.W.Write.contents c.hold_rules-end.new.out) inner) c.as_slice-bytes.ensures.value c.hold_rules-end.ensures)
+    (subst (λ (bytes : Text). NotesRules x bytes lines declared inner note) c.as_slice-bytes.ensures.value c.note_to_rules-note.ensures)
+    (subst (λ (ls : List ℕ). EndsIn (types_of x) (own_of x.declaration) ls inner c.end_of-end.result) c.lines_in.ensures c.end_of-end.ensures)

@@ -1,4 +1,4 @@
-use Rattle.std.proofs.Common.{Bor, List, [], ℕ, length, take, get_or, subst, ◌<◌, ◌≤◌}
+use Rattle.std.proofs.Common.{Bor, List, [], length, take, get_or, subst, ◌<◌, ◌≤◌}
 use Rattle.std.proofs.lemmas.List.{take_all}
 use Rattle.clap.specs.Words.{Text}
 use Rattle.fbsim_command.specs.Expecting.{AreUnheld, IsUnheld}

@@ -1,6 +1,4 @@
-use Rattle.std.proofs.Common.{◌≡◌, ◌++◌, ◌*◌, Bool, List, ℕ, length, sym, ap, ◌∙◌, subst, arith}
-use Rattle.fb_expect.specs.Reports.{are_well, points}
-use Rattle.fb_expect.specs.declared.judging.Judged.{Judged}
+use Rattle.std.proofs.Common.{length, ap, ◌∙◌}
 use Rattle.fbsim_command.specs.Expecting.{IsUnheld}
 use Rattle.fbsim_command.specs.declared.failure.Failure.TheVariants.{Memory}
 use Rattle.fbsim_command.proofs.Holding.{passed-on, put-one}

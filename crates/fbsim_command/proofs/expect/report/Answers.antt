@@ -1,8 +1,8 @@
-use Rattle.std.proofs.Common.{◌*◌, List, ℕ, length, ap, ◌∙◌}
+use Rattle.std.proofs.Common.{◌*◌, ℕ, length, ap, ◌∙◌}
 use Rattle.fb_expect.specs.Reports.{plan}
 use Rattle.fbsim_command.specs.Expecting.{AreUnheld}
 use Rattle.fbsim_command.specs.declared.failure.Failure.TheVariants.{Memory}
-use Rattle.fbsim_command.proofs.Holding.{passed-on, reported}
+use Rattle.fbsim_command.proofs.Holding.{passed-on, rules_reported}
 use Rattle.fbsim_command.proofs.expect.report.Goals as goal
 
 pub returns-in_err-text-clause-unheld : goal.returns-in_err-text-clause-unheld
@@ -14,7 +14,7 @@ returns-in_err-is_well-clause-unheld g c =
     passed-on c.from_residual-in_err-is_well.result _ (AreUnheld g.S.Streams.opens c.args.expect.now c.args.rules.now c.args.source.now c.put_all.new.source)
     c.from_residual-in_err-is_well.ensures.1 c.in_err-is_well.ensures.unheld
 
-pub returns-clause-reported : goal.returns-clause-reported
-returns-clause-reported g c =
-    reported g.S.Streams.opens c.args.expect.now c.args.rules.now c.args.source.now c.put_all.new.source c.in_ok-text.text.items c.put_all.new.text.items c.in_ok-is_well.is_well
+pub returns-clause-rules_reported : goal.returns-clause-rules_reported
+returns-clause-rules_reported g c =
+    rules_reported g.S.Streams.opens c.args.expect.now c.args.rules.now c.args.source.now c.put_all.new.source c.in_ok-text.text.items c.put_all.new.text.items c.in_ok-is_well.is_well
     (c.in_ok-text.ensures ∙ ap plan (c.points_before-count.ensures.count ∙ ap (λ (n : ℕ). length c.args.rules.now * n) (c.len.ensures ∙ c.args.expect.now.traces.ok.0))) c.in_ok-is_well.ensures.put

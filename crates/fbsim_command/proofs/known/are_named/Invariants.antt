@@ -1,5 +1,5 @@
 use Rattle.std.proofs.Common.{◌≡◌, drop, map}
-use Rattle.fb_system.specs.Stands.{variable_at}
+use Rattle.fb_system.specs.IndexLists.{variable_at}
 use Rattle.fbsim_command.specs.Known.{are_named}
 use Rattle.fbsim_command.proofs.known.are_named.Given as goal
 

@@ -1,6 +1,6 @@
 use Rattle.std.proofs.Common.{◌≡◌, drop, map}
 use Rattle.std.specs.List.{list_any}
-use Rattle.fb_system.specs.Stands.{variable_at}
+use Rattle.fb_system.specs.IndexLists.{variable_at}
 use Rattle.fb_types.specs.Names.{same_name}
 use Rattle.fbsim_command.proofs.known.is_named.Given as goal
 

@@ -3,12 +3,12 @@ use Rattle.std.specs.Prelude.{IfOk}
 use Rattle.clap.specs.Simple.{app_of_fields}
 use Rattle.clap.specs.Words.{new_app}
 use Rattle.fbsim_command.specs.Line as spec
-use Rattle.fbsim_command.proofs.BuildLaws.{Stands, grown_well, app_well, local_well}
+use Rattle.fbsim_command.proofs.BuildLaws.{Builds, grown_well, app_well, local_well}
 use Rattle.fbsim_command.proofs.line.begun.Goals as goal
 
-made : (c : goal.After-arg) → IfOk c.arg.result (λ r. Stands r (spec.begun c.args.name.now c.args.id.now))
+made : (c : goal.After-arg) → IfOk c.arg.result (λ r. Builds r (spec.begun c.args.name.now c.args.id.now))
 made c =
-    let named : Stands c.after_help.result (new_app c.args.name.now) =
+    let named : Builds c.after_help.result (new_app c.args.name.now) =
     record {
       app = ap app_of_fields c.after_help.ensures ∙ ap app_of_fields c.about.ensures ∙ c.new.ensures.app;
       local = ap (λ f. f.has_globals) c.after_help.ensures ∙ ap (λ f. f.has_globals) c.about.ensures ∙ c.new.ensures.local;

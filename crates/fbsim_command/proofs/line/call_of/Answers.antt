@@ -18,12 +18,12 @@ returns-in-explain-clause-none c =
 pub returns-in-wave-clause-name : goal.returns-in-wave-clause-name
 returns-in-wave-clause-name c =
     let named : c.args.name.now ≡ codes "wave" = search rules in
-    subst (λ (t : Text). IfSome c.wave_of.result (λ r. t ≡ call_name r)) (sym named) c.wave_of.ensures.name
+    ok_some c.wave_of.result _ _ (λ r is. named ∙ is) c.wave_of.ensures.name
 
 pub returns-in-wave-clause-none : goal.returns-in-wave-clause-none
 returns-in-wave-clause-none c =
     let named : c.args.name.now ≡ codes "wave" = search rules in
-    when_none c.wave_of.result _ _ (no_wave (rows_of (found_of c.args.found.now)) c.args.name.now named) c.wave_of.ensures.none
+    ok_none c.wave_of.result _ _ (no_wave (rows_of (found_of c.args.found.now)) c.args.name.now named) c.wave_of.ensures.none
 
 pub returns-in-diff-clause-name : goal.returns-in-diff-clause-name
 returns-in-diff-clause-name c =
@@ -38,12 +38,12 @@ returns-in-diff-clause-none c =
 pub returns-in-draw-clause-name : goal.returns-in-draw-clause-name
 returns-in-draw-clause-name c =
     let named : c.args.name.now ≡ codes "draw" = search rules in
-    subst (λ (t : Text). IfSome c.draw_of.result (λ r. t ≡ call_name r)) (sym named) c.draw_of.ensures.name
+    ok_some c.draw_of.result _ _ (λ r is. named ∙ is) c.draw_of.ensures.name
 
 pub returns-in-draw-clause-none : goal.returns-in-draw-clause-none
 returns-in-draw-clause-none c =
     let named : c.args.name.now ≡ codes "draw" = search rules in
-    when_none c.draw_of.result _ _ (no_draw (rows_of (found_of c.args.found.now)) c.args.name.now named) c.draw_of.ensures.none
+    ok_none c.draw_of.result _ _ (no_draw (rows_of (found_of c.args.found.now)) c.args.name.now named) c.draw_of.ensures.none
 
 pub returns-in-expect-clause-name : goal.returns-in-expect-clause-name
 returns-in-expect-clause-name c =
@@ -57,7 +57,7 @@ returns-in-expect-clause-none c =
 
 pub returns-in_default-clause-none : goal.returns-in_default-clause-none
 returns-in_default-clause-none c =
-    when_none c.task_of.result _ _
+    ok_none c.task_call.result _ _
     (no_other_call (rows_of (found_of c.args.found.now)) c.args.name.now c.in_default.not-explain c.in_default.not-wave c.in_default.not-expect c.in_default.not-diff
     c.in_default.not-draw)
-    c.task_of.ensures.none
+    c.task_call.ensures.none

@@ -3,10 +3,10 @@ use Rattle.std.specs.Prelude.{IfOk}
 use Rattle.clap.specs.Words.{Rule, rule_of}
 use Rattle.clap.specs.declared.builder.arg.Arg.{Arg}
 use Rattle.fbsim_command.specs.Line as spec
-use Rattle.fbsim_command.proofs.BuildLaws.{Stands, grown_on, stands_well, app_well, local_well}
+use Rattle.fbsim_command.proofs.BuildLaws.{Builds, grown_on, stands_well, app_well, local_well}
 use Rattle.fbsim_command.proofs.line.run_numbers.Goals as goal
 
-made : (c : goal.After-with_arg) → IfOk c.with_arg.result (λ r. Stands r (spec.with_numbers (spec.files (codes "run"))))
+made : (c : goal.After-with_arg) → IfOk c.with_arg.result (λ r. Builds r (spec.with_numbers (spec.files (codes "run"))))
 made c =
     let horizon : rule_of c.required-horizon.result ≡ record (spec.limited (codes "horizon") (spec.up_to 1000000000000)) { required = true } =
     ap rule_of c.required-horizon.ensures ∙ ap (λ (r : Rule). record r { required = true }) (c.limited.ensures.rule ∙ ap (spec.limited (codes "horizon")) c.up_to.ensures) in

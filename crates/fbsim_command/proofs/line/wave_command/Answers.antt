@@ -1,9 +1,9 @@
 use Rattle.std.specs.Prelude.{IfOk}
 use Rattle.fbsim_command.specs.Line as spec
-use Rattle.fbsim_command.proofs.BuildLaws.{Stands, grown_on, stands_well, app_well, local_well}
+use Rattle.fbsim_command.proofs.BuildLaws.{Builds, grown_on, stands_well, app_well, local_well}
 use Rattle.fbsim_command.proofs.line.wave_command.Goals as goal
 
-made : (c : goal.After-with_arg) → IfOk c.with_arg.result (λ r. Stands r spec.wave)
+made : (c : goal.After-with_arg) → IfOk c.with_arg.result (λ r. Builds r spec.wave)
 made c =
     let deployed = stands_well _ _ c.deployed-command.ensures.app c.deployed-command.ensures.globals in
     let traced = grown_on _ _ _ _ _ c.with_arg-command.ensures c.required.ensures.local c.required.ensures.rule deployed in

@@ -1,9 +1,11 @@
-use Rattle.std.proofs.Common.{Bor, List, [], ℕ, Option, Err, map, inl, inr, refl, sym, subst}
+use Rattle.std.proofs.Common.{Bor, List, [], ℕ, Option, Err, map, option_map, string_bytes, inl, inr, refl, sym, subst}
 use Rattle.clap.specs.Words.{Text}
 use Rattle.fbsim_command.specs.Line.{AreCall, IsFault, IsHelp}
 use Rattle.fbsim_command.specs.declared.line.LineFault.{LineFault}
 use Rattle.fbsim_command.specs.declared.line.Call.{Call}
-use Rattle.fbsim_command.specs.Command.{Does}
+use Rattle.fbsim_command.specs.Command.{Does, Performs}
+use Rattle.fbsim_command.specs.Drawing.{Draws}
+use Rattle.fbsim_command.specs.Showing.{Shows}
 use Rattle.fbsim_command.specs.Outcomes.{End}
 use Rattle.fbsim_command.specs.declared.failure.Failure.TheVariants.{Line, Memory}
 use Rattle.fbsim_command.proofs.Reporting.{ended_so, helped, quiet}
@@ -13,7 +15,9 @@ pub returns-in-Ok-Task : goal.returns-in-Ok-Task
 returns-in-Ok-Task g c =
     let words = map (λ (w : Bor (List ℕ)). w.now) c.args.words.now in
     let asked = subst (λ (r : Call). AreCall words r) c.in-Ok-Task.field-0-is c.in-Ok-Task.ensures.call in
-    (c.perform.ensures.0, c.perform.ensures.1, inl (c.in-Ok-Task.task, asked, c.in-Ok-Task.ensures.taken, c.perform.ensures.2))
+    let done = subst (λ (ns : List (Bor Text)). Performs g.S.Source.gives c.args.source.now c.perform.new.source (map (λ (n : Bor Text). n.now) ns) c.in-Ok-Task.task (g.W.Write.contents c.args.out.now)
+    (g.W.Write.contents c.perform.new.out) c.perform.result.end c.perform.ensures.0 (option_map string_bytes c.perform.result.note)) c.as_slice.ensures.value c.perform.ensures.2 in
+    (c.perform.ensures.0, c.perform.ensures.1, inl (c.in-Ok-Task.task, c.in-Ok-Task.types, asked, c.in-Ok-Task.ensures.taken, done))
 
 pub returns-in-Ok-Explain : goal.returns-in-Ok-Explain
 returns-in-Ok-Explain g c =
@@ -30,7 +34,9 @@ pub returns-in-Ok-Wave : goal.returns-in-Ok-Wave
 returns-in-Ok-Wave g c =
     let words = map (λ (w : Bor (List ℕ)). w.now) c.args.words.now in
     let asked = subst (λ (r : Call). AreCall words r) c.in-Ok-Wave.field-0-is c.in-Ok-Wave.ensures.call in
-    ([], quiet (g.E.Write.contents c.args.err.now), inr (inl (c.in-Ok-Wave.wave, asked, c.in-Ok-Wave.ensures.taken, c.show-end.ensures, refl)))
+    let shown = subst (λ (ns : List (Bor Text)). Shows g.S.Source.gives g.S.Streams.opens c.args.source.now c.show-end.new.source (map (λ (n : Bor Text). n.now) ns) c.in-Ok-Wave.wave
+    (g.W.Write.contents c.args.out.now) (g.W.Write.contents c.show-end.new.out) c.show-end.result.0 (option_map string_bytes c.show-end.result.1)) c.as_slice-in-Ok-Wave.ensures.value c.show-end.ensures in
+    ([], quiet (g.E.Write.contents c.args.err.now), inr (inl (c.in-Ok-Wave.wave, c.in-Ok-Wave.types, asked, c.in-Ok-Wave.ensures.taken, shown, refl)))
 
 pub returns-in-Ok-Expect : goal.returns-in-Ok-Expect
 returns-in-Ok-Expect g c =
@@ -54,9 +60,11 @@ returns-in-Ok-Draw g c =
     let old = g.W.Write.contents c.args.out.now in
     let new = g.W.Write.contents c.show_graph.new.out in
     let asked = subst (λ (r : Call). AreCall words r) c.in-Ok-Draw.field-0-is c.in-Ok-Draw.ensures.call in
+    let drawn = subst (λ (ns : List (Bor Text)). Draws g.S.Source.gives c.args.source.now c.show_graph.new.source (map (λ (n : Bor Text). n.now) ns) c.in-Ok-Draw.call old new c.show_graph.result)
+    c.as_slice-in-Ok-Draw.ensures.value c.show_graph.ensures in
     ended_so c.ended-in-Ok-Draw.result c.show_graph.result c.ended-in-Ok-Draw.ensures (g.E.Write.contents c.args.err.now)
     (λ (end : End) (reports : Text) (note : Option Text). Does g.S.Source.gives g.S.Streams.opens c.args.source.now c.show_graph.new.source words old new end reports note)
-    (inr (inr (inr (inr (inr (inl (c.in-Ok-Draw.call, asked, c.in-Ok-Draw.ensures.taken, c.show_graph.ensures, refl, refl)))))))
+    (inr (inr (inr (inr (inr (inl (c.in-Ok-Draw.call, c.in-Ok-Draw.types, asked, c.in-Ok-Draw.ensures.taken, drawn, refl, refl)))))))
 
 pub returns-in-Err-Help : goal.returns-in-Err-Help
 returns-in-Err-Help g c =

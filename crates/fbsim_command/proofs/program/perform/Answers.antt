@@ -1,6 +1,23 @@
-use Rattle.std.proofs.Common.{[], inr, refl, ap, Err}
+use Rattle.std.proofs.Common.{[], inl, inr, refl, ap, Err}
+use Rattle.fbsim_command.specs.Texts.{given_of, lines_of}
 use Rattle.fbsim_command.proofs.Reporting.{quiet}
 use Rattle.fbsim_command.proofs.program.perform.Goals as goal
+
+pub returns-in-Ok : goal.returns-in-Ok
+returns-in-Ok g c = (
+  c.meet-end.ensures.reported.0,
+  c.meet-end.ensures.reported.2,
+  inl (record {
+    lines = lines_of c.in-Ok.texts;
+    given = given_of c.in-Ok.texts;
+    read = c.in-Ok.ensures.read;
+    inner = c.meet-end.result.0;
+    done = c.meet-end.ensures.done;
+    reported = c.meet-end.ensures.reported.1;
+    noted = c.note_to-note.ensures;
+    ends = c.end_with-end.ensures;
+  }),
+)
 
 -- a file is not read, and nothing is reported meanwhile
 pub returns-in-Err : goal.returns-in-Err

@@ -1,23 +1,23 @@
-use Rattle.std.proofs.Common.{option_map, string_bytes}
-use Rattle.fbsim_command.specs.Texts.{given_of}
+use Rattle.std.proofs.Common.{map, option_map, string_bytes}
+use Rattle.fbsim_command.specs.Texts.{given_of, lines_of}
 use Rattle.fbsim_command.proofs.Showing.{read_and_shown, unopened, unread_for}
 use Rattle.fbsim_command.proofs.wave.show.Goals as goal
 
 pub returns-in-Err : goal.returns-in-Err
 returns-in-Err g c =
-    unread_for g.S.Source.gives g.S.Streams.opens c.args.source.now c.read_files.new.source c.args.wave.now (g.W.Write.contents c.args.out.now) c.files_of-task.result
+    unread_for g.S.Source.gives g.S.Streams.opens c.args.source.now c.read_files.new.source (map (λ t. t.now) c.args.types.now) c.args.wave.now (g.W.Write.contents c.args.out.now) c.files_of-task.result
     c.in-Err.unread.part c.in-Err.unread.fault c.from.result (option_map string_bytes c.note_of_file-note.result) c.files_of-task.ensures c.from.ensures
     c.in-Err.ensures.unread c.note_of_file-note.ensures
 
 pub returns-in-Err-open : goal.returns-in-Err-open
 returns-in-Err-open g c =
-    unopened g.S.Source.gives g.S.Streams.opens c.args.source.now c.read_files.new.source c.open.new.self c.args.wave.now (g.W.Write.contents c.args.out.now)
-    (given_of c.in-Ok.texts) c.files_of-task.result c.in-Err-open.fault c.from-in-Err-open.result (option_map string_bytes c.note_of_trace-note.result) c.files_of-task.ensures
-    c.from-in-Err-open.ensures c.in-Ok.ensures.read c.in-Err-open.ensures c.note_of_trace-note.ensures
+    unopened g.S.Source.gives g.S.Streams.opens c.args.source.now c.read_files.new.source c.open.new.self (map (λ t. t.now) c.args.types.now) c.args.wave.now (g.W.Write.contents c.args.out.now)
+    (lines_of c.in-Ok.texts) (given_of c.in-Ok.texts) c.files_of-task.result c.in-Err-open.fault c.from-in-Err-open.result (option_map string_bytes c.note_of_trace-note.result)
+    c.files_of-task.ensures c.from-in-Err-open.ensures c.in-Ok.ensures.read c.in-Err-open.ensures c.note_of_trace-note.ensures
 
 pub returns : goal.returns
 returns g c =
-    read_and_shown g.S.Source.gives g.S.Streams.opens c.args.source.now c.read_files.new.source c.open.new.self c.args.wave.now (g.W.Write.contents c.args.out.now)
-    (g.W.Write.contents c.dump-end.new.out) (given_of c.in-Ok.texts) c.files_of-task.result c.cut_of.result _ c.inputs.result c.dump-end.result
-    (option_map string_bytes c.note_to-note.result) c.files_of-task.ensures c.cut_of.ensures c.inputs.ensures c.in-Ok.ensures.read c.in-Ok-open.ensures
-    c.dump-end.ensures c.note_to-note.ensures
+    read_and_shown g.S.Source.gives g.S.Streams.opens c.args.source.now c.read_files.new.source c.open.new.self (map (λ t. t.now) c.args.types.now) c.args.wave.now
+    (g.W.Write.contents c.args.out.now) (g.W.Write.contents c.dump-end.new.out) (lines_of c.in-Ok.texts) (given_of c.in-Ok.texts) c.files_of-task.result c.cut_of.result _ c.inputs.result
+    c.dump-end.result c.end_with-end.result (option_map string_bytes c.note_to-note.result) c.files_of-task.ensures c.cut_of.ensures c.inputs.ensures c.in-Ok.ensures.read c.in-Ok-open.ensures
+    c.dump-end.ensures c.note_to-note.ensures c.end_with-end.ensures

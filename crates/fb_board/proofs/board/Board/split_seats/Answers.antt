@@ -1,5 +1,5 @@
 use Rattle.std.proofs.Common.{rules, ◌∙◌, sym, ap, arith}
-use Rattle.fb_board.proofs.Tells.{splits}
+use Rattle.fb_board.proofs.Reveals.{splits}
 use Rattle.fb_board.proofs.board.Board.split_seats.Goals as goal
 
 pub split_seat-seat-requires : goal.split_seat-seat-requires

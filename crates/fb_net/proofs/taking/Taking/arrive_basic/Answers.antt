@@ -15,7 +15,7 @@ returns-clause-reacted c =
     c.as_slice.ensures end.ensures.reacted in
     chart-reacts i c.args.self.now.key.now c.args.at c.args.block.now c.requires.kind c.requires.input c.args.self.now.forest.now end.new.forest c.write_and_emit.new.self.forest.now
     c.args.self.now.outbox.now c.write_and_emit.new.self.outbox.now c.requires.index.ready c.requires.index.here c.in_ok-values.values c.in_ok-values.ensures.sampled c.args.meter.now.left end.new.meter.left end.new.emits
-    c.in_ok-write_and_emit.ensures.told end.result ended
+    c.in_ok-write_and_emit.ensures.wrote end.result ended
 
 pub returns-in_err-values-clause-kept : goal.returns-in_err-values-clause-kept
 returns-in_err-values-clause-kept c =

@@ -5,7 +5,7 @@ use Rattle.fb_types.specs.Headline.{system_of}
 use Rattle.fb_net.specs.Samples.{names_in}
 use Rattle.fb_net.proofs.Changing.{samples_none}
 use Rattle.fb_net.proofs.PutOut.{lines-put}
-use Rattle.fb_net.proofs.Sampling.{none-sampled, sampling-stands}
+use Rattle.fb_net.proofs.Sampling.{none-sampled, sampling-represents}
 use Rattle.fb_net.proofs.Wholes.{kept-same}
 use Rattle.fb_net.proofs.taking.Taking.take_samples.Goals as goal
 
@@ -17,7 +17,7 @@ returns-then-is_empty-clause-taken c =
     let sampled = none-sampled i f at c.inputs_with-indexes.result.now c.new-values.result c.inputs_with-indexes.ensures (eqb-true _ 0 (sym c.is_empty.ensures ∙ c.if-is_empty.true)) c.new-values.ensures in
     let kept = samples_none i f at.instance (names_in (system_of i) at) c.new-values.result (ap length c.new-values.ensures) in
     on_ok_weaker c.write_taken.result
-    (λ written. sampling-stands i c.args.self.now.key.now at f f c.args.self.now.outbox.now c.write_taken.new.outbox c.new-values.result
+    (λ written. sampling-represents i c.args.self.now.key.now at f f c.args.self.now.outbox.now c.write_taken.new.outbox c.new-values.result
     c.requires.index.ready c.requires.input c.requires.index.here sampled kept written c.write_taken.ensures.outs c.write_taken.ensures.timer)
     c.write_taken.ensures.written
 

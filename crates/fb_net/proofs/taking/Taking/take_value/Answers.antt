@@ -4,20 +4,20 @@ use Rattle.fb_types.specs.Headline.{system_of}
 use Rattle.fb_types.specs.Names.{Name}
 use Rattle.fb_types.specs.Numbers.{path_at, ports_at}
 use Rattle.fb_types.specs.declared.value.Value.{Value}
-use Rattle.fb_system.specs.Stands.{variable_at}
+use Rattle.fb_system.specs.IndexLists.{variable_at}
 use Rattle.fb_net.specs.Samples.{all_sampled, names_in}
 use Rattle.fb_net.specs.Changes.{Changes}
 use Rattle.fb_net.proofs.Changing.{changes_as}
 use Rattle.fb_net.proofs.PutOut.{lines-put}
-use Rattle.fb_net.proofs.Sampling.{one-sampled, sampling-stands}
+use Rattle.fb_net.proofs.Sampling.{one-sampled, sampling-represents}
 use Rattle.fb_net.proofs.Wholes.{kept-changed}
 use Rattle.fb_net.proofs.taking.Taking.take_value.Goals as goal
 
 pub sampled-value-requires-clause-variable : goal.sampled-value-requires-clause-variable
-sampled-value-requires-clause-variable c = record { instance = c.requires.index.port.instance; variable = c.requires.stands.within 0 0 (omega arith) }
+sampled-value-requires-clause-variable c = record { instance = c.requires.index.port.instance; variable = c.requires.represents.within 0 0 (omega arith) }
 
 pub set_input-requires-clause-variable : goal.set_input-requires-clause-variable
-set_input-requires-clause-variable c = record { instance = c.requires.index.port.instance; variable = c.requires.stands.within 0 0 (omega arith) }
+set_input-requires-clause-variable c = record { instance = c.requires.index.port.instance; variable = c.requires.represents.within 0 0 (omega arith) }
 
 pub write_taken-requires-clause-line : goal.write_taken-requires-clause-line
 write_taken-requires-clause-line c =
@@ -27,7 +27,7 @@ write_taken-requires-clause-line c =
       instance = c.requires.index.port.instance;
       resource = c.args.self.now.named;
       event = subst (λ b. c.args.at.event < length (cond b its.event_outputs its.event_inputs)) c.requires.input c.requires.index.port.event;
-      values = ap length c.in_ok-values.ensures ∙ ap length c.requires.stands.named;
+      values = ap length c.in_ok-values.ensures ∙ ap length c.requires.represents.named;
     }
 
 pub returns-clause-taken : goal.returns-clause-taken
@@ -41,12 +41,12 @@ returns-clause-taken c =
     let values = c.in_ok-values.values in
     let is = c.in_ok-values.ensures in
     let name = variable_at (ports_at sys (path_at sys at.instance)).inputs in
-    let by_name = subst (λ (ns : List Name). Changes i f at.instance (all_sampled ns (value ∷ [])) g) c.requires.stands.named
+    let by_name = subst (λ (ns : List Name). Changes i f at.instance (all_sampled ns (value ∷ [])) g) c.requires.represents.named
     (changes_as (all_sampled (map name (c.args.variable ∷ [])) (value ∷ [])) c.set_input.ensures (λ m. refl)) in
     let changes = subst (λ (vs : List Value). Changes i f at.instance (all_sampled (names_in sys at) vs) g) (sym is) by_name in
-    let sampled = one-sampled i f at (c.args.variable ∷ []) value values c.requires.stands refl c.sampled-value.ensures is in
+    let sampled = one-sampled i f at (c.args.variable ∷ []) value values c.requires.represents refl c.sampled-value.ensures is in
     on_ok_weaker c.write_taken.result
-    (λ written. sampling-stands i c.args.self.now.key.now at f g c.args.self.now.outbox.now c.write_taken.new.outbox values
+    (λ written. sampling-represents i c.args.self.now.key.now at f g c.args.self.now.outbox.now c.write_taken.new.outbox values
     c.requires.index.ready c.requires.input c.requires.index.here sampled changes written c.write_taken.ensures.outs c.write_taken.ensures.timer)
     c.write_taken.ensures.written
 

@@ -5,12 +5,12 @@ use Rattle.fb_types.specs.declared.value.Value.{Value}
 use Rattle.fb_net.specs.Samples.{all_sampled, names_in}
 use Rattle.fb_net.specs.Changes.{Changes}
 use Rattle.fb_net.proofs.PutOut.{lines-put}
-use Rattle.fb_net.proofs.Sampling.{one_index, sampling-stands}
+use Rattle.fb_net.proofs.Sampling.{one_index, sampling-represents}
 use Rattle.fb_net.proofs.Wholes.{kept-changed, kept-same}
 use Rattle.fb_net.proofs.taking.Taking.take_values.Goals as goal
 
-pub take_value-requires-clause-stands : goal.take_value-requires-clause-stands
-take_value-requires-clause-stands c =
+pub take_value-requires-clause-represents : goal.take_value-requires-clause-represents
+take_value-requires-clause-represents c =
     let one : length c.args.indexes.now ≡ 1 = omega (arith, c.in-len1.len_at_least, c.in-len1.len_below) in
     one_index _ _ c.args.indexes.now one c.requires.indexes
 
@@ -20,7 +20,7 @@ returns-clause-taken c =
     let at = c.args.at in
     let kept = subst (λ (vs : List Value). Changes i c.args.self.now.forest.now at.instance (all_sampled (names_in (system_of i) at) vs) c.keep_samples.new.forest) c.as_slice.ensures c.keep_samples.ensures in
     on_ok_weaker c.write_taken.result
-    (λ written. sampling-stands i c.args.self.now.key.now at c.args.self.now.forest.now c.keep_samples.new.forest c.args.self.now.outbox.now c.write_taken.new.outbox c.in_ok-values.values
+    (λ written. sampling-represents i c.args.self.now.key.now at c.args.self.now.forest.now c.keep_samples.new.forest c.args.self.now.outbox.now c.write_taken.new.outbox c.in_ok-values.values
     c.requires.index.ready c.requires.input c.requires.index.here c.in_ok-values.ensures.sampled kept written c.write_taken.ensures.outs c.write_taken.ensures.timer)
     c.write_taken.ensures.written
 

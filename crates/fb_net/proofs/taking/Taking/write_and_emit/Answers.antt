@@ -2,18 +2,18 @@ use Rattle.std.proofs.Common.{map, refl}
 use Rattle.std.proofs.lemmas.Result.{on_ok_weaker}
 use Rattle.fb_types.specs.Headline.{system_of}
 use Rattle.fb_types.specs.Numbers.{emission_of, line_of, path_at, ports_at}
-use Rattle.fb_net.proofs.Arriving.{told-so}
+use Rattle.fb_net.proofs.Arriving.{wrote-so}
 use Rattle.fb_net.proofs.PutOut.{lines-put}
 use Rattle.fb_net.proofs.Sampling.{taken_line}
 use Rattle.fb_net.proofs.taking.Taking.write_and_emit.Goals as goal
 
-pub returns-clause-told : goal.returns-clause-told
-returns-clause-told c =
+pub returns-clause-wrote : goal.returns-clause-wrote
+returns-clause-wrote c =
     let i = c.args.self.now.system.now in
     let k = c.args.self.now.key.now in
     let at = c.args.at in
     on_ok_weaker c.emit_all.result
-    (told-so i k at.instance (line_of (system_of i) (taken_line k at c.args.values))
+    (wrote-so i k at.instance (line_of (system_of i) (taken_line k at c.args.values))
     (map (emission_of (ports_at (system_of i) (path_at (system_of i) at.instance))) c.args.emits.now)
     c.args.self.now.forest.now c.emit_all.new.self.forest.now c.args.self.now.outbox.now c.write_taken.new.outbox c.emit_all.new.self.outbox.now
     c.in_ok-write_taken.ensures.written c.write_taken.ensures.outs c.write_taken.ensures.timer)

@@ -3,7 +3,7 @@ use Rattle.std.proofs.lemmas.Result.{IfOk-weaker}
 use Rattle.fb_types.specs.Headline.{stimuli_of, system_of}
 use Rattle.fb_types.specs.Parts.{local_of}
 use Rattle.fb_types.specs.Simulation.{opening}
-use Rattle.fb_resource.specs.Resources.{IsFresh, IsOf, StandsFor}
+use Rattle.fb_resource.specs.Resources.{IsFresh, IsOf, Represents}
 use Rattle.fb_resource.proofs.resource.Resource.open.Goals as goal
 
 pub returns-clause-of : goal.returns-clause-of
@@ -15,7 +15,7 @@ pub returns-clause-opened : goal.returns-clause-opened
 returns-clause-opened c =
     let i = c.args.system.now in
     IfOk-weaker c.of_agenda.result (IsFresh i c.args.number)
-    (λ x. (limit : ℕ) → StandsFor i limit (local_of (system_of i) limit c.args.number (opening (system_of i) (stimuli_of i)) None) x)
+    (λ x. (limit : ℕ) → Represents i limit (local_of (system_of i) limit c.args.number (opening (system_of i) (stimuli_of i)) None) x)
     (λ x fresh. fresh.state) c.of_agenda.ensures
 
 pub returns-clause-fresh : goal.returns-clause-fresh

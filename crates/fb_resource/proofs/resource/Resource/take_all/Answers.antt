@@ -24,7 +24,7 @@ loop-counts-init c =
       live = c.requires.live;
       tree = refl;
       unused = unused_fresh c.args.to counts begins;
-      comes = λ l stands. comes_first i c.args.steps x counts c.args.given.now empty c.args.to l c.requires.live (unused_fresh x.clock counts begins) stands;
+      comes = λ l represents. comes_first i c.args.steps x counts c.args.given.now empty c.args.to l c.requires.live (unused_fresh x.clock counts begins) represents;
     }
 
 pub take-requires-clause-tree : goal.take-requires-clause-tree
@@ -36,14 +36,14 @@ take-requires-clause-queues c =
     let found = c.loop-counts-test.ensures in
     ready_left c.args.system.now x.clock c.take_least_into.new.index.key x.queues _ c.loop-counts.invariant.running.ready found.left found.least found.due
 
-pub take-requires-clause-stands : goal.take-requires-clause-stands
-take-requires-clause-stands c =
+pub take-requires-clause-represents : goal.take-requires-clause-represents
+take-requires-clause-represents c =
     let x = in_run c.loop-counts.self c.loop-counts.counts c.loop-counts.given in
     let k = c.take_least_into.new.index.key in
     let e = c.take_least_into.new.index.event in
     let inv = c.loop-counts.invariant in
-    let first = c.requires.of.stands c.args.steps in
-    let s = (inv.comes first.0 first.1).stands in
+    let first = c.requires.of.represents c.args.steps in
+    let s = (inv.comes first.0 first.1).represents in
     let found = c.loop-counts-test.ensures.found in
     (s.state, here_at c.args.system.now s.state k x (inv.running.home k e found) (inv.running.ready.order.waits k e found).later s.here)
 
@@ -77,8 +77,8 @@ returns-in-Some c =
     let gone : HasLeft k e old.queues.agenda a = record { found = found.found; least = found.least; left = found.left } in
     let new : Running = in_run (record { tree = c.take.new.tree; clock = k.tick; agenda = c.take.new.agenda; sent = c.take.new.sent; stopped = c.in_ok-self.field-0 }) c.take.new.counts c.take.new.given in
     let now : k.tick ≤ k.tick = omega arith in
-    let first = c.requires.of.stands c.args.steps in
-    let s = (inv.comes first.0 first.1).stands in
+    let first = c.requires.of.represents c.args.steps in
+    let s = (inv.comes first.0 first.1).represents in
     let t = gave.taken s.state k.tick now (here_at i s.state k old mine may.later s.here) s.counts in
     let tick = gave.tick in
     let past = inv.running.past in
@@ -87,9 +87,9 @@ returns-in-Some c =
     has_run i c.args.steps c.args.self.now new c.args.to _ c.requires.of
     (running_more i c.args.steps old new k e a sound gave.tree mine inv.live may.event.here gone inv.running s.state t gave.counts within gave.queues)
     (gave.tree ∙ inv.tree)
-    (λ l stands.
-    let comes = inv.comes l stands in
-    let m = comes.stands in
+    (λ l represents.
+    let comes = inv.comes l represents in
+    let m = comes.represents in
     let its = gave.taken m.state k.tick now (here_at i m.state k old mine may.later m.here) m.counts in
     ran_stop i c.args.steps old new k e a sound gave.tree mine inv.live may.event.here gone c.args.self.now.tree.resource c.args.to l comes inv.tree found.below its c.in-Some.reason c.in-Some.is refl)
     (marked k c.take.new.tree.resource c.in_ok-self.field-0 c.in-Some.reason (mine ∙ sym gave.tree) c.in-Some.is)
@@ -120,8 +120,8 @@ loop-counts-preserved c =
     let gone : HasLeft k e old.queues.agenda a = record { found = found.found; least = found.least; left = found.left } in
     let new : Running = in_run (record { tree = c.take.new.tree; clock = k.tick; agenda = c.take.new.agenda; sent = c.take.new.sent; stopped = c.in_ok-self.field-0 }) c.take.new.counts c.take.new.given in
     let now : k.tick ≤ k.tick = omega arith in
-    let first = c.requires.of.stands c.args.steps in
-    let s = (inv.comes first.0 first.1).stands in
+    let first = c.requires.of.represents c.args.steps in
+    let s = (inv.comes first.0 first.1).represents in
     let t = gave.taken s.state k.tick now (here_at i s.state k old mine may.later s.here) s.counts in
     let tick = gave.tick in
     let past = inv.running.past in
@@ -136,9 +136,9 @@ loop-counts-preserved c =
       live = going;
       tree = gave.tree ∙ inv.tree;
       unused = unused_below c.args.to k.tick (meter_of c.take.new.counts) (gave.spent going).0 below;
-      comes = λ l stands.
-          let comes = inv.comes l stands in
-          let m = comes.stands in
+      comes = λ l represents.
+          let comes = inv.comes l represents in
+          let m = comes.represents in
           let its = gave.taken m.state k.tick now (here_at i m.state k old mine may.later m.here) m.counts in
           comes_more i c.args.steps old new k e a sound gave.tree mine inv.live may.event.here gone c.args.self.now.tree.resource c.args.to l comes inv.tree found.below its going;
     }
@@ -156,5 +156,5 @@ returns c =
     has_run i c.args.steps c.args.self.now new c.args.to _ c.requires.of
     (running_rest i c.args.steps old a c.args.to rest.kept rest.none inv.ahead inv.running)
     inv.tree
-    (λ l stands. ran_rest i c.args.steps old a c.args.to rest.kept rest.none inv.ahead c.args.self.now.tree.resource l (inv.comes l stands) inv.tree inv.unused)
+    (λ l represents. ran_rest i c.args.steps old a c.args.to rest.kept rest.none inv.ahead c.args.self.now.tree.resource l (inv.comes l represents) inv.tree inv.unused)
     (sym (ap (mark_of c.loop-counts.self.tree.resource c.args.to) inv.live))

@@ -4,7 +4,7 @@ use Rattle.fb_types.specs.Repeated.{Twice}
 use Rattle.fb_types.specs.Values.{truth_of}
 use Rattle.fb_st.specs.Compiled.{fits_truth, truth_at, truth_said}
 use Rattle.fb_st.specs.Frames.{Declared, values_of}
-use Rattle.fb_st.specs.Placed.{expr_of_truth, kinds_truth}
+use Rattle.fb_st.specs.Fitting.{expr_of_truth, kinds_truth}
 use Rattle.fb_st.specs.declared.slot_list.Kept.{Kept}
 use Rattle.fb_st.proofs.Comes.{both_true, condition_comes}
 use Rattle.fb_st.proofs.KeptAs.{plain_layout}
@@ -16,20 +16,20 @@ is_true-requires c =
     let ds : List Declared = c.args.layout.now in
     let ks : List Kept = c.self.inside.kept.items in
     let zs : List ℤ = c.self.inside.words.items in
-    let told = plain_layout ds ks zs c.args.self.now (c.self.invariant.1 c.if-not-self.false) c.self.invariant.0 c.self.view_is c.requires.layout in
+    let known_so = plain_layout ds ks zs c.args.self.now (c.self.invariant.1 c.if-not-self.false) c.self.invariant.0 c.self.view_is c.requires.layout in
     let right = both_true (fits_truth (length ds) (truth_said c.args.condition.now)) (kinds_truth ds (truth_said c.args.condition.now)) c.requires.right in
-    ap (λ n. fits_truth n (truth_said c.args.condition.now)) (ap (λ (l : List ℤ). length l) c.as_slice.ensures.value ∙ told.1) ∙ right.0
+    ap (λ n. fits_truth n (truth_said c.args.condition.now)) (ap (λ (l : List ℤ). length l) c.as_slice.ensures.value ∙ known_so.1) ∙ right.0
 
 pub returns : goal.returns
 returns c =
     let ds : List Declared = c.args.layout.now in
     let ks : List Kept = c.self.inside.kept.items in
     let zs : List ℤ = c.self.inside.words.items in
-    let told = plain_layout ds ks zs c.args.self.now (c.self.invariant.1 c.if-not-self.false) c.self.invariant.0 c.self.view_is c.requires.layout in
+    let known_so = plain_layout ds ks zs c.args.self.now (c.self.invariant.1 c.if-not-self.false) c.self.invariant.0 c.self.view_is c.requires.layout in
     let right = both_true (fits_truth (length ds) (truth_said c.args.condition.now)) (kinds_truth ds (truth_said c.args.condition.now)) c.requires.right in
     let P : List Name → Type 0 = λ ns. ¬ (Twice ns) in
     let once = subst P (sym (names_declared c.args.self.now) ∙ ap (map (λ d. d.0)) (sym c.requires.layout)) c.requires.once in
     c.is_true.ensures
     ∙ ap (truth_at (truth_said c.args.condition.now)) c.as_slice.ensures.value
-    ∙ sym (condition_comes ds zs told.1 once (truth_said c.args.condition.now) right.1)
-    ∙ ap (λ l. truth_of (expr_of_truth ds (truth_said c.args.condition.now)) (values_of l)) told.0
+    ∙ sym (condition_comes ds zs known_so.1 once (truth_said c.args.condition.now) right.1)
+    ∙ ap (λ l. truth_of (expr_of_truth ds (truth_said c.args.condition.now)) (values_of l)) known_so.0

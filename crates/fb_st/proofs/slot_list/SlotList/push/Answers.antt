@@ -6,7 +6,7 @@ use Rattle.fb_st.specs.Kept.{kept_as}
 use Rattle.fb_st.specs.declared.frame.Slot.{Slot}
 use Rattle.fb_st.specs.declared.slot_list.Kept.{Kept}
 use Rattle.fb_st.proofs.Comes.{both_true}
-use Rattle.fb_st.proofs.KeptAs.{kept_push, none_told, plain_push}
+use Rattle.fb_st.proofs.KeptAs.{kept_push, none_so, plain_push}
 use Rattle.fb_st.proofs.slot_list.SlotList.push.Goals as goal
 
 pub invariant_of-self : goal.invariant_of-self
@@ -25,7 +25,7 @@ invariant_of-self-2 c =
       (let a = length-append zs (c.parted-word.result.0 ∷ []) in let b = length-append ks (k ∷ []) in let same = c.self.invariant.0 in omega arith),
       (λ plain.
           let parts = both_true c.self.inside.is_plain c.is_none-is_plain.result (sym c.are_both-self-inside.ensures ∙ plain) in
-          plain_push ks k (c.self.invariant.1 parts.0) (none_told c.parted-word.result.1 c.is_none-is_plain.result c.is_none-is_plain.ensures parts.1)),
+          plain_push ks k (c.self.invariant.1 parts.0) (none_so c.parted-word.result.1 c.is_none-is_plain.result c.is_none-is_plain.ensures parts.1)),
     )
 
 pub returns : goal.returns

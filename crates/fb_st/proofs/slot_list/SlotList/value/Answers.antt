@@ -7,7 +7,7 @@ use Rattle.fb_types.specs.declared.value.Value.{Value}
 use Rattle.fb_st.specs.declared.frame.Slot.{Slot}
 use Rattle.fb_st.specs.declared.slot_list.Kept.{Kept}
 use Rattle.fb_st.specs.Compiled.{word_at}
-use Rattle.fb_st.specs.Placed.{value_of_word}
+use Rattle.fb_st.specs.Fitting.{value_of_word}
 use Rattle.fb_st.proofs.KeptAs.{kept_is, kept_within}
 use Rattle.fb_st.proofs.slot_list.SlotList.value.Goals as goal
 
@@ -43,7 +43,7 @@ returns-in-None c = λ s at.
     let within_words : i < length zs = let len = c.self.invariant.0 in omega arith in
     let there = slice_get_read zs (length zs) i z refl within_words c.index.ensures in
     let fit : SFits w64 z = search rules in
-    let told = rw (to_z-of_z fit) at c.value_of.ensures in
-    told
+    let known_so = rw (to_z-of_z fit) at c.value_of.ensures in
+    known_so
     ∙ ap (value_of_word k.ty) (sym (get_or_from_slice_get zs i z (pos 0) there))
     ∙ ap (λ (o : Option Value). unwrap_or o (value_of_word k.ty (word_at zs i))) (sym c.in-None.is) ∙ ap (λ (t : Slot). t.value) same

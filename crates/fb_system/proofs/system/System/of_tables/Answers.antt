@@ -1,5 +1,5 @@
 use Rattle.std.proofs.Common.{subst, sym}
-use Rattle.fb_system.specs.Systems.{IsBare, StandFor}
+use Rattle.fb_system.specs.Systems.{IsBare, AreTables}
 use Rattle.fb_system.specs.declared.whole.Whole.{Whole}
 use Rattle.fb_system.proofs.KeptRows.{without_rows}
 use Rattle.fb_system.proofs.system.System.of_tables.Goals as goal
@@ -8,4 +8,4 @@ pub invariant_of-bare : goal.invariant_of-bare
 invariant_of-bare c =
     let added = c.in_ok-add_homes.ensures in
     without_rows _ _ c.in_ok-whole.ensures.ok (subst (λ (w : Whole). IsBare w.kept) (sym added.same) c.requires.bare)
-    (subst (λ (w : Whole). StandFor w) (sym added.same) (c.requires.stands _ added.homes))
+    (subst (λ (w : Whole). AreTables w) (sym added.same) (c.requires.stands _ added.homes))

@@ -14,7 +14,7 @@ returns-clause-numbers c =
       firsts_are = c.in_ok-firsts.ensures.firsts;
       fit = record {
         counted = are.counted;
-        within = subst (All (λ s. s < length x.cells.items)) (sym are.noted) (All-nil (λ s. s < length x.cells.items));
+        within = subst (All (λ s. s < length x.cells.items)) (sym are.marked) (All-nil (λ s. s < length x.cells.items));
       };
     }
 

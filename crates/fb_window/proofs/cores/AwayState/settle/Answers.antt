@@ -27,7 +27,7 @@ use Rattle.fb_window.proofs.cores.AwayState.settle.Goals.{After-end_of-end}
 pub come_home-requires : goal.come_home-requires
 come_home-requires c =
     let a = c.args.self in
-    let b = c.requires.behind in
+    let b = c.requires.away in
     record {
       inputs = a.system;
       limit = a.steps;
@@ -42,7 +42,7 @@ come_home-requires c =
 pub post-posted-requires-clause-counted : goal.post-posted-requires-clause-counted
 post-posted-requires-clause-counted c =
     let a = c.args.self in
-    let b = c.requires.behind in
+    let b = c.requires.away in
     let done = subst (λ z. AllZip Does z c.args.dones.items) b.left.jobs c.requires.done in
     let home : AreHome a.system a.steps b.bounds b.resources a.pending.items c.in_ok-home.home = c.in_ok-home.ensures a.system a.steps b.bounds b.resources b.left.resting done in
     home.resources ∙ b.left.counted ∙ ap (λ (i : Inputs). length (system_of i).resource_names) (sym c.requires.system)
@@ -50,7 +50,7 @@ post-posted-requires-clause-counted c =
 pub post-posted-requires-clause-targets : goal.post-posted-requires-clause-targets
 post-posted-requires-clause-targets c =
     let a = c.args.self in
-    let b = c.requires.behind in
+    let b = c.requires.away in
     let done = subst (λ z. AllZip Does z c.args.dones.items) b.left.jobs c.requires.done in
     let home = c.in_ok-home.ensures a.system a.steps b.bounds b.resources b.left.resting done in
     subst (λ (i : Inputs). All (λ box. All (λ m. m.target.instance < length (system_of i).paths) box.items) c.in_ok-home.home.outboxes.items) (sym c.requires.system)
@@ -59,7 +59,7 @@ post-posted-requires-clause-targets c =
 pub end_of-end-requires : goal.end_of-end-requires
 end_of-end-requires c =
     let a = c.args.self in
-    let b = c.requires.behind in
+    let b = c.requires.away in
     let done = subst (λ z. AllZip Does z c.args.dones.items) b.left.jobs c.requires.done in
     let home : AreHome a.system a.steps b.bounds b.resources a.pending.items c.in_ok-home.home = c.in_ok-home.ensures a.system a.steps b.bounds b.resources b.left.resting done in
     let good : AreGood a.system = record {
@@ -96,7 +96,7 @@ gathered : (c : After-end_of-end) → HasGathered c.args.self.system c.args.self
     c.in_ok-kept.resources.items (found c).0 c.in_ok-resources.cut.1.items c.in_ok-resources.cut.0.items c.end_of-end.result
 gathered c =
     let a = c.args.self in
-    let b = c.requires.behind in
+    let b = c.requires.away in
     let done = subst (λ z. AllZip Does z c.args.dones.items) b.left.jobs c.requires.done in
     let h = c.in_ok-home.home in
     let home : AreHome a.system a.steps b.bounds b.resources a.pending.items h = c.in_ok-home.ensures a.system a.steps b.bounds b.resources b.left.resting done in
@@ -133,7 +133,7 @@ gathered c =
 pub invariant_of-core : goal.invariant_of-core
 invariant_of-core c =
     let d = (goal.at.invariant_of-core c).After-end_of-end in
-    let b = c.requires.behind in
+    let b = c.requires.away in
     settle_reached c.args.self c.args.dones.items c.requires.done c.in_ok-home.home c.in_ok-kept.resources.items (found d).0 c.in_ok-resources.cut.1.items c.in_ok-resources.cut.0.items
     c.end_of-end.result (gathered d) b.resources b.bounds b.way.steps (λ r. 0) b.left b.way.schedule b.way.at b.way.legal
     b.way.idle b.some_steps b.few_steps c.in_ok-resources.resources c.in_ok-resources.cut.1 (ap (λ (v : Vec Resource). v.items) c.in_ok-resources.ensures.kept) refl
@@ -141,7 +141,7 @@ invariant_of-core c =
 pub invariant_of-core-in-Horizon : goal.invariant_of-core-in-Horizon
 invariant_of-core-in-Horizon c =
     let d = (goal.at.invariant_of-core-in-Horizon c).After-end_of-end in
-    let b = c.requires.behind in
+    let b = c.requires.away in
     settle_reached c.args.self c.args.dones.items c.requires.done c.in_ok-home.home c.in_ok-kept.resources.items (found d).0 c.in_ok-resources.cut.1.items c.in_ok-resources.cut.0.items
     c.end_of-end.result (gathered d) b.resources b.bounds b.way.steps (λ r. 0) b.left b.way.schedule b.way.at b.way.legal
     b.way.idle b.some_steps b.few_steps c.in_ok-resources.resources c.in_ok-resources.cut.1 (ap (λ (v : Vec Resource). v.items) c.in_ok-resources.ensures.kept) refl

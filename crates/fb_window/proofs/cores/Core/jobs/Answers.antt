@@ -5,7 +5,7 @@ use Rattle.fb_window.specs.Leaving.{AreLegal, HasLeft}
 use Rattle.fb_window.specs.Reached.{KeepHorizon}
 use Rattle.fb_window.specs.Reaching.{OfEachCore}
 use Rattle.fb_window.specs.declared.cores.CoreState.{CoreState}
-use Rattle.fb_window.proofs.Keeping.{is_behind, leave}
+use Rattle.fb_window.proofs.Keeping.{is_away, leave}
 use Rattle.fb_window.proofs.cores.Core.jobs.Goals as goal
 
 pub jobs-requires-clause-system : goal.jobs-requires-clause-system
@@ -32,7 +32,7 @@ invariant_of-result c =
     let good : AreGood s.system =
     subst AreGood (c.requires.system ∙ sym (ap (λ (z : CoreState). z.system) c.self.view_is)) (record { accepted = c.facts.ensures.accepted; limits = c.facts.ensures.limits }) in
     let kept = c.in_ok-away.ensures.kept in
-    is_behind s good c.self.invariant b.horizon (subst (λ (z : CoreState). KeepHorizon b.horizon z.resources.items) (sym c.self.view_is) c.requires.clocks) b.all
+    is_away s good c.self.invariant b.horizon (subst (λ (z : CoreState). KeepHorizon b.horizon z.resources.items) (sym c.self.view_is) c.requires.clocks) b.all
     (subst (λ (z : CoreState). OfEachCore z.system z.steps z.resources.items (λ d. AreLegal z.system z.steps b.horizon d b.all)) (sym c.self.view_is) c.requires.legal)
     c.in_ok-away.away kept.0 kept.1 kept.2 kept.3 c.in_ok-away.ensures.away
 

@@ -7,7 +7,7 @@ use Rattle.fb_resource.specs.Resources.{HasRun}
 use Rattle.fb_resource.specs.declared.resource.WindowDone.TheVariants.{Ran}
 use Rattle.fb_resource.specs.declared.resource.Resource.{Resource}
 use Rattle.fb_window.specs.Mails.{AreGiven}
-use Rattle.fb_window.specs.Noting.{AreNoted}
+use Rattle.fb_window.specs.Noting.{AreCurrent}
 use Rattle.fb_laws.proofs.Indexes.{one_at}
 use Rattle.fb_window.proofs.Receives.{set_same}
 use Rattle.fb_window.proofs.cores.CoreState.turn.Goals as goal
@@ -23,14 +23,14 @@ looked c =
     let same = length-set xs index after in
     one_at (slice_set xs index after) index c.index.result.now after (slice_get_read (slice_set xs index after) (length (slice_set xs index after)) index c.index.result.now refl (omega arith) c.index.ensures) (set_same xs index after within)
 
-pub give-requires-clause-noted : goal.give-requires-clause-noted
-give-requires-clause-noted c =
-    let d = (goal.at.give-requires-clause-noted c).After-index in
+pub give-requires-clause-current : goal.give-requires-clause-current
+give-requires-clause-current c =
+    let d = (goal.at.give-requires-clause-current c).After-index in
     let xs = c.args.self.now.resources.items in
-    subst (λ (z : Resource). AreNoted c.note.new.self.horizon (slice_set xs c.args.index z) c.note.new.self.ticks.items) (looked d) (c.note.ensures.noted xs c.requires.noted)
+    subst (λ (z : Resource). AreCurrent c.look_again.new.self.horizon (slice_set xs c.args.index z) c.look_again.new.self.ticks.items) (looked d) (c.look_again.ensures.current xs c.requires.current)
 
 pub returns-clause-horizon : goal.returns-clause-horizon
-returns-clause-horizon c = c.in_ok-give.ensures.horizon ∙ c.note.ensures.horizon
+returns-clause-horizon c = c.in_ok-give.ensures.horizon ∙ c.look_again.ensures.horizon
 
 pub returns-clause-turned : goal.returns-clause-turned
 returns-clause-turned c =
@@ -48,7 +48,7 @@ returns-clause-turned c =
     record {
       before = before;
       after = after;
-      told = output.lines;
+      added = output.lines;
       sent = output.sent;
       was = slice_get_read xs (length xs) index before refl within c.index_mut.ensures.value;
       ran = subst (λ (z : Inputs). HasRun z old.steps before c.args.to (Ran after output.lines output.sent output.stop)) c.requires.system c.in_ok-output.ensures;

@@ -3,7 +3,7 @@ use Rattle.std.specs.Prelude.{IfNone, IfSome, is_some}
 use Rattle.fb_types.specs.declared.run.StopMark.{StopMark}
 use Rattle.fb_resource.specs.declared.resource.Resource.{Resource}
 use Rattle.fb_window.specs.Frontiers.{AreLive, IsFirstStop}
-use Rattle.fb_window.specs.Noting.{AreNoted}
+use Rattle.fb_window.specs.Noting.{AreCurrent}
 use Rattle.fb_types.proofs.Options.{none_from_is_some, some_from_is_some}
 use Rattle.fb_window.proofs.Walked.{by_stop, gone_none}
 use Rattle.fb_window.proofs.cores.CoreState.walk.Goals as goal
@@ -29,7 +29,7 @@ take_turns-requires-clause-live c =
     none_found c.args.self.resources.items c.first_stop.result
     (subst (λ (ys : List Resource). IfNone c.first_stop.result (AreLive ys)) c.deref.ensures.value c.first_stop.ensures.none) (sym c.is_some.ensures ∙ c.if-is_some.false)
 
-pub take_turns-requires-clause-noted : goal.take_turns-requires-clause-noted
-take_turns-requires-clause-noted c =
-    subst (λ (h : ℕ). AreNoted h c.args.self.resources.items c.in_ok-nexts.nexts.ticks.items) (sym c.in_ok-nexts.ensures.horizon)
-    (subst (λ (ys : List Resource). AreNoted c.args.horizon ys c.in_ok-nexts.nexts.ticks.items) c.deref-2.ensures.value c.in_ok-nexts.ensures.noted)
+pub take_turns-requires-clause-current : goal.take_turns-requires-clause-current
+take_turns-requires-clause-current c =
+    subst (λ (h : ℕ). AreCurrent h c.args.self.resources.items c.in_ok-nexts.nexts.ticks.items) (sym c.in_ok-nexts.ensures.horizon)
+    (subst (λ (ys : List Resource). AreCurrent c.args.horizon ys c.in_ok-nexts.nexts.ticks.items) c.deref-2.ensures.value c.in_ok-nexts.ensures.current)

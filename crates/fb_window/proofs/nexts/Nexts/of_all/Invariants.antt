@@ -1,5 +1,5 @@
-use Rattle.fb_window.proofs.Noting.{AreNotedTo}
+use Rattle.fb_window.proofs.Noting.{AreCurrentTo}
 use Rattle.fb_window.proofs.nexts.Nexts.of_all.Given as goal
 
 abbrev pub invariant-loop-resource : goal.invariant-loop-resource
-invariant-loop-resource l = AreNotedTo l.horizon l.resources l.resource-index l.ticks.items
+invariant-loop-resource l = AreCurrentTo l.horizon l.resources l.resource-index l.ticks.items

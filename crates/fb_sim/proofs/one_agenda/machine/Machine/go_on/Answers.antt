@@ -12,11 +12,11 @@ take-requires-clause-ready c =
     let found = c.loop-self-test.ensures in
     machine_left c.args.system.now c.args.limit inv.ready.0 c.take_least_into.new.index.key c.take_least_into.new.index.event c.loop-self.self _ inv.ready.1 found.left found.found found.least found.due
 
-pub take-requires-clause-stands : goal.take-requires-clause-stands
-take-requires-clause-stands c =
-    let stands = c.loop-self.invariant.stands in
+pub take-requires-clause-represents : goal.take-requires-clause-represents
+take-requires-clause-represents c =
+    let represents = c.loop-self.invariant.represents in
     let k = c.take_least_into.new.index.key in
-    (stands.0.state, without k stands.0.agenda, at_left c.args.system.now k stands.0 c.loop-self.self _ stands.1 c.loop-self-test.ensures.left)
+    (represents.0.state, without k represents.0.agenda, at_left c.args.system.now k represents.0 c.loop-self.self _ represents.1 c.loop-self-test.ensures.left)
 
 pub take-requires-clause-event : goal.take-requires-clause-event
 take-requires-clause-event c = (c.loop-self.invariant.ready.1.queues.order.waits c.take_least_into.new.index.key c.take_least_into.new.index.event c.loop-self-test.ensures.found).event
@@ -94,8 +94,8 @@ loop-self-preserved c =
     let found = c.loop-self-test.ensures in
     let inv = c.loop-self.invariant in
     let going = c.in_default.is in
-    let s = inv.stands.0 in
-    let standing = c.in_ok-reason.ensures.taken s.state s.agenda (at_left i k s c.loop-self.self _ inv.stands.1 found.left) in
+    let s = inv.represents.0 in
+    let standing = c.in_ok-reason.ensures.taken s.state s.agenda (at_left i k s c.loop-self.self _ inv.represents.1 found.left) in
     let spent = c.in_ok-reason.ensures.spent going in
     let past = inv.ready.1.past k.resource spent.before spent.was in
     let later = (inv.ready.1.queues.order.waits k e found.found).later in
@@ -103,7 +103,7 @@ loop-self-preserved c =
     let left = inv.left in
     record {
       ready = (k.tick, c.in_ok-reason.ensures.ready);
-      stands = (after s (record { key = k; event = event_of i e; effect = standing.effect }), standing.at);
+      represents = (after s (record { key = k; event = event_of i e; effect = standing.effect }), standing.at);
       comes = λ start is.
           let comes = inv.comes start is in
           let d = comes.0 in

@@ -30,8 +30,8 @@ take-requires-clause-counts c =
     let meter = c.index_mut-2.result.now in
     c.requires.ready.meters r meter (slice_get_read meters (length meters) r meter refl within c.index_mut-2.ensures.value)
 
-pub take-requires-clause-stands : goal.take-requires-clause-stands
-take-requires-clause-stands c =
+pub take-requires-clause-represents : goal.take-requires-clause-represents
+take-requires-clause-represents c =
     let trees = c.args.self.now.trees.items in
     let meters = c.args.self.now.meters.items in
     let trees_counted = c.requires.ready.trees_counted in
@@ -42,10 +42,10 @@ take-requires-clause-stands c =
     let has_meter : r < length meters = omega (arith, meters_counted, named) in
     let tree = c.index_mut.result.now in
     let meter = c.index_mut-2.result.now in
-    let stands = c.requires.stands in
+    let represents = c.requires.represents in
     let here =
-    stands.2.here r tree meter (slice_get_read trees (length trees) r tree refl has_tree c.index_mut.ensures.value) (slice_get_read meters (length meters) r meter refl has_meter c.index_mut-2.ensures.value) in
-    (stands.0, here_later c.args.system.now stands.0 r 0 c.args.key.now.tick tree meter (omega arith) here)
+    represents.2.here r tree meter (slice_get_read trees (length trees) r tree refl has_tree c.index_mut.ensures.value) (slice_get_read meters (length meters) r meter refl has_meter c.index_mut-2.ensures.value) in
+    (represents.0, here_later c.args.system.now represents.0 r 0 c.args.key.now.tick tree meter (omega arith) here)
 
 pub returns-clause-taken : goal.returns-clause-taken
 returns-clause-taken c s a at =

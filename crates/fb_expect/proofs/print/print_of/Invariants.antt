@@ -1,7 +1,0 @@
-use Rattle.std.proofs.Common.{◌≡◌, take}
-use Rattle.std.specs.List.{fold}
-use Rattle.fb_expect.specs.Prints.{print_on}
-use Rattle.fb_expect.proofs.print.print_of.Given as goal
-
-abbrev pub invariant-loop-byte : goal.invariant-loop-byte
-invariant-loop-byte l = l.print ≡ fold print_on 0 (take l.byte-index l.text)

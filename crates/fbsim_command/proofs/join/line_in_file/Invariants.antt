@@ -1,0 +1,5 @@
+use Rattle.fbsim_command.proofs.LinesLaws.{AreLeft}
+use Rattle.fbsim_command.proofs.join.line_in_file.Given as goal
+
+abbrev pub invariant-loop-i : goal.invariant-loop-i
+invariant-loop-i l = AreLeft l.lines l.whole l.i l.left

@@ -1,0 +1,5 @@
+use Rattle.fbsim_command.proofs.LinesLaws.{lines-agree}
+use Rattle.fbsim_command.proofs.laws.lines_agree.Goals as goal
+
+pub returns : goal.returns
+returns c = lines-agree
