@@ -2,8 +2,9 @@
 """tools/explained.py [--write]: checks that docs/FORMATS.md shows the program's explanations of refusals and lines of --why.
 
 The explanations are in the tables of crates/fb_why/src/table.rt. With --write this writes them into the page, between the two
-marks there. Each line of --why that the page shows must be expected by a stored case or by a call of tools/calls.py. Otherwise
-this reports it and ends with status 1. ./gate runs it."""
+marks there. Each line of --why that the page shows must be expected by a stored case or by a call of tools/calls.py. Each number
+of a refusal in the sources must have one explanation, and each explanation of a refusal must have one number. Otherwise this
+reports it and ends with status 1. ./gate runs it."""
 
 import re
 import sys
@@ -17,6 +18,9 @@ CASES = f"{TOP}/cases/why.toml"
 PAGE = f"{TOP}/docs/FORMATS.md"
 FIRST = "<!-- The explanations of crates/fb_why/src/table.rt, by tools/explained.py --write -->\n"
 LAST = "<!-- The end of the explanations -->\n"
+# The files that give refusals their numbers, and how they do.
+NUMBERED = ["fb_read/src/error.rt", "fb_inputs/src/error.rt", "fb_check/src/fault.rt", "fb_expect/src/error.rt"]
+NUMBER = re.compile(r"=> (?:Some\()?(\d+)\)?,|_NAME: u8 = (\d+);")
 HEADING = "| name | means | for example | look at |\n|---|---|---|---|\n"
 WHY_HEADING = "| refusal | a line that `--why` prints |\n|---|---|\n"
 
@@ -51,10 +55,23 @@ def untried(page):
     return [row for row in shown if row.split(" | ", 1)[1].removesuffix(" |").strip("`") not in wanted]
 
 
+def numbers():
+    """Returns the names of all refusals that have a number in the sources."""
+    found = []
+    for name in NUMBERED:
+        with open(f"{TOP}/crates/{name}") as it:
+            found += [f"E{int(one or other):02}" for one, other in NUMBER.findall(it.read())]
+    return sorted(found)
+
+
 def main(words):
     """Compares the page with the table, or writes it, and returns the status."""
     with open(TABLE) as it:
-        wanted = HEADING + rows(it.read())
+        table = it.read()
+    wanted = HEADING + rows(table)
+    if (explained := sorted(name for name, *_ in entries(table) if re.fullmatch(r"E\d\d", name))) != numbers():
+        print(f"{TABLE}: explains {explained}, and the sources number {numbers()}", file=sys.stderr)
+        return 1
     with open(PAGE) as it:
         page = it.read()
     if page.count(FIRST) != 1 or page.count(LAST) != 1:

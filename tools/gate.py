@@ -14,7 +14,7 @@ Without a crate it is the whole gate. In order:
   ./simulate (tools/launcher.py), waveforms of the examples (tools/waves.py), graphs of declarations (tools/graphs.py), texts that are no traces
   (tools/traces.py), the stored
   cases of cases/ (tools/cases.py), rings of resources (tools/rings.py), random systems (tools/drawn.py), random types
-  (tools/drawn_types.py), types with more events than 16 bits can number (tools/wide.py), outputs that take little and readers that
+  (tools/drawn_types.py), each token at each place of a declaration (tools/expected.py), types with more events than 16 bits can number (tools/wide.py), outputs that take little and readers that
   fail (tools/narrow.py), texts that are cut or changed in one byte (tools/hostile.py), and each request for memory refused
   (tools/refuse.py)
 
@@ -45,6 +45,7 @@ import documents
 import drawn
 import drawn_types
 import editors
+import expected
 import explained
 import first_application
 import graphs
@@ -193,6 +194,7 @@ def call_after_each_run():
         yield wide.main([made]) == 0
         yield narrow.try_all(made)
         yield hostile.try_all(made)
+        yield expected.try_all(made)
         yield refuse.try_all(made)
 
     def run_and_call(crate, tests, ending=""):

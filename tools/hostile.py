@@ -3,7 +3,8 @@
 
 A declaration, a deployment and stimuli that are accepted are cut at each byte, and each of their bytes is replaced in turn
 by each of five others. The program must accept the text and its run must end, or refuse it with a number and write nothing.
-A declaration that lacks a part of its last word is refused for its tokens or for its grammar.
+Then --why must print a line more, which has the line of a syntax fault too. A declaration that lacks a part of its last word is refused
+for its tokens or for its grammar.
 
 ./gate makes these calls each time it has run the program. Without ./gate they use the program that ./simulate built."""
 
@@ -53,8 +54,10 @@ FILES = {
     "merges.csv": b"tick,event,values\n8,P.EI1,\n10,Q.EI1,\n",
 }
 ENDED = re.compile(rb"([0-9]+ .*\n)*(end [0-9]+|stop [0-9]+ \w+ \w+)\n")
-REFUSED = re.compile(rb"refused (E(0[1-9]|[12][0-9]|30)|E03 line [1-9][0-9]*)\n")
-CUT = re.compile(rb"refused (E02|E03 line [1-9][0-9]*)\n")
+OF_TOKENS = rb"\nline [1-9][0-9]*, column [1-9][0-9]*: .+"
+OF_GRAMMAR = rb"E03 line (?P<line>[1-9][0-9]*)\nline (?P=line), column [1-9][0-9]*: .+"
+REFUSED = re.compile(rb"refused (" + OF_GRAMMAR + rb"|E0[1245]" + OF_TOKENS + rb"|E([12][0-9]|30)\n.+)\n")
+CUT = re.compile(rb"refused (" + OF_GRAMMAR + rb"|E02" + OF_TOKENS + rb")\n")
 
 
 class Text(NamedTuple):
@@ -102,7 +105,7 @@ def changed(text):
 
 
 def has_a_name(ran, refused):
-    """Whether a run has ended or stopped, or was refused in this way with nothing written."""
+    """Whether a run has ended or stopped, or was refused in this way, with its place and with nothing written."""
     if ran.returncode in (0, 1):
         return bool(ENDED.fullmatch(ran.stdout)) and not ran.stderr
     return ran.returncode == 2 and not ran.stdout and bool(refused.fullmatch(ran.stderr))
@@ -114,7 +117,7 @@ def faults_of(room, it):
     if (whole.returncode, whole.stdout) != (0, it.trace):
         return [f"{it.name}: status {whole.returncode}, {whole.stdout!r}"], 1
     given = [(text, it.cut) for text in beginnings(it.text)] + [(text, REFUSED) for text in changed(it.text)]
-    runs = side_by_side(lambda pair: room.call(it.words, pair[0]), given)
+    runs = side_by_side(lambda pair: room.call([*it.words, "--why"], pair[0]), given)
     return [
         f"{it.name} {text!r}: status {ran.returncode}, {ran.stdout[:200]!r}, {ran.stderr[:200]!r}"
         for (text, refused), ran in zip(given, runs)
@@ -123,7 +126,7 @@ def faults_of(room, it):
 
 
 def try_all(program):
-    """Returns whether each text was accepted or refused with a number."""
+    """Returns whether each text was accepted, or refused with a number and a place."""
     made, faults = 0, []
     with Room(program, FILES) as room:
         for it in TEXTS:
@@ -131,7 +134,7 @@ def try_all(program):
             made, faults = made + count, faults + found
     for it in faults[:SHOWN]:
         print(it)
-    print(f"{PROGRAM}: {made - len(faults)} of {made} texts that were cut or changed are accepted or refused by a number", flush=True)
+    print(f"{PROGRAM}: {made - len(faults)} of {made} texts that were cut or changed are accepted, or refused by a number and with a place", flush=True)
     return not faults
 
 

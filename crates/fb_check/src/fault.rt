@@ -8,27 +8,27 @@ use thiserror::Error;
 /// Why inputs are not accepted. Each refusal has a number.
 #[derive(Clone, Copy, Debug, Error, PartialEq, Eq)]
 pub enum Fault {
-    #[error("E20: a name or a connection is given twice")]
+    #[error("a name or a connection is given twice")]
     NameTwice,
-    #[error("E21: nothing of the required kind has a name")]
+    #[error("nothing of the required kind has a name")]
     NameUnknown,
-    #[error("E22: an expression, a statement or a value has the wrong kind")]
+    #[error("an expression, a statement or a value has the wrong kind")]
     KindWrong,
-    #[error("E23: a data connection leads to a type that does not contain all values")]
+    #[error("a data connection leads to a type that does not contain all values")]
     OutOfRange,
-    #[error("E24: two data connections lead to one port")]
+    #[error("two data connections lead to one port")]
     TwoSources,
-    #[error("E25: a composite contains itself, or has a height over 16")]
+    #[error("a composite contains itself, or has a height over 16")]
     TooHigh,
-    #[error("E26: an instance is not mapped to one resource")]
+    #[error("an instance is not mapped to one resource")]
     NotMapped,
-    #[error("E27: a connection between two resources has no link")]
+    #[error("a connection between two resources has no link")]
     NoLink,
-    #[error("E28: no event serves a data connection between two resources")]
+    #[error("no event serves a data connection between two resources")]
     NoEvent,
-    #[error("E29: a stimulus does not fit its event input")]
+    #[error("a stimulus does not fit its event input")]
     BadStimulus,
-    #[error("E30: over a limit")]
+    #[error("over a limit")]
     OverLimit,
 }
 

@@ -7,20 +7,24 @@ ghost use Rattle.fb_expect.specs.declared.error.RulesError.TheVariants.{Memory};
 use std::alloc::AllocError;
 use thiserror::Error;
 
+/// The number of the refusal of rules that name what a declaration does not have. Reading rules does not find it: whoever has the
+/// declaration does.
+pub const UNKNOWN_NAME: u8 = 45;
+
 /// Why rules are refused. Each refusal has a number, and `Memory` has none.
 #[derive(Debug, Drop, Error)]
 pub enum RulesError {
     #[error("out of memory")]
     Memory,
-    #[error("E40: the rules are over a limit")]
+    #[error("the rules are over a limit")]
     Limit,
-    #[error("E41: the rules are no TOML")]
+    #[error("the rules are no TOML")]
     Document,
-    #[error("E42: a key of a rule is missing, unknown or of the wrong kind")]
+    #[error("a key of a rule is missing, unknown or of the wrong kind")]
     Shape,
-    #[error("E43: a pattern of a rule has the wrong shape")]
+    #[error("a pattern of a rule has the wrong shape")]
     Pattern,
-    #[error("E44: a number of a rule is out of its range")]
+    #[error("a number of a rule is out of its range")]
     Number,
 }
 

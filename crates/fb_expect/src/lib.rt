@@ -43,7 +43,7 @@ mod words;
 
 pub use difference_report::difference_text;
 pub use entry::Entry;
-pub use error::RulesError;
+pub use error::{RulesError, UNKNOWN_NAME};
 pub use fault::TraceError;
 pub use judging::{Cut, Judged, judge};
 pub use lines::ReadFault;

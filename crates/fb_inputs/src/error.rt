@@ -12,19 +12,19 @@ use thiserror::Error;
 pub enum InputError {
     #[error("out of memory")]
     Memory,
-    #[error("E10: the deployment is not TOML")]
+    #[error("the deployment is not TOML")]
     Document,
-    #[error("E11: a key of the deployment is missing, unknown or of the wrong kind")]
+    #[error("a key of the deployment is missing, unknown or of the wrong kind")]
     Shape,
-    #[error("E12: a latency is not within 1 to 1,000,000 ticks")]
+    #[error("a latency is not within 1 to 1,000,000 ticks")]
     Latency,
-    #[error("E13: a row of the stimuli has the wrong shape")]
+    #[error("a row of the stimuli has the wrong shape")]
     Row,
-    #[error("E14: a tick or a value of the stimuli is neither a number nor a truth value")]
+    #[error("a tick or a value of the stimuli is neither a number nor a truth value")]
     Number,
-    #[error("E15: over a limit")]
+    #[error("over a limit")]
     Limit,
-    #[error("E16: a table of latencies does not rise from tick 0")]
+    #[error("a table of latencies does not rise from tick 0")]
     Table,
 }
 

@@ -7,32 +7,33 @@
 //! Read in this order: `read`, the entry, and `error`; `token`, `tokens` and `front`, from bytes to tokens, with `blank`,
 //! `word`, `keyword`, `number` and `time`; `cursor`, `rule` and `fault`, how a rule reads; `block`, `ports`, `network`,
 //! `chart`, `operator`, `expression` and `statement`, the rules; `refused`, where a text is refused; `expected`, what could
-//! be there instead; `laws`; `discarding`, which frees what was read.
+//! be there instead; `laws`; `discarding`, which frees what was read. The modules from tokens to rules are public for
+//! `fb_read_positions`, which reads a text once more up to a position.
 #![tactic(auto)]
 
 mod blank;
 mod block;
-mod chart;
-mod cursor;
+pub mod chart;
+pub mod cursor;
 pub mod discarding;
 pub mod error;
 pub mod expected;
 mod expression;
-mod fault;
-mod front;
+pub mod fault;
+pub mod front;
 mod keyword;
 pub mod laws;
 mod network;
 mod number;
 mod operator;
-mod ports;
+pub mod ports;
 pub mod read;
 pub mod refused;
-mod rule;
+pub mod rule;
 mod statement;
 mod time;
-mod token;
-mod tokens;
+pub mod token;
+pub mod tokens;
 mod word;
 
 pub use discarding::discard;

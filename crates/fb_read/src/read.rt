@@ -5,7 +5,7 @@ ghost use Rattle.fb_types.specs.declared.library.Library.{Library};
 ghost use Rattle.fb_read.specs.Front.{bad_byte, bad_token};
 ghost use Rattle.fb_read.specs.Tokens.{after_mark};
 ghost use Rattle.fb_read.specs.Located.{AreLocated, IsLocatedEnd};
-ghost use Rattle.fb_read.specs.Refusals.{IsAtNext, IsErrorAt, IsErrorOf, IsFaultAt, IsRefused, IsTokenLen, too_long};
+ghost use Rattle.fb_read.specs.Refusals.{IsAtNext, IsErrorAt, IsErrorOf, IsFaultAt, IsNext, IsRefused, IsTokenLen, too_long};
 ghost use Rattle.fb_read.specs.Whole.{IsDerived, IsLibraryText, IsNesting, HasTokenFault, HasTokens, RefusesWhere, IsMemory, IsGrammarFault, most_bytes};
 
 use crate::cursor::Cursor;
@@ -14,10 +14,10 @@ use crate::fault::ParseFault;
 use crate::front::{LexFault, front};
 use crate::refused::{ReadFault, Refusal, TextFault};
 use crate::rule::Rule;
-use crate::token::Located;
+use crate::token::{Located, Span};
 use crate::tokens::lex;
 use fb_types::{Library, MOST_BYTES};
-use std::alloc::Global;
+use std::alloc::{AllocError, Global};
 
 /// The length of the token at the front of a text. The token is dropped here, so that no caller has to drop it.
 fn token_len(alloc: Global, z: &[u8]) -> Result<usize, LexFault>
@@ -28,14 +28,13 @@ fn token_len(alloc: Global, z: &[u8]) -> Result<usize, LexFault>
     Ok(len)
 }
 
-/// The refusal of the first of these tokens, which are the last ones of the text, or of its end if there is none.
-fn refused_at(alloc: Global, text: &[u8], left: &[Located], fault: TextFault) -> ReadFault
+/// The bytes of the first of these tokens, which are the last ones of the text, or its end if there is none.
+fn span_at(alloc: Global, text: &[u8], left: &[Located]) -> Result<Span, AllocError>
     requires { IsLocatedEnd text.now left.now }
-    ensures { IsAtNext text.now left.now fault result }
+    ensures { IfOk result (λ span. IsNext left.now text.now span.start span.end) }
 {
     let [first, ..] = left else {
-        return ReadFault::Refused(Refusal {
-            fault,
+        return Ok(Span {
             start: text.len(),
             end: text.len(),
         });
@@ -46,10 +45,28 @@ fn refused_at(alloc: Global, text: &[u8], left: &[Located], fault: TextFault) ->
     match token_len(alloc, here) {
         Ok(len) => {
             let end = start + len;
-            ReadFault::Refused(Refusal { fault, start, end })
+            Ok(Span { start, end })
         }
-        Err(_) => ReadFault::Memory,
+        Err(_) => Err(AllocError),
     }
+}
+
+/// The bytes of the token before which this number of tokens of the text is left, or its end if none is.
+///
+/// # Errors
+///
+/// When memory runs out.
+pub fn span_before(
+    alloc: Global,
+    text: &[u8],
+    tokens: &[Located],
+    left: usize,
+) -> Result<Span, AllocError>
+    requires { AreLocated text.now tokens.now (after_mark text.now) }
+    ensures { IfOk result (λ span. IsNext (drop (length tokens.now - left) tokens.now) text.now span.start span.end) }
+{
+    let index = tokens.len().saturating_sub(left);
+    span_at(alloc, text, &tokens[index..])
 }
 
 /// The refusal at the token before which this number of tokens of the text is left, or at its end.
@@ -63,8 +80,10 @@ fn refused_before(
     requires { AreLocated text.now tokens.now (after_mark text.now) }
     ensures { IsAtNext text.now (drop (length tokens.now - left) tokens.now) fault result }
 {
-    let index = tokens.len().saturating_sub(left);
-    refused_at(alloc, text, &tokens[index..], fault)
+    match span_before(alloc, text, tokens, left) {
+        Ok(Span { start, end }) => ReadFault::Refused(Refusal { fault, start, end }),
+        Err(_) => ReadFault::Memory,
+    }
 }
 
 /// The library that all of the tokens form.

@@ -109,6 +109,15 @@ pub struct Located {
     pub index: usize,
 }
 
+/// The bytes of a token in a text: from `start` up to `end`, both offsets in bytes. There are none at the end of the text.
+#[derive(Clone, Copy)]
+pub struct Span {
+    /// The offset of the first byte.
+    pub start: usize,
+    /// The offset past the last byte.
+    pub end: usize,
+}
+
 /// The greatest magnitude of a literal.
 pub const MOST: u128 = 170141183460469231731687303715884105727;
 

@@ -7,6 +7,7 @@ pub mod Meters
 pub mod Lists
 pub mod OpenIs
 pub mod PostLaws
+pub mod Posted
 pub mod ReadyIs
 pub mod TakenIs
 pub mod Comes

@@ -1,5 +1,5 @@
 -- Local events that are put on the agenda, and messages after the mail.
-use Rattle.std.proofs.Common.{◌≡◌, ◌≢◌, ℕ, ◌+◌, ◌<◌, Bool, true, false, cond, eqb, ◌&&◌, List, [], ◌∷◌, ◌++◌, length, map, refl, sym, ap, subst, ◌∙◌, append_assoc, append-nil, Option, Some, All, ⊎_elim, get_or, get_or-set_same, get_or-set_other, arith}
+use Rattle.std.proofs.Common.{◌≡◌, ◌≢◌, ℕ, ◌+◌, ◌<◌, Bool, true, false, cond, eqb, ◌&&◌, List, [], ◌∷◌, ◌++◌, length, map, refl, sym, ap, subst, ◌∙◌, append_assoc, Option, Some, All, ⊎_elim, get_or, get_or-set_same, get_or-set_other, arith}
 use Rattle.std.specs.Prelude.{if◌then◌else◌, option_map, slice_get, slice_index, slice_set}
 use Rattle.std.specs.Cmp.{first_so, second_so}
 use Rattle.std.proofs.lemmas.Bool.{cases_eq, eqb-true, eq-eqb, ne_eqb}
@@ -94,10 +94,6 @@ order_put i tick old new k e put class may due order = record { waits = waits; t
 
 -- ---- What was posted
 
-pub posted_none : (i : Inputs) (a : Contents) (mail : List Message) (locals : ℕ) (sent : List ℕ) (counts : ℕ → ℕ) → CountsAre sent counts
-    → ArePosted i (record { locals = locals; sent = counts; raised = []; messages = [] }) a a mail mail locals sent
-posted_none i a mail locals sent counts are = record { agenda = λ j. refl; mail = sym (append-nil (map (arriving i) mail)); counted = refl; sends = are }
-
 pub posted_local : (i : Inputs) (k : Key) (base mid new : Contents) (before mail : List Message) (x : Posts) (locals : ℕ) (sent : List ℕ) (t : Target) → ArePosted i x base mid before mail locals sent
     → IsPut mid new (local_key k.tick k.resource locals) (Local t)
     → ArePosted i (post (system_of i) k (reactions.Local (port_of (system_of i) t)) x) base new before mail (locals + 1) sent
@@ -190,18 +186,9 @@ posted_message i k base mid before mail new x locals n sent s posted sendable wi
 
 -- ---- One after another
 
-pub post_all_more : (sys : System) (k : Key) (os : List reactions.Out) (o : reactions.Out) (x : Posts) → post_all sys k (os ++ o ∷ []) x ≡ post sys k o (post_all sys k os x)
-post_all_more sys k [] o x = refl
-post_all_more sys k (p ∷ os) o x = post_all_more sys k os o (post sys k p x)
-
-pub posted_more : (i : Inputs) (k : Key) (base new : Contents) (before after : List Message) (x : Posts) (os : List Out) (o : Out) (locals : ℕ) (sent : List ℕ)
-    → ArePosted i (post (system_of i) k (out_of (system_of i) o) (post_all (system_of i) k (map (out_of (system_of i)) os) x)) base new before after locals sent
-    → ArePosted i (post_all (system_of i) k (map (out_of (system_of i)) (os ++ o ∷ [])) x) base new before after locals sent
-posted_more i k base new before after x os o locals sent is =
-    let sys = system_of i in
-    let more : post_all sys k (map (out_of sys) (os ++ o ∷ [])) x ≡ post sys k (out_of sys o) (post_all sys k (map (out_of sys) os) x) =
-    ap (λ zs. post_all sys k zs x) (map_push (out_of sys) os o) ∙ post_all_more sys k (map (out_of sys) os) (out_of sys o) x in
-    subst (λ y. ArePosted i y base new before after locals sent) (sym more) is
+pub post_all_then : (sys : System) (k : Key) (os ps : List reactions.Out) (x : Posts) → post_all sys k (os ++ ps) x ≡ post_all sys k ps (post_all sys k os x)
+post_all_then sys k [] ps x = refl
+post_all_then sys k (o ∷ os) ps x = post_all_then sys k os ps (post sys k o x)
 
 pub all_before : {A : Type 0} (P : A → Type 0) (xs ys : List A) → All P (xs ++ ys) → All P xs
 all_before P [] ys h = All-nil P

@@ -174,3 +174,7 @@ when_any (Err x) p = tt
 pub when_ok_both : {A E P R Q : Type 0} (r : Result A E) → OnOk r P → OnOk r R → (P → R → Q) → OnOk r Q
 when_ok_both (Ok x) p t f = f p t
 when_ok_both (Err x) p t f = tt
+
+pub when_ok_three : {A E P R S Q : Type 0} (r : Result A E) → OnOk r P → OnOk r R → OnOk r S → (P → R → S → Q) → OnOk r Q
+when_ok_three (Ok x) p t s f = f p t s
+when_ok_three (Err x) p t s f = tt

@@ -7,9 +7,9 @@
 //! when its next event is. What it does is what the resource of the definitions does, so the laws here hold of it.
 //!
 //! Read in this order: `tick_counts`, what is counted in a tick; `given`, what takings give; `one_taking`, the taking;
-//! `post`, what a taking puts out; `opening`, the agendas before the first event. Then `laws` and `determined`, what holds
-//! of the definitions; `resource`, what a resource holds, with `open`, how it begins, `run`, its run below a tick, and
-//! `receive`, how it gets messages.
+//! `posting`, what a taking puts out; `opening`, the agendas before the first event. Then `laws` and `determined`, what
+//! holds of the definitions; `resource`, what a resource holds, with `open`, how it begins, `run`, its run below a tick,
+//! and `receive`, how it gets messages.
 #![tactic(auto)]
 
 pub mod determined;
@@ -17,7 +17,7 @@ pub mod given;
 pub mod laws;
 pub mod one_taking;
 pub mod opening;
-mod post;
+mod posting;
 pub mod resource;
 pub mod tick_counts;
 

@@ -1,47 +1,28 @@
 //! Taking one event in its resource.
 
-ghost use Rattle.std.specs.Prelude.{◌≡◌, ◌+◌, ◌^◌, ◌≤◌, ◌<◌, ℕ, [], map, suc, max, length, unwrap_or, All, IfOk, OnOk, Some, None};
+ghost use Rattle.std.specs.Prelude.{◌≡◌, ◌^◌, ◌≤◌, ◌<◌, ℕ, [], suc, max, length, unwrap_or, All, IfOk, OnOk, Some, None};
 ghost use Rattle.fb_types.specs.Headline.{system_of};
-ghost use Rattle.fb_types.specs.Keys.{changed_to};
-ghost use Rattle.fb_types.specs.Numbers.{path_at};
 ghost use Rattle.fb_types.specs.Reactions.{World};
-ghost use Rattle.fb_types.specs.States.{State, path_of};
+ghost use Rattle.fb_types.specs.States.{State};
 ghost use Rattle.fb_types.specs.Takes.{begun};
-ghost use Rattle.fb_types.specs.Takes as takes;
-ghost use Rattle.fb_types.specs.declared.key.Key as keys;
 ghost use Rattle.fb_types.specs.declared.run.TimerAsk.TheVariants.{Keep};
-ghost use Rattle.fb_net.specs.Outs.{AreOuts, out_of};
-ghost use Rattle.fb_net.specs.Events.{CameAlone, IsEventIn, IsKeyOf, IsNumbered, event_in, event_of, key_at};
+ghost use Rattle.fb_net.specs.Outs.{AreOuts};
+ghost use Rattle.fb_net.specs.Events.{CameAlone, IsEventIn, IsKeyOf, event_in, event_of, key_at};
 ghost use Rattle.fb_net.specs.Worlds.{IsForest};
 ghost use Rattle.fb_laws.specs.Typed.{AreTyped, IsTypedEvent};
 ghost use Rattle.fb_resource.specs.Counts.{IsMetered, meter_of};
-ghost use Rattle.fb_resource.specs.Posts.{CountsAre, IsMessage, IsPostable};
-ghost use Rattle.fb_resource.specs.Takings.{AreReady, IsHere, IsLater, IsSettled, IsTakenHere, queues_of};
-ghost use Rattle.fb_resource.specs.Waiting.{IsInOrder, meaning};
+ghost use Rattle.fb_resource.specs.Posts.{CountsAre};
+ghost use Rattle.fb_resource.specs.Takings.{AreReady, IsHere, IsTakenHere, queues_of};
 
 use crate::given::Given;
-use crate::post::post_all;
+use crate::posting::Posting;
 use crate::tick_counts::TickCounts;
 use fb_agenda::Agenda;
 use fb_net::{Arrival, Outbox, Tree};
 use fb_st::Meter;
 use fb_system::System;
-use fb_types::{Event, Halt, Key, Reason, TimerAsk};
+use fb_types::{Event, Halt, Key, Reason};
 use std::alloc::AllocError;
-
-/// The instance at which an event comes.
-fn instance_of(system: &System, event: &Event) -> u32
-    requires { IsNumbered system.now event.now }
-    ensures instance { result < length (system_of system.now).paths }
-    ensures path { path_at (system_of system.now) result ≡ path_of (event_of system.now event.now) }
-{
-    match event {
-        Event::Stimulus(row) => system.stimulus(*row).target.instance,
-        Event::Timer(instance) => *instance,
-        Event::Arrival(message) => message.target.instance,
-        Event::Local(target) => target.instance,
-    }
-}
 
 /// The arrival of an event that waited under this key.
 #[inline(always)]
@@ -98,81 +79,6 @@ fn take_in(
     }
 }
 
-/// Sets the timer of the instance at which an event came, as its reaction asks.
-fn set_timer(
-    agenda: &mut Agenda,
-    ask: TimerAsk,
-    system: &System,
-    key: &Key,
-    event: &Event,
-) -> Result<(), AllocError>
-    requires event { IsEventIn system.now key.now.resource event.now }
-    requires due { length agenda.old.due ≡ length (system_of system.now).paths }
-    requires later { IsLater key.now.tick ask }
-    requires named { key.now.resource < length (system_of system.now).resource_names }
-    requires order { IsInOrder system.now key.now.tick agenda.old }
-    ensures set { OnOk result ((j : keys.Key) → meaning system.now agenda.new j ≡ changed_to (takes.timer_change (system_of system.now) key.now.resource (path_of (event_of system.now event.now)) ask j) (meaning system.now agenda.old j)) }
-    ensures order { OnOk result (IsInOrder system.now key.now.tick agenda.new) }
-    ensures due { length agenda.new.due ≡ length agenda.old.due }
-{
-    // Most reactions ask nothing, and then the instance is not looked up.
-    if let TimerAsk::Keep = ask {
-        return Ok(());
-    }
-    system.facts();
-    let instance = instance_of(system, event);
-    agenda.set_timer(key.resource, instance, ask)
-}
-
-/// Sets the timer of the instance at which an event came and posts what was put out, as its reaction asks. Of the outbox
-/// the lines stay, and the room for what is put out.
-fn settle(
-    agenda: &mut Agenda,
-    sent: &mut Vec<u128>,
-    given: &mut Given,
-    locals: &mut u128,
-    system: &System,
-    key: &Key,
-    event: &Event,
-) -> Result<(), AllocError>
-    requires event { IsEventIn system.now key.now.resource event.now }
-    requires due { length agenda.old.due ≡ length (system_of system.now).paths }
-    requires later { IsLater key.now.tick given.old.outbox.timer }
-    requires outs { All (IsPostable (system_of system.now) key.now.resource) given.old.outbox.outs.items }
-    requires room { locals.old < 2 ^ 100 }
-    requires counted { length sent.old.items ≡ (system_of system.now).links }
-    requires early { key.now.tick ≤ 10 ^ 12 }
-    requires named { key.now.resource < length (system_of system.now).resource_names }
-    requires order { IsInOrder system.now key.now.tick agenda.old }
-    requires mail { All (IsMessage system.now) given.old.mail.items }
-    ensures settled { OnOk result ((counts : ℕ → ℕ) → CountsAre sent.old.items counts →
-        IsSettled system.now key.now (path_of (event_of system.now event.now)) given.old.outbox.timer
-        (takes.post_all (system_of system.now) key.now (map (out_of (system_of system.now)) given.old.outbox.outs.items) (record { locals = locals.old; sent = counts; raised = []; messages = [] }))
-        (queues_of agenda.old sent.old given.old) (queues_of agenda.new sent.new given.new) locals.new) }
-    ensures few { OnOk result (locals.new ≤ locals.old + 2 ^ 64) }
-    ensures order { OnOk result (IsInOrder system.now key.now.tick agenda.new) }
-    ensures mail { OnOk result (All (IsMessage system.now) given.new.mail.items) }
-    ensures later { OnOk result (All (λ m. key.now.tick < m.arrives) given.old.mail.items → All (λ m. key.now.tick < m.arrives) given.new.mail.items) }
-    ensures due { OnOk result (length agenda.new.due ≡ length agenda.old.due) }
-    ensures counted { OnOk result (length sent.new.items ≡ length sent.old.items) }
-    ensures lines { OnOk result (given.new.outbox.lines.items ≡ given.old.outbox.lines.items) }
-    ensures none { OnOk result (given.new.outbox.outs.items ≡ []) }
-    ensures keeps { OnOk result (given.new.outbox.timer ≡ Keep) }
-{
-    set_timer(agenda, given.outbox.timer, system, key, event)?;
-    given.outbox.timer = TimerAsk::Keep;
-    let _count = given.outbox.outs.len();
-    post_all(
-        agenda,
-        &mut given.mail,
-        sent,
-        &mut given.outbox.outs,
-        locals,
-        system,
-        key,
-    )
-}
-
 /// Takes an event that has left the agenda, at most `limit` steps in each tick of its resource. `Some` is the reason
 /// for which the resource stops; what was put out before the stop is posted and kept. Messages are put after the
 /// mail, and lines after those in the outbox.
@@ -226,6 +132,14 @@ pub fn take(
     )?;
     system.facts();
     // A reaction that stops posts what it had put out before.
-    settle(agenda, sent, given, &mut counts.locals, system, key, event)?;
+    let mut posting = Posting {
+        system,
+        key,
+        agenda,
+        mail: &mut given.mail,
+        sent,
+        locals: &mut counts.locals,
+    };
+    posting.settle(&mut given.outbox, event)?;
     Ok(stop)
 }

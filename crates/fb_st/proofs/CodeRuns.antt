@@ -1,5 +1,5 @@
 -- Runs of compiled statements and turns, put together from their parts. The layout stays, so all is said of one list of variables.
-use Rattle.std.proofs.Common.{◌≡◌, ℕ, ℤ, suc, ◌+◌, ◌<◌, ◌≤◌, ◌&&◌, rules, Bool, true, false, List, [], ◌∷◌, drop, length, get_or, map, Option, Some, None, Result, Ok, Err, refl, sym, ◌∙◌, ap, subst, arith}
+use Rattle.std.proofs.Common.{◌≡◌, ℕ, ℤ, suc, ◌+◌, ◌<◌, ◌&&◌, rules, Bool, true, false, List, [], ◌∷◌, drop, length, get_or, map, Option, Some, None, Result, Ok, Err, refl, sym, ◌∙◌, ap, subst, arith}
 use Rattle.std.specs.Prelude.{slice_get, slice_set}
 use Rattle.std.proofs.lemmas.Bool.{false≢true}
 use Rattle.fb_types.specs.Names.{with_value}
@@ -21,9 +21,9 @@ use Rattle.fb_st.specs.declared.compiled.CompiledStmt.TheVariants as variants
 use Rattle.fb_st.specs.declared.compiled.CompiledChoice.{CompiledChoice, out-CompiledChoice, fold_out-CompiledChoice}
 use Rattle.fb_st.specs.declared.compiled.CompiledBranch.{CompiledBranch, out-CompiledBranch, fold_out-CompiledBranch}
 use Rattle.fb_st.specs.Compiled.{number_said, truth_said, truth_at, fits_truth, fits_number}
-use Rattle.fb_st.specs.Fitting.{spot, values_at, name_at, all_right, code_said, codes_said, arm_said, arms_said, fork_said, forks_said, expr_of_number, expr_of_truth, value_of_word, kinds_truth, kinds_number, right_truth, right_number, is_long_type, is_within_type, count_right, code_right, codes_right, arm_right, fork_right, forks_right}
+use Rattle.fb_st.specs.Fitting.{spot, values_at, name_at, all_right, code_said, codes_said, arm_said, arms_said, fork_said, forks_said, expr_of_number, expr_of_truth, value_of_word, kinds_truth, kinds_number, right_truth, right_number, is_long_type, is_within_type, count_right, code_right, codes_right, arm_right, forks_right}
 use Rattle.fb_st.proofs.Comes.{both_true, condition_comes}
-use Rattle.fb_st.proofs.Runs.{Leads, cut_at, nothing_left, written}
+use Rattle.fb_st.proofs.Runs.{Leads, cut_at, written}
 use Rattle.fb_st.proofs.Words.{word_written}
 
 -- ---- What is right of each is right of one and of the rest
@@ -44,10 +44,6 @@ pub codes_end : (ds : List Declared) (T : Types) (ss : List CompiledStmt) (i : �
     → After f (RunsAll T (codes_said ds (drop (i + 1) ss))) m f m → RunsAll T (codes_said ds (drop i ss)) p f m
 codes_end ds T ss i s p m f within is run after =
     subst (λ (l : List CompiledStmt). RunsAll T (codes_said ds l) p f m) (sym (cut_at ss i s within is)) (f, m, run, after)
-
-pub codes_over : (ds : List Declared) (T : Types) (ss : List CompiledStmt) (i : ℕ) (p : Point) → length ss ≤ i → RunsAll T (codes_said ds (drop i ss)) p Went p
-codes_over ds T ss i p past =
-    subst (λ (l : List CompiledStmt). RunsAll T (codes_said ds l) p Went p) (sym (nothing_left ss i past)) (refl, refl)
 
 -- ---- What a choice and a branch say
 
@@ -175,11 +171,6 @@ arm_parts ds c right =
     let condition = both_true (fits_truth (length ds) (truth_said (out-CompiledChoice c).condition)) (kinds_truth ds (truth_said (out-CompiledChoice c).condition)) parts.0 in
     (condition.0, condition.1, parts.1)
 
-pub fork_part : (ds : List Declared) (b : CompiledBranch) → fork_right ds b ≡ true → codes_right ds (out-CompiledBranch b).body ≡ true
-fork_part ds b right =
-    let says : fork_right ds b ≡ codes_right ds (out-CompiledBranch b).body = search (rules, fold_out-CompiledBranch) in
-    sym says ∙ right
-
 pub long_right : (ds : List Declared) (i : ℕ) (e : NumberExpr) → code_right ds (variants.AssignLong i e) ≡ (is_long_type (slice_get ds i) && right_number ds (number_said e))
 long_right ds i e = rw (← variants.rolls-AssignLong i e) (rw fold-roll-CompiledStmt refl)
 
@@ -187,6 +178,16 @@ pub for_right : (ds : List Declared) (k : CountExpr) (body : List CompiledStmt) 
 for_right ds k body right =
     let says : code_right ds (variants.For k body) ≡ (count_right ds k && codes_right ds body) = rw (← variants.rolls-For k body) (rw fold-roll-CompiledStmt refl) in
     both_true (count_right ds k) (codes_right ds body) (sym says ∙ right)
+
+pub while_right : (ds : List Declared) (e : TruthExpr) (body : List CompiledStmt) → code_right ds (variants.While e body) ≡ true → (right_truth ds (truth_said e) ≡ true) × (codes_right ds body ≡ true)
+while_right ds e body right =
+    let says : code_right ds (variants.While e body) ≡ (right_truth ds (truth_said e) && codes_right ds body) = rw (← variants.rolls-While e body) (rw fold-roll-CompiledStmt refl) in
+    both_true (right_truth ds (truth_said e)) (codes_right ds body) (sym says ∙ right)
+
+pub repeat_right : (ds : List Declared) (body : List CompiledStmt) (e : TruthExpr) → code_right ds (variants.Repeat body e) ≡ true → (codes_right ds body ≡ true) × (right_truth ds (truth_said e) ≡ true)
+repeat_right ds body e right =
+    let says : code_right ds (variants.Repeat body e) ≡ (codes_right ds body && right_truth ds (truth_said e)) = rw (← variants.rolls-Repeat body e) (rw fold-roll-CompiledStmt refl) in
+    both_true (codes_right ds body) (right_truth ds (truth_said e)) (sym says ∙ right)
 
 -- ---- What is right of a CASE, and of FOR
 
@@ -203,9 +204,15 @@ pub record CountParts (ds : List Declared) (k : CountExpr) : Type 0 where
   pub start : kinds_number ds (number_said k.start) ≡ true
   pub end : kinds_number ds (number_said k.end) ≡ true
   pub step : kinds_number ds (number_said k.step) ≡ true
+  pub start_fits : fits_number (length ds) (number_said k.start) ≡ true
+  pub end_fits : fits_number (length ds) (number_said k.end) ≡ true
+  pub step_fits : fits_number (length ds) (number_said k.step) ≡ true
 
 kinds_part : (ds : List Declared) (e : NumberExpr) → right_number ds (number_said e) ≡ true → kinds_number ds (number_said e) ≡ true
 kinds_part ds e right = (both_true (fits_number (length ds) (number_said e)) (kinds_number ds (number_said e)) right).1
+
+fits_part : (ds : List Declared) (e : NumberExpr) → right_number ds (number_said e) ≡ true → fits_number (length ds) (number_said e) ≡ true
+fits_part ds e right = (both_true (fits_number (length ds) (number_said e)) (kinds_number ds (number_said e)) right).0
 
 pub count_parts : (ds : List Declared) (k : CountExpr) → count_right ds k ≡ true → CountParts ds k
 count_parts ds k right =
@@ -216,7 +223,15 @@ count_parts ds k right =
     let last = both_true (w && a && b) c right in
     let third = both_true (w && a) b last.0 in
     let second = both_true w a third.0 in
-    record { within = second.0; start = kinds_part ds k.start second.1; end = kinds_part ds k.end third.1; step = kinds_part ds k.step last.1 }
+    record {
+      within = second.0;
+      start = kinds_part ds k.start second.1;
+      end = kinds_part ds k.end third.1;
+      step = kinds_part ds k.step last.1;
+      start_fits = fits_part ds k.start second.1;
+      end_fits = fits_part ds k.end third.1;
+      step_fits = fits_part ds k.step last.1;
+    }
 
 pub within_there : (least most : ℤ) (o : Option Declared) → is_within_type least most o ≡ true → (d : Declared) × (o ≡ Some d)
 within_there least most None h = absurd (false≢true h)

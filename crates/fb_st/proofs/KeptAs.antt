@@ -6,12 +6,9 @@ use Rattle.std.proofs.lemmas.Bool.{false≢true, true≢false}
 use Rattle.fb_types.specs.Names.{Name, same_name}
 use Rattle.fb_types.specs.Repeated.{Twice}
 use Rattle.fb_types.specs.Bodies.{End, Running}
-use Rattle.fb_types.specs.Values.{fits}
 use Rattle.fb_types.specs.declared.value.Ty.{Ty}
-use Rattle.fb_types.specs.declared.value.Ty.TheVariants as kind
 use Rattle.fb_types.specs.declared.value.Value.{Value}
-use Rattle.fb_types.specs.declared.value.Value.TheVariants as value
-use Rattle.fb_st.specs.Compiled.{truth_of_word, word_at}
+use Rattle.fb_st.specs.Compiled.{word_at}
 use Rattle.fb_st.specs.Flows.{point}
 use Rattle.fb_st.specs.Frames.{Declared, declared_in, index_of, names_of}
 use Rattle.fb_st.specs.Kept.{all_plain, kept_as, shown}
@@ -62,11 +59,6 @@ kept_declared [] zs len = refl
 kept_declared (k ∷ ks) [] len = absurd (omega arith)
 kept_declared (k ∷ ks) (z ∷ zs) len = ap (λ ds. name_and_type k ∷ ds) (kept_declared ks zs (omega arith))
 
-pub kept_names : (ks : List Kept) (zs : List ℤ) → length zs ≡ length ks → names_of (kept_as ks zs) ≡ map (λ k. k.name) ks
-kept_names [] zs len = refl
-kept_names (k ∷ ks) [] len = absurd (omega arith)
-kept_names (k ∷ ks) (z ∷ zs) len = ap (λ ns. k.name ∷ ns) (kept_names ks zs (omega arith))
-
 none_is : (o : Option Value) → is_none o ≡ true → o ≡ None
 none_is None h = refl
 none_is (Some v) h = absurd (false≢true h)
@@ -88,13 +80,6 @@ pub plain_at : (ks : List Kept) (i : ℕ) (k : Kept) → all_plain ks ≡ true �
 plain_at [] i k h at = absurd cc
 plain_at (j ∷ ks) zero k h at = let same : j ≡ k = cc in ap (λ (x : Kept). x.odd) (sym same) ∙ none_is j.odd (both_true (is_none j.odd) (all_plain ks) h).0
 plain_at (j ∷ ks) (suc i) k h at = plain_at ks i k (both_true (is_none j.odd) (all_plain ks) h).1 at
-
-pub plain_set : (ks : List Kept) (i : ℕ) (k : Kept) → all_plain ks ≡ true → is_none k.odd ≡ true → all_plain (set ks i k) ≡ true
-plain_set [] i k h g = refl
-plain_set (j ∷ ks) zero k h g = both (is_none k.odd) (all_plain ks) g (both_true (is_none j.odd) (all_plain ks) h).1
-plain_set (j ∷ ks) (suc i) k h g =
-    let parts = both_true (is_none j.odd) (all_plain ks) h in
-    both (is_none j.odd) (all_plain (set ks i k)) parts.0 (plain_set ks i k parts.1 g)
 
 pub plain_push : (ks : List Kept) (k : Kept) → all_plain ks ≡ true → is_none k.odd ≡ true → all_plain (ks ++ k ∷ []) ≡ true
 plain_push [] k h g = both (is_none k.odd) true g refl
@@ -153,19 +138,6 @@ set_both ks zs i k s y o v len at is stands =
     kept_set_both ks zs i (record k { odd = o }) y len
     ∙ ap (λ (u : Value). set (kept_as ks zs) i (record { name = k.name; ty = k.ty; value = u })) stands
     ∙ ap (λ (t : Slot). set (kept_as ks zs) i (record t { value = v })) same
-
--- the word of a truth value
-pub truth_word : (t : Ty) (b : Bool) (z : ℤ) → fits t (value.Bool b) ≡ true → truth_of_word z ≡ b → value_of_word t z ≡ value.Bool b
-truth_word kind.Bool b z h is = ap (λ x. value.Bool x) is
-truth_word kind.Sint b z h is = absurd (false≢true h)
-truth_word kind.Int b z h is = absurd (false≢true h)
-truth_word kind.Dint b z h is = absurd (false≢true h)
-truth_word kind.Lint b z h is = absurd (false≢true h)
-truth_word kind.Usint b z h is = absurd (false≢true h)
-truth_word kind.Uint b z h is = absurd (false≢true h)
-truth_word kind.Udint b z h is = absurd (false≢true h)
-truth_word kind.Ulint b z h is = absurd (false≢true h)
-truth_word kind.Time b z h is = absurd (false≢true h)
 
 -- ---- All by words
 

@@ -8,7 +8,6 @@ use Rattle.fb_types.specs.Values.{function_named}
 use Rattle.fb_types.specs.declared.function.Function.{Function}
 use Rattle.fb_types.specs.declared.function.Function.TheVariants as function
 use Rattle.fb_types.specs.declared.text.BinaryOperator.{BinaryOperator}
-use Rattle.fb_types.specs.declared.text.UnaryOperator.TheVariants as unary
 use Rattle.fb_types.proofs.NameLaws.{same_from_same_name}
 use Rattle.fb_st.specs.Required.{gives_number}
 use Rattle.fb_st.specs.Frames.{Declared}
@@ -16,7 +15,7 @@ use Rattle.fb_st.specs.declared.compiled.NumberExpr.{NumberExpr, fold-roll-Numbe
 use Rattle.fb_st.specs.declared.compiled.NumberExpr.TheVariants as number
 use Rattle.fb_st.specs.declared.compiled.TruthExpr.{TruthExpr, fold-roll-TruthExpr}
 use Rattle.fb_st.specs.declared.compiled.TruthExpr.TheVariants as truth
-use Rattle.fb_st.specs.Compiled.{Number, Constant, Slot, UnsignedSlot, Binary, Negated, Magnitude, Lesser, Larger, Limited, Chosen, Truth, Known, TruthSlot, Compared, Joined, Not, TruthChosen, number_said, truth_said, fits_number, fits_truth, is_comparison, is_joint}
+use Rattle.fb_st.specs.Compiled.{Number, Constant, Slot, UnsignedSlot, Binary, Magnitude, Lesser, Larger, Chosen, Truth, Known, TruthSlot, Compared, Joined, TruthChosen, number_said, truth_said, fits_number, fits_truth, is_comparison, is_joint}
 use Rattle.fb_st.specs.Fitting.{name_at, ty_at, ty_or, expr_of_number, expr_of_truth, kinds_number, kinds_truth, right_number, right_truth, is_plain, is_plain_type, is_unsigned, is_unsigned_type, is_truth, is_truth_type}
 use Rattle.fb_st.specs.Made.{SaysNumber, SaysTruth, call_of_one, call_of_two, call_of_three}
 use Rattle.fb_st.proofs.Comes.{both_true}
@@ -66,24 +65,6 @@ least_right : (ds : List Declared) (x y : Number) → right_number ds x ≡ true
 least_right ds x y h k =
     let p = two_right ds x y h k in
     both (fits_number (length ds) x && fits_number (length ds) y) (kinds_number ds x && kinds_number ds y) p.0 (both (kinds_number ds x) (kinds_number ds y) p.1 p.2)
-
-limited_right : (ds : List Declared) (x y z : Number) → right_number ds x ≡ true → right_number ds y ≡ true → right_number ds z ≡ true → right_number ds (Limited x y z) ≡ true
-limited_right ds x y z h k l =
-    let a = number_parts ds x h in
-    let b = number_parts ds y k in
-    let c = number_parts ds z l in
-    both (fits_number (length ds) x && fits_number (length ds) y && fits_number (length ds) z) (kinds_number ds x && kinds_number ds y && kinds_number ds z)
-    (all_three (fits_number (length ds) x) (fits_number (length ds) y) (fits_number (length ds) z) a.0 b.0 c.0)
-    (all_three (kinds_number ds x) (kinds_number ds y) (kinds_number ds z) a.1 b.1 c.1)
-
-chosen_right : (ds : List Declared) (x : Truth) (y z : Number) → right_truth ds x ≡ true → right_number ds y ≡ true → right_number ds z ≡ true → right_number ds (Chosen x y z) ≡ true
-chosen_right ds x y z h k l =
-    let a = truth_parts ds x h in
-    let b = number_parts ds y k in
-    let c = number_parts ds z l in
-    both (fits_truth (length ds) x && fits_number (length ds) y && fits_number (length ds) z) (kinds_truth ds x && kinds_number ds y && kinds_number ds z)
-    (all_three (fits_truth (length ds) x) (fits_number (length ds) y) (fits_number (length ds) z) a.0 b.0 c.0)
-    (all_three (kinds_truth ds x) (kinds_number ds y) (kinds_number ds z) a.1 b.1 c.1)
 
 picked_right : (ds : List Declared) (x y z : Truth) → right_truth ds x ≡ true → right_truth ds y ≡ true → right_truth ds z ≡ true → right_truth ds (TruthChosen x y z) ≡ true
 picked_right ds x y z h k l =
@@ -170,24 +151,6 @@ joined_says ds o e f c l r g is a b = record {
   says = ap (expr_of_truth ds) is ∙ (λ i. two_exprs o (a.says i) (b.says i));
 }
 
-negated_said : (n : NumberExpr) → number_said (number.Negated n) ≡ Negated (number_said n)
-negated_said n = rw (← number.rolls-Negated n) (rw fold-roll-NumberExpr refl)
-
-pub negated_says : (ds : List Declared) (e : syntax.Expr) (n : NumberExpr) → SaysNumber ds e n → SaysNumber ds (syntax.Unary unary.Negate e) (number.Negated n)
-negated_says ds e n a = record {
-  right = ap (right_number ds) (negated_said n) ∙ a.right;
-  says = ap (expr_of_number ds) (negated_said n) ∙ ap (λ x. syntax.Unary unary.Negate x) a.says;
-}
-
-not_said : (c : TruthExpr) → truth_said (truth.Not c) ≡ Not (truth_said c)
-not_said c = rw (← truth.rolls-Not c) (rw fold-roll-TruthExpr refl)
-
-pub not_says : (ds : List Declared) (e : syntax.Expr) (c : TruthExpr) → SaysTruth ds e c → SaysTruth ds (syntax.Unary unary.Not e) (truth.Not c)
-not_says ds e c a = record {
-  right = ap (right_truth ds) (not_said c) ∙ a.right;
-  says = ap (expr_of_truth ds) (not_said c) ∙ ap (λ x. syntax.Unary unary.Not x) a.says;
-}
-
 -- ---- Functions by their names
 
 abbrev pick : Bool → Bool → Bool → Bool → Bool → Option Function
@@ -263,9 +226,6 @@ module _ (n : Name) where
   named_abs : function_named n ≡ Some function.Abs → codes "ABS" ≡ n
   named_abs h = sym (same_from_same_name n (codes "ABS") (picked_abs (is (codes "MIN")) (is (codes "MAX")) (is (codes "ABS")) (is (codes "LIMIT")) (is (codes "SEL")) (by_tests function.Abs h)))
 
-  named_limit : function_named n ≡ Some function.Limit → codes "LIMIT" ≡ n
-  named_limit h = sym (same_from_same_name n (codes "LIMIT") (picked_limit (is (codes "MIN")) (is (codes "MAX")) (is (codes "ABS")) (is (codes "LIMIT")) (is (codes "SEL")) (by_tests function.Limit h)))
-
   named_sel : function_named n ≡ Some function.Sel → codes "SEL" ≡ n
   named_sel h = sym (same_from_same_name n (codes "SEL") (picked_sel (is (codes "MIN")) (is (codes "MAX")) (is (codes "ABS")) (is (codes "LIMIT")) (is (codes "SEL")) (by_tests function.Sel h)))
 
@@ -279,12 +239,6 @@ lesser_said n m = rw (← number.rolls-Lesser n m) (rw fold-roll-NumberExpr refl
 
 greater_said : (n m : NumberExpr) → number_said (number.Greater n m) ≡ Larger (number_said n) (number_said m)
 greater_said n m = rw (← number.rolls-Greater n m) (rw fold-roll-NumberExpr refl)
-
-limited_said : (n m k : NumberExpr) → number_said (number.Limited n m k) ≡ Limited (number_said n) (number_said m) (number_said k)
-limited_said n m k = rw (← number.rolls-Limited n m k) (rw fold-roll-NumberExpr refl)
-
-chosen_said : (c : TruthExpr) (n m : NumberExpr) → number_said (number.Chosen c n m) ≡ Chosen (truth_said c) (number_said n) (number_said m)
-chosen_said c n m = rw (← number.rolls-Chosen c n m) (rw fold-roll-NumberExpr refl)
 
 picked_said : (c d e : TruthExpr) → truth_said (truth.Picked c d e) ≡ TruthChosen (truth_said c) (truth_said d) (truth_said e)
 picked_said c d e = rw (← truth.rolls-Picked c d e) (rw fold-roll-TruthExpr refl)
@@ -305,20 +259,6 @@ pub greater_says : (ds : List Declared) (f : Name) (d e : syntax.Expr) (n m : Nu
 greater_says ds f d e n m named a b = record {
   right = ap (right_number ds) (greater_said n m) ∙ least_right ds (number_said n) (number_said m) a.right b.right;
   says = ap (expr_of_number ds) (greater_said n m) ∙ (λ i. call_of_two (named_max f named i) (a.says i) (b.says i));
-}
-
-pub limited_says : (ds : List Declared) (f : Name) (d e g : syntax.Expr) (n m k : NumberExpr) → function_named f ≡ Some function.Limit → SaysNumber ds d n → SaysNumber ds e m → SaysNumber ds g k
-    → SaysNumber ds (call_of_three f d e g) (number.Limited n m k)
-limited_says ds f d e g n m k named a b c = record {
-  right = ap (right_number ds) (limited_said n m k) ∙ limited_right ds (number_said n) (number_said m) (number_said k) a.right b.right c.right;
-  says = ap (expr_of_number ds) (limited_said n m k) ∙ (λ i. call_of_three (named_limit f named i) (a.says i) (b.says i) (c.says i));
-}
-
-pub chosen_says : (ds : List Declared) (f : Name) (d e g : syntax.Expr) (n : TruthExpr) (m k : NumberExpr) → function_named f ≡ Some function.Sel → SaysTruth ds d n → SaysNumber ds e m → SaysNumber ds g k
-    → SaysNumber ds (call_of_three f d e g) (number.Chosen n m k)
-chosen_says ds f d e g n m k named a b c = record {
-  right = ap (right_number ds) (chosen_said n m k) ∙ chosen_right ds (truth_said n) (number_said m) (number_said k) a.right b.right c.right;
-  says = ap (expr_of_number ds) (chosen_said n m k) ∙ (λ i. call_of_three (named_sel f named i) (a.says i) (b.says i) (c.says i));
 }
 
 pub picked_says : (ds : List Declared) (f : Name) (d e g : syntax.Expr) (n m k : TruthExpr) → function_named f ≡ Some function.Sel → SaysTruth ds d n → SaysTruth ds e m → SaysTruth ds g k

@@ -164,26 +164,6 @@ repeat_made ds e body x codes s t =
       says = repeat_says ds codes x ∙ (λ j. syntax.Repeat (syntax.stmts (t.says j)) (s.says j));
     }
 
--- ---- Statements without parts
-
-pub empty_made : (ds : List Declared) → SaysStmt ds syntax.Empty variants.Empty
-empty_made ds = record {
-  right = rw (← variants.rolls-Empty) (rw fold-roll-CompiledStmt refl);
-  says = rw (← variants.rolls-Empty) (rw fold-roll-CompiledStmt refl);
-}
-
-pub exit_made : (ds : List Declared) → SaysStmt ds syntax.Exit variants.Exit
-exit_made ds = record {
-  right = rw (← variants.rolls-Exit) (rw fold-roll-CompiledStmt refl);
-  says = rw (← variants.rolls-Exit) (rw fold-roll-CompiledStmt refl);
-}
-
-pub return_made : (ds : List Declared) → SaysStmt ds syntax.Return variants.Return
-return_made ds = record {
-  right = rw (← variants.rolls-Return) (rw fold-roll-CompiledStmt refl);
-  says = rw (← variants.rolls-Return) (rw fold-roll-CompiledStmt refl);
-}
-
 -- ---- A choice and a branch
 
 pub arm_made : (ds : List Declared) (arm : CompiledChoice) (e : syntax.Expr) (body : List syntax.Stmt) → SaysTruth ds e (out-CompiledChoice arm).condition → SaysAll ds body (out-CompiledChoice arm).body

@@ -3,8 +3,9 @@ use Rattle.std.proofs.Common.{◌≡◌, ◌<◌, ◌≤◌, ℕ, List, length, 
 use denote.Param.Weighed.{most, at_most}
 use Rattle.fb_st.specs.declared.compiled.CountExpr.{CountExpr}
 use Rattle.fb_st.specs.declared.compiled.CompiledStmt.{CompiledStmt}
+use Rattle.fb_st.specs.declared.compiled.TruthExpr.{TruthExpr}
 use Rattle.fb_st.specs.declared.compiled.CompiledStmt.TheVariants as variants
-use Rattle.fb_st.specs.declared.compiled.CompiledStmt.TheViews.{size_is-CompiledChoice, sized-For}
+use Rattle.fb_st.specs.declared.compiled.CompiledStmt.TheViews.{size_is-CompiledChoice, sized-For, sized-Repeat, sized-While}
 use Rattle.fb_st.specs.declared.compiled.CompiledChoice.{CompiledChoice, out-CompiledChoice}
 use Rattle.fb_st.proofs.compiled.CompiledStmt.TheLaws as stmt
 use Rattle.fb_st.proofs.compiled.CompiledChoice.TheLaws as choice
@@ -33,6 +34,26 @@ for_size k body = search (rules, sized-For)
 pub body_of_for_size : (s : CompiledStmt) (k : CountExpr) (body same : List CompiledStmt) → s ≡ variants.For k body → same ≡ body → most stmt.the_size same < stmt.the_size s
 body_of_for_size s k body same is body_is =
     let inside = for_size k body in
+    let statement = ap stmt.the_size is in
+    let whole = ap (most stmt.the_size) body_is in
+    omega arith
+
+while_size : (e : TruthExpr) (body : List CompiledStmt) → most stmt.the_size body < stmt.the_size (variants.While e body)
+while_size e body = search (rules, sized-While)
+
+repeat_size : (body : List CompiledStmt) (e : TruthExpr) → most stmt.the_size body < stmt.the_size (variants.Repeat body e)
+repeat_size body e = search (rules, sized-Repeat)
+
+pub body_of_while_size : (s : CompiledStmt) (e : TruthExpr) (body same : List CompiledStmt) → s ≡ variants.While e body → same ≡ body → most stmt.the_size same < stmt.the_size s
+body_of_while_size s e body same is body_is =
+    let inside = while_size e body in
+    let statement = ap stmt.the_size is in
+    let whole = ap (most stmt.the_size) body_is in
+    omega arith
+
+pub body_of_repeat_size : (s : CompiledStmt) (e : TruthExpr) (body same : List CompiledStmt) → s ≡ variants.Repeat body e → same ≡ body → most stmt.the_size same < stmt.the_size s
+body_of_repeat_size s e body same is body_is =
+    let inside = repeat_size body e in
     let statement = ap stmt.the_size is in
     let whole = ap (most stmt.the_size) body_is in
     omega arith

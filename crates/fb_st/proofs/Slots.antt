@@ -5,7 +5,6 @@ use Rattle.std.specs.Prelude.{slice_get, option_map, option_and_then}
 use Rattle.std.proofs.lemmas.Bool.{true≢false}
 use Rattle.std.proofs.lemmas.List.Quantifiers.{position-Some}
 use Rattle.std.proofs.lemmas.Option.{slice_get_read}
-use Rattle.std.proofs.Math.Seq.{map-set_same}
 use Rattle.fb_types.specs.Names.{Name, same_name, with_value}
 use Rattle.fb_types.specs.Blocks.{named}
 use Rattle.fb_types.specs.Repeated.{Twice}
@@ -125,21 +124,9 @@ written slots n i s v at is = fun_ext (λ m. set_at slots n m i s v at is)
 
 -- ---- A write, as the fields of a frame see it
 
-pub declared_same : (slots : List Slot) (i : ℕ) (s : Slot) (v : Value) → i < length slots → s ≡ get_or slots i s
-    → declared_in (set slots i (record s { value = v })) ≡ declared_in slots
-declared_same slots i s v within is = map-set_same (λ t. (t.name, t.ty)) slots i (record s { value = v }) s (ap (λ t. (t.name, t.ty)) is)
-
-pub names_same : (slots : List Slot) (i : ℕ) (s : Slot) (v : Value) → i < length slots → s ≡ get_or slots i s
-    → names_of (set slots i (record s { value = v })) ≡ names_of slots
-names_same slots i s v within is = map-set_same (λ t. t.name) slots i (record s { value = v }) s (ap (λ t. t.name) is)
-
 pub index_within : (slots : List Slot) (n : Name) (i : ℕ) → index_of n slots ≡ Some i → i < length slots
 index_within [] n i at = absurd (cc)
 index_within (s ∷ slots) n i at = (position-Some (λ t. same_name n t.name) (s ∷ slots) i s at).0
-
--- what was read of the fields was read of the frame
-pub read_at : (slots : List Slot) (n : Name) (i : ℕ) (s : Slot) → index_of n slots ≡ Some i → s ≡ get_or slots i s → slice_get slots i ≡ Some s
-read_at slots n i s at is = slice_get_read slots (length slots) i s refl (index_within slots n i at) is
 
 -- ---- The same, where the variable at the index is known
 

@@ -1,5 +1,7 @@
 -- What a refusal is about, by its number (this project's own).
 use Rattle.std.specs.Prelude.{◌≡◌, ◌≢◌, ◌≤◌, ℕ}
+use Rattle.fb_check.specs.Faults.{number_of}
+use Rattle.fb_check.specs.declared.fault.Fault.TheVariants as fault
 use Rattle.fb_why.specs.declared.cause.Cause.{Cause}
 use Rattle.fb_why.specs.declared.cause.Cause.TheVariants as cause
 use Rattle.fb_why.specs.declared.cause.Excess.{Excess}
@@ -8,19 +10,19 @@ use Rattle.fb_why.specs.declared.cause.Flaw.{Flaw}
 use Rattle.fb_why.specs.declared.cause.Flaw.TheVariants as flaw
 
 abbrev pub flaw_number : Flaw → ℕ
-flaw_number flaw.Twice = 20
-flaw_number flaw.Unknown = 21
-flaw_number flaw.Misfit = 22
-flaw_number flaw.Misjoin = 23
-flaw_number flaw.Joined = 24
-flaw_number flaw.TooHigh = 25
-flaw_number flaw.Unmapped = 26
-flaw_number flaw.Unlinked = 27
-flaw_number flaw.Unserved = 28
+flaw_number flaw.Twice = number_of fault.NameTwice
+flaw_number flaw.Unknown = number_of fault.NameUnknown
+flaw_number flaw.Misfit = number_of fault.KindWrong
+flaw_number flaw.Misjoin = number_of fault.OutOfRange
+flaw_number flaw.Joined = number_of fault.TwoSources
+flaw_number flaw.TooHigh = number_of fault.TooHigh
+flaw_number flaw.Unmapped = number_of fault.NotMapped
+flaw_number flaw.Unlinked = number_of fault.NoLink
+flaw_number flaw.Unserved = number_of fault.NoEvent
 
 abbrev pub excess_number : Excess → ℕ
-excess_number excess.Stimulus = 29
-excess_number excess.Limit = 30
+excess_number excess.Stimulus = number_of fault.BadStimulus
+excess_number excess.Limit = number_of fault.OverLimit
 
 abbrev pub IsOfText : ℕ → Type 0
 IsOfText n = (1 ≤ n) × (n ≤ 5)

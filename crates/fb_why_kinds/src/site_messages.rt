@@ -6,14 +6,14 @@ use crate::words::Text;
 use fb_types::{BasicType, BlockType, Instance, Library, Transition};
 
 /// Adds words for a block type.
-pub(crate) fn push_block(text: &mut Text, library: &Library, block: usize) {
+pub fn push_block(text: &mut Text, library: &Library, block: usize) {
     if let Some(block) = library.blocks.get(block) {
         text.named("block type ", block.type_name());
     }
 }
 
 /// Adds words for a block type, and returns it if it is a basic one.
-pub(crate) fn push_basic<'a>(
+pub fn push_basic<'a>(
     text: &mut Text,
     library: &'a Library,
     block: usize,
@@ -26,7 +26,7 @@ pub(crate) fn push_basic<'a>(
 }
 
 /// Adds words for the network of a site.
-pub(crate) fn push_site(text: &mut Text, library: &Library, site: Site) {
+pub fn push_site(text: &mut Text, library: &Library, site: Site) {
     match site {
         Site::Application => text.named("application ", &library.application.name),
         Site::Inside(block) => push_block(text, library, block),
@@ -51,12 +51,12 @@ pub(crate) fn scope_of(library: &Library, site: Site) -> Option<LocatedNetwork> 
 }
 
 /// An instance of the network of a site.
-pub(crate) fn instance_of(library: &Library, site: Site, instance: usize) -> Option<&Instance> {
+pub fn instance_of(library: &Library, site: Site, instance: usize) -> Option<&Instance> {
     scope_of(library, site)?.network.instances.get(instance)
 }
 
 /// Adds words for a transition.
-pub(crate) fn push_transition(text: &mut Text, transition: &Transition) {
+pub fn push_transition(text: &mut Text, transition: &Transition) {
     text.named(": transition ", &transition.from);
     text.named(" TO ", &transition.to);
 }

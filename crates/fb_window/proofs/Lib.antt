@@ -17,6 +17,7 @@ pub mod Sends
 pub mod Single
 pub mod Walking
 pub mod Walked
+pub mod Turned
 pub mod Noting
 pub mod LinkLemmas
 pub mod Within

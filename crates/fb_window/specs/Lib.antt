@@ -11,3 +11,4 @@ pub mod Settling
 pub mod Reached
 pub mod Walking
 pub mod Noting
+pub mod Turning

@@ -1,6 +1,7 @@
 -- How failures are reported, and the status of each end (this project's own).
 use Rattle.std.specs.Prelude.{◌/◌, ◌%◌, ◌<◌, ℕ, List, [], ◌++◌, length, take, Option, Some, None, Result, Ok, Err, codes, decimal, string_bytes}
 use Rattle.std.specs.Io.KnownBytes.{Appends}
+use Rattle.fb_read.specs.Errors.{number_of as read_number}
 use Rattle.fb_read.specs.declared.error.ReadError.{ReadError}
 use Rattle.fb_read.specs.declared.error.ReadError.TheVariants as read
 use Rattle.fb_expect.specs.Refusals as rules
@@ -26,18 +27,19 @@ use Rattle.fbsim_command.specs.declared.statuses.Done.TheVariants.{Helped, Expla
 
 -- ---- Failures
 
-abbrev pub failure_of_read : ReadError → Failure
-failure_of_read read.Memory = Memory
-failure_of_read read.Byte = Refused (Numbered 1)
-failure_of_read read.Token = Refused (Numbered 2)
-failure_of_read (read.Syntax line) = Refused (Syntax line)
-failure_of_read read.TooLong = Refused (Numbered 4)
-failure_of_read read.Nesting = Refused (Numbered 5)
-
 -- a refusal with this number; without one, out of memory
 abbrev pub numbered_input : Option ℕ → Failure
 numbered_input (Some n) = Refused (Numbered n)
 numbered_input None = Memory
+
+-- a syntax fault is reported with its line, any other refusal by its number
+abbrev pub failure_of_read : ReadError → Failure
+failure_of_read read.Memory = numbered_input (read_number read.Memory)
+failure_of_read read.Byte = numbered_input (read_number read.Byte)
+failure_of_read read.Token = numbered_input (read_number read.Token)
+failure_of_read (read.Syntax line) = Refused (Syntax line)
+failure_of_read read.TooLong = numbered_input (read_number read.TooLong)
+failure_of_read read.Nesting = numbered_input (read_number read.Nesting)
 
 abbrev pub failure_of_input : InputError → Failure
 failure_of_input e = numbered_input (input.number_of e)

@@ -17,8 +17,8 @@ use crate::sources::{Source, Streams};
 use crate::statuses::Done;
 use crate::texts::{Texts, Unread, lines_in, read_files};
 use fb_expect::{
-    Cut, Judged, Of, Rule, TraceError, are_well, difference_text, judge, part, plan, put_points,
-    read_rules,
+    Cut, Judged, Of, Rule, TraceError, UNKNOWN_NAME, are_well, difference_text, judge, part, plan,
+    put_points, read_rules,
 };
 use fb_sim::{Inputs, discard, open};
 use fb_types::Items;
@@ -27,9 +27,6 @@ use std::io::{BufRead, Write};
 
 /// One byte more than rules may have, so that some that are too long show.
 const RULES_BYTES: usize = 1_048_577;
-
-/// The number of the refusal of rules that name what a declaration does not have.
-pub(crate) const UNKNOWN: u8 = 45;
 
 /// The call that checks the declaration in which the names of the rules must be.
 pub(crate) fn files_of<'a>(expect: &Expect<'a>, declaration: &'a str) -> Task<'a>
@@ -212,7 +209,7 @@ fn check_names(alloc: Global, inputs: &Inputs<'_>, rules: &[Rule]) -> Result<(),
     // Dropped by one call: the end of its scope would prove the drop part by part.
     discard(system);
     if !known? {
-        return Err(Failure::Refused(RefusalLine::Numbered(UNKNOWN)));
+        return Err(Failure::Refused(RefusalLine::Numbered(UNKNOWN_NAME)));
     }
     Ok(())
 }

@@ -55,12 +55,11 @@ impl From<ReadError> for Failure {
 
     fn from(error: ReadError) -> Failure {
         match error {
-            ReadError::Memory => Failure::Memory,
-            ReadError::Byte => Failure::Refused(RefusalLine::Numbered(1)),
-            ReadError::Token => Failure::Refused(RefusalLine::Numbered(2)),
             ReadError::Syntax { line } => Failure::Refused(RefusalLine::Syntax(line)),
-            ReadError::TooLong => Failure::Refused(RefusalLine::Numbered(4)),
-            ReadError::Nesting => Failure::Refused(RefusalLine::Numbered(5)),
+            _ => match error.number() {
+                Some(number) => Failure::Refused(RefusalLine::Numbered(number)),
+                None => Failure::Memory,
+            },
         }
     }
 }

@@ -10,14 +10,14 @@ ghost use Rattle.fbsim_command.specs.Notes.{IsNoteOfNumber, Notes};
 ghost use Rattle.fbsim_command.specs.Texts.{given_of, lines_of, may_lines_of};
 
 use crate::bench_line::Expect;
-use crate::expect::{UNKNOWN, files_of, own_name};
+use crate::expect::{files_of, own_name};
 use crate::failure::Failure;
 use crate::known::unknown_place;
 use crate::notes::{note_of_file, note_of_name, note_of_number, number_of};
 use crate::sources::SourceFault;
 use crate::statuses::Done;
 use crate::texts::{Texts, Unread};
-use fb_expect::{Rule, RuleKey, read_rules, rules_place};
+use fb_expect::{Rule, RuleKey, UNKNOWN_NAME, read_rules, rules_place};
 use fb_sim::{discard, open};
 use fb_why_bytes::{rules_message, unknown_key_message};
 use std::alloc::Global;
@@ -121,7 +121,7 @@ fn note_at(
     ensures { IfSome result (λ note. IsNoteAt expect.now bytes.now (may_lines_of declared.now) (option_map given_of declared.now) number (string_bytes note)) }
 {
     if let Some(texts) = declared {
-        if number == UNKNOWN {
+        if number == UNKNOWN_NAME {
             return note_of_unknown(alloc, bytes, texts);
         }
         if number < FIRST_OF_RULES {

@@ -1,14 +1,18 @@
-use Rattle.std.proofs.Common.{Some, All, refl, sym, ap, subst, ◌∙◌, arith}
+use Rattle.std.proofs.Common.{rules, ◌≡◌, ℕ, Some, All, refl, sym, ap, subst, ◌∙◌, arith}
+use Rattle.std.specs.Global.{Vec}
 use Rattle.fb_types.specs.Headline.{system_of}
 use Rattle.fb_system.specs.Lines.{BelongsTo}
 use Rattle.fb_types.specs.Takes.{begun, world_of}
+use Rattle.fb_agenda.specs.Agendas.{Contents}
 use Rattle.fb_net.specs.Outs.{IsOut}
 use Rattle.fb_net.specs.Events.{IsEventIn, event_of}
 use Rattle.fb_laws.proofs.Accepted.{accepted_typed}
 use Rattle.fb_types.specs.declared.value.Reason.TheVariants.{Steps}
 use Rattle.fb_resource.specs.Counts.{IsMetered, before_step, meter_of}
-use Rattle.fb_resource.specs.Takings.{IsTakenHere, queues_of}
+use Rattle.fb_resource.specs.Takings.{AreReady, IsTakenHere, Queues, queues_of}
+use Rattle.fb_resource.specs.declared.given.Given.{Given}
 use Rattle.fb_resource.specs.declared.tick_counts.TickCounts.{TickCounts}
+use Rattle.fb_resource.proofs.Posted.{ready_again}
 use Rattle.fb_resource.proofs.ReadyIs.{came_good, metered_after}
 use Rattle.fb_resource.proofs.TakenIs.{taken_none, taken_one}
 use Rattle.fb_resource.proofs.one_taking.take.Goals as goal
@@ -57,35 +61,45 @@ settle-requires-clause-outs c =
     (came_good i k c.args.event.now _ _ _ c.take_in.new.tree c.take_in.new.outbox _ w c.facts.ensures.accepted c.facts.ensures.limits c.requires.event.here (represents.1.typed k.resource) c.requires.typed
     (c.in_ok-stop.ensures.came w represents.1.blocks) (subst (λ n. All (IsOut (system_of i) n) c.take_in.new.outbox.outs.items) here c.in_ok-stop.ensures.outs.outs)).0
 
+pub settle-requires-clause-may : goal.settle-requires-clause-may
+settle-requires-clause-may c =
+    let had = c.requires.queues in
+    record { order = had.order; due = had.due; counted = had.counted; mail = had.mail }
+
 pub returns-clause-taken : goal.returns-clause-taken
 returns-clause-taken c s from le here counts =
     let i = c.args.system.now in
     let k = c.args.key.now in
-    taken_one i c.args.limit s k c.args.event.now (before_step c.step.new.self) _ _ _ (queues_of c.args.agenda.now c.args.sent.now c.args.given.now) _ _ from c.args.tree.now c.args.counts.now c.take_in.new.tree c.take_in.new.outbox
+    let old = queues_of c.args.agenda.now c.args.sent.now c.args.given.now in
+    let given : Given = record { mail = c.settle.new.self.mail.now; outbox = c.settle.new.outbox } in
+    let agenda : c.settle.new.self.agenda.now ≡ c.agenda-1.given.0 = search rules in
+    let sent : c.settle.new.self.sent.now ≡ c.sent-1.given.0 = search rules in
+    let new = ap (λ (a : Contents). queues_of a c.settle.new.self.sent.now given) agenda ∙ ap (λ (v : Vec ℕ). queues_of c.agenda-1.given.0 v given) sent in
+    subst (λ (q : Queues). IsTakenHere i c.args.limit s k (event_of i c.args.event.now) c.in_ok-stop.stop from c.take_in.new.tree
+    (record { tick = c.step.new.self.tick; left = c.take_in.new.left; locals = c.settle.new.self.locals.now }) old q) new
+    (taken_one i c.args.limit s k c.args.event.now (before_step c.step.new.self) _ _ _ old _ _ from c.args.tree.now c.args.counts.now c.take_in.new.tree c.take_in.new.outbox
     (accepted_typed i c.facts.ensures.accepted).system c.requires.typed
     here counts (here.meter c.args.limit k.tick le ∙ sym c.if-not-step.ensures.used) refl
-    (c.in_ok-stop.ensures.came (world_of s k.resource) here.blocks) refl c.in_ok-settle.ensures.settled c.if-not-step.ensures.tick c.in_ok-settle.ensures.lines
+    (c.in_ok-stop.ensures.came (world_of s k.resource) here.blocks) refl c.in_ok-settle.ensures.settled c.if-not-step.ensures.tick c.in_ok-settle.ensures.emptied.lines)
 
 pub returns-clause-queues : goal.returns-clause-queues
 returns-clause-queues c =
-    let ok = c.in_ok-settle.ensures in
-    let had = c.requires.queues in
-    record {
-      order = ok.order;
-      due = ok.due ∙ had.due;
-      counted = ok.counted ∙ had.counted;
-      mail = ok.mail;
-      lines = subst (All (BelongsTo (system_of c.args.system.now))) (sym ok.lines) c.in_ok-stop.ensures.outs.lines;
-      none = ok.none;
-      keeps = ok.keeps;
-    }
+    let i = c.args.system.now in
+    let emptied = c.in_ok-settle.ensures.emptied in
+    let given : Given = record { mail = c.settle.new.self.mail.now; outbox = c.settle.new.outbox } in
+    let agenda : c.settle.new.self.agenda.now ≡ c.agenda-1.given.0 = search rules in
+    let sent : c.settle.new.self.sent.now ≡ c.sent-1.given.0 = search rules in
+    let new = ap (λ (a : Contents). queues_of a c.settle.new.self.sent.now given) agenda ∙ ap (λ (v : Vec ℕ). queues_of c.agenda-1.given.0 v given) sent in
+    subst (λ (q : Queues). AreReady i c.args.key.now.tick q) new
+    (ready_again _ c.settle.new.self c.settle.new.outbox c.settle.ensures.same c.in_ok-settle.ensures.grown.may
+    (subst (All (BelongsTo (system_of i))) (sym emptied.lines) c.in_ok-stop.ensures.outs.lines) emptied.none emptied.keeps)
 
 pub returns-clause-later : goal.returns-clause-later
-returns-clause-later c = c.in_ok-settle.ensures.later
+returns-clause-later c = c.in_ok-settle.ensures.grown.later
 
 pub returns-clause-counts : goal.returns-clause-counts
 returns-clause-counts c =
-    metered_after c.args.limit (before_step c.step.new.self) _ _ c.if-not-step.ensures.metered refl c.in_ok-stop.ensures.fewer c.in_ok-settle.ensures.few
+    metered_after c.args.limit (before_step c.step.new.self) _ _ c.if-not-step.ensures.metered refl c.in_ok-stop.ensures.fewer c.in_ok-settle.ensures.grown.few
 
 pub returns-clause-spent : goal.returns-clause-spent
 returns-clause-spent c going =

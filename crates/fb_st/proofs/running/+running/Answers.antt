@@ -19,10 +19,11 @@ use Rattle.fb_st.specs.Frames.{types_in}
 use Rattle.fb_st.specs.Flows.{end_of}
 use Rattle.fb_st.specs.Compiled.{number_said, truth_said, fits_truth, fits_number}
 use Rattle.fb_st.specs.Fitting.{spot, begun, values_at, name_at, expr_of_number, expr_of_truth, code_said, codes_said, arms_said, forks_said, code_right, codes_right, count_right, arm_right, fork_right, kinds_truth, kinds_number, ty_or, value_of_word}
+use Rattle.fb_st.proofs.Assigning.{within_slot_there}
 use Rattle.fb_st.proofs.Comes.{both_true, condition_comes, number_comes}
-use Rattle.fb_st.proofs.Sizes.{statement_size, body_of_arm_size, body_of_for_size}
+use Rattle.fb_st.proofs.Sizes.{statement_size, body_of_arm_size, body_of_for_size, body_of_repeat_size, body_of_while_size}
 use Rattle.fb_st.proofs.Words.{word_type}
-use Rattle.fb_st.proofs.CodeRuns.{one_right, codes_go_on, codes_end, codes_as, ends_here, one_code, long_right, long_says, within_says, truth_says, if_says, case_says, for_says, while_says, repeat_says, case_part, case_stops, count_parts, within_there, counted, for_no_start, for_no_end, for_no_step, first_set, first_read, arm_parts, for_right, arm_holds, arm_ran, arm_taken, arm_passed, arm_stops, fork_fits, fork_ran, fork_taken, fork_passed}
+use Rattle.fb_st.proofs.CodeRuns.{one_right, codes_go_on, codes_end, codes_as, ends_here, one_code, long_right, long_says, within_says, truth_says, if_says, case_says, for_says, while_says, repeat_says, case_part, case_stops, count_parts, within_there, counted, for_no_start, for_no_end, for_no_step, first_set, first_read, arm_parts, for_right, while_right, repeat_right, arm_holds, arm_ran, arm_taken, arm_passed, arm_stops, fork_fits, fork_ran, fork_taken, fork_passed}
 use Rattle.fb_st.proofs.Runs.{began, case_runs, for_counts, for_not_begun, stopped_by, ended_by, ok_by, ends_as, nothing_left, loop_over, loop_stops, loop_left, loop_returned, loop_stopped, loop_goes_on, repeat_goes_on, repeat_over, repeat_stops, repeat_left, repeat_returned, repeat_stopped}
 use Rattle.fb_st.proofs.running.+running.Goals as goal
 
@@ -773,3 +774,67 @@ run_for-returns-clause-run t c =
     for_counts T n (expr_of_number ds (number_said k.start)) (expr_of_number ds (number_said k.end)) (expr_of_number ds (number_said k.step)) body (values_at ds ws) after c.args.meter.now.left
     (value.Whole first) (value.Whole end) (value.Whole step) end step (end_of c.run_counts.result) (spot ds c.run_counts.new.words c.run_counts.new.meter) ha hb hc refl refl fit_type
     (first_set ds ws c.requires.fit c.requires.once k.slot at.0 at.1 z first stands) ran
+
+-- ---- Expressions and slots fit the words
+
+pub run_for-number-requires : goal.run_for-number-requires
+run_for-number-requires t c = rw (c.requires.fit) (count_parts c.args.layout.now c.args.count.now c.requires.count_right).start_fits
+
+pub run_for-number-requires-2 : goal.run_for-number-requires-2
+run_for-number-requires-2 t c = rw (c.requires.fit) (count_parts c.args.layout.now c.args.count.now c.requires.count_right).end_fits
+
+pub run_for-number-requires-3 : goal.run_for-number-requires-3
+run_for-number-requires-3 t c = rw (c.requires.fit) (count_parts c.args.layout.now c.args.count.now c.requires.count_right).step_fits
+
+pub run_for-word_of-requires : goal.run_for-word_of-requires
+run_for-word_of-requires t c =
+    let k = c.args.count.now in
+    within_slot_there c.args.layout.now k.slot k.least k.most (count_parts c.args.layout.now k c.requires.count_right).within
+
+pub run_for-bounds-words-count : goal.run_for-bounds-words-count
+run_for-bounds-words-count t c =
+    let k = c.args.count.now in
+    rw (c.requires.fit) (within_slot_there c.args.layout.now k.slot k.least k.most (count_parts c.args.layout.now k c.requires.count_right).within)
+
+pub run_while-is_true-requires : goal.run_while-is_true-requires
+run_while-is_true-requires t c =
+    let ds = c.args.layout.now in
+    let e = truth_said c.args.condition.now in
+    rw (c.loop-words.invariant.same_length ∙ c.requires.fit) (both_true (fits_truth (length ds) e) (kinds_truth ds e) c.requires.condition_right).0
+
+pub run_repeat-is_true-requires : goal.run_repeat-is_true-requires
+run_repeat-is_true-requires t c =
+    let ds = c.args.layout.now in
+    let e = truth_said c.args.condition.now in
+    rw (c.turn.ensures.length ∙ c.loop-words.invariant.same_length ∙ c.requires.fit) (both_true (fits_truth (length ds) e) (kinds_truth ds e) c.requires.condition_right).0
+
+pub run_choice-is_true-requires : goal.run_choice-is_true-requires
+run_choice-is_true-requires t c =
+    let ds = c.args.layout.now in
+    let inv = c.loop-choice.invariant in
+    let one : CompiledChoice = c.choice-item.result in
+    let right = one_right (arm_right ds) c.args.choices.now c.loop-choice.choice-index one c.loop-choice-test.true c.choice-item.is inv.right in
+    rw (ap length inv.same_words ∙ c.requires.fit) (arm_parts ds one right.0).0
+
+pub run-number-requires : goal.run-number-requires
+run-number-requires t c =
+    let ds = c.args.layout.now in
+    let e = number_said c.in-Case.selector in
+    let right = case_part ds c.in-Case.selector c.in-Case.branches c.in-Case.others (ap (code_right ds) (sym c.in-Case.is) ∙ c.requires.right) in
+    rw (c.requires.fit) (both_true (fits_number (length ds) e) (kinds_number ds e) right).0
+
+pub run-run_while-requires : goal.run-run_while-requires
+run-run_while-requires t c =
+    let ds = c.args.layout.now in
+    let right = while_right ds c.in-While.condition c.in-While.body (ap (code_right ds) (sym c.in-While.is) ∙ c.requires.right) in (
+      omega (arith, body_of_while_size c.args.statement.now c.in-While.condition c.in-While.body c.as_slice-in-While.result.now c.in-While.is c.as_slice-in-While.ensures),
+      (c.requires.fit, (c.requires.once, (ap (codes_right ds) c.as_slice-in-While.ensures ∙ right.1, right.0))),
+    )
+
+pub run-run_repeat-requires : goal.run-run_repeat-requires
+run-run_repeat-requires t c =
+    let ds = c.args.layout.now in
+    let right = repeat_right ds c.in-Repeat.body c.in-Repeat.condition (ap (code_right ds) (sym c.in-Repeat.is) ∙ c.requires.right) in (
+      omega (arith, body_of_repeat_size c.args.statement.now c.in-Repeat.condition c.in-Repeat.body c.as_slice-in-Repeat.result.now c.in-Repeat.is c.as_slice-in-Repeat.ensures),
+      (c.requires.fit, (c.requires.once, (ap (codes_right ds) c.as_slice-in-Repeat.ensures ∙ right.0, right.1))),
+    )

@@ -8,10 +8,32 @@ use Rattle.fb_types.specs.Bodies.{passed}
 use Rattle.fb_types.specs.declared.value.Value.TheVariants as value
 use Rattle.fb_st.specs.Frames.{types_in}
 use Rattle.fb_st.specs.Fitting.{name_at, ty_or, value_of_word, values_at}
-use Rattle.fb_st.proofs.Assigning.{advances_not, advances_past, advances_to, whole_read}
+use Rattle.fb_st.proofs.Assigning.{advances_not, advances_past, advances_to, whole_read, within_slot_there}
 use Rattle.fb_st.proofs.CodeRuns.{first_read, first_set, within_there}
 use Rattle.fb_st.proofs.Words.{word_type}
 use Rattle.fb_st.proofs.running.advance_exact.Goals as goal
+
+-- The slot is one of the layout, and of the words.
+
+pub word-requires : goal.word-requires
+word-requires c =
+    let k = c.args.count.now in
+    rw (c.requires.fit) (within_slot_there c.args.layout.now k.slot k.least k.most c.requires.slot)
+
+pub number_of-number-requires : goal.number_of-number-requires
+number_of-number-requires c =
+    let k = c.args.count.now in
+    within_slot_there c.args.layout.now k.slot k.least k.most c.requires.slot
+
+pub word_of-requires : goal.word_of-requires
+word_of-requires c =
+    let k = c.args.count.now in
+    within_slot_there c.args.layout.now k.slot k.least k.most c.requires.slot
+
+pub bounds-words-count : goal.bounds-words-count
+bounds-words-count c =
+    let k = c.args.count.now in
+    rw (c.requires.fit) (within_slot_there c.args.layout.now k.slot k.least k.most c.requires.slot)
 
 pub returns-in_default-clause-run : goal.returns-in_default-clause-run
 returns-in_default-clause-run c = λ left.

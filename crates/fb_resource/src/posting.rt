@@ -1,0 +1,213 @@
+//! Posting what taking an event puts out: the timer, local events onto the agenda, messages after the mail.
+
+ghost use Rattle.std.specs.Prelude.{◌≡◌, ◌+◌, ◌<◌, ◌≤◌, ◌^◌, ◌++◌, ◌∷◌, ℕ, [], length, All, OnOk, slice_index, slice_set};
+ghost use Rattle.fb_types.specs.Headline.{system_of};
+ghost use Rattle.fb_types.specs.Keys.{local_key};
+ghost use Rattle.fb_types.specs.Numbers.{path_at};
+ghost use Rattle.fb_types.specs.States.{path_of};
+ghost use Rattle.fb_types.specs.declared.run.Event.TheVariants.{Local};
+ghost use Rattle.fb_net.specs.Events.{IsEventIn, IsNumbered, event_of};
+ghost use Rattle.fb_resource.specs.Posts.{IsPostable, IsPut, message_of};
+ghost use Rattle.fb_resource.specs.Takings.{IsLater};
+
+use fb_agenda::Agenda;
+use fb_link::arrival;
+use fb_net::{Out, Outbox, OutgoingMessage};
+use fb_system::System;
+use fb_types::{Event, Key, Message, Target, TimerAsk};
+use std::alloc::AllocError;
+
+/// Puts a local event on the agenda, under its number within the tick.
+#[inline(always)]
+fn post_local(
+    agenda: &mut Agenda,
+    locals: &mut u128,
+    key: &Key,
+    target: Target,
+) -> Result<(), AllocError>
+    requires { locals.old + 1 < 2 ^ 128 }
+    ensures put { OnOk result (IsPut agenda.old agenda.new (local_key key.now.tick key.now.resource locals.old) (Local target)) }
+    ensures due { agenda.new.due ≡ agenda.old.due }
+    ensures counted { OnOk result (locals.new ≡ locals.old + 1) }
+{
+    agenda.put_local(key.tick, key.resource, *locals, target)?;
+    *locals += 1;
+    Ok(())
+}
+
+/// Puts a message after the mail, with the tick of its arrival and its number on the link.
+///
+/// # Errors
+/// When memory runs out, or a link has carried 2^128 messages.
+#[inline(always)]
+fn post_message(
+    mail: &mut Vec<Message>,
+    sent: &mut Vec<u128>,
+    system: &System,
+    key: &Key,
+    sending: OutgoingMessage,
+) -> Result<(), AllocError>
+    requires link { sending.link < (system_of system.now).links }
+    requires counted { length sent.old.items ≡ (system_of system.now).links }
+    requires early { key.now.tick ≤ 10 ^ 12 }
+    ensures put { OnOk result (mail.new.items ≡ mail.old.items ++ message_of (system_of system.now) key.now sending (slice_index sent.old.items sending.link) ∷ []) }
+    ensures counted { OnOk result (sent.new.items ≡ slice_set sent.old.items sending.link (slice_index sent.old.items sending.link + 1)) }
+    ensures later { OnOk result (key.now.tick < (system_of system.now).arrival sending.link key.now.tick) }
+{
+    let number = sent[sending.link as usize];
+    let next = number.checked_add(1).ok_or(AllocError)?;
+    let arrives = arrival(system, sending.link, key.tick);
+    sent[sending.link as usize] = next;
+    mail.reserve(1)?;
+    mail.push_reserved(Message {
+        link: sending.link,
+        number,
+        arrives,
+        target: sending.target,
+        values: sending.values,
+    });
+    Ok(())
+}
+
+/// The instance at which an event comes.
+fn instance_of(system: &System, event: &Event) -> u32
+    requires { IsNumbered system.now event.now }
+    ensures instance { result < length (system_of system.now).paths }
+    ensures path { path_at (system_of system.now) result ≡ path_of (event_of system.now event.now) }
+{
+    match event {
+        Event::Stimulus(row) => system.stimulus(*row).target.instance,
+        Event::Timer(instance) => *instance,
+        Event::Arrival(message) => message.target.instance,
+        Event::Local(target) => target.instance,
+    }
+}
+
+/// Posting what the taking of one event puts out: the system and the key of the event, which stay, and where local
+/// events, messages and counts go.
+#[derive(Drop)]
+pub(crate) struct Posting<'a> {
+    pub system: &'a System,
+    pub key: &'a Key,
+    pub agenda: &'a mut Agenda,
+    /// Messages go after those of earlier events.
+    pub mail: &'a mut Vec<Message>,
+    /// For each link the count of the messages sent on it.
+    pub sent: &'a mut Vec<u128>,
+    /// The count of local events in the tick of the key.
+    pub locals: &'a mut u128,
+    // The key names a resource of the deployment, its tick is at most 10^12, and each instance has its number.
+    ghost named: { key.now.resource < length (system_of system.now).resource_names },
+    ghost early: { key.now.tick ≤ 10 ^ 12 },
+    ghost numbered: { (i : ℕ) → i < length (system_of system.now).paths → (system_of system.now).number (path_at (system_of system.now) i) ≡ i },
+}
+
+impl Posting<'_> {
+    ghost use Rattle.fb_resource.specs.Postings.{HasGrown, HasPosted, HasSet, HasSettled, IsEmptied, IsSame, MayPost, system_in};
+
+    /// Posts one event that was put out, after all that were posted before.
+    ///
+    /// # Errors
+    /// When memory runs out, or a link has carried 2^128 messages.
+    #[inline(always)]
+    fn post_one(&mut self, out: Out) -> Result<(), AllocError>
+        requires may { MayPost self.old }
+        requires out { IsPostable (system_in self.old) self.old.key.now.resource out }
+        requires room { self.old.locals.now + 1 < 2 ^ 128 }
+        ensures posted { OnOk result (HasPosted self.old (out ∷ []) self.new) }
+        ensures grown { OnOk result (HasGrown self.old 1 self.new) }
+        ensures same { IsSame self.old self.new }
+    {
+        match out {
+            Out::Local(target) => post_local(self.agenda, self.locals, self.key, target),
+            Out::Send(sending) => {
+                post_message(self.mail, self.sent, self.system, self.key, sending)
+            }
+        }
+    }
+
+    /// Posts events that were put out, in their order. The room that they took is kept.
+    ///
+    /// # Errors
+    /// As `post_one`.
+    fn post_others(&mut self, outs: &mut Vec<Out>) -> Result<(), AllocError>
+        requires may { MayPost self.old }
+        requires outs { All (IsPostable (system_in self.old) self.old.key.now.resource) outs.old.items }
+        requires room { self.old.locals.now + length outs.old.items < 2 ^ 128 }
+        ensures posted { OnOk result (HasPosted self.old outs.old.items self.new) }
+        ensures grown { OnOk result (HasGrown self.old (length outs.old.items) self.new) }
+        ensures none { OnOk result (outs.new.items ≡ []) }
+        ensures same { IsSame self.old self.new }
+    {
+        if outs.is_empty() {
+            return Ok(());
+        }
+        for out in outs.drain(..) {
+            self.post_one(out)?;
+        }
+        Ok(())
+    }
+
+    /// Posts what the taking of an event put out, in its order. The room that it took is kept.
+    ///
+    /// # Errors
+    /// As `post_one`.
+    fn post_all(&mut self, outs: &mut Vec<Out>) -> Result<(), AllocError>
+        requires may { MayPost self.old }
+        requires outs { All (IsPostable (system_in self.old) self.old.key.now.resource) outs.old.items }
+        requires room { self.old.locals.now + length outs.old.items < 2 ^ 128 }
+        ensures posted { OnOk result (HasPosted self.old outs.old.items self.new) }
+        ensures grown { OnOk result (HasGrown self.old (length outs.old.items) self.new) }
+        ensures none { OnOk result (outs.new.items ≡ []) }
+        ensures same { IsSame self.old self.new }
+    {
+        let Some(last) = outs.pop() else {
+            return Ok(());
+        };
+        // Mostly one event was put out, and there is nothing to walk over before it.
+        self.post_others(outs)?;
+        self.post_one(last)
+    }
+
+    /// Sets the timer of the instance at which an event came, as its reaction asks.
+    ///
+    /// # Errors
+    /// When memory runs out.
+    fn set_timer(&mut self, ask: TimerAsk, event: &Event) -> Result<(), AllocError>
+        requires may { MayPost self.old }
+        requires event { IsEventIn self.old.system.now self.old.key.now.resource event.now }
+        requires later { IsLater self.old.key.now.tick ask }
+        ensures set { OnOk result (HasSet self.old ask event.now self.new) }
+        ensures grown { OnOk result (HasGrown self.old 0 self.new) }
+        ensures same { IsSame self.old self.new }
+    {
+        // Most reactions ask nothing, and then the instance is not looked up.
+        if let TimerAsk::Keep = ask {
+            return Ok(());
+        }
+        let instance = instance_of(self.system, event);
+        self.agenda.set_timer(self.key.resource, instance, ask)
+    }
+
+    /// Sets the timer of the instance at which an event came and posts what was put out, as its reaction asks. Of the
+    /// outbox the lines stay, and the room for what is put out.
+    ///
+    /// # Errors
+    /// As `post_one`.
+    pub fn settle(&mut self, outbox: &mut Outbox, event: &Event) -> Result<(), AllocError>
+        requires may { MayPost self.old }
+        requires event { IsEventIn self.old.system.now self.old.key.now.resource event.now }
+        requires later { IsLater self.old.key.now.tick outbox.old.timer }
+        requires outs { All (IsPostable (system_in self.old) self.old.key.now.resource) outbox.old.outs.items }
+        requires room { self.old.locals.now < 2 ^ 100 }
+        ensures settled { OnOk result (HasSettled self.old outbox.old event.now self.new outbox.new) }
+        ensures grown { OnOk result (HasGrown self.old (2 ^ 64) self.new) }
+        ensures emptied { OnOk result (IsEmptied outbox.old outbox.new) }
+        ensures same { IsSame self.old self.new }
+    {
+        self.set_timer(outbox.timer, event)?;
+        outbox.timer = TimerAsk::Keep;
+        let _count = outbox.outs.len();
+        self.post_all(&mut outbox.outs)
+    }
+}
