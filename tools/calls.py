@@ -20,6 +20,7 @@ from typing import NamedTuple, Optional
 
 import unbuilt
 from kit import TOP, rt
+from source_lines import with_source
 
 PROGRAM = "fbsim"
 SECONDS = 60
@@ -223,7 +224,17 @@ BROKEN_REPORT = (
     b"  line: 2\n  tick: 0\n  ...\n"
 )
 # The line about the slip, after its fault.
-AT_THE_SLIP = b"application A: event connection F.EO TO W.EJ: E_SWITCH has no event input EJ (it has EI)\n"
+AT_THE_SLIP = b":1:79: E21: application A: event connection F.EO TO W.EJ: E_SWITCH has no event input EJ (it has EI)\n"
+STRANGE = b"APPLICATION A FBS S \xff"
+BLANKS = b" " * (MOST_OF_A_TEXT + 1)
+
+
+def placed(refusal, note, text=None):
+    """What is told of a refusal with the note of a place: its source line too, by default of the file that the note names."""
+    name = note.split(b":")[0]
+    return refusal + with_source(note, {name: FILES[name.decode()] if text is None else text})
+
+
 # Named pipes, and what is written into each before it ends.
 PIPES = {"trace_pipe": LONG_TRACE, "pipe": CYCLE, "cut_pipe": CYCLE[:40], "empty_pipe": b"", "long_pipe": FILES["longest"]}
 
@@ -319,7 +330,7 @@ CALLS = [
     Call(["wave", "twice", "no_trace"], 2, err=b"refused E20\n"),
     Call(["wave", "cycle", "--deploy", "cut_pipe", "trace"], 2, err=b"refused E10\n"),
     # Files that are missing or can't be read.
-    Call(["wave", "twice", "no_trace", "--why"], 2, err=b"refused E20\napplication A: instance S is given twice\n"),
+    Call(["wave", "twice", "no_trace", "--why"], 2, err=placed(b"refused E20\n", b"twice:1:32: E20: application A: instance S is given twice\n")),
     Call(["wave", "nowhere", "trace"], 3, err=b"file fault\n"),
     Call(["wave", "nowhere", "trace", "--why"], 3, err=b"file fault\ndeclaration nowhere: no file of this name can be read\n"),
     Call(["wave", "cycle", "nowhere", "--why"], 3, err=b"file fault\ntrace nowhere: no file of this name can be read\n"),
@@ -354,15 +365,15 @@ CALLS = [
     *(Call(["run", "cycle", "--horizon", "8", "--progress"], 0, out=TO_8, tells=it) for it in OUTPUTS[:3]),
     Call(["check", "cycle", "--progress"], 5, err=None),
     Call(["check", "twice"], 2, err=b"refused E20\n"),
-    Call(["check", "twice", "--why"], 2, err=b"refused E20\napplication A: instance S is given twice\n"),
-    Call(["check", "-", "--why"], 2, err=b"refused E03 line 1\nline 1, column 41: found the end of the text, expected one of ; (\n", given=CYCLE[:40]),
+    Call(["check", "twice", "--why"], 2, err=placed(b"refused E20\n", b"twice:1:32: E20: application A: instance S is given twice\n")),
+    Call(["check", "-", "--why"], 2, err=placed(b"refused E03 line 1\n", b"-:1:41: E03: found the end of the text, expected one of ; (\n", CYCLE[:40]), given=CYCLE[:40]),
     Call(["check", "slip"], 2, err=b"refused E21\n"),
-    Call(["check", "slip", "--why"], 2, err=b"refused E21\n" + AT_THE_SLIP),
-    Call(["run", "-", "--horizon", "8", "--why"], 2, err=b"refused E21\n" + AT_THE_SLIP, given=FILES["slip"]),
-    Call(["check", "-", "--why"], 2, err=b"refused E01\nline 1, column 21: byte 255 is allowed only in comments\n", given=b"APPLICATION A FBS S \xff"),
-    Call(["check", "-", "--why"], 2, err=b"refused E04\nline 1, column 1048577: a text has at most 1048576 bytes\n", given=b" " * (MOST_OF_A_TEXT + 1)),
+    Call(["check", "slip", "--why"], 2, err=placed(b"refused E21\n", b"slip" + AT_THE_SLIP)),
+    Call(["run", "-", "--horizon", "8", "--why"], 2, err=placed(b"refused E21\n", b"-" + AT_THE_SLIP, FILES["slip"]), given=FILES["slip"]),
+    Call(["check", "-", "--why"], 2, err=placed(b"refused E01\n", b"-:1:21: E01: byte 255 is allowed only in comments\n", STRANGE), given=STRANGE),
+    Call(["check", "-", "--why"], 2, err=placed(b"refused E04\n", b"-:1:1048577: E04: a text has at most 1048576 bytes\n", BLANKS), given=BLANKS),
     Call(["check", "cycle", "--deploy", "cut_plan", "--why"], 2, err=b"refused E10\ndeployment: line 2, column 5: this is no TOML\n"),
-    Call(["check", "too_many", "--why"], 2, err=b"refused E30\napplication: there are more than 4,096 instances, components included\n"),
+    Call(["check", "too_many", "--why"], 2, err=placed(b"refused E30\n", b"too_many:1:13: E30: application: there are more than 4,096 instances, components included\n")),
     Call(["check", "cycle", "--why"], 0, out=b"accepted\n"),
     Call(["check", "nowhere", "--why"], 3, err=b"file fault\ndeclaration nowhere: no file of this name can be read\n"),
     Call(["check", "cycle", "--deploy", "cell.toml", "--why"], 3, err=b"file fault\ndeployment cell.toml: no file of this name can be read\n"),
@@ -548,39 +559,39 @@ CALLS += [
     of("check lit", 2, err=b"refused E21\n"),
     of("check lit --types pair", 2, err=b"refused E21\n"),
     of("check lit --types lamp --types lamp", 2, err=b"refused E20\n"),
-    of("check lit --types lamp --types lamp --why", 2, err=b"refused E20\nblock type LAMP is given twice\n"),
+    of("check lit --types lamp --types lamp --why", 2, err=placed(b"refused E20\n", b"lamp:1:16: E20: block type LAMP is given twice\n")),
     # A byte order mark at the beginning of each file; a second one is no blank.
     of("run lit_pair --types marked_lamp --types marked_pair --horizon 1", 0, out=LIT_PAIR_TO_1),
     of("run marked_lit --types lamp --horizon 1", 0, out=LIT_TO_1),
-    of("check twice_marked_lit --types lamp --why", 2, err=b"refused E01\ntwice_marked_lit:1:1: byte 239 is allowed only in comments\n"),
+    of("check twice_marked_lit --types lamp --why", 2, err=placed(b"refused E01\n", b"twice_marked_lit:1:1: E01: byte 239 is allowed only in comments\n", MARK + LIT)),
     # A comment ends with its file: one that `//` begins is over, and one that `(*` begins is refused, whatever comes next.
     of("run lit --types noted_lamp --horizon 1", 0, out=LIT_TO_1),
     of("check lit --types open_lamp", 2, err=b"refused E02\n"),
     of("check closing_lit --types open_lamp", 2, err=b"refused E02\n"),
-    of("check closing_lit --types open_lamp --why", 2, err=b"refused E02\nopen_lamp:5:20: the comment that begins here is not closed\n"),
-    of("check closing_lit --types pair --types open_lamp --why", 2, err=b"refused E02\nopen_lamp:5:20: the comment that begins here is not closed\n"),
+    of("check closing_lit --types open_lamp --why", 2, err=placed(b"refused E02\n", b"open_lamp:5:20: E02: the comment that begins here is not closed\n")),
+    of("check closing_lit --types pair --types open_lamp --why", 2, err=placed(b"refused E02\n", b"open_lamp:5:20: E02: the comment that begins here is not closed\n")),
     of("check nowhere --types open_lamp", 3, err=b"file fault\n"),
     # Refusals have the name of the file and the line in it.
     of("check lit --types no_name", 2, err=b"refused E03 no_name line 2\n"),
     of("check lit --types lamp --types no_name", 2, err=b"refused E03 no_name line 2\n"),
-    of("check lit --types no_name --types lamp --why", 2, err=b"refused E03 no_name line 2\nno_name:2:16: found ;, expected name\n"),
-    of("check lit --types lamp --types no_name --why", 2, err=b"refused E03 no_name line 2\nno_name:2:16: found ;, expected name\n"),
+    of("check lit --types no_name --types lamp --why", 2, err=placed(b"refused E03 no_name line 2\n", b"no_name:2:16: E03: found ;, expected name\n")),
+    of("check lit --types lamp --types no_name --why", 2, err=placed(b"refused E03 no_name line 2\n", b"no_name:2:16: E03: found ;, expected name\n")),
     of("run lit --types lamp --types no_name --horizon 1", 2, err=b"refused E03 no_name line 2\n"),
     of("wave lit --types lamp --types no_name trace", 2, err=b"refused E03 no_name line 2\n"),
-    of("wave lit --types lamp --types no_name trace --why", 2, err=b"refused E03 no_name line 2\nno_name:2:16: found ;, expected name\n"),
+    of("wave lit --types lamp --types no_name trace --why", 2, err=placed(b"refused E03 no_name line 2\n", b"no_name:2:16: E03: found ;, expected name\n")),
     of("draw lit --types lamp --types no_name", 2, err=b"refused E03 no_name line 2\n"),
     of("expect rules trace --decl lit --types lamp --types no_name", 2, err=b"refused E03 no_name line 2\n"),
-    of("expect rules trace --decl lit --types lamp --types no_name --why", 2, err=b"refused E03 no_name line 2\nno_name:2:16: found ;, expected name\n"),
+    of("expect rules trace --decl lit --types lamp --types no_name --why", 2, err=placed(b"refused E03 no_name line 2\n", b"no_name:2:16: E03: found ;, expected name\n")),
     of("check cut_lit --types lamp", 2, err=b"refused E03 cut_lit line 2\n"),
-    of("check cut_lit --types lamp --why", 2, err=b"refused E03 cut_lit line 2\ncut_lit:2:18: found the end of the text, expected one of name END_CONNECTIONS\n"),
+    of("check cut_lit --types lamp --why", 2, err=placed(b"refused E03 cut_lit line 2\n", b"cut_lit:2:18: E03: found the end of the text, expected one of name END_CONNECTIONS\n")),
     of("check - --types lamp", 2, err=b"refused E03 - line 2\n", given=FILES["cut_lit"]),
     of("check lit --types half_a_lamp", 2, err=b"refused E03 lit line 1\n"),
     of("check lit --types lamp --types strange_byte", 2, err=b"refused E01\n"),
-    of("check lit --types lamp --types strange_byte --why", 2, err=b"refused E01\nstrange_byte:3:3: byte 255 is allowed only in comments\n"),
+    of("check lit --types lamp --types strange_byte --why", 2, err=placed(b"refused E01\n", b"strange_byte:3:3: E01: byte 255 is allowed only in comments\n")),
     # All texts together, with the line feeds between them, have at most 1,048,576 bytes. That comes before a comment that is open.
     of("run rest --types half --horizon 8", 0, out=TO_8),
     of("check more_than_the_rest --types half", 2, err=b"refused E04\n"),
-    of("check more_than_the_rest --types half --why", 2, err=b"refused E04\nmore_than_the_rest:3:%d: a text has at most 1048576 bytes\n" % (HALF - len(CYCLE))),
+    of("check more_than_the_rest --types half --why", 2, err=placed(b"refused E04\n", b"more_than_the_rest:3:%d: E04: a text has at most 1048576 bytes\n" % (HALF - len(CYCLE)))),
     of("check rest --types open_half", 2, err=b"refused E02\n"),
     of("check more_than_the_rest --types open_half", 2, err=b"refused E04\n"),
     of("check cycle --types far_too_long", 2, err=b"refused E04\n"),
@@ -626,9 +637,9 @@ CALLS += [
     of("run empty --horizon 008", 0, out=b"end 8\n"),
     of("run empty --horizon 8 --workers 64", 0, out=b"end 8\n"),
     # The location of a fault is printed if it is asked for.
-    of("run slip --horizon 1 --why", 2, err=b"refused E21\n" + AT_THE_SLIP),
+    of("run slip --horizon 1 --why", 2, err=placed(b"refused E21\n", b"slip" + AT_THE_SLIP)),
     of("check merge --deploy merge_plan --why", 2, err=b"refused E21\nresource R: instance N: application A has no instance N\n"),
-    of("check - --why", 2, err=b"refused E03 line 2\nline 2, column 7: found the end of the text, expected :\n", given=b"APPLICATION A\nFBS M "),
+    of("check - --why", 2, err=placed(b"refused E03 line 2\n", b"-:2:7: E03: found the end of the text, expected :\n", b"APPLICATION A\nFBS M "), given=b"APPLICATION A\nFBS M "),
     of("check merge --stim merge_fed --why", 2, err=b"refused E29\nstimuli: 1st row after the heading: there is no instance N\n"),
     of("check slip --deploy nowhere --why", 3, err=b"file fault\ndeployment nowhere: no file of this name can be read\n"),
     of("check nowhere --deploy nowhere --why", 3, err=b"file fault\ndeclaration nowhere: no file of this name can be read\n"),
@@ -698,7 +709,7 @@ CALLS += [
     of("expect cut_plan cut_trace --why", 2, err=b"refused E41\nrules: line 2, column 5: this is no TOML\n"),
     of("expect no_pattern cut_trace --decl twice --why", 2, err=b"refused E43\nrules: 1st rule: after: \"> C.START\" is no pattern\n"),
     of("expect many_rules cut_trace --why", 2, err=b"refused E40\nrules: there are more than 1,000 rules\n"),
-    of("expect rules cut_trace --decl twice --why", 2, err=b"refused E20\napplication A: instance S is given twice\n"),
+    of("expect rules cut_trace --decl twice --why", 2, err=placed(b"refused E20\n", b"twice:1:32: E20: application A: instance S is given twice\n")),
     of("expect rules cut_trace --decl merge --why", 2, err=b"refused E45\nrules: 1st rule: after: the declaration has no port with this pattern\n"),
     of("expect nowhere trace --decl nowhere --why", 3, err=b"file fault\nrules nowhere: no file of this name can be read\n"),
     of("expect rules trace --decl nowhere --why", 3, err=b"file fault\ndeclaration nowhere: no file of this name can be read\n"),

@@ -17,7 +17,7 @@ one. A group has
 - `answer`: `accepted`, `same`, a refusal as the program prints it (`E20`, `E03 line 4`, `trace line 3`), or a trace, a dump, a report
   or a difference, to the byte. The text that the program gets on standard input is called `-`, the first one of `diff` `FIRST`, `block_types` and `more_block_types`
   `TYPES` and `MORE`
-- `why`: the line after the refusal, for `--why`
+- `why`: the line after the refusal, for `--why`. The source line with a mark follows a line that begins with a place
 - `rows`: one case each; a group without rows is one case. A row is the list of its values by `columns`, by default `text` and
   `answer`. A row that is only a text has that as its first value, and no others. A column with the name of a field above is that field
 - `within`: `columns` and `rows` again. Each case is tried with each of these rows
@@ -44,6 +44,7 @@ from typing import NamedTuple
 
 from kit import TOP
 from program import Room, side_by_side
+from source_lines import with_source
 
 PROGRAM = "fbsim"
 SHOWN = 10
@@ -137,7 +138,8 @@ def wanted(case):
     """Returns the status, standard output and standard error."""
     fields, answer = case.fields, case.fields["answer"]
     if REFUSAL.fullmatch(answer.decode("latin-1")):
-        return 2, b"", b"refused " + answer + b"\n" + fields.get("why", b"")
+        texts = {name: fields[field] for field, name in CALLED.items() if field in fields}
+        return 2, b"", b"refused " + answer + b"\n" + with_source(fields.get("why", b""), {b"-": fields.get("declaration", b""), **texts})
     if answer == b"accepted":
         return 0, b"accepted\n", b""
     if answer == b"same":

@@ -15,3 +15,4 @@ mod Marks
 mod Circles
 mod Firsts
 mod Applying
+mod Shown

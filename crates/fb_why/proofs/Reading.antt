@@ -1,15 +1,17 @@
 -- From what holds of a library and a plan to what holds of the bytes that they were read from.
 use Rattle.std.proofs.Common.{◌≡◌, ℕ, inl, List, Option, Some, None, Result, Ok, Err}
-use Rattle.std.specs.Prelude.{IfOk, MatchOption}
+use Rattle.std.specs.Prelude.{IfOk, IfSome, MatchOption}
 use Rattle.fb_types.specs.declared.deploy.Plan.{Plan}
 use Rattle.fb_types.specs.declared.deploy.Stimulus.{Stimulus}
 use Rattle.fb_types.specs.declared.library.Library.{Library}
 use Rattle.fb_read.specs.Whole.{IsLibraryText}
 use Rattle.fb_why.specs.Causes.{IsCause}
 use Rattle.fb_why.specs.Findings.{AppliesAt, AppliesNowhere, AreStimuli, ExceedsAt, ExceedsNowhere, HasNoExcess, HasNoFlaw, IsPlan, IsSilent, IsSilentOf, Finds, FindsExcess, FindsFlaw, FindsOf}
+use Rattle.fb_why.specs.Places.{IsPlacedFinding}
 use Rattle.fb_why.specs.declared.cause.Cause.{Cause}
 use Rattle.fb_why.specs.declared.cause.Excess.{Excess}
 use Rattle.fb_why.specs.declared.cause.Flaw.{Flaw}
+use Rattle.fb_why.specs.declared.place.PlacedFinding.{PlacedFinding}
 use Rattle.fb_why.specs.declared.spot.Finding.{Finding}
 
 -- a declaration and a deployment
@@ -34,16 +36,22 @@ excess_found excess text bytes given library plan rows (Ok (Some r)) read planne
 
 -- a declaration that can't be read, if memory did not run out
 pub unread_found :
-    {E : Type 0} (made : Result (Option Finding) E) (F N : Type 0) (T : Finding → Type 0) → IfOk made (λ o. (o ≡ None) × F) → (F → N) → IfOk made (λ o. MatchOption o N T)
+    {E : Type 0} (made : Result (Option PlacedFinding) E) (F N : Type 0) (T : PlacedFinding → Type 0) → IfOk made (λ o. (o ≡ None) × F) → (F → N) → IfOk made (λ o. MatchOption o N T)
 unread_found (Err e) F N T said so = tt
 unread_found (Ok None) F N T said so = so said.1
 unread_found (Ok (Some r)) F N T said so = absurd (let other : Some r ≡ None = said.0 in cc)
 
 -- and by the number
 pub numbered :
-    {E : Type 0} (cause : Cause) (n : ℕ) (text : List ℕ) (bytes given : Option (List ℕ)) (made : Result (Option Finding) E) → IsCause n cause
-    → IfOk made (λ o. MatchOption o (IsSilentOf cause n text bytes given) (λ r. FindsOf cause n text bytes given r.location))
-    → IfOk made (λ o. MatchOption o (IsSilent text bytes given n) (λ r. Finds text bytes given n r.location))
+    {E : Type 0} (cause : Cause) (n : ℕ) (text : List ℕ) (bytes given : Option (List ℕ)) (made : Result (Option PlacedFinding) E) → IsCause n cause
+    → IfOk made (λ o. MatchOption o (IsSilentOf cause n text bytes given) (λ r. FindsOf cause n text bytes given r.finding.location))
+    → IfOk made (λ o. MatchOption o (IsSilent text bytes given n) (λ r. Finds text bytes given n r.finding.location))
 numbered cause n text bytes given (Err e) is holds = tt
 numbered cause n text bytes given (Ok None) is holds = (cause, is, holds)
 numbered cause n text bytes given (Ok (Some r)) is holds = (cause, is, holds)
+
+pub unplaced :
+    {E : Type 0} (text : List ℕ) (made : Result (Option PlacedFinding) E) (F : Type 0) → IfOk made (λ o. (o ≡ None) × F) → IfOk made (λ o. IfSome o (IsPlacedFinding text))
+unplaced text (Err e) F said = tt
+unplaced text (Ok None) F said = tt
+unplaced text (Ok (Some r)) F said = absurd (let other : Some r ≡ None = said.0 in cc)

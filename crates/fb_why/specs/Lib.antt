@@ -1,5 +1,7 @@
 pub mod Explained
 pub mod Causes
+pub mod Positions
+pub mod Places
 pub mod Findings
 pub mod Stimuli
 pub mod Trials

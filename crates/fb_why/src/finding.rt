@@ -1,12 +1,14 @@
 //! Finds where a refusal applies: reads the bytes again, and searches for a location at which the refusal applies.
 
-ghost use Rattle.std.specs.Prelude.{◌≡◌, ℕ, List, Option, None, IfOk, MatchOption, option_map};
+ghost use Rattle.std.specs.Prelude.{◌≡◌, ℕ, List, Option, None, IfOk, IfSome, MatchOption, option_map};
 ghost use Rattle.fb_read.specs.Whole.{IsLibraryText, IsMemory};
-ghost use Rattle.fb_why.specs.Findings.{AreNoStimuli, AreStimuli, HasNoExcess, HasNoFlaw, IsNoPlan, IsPlan, IsSilent, IsSilentOf, Finds, FindsExcess, FindsFlaw, FindsOf};
+ghost use Rattle.fb_why.specs.Findings.{AreNoStimuli, AreStimuli, HasNoExcess, HasNoFlaw, IsNoPlan, IsPlan, IsSilent, IsSilentOf, IsSilentOfBytes, Finds, FindsExcess, FindsFlaw, FindsInBytes, FindsInText, FindsOf};
+ghost use Rattle.fb_why.specs.Places.{IsPlacedFinding};
 
 use crate::cause::{Cause, Excess, Flaw, cause_of};
 use crate::declared::finding_in;
 use crate::fed::finding_with;
+use crate::place::{PlacedFinding, placed_in, placed_itself};
 use crate::refused::{bytes_finding, text_finding};
 use crate::spot::Finding;
 use fb_inputs::{InputError, read_deploy, read_stimuli};
@@ -15,7 +17,7 @@ use fb_types::{Deploy, Library, Plan, Stimulus};
 use std::alloc::{AllocError, Global};
 
 /// The result for a declaration that can't be read: no finding, unless memory ran out.
-fn no_finding(fault: ReadError) -> Result<Option<Finding>, AllocError>
+fn no_finding(fault: ReadError) -> Result<Option<PlacedFinding>, AllocError>
     ensures { IfOk result (λ o. (o ≡ None) × ¬ (IsMemory fault)) }
 {
     match fault {
@@ -68,18 +70,37 @@ fn flaw_finding_in(
     finding_in(alloc, flaw, library, deploy.plan())
 }
 
+/// Where the refusal applies to a library, which this text declares, and to the deployment in these bytes.
+fn placed_flaw(
+    alloc: Global,
+    flaw: Flaw,
+    declaration: &[u8],
+    library: &Library,
+    deploy: Option<&[u8]>,
+) -> Result<Option<PlacedFinding>, AllocError>
+    requires { IsLibraryText declaration.now library.now }
+    ensures found { let plan = option_map (λ b. b.now) deploy.entry in
+        IfOk result (λ o. MatchOption o (HasNoFlaw flaw declaration.now plan) (λ r. FindsFlaw flaw declaration.now plan r.finding.location)) }
+    ensures placed { IfOk result (λ o. IfSome o (IsPlacedFinding declaration.now)) }
+{
+    let finding = flaw_finding_in(alloc, flaw, library, deploy)?;
+    placed_in(alloc, declaration, library, finding)
+}
+
 /// Where the refusal applies to the declaration and the deployment in these bytes.
 fn flaw_finding(
     alloc: Global,
     flaw: Flaw,
     declaration: &[u8],
     deploy: Option<&[u8]>,
-) -> Result<Option<Finding>, AllocError>
-    ensures { let plan = option_map (λ b. b.now) deploy.entry in IfOk result (λ o. MatchOption o (HasNoFlaw flaw declaration.now plan) (λ r. FindsFlaw flaw declaration.now plan r.location)) }
+) -> Result<Option<PlacedFinding>, AllocError>
+    ensures found { let plan = option_map (λ b. b.now) deploy.entry in
+        IfOk result (λ o. MatchOption o (HasNoFlaw flaw declaration.now plan) (λ r. FindsFlaw flaw declaration.now plan r.finding.location)) }
+    ensures placed { IfOk result (λ o. IfSome o (IsPlacedFinding declaration.now)) }
 {
     match read_library(alloc, declaration) {
         Ok(library) => {
-            let finding = flaw_finding_in(alloc, flaw, &library, deploy);
+            let finding = placed_flaw(alloc, flaw, declaration, &library, deploy);
             discard(library);
             finding
         }
@@ -121,6 +142,24 @@ fn excess_finding_in(
     excess_finding_with(alloc, excess, library, deploy.plan(), stimuli)
 }
 
+/// Where the refusal applies to a library, which this text declares, and to the deployment and the stimuli in these bytes.
+fn placed_excess(
+    alloc: Global,
+    excess: Excess,
+    declaration: &[u8],
+    library: &Library,
+    deploy: Option<&[u8]>,
+    stimuli: Option<&[u8]>,
+) -> Result<Option<PlacedFinding>, AllocError>
+    requires { IsLibraryText declaration.now library.now }
+    ensures found { let plan = option_map (λ b. b.now) deploy.entry in let rows = option_map (λ b. b.now) stimuli.entry in
+        IfOk result (λ o. MatchOption o (HasNoExcess excess declaration.now plan rows) (λ r. FindsExcess excess declaration.now plan rows r.finding.location)) }
+    ensures placed { IfOk result (λ o. IfSome o (IsPlacedFinding declaration.now)) }
+{
+    let finding = excess_finding_in(alloc, excess, library, deploy, stimuli)?;
+    placed_in(alloc, declaration, library, finding)
+}
+
 /// Where the refusal applies to the inputs in all bytes.
 fn excess_finding(
     alloc: Global,
@@ -128,18 +167,47 @@ fn excess_finding(
     declaration: &[u8],
     deploy: Option<&[u8]>,
     stimuli: Option<&[u8]>,
-) -> Result<Option<Finding>, AllocError>
-    ensures { let plan = option_map (λ b. b.now) deploy.entry in let rows = option_map (λ b. b.now) stimuli.entry in
-        IfOk result (λ o. MatchOption o (HasNoExcess excess declaration.now plan rows) (λ r. FindsExcess excess declaration.now plan rows r.location)) }
+) -> Result<Option<PlacedFinding>, AllocError>
+    ensures found { let plan = option_map (λ b. b.now) deploy.entry in let rows = option_map (λ b. b.now) stimuli.entry in
+        IfOk result (λ o. MatchOption o (HasNoExcess excess declaration.now plan rows) (λ r. FindsExcess excess declaration.now plan rows r.finding.location)) }
+    ensures placed { IfOk result (λ o. IfSome o (IsPlacedFinding declaration.now)) }
 {
     match read_library(alloc, declaration) {
         Ok(library) => {
-            let finding = excess_finding_in(alloc, excess, &library, deploy, stimuli);
+            let finding = placed_excess(alloc, excess, declaration, &library, deploy, stimuli);
             discard(library);
             finding
         }
         Err(fault) => no_finding(fault),
     }
+}
+
+/// Where the text of the declaration is refused, if its refusal has this number.
+fn placed_text(
+    alloc: Global,
+    number: u8,
+    declaration: &[u8],
+) -> Result<Option<PlacedFinding>, AllocError>
+    ensures found { IfOk result (λ o. IfSome o (λ r. FindsInText number declaration.now r.finding.location)) }
+    ensures placed { IfOk result (λ o. IfSome o (IsPlacedFinding declaration.now)) }
+{
+    let finding = text_finding(alloc, number, declaration)?;
+    Ok(placed_itself(finding))
+}
+
+/// Where the bytes of a deployment or those of stimuli are refused with this number.
+fn placed_bytes(
+    alloc: Global,
+    number: u8,
+    deploy: Option<&[u8]>,
+    stimuli: Option<&[u8]>,
+) -> Result<Option<PlacedFinding>, AllocError>
+    ensures found { let plan = option_map (λ b. b.now) deploy.entry in let rows = option_map (λ b. b.now) stimuli.entry in
+        IfOk result (λ o. MatchOption o (IsSilentOfBytes number plan rows) (λ r. FindsInBytes number plan rows r.finding.location)) }
+    ensures placed { (text : List ℕ) → IfOk result (λ o. IfSome o (IsPlacedFinding text)) }
+{
+    let finding = bytes_finding(alloc, number, deploy, stimuli)?;
+    Ok(placed_itself(finding))
 }
 
 /// Where the refusal with this number and this cause applies.
@@ -150,13 +218,14 @@ fn finding_by(
     declaration: &[u8],
     deploy: Option<&[u8]>,
     stimuli: Option<&[u8]>,
-) -> Result<Option<Finding>, AllocError>
-    ensures { let plan = option_map (λ b. b.now) deploy.entry in let rows = option_map (λ b. b.now) stimuli.entry in
-        IfOk result (λ o. MatchOption o (IsSilentOf cause number declaration.now plan rows) (λ r. FindsOf cause number declaration.now plan rows r.location)) }
+) -> Result<Option<PlacedFinding>, AllocError>
+    ensures found { let plan = option_map (λ b. b.now) deploy.entry in let rows = option_map (λ b. b.now) stimuli.entry in
+        IfOk result (λ o. MatchOption o (IsSilentOf cause number declaration.now plan rows) (λ r. FindsOf cause number declaration.now plan rows r.finding.location)) }
+    ensures placed { IfOk result (λ o. IfSome o (IsPlacedFinding declaration.now)) }
 {
     match cause {
-        Cause::Text => text_finding(alloc, number, declaration),
-        Cause::Bytes => bytes_finding(alloc, number, deploy, stimuli),
+        Cause::Text => placed_text(alloc, number, declaration),
+        Cause::Bytes => placed_bytes(alloc, number, deploy, stimuli),
         Cause::Flaw(flaw) => flaw_finding(alloc, flaw, declaration, deploy),
         Cause::Excess(excess) => excess_finding(alloc, excess, declaration, deploy, stimuli),
         Cause::Other => Ok(None),
@@ -164,7 +233,7 @@ fn finding_by(
 }
 
 /// Where the refusal with this number applies to the bytes of a declaration, a deployment and stimuli, of which the last
-/// two may be missing.
+/// two may be missing, with its place in the declaration.
 ///
 /// # Errors
 ///
@@ -175,9 +244,10 @@ pub fn finding_of(
     declaration: &[u8],
     deploy: Option<&[u8]>,
     stimuli: Option<&[u8]>,
-) -> Result<Option<Finding>, AllocError>
-    ensures { let plan = option_map (λ b. b.now) deploy.entry in let rows = option_map (λ b. b.now) stimuli.entry in
-        IfOk result (λ o. MatchOption o (IsSilent declaration.now plan rows number) (λ r. Finds declaration.now plan rows number r.location)) }
+) -> Result<Option<PlacedFinding>, AllocError>
+    ensures found { let plan = option_map (λ b. b.now) deploy.entry in let rows = option_map (λ b. b.now) stimuli.entry in
+        IfOk result (λ o. MatchOption o (IsSilent declaration.now plan rows number) (λ r. Finds declaration.now plan rows number r.finding.location)) }
+    ensures placed { IfOk result (λ o. IfSome o (IsPlacedFinding declaration.now)) }
 {
     finding_by(
         alloc,

@@ -3,7 +3,8 @@
 //!
 //! Guarantees to callers: `explanation::explain` has an explanation for each refusal and each reason of a stop, and for
 //! nothing else. The location that `finding::finding_of` reports is in the bytes or in what they declare, and the refusal
-//! applies there. For E20 to E28 it reports none only if the refusal does not apply or the bytes can't be read; for E29
+//! applies there. Its place is in the text of the declaration, and the token there is the name that the library has at
+//! this location. For E20 to E28 it reports none only if the refusal does not apply or the bytes can't be read; for E29
 //! and E30 only if the inputs are refused for something else. The wording of the texts is not part of any contract.
 //!
 //! This crate finds the locations for which names, connections and the mapping are searched: `twice::twice_location`
@@ -19,7 +20,8 @@
 //! `sources`, `heights`, `unmapped`, `unlinked` and `unserved`; `laws`; the modules `tell_..`, a location as text. Then
 //! stimuli and limits: `location`, their locations; `verdict`, the least fault; `trial`, which applies the check to a part
 //! of a stimulus; `stimulus`, `limit` and `limit_messages`. Then `refused`, `declared` and `fed`, locations in bytes, in what they
-//! declare, and in stimuli; `finding`, which reads the bytes again. All of this runs only after a refusal.
+//! declare, and in stimuli; `positions` and `place`, where a location is in the text of the
+//! declaration; `finding`, which reads the bytes again. All of this runs only after a refusal.
 #![tactic(auto)]
 
 mod among;
@@ -37,6 +39,8 @@ mod limit;
 mod limit_messages;
 pub mod location;
 pub mod pair;
+pub mod place;
+mod positions;
 mod refused;
 pub mod sources;
 pub mod spot;
@@ -59,6 +63,7 @@ pub use finding::finding_of;
 pub use heights::Descent;
 pub use location::{Limit, StimulusFault, StimulusLocation};
 pub use pair::Repeat;
+pub use place::PlacedFinding;
 pub use sources::Joined;
 pub use spot::{Finding, Spot};
 pub use table::{Explanation, OF_CHECKS, OF_DECLARATIONS, OF_INPUTS};

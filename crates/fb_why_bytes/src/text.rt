@@ -22,7 +22,7 @@ pub fn front(bytes: &[u8], most: usize) -> &[u8] {
 }
 
 /// How a byte is shown: one that is not a printable ASCII character as a question mark.
-fn shown(byte: u8) -> u8 {
+pub fn shown(byte: u8) -> u8 {
     match byte {
         b' '..=b'~' => byte,
         _ => b'?',

@@ -9,7 +9,7 @@ use std::alloc::{AllocError, Global};
 /// The most bytes of a token that are shown.
 const MOST_SHOWN: usize = 40;
 
-/// Says where a refusal applies: where it is, what is there, and what was expected.
+/// Says what is wrong at a location: what is there, and what was expected.
 pub fn text_message(
     alloc: Global,
     text: &[u8],
@@ -28,13 +28,7 @@ fn push_fault(
     fault: &ReadError,
     location: TextLocation,
 ) {
-    let TextLocation {
-        start,
-        end,
-        line,
-        column,
-    } = location;
-    message.position(line, column);
+    let TextLocation { start, end, .. } = location;
     let here = token(text.get(start..end).unwrap_or(&[]));
     push_matter(message, fault, here);
     if let ReadError::Syntax { .. } = fault {

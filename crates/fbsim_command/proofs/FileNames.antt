@@ -2,9 +2,8 @@
 use Rattle.std.proofs.Common.{◌≡◌, ℕ, List, Option, Some, None, String, Ok, Err, refl, sym, ap, ◌∙◌, subst, inl, inr, string_bytes}
 use Rattle.std.specs.Prelude.{IfSome}
 use Rattle.clap.specs.Words.{Text}
-use Rattle.fb_why_bytes.specs.declared.text_locations.TextLocation.{TextLocation}
 use Rattle.fbsim_command.specs.Joining.{IsLineOf, name_at}
-use Rattle.fbsim_command.specs.OwnLines.{EndsBy, IsInNone, IsNoteBy, IsPlacedText, IsSyntaxIn, IsSyntaxText, placed_text, syntax_in}
+use Rattle.fbsim_command.specs.OwnLines.{EndsBy, IsInNone, IsPlaced, IsPlacedText, IsSyntaxIn, IsSyntaxText, placed_text, syntax_in}
 use Rattle.fbsim_command.specs.Outcomes.{End}
 use Rattle.fbsim_command.specs.declared.failure.Failure.{Failure}
 use Rattle.fbsim_command.specs.declared.failure.Failure.TheVariants.{Refused, RefusedTrace, File, Write, Memory, Line, BadOption}
@@ -26,16 +25,14 @@ module _ (types : List Text) (own : Text) (lines : List ℕ) where
   ends-as o inner is = subst (λ (k : Option ℕ). EndsBy types own lines k inner inner) (sym is) refl
 
   pub placed-in :
-      {A : Type 0} (at : TextLocation) (file line : ℕ) (name text : Text) (note : Option (String A)) → IsLineOf lines at.line file line → name ≡ name_at types own file
-      → IfSome note (λ n. IsPlacedText name line at.column (string_bytes n)) → IfSome note (λ n. IsNoteBy types own lines (Some at) text (string_bytes n))
-  placed-in at file line name text None there same is = tt
-  placed-in at file line name text (Some note) there same is =
-      inl (file, line, there, (is.0, is.1 ∙ ap (λ (n : Text). placed_text n line at.column is.0) same))
+      {A : Type 0} (whole column file line : ℕ) (name : Text) (note : Option (String A)) → IsLineOf lines whole file line → name ≡ name_at types own file
+      → IfSome note (λ n. IsPlacedText name line column (string_bytes n)) → IfSome note (λ n. IsPlaced types own lines whole column (string_bytes n))
+  placed-in whole column file line name None there same is = tt
+  placed-in whole column file line name (Some note) there same is =
+      inl (file, line, there, (is.0, is.1 ∙ ap (λ (n : Text). placed_text n line column is.0) same))
 
-  pub note-by :
-      {A : Type 0} (o : Option TextLocation) (at : TextLocation) (text : Text) (note : Option (String A)) → o ≡ Some at → IfSome note (λ n. IsNoteBy types own lines (Some at) text (string_bytes n))
-      → IfSome note (λ n. IsNoteBy types own lines o text (string_bytes n))
-  note-by o at text note is noted = subst (λ (k : Option TextLocation). IfSome note (λ n. IsNoteBy types own lines k text (string_bytes n))) (sym is) noted
-
-  pub note-as : (o : Option TextLocation) (text : Text) → o ≡ None → IsNoteBy types own lines o text text
-  note-as o text is = subst (λ (k : Option TextLocation). IsNoteBy types own lines k text text) (sym is) refl
+  pub placed-alone :
+      {A : Type 0} (whole column : ℕ) (note : Option (String A)) → IsInNone lines whole → IfSome note (λ n. IsPlacedText own whole column (string_bytes n))
+      → IfSome note (λ n. IsPlaced types own lines whole column (string_bytes n))
+  placed-alone whole column None none is = tt
+  placed-alone whole column (Some note) none is = inr (none, is)

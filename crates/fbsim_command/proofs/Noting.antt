@@ -6,10 +6,11 @@ use Rattle.fbsim_command.specs.Expecting.{IsNoteAt, own_of, types_of}
 use Rattle.fbsim_command.specs.Texts.{given_of, lines_of, may_lines_of}
 use Rattle.fbsim_command.specs.declared.bench_line.Expect.{Expect}
 use Rattle.fbsim_command.specs.declared.texts.Texts.{Texts}
-use Rattle.fbsim_command.specs.Notes.{IsNote, IsNoteOfNumber, Notes, number_of}
+use Rattle.fbsim_command.specs.Notes.{IsNote, IsNoteBy, IsNoteIn, IsNoteOfNumber, Notes, number_of}
 use Rattle.fb_why.specs.Findings.{Finds}
-use Rattle.fb_why.specs.declared.spot.Finding.{Finding}
-use Rattle.fbsim_command.specs.OwnLines.{IsNoteIn}
+use Rattle.fb_why.specs.declared.place.PlacedFinding.{PlacedFinding}
+use Rattle.fb_why.specs.Places.{IsPlacedFinding}
+use Rattle.fb_why_bytes.specs.declared.text_locations.TextLocation.{TextLocation}
 use Rattle.fbsim_command.specs.declared.failure.Failure.{Failure}
 
 pub noted :
@@ -20,12 +21,17 @@ noted show types own lines given why failure n (Some t) asked is holds = (asked,
 
 -- the note of a location that was found
 pub noted-in :
-    {A : Type 0} (types : List (List ℕ)) (own lines ls : List ℕ) (given : Given) (n : ℕ) (finding : Finding) (note : Option (String A)) → lines ≡ ls
-    → Finds given.declaration given.deploy given.stimuli n finding.location
-    → IfSome note (λ t. IsNoteIn types own lines finding.location (string_bytes finding.text) (string_bytes t)) → IfSome note (λ t. IsNoteOfNumber types own ls given n (string_bytes t))
-noted-in types own lines ls given n finding None same shows is = tt
-noted-in types own lines ls given n finding (Some t) same shows is =
-    (finding, subst (λ (k : List ℕ). IsNoteIn types own k finding.location (string_bytes finding.text) (string_bytes t)) same is, shows)
+    {A : Type 0} (types : List (List ℕ)) (own lines : List ℕ) (given : Given) (n : ℕ) (found : PlacedFinding) (note : Option (String A)) → IsPlacedFinding given.declaration found
+    → Finds given.declaration given.deploy given.stimuli n found.finding.location
+    → IfSome note (λ t. IsNoteIn types own lines found (string_bytes t)) → IfSome note (λ t. IsNoteOfNumber types own lines given n (string_bytes t))
+noted-in types own lines given n found None placed shows is = tt
+noted-in types own lines given n found (Some t) placed shows is = (found, is, placed, shows)
+
+-- of a place
+pub noted-by :
+    {A : Type 0} (types : List (List ℕ)) (own lines text : List ℕ) (place other : Option TextLocation) (note : Option (String A)) → place ≡ other
+    → IfSome note (λ t. IsNoteBy types own lines other text (string_bytes t)) → IfSome note (λ t. IsNoteBy types own lines place text (string_bytes t))
+noted-by {A} types own lines text place other note same is = subst (λ (o : Option TextLocation). IfSome note (λ t. IsNoteBy types own lines o text (string_bytes t))) (sym same) is
 
 -- that of what is declared, for rules
 pub plan-noted :

@@ -3,8 +3,10 @@ use Rattle.std.specs.Prelude.{◌≡◌, ◌≢◌, ℕ, List, ◌++◌, Bool, I
 use Rattle.fbsim_command.specs.declared.line.Task.{Task}
 use Rattle.fb_sim.specs.Given.{Given}
 use Rattle.fb_why.specs.Findings.{Finds}
-use Rattle.fb_why.specs.declared.spot.Finding.{Finding}
-use Rattle.fbsim_command.specs.OwnLines.{IsNoteIn}
+use Rattle.fb_why.specs.declared.place.PlacedFinding.{PlacedFinding}
+use Rattle.fb_why.specs.Places.{IsPlacedFinding}
+use Rattle.fb_why_bytes.specs.declared.text_locations.TextLocation.{TextLocation}
+use Rattle.fbsim_command.specs.OwnLines.{IsPlaced}
 use Rattle.fbsim_command.specs.declared.failure.Failure.{Failure}
 use Rattle.fbsim_command.specs.declared.failure.Failure.TheVariants.{Refused}
 use Rattle.fbsim_command.specs.declared.failure.RefusalLine.TheVariants.{Numbered, Syntax}
@@ -55,11 +57,19 @@ number_of (Refused (Numbered n)) = Some n
 number_of (Refused (Syntax line)) = Some 3
 number_of _ = None
 
--- The note is that of a place at which the refusal of this number applies. In a declaration of several files it has the file's own
--- name and line.
+-- The note names the file, the line and the column of the place, or is the text.
+abbrev pub IsNoteBy : (types : List (List ℕ)) → (own : List ℕ) → (lines : List ℕ) → Option TextLocation → (text note : List ℕ) → Type 0
+IsNoteBy types own lines (Some at) text note = IsPlaced types own lines at.line at.column note
+IsNoteBy types own lines None text note = note ≡ text
+
+-- The note of what was found is that of its place, or its text.
+abbrev pub IsNoteIn : (types : List (List ℕ)) → (own : List ℕ) → (lines : List ℕ) → PlacedFinding → List ℕ → Type 0
+IsNoteIn types own lines found note = IsNoteBy types own lines found.place (string_bytes found.finding.text) note
+
+-- The note is that of a place at which the refusal of this number applies.
 abbrev pub IsNoteOfNumber : (types : List (List ℕ)) → (own : List ℕ) → (lines : List ℕ) → Given → (number : ℕ) → List ℕ → Type 0
 IsNoteOfNumber types own lines given number note =
-    (r : Finding) × IsNoteIn types own lines r.location (string_bytes r.text) note × Finds given.declaration given.deploy given.stimuli number r.location
+    (r : PlacedFinding) × IsNoteIn types own lines r note × IsPlacedFinding given.declaration r × Finds given.declaration given.deploy given.stimuli number r.finding.location
 
 -- The note is that of the number of the refusal.
 abbrev pub IsNote : (types : List (List ℕ)) → (own : List ℕ) → (lines : List ℕ) → Given → Failure → List ℕ → Type 0

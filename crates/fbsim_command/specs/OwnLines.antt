@@ -2,9 +2,6 @@
 -- "Declarations in several files"; this project's own).
 use Rattle.std.specs.Prelude.{◌≡◌, ◌⊎◌, ◌<◌, ℕ, List, ◌++◌, length, sum, Option, Some, None, Ok, Err, codes, decimal, string_bytes}
 use Rattle.clap.specs.Words.{Text}
-use Rattle.fb_why.specs.declared.spot.Spot.{Spot}
-use Rattle.fb_why.specs.declared.spot.Spot.TheVariants as spot
-use Rattle.fb_why_bytes.specs.declared.text_locations.TextLocation.{TextLocation}
 use Rattle.fbsim_command.specs.Joining.{IsLineOf, name_at}
 use Rattle.fbsim_command.specs.Outcomes.{End}
 use Rattle.fbsim_command.specs.declared.failure.Failure.{Failure}
@@ -63,20 +60,8 @@ placed_text name line column matter = name ++ (codes ":" ++ (decimal line ++ (co
 abbrev pub IsPlacedText : (name : Text) → (line column : ℕ) → (note : Text) → Type 0
 IsPlacedText name line column note = (matter : Text) × (note ≡ placed_text name line column matter)
 
--- The note begins with the file that has the line, and the line in it.
+-- The note begins with the file that has this line of the whole text, the line in it, and the column. A declaration in one
+-- file has its own lines.
 abbrev pub IsPlaced : (types : List Text) → (own : Text) → (lines : List ℕ) → (whole column : ℕ) → (note : Text) → Type 0
 IsPlaced types own lines whole column note =
-    (file : ℕ) × (line : ℕ) × IsLineOf lines whole file line × IsPlacedText (name_at types own file) line column note
-
--- the location in a text, if it is in one
-abbrev pub text_at : Spot → Option TextLocation
-text_at (spot.Text at) = Some at
-text_at _ = None
-
-abbrev pub IsNoteBy : (types : List Text) → (own : Text) → (lines : List ℕ) → Option TextLocation → (text note : Text) → Type 0
-IsNoteBy types own lines (Some at) text note = IsPlaced types own lines at.line at.column note ⊎ (IsInNone lines at.line × (note ≡ text))
-IsNoteBy types own lines None text note = note ≡ text
-
--- The note of a location, for which this text was found: of a line in one of several files it names the file and its own line.
-abbrev pub IsNoteIn : (types : List Text) → (own : Text) → (lines : List ℕ) → Spot → (text note : Text) → Type 0
-IsNoteIn types own lines at text note = IsNoteBy types own lines (text_at at) text note
+    ((file : ℕ) × (line : ℕ) × IsLineOf lines whole file line × IsPlacedText (name_at types own file) line column note) ⊎ (IsInNone lines whole × IsPlacedText own whole column note)

@@ -1,16 +1,18 @@
 //! What is reported after the line of a failure: its place.
 
 ghost use Rattle.std.specs.Prelude.{◌≡◌, IfSome, map, option_map, string_bytes};
-ghost use Rattle.fbsim_command.specs.Notes.{IsFileNote, IsMatter, IsNote, IsNoteOfName, IsNoteOfNumber, Notes, file_word, name_of, number_of};
+ghost use Rattle.fbsim_command.specs.Notes.{IsFileNote, IsMatter, IsNote, IsNoteIn, IsNoteOfName, IsNoteOfNumber, Notes, file_word, name_of, number_of};
+ghost use Rattle.fbsim_command.specs.OwnLines.{IsPlaced};
 ghost use Rattle.fbsim_command.specs.Texts.{given_of, lines_of};
 
 use crate::failure::{Failure, RefusalLine};
 use crate::line::Task;
-use crate::own_lines::note_in;
+use crate::own_lines::note_at;
 use crate::sources::SourceFault;
 use crate::texts::{Part, Texts, Unread};
-use fb_why::finding_of;
-use std::alloc::Global;
+use fb_why::{Finding, PlacedFinding, finding_of};
+use fb_why_bytes::{TextLocation, excerpt};
+use std::alloc::{AllocError, Global};
 
 /// The number of a fault of the grammar, whose line says where it is also.
 const SYNTAX: u8 = 3;
@@ -92,6 +94,59 @@ pub(crate) fn number_of(failure: &Failure) -> Option<u8>
     }
 }
 
+/// What is the matter at a place: the number, the words, and the source line with a mark.
+fn matter_at(
+    alloc: Global,
+    number: u8,
+    words: &str,
+    declaration: &[u8],
+    at: TextLocation,
+) -> Result<String, AllocError> {
+    let source = excerpt(alloc, declaration, at)?;
+    let tens = number / 10;
+    let ones = number % 10;
+    Ok(format!(in alloc; "E{tens}{ones}: {words}\n{source}")?)
+}
+
+/// The note for a place at which the refusal of this number applies.
+fn note_at_place(
+    alloc: Global,
+    types: &[&str],
+    own: &str,
+    number: u8,
+    texts: &Texts,
+    at: TextLocation,
+    words: &str,
+) -> Option<String>
+    ensures { IfSome result (λ note. IsPlaced (map (λ t. t.now) types.now) own.now (lines_of texts.now) at.line at.column (string_bytes note)) }
+{
+    let declaration = texts.declaration.as_slice();
+    let lines = texts.lines.as_slice();
+    match matter_at(alloc, number, words, declaration, at) {
+        Ok(matter) => note_at(alloc, types, own, lines, at, matter.as_str()),
+        Err(_) => None,
+    }
+}
+
+/// The note for what was found: with its place, if it is one in the text of the declaration.
+fn note_of_finding(
+    alloc: Global,
+    types: &[&str],
+    own: &str,
+    number: u8,
+    texts: &Texts,
+    found: PlacedFinding,
+) -> Option<String>
+    ensures { IfSome result (λ note. IsNoteIn (map (λ t. t.now) types.now) own.now (lines_of texts.now) found (string_bytes note)) }
+{
+    let PlacedFinding { finding, place } = found;
+    let Finding { location: _, text } = finding;
+    match place {
+        Some(at) => note_at_place(alloc, types, own, number, texts, at, text.as_str()),
+        None => Some(text),
+    }
+}
+
 /// The place at which the refusal of this number applies. Without memory for it there is none.
 pub(crate) fn note_of_number(
     alloc: Global,
@@ -104,7 +159,7 @@ pub(crate) fn note_of_number(
 {
     let declaration = texts.declaration.as_slice();
     match finding_of(alloc, number, declaration, texts.deployment(), texts.rows()) {
-        Ok(Some(finding)) => note_in(alloc, types, own, texts.lines.as_slice(), finding),
+        Ok(Some(found)) => note_of_finding(alloc, types, own, number, texts, found),
         Ok(None) | Err(_) => None,
     }
 }

@@ -1,15 +1,14 @@
 //! Refusals of a declaration in several files: the name of the file and the line in it, in place of the line of the whole.
 
-ghost use Rattle.std.specs.Prelude.{◌≡◌, IfSome, Some, map, string_bytes};
+ghost use Rattle.std.specs.Prelude.{◌≡◌, IfSome, map, string_bytes};
 ghost use Rattle.fbsim_command.specs.OwnLines as spec;
-ghost use Rattle.fbsim_command.specs.OwnLines.{EndsIn, IsNoteBy, IsNoteIn, IsPlacedText, IsSyntaxIn, IsSyntaxText};
+ghost use Rattle.fbsim_command.specs.OwnLines.{EndsIn, IsPlaced, IsPlacedText, IsSyntaxIn, IsSyntaxText};
 ghost use Rattle.fbsim_command.specs.Texts.{lines_of};
 
 use crate::failure::{Failure, RefusalLine};
 use crate::join::{file_name, line_in_file};
 use crate::statuses::Done;
 use crate::texts::Texts;
-use fb_why::{Finding, Spot};
 use fb_why_bytes::TextLocation;
 use std::alloc::Global;
 
@@ -73,68 +72,33 @@ pub(crate) fn end_with(
     end_in(alloc, types, own, texts.lines.as_slice(), end)
 }
 
-/// What a text says after its position, `line 7, column 3: `.
-fn matter(text: &str) -> &str {
-    match text.split_once(": ") {
-        Some((_, matter)) => matter,
-        None => text,
-    }
-}
-
-/// The note for a place in a file, which names it as editors do.
-fn placed(alloc: Global, name: &str, line: usize, column: usize, text: &str) -> Option<String>
+/// The note for a place in the file of this name, which names it as editors do.
+fn placed(alloc: Global, name: &str, line: usize, column: usize, matter: &str) -> Option<String>
     ensures { IfSome result (λ note. IsPlacedText name.now line column (string_bytes note)) }
 {
-    let matter = matter(text);
     match format!(in alloc; "{name}:{line}:{column}: {matter}") {
         Ok(note) => Some(note),
         Err(_) => None,
     }
 }
 
-/// The location in a text, if it is in one.
-fn text_at(location: Spot) -> Option<TextLocation>
-    ensures { result ≡ spec.text_at location }
-{
-    match location {
-        Spot::Text(at) => Some(at),
-        _ => None,
-    }
-}
-
-/// The note for a place in the text of a declaration, for which this text was found.
-fn text_note(
+/// The note for a place in the text of a declaration in files of these names, with this many lines each. Without lines it
+/// is in one file.
+pub(crate) fn note_at(
     alloc: Global,
     types: &[&str],
     own: &str,
     lines: &[usize],
     at: TextLocation,
-    text: String,
+    matter: &str,
 ) -> Option<String>
-    ensures { IfSome result (λ note. IsNoteBy (map (λ t. t.now) types.now) own.now lines.now (Some at) (string_bytes text) (string_bytes note)) }
+    ensures { IfSome result (λ note. IsPlaced (map (λ t. t.now) types.now) own.now lines.now at.line at.column (string_bytes note)) }
 {
     match line_in_file(lines, at.line) {
         Some(there) => {
             let name = file_name(types, own, there.file);
-            placed(alloc, name, there.line, at.column, text.as_str())
+            placed(alloc, name, there.line, at.column, matter)
         }
-        None => Some(text),
-    }
-}
-
-/// The note for a place at which a declaration in files of these names is refused.
-pub(crate) fn note_in(
-    alloc: Global,
-    types: &[&str],
-    own: &str,
-    lines: &[usize],
-    finding: Finding,
-) -> Option<String>
-    ensures { IfSome result (λ note. IsNoteIn (map (λ t. t.now) types.now) own.now lines.now finding.location (string_bytes finding.text) (string_bytes note)) }
-{
-    let Finding { location, text } = finding;
-    match text_at(location) {
-        Some(at) => text_note(alloc, types, own, lines, at, text),
-        None => Some(text),
+        None => placed(alloc, own, at.line, at.column, matter),
     }
 }

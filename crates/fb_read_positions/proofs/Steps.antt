@@ -1,0 +1,157 @@
+-- One turn of a loop that reads up to a position.
+use Rattle.std.proofs.Common.{◌≡◌, ℕ, zero, suc, Bool, true, false, [], ◌∷◌, Ok, Err, ◌-◌, refl, sym, ap, subst, ◌∙◌, arith}
+use Rattle.fb_read.specs.Blocks.{block}
+use Rattle.fb_read.specs.Parser.{Parser, Outcome, Reads, ◌>>◌, and_then, expect, sees_name, rest_of, syntax}
+use Rattle.fb_read.specs.Statements.{begins_statement}
+use Rattle.fb_read.specs.Tokens.{Tokens}
+use Rattle.fb_read.specs.declared.fault.ParseFault.{ParseFault}
+use Rattle.fb_read.specs.declared.fault.ParseFault.TheVariants as fault
+use Rattle.fb_read.specs.declared.token.Mark.TheVariants as mark
+use Rattle.fb_read.specs.declared.token.Token.TheVariants as token
+use Rattle.fb_read_positions.specs.Walks.{opens, pass, pass_blocks, pass_separated, pass_variables, past_application, past_variable, skip, to_name, to_statement}
+use Rattle.std.specs.Prelude.{◌&&◌, length}
+
+-- ---- Outcomes
+
+-- what a rule refuses, the rule of which it is the first part refuses
+pub fault_on : {A B : Type 0} (o : Outcome A) (f : A → Parser B) (e : ParseFault) (new : Tokens) → Reads o (Err e) new → Reads (and_then o f) (Err e) new
+fault_on o f fault.Memory new r = tt
+fault_on {A} {B} o f fault.Syntax new r = ap (λ (x : Outcome A). and_then x f) r
+fault_on {A} {B} o f fault.Nesting new r = ap (λ (x : Outcome A). and_then x f) r
+
+pub fault_at : {A : Type 0} (o p : Outcome A) (e : ParseFault) (new : Tokens) → o ≡ p → Reads p (Err e) new → Reads o (Err e) new
+fault_at {A} o p e new same r = subst (λ (x : Outcome A). Reads x (Err e) new) (sym same) r
+
+pub then_on : {A B : Type 0} (o : Outcome A) (f : A → Parser B) (x : A) (new : Tokens) → o ≡ Ok (x, new) → and_then o f ≡ f x new
+then_on {A} o f x new is = ap (λ (y : Outcome A). and_then y f) is
+
+-- ---- Entries
+
+module _ {A : Type 0} (item : Parser A) where
+  pub pass_more : (n : ℕ) (ts new : Tokens) → skip item ts ≡ Ok (tt, new) → pass item (suc n) ts ≡ pass item n new
+  unfolding pass
+  pass_more n ts new is = then_on (skip item ts) (λ x. pass item n) tt new is
+
+  pub pass_fault : (n : ℕ) (ts new : Tokens) (e : ParseFault) → Reads (skip item ts) (Err e) new → Reads (pass item (suc n) ts) (Err e) new
+  unfolding pass
+  pass_fault n ts new e r = fault_on (skip item ts) (λ x. pass item n) e new r
+
+  pub separated_more :
+      (n : ℕ) (ts mid new : Tokens) → skip item ts ≡ Ok (tt, mid) → expect mark.Comma mid ≡ Ok (tt, new) → pass_separated item (suc n) ts ≡ pass_separated item n new
+  unfolding pass_separated
+  separated_more n ts mid new is after =
+      then_on (skip item ts) (λ x. expect mark.Comma >> pass_separated item n) tt mid is ∙ then_on (expect mark.Comma mid) (λ x. pass_separated item n) tt new after
+
+  pub separated_fault : (n : ℕ) (ts new : Tokens) (e : ParseFault) → Reads (skip item ts) (Err e) new → Reads (pass_separated item (suc n) ts) (Err e) new
+  unfolding pass_separated
+  separated_fault n ts new e r = fault_on (skip item ts) (λ x. expect mark.Comma >> pass_separated item n) e new r
+
+  pub comma_fault :
+      (n : ℕ) (ts mid new : Tokens) (e : ParseFault) → skip item ts ≡ Ok (tt, mid) → Reads (expect mark.Comma mid) (Err e) new → Reads (pass_separated item (suc n) ts) (Err e) new
+  unfolding pass_separated
+  comma_fault n ts mid new e is r =
+      fault_at (pass_separated item (suc n) ts) ((expect mark.Comma >> pass_separated item n) mid) e new (then_on (skip item ts) (λ x. expect mark.Comma >> pass_separated item n) tt mid is)
+      (fault_on (expect mark.Comma mid) (λ x. pass_separated item n) e new r)
+
+pub variables_more : (n : ℕ) (ts new : Tokens) → past_variable ts ≡ Ok (tt, new) → pass_variables (suc n) ts ≡ pass_variables n new
+unfolding pass_variables
+variables_more n ts new is = then_on (past_variable ts) (λ x. pass_variables n) tt new is
+
+pub variables_fault : (n : ℕ) (ts new : Tokens) (e : ParseFault) → Reads (past_variable ts) (Err e) new → Reads (pass_variables (suc n) ts) (Err e) new
+unfolding pass_variables
+variables_fault n ts new e r = fault_on (past_variable ts) (λ x. pass_variables n) e new r
+
+pub blocks_more : (n : ℕ) (ts mid new : Tokens) → past_application ts ≡ Ok (tt, mid) → skip block mid ≡ Ok (tt, new) → pass_blocks (suc n) ts ≡ pass_blocks n new
+unfolding pass_blocks
+blocks_more n ts mid new is after =
+    then_on (past_application ts) (λ x. skip block >> pass_blocks n) tt mid is ∙ then_on (skip block mid) (λ x. pass_blocks n) tt new after
+
+pub application_fault : (n : ℕ) (ts new : Tokens) (e : ParseFault) → Reads (past_application ts) (Err e) new → Reads (pass_blocks (suc n) ts) (Err e) new
+unfolding pass_blocks
+application_fault n ts new e r = fault_on (past_application ts) (λ x. skip block >> pass_blocks n) e new r
+
+pub block_fault :
+    (n : ℕ) (ts mid new : Tokens) (e : ParseFault) → past_application ts ≡ Ok (tt, mid) → Reads (skip block mid) (Err e) new → Reads (pass_blocks (suc n) ts) (Err e) new
+unfolding pass_blocks
+block_fault n ts mid new e is r =
+    fault_at (pass_blocks (suc n) ts) ((skip block >> pass_blocks n) mid) e new (then_on (past_application ts) (λ x. skip block >> pass_blocks n) tt mid is)
+    (fault_on (skip block mid) (λ x. pass_blocks n) e new r)
+
+-- ---- Names
+
+pub at_name : (ts : Tokens) → sees_name ts ≡ true → to_name ts zero ≡ Ok (tt, ts)
+unfolding to_name
+at_name [] sees = absurd (let no : false ≡ true = sees in cc)
+at_name (token.Name n ∷ ts) sees = refl
+at_name (token.Mark k ∷ ts) sees = absurd (let no : false ≡ true = sees in cc)
+at_name (token.Whole n ∷ ts) sees = absurd (let no : false ≡ true = sees in cc)
+at_name (token.Time n ∷ ts) sees = absurd (let no : false ≡ true = sees in cc)
+
+pub past_name : (ts : Tokens) (n : ℕ) → sees_name ts ≡ true → to_name ts (suc n) ≡ to_name (rest_of ts) n
+unfolding to_name
+past_name [] n sees = absurd (let no : false ≡ true = sees in cc)
+past_name (token.Name text ∷ ts) n sees = refl
+past_name (token.Mark k ∷ ts) n sees = absurd (let no : false ≡ true = sees in cc)
+past_name (token.Whole m ∷ ts) n sees = absurd (let no : false ≡ true = sees in cc)
+past_name (token.Time m ∷ ts) n sees = absurd (let no : false ≡ true = sees in cc)
+
+pub past_other : (ts : Tokens) (n : ℕ) → sees_name ts ≡ false → to_name ts n ≡ to_name (rest_of ts) n
+unfolding to_name
+past_other [] n sees = refl
+past_other (token.Name text ∷ ts) n sees = absurd (let no : true ≡ false = sees in cc)
+past_other (token.Mark k ∷ ts) n sees = refl
+past_other (token.Whole m ∷ ts) n sees = refl
+past_other (token.Time m ∷ ts) n sees = refl
+
+-- ---- Statements
+
+pub at_statement : (ts : Tokens) (ready : Bool) → ready ≡ true → begins_statement ts ≡ true → to_statement ts ready zero ≡ Ok (tt, ts)
+unfolding to_statement
+at_statement [] ready o begins = absurd (let no : false ≡ true = begins in cc)
+at_statement (t ∷ ts) ready o begins = rw o (rw begins refl)
+
+pub past_statement : (ts : Tokens) (ready : Bool) (n : ℕ) → ready ≡ true → begins_statement ts ≡ true → to_statement ts ready (suc n) ≡ to_statement (rest_of ts) (opens ts) n
+unfolding to_statement
+past_statement [] ready n o begins = absurd (let no : false ≡ true = begins in cc)
+past_statement (t ∷ ts) ready n o begins = rw o (rw begins refl)
+
+pub past_token : (ts : Tokens) (ready : Bool) (n : ℕ) → (ready && begins_statement ts) ≡ false → to_statement ts ready n ≡ to_statement (rest_of ts) (opens ts) n
+unfolding to_statement
+past_token [] ready zero none = refl
+past_token [] ready (suc n) none = refl
+past_token (t ∷ ts) ready zero none = rw none refl
+past_token (t ∷ ts) ready (suc n) none = rw none refl
+
+pub moved :
+    (ts us : Tokens) (a b : Bool) (m n : ℕ) → us ≡ ts → b ≡ a → n ≡ m → to_statement ts a m ≡ to_statement us b n
+moved ts us a b m n t o k =
+    ap (λ (x : Tokens). to_statement x a m) (sym t) ∙ ap (λ (x : Bool). to_statement us x m) (sym o) ∙ ap (λ (x : ℕ). to_statement us b x) (sym k)
+
+pub moved_name : (ts us : Tokens) (m n : ℕ) → us ≡ ts → n ≡ m → to_name ts m ≡ to_name us n
+moved_name ts us m n t k = ap (λ (x : Tokens). to_name x m) (sym t) ∙ ap (λ (x : ℕ). to_name us x) (sym k)
+
+pub not_ready : (a b : Bool) → a ≡ false → (a && b) ≡ false
+not_ready a b is = rw is refl
+
+pub begins_none : (a b : Bool) → b ≡ false → (a && b) ≡ false
+begins_none true b is = is
+begins_none false b is = refl
+
+-- ---- Tokens that are left
+
+pub from_start : {X : Type 0} (f : ℕ → X) (n : ℕ) → f n ≡ f (n - 0)
+from_start f n = let same : n ≡ n - 0 = omega arith in ap f same
+
+pub none_named : (ts : Tokens) (n : ℕ) → length ts ≡ 0 → to_name ts n ≡ Err (syntax ts)
+unfolding to_name
+none_named [] n e = refl
+none_named (t ∷ ts) n e = absurd (let no : suc (length ts) ≡ 0 = e in cc)
+
+pub none_stated : (ts : Tokens) (ready : Bool) (n : ℕ) → length ts ≡ 0 → to_statement ts ready n ≡ Err (syntax ts)
+unfolding to_statement
+none_stated [] ready n e = refl
+none_stated (t ∷ ts) ready n e = absurd (let no : suc (length ts) ≡ 0 = e in cc)
+
+pub fewer : (ts : Tokens) (k : ℕ) → length ts ≡ suc k → length (rest_of ts) ≡ k
+fewer [] k e = absurd (let no : 0 ≡ suc k = e in cc)
+fewer (t ∷ ts) k e = let is : suc (length ts) ≡ suc k = e in cc

@@ -1,0 +1,346 @@
+-- What the parser reads up to a position of a declaration: the entries before it, as the grammar has them (this project's
+-- own). What is left begins at the position.
+use Rattle.std.specs.Prelude.{ℕ, zero, suc, Bool, true, ◌&&◌, ◌||◌, if◌then◌else◌, [], ◌∷◌, Ok, Err, codes}
+use Rattle.fb_read.specs.declared.token.Mark.{Mark}
+use Rattle.fb_read.specs.declared.token.Mark.TheVariants as mark
+use Rattle.fb_read.specs.declared.token.Token.TheVariants as token
+use Rattle.fb_read.specs.Tokens.{Tokens}
+use Rattle.fb_read.specs.Parser.{Parser, Outcome, ◌>>=◌, ◌>>◌, pure, syntax, sees, eat, expect, name, name_if, ty_name, word, optional, many, section, run_after}
+use Rattle.fb_read.specs.Network.{application, connection, constant, instance, parameter, port}
+use Rattle.fb_read.specs.Ports.{event, ports, variables}
+use Rattle.fb_read.specs.Charts.{action, algorithm, state, states, transition, transitions}
+use Rattle.fb_read.specs.Blocks.{block}
+use Rattle.fb_read.specs.Statements.{begins_statement}
+use Rattle.fb_read_positions.specs.declared.position.BasicPart.{BasicPart}
+use Rattle.fb_read_positions.specs.declared.position.BasicPart.TheVariants as basic_part
+use Rattle.fb_read_positions.specs.declared.position.ConnectionPart.{ConnectionPart}
+use Rattle.fb_read_positions.specs.declared.position.ConnectionPart.TheVariants as connection_part
+use Rattle.fb_read_positions.specs.declared.position.NetworkPart.{NetworkPart}
+use Rattle.fb_read_positions.specs.declared.position.NetworkPart.TheVariants as network_part
+use Rattle.fb_read_positions.specs.declared.position.PortPart.{PortPart}
+use Rattle.fb_read_positions.specs.declared.position.PortPart.TheVariants as port_part
+use Rattle.fb_read_positions.specs.declared.position.Position.{Position}
+use Rattle.fb_read_positions.specs.declared.position.Position.TheVariants as position
+use Rattle.fb_read_positions.specs.declared.position.TransitionPart.{TransitionPart}
+use Rattle.fb_read_positions.specs.declared.position.TransitionPart.TheVariants as transition_part
+
+-- ---- What is passed
+
+-- nothing of what is read is kept
+abbrev pub Walk : Type 0
+Walk = Parser (Unit {0})
+
+unfoldable pub skip : {A : Type 0} → Parser A → Walk
+skip item = do
+  item
+  pure tt
+
+-- this many items
+unfoldable pub pass : {A : Type 0} → Parser A → ℕ → Walk
+pass item zero = pure tt
+pass item (suc n) = do
+  skip item
+  pass item n
+
+-- this many items, with a comma after each
+unfoldable pub pass_separated : {A : Type 0} → Parser A → ℕ → Walk
+pass_separated item zero = pure tt
+pass_separated item (suc n) = do
+  skip item
+  expect mark.Comma
+  pass_separated item n
+
+-- The first token that is left is the name at this index among the names of these tokens.
+unfoldable pub to_name : Tokens → ℕ → Outcome (Unit {0})
+to_name [] n = Err (syntax [])
+to_name (token.Name text ∷ ts) zero = Ok (tt, token.Name text ∷ ts)
+to_name (token.Name text ∷ ts) (suc n) = to_name ts n
+to_name (t ∷ ts) n = to_name ts n
+
+-- ---- Networks
+
+-- up to a name of a connection
+unfoldable pub to_end : ConnectionPart → Walk
+to_end connection_part.From = pure tt
+to_end connection_part.FromPort = do
+  skip name
+  expect mark.Dot
+to_end connection_part.To = do
+  skip port
+  expect mark.To
+to_end connection_part.ToPort = do
+  skip port
+  expect mark.To
+  skip name
+  expect mark.Dot
+
+-- in the section that this mark begins
+unfoldable pub to_connection : Mark → ℕ → ConnectionPart → Walk
+to_connection begin k part = do
+  expect begin
+  pass connection k
+  to_end part
+
+unfoldable pub to_instance_type : ℕ → Walk
+to_instance_type k = do
+  pass instance k
+  skip name
+  expect mark.Colon
+
+unfoldable pub to_parameter : ℕ → ℕ → Walk
+to_parameter k n = do
+  to_instance_type k
+  skip name
+  expect mark.Open
+  pass_separated parameter n
+
+unfoldable pub to_data_connection : ℕ → ConnectionPart → Walk
+to_data_connection k part = do
+  skip (section connection mark.EventConnections mark.EndConnections)
+  to_connection mark.DataConnections k part
+
+abbrev pub to_listed : NetworkPart → Walk
+to_listed (network_part.Instance k) = pass instance k
+to_listed (network_part.InstanceType k) = to_instance_type k
+to_listed (network_part.Parameter k n) = to_parameter k n
+to_listed (network_part.EventConnection k part) = do
+  skip (many instance mark.EndFbs)
+  to_connection mark.EventConnections k part
+to_listed (network_part.DataConnection k part) = do
+  skip (many instance mark.EndFbs)
+  to_data_connection k part
+
+unfoldable pub to_network_part : NetworkPart → Walk
+to_network_part part = do
+  expect mark.Fbs
+  to_listed part
+
+-- ---- Interfaces
+
+-- what is between the last name of a declaration of variables and the next declaration
+unfoldable pub past_type : Walk
+past_type = do
+  expect mark.Colon
+  skip ty_name
+  skip (optional constant mark.Assign)
+  expect mark.Semicolon
+
+-- a variable, up to the next one
+unfoldable pub past_variable : Walk
+past_variable = do
+  skip name
+  more ← eat mark.Comma
+  if more then pure tt else past_type
+
+unfoldable pub pass_variables : ℕ → Walk
+pass_variables zero = pure tt
+pass_variables (suc n) = do
+  past_variable
+  pass_variables n
+
+unfoldable pub to_variable : Mark → ℕ → Walk
+to_variable begin n = do
+  expect begin
+  pass_variables n
+
+unfoldable pub to_event : Mark → ℕ → Walk
+to_event begin n = do
+  expect begin
+  pass event n
+
+-- a variable in the WITH list of an event
+unfoldable pub to_with : Mark → ℕ → ℕ → Walk
+to_with begin n k = do
+  to_event begin n
+  skip name
+  expect mark.With
+  pass_separated name k
+
+unfoldable pub past_event_inputs : Walk
+past_event_inputs = skip (section event mark.EventInput mark.EndEvent)
+
+unfoldable pub past_events : Walk
+past_events = do
+  past_event_inputs
+  skip (section event mark.EventOutput mark.EndEvent)
+
+abbrev pub to_port_part : PortPart → Walk
+to_port_part (port_part.EventInput n) = to_event mark.EventInput n
+to_port_part (port_part.WithInput n k) = to_with mark.EventInput n k
+to_port_part (port_part.EventOutput n) = do
+  past_event_inputs
+  to_event mark.EventOutput n
+to_port_part (port_part.WithOutput n k) = do
+  past_event_inputs
+  to_with mark.EventOutput n k
+to_port_part (port_part.Input n) = do
+  past_events
+  to_variable mark.VarInput n
+to_port_part (port_part.Output n) = do
+  past_events
+  skip (variables mark.VarInput)
+  to_variable mark.VarOutput n
+
+-- ---- Charts and algorithms
+
+unfoldable pub to_state : ℕ → Walk
+to_state n = do
+  skip (variables mark.Var)
+  expect mark.EcStates
+  pass state n
+
+unfoldable pub to_action : ℕ → ℕ → Walk
+to_action n k = do
+  to_state n
+  skip name
+  expect mark.Colon
+  pass_separated action k
+
+unfoldable pub to_output_after : ℕ → ℕ → Walk
+to_output_after n k = do
+  to_action n k
+  skip name
+  expect mark.Arrow
+
+unfoldable pub to_output_alone : ℕ → ℕ → Walk
+to_output_alone n k = do
+  to_action n k
+  expect mark.Arrow
+
+unfoldable pub to_entered : Walk
+to_entered = do
+  skip name
+  expect mark.To
+
+unfoldable pub to_condition : Walk
+to_condition = do
+  to_entered
+  skip name
+  expect mark.Assign
+
+unfoldable pub to_guard : Walk
+to_guard = do
+  to_condition
+  skip name_if
+  expect mark.OpenSquare
+
+abbrev pub to_transition_part : TransitionPart → Walk
+to_transition_part transition_part.From = pure tt
+to_transition_part transition_part.To = to_entered
+to_transition_part transition_part.Condition = to_condition
+to_transition_part transition_part.Guard = to_guard
+to_transition_part (transition_part.Mention n) = do
+  to_guard
+  (λ ts. to_name ts n)
+
+unfoldable pub past_states : Walk
+past_states = do
+  skip (variables mark.Var)
+  skip states
+
+unfoldable pub to_transition : ℕ → TransitionPart → Walk
+to_transition n part = do
+  past_states
+  expect mark.EcTransitions
+  pass transition n
+  to_transition_part part
+
+unfoldable pub to_algorithm : ℕ → Walk
+to_algorithm n = do
+  past_states
+  skip transitions
+  pass algorithm n
+  expect mark.Algorithm
+
+unfoldable pub to_body : ℕ → Walk
+to_body n = do
+  to_algorithm n
+  skip name
+  word (codes "IN")
+  word (codes "ST")
+  expect mark.Colon
+
+-- after this token a statement may begin
+abbrev pub opens : Tokens → Bool
+opens ts = sees mark.Semicolon ts || (sees mark.Then ts || (sees mark.Else ts || (sees mark.Do ts || (sees mark.Repeat ts || sees mark.Colon ts))))
+
+-- The first token that is left begins the statement at this index among those that begin in these tokens. A statement
+-- begins with a token that may begin one, if the token before it is one after which a statement may begin.
+unfoldable pub to_statement : Tokens → Bool → ℕ → Outcome (Unit {0})
+to_statement [] ready n = Err (syntax [])
+to_statement (t ∷ ts) ready zero = if ready && begins_statement (t ∷ ts) then Ok (tt, t ∷ ts) else to_statement ts (opens (t ∷ ts)) zero
+to_statement (t ∷ ts) ready (suc n) = to_statement ts (opens (t ∷ ts)) (if ready && begins_statement (t ∷ ts) then n else suc n)
+
+abbrev pub to_basic_part : BasicPart → Walk
+to_basic_part (basic_part.Internal n) = to_variable mark.Var n
+to_basic_part (basic_part.State n) = to_state n
+to_basic_part (basic_part.Action n k) = to_action n k
+to_basic_part (basic_part.OutputAlone n k) = to_output_alone n k
+to_basic_part (basic_part.OutputAfter n k) = to_output_after n k
+to_basic_part (basic_part.Transition n part) = to_transition n part
+to_basic_part (basic_part.Algorithm n) = to_algorithm n
+to_basic_part (basic_part.Statement n k) = do
+  to_body n
+  (λ ts. to_statement ts true k)
+to_basic_part (basic_part.Mention n k) = do
+  to_body n
+  (λ ts. to_name ts k)
+
+-- ---- Whole libraries
+
+-- the application, if it is next
+unfoldable pub past_application : Walk
+past_application = λ ts. if sees mark.Application ts then skip application ts else Ok (tt, ts)
+
+-- block types, and the application if one follows it
+unfoldable pub pass_blocks : ℕ → Walk
+pass_blocks zero = pure tt
+pass_blocks (suc n) = do
+  past_application
+  skip block
+  pass_blocks n
+
+unfoldable pub to_block : ℕ → Walk
+to_block k = do
+  pass_blocks k
+  past_application
+  expect mark.FunctionBlock
+
+-- after the name of a block type
+unfoldable pub to_ports : ℕ → Walk
+to_ports k = do
+  to_block k
+  skip name
+
+-- after the interface of a block type
+unfoldable pub to_inside : ℕ → Walk
+to_inside k = do
+  to_ports k
+  skip ports
+
+unfoldable pub to_application : Walk
+to_application = do
+  skip (run_after block mark.FunctionBlock [])
+  expect mark.Application
+
+-- after the name of the application
+unfoldable pub to_network : Walk
+to_network = do
+  to_application
+  skip name
+
+unfoldable pub to_position : Position → Walk
+to_position position.Application = to_application
+to_position (position.InApplication part) = do
+  to_network
+  to_network_part part
+to_position (position.Block k) = to_block k
+to_position (position.InPorts k part) = do
+  to_ports k
+  to_port_part part
+to_position (position.InBasic k part) = do
+  to_inside k
+  to_basic_part part
+to_position (position.InComposite k part) = do
+  to_inside k
+  to_network_part part

@@ -1,0 +1,77 @@
+-- The place at which a location of what was declared is shown.
+use Rattle.std.proofs.Common.{◌≡◌, Option, Some, None, Result, Ok, Err, inl, inr, sym, subst}
+use Rattle.std.specs.Prelude.{IfOk, IfSome, MatchOption}
+use Rattle.fb_types.specs.declared.library.Library.{Library}
+use Rattle.fb_read.specs.Blank.{Text}
+use Rattle.fb_read.specs.Whole.{IsLibraryText}
+use Rattle.fb_read.specs.declared.token.Span.{Span}
+use Rattle.fb_read_positions.specs.Places.{IsAt}
+use Rattle.fb_read_positions.specs.declared.position.Position.{Position}
+use Rattle.fb_why_bytes.specs.Locations.{IsLocation, IsStretch}
+use Rattle.fb_why_bytes.specs.declared.text_locations.TextLocation.{TextLocation}
+use Rattle.fb_why.specs.Places.{IsPlaceAt, IsPlaceIn, IsPlaceOf, IsPlacedFinding, IsShown, Keeps}
+use Rattle.fb_why.specs.Positions.{position_of}
+use Rattle.fb_why.specs.declared.place.PlacedFinding.{PlacedFinding}
+use Rattle.fb_why.specs.declared.spot.Finding.{Finding}
+use Rattle.fb_why.specs.declared.spot.Spot.{Spot}
+use Rattle.fb_why.specs.declared.spot.Spot.TheVariants as spot
+
+pub of_some : {A : Type 0} (P : A → Type 0) (o : Option A) (x : A) → o ≡ Some x → IfSome o P → P x
+of_some {A} P o x is holds = subst (λ (y : Option A). IfSome y P) is holds
+
+pub placed :
+    (text : Text) (library : Library) (p : Position) (s : Span) (place : Option TextLocation) → IsAt text library p s → IfSome place (IsLocation text)
+    → IfSome place (λ l. IsStretch s.start s.end l) → IfSome place (IsPlaceAt text library p)
+placed text library p s None at located there = tt
+placed text library p s (Some place) at located there = record { span = s; at = at; there = there; located = located }
+
+pub shown :
+    {E : Type 0} (text : Text) (library : Library) (location : Spot) (p : Position) (made : Result (Option TextLocation) E) → IsLibraryText text library → position_of library location ≡ Some p
+    → IfOk made (λ o. IfSome o (IsPlaceAt text library p)) → IfOk made (λ o. IfSome o (IsShown text location))
+shown text library location p (Err e) read is holds = tt
+shown text library location p (Ok None) read is holds = tt
+shown text library location p (Ok (Some place)) read is holds = record { library = library; read = read; position = p; position_is = is; placed = holds }
+
+-- ---- Findings with their places
+
+pub match_kept :
+    (finding : Option Finding) (o : Option PlacedFinding) (N : Type 0) (P : Spot → Type 0) → MatchOption finding N (λ r. P r.location) → Keeps finding o → MatchOption o N (λ r. P r.finding.location)
+match_kept None o N P holds kept = subst (λ (x : Option PlacedFinding). MatchOption x N (λ r. P r.finding.location)) (sym kept) holds
+match_kept (Some f) None N P holds kept = absurd kept
+match_kept (Some f) (Some r) N P holds kept = subst P (sym kept) holds
+
+pub kept_found :
+    {E : Type 0} (finding : Option Finding) (made : Result (Option PlacedFinding) E) (N : Type 0) (P : Spot → Type 0) → MatchOption finding N (λ r. P r.location) → IfOk made (Keeps finding)
+    → IfOk made (λ o. MatchOption o N (λ r. P r.finding.location))
+kept_found finding (Err e) N P holds kept = tt
+kept_found finding (Ok o) N P holds kept = match_kept finding o N P holds kept
+
+pub some_kept : (finding : Option Finding) (o : Option PlacedFinding) (P : Spot → Type 0) → IfSome finding (λ r. P r.location) → Keeps finding o → IfSome o (λ r. P r.finding.location)
+some_kept None o P holds kept = subst (λ (x : Option PlacedFinding). IfSome x (λ r. P r.finding.location)) (sym kept) tt
+some_kept (Some f) None P holds kept = absurd kept
+some_kept (Some f) (Some r) P holds kept = subst P (sym kept) holds
+
+pub of_location : (location : Spot) (place : Option TextLocation) (text : Text) → IfSome place (λ p. location ≡ spot.Text p) → IfSome place (IsPlaceOf text location)
+of_location location None text is = tt
+of_location location (Some p) text is = inl is
+
+pub kept_of :
+    {E : Type 0} (finding : Finding) (given : Option Finding) (made : Result (Option PlacedFinding) E) → given ≡ Some finding
+    → IfOk made (λ o. MatchOption o ⊥ (λ r. r.finding.location ≡ finding.location)) → IfOk made (Keeps given)
+kept_of finding given (Err e) same holds = tt
+kept_of finding given (Ok o) same holds = subst (λ (x : Option Finding). Keeps x o) (sym same) holds
+
+widened : (text : Text) (location : Spot) (q : Option TextLocation) → IfSome q (IsShown text location) → IfSome q (IsPlaceOf text location)
+widened text location None s = tt
+widened text location (Some x) s = inr s
+
+pub placed_of :
+    {E : Type 0} (text : Text) (finding : Finding) (place : Result (Option TextLocation) E) (made : Result (Option PlacedFinding) E)
+    → IfOk place (λ o. IfSome o (IsShown text finding.location)) → IfOk made (λ o. MatchOption o ⊥ (λ r. r.finding.location ≡ finding.location))
+    → IfOk made (λ o. IfSome o (λ r. IsPlaceIn r.place place)) → IfOk made (λ o. IfSome o (IsPlacedFinding text))
+placed_of text finding place (Err e) shown located has = tt
+placed_of text finding place (Ok None) shown located has = tt
+placed_of text finding (Err e) (Ok (Some r)) shown located has = absurd has
+placed_of text finding (Ok p) (Ok (Some r)) shown located has =
+    subst (λ (l : Spot). IfSome r.place (IsPlaceOf text l)) (sym located)
+    (subst (λ (q : Option TextLocation). IfSome q (IsPlaceOf text finding.location)) (sym has) (widened text finding.location p shown))

@@ -1,0 +1,27 @@
+"""The source line with a mark that the program shows after a note with a place (docs/FORMATS.md, "Program")."""
+
+import re
+
+PLACE = re.compile(rb"([^\n]*?):([0-9]+):([0-9]+): E[0-9][0-9]: ")
+MOST_SHOWN = 200
+MOST_BEFORE = 100
+BYTE_ORDER_MARK = b"\xef\xbb\xbf"
+
+
+def source_line(text, line, column):
+    """Returns the line of a text, cut round the byte in this column, and a line with a mark under the byte."""
+    whole = text.split(b"\n")[line - 1].removesuffix(b"\r")
+    at = column - 1
+    first = min(max(at - MOST_BEFORE, 0), max(len(whole) - MOST_SHOWN, 0))
+    part = bytes(it if it == 9 or 32 <= it < 127 else 63 for it in whole[first : first + MOST_SHOWN])
+    before = bytes(9 if it == 9 else 32 for it in whole[first:at]).ljust(at - first)
+    return part + b"\n" + before + b"^\n"
+
+
+def with_source(note, texts):
+    """Returns a note with the source line of its place, if it begins with one. `texts` has the text of each file by its name."""
+    found = PLACE.match(note)
+    if not found:
+        return note
+    name, line, column = found[1], int(found[2]), int(found[3])
+    return note + source_line(texts[name], line, column)
