@@ -247,7 +247,7 @@ HELP_OF_RUN = (
     "--workers", "number of threads", "1 to 64", "--serial", "on one thread", "--progress", "each hundredth of the horizon", "--trace", "form of the trace",
     "Example: fbsim run ",
 )
-HELP_OF_CHECK = (*HELP_OF_FILES, "Example: fbsim check ")
+HELP_OF_CHECK = (*HELP_OF_FILES, "--lint", "Reports warnings", "Example: fbsim check ")
 HELP_OF_WAVE = (
     "DECL", "declaration of the types", "TRACE", "file with the trace", "--types", "--deploy", "in TOML", "at most 1 MiB", "--cut", "cut off", "--why", "Prints the location", "Example: fbsim wave ",
 )
@@ -257,7 +257,7 @@ HELP_OF_EXPECT = (
 )
 HELP_OF_DIFF = ("first trace", "second trace", "Example: fbsim diff ")
 HELP_OF_DRAW = ("DECL", "declaration of the types", "--types", "once for each file", "--deploy", "in TOML", "--type", "type to draw", "network of a composite", "Example: fbsim draw ")
-HELP_OF_EXPLAIN = ("NAME", "name of the refusal", "E01 to E45", "steps, divide or range", "Example: fbsim explain E21")
+HELP_OF_EXPLAIN = ("NAME", "name of the refusal", "E01 to E45", "L01 to L13", "steps, divide or range", "Example: fbsim explain E21")
 HELP_OF_ALL = (
     "run", "writes its trace", "check", "the first fault", "wave", "value change dump", "expect", "Checks rules", "diff", "the same bytes", "draw", "graphviz", "explain",
     "what a refusal or the reason of a stop means", "a millisecond", "Example: fbsim run ",

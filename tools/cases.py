@@ -18,6 +18,7 @@ one. A group has
   or a difference, to the byte. The text that the program gets on standard input is called `-`, the first one of `diff` `FIRST`, `block_types` and `more_block_types`
   `TYPES` and `MORE`
 - `why`: the line after the refusal, for `--why`. The source line with a mark follows a line that begins with a place
+- `lint`: the warnings about what is accepted, for `--lint`
 - `rows`: one case each; a group without rows is one case. A row is the list of its values by `columns`, by default `text` and
   `answer`. A row that is only a text has that as its first value, and no others. A column with the name of a field above is that field
 - `within`: `columns` and `rows` again. Each case is tried with each of these rows
@@ -62,7 +63,7 @@ FILES = {"block_types": ["--types"], "more_block_types": ["--types"], "deploymen
 FILES_OF = {"expect": {"rules": [], "declaration": ["--decl"], "deployment": ["--deploy"]}, "diff": {"first": []}}
 CALLED = {"block_types": b"TYPES", "more_block_types": b"MORE"}
 NUMBERS = {"horizon": "--horizon", "steps": "--steps", "form": "--trace"}
-FIELDS = {"declaration", "answer", "why", "rules", "options", "first", "second", *FILES, *NUMBERS}
+FIELDS = {"declaration", "answer", "why", "lint", "rules", "options", "first", "second", *FILES, *NUMBERS}
 OF_GROUP = {"name", "command", "rows", "columns", "within", "text", "bytes", *FIELDS}
 REFUSAL = re.compile(r"E[0-4][0-9]|E03 ((TYPES|MORE|-) )?line [1-9][0-9]*|trace (- )?line [1-9][0-9]*")
 NAMED = re.compile(r"\$\{(\w+)\}")
@@ -141,7 +142,7 @@ def wanted(case):
         texts = {name: fields[field] for field, name in CALLED.items() if field in fields}
         return 2, b"", b"refused " + answer + b"\n" + with_source(fields.get("why", b""), {b"-": fields.get("declaration", b""), **texts})
     if answer == b"accepted":
-        return 0, b"accepted\n", b""
+        return 0, b"accepted\n", fields.get("lint", b"")
     if answer == b"same":
         return 0, b"", b""
     if answer.startswith(b"TAP "):
@@ -178,7 +179,7 @@ def words_of(room, case):
     words = [case.command, *(["-"] if files is FILES else []), *sum(named, []), *(["-"] if files is not FILES else [])]
     for field in [it for it in NUMBERS if it in case.fields and case.command == "run"]:
         words += [NUMBERS[field], case.fields[field].decode()]
-    return words + case.fields.get("options", b"").decode().split() + ["--why"] * ("why" in case.fields)
+    return words + case.fields.get("options", b"").decode().split() + ["--why"] * ("why" in case.fields) + ["--lint"] * ("lint" in case.fields)
 
 
 def fault_of(room, case):

@@ -40,7 +40,7 @@ END_FOR WHILE END_WHILE REPEAT UNTIL END_REPEAT EXIT RETURN AND OR XOR NOT MOD""
 SIGNS = "; : , . .. ( ) [ ] := -> = <> < > <= >= + - * / &".split()
 TRIED = {**KINDS, **{it: it for it in (*WORDS, *KEYWORDS, *SIGNS)}}
 
-HERE = "line 2, column 1: found "
+HERE = re.compile(r"(line 2, column 1: |-:2:1: E03: )found ")
 
 
 def listed(line, found):
@@ -50,9 +50,9 @@ def listed(line, found):
 
 
 def why(room, text):
-    """Returns the line that --why prints of a declaration, or nothing if it is accepted."""
+    """Returns the line of the place that --why prints of a declaration, or nothing if it is accepted."""
     ran = room.call(["check", "-", "--why"], text.encode())
-    return ran.stderr.decode().partition("\n")[2].rstrip("\n")
+    return "".join(ran.stderr.decode().splitlines()[1:2])
 
 
 def places(room):
@@ -72,7 +72,7 @@ def fault_of(room, case):
     """Returns what is wrong with the list of tokens after a text, by one token that is put there, or None."""
     text, words, name, token = case
     line = why(room, f"{text}\n{token}")
-    if not line.startswith(HERE):
+    if not HERE.match(line):
         is_name = name in WORDS and "name" in words
         return None if name in words or is_name else f"{text[-60:]!r}: {token} may follow, and is not listed: {sorted(words)}"
     if name in words:

@@ -3,7 +3,7 @@
 
 A declaration, a deployment and stimuli that are accepted are cut at each byte, and each of their bytes is replaced in turn
 by each of five others. The program must accept the text and its run must end, or refuse it with a number and write nothing.
-Then --why must print a line more, which has the line of a syntax fault too. A declaration that lacks a part of its last word is refused
+Then --why must print the place too, which for a syntax fault is on the line of the refusal. A declaration that lacks a part of its last word is refused
 for its tokens or for its grammar.
 
 ./gate makes these calls each time it has run the program. Without ./gate they use the program that ./simulate built."""
@@ -54,10 +54,10 @@ FILES = {
     "merges.csv": b"tick,event,values\n8,P.EI1,\n10,Q.EI1,\n",
 }
 ENDED = re.compile(rb"([0-9]+ .*\n)*(end [0-9]+|stop [0-9]+ \w+ \w+)\n")
-OF_TOKENS = rb"\nline [1-9][0-9]*, column [1-9][0-9]*: .+"
-OF_GRAMMAR = rb"E03 line (?P<line>[1-9][0-9]*)\nline (?P=line), column [1-9][0-9]*: .+"
-REFUSED = re.compile(rb"refused (" + OF_GRAMMAR + rb"|E0[1245]" + OF_TOKENS + rb"|E([12][0-9]|30)\n.+)\n")
-CUT = re.compile(rb"refused (" + OF_GRAMMAR + rb"|E02" + OF_TOKENS + rb")\n")
+OF_TOKENS = rb"\n(line [1-9][0-9]*, column |-:[1-9][0-9]*:)[1-9][0-9]*: .+"
+OF_GRAMMAR = rb"E03 line (?P<line>[1-9][0-9]*)\n(line (?P=line), column |-:(?P=line):)[1-9][0-9]*: .+"
+REFUSED = re.compile(rb"refused (" + OF_GRAMMAR + rb"|E0[1245]" + OF_TOKENS + rb"|E([12][0-9]|30)\n.+)\n(.*\n)*")
+CUT = re.compile(rb"refused (" + OF_GRAMMAR + rb"|E02" + OF_TOKENS + rb")\n(.*\n)*")
 
 
 class Text(NamedTuple):

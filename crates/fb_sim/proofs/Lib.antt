@@ -1,9 +1,11 @@
 pub mod AdvanceIs
 pub mod AgendaIs
 mod Coming
+pub mod Crossing
 pub mod DeliverIs
 pub mod Edges
 mod Ending
+pub mod FirstRounds
 pub mod Fronts
 pub mod Joined
 pub mod OneAgendaIs

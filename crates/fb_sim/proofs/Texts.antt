@@ -1,11 +1,14 @@
 -- The text of a trace that is written piece by piece, with the counts of its bytes.
-use Rattle.std.proofs.Common.{◌≡◌, ℕ, zero, suc, ◌+◌, ◌<◌, List, [], ◌∷◌, ◌++◌, length, take, Option, refl, sym, ap, ◌∙◌, subst, arith, append_assoc, length-append}
+use Rattle.std.proofs.Common.{◌≡◌, ℕ, zero, suc, ◌+◌, ◌<◌, List, [], ◌∷◌, ◌++◌, map, length, take, Option, refl, sym, ap, ◌∙◌, subst, arith, append_assoc, length-append}
 use Rattle.std.specs.Io.KnownBytes.{Appends}
 use Rattle.std.proofs.KnownBytes.{Appends-trans}
+use Rattle.std.proofs.lemmas.List.{map-append}
+use Rattle.fb_types.specs.Numbers.{line_of}
 use Rattle.fb_types.specs.Systems.{System}
 use Rattle.fb_types.specs.States.{Line}
 use Rattle.fb_types.specs.Text.{line_text, lines_text}
 use Rattle.fb_types.specs.declared.run.Form.{Form}
+use Rattle.fb_types.specs.declared.run.Line as run
 use Rattle.fb_trace.specs.Progress.{IsPartWritten, bounded}
 
 -- the text of lines, and then of more lines
@@ -14,6 +17,14 @@ lines_text-append form sys [] ls = refl
 lines_text-append form sys (k ∷ ks) ls =
     ap (λ (t : List ℕ). line_text form sys k ++ t) (lines_text-append form sys ks ls)
     ∙ sym (append_assoc (line_text form sys k) (lines_text form sys ks) (lines_text form sys ls))
+
+-- the text of two parts of lines, one after the other
+pub parts_text : (form : Form) (sys : System) (xs ys zs : List run.Line) → zs ≡ xs ++ ys
+    → lines_text form sys (map (line_of sys) xs) ++ lines_text form sys (map (line_of sys) ys) ≡ lines_text form sys (map (line_of sys) zs)
+parts_text form sys xs ys zs e =
+    sym (lines_text-append form sys (map (line_of sys) xs) (map (line_of sys) ys))
+    ∙ ap (lines_text form sys) (sym (map-append (line_of sys) xs ys))
+    ∙ ap (λ (ls : List run.Line). lines_text form sys (map (line_of sys) ls)) (sym e)
 
 -- ---- What is taken of two texts
 

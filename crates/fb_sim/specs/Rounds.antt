@@ -34,6 +34,8 @@ use Rattle.fb_sim.specs.declared.progress.Round.{Round}
 use Rattle.fb_sim.specs.declared.progress.Round.TheVariants.{Going, Ended, Stopped}
 use Rattle.fb_sim.specs.declared.tally.Tally.{Tally}
 use Rattle.fb_sim.specs.declared.tally.Written.{Written}
+use Rattle.fb_sim.specs.declared.trial.Leg.{Leg}
+use Rattle.fb_sim.specs.declared.trial.Leg.TheVariants as legs
 
 -- ---- What was handed out
 
@@ -185,6 +187,27 @@ RunsOn i o ls old new (Err Memory) = (out : List Line) × Begin i o.steps o.hori
 RunsOn i o ls old new (Err (Refused r)) = ⊥
 RunsOn i o ls old new (Err BadOption) = ⊥
 RunsOn i o ls old new (Err Failed) = ⊥
+
+-- These lines were handed out of the core, from the opening on; this is their text, and this many bytes and lines.
+pub record HasBegun (i : Inputs) (o : Options) (core : CoreState) (w : Written) (text : List ℕ) : Type 0 where
+  pub out : List Line
+  pub come : HasCome i o.steps o.horizon core out
+  pub is : text ≡ text_of i o.form out
+  pub counted : w.bytes ≡ bounded (length text)
+  pub lined : w.lines ≡ bounded (length out)
+
+-- All lines were handed out; this is their text, and this many bytes and lines.
+pub record HasRunOut (i : Inputs) (o : Options) (finish : Finish) (w : Written) (text : List ℕ) : Type 0 where
+  pub out : List Line
+  pub finished : IsFinished i o.steps o.horizon finish out
+  pub is : text ≡ text_of i o.form out
+  pub counted : w.bytes ≡ bounded (length text)
+  pub lined : w.lines ≡ bounded (length out)
+
+-- where the first rounds have led, with the text of their lines
+abbrev pub IsLeg : Inputs → Options → Leg → Written → (text : List ℕ) → Type 0
+IsLeg i o (legs.Going core) w text = HasBegun i o core w text
+IsLeg i o (legs.Over finish) w text = HasRunOut i o finish w text
 
 -- The writer got the first bytes of the trace, of whole lines.
 pub record WritesFront (given : Given) (o : Options) (old new : Option (List ℕ)) : Type 0 where

@@ -27,12 +27,15 @@ use crate::one_agenda::machine::Machine;
 use crate::one_agenda::pause::Pause;
 use crate::options::Options;
 use crate::outcome::RunError;
+use crate::pace::{Par, Stopwatch, Verdict};
 use crate::rounds::hand_out;
 use crate::runs::close;
 use fb_system::System;
 use fb_trace::Outcome;
-use std::alloc::Global;
+use std::alloc::{AllocError, Global};
+use std::io;
 use std::io::Write;
+use std::time::CpuClock;
 
 /// This many lines are gathered before they are written: enough for few writes, and few enough to stay in a processor's
 /// cache until then.
@@ -66,6 +69,46 @@ fn run_through<W: Write>(
             Pause::Lines => machine.clear_lines(),
             Pause::Horizon => return Ok((Outcome::End(options.horizon), written)),
             Pause::Stop(mark) => return Ok((Outcome::Stop(mark), written)),
+        }
+    }
+}
+
+/// After this many lines a trial reads the clock again.
+const SOME_LINES: usize = 64;
+
+/// Whether one agenda gives the first lines of a run, and their text, in less time than rounds did. Nothing is written.
+///
+/// # Errors
+/// When memory runs out.
+pub(crate) fn is_quicker<C: CpuClock>(
+    alloc: Global,
+    system: &System,
+    options: Options,
+    par: Par,
+    clock: &C,
+) -> Result<bool, AllocError>
+    requires options { AreWithin options }
+{
+    let mut machine = Machine::open(alloc, system)?;
+    let watch = Stopwatch::start_on_thread(clock);
+    let mut lines: u128 = 0;
+    loop {
+        let pause = machine.go_on(system, options.horizon, options.steps, SOME_LINES)?;
+        if hand_out(&mut io::sink(), system, options.form, machine.lines()).is_err() {
+            return Ok(false);
+        }
+        lines = lines.saturating_add(machine.lines().len() as u128);
+        let Some(nanoseconds) = watch.worked(clock) else {
+            return Ok(false);
+        };
+        match par.judge(nanoseconds, lines) {
+            Verdict::Slower => return Ok(false),
+            Verdict::Quicker => return Ok(true),
+            Verdict::Open => {}
+        }
+        match pause {
+            Pause::Lines => machine.clear_lines(),
+            Pause::Horizon | Pause::Stop(_) => return Ok(true),
         }
     }
 }

@@ -24,6 +24,7 @@ ghost use Rattle.fb_sim.specs.declared.outcome.RunError.TheVariants.{Memory};
 
 use crate::options::Options;
 use crate::outcome::RunError;
+use crate::printing::hand_out_by;
 use crate::progress::Round;
 use crate::tally::{LONGEST_WINDOW, RoundPlan, Tally};
 use crate::work::Windows;
@@ -213,7 +214,8 @@ pub(crate) fn round_with_counts<R: Threads + Wait + Sync, W: Write, P: Gate>(
     let (settled, busy, lines) = window(rt, alloc, system, core, plan.options, plan.ticks, gate)?;
     let finals = lines_of(&settled);
     let final_lines = finals.len() as u128;
-    let bytes = hand_out(out, system, plan.options.form, finals)?;
+    let Options { form, workers, .. } = plan.options;
+    let bytes = hand_out_by(rt, alloc, out, system, form, finals, workers as usize)?;
     let tally = Tally {
         bytes,
         busy,

@@ -9,11 +9,13 @@ ghost use Rattle.fb_sim.specs.Given.{Given};
 ghost use Rattle.fb_sim.specs.Serial.{AreWithin, Declares, Writes};
 ghost use Rattle.fb_sim.specs.Rounds.{FailsRun, HasCome, IsShort};
 
-use crate::drive::{Finish, run_on};
+use crate::drive::Finish;
 use crate::one_agenda::run_one_agenda;
 use crate::options::{Inputs, Options};
 use crate::outcome::RunError;
+use crate::pace::{NoClock, threads_for};
 use crate::reading::open;
+use crate::trial::{choose, run_first, run_rest};
 use fb_phase::Gate;
 use fb_resource::Resource;
 use fb_system::System;
@@ -23,6 +25,7 @@ use std::alloc::{AllocError, Global};
 use std::io::Write;
 use std::sync::Wait;
 use std::thread::Threads;
+use std::time::{Clock, CpuClock};
 
 /// The core of a system before the first event.
 pub fn open_core(alloc: Global, system: &System, steps: u64) -> Result<Core, AllocError>
@@ -51,24 +54,31 @@ pub(crate) fn close<W: Write>(
     }
 }
 
-/// Runs an accepted system with one worker or with several, and writes its trace.
-fn run_system<R: Threads + Wait + Sync, W: Write, P: Gate>(
+/// Runs an accepted system with several workers, and writes its trace.
+fn run_workers<R: Threads + Wait + Sync, W: Write, P: Gate, C: Clock + CpuClock>(
     rt: &R,
     alloc: Global,
     system: &System,
     options: Options,
     out: &mut W,
     gate: &P,
+    clock: &C,
 ) -> Result<Outcome, RunError>
     requires { AreWithin options }
     ensures trace { (given : Given) → Declares given system.now → IfOk result (λ o. Writes given options (W.contents out.old) (W.contents out.new) (ending_of o)) }
     ensures failed { (given : Given) → Declares given system.now → IfErr result (FailsRun given options (W.contents out.old) (W.contents out.new)) }
 {
-    if options.workers == 1 {
-        return run_one_agenda(alloc, system, options, out);
-    }
+    let workers = threads_for(rt, options.workers);
+    let fewer = Options { workers, ..options };
     let core = open_core(alloc, system, options.steps)?;
-    let (finish, written) = run_on(rt, alloc, system, core, options, out, gate)?;
+    let mut text = Vec::new(alloc);
+    let (leg, begun, par) = run_first(rt, alloc, system, core, fewer, &mut text, gate, clock)?;
+    let chosen = choose(alloc, system, options, leg, par, clock)?;
+    let Some(leg) = chosen else {
+        return run_one_agenda(alloc, system, options, out);
+    };
+    let text = text.as_slice();
+    let (finish, written) = run_rest(rt, alloc, system, leg, begun, text, fewer, out, gate)?;
     match finish {
         Finish::AtEnd(_) => {
             close(out, system, Outcome::End(options.horizon), written.bytes)?;
@@ -81,13 +91,36 @@ fn run_system<R: Threads + Wait + Sync, W: Write, P: Gate>(
     }
 }
 
+/// Runs an accepted system with one worker or with several, and writes its trace. One resource leaves nothing to do for
+/// a second worker.
+fn run_system<R: Threads + Wait + Sync, W: Write, P: Gate, C: Clock + CpuClock>(
+    rt: &R,
+    alloc: Global,
+    system: &System,
+    options: Options,
+    out: &mut W,
+    gate: &P,
+    clock: &C,
+) -> Result<Outcome, RunError>
+    requires { AreWithin options }
+    ensures trace { (given : Given) → Declares given system.now → IfOk result (λ o. Writes given options (W.contents out.old) (W.contents out.new) (ending_of o)) }
+    ensures failed { (given : Given) → Declares given system.now → IfErr result (FailsRun given options (W.contents out.old) (W.contents out.new)) }
+{
+    if options.workers == 1 || system.resources() == 1 {
+        return run_one_agenda(alloc, system, options, out);
+    }
+    run_workers(rt, alloc, system, options, out, gate, clock)
+}
+
 /// Runs the application of the inputs with workers, and writes its trace, which is that of a run on one thread.
 ///
 /// One worker always takes the least event of all, and writes the lines piece by piece, without a gate: it runs as
-/// `run_serial` does. Several run in rounds: each round runs every resource as far as no message can reach it any more,
-/// then exchanges the messages, and then writes the lines that have become final. After a light round the run makes up to
-/// 256 turns of single resources, on the calling thread and without a gate. No memory is allocated between the first byte
-/// of a piece or a round and its last. It waits for its workers, and for the gate where that waits.
+/// `run_serial` does. So does any number of workers if there is one resource. Otherwise several run in rounds: each round
+/// runs every resource as far as no message can reach it any more, then exchanges the messages, and then writes the lines
+/// that have become final. After a light round the run makes up to 256 turns of single resources, on the calling thread
+/// and without a gate. There are no more threads than processors, but two at least. The text of the first round is
+/// gathered in memory. No memory is allocated between the first byte of a piece or a round and its last. It waits for its
+/// workers, and for the gate where that waits. It reads no clock: `run_with_clock` does.
 ///
 /// # Errors
 /// `BadOption` before all else; then `Refused`, after which nothing was written; `Memory`, after which a beginning of
@@ -133,9 +166,31 @@ pub fn run<R: Threads + Wait + Sync, W: Write, P: Gate>(
     ensures trace { IfOk result (λ o. Writes inputs.now options (W.contents out.old) (W.contents out.new) (ending_of o)) }
     ensures failed { IfErr result (FailsRun inputs.now options (W.contents out.old) (W.contents out.new)) }
 {
+    run_with_clock(rt, alloc, inputs, options, out, gate, &NoClock)
+}
+
+/// Runs the application of the inputs as `run` does, and lets clocks decide how. Several workers make a round, and then
+/// rounds for two milliseconds, one at least, whose text waits in memory. Then one agenda gives as many lines: if it is
+/// quicker, by the processor time of this thread, the run begins again on it, and goes on so. If a clock can't be read,
+/// rounds go on. The trace is the same.
+///
+/// # Errors
+/// Those of `run`.
+pub fn run_with_clock<R: Threads + Wait + Sync, W: Write, P: Gate, C: Clock + CpuClock>(
+    rt: &R,
+    alloc: Global,
+    inputs: &Inputs<'_>,
+    options: Options,
+    out: &mut W,
+    gate: &P,
+    clock: &C,
+) -> Result<Outcome, RunError>
+    ensures trace { IfOk result (λ o. Writes inputs.now options (W.contents out.old) (W.contents out.new) (ending_of o)) }
+    ensures failed { IfErr result (FailsRun inputs.now options (W.contents out.old) (W.contents out.new)) }
+{
     if !options.are_within() {
         return Err(RunError::BadOption);
     }
     let system = open(alloc, inputs)?;
-    run_system(rt, alloc, &system, options, out, gate)
+    run_system(rt, alloc, &system, options, out, gate, clock)
 }

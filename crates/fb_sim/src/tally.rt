@@ -66,6 +66,16 @@ impl Written {
             lines: self.lines.saturating_add(round.final_lines),
         }
     }
+
+    /// What is written once this is written too.
+    pub(crate) fn and(self, rest: Written) -> Written
+        ensures { result ≡ record { bytes = bounded (self.bytes + rest.bytes); lines = bounded (self.lines + rest.lines) } }
+    {
+        Written {
+            bytes: self.bytes.saturating_add(rest.bytes),
+            lines: self.lines.saturating_add(rest.lines),
+        }
+    }
 }
 
 /// How a round is made.

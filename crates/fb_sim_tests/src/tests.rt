@@ -5,6 +5,7 @@
 mod advances;
 mod board;
 mod calls;
+mod clocks;
 mod examples;
 mod files;
 mod gates;

@@ -1,4 +1,4 @@
--- What is explained, by the names in the lines of faults (the numbers are this project's profile) and in the last lines of traces.
+-- What is explained, by the names in the lines of faults and warnings (the numbers are this project's profile) and in the last lines of traces.
 use Rattle.std.specs.Prelude.{List, [], ◌∷◌, ◌++◌, codes}
 use Rattle.fb_types.specs.Names.{Name}
 
@@ -16,8 +16,13 @@ of_checks =
 abbrev pub of_rules : List Name
 of_rules = codes "E40" ∷ codes "E41" ∷ codes "E42" ∷ codes "E43" ∷ codes "E44" ∷ codes "E45" ∷ []
 
+abbrev pub of_warnings : List Name
+of_warnings =
+    codes "L01" ∷ codes "L02" ∷ codes "L03" ∷ codes "L04" ∷ codes "L05" ∷ codes "L06" ∷ codes "L07" ∷ codes "L08" ∷ codes "L09" ∷ codes "L10" ∷ codes "L11"
+    ∷ codes "L12" ∷ codes "L13" ∷ []
+
 abbrev pub of_stops : List Name
 of_stops = codes "steps" ∷ codes "divide" ∷ codes "range" ∷ []
 
 abbrev pub explained : List Name
-explained = of_declarations ++ of_inputs ++ (of_checks ++ codes "file fault" ∷ []) ++ of_rules ++ of_stops
+explained = of_declarations ++ of_inputs ++ (of_checks ++ codes "file fault" ∷ []) ++ of_rules ++ of_warnings ++ of_stops

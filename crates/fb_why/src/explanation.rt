@@ -1,4 +1,4 @@
-//! The explanation of a refusal or of the reason of a stop.
+//! The explanation of a refusal, of a warning, or of the reason of a stop.
 
 ghost use Rattle.std.specs.Prelude.{◌≡◌, ◌++◌, ◌∷◌, ◌||◌, [], true, Contains, IfSome, codes, is_some, map};
 ghost use Rattle.std.specs.List.{list_any};
@@ -6,7 +6,9 @@ ghost use Rattle.std.specs.Str.{str_eq_ignore_ascii_case};
 ghost use Rattle.fb_why.specs.Explained as spec;
 ghost use Rattle.fb_why.specs.Explained.{explained};
 
-use crate::table::{Explanation, OF_CHECKS, OF_DECLARATIONS, OF_INPUTS, OF_RULES, OF_STOPS};
+use crate::table::{
+    Explanation, OF_CHECKS, OF_DECLARATIONS, OF_INPUTS, OF_RULES, OF_STOPS, OF_WARNINGS,
+};
 
 // A search needs only the names in a table. So each table is lent by a function whose contract is about the names only.
 
@@ -32,6 +34,12 @@ fn of_rules() -> &'static [Explanation]
     ensures { map (λ e. e.name.now) result.now ≡ spec.of_rules }
 {
     &OF_RULES
+}
+
+fn of_warnings() -> &'static [Explanation]
+    ensures { map (λ e. e.name.now) result.now ≡ spec.of_warnings }
+{
+    &OF_WARNINGS
 }
 
 fn of_stops() -> &'static [Explanation]
@@ -73,8 +81,8 @@ fn or_look_up(found: Option<Explanation>, table: &[Explanation], name: &str) -> 
     }
 }
 
-/// The explanation of a refusal by its name in the fault's line, such as `E21` or `file fault`, or of a reason by its name
-/// in the last line of a trace, such as `divide`. Letter case makes no difference.
+/// The explanation of a refusal or a warning by its name in the line, such as `E21`, `file fault` or `L01`, or of a reason
+/// by its name in the last line of a trace, such as `divide`. Letter case makes no difference.
 pub fn explain(name: &str) -> Option<Explanation>
     ensures named { IfSome result (λ e. str_eq_ignore_ascii_case e.name.now name.now ≡ true) }
     ensures all { is_some result ≡ list_any (λ n. str_eq_ignore_ascii_case n name.now) explained }
@@ -83,5 +91,6 @@ pub fn explain(name: &str) -> Option<Explanation>
     let given = or_look_up(declared, of_inputs(), name);
     let checked = or_look_up(given, of_checks(), name);
     let ruled = or_look_up(checked, of_rules(), name);
-    or_look_up(ruled, of_stops(), name)
+    let warned = or_look_up(ruled, of_warnings(), name);
+    or_look_up(warned, of_stops(), name)
 }

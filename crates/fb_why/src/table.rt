@@ -1,19 +1,19 @@
-//! What each refusal and each reason of a stop means, with examples of it and what to look at.
+//! What each refusal, each warning and each reason of a stop means, with examples of it and what to look at.
 
-/// The explanation of a refusal, of a fault of a file, or of the reason of a stop.
+/// The explanation of a refusal, of a fault of a file, of a warning, or of the reason of a stop.
 #[derive(Clone, Copy)]
 pub struct Explanation {
-    /// Its name in the line of the fault, or in the last line of a trace.
+    /// Its name in the line of the fault or of the warning, or in the last line of a trace.
     pub name: &'static str,
     /// What it means.
     pub meaning: &'static str,
-    /// Two inputs that are refused for it, or that stop a run.
+    /// Two inputs that are refused for it, that have the warning, or that stop a run.
     pub examples: [&'static str; 2],
     /// What to check.
     pub look: &'static str,
 }
 
-// Five tables, since the proof of the function that lends one takes time in the square of its text. docs/FORMATS.md
+// Six tables, since the proof of the function that lends one takes time in the square of its text. docs/FORMATS.md
 // shows them one after another; `tools/explained.py` compares.
 
 /// Refusals of the text of a declaration.
@@ -299,6 +299,127 @@ pub static OF_RULES: [Explanation; 6] = [
             "`* < VALVE.CLOSED Q=TRUE` where `Q` is not WITH the event.",
         ],
         look: "Typing errors; the resource of the instance; `>` for an event output, or `<` for an event input. Without `--decl` the report lists the patterns that no line of a trace matches.",
+    },
+];
+
+/// Warnings about inputs that are accepted.
+pub static OF_WARNINGS: [Explanation; 13] = [
+    Explanation {
+        name: "L01",
+        meaning: "No event input of the block type samples a data input.",
+        examples: [
+            "A data input that is in no WITH of an event input.",
+            "`REQ WITH A` where the algorithm reads `A` and `B`.",
+        ],
+        look: "The WITH lists of the event inputs. An input that nothing samples keeps its initial value or its parameter.",
+    },
+    Explanation {
+        name: "L02",
+        meaning: "A data input of an instance has no source, no parameter and no stimulus.",
+        examples: [
+            "`D : E_DELAY;` with no `DT`: the delay is 0.",
+            "An input whose data connection leads to another instance.",
+        ],
+        look: "The data connections of the network, the parameters of the instance, and, for an instance of the application, the values of the stimuli. The input keeps its initial value.",
+    },
+    Explanation {
+        name: "L03",
+        meaning: "A guard reads a data input that the event of its transition does not sample.",
+        examples: [
+            "`IDLE TO RUN := REQ [LEVEL > 3]` where `LEVEL` is WITH another event.",
+            "A guard over an input that is in no WITH.",
+        ],
+        look: "The WITH of the event in the transition. The guard reads the value of the last event that sampled the input.",
+    },
+    Explanation {
+        name: "L04",
+        meaning: "An algorithm reads a data input that an event which leads to it does not sample.",
+        examples: [
+            "`REQ` leads to a state with the action `SUM`, and `SUM` reads an input that is not WITH `REQ`.",
+            "An algorithm for INIT that reads an input of REQ.",
+        ],
+        look: "The transitions to the states that run the algorithm, and the WITH of their events.",
+    },
+    Explanation {
+        name: "L05",
+        meaning: "No transitions lead from the initial state to a state.",
+        examples: [
+            "A new state with transitions that leave it and none that enter it.",
+            "Two states that lead only to each other.",
+        ],
+        look: "The names after TO. The initial state is the first one.",
+    },
+    Explanation {
+        name: "L06",
+        meaning: "No transition leaves a state.",
+        examples: [
+            "A chart whose last state has no transition back to the first one.",
+            "A transition that names the wrong state before TO.",
+        ],
+        look: "Whether the block is meant to react to no event after it has entered this state.",
+    },
+    Explanation {
+        name: "L07",
+        meaning: "A transition is never taken: an earlier one of the same state clears whenever it would.",
+        examples: [
+            "`A TO B := 1; A TO C := REQ;`",
+            "`A TO B := REQ; A TO C := REQ [X > 0];`",
+        ],
+        look: "The order of the transitions that leave the state: the first one that is true clears.",
+    },
+    Explanation {
+        name: "L08",
+        meaning: "No transition names an event input.",
+        examples: [
+            "An event input of a type whose chart was not extended.",
+            "`REG` in a transition where `REQ` is meant, if both are event inputs.",
+        ],
+        look: "Whether the event is to do more than sample its variables.",
+    },
+    Explanation {
+        name: "L09",
+        meaning: "No action runs an algorithm.",
+        examples: [
+            "An algorithm that was replaced by another one.",
+            "A state whose action names the wrong algorithm.",
+        ],
+        look: "The actions of the states.",
+    },
+    Explanation {
+        name: "L10",
+        meaning: "No network has an instance of a block type.",
+        examples: [
+            "A type of a library that this application does not use.",
+            "An instance of `LAMP1` where `LAMP2` is meant.",
+        ],
+        look: "The instances of the application and of the composite types.",
+    },
+    Explanation {
+        name: "L11",
+        meaning: "Nothing in a block type uses one of its ports.",
+        examples: [
+            "A data output that no algorithm and no guard names; an event output that no action emits.",
+            "A port of a composite type that no connection inside names.",
+        ],
+        look: "The algorithms, guards and actions of a basic type; the connections inside a composite type.",
+    },
+    Explanation {
+        name: "L12",
+        meaning: "No algorithm assigns a data output WITH an output event.",
+        examples: [
+            "`CNF WITH Q` where each algorithm only reads `Q`.",
+            "An output event with the WITH of another one.",
+        ],
+        look: "The assignments of the algorithms: the event carries initial values only.",
+    },
+    Explanation {
+        name: "L13",
+        meaning: "No connection crosses a link.",
+        examples: [
+            "A link that is left from an earlier mapping.",
+            "A link from `R2` to `R1` where all connections lead from `R1` to `R2`.",
+        ],
+        look: "The resources of the two ends of each connection of the application.",
     },
 ];
 

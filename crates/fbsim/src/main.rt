@@ -3,28 +3,30 @@
 //! The calls are those of `fbsim_command`, which is a library, since no crate can use a program.
 #![tactic(auto)]
 
-use fbsim_command::{Failure, Files};
+use fbsim_command::{Failure, Files, command_with_clock};
 pub use fbsim_command::{Call, LineFault, Source, SourceFault, Streams, command, parse};
 use std::process::ExitCode;
 use std::sync::Wait;
 use std::thread::Threads;
 use std::{env, io};
 
-/// Calls the program with the words that it was started with. The host opens its files and its outputs. The workers have
-/// a handle of their own, since a host that is passed on starts no threads.
+/// Calls the program with the words that it was started with. The host opens its files and its outputs, and has the
+/// clocks. The workers have a handle of their own, since a host that is passed on starts no threads.
 fn call<R: Threads + Wait + Sync>(rt: &R, host: &HostRuntime) -> io::Result<u8> {
     let alloc = host.alloc();
     let words: Vec<String> = env::args(host)?.collect(alloc)?;
     let texts: Vec<&str> = words.iter().map(|word| word.as_str()).collect(alloc)?;
     let mut files = Files::new(host);
-    Ok(command(
+    let exit = command_with_clock(
         rt,
+        host,
         alloc,
         texts.as_slice(),
         &mut files,
         &mut host.stdout(),
         &mut host.stderr(),
-    ))
+    );
+    Ok(exit.status)
 }
 
 fn main(rt: HostRuntime) -> ExitCode {

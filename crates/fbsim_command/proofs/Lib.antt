@@ -20,3 +20,4 @@ mod Explaining
 mod Showing
 mod Noting
 mod Reporting
+pub mod Warning

@@ -52,19 +52,19 @@ some_is {T} {x} {y} e = ap (unwrap_or_of x) e
 -- ---- A run
 
 pub no_horizon : (rows : List Row) → ((n : ℕ) → IsNumber rows (codes "horizon") n → ⊥) → (o : Action) → codes "run" ≡ command_name o → IsAction rows o → ⊥
-no_horizon rows none Check named action = cc
+no_horizon rows none (Check lint) named action = cc
 no_horizon rows none (Run horizon steps workers serial form progress) named action = none horizon action.horizon_is
 
 pub no_steps : (rows : List Row) → ((n : ℕ) → IsNumber rows (codes "steps") n → ⊥) → (o : Action) → codes "run" ≡ command_name o → IsAction rows o → ⊥
-no_steps rows none Check named action = cc
+no_steps rows none (Check lint) named action = cc
 no_steps rows none (Run horizon steps workers serial form progress) named action = none steps action.steps_is
 
 pub no_workers : (rows : List Row) → ((n : ℕ) → IsNumber rows (codes "workers") n → ⊥) → (o : Action) → codes "run" ≡ command_name o → IsAction rows o → ⊥
-no_workers rows none Check named action = cc
+no_workers rows none (Check lint) named action = cc
 no_workers rows none (Run horizon steps workers serial form progress) named action = none workers action.workers_is
 
 pub no_form : (rows : List Row) → ((f : Form) → IsForm rows f → ⊥) → (o : Action) → codes "run" ≡ command_name o → IsAction rows o → ⊥
-no_form rows none Check named action = cc
+no_form rows none (Check lint) named action = cc
 no_form rows none (Run horizon steps workers serial form progress) named action = none form action.form_is
 
 -- ---- The word of the form
@@ -94,7 +94,7 @@ no_declaration rows name none c named is = let given = is.declaration in absurd 
 
 -- the name of a run or a check is no other one
 own_name : (o : Action) (name : Text) → name ≡ command_name o → (name ≡ codes "check" → ⊥) → (name ≡ codes "run" → ⊥) → ⊥
-own_name Check name named no_check no_run = no_check named
+own_name (Check lint) name named no_check no_run = no_check named
 own_name (Run horizon steps workers serial form progress) name named no_check no_run = no_run named
 
 -- two texts

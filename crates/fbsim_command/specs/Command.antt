@@ -6,12 +6,15 @@ use Rattle.std.specs.List.{list_any}
 use Rattle.std.specs.Io.KnownBytes.{Appends}
 use Rattle.std.specs.Str.{str_eq_ignore_ascii_case}
 use Rattle.clap.specs.Words.{Text}
+use Rattle.fb_types.specs.Headline.{Inputs}
 use Rattle.fb_types.specs.Simulation.{AtHorizon, AtStop}
 use Rattle.fb_types.specs.declared.value.Reason.{Reason}
+use Rattle.fb_lint.specs.Lines.{AreLines}
+use Rattle.fb_lint.specs.Warnings.{warnings}
 use Rattle.fb_sim.specs.Given.{Given}
 use Rattle.fb_sim.specs.Rounds.{WritesFront}
 use Rattle.fb_sim.specs.Serial as sim
-use Rattle.fb_sim.specs.Serial.{AreWithin, IsDeclared, Writes}
+use Rattle.fb_sim.specs.Serial.{AreWithin, Declares, IsDeclared, Writes}
 use Rattle.fb_sim.specs.declared.options.Options.{Options}
 use Rattle.fb_trace.specs.declared.last.Outcome.{Outcome}
 use Rattle.fb_trace.specs.declared.last.Outcome.TheVariants as sim_end
@@ -93,7 +96,7 @@ Runs serial given o old new (Err (Line message)) = ⊥
 
 -- what a task asks for is done with the inputs
 abbrev pub Meets : Given → Action → (old new : Held) → End → Type 0
-Meets given Check old new end = Checks given old new end
+Meets given (Check lint) old new end = Checks given old new end
 Meets given (Run horizon steps workers serial form progress) old new end =
     Runs serial given (record { horizon = horizon; steps = steps; workers = workers; form = form }) old new end
 
@@ -108,8 +111,20 @@ ReportsOn false true given o old new end reports = (run : Result Outcome RunErro
 ReportsOn true true given o old new end reports = reports ≡ []
 ReportsOn serial false given o old new end reports = reports ≡ []
 
+-- The inputs are accepted, and these are the lines of the warnings about them.
+pub record AreWarnings (given : Given) (reports : Text) : Type 0 where
+  pub inputs : Inputs
+  pub declared : Declares given inputs
+  pub lines : AreLines (warnings inputs.library inputs.plan inputs.stimuli) reports
+
+-- what is reported of a check: of inputs that are accepted the warnings, if they are asked for, and else nothing
+abbrev pub Warns : (lint : Bool) → Given → End → (reports : Text) → Type 0
+Warns true given (Ok done) reports = AreWarnings given reports
+Warns true given (Err failure) reports = reports ≡ []
+Warns false given end reports = reports ≡ []
+
 abbrev pub Reports : Given → Action → (old new : Held) → End → (reports : Text) → Type 0
-Reports given Check old new end reports = reports ≡ []
+Reports given (Check lint) old new end reports = Warns lint given end reports
 Reports given (Run horizon steps workers serial form progress) old new end reports =
     ReportsOn serial progress given (record { horizon = horizon; steps = steps; workers = workers; form = form }) old new end reports
 

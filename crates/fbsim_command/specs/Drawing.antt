@@ -23,7 +23,7 @@ use Rattle.fbsim_command.specs.declared.texts.Part.{Part}
 
 -- the call that checks what is drawn
 abbrev pub files_of : Draw → Task
-files_of d = record { action = Check; declaration = d.declaration; deploy = d.deploy; stimuli = None; why = false }
+files_of d = record { action = Check false; declaration = d.declaration; deploy = d.deploy; stimuli = None; why = false }
 
 -- the text that names a type, if one does
 abbrev pub type_asked : Draw → Option Text

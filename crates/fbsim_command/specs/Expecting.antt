@@ -40,7 +40,7 @@ use Rattle.fbsim_command.specs.declared.texts.Part.{Part}
 
 -- the call that checks the declaration in which the names of the rules must be
 abbrev pub files_of : Expect → Bor Text → Task
-files_of x declaration = record { action = Check; declaration = declaration; deploy = x.deploy; stimuli = None; why = x.why }
+files_of x declaration = record { action = Check false; declaration = declaration; deploy = x.deploy; stimuli = None; why = x.why }
 
 -- one byte more than rules may have
 abbrev pub asked_rules : ℕ

@@ -87,6 +87,10 @@ files name =
     (file (codes "stim")))
     (flag (codes "why"))
 
+-- the command that checks, which may report warnings
+abbrev pub check : App
+check = with_rule (files (codes "check")) (flag (codes "lint"))
+
 -- how far a run goes, and by how many workers
 abbrev pub with_numbers : App → App
 with_numbers a = with_rule (with_rule (with_rule a
@@ -140,7 +144,7 @@ abbrev pub simulator_with : ValueParser → App
 simulator_with values = with_subcommand (with_subcommand (with_subcommand (with_subcommand (with_subcommand (with_subcommand (with_subcommand
     (record { top = record (new_app (codes "fbsim")).top { has_version = true; subcommand_required = true }; subs = [] })
     (with_run_options values (files (codes "run"))).top)
-    (files (codes "check")).top)
+    check.top)
     wave.top)
     expect.top)
     diff.top)
@@ -153,7 +157,7 @@ simulator = simulator_with forms
 -- ---- What is asked for
 
 abbrev pub command_name : Action → Text
-command_name Check = codes "check"
+command_name (Check lint) = codes "check"
 command_name (Run horizon steps workers serial form progress) = codes "run"
 
 abbrev pub call_name : Call → Text
@@ -189,7 +193,7 @@ pub record IsRun (rows : List Row) (horizon steps workers : ℕ) (serial : Bool)
   pub progress_is : IsFlag rows (codes "progress") progress
 
 abbrev pub IsAction : List Row → Action → Type 0
-IsAction rows Check = Unit {0}
+IsAction rows (Check lint) = IsFlag rows (codes "lint") lint
 IsAction rows (Run horizon steps workers serial form progress) = IsRun rows horizon steps workers serial form progress
 
 -- the texts of an option that may be absent

@@ -6,7 +6,7 @@ use Rattle.fb_sim.specs.Serial.{IsRefusal}
 use Rattle.fb_sim.specs.declared.outcome.RunError.{RunError}
 use Rattle.fbsim_command.specs.Failures.{failure_of}
 use Rattle.fbsim_command.specs.declared.failure.Failure.{Failure}
-use Rattle.fbsim_command.specs.declared.failure.Failure.TheVariants.{Refused}
+use Rattle.fbsim_command.specs.declared.failure.Failure.TheVariants.{Refused, RefusedTrace, File, Write, Memory, Line, BadOption}
 use Rattle.fbsim_command.specs.declared.failure.RefusalLine.{RefusalLine}
 use Rattle.fbsim_command.specs.declared.statuses.Done.{Done}
 
@@ -23,3 +23,13 @@ pub record IsRefused (given : Given) (refusal : RefusalLine) : Type 0 where
   pub error : RunError
   pub refused : IsRefusal given error
   pub reported : failure_of error ≡ Refused refusal
+
+-- the inputs are refused, or memory ran out
+abbrev pub IsUndeclared : Given → Failure → Type 0
+IsUndeclared given (Refused refusal) = IsRefused given refusal
+IsUndeclared given Memory = Unit {0}
+IsUndeclared given (RefusedTrace text) = ⊥
+IsUndeclared given File = ⊥
+IsUndeclared given (Write n) = ⊥
+IsUndeclared given (Line message) = ⊥
+IsUndeclared given BadOption = ⊥

@@ -1,5 +1,5 @@
 -- What a call for the waveforms of a trace does (this project's own).
-use Rattle.std.specs.Prelude.{◌≡◌, ◌⊎◌, ℕ, List, None, Option, Result, Ok, Err, IfSome, if◌then◌else◌, codes}
+use Rattle.std.specs.Prelude.{◌≡◌, ◌⊎◌, ℕ, false, List, None, Option, Result, Ok, Err, IfSome, if◌then◌else◌, codes}
 use Rattle.clap.specs.Words.{Text}
 use Rattle.fb_types.specs.Headline.{Inputs, system_of}
 use Rattle.fb_sim.specs.Given.{Given}
@@ -31,7 +31,7 @@ Opening S = S → Text → Result (Option Text) SourceFault → S → Type 0
 
 -- the call that checks what a trace is of
 abbrev pub files_of : Wave → Task
-files_of w = record { action = Check; declaration = w.declaration; deploy = w.deploy; stimuli = None; why = w.why }
+files_of w = record { action = Check false; declaration = w.declaration; deploy = w.deploy; stimuli = None; why = w.why }
 
 -- whether the trace may be cut off
 abbrev pub cut_of : Wave → Cut

@@ -82,7 +82,7 @@ fn files_of<'a>(draw: &Draw<'a>) -> Task<'a>
     ensures { result ≡ files_of draw.now }
 {
     Task {
-        action: Action::Check,
+        action: Action::Check { lint: false },
         declaration: draw.declaration,
         deploy: draw.deploy,
         stimuli: None,

@@ -33,7 +33,7 @@ pub(crate) fn files_of<'a>(expect: &Expect<'a>, declaration: &'a str) -> Task<'a
     ensures { result ≡ files_of expect.now declaration.entry }
 {
     Task {
-        action: Action::Check,
+        action: Action::Check { lint: false },
         declaration,
         deploy: expect.deploy,
         stimuli: None,

@@ -72,7 +72,10 @@ pub struct Task<'a> {
 #[derive(Clone, Copy)]
 pub enum Action {
     /// Say whether the inputs are accepted.
-    Check,
+    Check {
+        /// Whether warnings about inputs that are accepted are reported.
+        lint: bool,
+    },
     /// Run it, and write its trace.
     Run {
         /// The tick at which the run ends, 1 to 10^12.
@@ -141,7 +144,7 @@ const EXPLAIN_ABOUT: &str =
 const EXPLAIN_EXAMPLE: &str = "Example: fbsim explain E21";
 
 const NAME_HELP: &str =
-    "The name of the refusal in its line, E01 to E45; \"file fault\", as one word; or the reason of a stop: steps, divide or range. Letter case makes no difference.";
+    "The name of the refusal in its line, E01 to E45; \"file fault\", as one word; of a warning, L01 to L13; or the reason of a stop: steps, divide or range. Letter case makes no difference.";
 
 const DECLARATION_HELP: &str =
     "The file with the declaration of the types and the application, at most 1 MiB; `-` is standard input, here and below.";
@@ -179,6 +182,9 @@ const TRACE_HELP: &str =
 
 const WHY_HELP: &str =
     "Prints the location of a refusal or a file fault on another line, if it is known.";
+
+const LINT_HELP: &str =
+    "Reports warnings about files that are accepted on standard error, a line each; explain L01 explains the first.";
 
 /// What the forms of the trace are called.
 const FORM_WORDS: &[&str] = &["1", "2"];
@@ -289,6 +295,15 @@ fn files<'a>(
     with_arg(command, flag(alloc, "why", WHY_HELP))
 }
 
+/// The command that checks.
+fn check_command<'a>(alloc: Global) -> Result<Command<'a>, AllocError>
+    ensures app { IfOk result (λ c. app_of c ≡ spec.check) }
+    ensures globals { IfOk result (λ c. (fields_of c).has_globals ≡ false) }
+{
+    let command = files(alloc, "check", CHECK_ABOUT, CHECK_EXAMPLE);
+    with_arg(command, flag(alloc, "lint", LINT_HELP))
+}
+
 /// Whole numbers from 1 to the most.
 fn up_to<'a>(most: u64) -> ValueParser<'a>
     ensures { result ≡ spec.up_to most }
@@ -387,7 +402,7 @@ fn simulator<'a>(alloc: Global, forms: ValueParser<'a>) -> Result<Command<'a>, A
         .after_help(EXAMPLE)
         .subcommand_required(true);
     let command = with_subcommand(Ok(command), run(alloc, forms));
-    let command = with_subcommand(command, files(alloc, "check", CHECK_ABOUT, CHECK_EXAMPLE));
+    let command = with_subcommand(command, check_command(alloc));
     let command = with_subcommand(command, wave_command(alloc));
     let command = with_subcommand(command, expect_command(alloc));
     let command = with_subcommand(command, diff_command(alloc));
@@ -446,7 +461,9 @@ fn action_of(name: &str, found: &ArgMatches<'_>) -> Option<Action>
     ensures none { IfNone result ((o : Action) → name.now ≡ command_name o → IsAction (rows_of (found_of found.now)) o → ⊥) }
 {
     match name {
-        "check" => Some(Action::Check),
+        "check" => Some(Action::Check {
+            lint: has_flag(found, "lint"),
+        }),
         "run" => run_of(found),
         _ => None,
     }

@@ -15,6 +15,7 @@ use crate::draw::show_graph;
 use crate::expect::{diff, expect};
 use crate::failure::Failure;
 use crate::line::{Action, Call, LineFault, Task, parse};
+use crate::lint::check_and_warn;
 use crate::notes::{note_of, note_of_file};
 use crate::output::write_text;
 use crate::own_lines::end_with;
@@ -23,13 +24,17 @@ use crate::statuses::{Done, ExitStatus, status};
 use crate::texts::{Texts, read_files};
 use crate::wave::show;
 use fb_phase::OpenGate;
-use fb_sim::{Inputs, Options, Outcome, ReportedRun, check, run, run_serial, run_with_progress};
+use fb_sim::{
+    Inputs, NoClock, Options, Outcome, ReportedRun, check, run_serial, run_with_clock,
+    run_with_progress,
+};
 use fb_why::{Explanation, explain};
 use std::alloc::{AllocError, Global};
 use std::io;
 use std::io::Write;
 use std::sync::Wait;
 use std::thread::Threads;
+use std::time::{Clock, CpuClock};
 
 /// Says whether the inputs are accepted.
 fn check_inputs<W: Write>(alloc: Global, inputs: &Inputs<'_>, out: &mut W) -> Result<Done, Failure>
@@ -50,8 +55,9 @@ fn done_of(outcome: Outcome) -> Done
 }
 
 /// Writes the trace of the inputs, from one agenda or with workers.
-fn run_inputs<R: Threads + Wait + Sync, W: Write>(
+fn run_inputs<R: Threads + Wait + Sync, C: Clock + CpuClock, W: Write>(
     rt: &R,
+    clock: &C,
     alloc: Global,
     inputs: &Inputs<'_>,
     options: Options,
@@ -63,7 +69,7 @@ fn run_inputs<R: Threads + Wait + Sync, W: Write>(
     if serial {
         return Ok(done_of(run_serial(alloc, inputs, options, out)?));
     }
-    Ok(done_of(run(rt, alloc, inputs, options, out, &OpenGate)?))
+    Ok(done_of(run_with_clock(rt, alloc, inputs, options, out, &OpenGate, clock)?))
 }
 
 /// Writes the trace of the inputs with workers, and reports the progress of the run meanwhile. It says how that ends,
@@ -109,8 +115,9 @@ fn ended(end: Result<Done, Failure>) -> Answer
 
 /// Does with the files what a task asks for. It says how that ends, and whether standard error took all reports
 /// meanwhile.
-fn meet<R: Threads + Wait + Sync, W: Write, E: Write>(
+fn meet<R: Threads + Wait + Sync, C: Clock + CpuClock, W: Write, E: Write>(
     rt: &R,
+    clock: &C,
     alloc: Global,
     action: Action,
     texts: &Texts,
@@ -122,7 +129,8 @@ fn meet<R: Threads + Wait + Sync, W: Write, E: Write>(
 {
     let inputs = texts.inputs();
     match action {
-        Action::Check => (check_inputs(alloc, &inputs, out), true),
+        Action::Check { lint: true } => check_and_warn(alloc, &inputs, out, err),
+        Action::Check { lint: false } => (check_inputs(alloc, &inputs, out), true),
         Action::Run {
             horizon,
             steps,
@@ -140,7 +148,7 @@ fn meet<R: Threads + Wait + Sync, W: Write, E: Write>(
             if progress && !serial {
                 return run_and_report(rt, alloc, &inputs, options, out, err);
             }
-            let end = run_inputs(rt, alloc, &inputs, options, serial, out);
+            let end = run_inputs(rt, clock, alloc, &inputs, options, serial, out);
             (end, true)
         }
     }
@@ -163,8 +171,9 @@ pub(crate) fn note_to(
 }
 
 /// Reads the files of a task, and does what it asks for.
-fn perform<R: Threads + Wait + Sync, S: Source, W: Write, E: Write>(
+fn perform<R: Threads + Wait + Sync, C: Clock + CpuClock, S: Source, W: Write, E: Write>(
     rt: &R,
+    clock: &C,
     alloc: Global,
     types: &[&str],
     task: &Task<'_>,
@@ -177,7 +186,7 @@ fn perform<R: Threads + Wait + Sync, S: Source, W: Write, E: Write>(
 {
     match read_files(alloc, types, task, source) {
         Ok(texts) => {
-            let (end, is_heard) = meet(rt, alloc, task.action, &texts, out, err);
+            let (end, is_heard) = meet(rt, clock, alloc, task.action, &texts, out, err);
             let note = note_to(alloc, types, task, &end, &texts);
             let end = end_with(alloc, types, task.declaration, &texts, end);
             Answer {
@@ -240,8 +249,9 @@ fn help_to<W: Write>(help: &str, out: &mut W) -> Result<Done, Failure>
 }
 
 /// Does what the words ask for.
-fn obey<'w, R: Threads + Wait + Sync, S: Source + Streams, W: Write, E: Write>(
+fn obey<'w, R: Threads + Wait + Sync, C: Clock + CpuClock, S: Source + Streams, W: Write, E: Write>(
     rt: &R,
+    clock: &C,
     alloc: Global,
     words: &'w [&'w str],
     source: &mut S,
@@ -253,7 +263,7 @@ fn obey<'w, R: Threads + Wait + Sync, S: Source + Streams, W: Write, E: Write>(
 {
     match parse(alloc, words) {
         Ok(Call::Task(task, types)) => {
-            perform(rt, alloc, types.as_slice(), &task, source, out, err)
+            perform(rt, clock, alloc, types.as_slice(), &task, source, out, err)
         }
         Ok(Call::Explain(name)) => ended(explain_to(alloc, name, out)),
         Ok(Call::Wave(wave, types)) => {
@@ -313,6 +323,37 @@ fn report_end<E: Write>(err: &mut E, end: &Result<Done, Failure>, note: &Option<
     }
 }
 
+/// Does what `command_exit` does, and lets clocks decide how a run with workers goes on (`fb_sim::run_with_clock`).
+pub fn command_with_clock<
+    'w,
+    R: Threads + Wait + Sync,
+    C: Clock + CpuClock,
+    S: Source + Streams,
+    W: Write,
+    E: Write,
+>(
+    rt: &R,
+    clock: &C,
+    alloc: Global,
+    words: &'w [&'w str],
+    source: &mut S,
+    out: &mut W,
+    err: &mut E,
+) -> ExitStatus
+    ensures { (end : Result Done Failure) × (reports : List ℕ) × (note : Option (List ℕ)) × (result.status ≡ status_of end)
+        × Does S.gives S.opens source.old source.new (map (λ w. w.now) words.entry.now) (W.contents out.old) (W.contents out.new) end reports note
+        × (IsTrue result.is_reported → Appends (E.contents err.old) (E.contents err.new) (reports ++ reported_of end note))
+        × OnOk end (reports ≡ [] → E.contents err.new ≡ E.contents err.old) }
+{
+    let answer = obey(rt, clock, alloc, words, source, out, err);
+    // A standard error that fails changes no status.
+    let is_end_reported = report_end(err, &answer.end, &answer.note);
+    ExitStatus {
+        status: status(&answer.end),
+        is_reported: answer.is_heard && is_end_reported,
+    }
+}
+
 /// Does what the words ask for, the program's own name first. Output goes to `out`. A failure is reported to `err`,
 /// after the progress of a run, if that is asked for. A run with workers waits for them.
 pub fn command_exit<'w, R: Threads + Wait + Sync, S: Source + Streams, W: Write, E: Write>(
@@ -328,13 +369,7 @@ pub fn command_exit<'w, R: Threads + Wait + Sync, S: Source + Streams, W: Write,
         × (IsTrue result.is_reported → Appends (E.contents err.old) (E.contents err.new) (reports ++ reported_of end note))
         × OnOk end (reports ≡ [] → E.contents err.new ≡ E.contents err.old) }
 {
-    let answer = obey(rt, alloc, words, source, out, err);
-    // A standard error that fails changes no status.
-    let is_end_reported = report_end(err, &answer.end, &answer.note);
-    ExitStatus {
-        status: status(&answer.end),
-        is_reported: answer.is_heard && is_end_reported,
-    }
+    command_with_clock(rt, &NoClock, alloc, words, source, out, err)
 }
 
 /// Does what the words ask for, the program's own name first, and answers the status of the program, 0 to 5. Output

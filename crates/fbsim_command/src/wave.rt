@@ -22,7 +22,7 @@ fn files_of<'a>(wave: &Wave<'a>) -> Task<'a>
     ensures { result ≡ files_of wave.now }
 {
     Task {
-        action: Action::Check,
+        action: Action::Check { lint: false },
         declaration: wave.declaration,
         deploy: wave.deploy,
         stimuli: None,

@@ -10,11 +10,11 @@ use std::sync::Wait;
 use std::thread::Threads;
 
 /// The tick at which the runs end.
-const HORIZON: u64 = 40;
+pub const HORIZON: u64 = 40;
 
 /// In each resource a cycle of one tick goes to a burst of sixty events, and from there to a merge `T` of the next resource,
 /// from which nothing goes on.
-static DECLARATION: &str = concat!(
+pub static DECLARATION: &str = concat!(
     "FUNCTION_BLOCK BURST\n",
     "EVENT_INPUT GO; END_EVENT\n",
     "EVENT_OUTPUT TICKED; DONE; END_EVENT\n",
@@ -43,7 +43,7 @@ static DECLARATION: &str = concat!(
 );
 
 /// The resources, each with a link to the next, over which a message takes five ticks. So a round is of five ticks.
-static DEPLOYMENT: &str = "resource = [\n\
+pub static DEPLOYMENT: &str = "resource = [\n\
     { device = 'D', name = 'R0', instances = ['S0', 'C0', 'B0', 'T0'] },\n\
     { device = 'D', name = 'R1', instances = ['S1', 'C1', 'B1', 'T1'] },\n\
     { device = 'D', name = 'R2', instances = ['S2', 'C2', 'B2', 'T2'] },\n\
@@ -101,4 +101,28 @@ fn workers_meet_in_a_later_round(rt: HostRuntime) {
     expect_the_same(&rt, rt.alloc(), &inputs, (2, &gate), trace.as_slice());
     assert!(rt; gate.is_over(), "they did not meet");
     expect_the_same(&rt, rt.alloc(), &inputs, (7, &OpenGate), trace.as_slice());
+}
+
+// Messages that take fifty ticks are on their way at the end of the run, so it is one round. Its lines are those of the run
+// above without two for each message: 4 * (2 + 39 * 63) = 9,836, and the last line.
+#[test]
+fn threads_make_the_text_of_a_long_round(rt: HostRuntime) {
+    let deployment = DEPLOYMENT
+        .replace(rt.alloc(), "latency = 5", "latency = 50")
+        .expect(&rt, "memory");
+    let inputs = inputs_of(DECLARATION, deployment.as_str(), "");
+    let mut trace = Vec::new(rt.alloc());
+    let options = to(HORIZON, ENOUGH, 1);
+    let outcome = run_serial(rt.alloc(), &inputs, options, &mut trace).expect(&rt, "run");
+    assert!(rt; outcome == Outcome::End(HORIZON));
+    assert!(rt; lines_in(trace.as_slice()) == 9_837);
+    for workers in [2, 3, 64] {
+        expect_the_same(
+            &rt,
+            rt.alloc(),
+            &inputs,
+            (workers, &OpenGate),
+            trace.as_slice(),
+        );
+    }
 }

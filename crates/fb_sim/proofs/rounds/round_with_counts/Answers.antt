@@ -12,8 +12,8 @@ window-requires-clause-come g c κs w =
     let walked = c.in_ok-core.ensures.on c.requires.come.0 c.requires.come.1 in
     (c.requires.come.0, walked.way)
 
-pub hand_out-requires : goal.hand_out-requires
-hand_out-requires g c =
+pub hand_out_by-requires-clause-belong : goal.hand_out_by-requires-clause-belong
+hand_out_by-requires-clause-belong g c κs w =
     let walked = c.in_ok-core.ensures.on c.requires.come.0 c.requires.come.1 in
     let home = c.in_ok-settled.ensures.home c.requires.come.0 walked.way in
     rw c.lines_of-finals.ensures home.belong
@@ -39,7 +39,7 @@ returns-in_err-bytes g c ls h =
     let o = c.args.plan.options in
     let before = core_of c.args.system.now o.steps h.steps in
     let old = g.W.Write.contents c.args.out.now in
-    let new = g.W.Write.contents c.hand_out.new.out in
+    let new = g.W.Write.contents c.hand_out_by.new.out in
     let e = c.in_err-bytes.field-0.0 in
     let good : AreGood c.args.system.now = record { accepted = c.facts.ensures.accepted; limits = c.facts.ensures.limits } in
     let walked = c.in_ok-core.ensures.on ls h in
@@ -52,7 +52,7 @@ returns g c ls h =
     let o = c.args.plan.options in
     let before = core_of c.args.system.now o.steps h.steps in
     let old = g.W.Write.contents c.args.out.now in
-    let new = g.W.Write.contents c.hand_out.new.out in
+    let new = g.W.Write.contents c.hand_out_by.new.out in
     let walked = c.in_ok-core.ensures.on ls h in
     let home = home_since c.args.system.now o.steps o.horizon before ls _ walked _ (c.in_ok-settled.ensures.home ls walked.way) in
     let whole = c.in_ok-bytes.ensures.whole in

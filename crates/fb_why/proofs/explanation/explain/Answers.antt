@@ -4,7 +4,7 @@ use Rattle.std.specs.List.{list_any}
 use Rattle.std.specs.Str.{str_eq_ignore_ascii_case}
 use Rattle.std.proofs.lemmas.List.Folds.{list_any-append}
 use Rattle.fb_types.specs.Names.{Name}
-use Rattle.fb_why.specs.Explained.{explained, of_checks, of_declarations, of_inputs, of_rules, of_stops}
+use Rattle.fb_why.specs.Explained.{explained, of_checks, of_declarations, of_inputs, of_rules, of_stops, of_warnings}
 use Rattle.fb_why.specs.declared.table.Explanation.{Explanation}
 use Rattle.fb_why.proofs.explanation.explain.Goals as goal
 
@@ -39,4 +39,5 @@ returns-clause-all c =
     let given = after n of_declarations of_inputs c.of_inputs.result.now _ _ declared c.of_inputs.ensures c.or_look_up-given.ensures.found in
     let checks = after n (of_declarations ++ of_inputs) checked c.of_checks.result.now _ _ given c.of_checks.ensures c.or_look_up-checked.ensures.found in
     let ruled = after n (of_declarations ++ of_inputs ++ checked) of_rules c.of_rules.result.now _ _ checks c.of_rules.ensures c.or_look_up-ruled.ensures.found in
-    after n (of_declarations ++ of_inputs ++ checked ++ of_rules) of_stops c.of_stops.result.now _ _ ruled c.of_stops.ensures c.or_look_up.ensures.found
+    let warned = after n (of_declarations ++ of_inputs ++ checked ++ of_rules) of_warnings c.of_warnings.result.now _ _ ruled c.of_warnings.ensures c.or_look_up-warned.ensures.found in
+    after n (of_declarations ++ of_inputs ++ checked ++ of_rules ++ of_warnings) of_stops c.of_stops.result.now _ _ warned c.of_stops.ensures c.or_look_up.ensures.found

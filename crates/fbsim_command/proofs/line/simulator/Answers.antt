@@ -12,7 +12,7 @@ returns c =
     (ap app_of_fields c.after_help.ensures ∙ ap app_of_fields c.about.ensures ∙ ap app_of_fields c.version.ensures
     ∙ ap (λ (a : App). record a { top = record a.top { has_version = true } }) c.new.ensures.app) in
     let runs = joined_on _ _ _ _ _ c.with_subcommand-command.ensures top (stands_well _ _ c.run.ensures.app c.run.ensures.globals) in
-    let checks = joined_on _ _ _ _ _ c.with_subcommand-command-2.ensures runs (stands_well _ _ c.files.ensures.app c.files.ensures.globals) in
+    let checks = joined_on _ _ _ _ _ c.with_subcommand-command-2.ensures runs (stands_well _ _ c.check_command.ensures.app c.check_command.ensures.globals) in
     let shows = joined_on _ _ _ _ _ c.with_subcommand-command-3.ensures checks (stands_well _ _ c.wave_command.ensures.app c.wave_command.ensures.globals) in
     let holds = joined_on _ _ _ _ _ c.with_subcommand-command-4.ensures shows (stands_well _ _ c.expect_command.ensures.app c.expect_command.ensures.globals) in
     let compares = joined_on _ _ _ _ _ c.with_subcommand-command-5.ensures holds (stands_well _ _ c.diff_command.ensures.app c.diff_command.ensures.globals) in

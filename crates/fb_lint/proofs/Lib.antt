@@ -1,0 +1,5 @@
+pub mod Growing
+pub mod Leading
+pub mod Reaching
+pub mod Holding
+pub mod Listing

@@ -1,0 +1,10 @@
+use Rattle.std.proofs.Common.{◌≡◌, ◌++◌, drop}
+use Rattle.fb_lint.specs.Findings.{each_from}
+use Rattle.fb_lint.specs.Reads as spec
+use Rattle.fb_why_kinds.specs.Mentions.{meant_all}
+use Rattle.fb_lint.proofs.algorithms.push_unsampled_by.Given as goal
+
+-- with what is found in the rest, all is there
+abbrev pub invariant-loop-input : goal.invariant-loop-input
+invariant-loop-input l =
+    l.all.items ++ each_from (spec.unsampled_in_algorithm (spec.chart_of l.chart) l.at.block l.at.index l.at.algorithm.now.name (meant_all l.mentions)) l.input (drop l.input l.inputs) ≡ l.fn.all.items ++ each_from (spec.unsampled_in_algorithm (spec.chart_of l.chart) l.at.block l.at.index l.at.algorithm.now.name (meant_all l.mentions)) 0 l.inputs

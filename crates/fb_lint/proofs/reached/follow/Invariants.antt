@@ -1,0 +1,13 @@
+use Rattle.std.proofs.Common.{◌≡◌, ◌++◌, drop}
+use Rattle.fb_lint.specs.Findings.{names_are}
+use Rattle.fb_lint.specs.Reached.{edges_are}
+use Rattle.fb_lint.proofs.Reaching.{ends, leaving, staying}
+use Rattle.fb_lint.proofs.reached.follow.Given as goal
+
+-- with what the rest adds, all is there
+abbrev pub invariant-loop-edge : goal.invariant-loop-edge
+invariant-loop-edge l =
+    record {
+      others : edges_are l.others.items ++ staying l.state (edges_are (drop l.edge-index l.edges)) ≡ staying l.state (edges_are l.edges);
+      todo : names_are l.todo.items ++ ends (leaving l.state (edges_are (drop l.edge-index l.edges))) ≡ names_are l.fn.todo.items ++ ends (leaving l.state (edges_are l.edges));
+    }

@@ -1,0 +1,8 @@
+use Rattle.std.proofs.Common.{◌≡◌, drop}
+use Rattle.std.specs.List.{list_any}
+use Rattle.fb_why_kinds.specs.Mentions.{meant_all}
+use Rattle.fb_lint.specs.Reads.{is_variable}
+use Rattle.fb_lint.proofs.reads.is_mentioned.Given as goal
+
+abbrev pub invariant-loop-mention : goal.invariant-loop-mention
+invariant-loop-mention l = list_any (is_variable l.name) (meant_all l.mentions) ≡ list_any (is_variable l.name) (meant_all (drop l.mention-index l.mentions))

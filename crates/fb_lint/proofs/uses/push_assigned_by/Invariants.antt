@@ -1,0 +1,10 @@
+use Rattle.std.proofs.Common.{◌≡◌, ◌++◌, drop}
+use Rattle.std.specs.Prelude.{flat_map}
+use Rattle.fb_why_kinds.specs.Statements.{all_standing}
+use Rattle.fb_lint.specs.Findings.{names_are}
+use Rattle.fb_lint.specs.Reads as spec
+use Rattle.fb_lint.proofs.uses.push_assigned_by.Given as goal
+
+-- with what the rest adds, all is there
+abbrev pub invariant-loop-standing : goal.invariant-loop-standing
+invariant-loop-standing l = names_are l.names.items ++ flat_map spec.assigned_by (all_standing (drop l.standing-index l.statements)) ≡ names_are l.fn.names.items ++ flat_map spec.assigned_by (all_standing l.statements)

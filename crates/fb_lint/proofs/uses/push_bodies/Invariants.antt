@@ -1,0 +1,9 @@
+use Rattle.std.proofs.Common.{◌≡◌, ◌++◌, drop}
+use Rattle.std.specs.Prelude.{flat_map}
+use Rattle.fb_why_kinds.specs.Mentions.{meant_all}
+use Rattle.fb_lint.specs.Reads as spec
+use Rattle.fb_lint.proofs.uses.push_bodies.Given as goal
+
+-- with what the rest adds, all is there
+abbrev pub invariant-loop-algorithm : goal.invariant-loop-algorithm
+invariant-loop-algorithm l = meant_all l.mentions.items ++ flat_map spec.mentions_of_algorithm (drop l.algorithm-index l.algorithms) ≡ meant_all l.fn.mentions.items ++ flat_map spec.mentions_of_algorithm l.algorithms

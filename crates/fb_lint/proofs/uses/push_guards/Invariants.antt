@@ -1,0 +1,9 @@
+use Rattle.std.proofs.Common.{◌≡◌, ◌++◌, drop}
+use Rattle.std.specs.Prelude.{flat_map}
+use Rattle.fb_check_types.specs.Checks.{guard_mentions}
+use Rattle.fb_why_kinds.specs.Mentions.{meant_all}
+use Rattle.fb_lint.proofs.uses.push_guards.Given as goal
+
+-- with what the rest adds, all is there
+abbrev pub invariant-loop-transition : goal.invariant-loop-transition
+invariant-loop-transition l = meant_all l.mentions.items ++ flat_map guard_mentions (drop l.transition-index l.transitions) ≡ meant_all l.fn.mentions.items ++ flat_map guard_mentions l.transitions

@@ -1,0 +1,63 @@
+-- Data inputs that no event samples, and ports of composite types that no connection inside names (IEC 61499-1, 5.1 and 5.3).
+use Rattle.std.specs.Prelude.{ℕ, List, ◌++◌, Bool, true, false, not, ◌&&◌, Option, Some, None}
+use Rattle.std.specs.List.{list_any}
+use Rattle.fb_types.specs.Names.{Name, same_name}
+use Rattle.fb_types.specs.Blocks.{among}
+use Rattle.fb_types.specs.declared.library.CompositeType.{CompositeType}
+use Rattle.fb_types.specs.declared.library.Connection.{Connection}
+use Rattle.fb_types.specs.declared.library.EventPort.{EventPort}
+use Rattle.fb_types.specs.declared.library.PortName.{PortName}
+use Rattle.fb_types.specs.declared.library.Variable.{Variable}
+use Rattle.fb_check_names.specs.declared.ports.PortKind.{PortKind}
+use Rattle.fb_check_names.specs.declared.ports.PortKind.TheVariants as kind
+use Rattle.fb_lint.specs.Findings.{when, each_from}
+use Rattle.fb_lint.specs.declared.warning.Warning.{Warning}
+use Rattle.fb_lint.specs.declared.warning.Warning.TheVariants.{UnsampledInput, UnusedPort}
+
+-- ---- L01
+
+abbrev pub has_with : (variable : Name) → EventPort → Bool
+has_with v e = among e.with v
+
+-- a data input is one that none of the event inputs samples
+abbrev pub unsampled_input : (block : ℕ) → List EventPort → ℕ → Variable → List Warning
+unsampled_input b es k v = when (not (list_any (has_with v.name) es)) (UnsampledInput b k)
+
+abbrev pub unsampled_inputs : (block : ℕ) → List EventPort → List Variable → List Warning
+unsampled_inputs b es vs = each_from (unsampled_input b es) 0 vs
+
+-- ---- L11, of a composite type
+
+abbrev pub is_boundary_end : Option Name → Bool
+is_boundary_end None = true
+is_boundary_end (Some c) = false
+
+-- an end of a connection is the port of the boundary with the name
+abbrev pub is_boundary : Name → PortName → Bool
+is_boundary n p = is_boundary_end p.component && same_name p.port n
+
+-- inside a composite type connections come from its inputs and lead to its outputs
+abbrev pub joins : PortKind → Name → Connection → Bool
+joins kind.EventInput n c = is_boundary n c.from
+joins kind.EventOutput n c = is_boundary n c.to
+joins kind.Input n c = is_boundary n c.from
+joins kind.Output n c = is_boundary n c.to
+
+abbrev pub unjoined_event : (block : ℕ) → PortKind → List Connection → ℕ → EventPort → List Warning
+unjoined_event b p cs k e = when (not (list_any (joins p e.name) cs)) (UnusedPort b p k)
+
+abbrev pub unjoined_variable : (block : ℕ) → PortKind → List Connection → ℕ → Variable → List Warning
+unjoined_variable b p cs k v = when (not (list_any (joins p v.name) cs)) (UnusedPort b p k)
+
+abbrev pub unjoined_events : (block : ℕ) → PortKind → List Connection → List EventPort → List Warning
+unjoined_events b p cs es = each_from (unjoined_event b p cs) 0 es
+
+abbrev pub unjoined_variables : (block : ℕ) → PortKind → List Connection → List Variable → List Warning
+unjoined_variables b p cs vs = each_from (unjoined_variable b p cs) 0 vs
+
+abbrev pub unjoined_ports : (block : ℕ) → CompositeType → List Warning
+unjoined_ports b t =
+    unjoined_events b kind.EventInput t.network.event_connections t.ports.event_inputs
+    ++ unjoined_events b kind.EventOutput t.network.event_connections t.ports.event_outputs
+    ++ unjoined_variables b kind.Input t.network.data_connections t.ports.inputs
+    ++ unjoined_variables b kind.Output t.network.data_connections t.ports.outputs

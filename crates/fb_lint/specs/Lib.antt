@@ -1,0 +1,10 @@
+pub mod Findings
+pub mod Numbers
+pub mod Interfaces
+pub mod Charts
+pub mod Reached
+pub mod Networks
+pub mod Reads
+pub mod Warnings
+pub mod Conditions
+pub mod Lines

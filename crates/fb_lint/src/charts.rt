@@ -1,0 +1,186 @@
+//! States that no transition leaves (L06), transitions behind one that always clears (L07), event inputs that no
+//! transition names (L08), algorithms that no action runs (L09), and event outputs that no action emits (L11).
+
+ghost use Rattle.std.specs.Prelude.{◌≡◌, ◌++◌, OnOk};
+ghost use Rattle.std.specs.List.{list_any};
+ghost use Rattle.fb_lint.specs.Charts as spec;
+
+use crate::findings::push_if;
+use crate::names::is_named;
+use crate::warning::Warning;
+use fb_check_names::PortKind;
+use fb_types::{Action, Algorithm, EventPort, Expr, Name, State, Transition};
+use std::alloc::AllocError;
+
+/// Whether a transition leaves the state.
+fn is_left(transitions: &[Transition], state: &Name) -> bool
+    ensures { result ≡ list_any (spec.leaves state.now) transitions.now }
+{
+    transitions
+        .iter()
+        .any(|transition| state.is(&transition.from))
+}
+
+/// Adds the states that no transition leaves.
+pub(crate) fn push_final_states(
+    all: &mut Vec<Warning>,
+    block: usize,
+    transitions: &[Transition],
+    states: &[State],
+) -> Result<(), AllocError>
+    ensures { OnOk result (all.new.items ≡ all.old.items ++ spec.final_states block transitions.now states.now) }
+{
+    for (state, entry) in states.iter().enumerate() {
+        let is_final = !is_left(transitions, &entry.name);
+        push_if(all, is_final, Warning::FinalState { block, state })?;
+    }
+    Ok(())
+}
+
+fn has_no_guard(guard: &Option<Expr>) -> bool
+    ensures { result ≡ spec.has_no_guard guard.now }
+{
+    match guard {
+        Some(_) => false,
+        None => true,
+    }
+}
+
+/// Whether the event of an earlier transition is present whenever that of a later one is.
+fn is_met_with(earlier: &Option<Name>, later: &Option<Name>) -> bool
+    ensures { result ≡ spec.is_met_with earlier.now later.now }
+{
+    match earlier {
+        Some(event) => is_named(event, later),
+        None => true,
+    }
+}
+
+/// Whether an earlier transition leaves the same state and clears whenever the later one would.
+fn shadows(later: &Transition, earlier: &Transition) -> bool
+    ensures { result ≡ spec.shadows later.now earlier.now }
+{
+    later.from.is(&earlier.from)
+        && has_no_guard(&earlier.condition.guard)
+        && is_met_with(&earlier.condition.event, &later.condition.event)
+}
+
+/// Whether one of the earlier transitions does.
+fn is_shadowed(later: &Transition, earlier: &[Transition]) -> bool
+    ensures { result ≡ list_any (spec.shadows later.now) earlier.now }
+{
+    earlier.iter().any(|earlier| shadows(later, earlier))
+}
+
+/// Adds the transitions behind one that always clears.
+pub(crate) fn push_shadowed_transitions(
+    all: &mut Vec<Warning>,
+    block: usize,
+    transitions: &[Transition],
+) -> Result<(), AllocError>
+    ensures { OnOk result (all.new.items ≡ all.old.items ++ spec.shadowed_transitions block transitions.now) }
+{
+    for (transition, later) in transitions.iter().enumerate() {
+        let is_behind = is_shadowed(later, &transitions[..transition]);
+        let warning = Warning::ShadowedTransition { block, transition };
+        push_if(all, is_behind, warning)?;
+    }
+    Ok(())
+}
+
+/// Whether a transition names the event.
+fn is_event_named(transitions: &[Transition], event: &Name) -> bool
+    ensures { result ≡ list_any (spec.names_event event.now) transitions.now }
+{
+    transitions
+        .iter()
+        .any(|transition| is_named(event, &transition.condition.event))
+}
+
+/// Adds the event inputs that no transition names.
+pub(crate) fn push_unnamed_events(
+    all: &mut Vec<Warning>,
+    block: usize,
+    transitions: &[Transition],
+    events: &[EventPort],
+) -> Result<(), AllocError>
+    ensures { OnOk result (all.new.items ≡ all.old.items ++ spec.unnamed_events block transitions.now events.now) }
+{
+    for (event, port) in events.iter().enumerate() {
+        let is_unnamed = !is_event_named(transitions, &port.name);
+        push_if(all, is_unnamed, Warning::UnnamedEvent { block, event })?;
+    }
+    Ok(())
+}
+
+/// Whether one of the actions runs the algorithm.
+pub(crate) fn runs(actions: &[Action], algorithm: &Name) -> bool
+    ensures { result ≡ list_any (spec.runs algorithm.now) actions.now }
+{
+    actions
+        .iter()
+        .any(|action| is_named(algorithm, &action.algorithm))
+}
+
+/// Whether one of the states has an action that runs the algorithm.
+fn is_run(states: &[State], algorithm: &Name) -> bool
+    ensures { result ≡ list_any (spec.runs_in algorithm.now) states.now }
+{
+    states
+        .iter()
+        .any(|state| runs(state.actions.as_slice(), algorithm))
+}
+
+/// Adds the algorithms that no action runs.
+pub(crate) fn push_unused_algorithms(
+    all: &mut Vec<Warning>,
+    block: usize,
+    states: &[State],
+    algorithms: &[Algorithm],
+) -> Result<(), AllocError>
+    ensures { OnOk result (all.new.items ≡ all.old.items ++ spec.unused_algorithms block states.now algorithms.now) }
+{
+    for (algorithm, entry) in algorithms.iter().enumerate() {
+        let is_unused = !is_run(states, &entry.name);
+        let warning = Warning::UnusedAlgorithm { block, algorithm };
+        push_if(all, is_unused, warning)?;
+    }
+    Ok(())
+}
+
+/// Whether one of the actions emits the event.
+fn emits(actions: &[Action], event: &Name) -> bool
+    ensures { result ≡ list_any (spec.emits event.now) actions.now }
+{
+    actions.iter().any(|action| is_named(event, &action.output))
+}
+
+/// Whether one of the states has an action that emits the event.
+fn is_emitted(states: &[State], event: &Name) -> bool
+    ensures { result ≡ list_any (spec.emits_in event.now) states.now }
+{
+    states
+        .iter()
+        .any(|state| emits(state.actions.as_slice(), event))
+}
+
+/// Adds the event outputs that no action emits.
+pub(crate) fn push_silent_outputs(
+    all: &mut Vec<Warning>,
+    block: usize,
+    states: &[State],
+    events: &[EventPort],
+) -> Result<(), AllocError>
+    ensures { OnOk result (all.new.items ≡ all.old.items ++ spec.silent_outputs block states.now events.now) }
+{
+    for (port, event) in events.iter().enumerate() {
+        let is_silent = !is_emitted(states, &event.name);
+        let warning = Warning::UnusedPort {
+            block,
+            port_kind: PortKind::EventOutput,
+            port,
+        };
+        push_if(all, is_silent, warning)?;
+    }
+    Ok(())
+}

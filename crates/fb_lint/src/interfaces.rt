@@ -1,0 +1,130 @@
+//! Data inputs that no event samples (L01), and ports of composite types that no connection inside names (L11).
+
+ghost use Rattle.std.specs.Prelude.{◌≡◌, ◌++◌, OnOk};
+ghost use Rattle.std.specs.List.{list_any};
+ghost use Rattle.fb_lint.specs.Interfaces as spec;
+
+use crate::findings::push_if;
+use crate::names::is_among;
+use crate::warning::Warning;
+use fb_check_names::PortKind;
+use fb_types::{CompositeType, Connection, EventPort, Name, PortName, Variable};
+use std::alloc::AllocError;
+
+/// Whether one of the events has a variable WITH it.
+fn has_with(events: &[EventPort], variable: &Name) -> bool
+    ensures { result ≡ list_any (spec.has_with variable.now) events.now }
+{
+    events
+        .iter()
+        .any(|event| is_among(event.with.as_slice(), variable))
+}
+
+/// Adds the data inputs that none of the event inputs samples.
+pub(crate) fn push_unsampled_inputs(
+    all: &mut Vec<Warning>,
+    block: usize,
+    events: &[EventPort],
+    inputs: &[Variable],
+) -> Result<(), AllocError>
+    ensures { OnOk result (all.new.items ≡ all.old.items ++ spec.unsampled_inputs block events.now inputs.now) }
+{
+    for (input, variable) in inputs.iter().enumerate() {
+        let is_unsampled = !has_with(events, &variable.name);
+        push_if(all, is_unsampled, Warning::UnsampledInput { block, input })?;
+    }
+    Ok(())
+}
+
+/// Whether an end of a connection is the port of the boundary with the name.
+fn is_boundary(port: &PortName, name: &Name) -> bool
+    ensures { result ≡ spec.is_boundary name.now port.now }
+{
+    match &port.component {
+        Some(_) => false,
+        None => port.port.is(name),
+    }
+}
+
+/// Whether a connection inside a composite type comes from or leads to its port.
+fn joins(port_kind: PortKind, name: &Name, connection: &Connection) -> bool
+    ensures { result ≡ spec.joins port_kind name.now connection.now }
+{
+    match port_kind {
+        PortKind::EventInput | PortKind::Input => is_boundary(&connection.from, name),
+        PortKind::EventOutput | PortKind::Output => is_boundary(&connection.to, name),
+    }
+}
+
+fn is_joined(port_kind: PortKind, name: &Name, connections: &[Connection]) -> bool
+    ensures { result ≡ list_any (spec.joins port_kind name.now) connections.now }
+{
+    connections
+        .iter()
+        .any(|connection| joins(port_kind, name, connection))
+}
+
+/// Adds the events of a composite type that no connection inside names.
+fn push_unjoined_events(
+    all: &mut Vec<Warning>,
+    block: usize,
+    port_kind: PortKind,
+    connections: &[Connection],
+    events: &[EventPort],
+) -> Result<(), AllocError>
+    ensures { OnOk result (all.new.items ≡ all.old.items ++ spec.unjoined_events block port_kind connections.now events.now) }
+{
+    for (port, event) in events.iter().enumerate() {
+        let is_unused = !is_joined(port_kind, &event.name, connections);
+        let warning = Warning::UnusedPort {
+            block,
+            port_kind,
+            port,
+        };
+        push_if(all, is_unused, warning)?;
+    }
+    Ok(())
+}
+
+/// Adds the variables of a composite type that no connection inside names.
+fn push_unjoined_variables(
+    all: &mut Vec<Warning>,
+    block: usize,
+    port_kind: PortKind,
+    connections: &[Connection],
+    variables: &[Variable],
+) -> Result<(), AllocError>
+    ensures { OnOk result (all.new.items ≡ all.old.items ++ spec.unjoined_variables block port_kind connections.now variables.now) }
+{
+    for (port, variable) in variables.iter().enumerate() {
+        let is_unused = !is_joined(port_kind, &variable.name, connections);
+        let warning = Warning::UnusedPort {
+            block,
+            port_kind,
+            port,
+        };
+        push_if(all, is_unused, warning)?;
+    }
+    Ok(())
+}
+
+/// Adds the ports of a composite type that no connection inside names.
+pub(crate) fn push_unjoined_ports(
+    all: &mut Vec<Warning>,
+    block: usize,
+    composite: &CompositeType,
+) -> Result<(), AllocError>
+    ensures { OnOk result (all.new.items ≡ all.old.items ++ spec.unjoined_ports block composite.now) }
+{
+    let ports = &composite.ports;
+    let events = composite.network.event_connections.as_slice();
+    let data = composite.network.data_connections.as_slice();
+    let inputs = ports.event_inputs.as_slice();
+    push_unjoined_events(all, block, PortKind::EventInput, events, inputs)?;
+    let outputs = ports.event_outputs.as_slice();
+    push_unjoined_events(all, block, PortKind::EventOutput, events, outputs)?;
+    let inputs = ports.inputs.as_slice();
+    push_unjoined_variables(all, block, PortKind::Input, data, inputs)?;
+    let outputs = ports.outputs.as_slice();
+    push_unjoined_variables(all, block, PortKind::Output, data, outputs)
+}

@@ -1,0 +1,30 @@
+//! Finds what an accepted declaration, deployment and list of stimuli probably do not mean.
+//!
+//! Guarantees to callers: `warnings` returns exactly what the definitions have of a declaration, a deployment and stimuli:
+//! the warnings about the block types one after another, then about the application and the links. By `laws::warnings_hold`
+//! each of them holds at its position.
+//!
+//! Read in this order: `warning`; `findings` and `names`; `interfaces`, `charts`, `reached`, `reads`, `algorithms`, `uses`,
+//! `networks` and `links`, which have the numbers; `lint`, all of them; `laws`; `words` and `lines`, warnings as texts.
+#![tactic(auto)]
+
+pub mod algorithms;
+mod charts;
+mod findings;
+mod interfaces;
+pub mod laws;
+pub mod lines;
+mod links;
+pub mod lint;
+mod names;
+mod networks;
+pub mod reached;
+mod reads;
+mod uses;
+pub mod warning;
+pub mod words;
+
+pub use lines::warning_lines;
+pub use lint::warnings;
+pub use warning::Warning;
+pub use words::warning_message;

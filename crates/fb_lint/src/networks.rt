@@ -1,0 +1,176 @@
+//! Data inputs of instances that have no source, no parameter and no stimulus (L02), and block types without an instance
+//! (L10).
+
+ghost use Rattle.std.specs.Prelude.{◌≡◌, ◌++◌, OnOk};
+ghost use Rattle.std.specs.List.{list_any};
+ghost use Rattle.fb_lint.specs.Networks as spec;
+
+use crate::findings::push_if;
+use crate::names::is_named;
+use crate::warning::Warning;
+use fb_types::{
+    BlockType, Connection, Instance, Library, Name, Parameter, Setting, Stimulus, Variable,
+};
+use fb_why_kinds::Site;
+use fb_why_kinds::lookup::BlockTypes;
+use std::alloc::AllocError;
+
+/// Whether one of the connections leads to the data input of the instance.
+fn has_source(connections: &[Connection], instance: &Name, input: &Name) -> bool
+    ensures { result ≡ list_any (spec.leads_to instance.now input.now) connections.now }
+{
+    connections.iter().any(|connection| {
+        is_named(instance, &connection.to.component) && input.is(&connection.to.port)
+    })
+}
+
+fn has_parameter(parameters: &[Parameter], input: &Name) -> bool
+    ensures { result ≡ list_any (spec.is_parameter input.now) parameters.now }
+{
+    parameters.iter().any(|parameter| input.is(&parameter.name))
+}
+
+fn has_setting(settings: &[Setting], input: &Name) -> bool
+    ensures { result ≡ list_any (spec.is_setting input.now) settings.now }
+{
+    settings.iter().any(|setting| input.is(&setting.variable))
+}
+
+/// Whether one of the stimuli sets the data input of the instance.
+fn has_stimulus(stimuli: &[Stimulus], instance: &Name, input: &Name) -> bool
+    ensures { result ≡ list_any (spec.sets instance.now input.now) stimuli.now }
+{
+    stimuli.iter().any(|stimulus| {
+        instance.is(&stimulus.instance) && has_setting(stimulus.settings.as_slice(), input)
+    })
+}
+
+/// Whether the data input of an instance has a source, a parameter or a stimulus.
+fn is_fed(
+    connections: &[Connection],
+    stimuli: &[Stimulus],
+    instance: &Instance,
+    input: &Name,
+) -> bool
+    ensures { result ≡ spec.is_fed connections.now stimuli.now instance.now input.now }
+{
+    has_source(connections, &instance.name, input)
+        || has_parameter(instance.parameters.as_slice(), input)
+        || has_stimulus(stimuli, &instance.name, input)
+}
+
+/// An instance, by its network and its index there.
+#[derive(Clone, Copy)]
+struct Located<'a> {
+    site: Site,
+    index: usize,
+    instance: &'a Instance,
+}
+
+/// Adds the data inputs of an instance that have none of them.
+fn push_unfed_inputs(
+    all: &mut Vec<Warning>,
+    connections: &[Connection],
+    stimuli: &[Stimulus],
+    at: &Located<'_>,
+    inputs: &[Variable],
+) -> Result<(), AllocError>
+    ensures { OnOk result (all.new.items ≡ all.old.items ++ spec.unfed_inputs at.now.site connections.now stimuli.now at.now.index at.now.instance.now inputs.now) }
+{
+    for (input, variable) in inputs.iter().enumerate() {
+        let is_unfed = !is_fed(connections, stimuli, at.instance, &variable.name);
+        let warning = Warning::UnfedInput {
+            site: at.site,
+            instance: at.index,
+            input,
+        };
+        push_if(all, is_unfed, warning)?;
+    }
+    Ok(())
+}
+
+/// Adds the data inputs of an instance that have none of them. If its type is unknown there are none.
+fn push_unfed_of(
+    all: &mut Vec<Warning>,
+    types: &BlockTypes,
+    connections: &[Connection],
+    stimuli: &[Stimulus],
+    at: &Located<'_>,
+) -> Result<(), AllocError>
+    ensures { OnOk result (all.new.items ≡ all.old.items ++ spec.unfed_in_instance types.now.library.now at.now.site connections.now stimuli.now at.now.index at.now.instance.now) }
+{
+    match types.ports_named(&at.instance.block_type) {
+        Some(ports) => { push_unfed_inputs(all, connections, stimuli, at, ports.inputs.as_slice()) }
+        None => Ok(()),
+    }
+}
+
+/// Adds the data inputs of the instances of a network that have no source, no parameter and no stimulus.
+pub(crate) fn push_unfed(
+    all: &mut Vec<Warning>,
+    types: &BlockTypes,
+    site: Site,
+    connections: &[Connection],
+    stimuli: &[Stimulus],
+    instances: &[Instance],
+) -> Result<(), AllocError>
+    ensures { OnOk result (all.new.items ≡ all.old.items ++ spec.unfed_in_network types.now.library.now site connections.now stimuli.now instances.now) }
+{
+    for (index, instance) in instances.iter().enumerate() {
+        let at = Located {
+            site,
+            index,
+            instance,
+        };
+        push_unfed_of(all, types, connections, stimuli, &at)?;
+    }
+    Ok(())
+}
+
+/// Whether one of the instances is of the type.
+fn has_instance(instances: &[Instance], name: &Name) -> bool
+    ensures { result ≡ list_any (spec.is_of_type name.now) instances.now }
+{
+    instances
+        .iter()
+        .any(|instance| name.is(&instance.block_type))
+}
+
+/// Whether an instance of the type is inside a block type.
+fn has_inside(block: &BlockType, name: &Name) -> bool
+    ensures { result ≡ spec.has_inside name.now block.now }
+{
+    match block {
+        BlockType::Basic(_) => false,
+        BlockType::Composite(composite) => {
+            has_instance(composite.network.instances.as_slice(), name)
+        }
+    }
+}
+
+fn is_inside(blocks: &[BlockType], name: &Name) -> bool
+    ensures { result ≡ list_any (spec.has_inside name.now) blocks.now }
+{
+    blocks.iter().any(|block| has_inside(block, name))
+}
+
+/// Whether the application or a composite type has an instance of the type.
+fn is_used_type(library: &Library, name: &Name) -> bool
+    ensures { result ≡ spec.is_used_type library.now name.now }
+{
+    has_instance(library.application.network.instances.as_slice(), name)
+        || is_inside(library.blocks.as_slice(), name)
+}
+
+/// Adds a block type if it has no instance.
+pub(crate) fn push_unused_type(
+    all: &mut Vec<Warning>,
+    library: &Library,
+    block: usize,
+    entry: &BlockType,
+) -> Result<(), AllocError>
+    ensures { OnOk result (all.new.items ≡ all.old.items ++ spec.unused_type library.now block entry.now) }
+{
+    let is_used = is_used_type(library, entry.type_name());
+    push_if(all, !is_used, Warning::UnusedType { block })
+}

@@ -1,0 +1,157 @@
+//! The first rounds of a run with workers, whose text waits in memory until it is known whether one agenda is quicker.
+
+ghost use Rattle.std.specs.Prelude.{◌≡◌, [], IfOk, IfErr, IfSome};
+ghost use Rattle.fb_sim.specs.Serial.{AreWithin};
+ghost use Rattle.fb_sim.specs.Rounds.{HasCome, IsLeg, RunsOn};
+ghost use Rattle.fb_sim.specs.declared.outcome.RunError.TheVariants.{Memory};
+
+use crate::drive::{Finish, later, run_on};
+use crate::one_agenda::is_quicker;
+use crate::options::Options;
+use crate::outcome::RunError;
+use crate::pace::{Par, Trial};
+use crate::progress::Round;
+use crate::rounds::round_with_counts;
+use crate::tally::{RoundPlan, Written, first_window};
+use fb_phase::Gate;
+use fb_system::System;
+use fb_trace::write_front;
+use fb_window::Core;
+use std::alloc::{AllocError, Global};
+use std::io::Write;
+use std::sync::Wait;
+use std::thread::Threads;
+use std::time::{Clock, CpuClock};
+
+/// Where the first rounds of a run have led.
+#[derive(Drop)]
+pub enum Leg {
+    /// It goes on from this core.
+    Going(Core),
+    /// It has ended.
+    Over(Finish),
+}
+
+/// Makes the first rounds of a run, one at least, as long as the trial takes. Their text goes into memory. The answer has
+/// what is written so, and what the rounds took, if the clock can be read.
+///
+/// # Errors
+/// `Memory`.
+pub(crate) fn run_first<R: Threads + Wait + Sync, P: Gate, C: Clock>(
+    rt: &R,
+    alloc: Global,
+    system: &System,
+    first: Core,
+    options: Options,
+    text: &mut Vec<u8>,
+    gate: &P,
+    clock: &C,
+) -> Result<(Leg, Written, Option<Par>), RunError>
+    requires options { AreWithin options }
+    requires come { HasCome system.now options.steps options.horizon first [] }
+    requires text { text.old.items ≡ [] }
+    ensures leg { IfOk result (λ r. IsLeg system.now options r.0 r.1 text.new.items) }
+    ensures memory { IfErr result (λ e. e ≡ Memory) }
+{
+    system.facts();
+    let mut core = first;
+    let mut written = Written { bytes: 0, lines: 0 };
+    let mut trial = Trial::new();
+    let mut workers = options.workers;
+    let mut turns = 0;
+    let mut ticks = first_window(system.count());
+    for _ in 0..options.horizon + 1 {
+        let plan = RoundPlan {
+            options: Options { workers, ..options },
+            turns,
+            ticks,
+        };
+        match round_with_counts(rt, alloc, system, core, plan, text, gate) {
+            Ok((round, tally)) => {
+                written = written.with(&tally);
+                workers = tally.workers(options.workers);
+                turns = tally.turns();
+                ticks = tally.ticks(ticks);
+                let is_over = trial.count(clock, tally.final_lines.max(tally.lines as u128));
+                match round {
+                    Round::Going(next) => {
+                        if is_over {
+                            return Ok((Leg::Going(next), written, trial.par(clock)));
+                        }
+                        core = next;
+                    }
+                    Round::Ended(last) => {
+                        return Ok((Leg::Over(Finish::AtEnd(last)), written, None));
+                    }
+                    Round::Stopped(mark) => {
+                        return Ok((Leg::Over(Finish::AtMark(mark)), written, None));
+                    }
+                }
+            }
+            // A writer into memory fails for memory alone.
+            Err(_) => return Err(RunError::Memory),
+        }
+    }
+    unreachable!()
+}
+
+/// What goes on after the first rounds, which took so long: they, or nothing where one agenda is quicker, which then has
+/// to run from the opening.
+///
+/// # Errors
+/// When memory runs out.
+pub(crate) fn choose<C: CpuClock>(
+    alloc: Global,
+    system: &System,
+    options: Options,
+    leg: Leg,
+    par: Option<Par>,
+    clock: &C,
+) -> Result<Option<Leg>, AllocError>
+    requires { AreWithin options }
+    ensures { IfOk result (λ found. IfSome found (λ same. same ≡ leg)) }
+{
+    let Some(par) = par else {
+        return Ok(Some(leg));
+    };
+    match leg {
+        Leg::Over(finish) => Ok(Some(Leg::Over(finish))),
+        Leg::Going(core) => {
+            if is_quicker(alloc, system, options, par, clock)? {
+                Ok(None)
+            } else {
+                Ok(Some(Leg::Going(core)))
+            }
+        }
+    }
+}
+
+/// Writes the text of the first rounds, and makes the others.
+pub(crate) fn run_rest<R: Threads + Wait + Sync, W: Write, P: Gate>(
+    rt: &R,
+    alloc: Global,
+    system: &System,
+    leg: Leg,
+    begun: Written,
+    text: &[u8],
+    options: Options,
+    out: &mut W,
+    gate: &P,
+) -> Result<(Finish, Written), RunError>
+    requires options { AreWithin options }
+    requires leg { IsLeg system.now options leg begun text.now }
+    ensures { RunsOn system.now options [] (W.contents out.old) (W.contents out.new) result }
+{
+    system.facts();
+    let count = write_front(out, text);
+    if count < text.len() {
+        return Err(later(0, RunError::Write(count as u128)));
+    }
+    match leg {
+        Leg::Over(finish) => Ok((finish, begun)),
+        Leg::Going(core) => match run_on(rt, alloc, system, core, options, out, gate) {
+            Ok((finish, written)) => Ok((finish, begun.and(written))),
+            Err(error) => Err(later(begun.bytes, error)),
+        },
+    }
+}

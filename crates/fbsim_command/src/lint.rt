@@ -1,0 +1,58 @@
+//! Warnings about inputs that are accepted.
+
+ghost use Rattle.std.specs.Prelude.{ℕ, List, IfOk, IfErr, true};
+ghost use Rattle.fb_sim.specs.Reports.{Hears};
+ghost use Rattle.fbsim_command.specs.Command.{AreWarnings, Checks, Warns};
+ghost use Rattle.fbsim_command.specs.Outcomes.{IsUndeclared};
+
+use crate::failure::Failure;
+use crate::output::write_text;
+use crate::statuses::Done;
+use fb_lint::warning_lines;
+use fb_sim::{Inputs, discard, open};
+use fb_trace::write_front;
+use std::alloc::{AllocError, Global};
+use std::io::Write;
+
+/// The lines of the warnings about inputs.
+fn lines_of(alloc: Global, inputs: &Inputs<'_>) -> Result<Vec<u8>, Failure>
+    ensures lines { IfOk result (λ text. AreWarnings inputs.now text.items) }
+    ensures refused { IfErr result (IsUndeclared inputs.now) }
+{
+    let system = open(alloc, inputs)?;
+    let lines = warning_lines(alloc, system.library(), system.plan(), system.stimuli());
+    // Dropped by one call: the end of its scope would prove the drop part by part.
+    discard(system);
+    Ok(lines?)
+}
+
+/// Reports lines. It says whether standard error took them all.
+fn report_lines<E: Write>(err: &mut E, lines: &[u8]) -> bool
+    ensures { Hears result (E.contents err.old) (E.contents err.new) lines.now }
+{
+    if lines.is_empty() {
+        return true;
+    }
+    write_front(err, lines) == lines.len()
+}
+
+/// Says whether the inputs are accepted, and then reports warnings about them. It says how that ends, and whether
+/// standard error took all warnings.
+pub(crate) fn check_and_warn<W: Write, E: Write>(
+    alloc: Global,
+    inputs: &Inputs<'_>,
+    out: &mut W,
+    err: &mut E,
+) -> (Result<Done, Failure>, bool)
+    ensures done { Checks inputs.now (W.contents out.old) (W.contents out.new) result.0 }
+    ensures reported { (reports : List ℕ) × Warns true inputs.now result.0 reports × Hears result.1 (E.contents err.old) (E.contents err.new) reports }
+{
+    let lines = match lines_of(alloc, inputs) {
+        Ok(lines) => lines,
+        Err(failure) => return (Err(failure), true),
+    };
+    match write_text(out, b"accepted\n") {
+        Ok(()) => (Ok(Done::Accepted), report_lines(err, lines.as_slice())),
+        Err(failure) => (Err(Failure::from(failure)), true),
+    }
+}
