@@ -2,4 +2,3 @@ pub mod Growing
 pub mod Leading
 pub mod Reaching
 pub mod Holding
-pub mod Listing

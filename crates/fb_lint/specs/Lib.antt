@@ -8,3 +8,4 @@ pub mod Reads
 pub mod Warnings
 pub mod Conditions
 pub mod Lines
+pub mod Positions

@@ -1,5 +1,5 @@
 -- Warnings as lines of text (this project's own).
-use Rattle.std.specs.Prelude.{◌≡◌, ℕ, ◌/◌, ◌%◌, List, [], ◌∷◌, ◌++◌, codes, decimal}
+use Rattle.std.specs.Prelude.{◌≡◌, ℕ, ◌/◌, ◌%◌, List, ◌++◌, codes, decimal}
 use Rattle.fb_lint.specs.Numbers.{number_of}
 use Rattle.fb_lint.specs.declared.warning.Warning.{Warning}
 
@@ -11,8 +11,3 @@ line_text n words = codes "L" ++ (decimal (n / 10) ++ (decimal (n % 10) ++ (code
 pub record IsLine (w : Warning) (line : List ℕ) : Type 0 where
   pub words : List ℕ
   pub is : line ≡ line_text (number_of w) words
-
--- a line for each warning, in their order
-abbrev pub AreLines : List Warning → List ℕ → Type 0
-AreLines [] text = text ≡ []
-AreLines (w ∷ ws) text = (line : List ℕ) × (rest : List ℕ) × IsLine w line × AreLines ws rest × (text ≡ line ++ rest)

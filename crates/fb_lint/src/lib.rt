@@ -5,7 +5,8 @@
 //! each of them holds at its position.
 //!
 //! Read in this order: `warning`; `findings` and `names`; `interfaces`, `charts`, `reached`, `reads`, `algorithms`, `uses`,
-//! `networks` and `links`, which have the numbers; `lint`, all of them; `laws`; `words` and `lines`, warnings as texts.
+//! `networks` and `links`, which have the numbers; `lint`, all of them; `laws`; `words` and `lines`, warnings as texts;
+//! `positions`, where they are.
 #![tactic(auto)]
 
 pub mod algorithms;
@@ -18,13 +19,15 @@ mod links;
 pub mod lint;
 mod names;
 mod networks;
+pub mod positions;
 pub mod reached;
 mod reads;
 mod uses;
 pub mod warning;
 pub mod words;
 
-pub use lines::warning_lines;
+pub use lines::line_of;
 pub use lint::warnings;
+pub use positions::position_of;
 pub use warning::Warning;
 pub use words::warning_message;

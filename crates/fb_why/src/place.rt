@@ -23,7 +23,11 @@ pub struct PlacedFinding {
 }
 
 /// Where a position of a library is in the text that declares it.
-fn place_at(
+///
+/// # Errors
+///
+/// When memory runs out.
+pub fn place_at(
     alloc: Global,
     declaration: &[u8],
     library: &Library,

@@ -21,3 +21,4 @@ mod Showing
 mod Noting
 mod Reporting
 pub mod Warning
+pub mod PlacedLines

@@ -1,6 +1,6 @@
 -- Warnings about inputs that are accepted.
-use Rattle.std.proofs.Common.{◌≡◌, ℕ, ◌≤◌, List, [], ◌∷◌, ◌++◌, Bool, true, length, take, drop, take-append-drop, drop_of_length-le, Option, Some, None, Ok, Err, refl, sym, ◌∙◌, ap, subst, arith}
-use Rattle.std.specs.Prelude.{IsTrue, IsErrAnd, codes}
+use Rattle.std.proofs.Common.{◌≡◌, ℕ, ◌≤◌, List, [], ◌∷◌, Bool, true, length, take, drop, take-append-drop, drop_of_length-le, Option, Some, None, refl, sym, subst, arith}
+use Rattle.std.specs.Prelude.{IsTrue}
 use Rattle.std.specs.Io.KnownBytes.{Appends}
 use Rattle.fb_read.specs.declared.error.ReadError.{ReadError}
 use Rattle.fb_read.specs.declared.error.ReadError.TheVariants as read
@@ -13,12 +13,9 @@ use Rattle.fb_sim.specs.declared.outcome.Refusal as sim
 use Rattle.fb_sim.specs.declared.outcome.Refusal.TheVariants as of
 use Rattle.fb_sim.specs.declared.outcome.RunError.{RunError}
 use Rattle.fb_sim.specs.declared.outcome.RunError.TheVariants as run
-use Rattle.fbsim_command.specs.Command.{AreWarnings, Checks}
-use Rattle.fbsim_command.specs.Failures.{WritesPart, failure_of, numbered_input}
+use Rattle.fbsim_command.specs.Failures.{failure_of, numbered_input}
 use Rattle.fbsim_command.specs.Outcomes.{Held, IsUndeclared}
 use Rattle.fbsim_command.proofs.Reporting.{quiet}
-use Rattle.fbsim_command.specs.declared.failure.Failure.{Failure}
-use Rattle.fbsim_command.specs.declared.failure.Failure.TheVariants.{Refused, RefusedTrace, File, Write, Memory, Line, BadOption}
 
 -- the inputs are refused
 pub undeclared : (given : Given) (error : RunError) → IsRefusal given error → IsUndeclared given (failure_of error)
@@ -45,26 +42,6 @@ undeclared given run.Memory is = tt
 undeclared given (run.Write n) is = absurd is
 undeclared given run.BadOption is = absurd is
 undeclared given run.Failed is = absurd is
-
--- nothing is written of inputs that are refused
-pub unchecked : (given : Given) (old : Held) (f : Failure) → IsUndeclared given f → Checks given old old (Err f)
-unchecked given old (Refused refusal) is = (is, refl)
-unchecked given old Memory is = refl
-unchecked given old (RefusedTrace text) is = absurd is
-unchecked given old File is = absurd is
-unchecked given old (Write n) is = absurd is
-unchecked given old (Line message) is = absurd is
-unchecked given old BadOption is = absurd is
-
--- a part is written of the answer to inputs that are accepted
-pub part_checked : (given : Given) (reports : List ℕ) → AreWarnings given reports → (old new : Held) (f : Failure) → WritesPart old new (codes "accepted\n") f → Checks given old new (Err f)
-part_checked given reports are old new (Write n) part = ((are.inputs, are.declared), part)
-part_checked given reports are old new (Refused refusal) part = absurd part
-part_checked given reports are old new Memory part = absurd part
-part_checked given reports are old new (RefusedTrace text) part = absurd part
-part_checked given reports are old new File part = absurd part
-part_checked given reports are old new (Line message) part = absurd part
-part_checked given reports are old new BadOption part = absurd part
 
 -- where there is no warning
 pub heard_none : (err : Held) (lines : List ℕ) → lines ≡ [] → Hears true err err lines

@@ -6,15 +6,12 @@ use Rattle.std.specs.List.{list_any}
 use Rattle.std.specs.Io.KnownBytes.{Appends}
 use Rattle.std.specs.Str.{str_eq_ignore_ascii_case}
 use Rattle.clap.specs.Words.{Text}
-use Rattle.fb_types.specs.Headline.{Inputs}
 use Rattle.fb_types.specs.Simulation.{AtHorizon, AtStop}
 use Rattle.fb_types.specs.declared.value.Reason.{Reason}
-use Rattle.fb_lint.specs.Lines.{AreLines}
-use Rattle.fb_lint.specs.Warnings.{warnings}
 use Rattle.fb_sim.specs.Given.{Given}
 use Rattle.fb_sim.specs.Rounds.{WritesFront}
 use Rattle.fb_sim.specs.Serial as sim
-use Rattle.fb_sim.specs.Serial.{AreWithin, Declares, IsDeclared, Writes}
+use Rattle.fb_sim.specs.Serial.{AreWithin, IsDeclared, Writes}
 use Rattle.fb_sim.specs.declared.options.Options.{Options}
 use Rattle.fb_trace.specs.declared.last.Outcome.{Outcome}
 use Rattle.fb_trace.specs.declared.last.Outcome.TheVariants as sim_end
@@ -27,6 +24,7 @@ use Rattle.fbsim_command.specs.Failures.{IsPartWritten, explained_text, failure_
 use Rattle.fbsim_command.specs.Notes.{IsFileNote, Notes, NotesOf}
 use Rattle.fbsim_command.specs.Outcomes.{End, Held, IsRefused}
 use Rattle.fbsim_command.specs.OwnLines.{EndsIn}
+use Rattle.fbsim_command.specs.WarningLines.{AreWarnings, Naming, naming_in}
 use Rattle.fbsim_command.specs.Reading.{Reading, AreRead, IsUnread}
 use Rattle.fbsim_command.specs.Showing.{Opening, Shows}
 use Rattle.fbsim_command.specs.Comparing.{Compares}
@@ -111,21 +109,15 @@ ReportsOn false true given o old new end reports = (run : Result Outcome RunErro
 ReportsOn true true given o old new end reports = reports ≡ []
 ReportsOn serial false given o old new end reports = reports ≡ []
 
--- The inputs are accepted, and these are the lines of the warnings about them.
-pub record AreWarnings (given : Given) (reports : Text) : Type 0 where
-  pub inputs : Inputs
-  pub declared : Declares given inputs
-  pub lines : AreLines (warnings inputs.library inputs.plan inputs.stimuli) reports
-
 -- what is reported of a check: of inputs that are accepted the warnings, if they are asked for, and else nothing
-abbrev pub Warns : (lint : Bool) → Given → End → (reports : Text) → Type 0
-Warns true given (Ok done) reports = AreWarnings given reports
-Warns true given (Err failure) reports = reports ≡ []
-Warns false given end reports = reports ≡ []
+abbrev pub Warns : (lint : Bool) → Naming → Given → End → (reports : Text) → Type 0
+Warns true n given (Ok done) reports = AreWarnings n given reports
+Warns true n given (Err failure) reports = reports ≡ []
+Warns false n given end reports = reports ≡ []
 
-abbrev pub Reports : Given → Action → (old new : Held) → End → (reports : Text) → Type 0
-Reports given (Check lint) old new end reports = Warns lint given end reports
-Reports given (Run horizon steps workers serial form progress) old new end reports =
+abbrev pub Reports : Naming → Given → Action → (old new : Held) → End → (reports : Text) → Type 0
+Reports n given (Check lint) old new end reports = Warns lint n given end reports
+Reports n given (Run horizon steps workers serial form progress) old new end reports =
     ReportsOn serial progress given (record { horizon = horizon; steps = steps; workers = workers; form = form }) old new end reports
 
 -- ---- The call
@@ -137,7 +129,7 @@ pub record AreReadAndDone {S : Type 0} (reads : Reading S) (from to : S) (types 
   pub read : AreRead reads types c from to lines given
   pub inner : End
   pub done : Meets given c.action old new inner
-  pub reported : Reports given c.action old new inner reports
+  pub reported : Reports (naming_in types c lines) given c.action old new inner reports
   pub noted : NotesOf types c lines given inner note
   pub ends : EndsIn types c.declaration.now lines inner end
 

@@ -12,4 +12,5 @@ pub mod Known
 pub mod Expecting
 pub mod Comparing
 pub mod Drawing
+pub mod WarningLines
 pub mod Command

@@ -8,11 +8,12 @@
 //!
 //! Read it in this order: `line` and `bench_line`, the words; `sources`, where files come from; `files`, those of the
 //! machine; `program`, the call; `texts`, what is read, with `join`, a declaration in several files, and `own_lines`, how its
-//! refusals name a file and a line, which agree by `laws`; `wave`; `expect` and `known`, rules and traces; `output`; `failure`,
-//! `notes`, `rules_notes` and `statuses`, how it ends.
+//! refusals name a file and a line, which agree by `laws`; `lint`, with `call_names` and `warning_lines`, the lines of warnings;
+//! `wave`; `expect` and `known`, rules and traces; `output`; `failure`, `notes`, `rules_notes` and `statuses`, how it ends.
 #![tactic(auto)]
 
 mod bench_line;
+pub mod call_names;
 mod draw;
 mod expect;
 pub mod failure;
@@ -30,6 +31,7 @@ mod rules_notes;
 pub mod sources;
 pub mod statuses;
 mod texts;
+pub mod warning_lines;
 mod wave;
 
 pub use bench_line::{Diff, Expect};

@@ -2,25 +2,49 @@
 
 ghost use Rattle.std.specs.Prelude.{ℕ, List, IfOk, IfErr, true};
 ghost use Rattle.fb_sim.specs.Reports.{Hears};
-ghost use Rattle.fbsim_command.specs.Command.{AreWarnings, Checks, Warns};
+ghost use Rattle.fb_lint.specs.Warnings.{warnings};
+ghost use Rattle.fbsim_command.specs.Command.{Checks, Warns};
 ghost use Rattle.fbsim_command.specs.Outcomes.{IsUndeclared};
+ghost use Rattle.fbsim_command.specs.WarningLines.{AreLines, AreWarnings, naming_of};
 
+use crate::call_names::Naming;
 use crate::failure::Failure;
 use crate::output::write_text;
 use crate::statuses::Done;
-use fb_lint::warning_lines;
+use crate::warning_lines::all_lines;
+use fb_lint::warnings;
 use fb_sim::{Inputs, discard, open};
+use fb_system::System;
 use fb_trace::write_front;
 use std::alloc::{AllocError, Global};
 use std::io::Write;
 
+/// The lines of the warnings about a system, with their places in the text that declares it.
+fn lines_in(
+    alloc: Global,
+    naming: &Naming<'_, '_, '_>,
+    declaration: &[u8],
+    system: &System,
+) -> Result<Vec<u8>, AllocError>
+    ensures { IfOk result (λ text. AreLines (naming_of naming.now) declaration.now system.now.library (warnings system.now.library system.now.plan system.now.stimuli) text.items) }
+{
+    let library = system.library();
+    let plan = system.plan();
+    let found = warnings(alloc, library, plan, system.stimuli())?;
+    all_lines(alloc, naming, declaration, library, plan, found.as_slice())
+}
+
 /// The lines of the warnings about inputs.
-fn lines_of(alloc: Global, inputs: &Inputs<'_>) -> Result<Vec<u8>, Failure>
-    ensures lines { IfOk result (λ text. AreWarnings inputs.now text.items) }
+fn lines_of(
+    alloc: Global,
+    naming: &Naming<'_, '_, '_>,
+    inputs: &Inputs<'_>,
+) -> Result<Vec<u8>, Failure>
+    ensures lines { IfOk result (λ text. AreWarnings (naming_of naming.now) inputs.now text.items) }
     ensures refused { IfErr result (IsUndeclared inputs.now) }
 {
     let system = open(alloc, inputs)?;
-    let lines = warning_lines(alloc, system.library(), system.plan(), system.stimuli());
+    let lines = lines_in(alloc, naming, inputs.declaration, &system);
     // Dropped by one call: the end of its scope would prove the drop part by part.
     discard(system);
     Ok(lines?)
@@ -40,14 +64,15 @@ fn report_lines<E: Write>(err: &mut E, lines: &[u8]) -> bool
 /// standard error took all warnings.
 pub(crate) fn check_and_warn<W: Write, E: Write>(
     alloc: Global,
+    naming: &Naming<'_, '_, '_>,
     inputs: &Inputs<'_>,
     out: &mut W,
     err: &mut E,
 ) -> (Result<Done, Failure>, bool)
     ensures done { Checks inputs.now (W.contents out.old) (W.contents out.new) result.0 }
-    ensures reported { (reports : List ℕ) × Warns true inputs.now result.0 reports × Hears result.1 (E.contents err.old) (E.contents err.new) reports }
+    ensures reported { (reports : List ℕ) × Warns true (naming_of naming.now) inputs.now result.0 reports × Hears result.1 (E.contents err.old) (E.contents err.new) reports }
 {
-    let lines = match lines_of(alloc, inputs) {
+    let lines = match lines_of(alloc, naming, inputs) {
         Ok(lines) => lines,
         Err(failure) => return (Err(failure), true),
     };

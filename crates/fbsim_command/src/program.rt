@@ -5,12 +5,14 @@ ghost use Rattle.std.specs.Prelude.{◌≡◌, ◌++◌, ℕ, List, [], Option, 
 ghost use Rattle.fb_sim.specs.Reports.{Hears};
 ghost use Rattle.fbsim_command.specs.Command.{Checks, Does, ExplainsRefusal, IsDoneOf, Meets, Performs, Reports, ReportsOn, Runs};
 ghost use Rattle.fbsim_command.specs.Notes.{NotesOf};
+ghost use Rattle.fbsim_command.specs.WarningLines.{naming_of};
 ghost use Rattle.fbsim_command.specs.Texts.{given_of, lines_of};
 ghost use Rattle.fbsim_command.specs.Failures.{WritesPart, explained_text, status_of, reported, reported_of};
 ghost use Rattle.fbsim_command.specs.declared.failure.Failure.{Failure};
 ghost use Rattle.fbsim_command.specs.declared.statuses.Done.{Done};
 ghost use Rattle.fbsim_command.specs.declared.statuses.Done.TheVariants.{Helped};
 
+use crate::call_names::Naming;
 use crate::draw::show_graph;
 use crate::expect::{diff, expect};
 use crate::failure::Failure;
@@ -119,17 +121,18 @@ fn meet<R: Threads + Wait + Sync, C: Clock + CpuClock, W: Write, E: Write>(
     rt: &R,
     clock: &C,
     alloc: Global,
+    naming: &Naming<'_, '_, '_>,
     action: Action,
     texts: &Texts,
     out: &mut W,
     err: &mut E,
 ) -> (Result<Done, Failure>, bool)
     ensures done { Meets (given_of texts.now) action (W.contents out.old) (W.contents out.new) result.0 }
-    ensures reported { (reports : List ℕ) × Reports (given_of texts.now) action (W.contents out.old) (W.contents out.new) result.0 reports × Hears result.1 (E.contents err.old) (E.contents err.new) reports }
+    ensures reported { (reports : List ℕ) × Reports (naming_of naming.now) (given_of texts.now) action (W.contents out.old) (W.contents out.new) result.0 reports × Hears result.1 (E.contents err.old) (E.contents err.new) reports }
 {
     let inputs = texts.inputs();
     match action {
-        Action::Check { lint: true } => check_and_warn(alloc, &inputs, out, err),
+        Action::Check { lint: true } => check_and_warn(alloc, naming, &inputs, out, err),
         Action::Check { lint: false } => (check_inputs(alloc, &inputs, out), true),
         Action::Run {
             horizon,
@@ -186,7 +189,13 @@ fn perform<R: Threads + Wait + Sync, C: Clock + CpuClock, S: Source, W: Write, E
 {
     match read_files(alloc, types, task, source) {
         Ok(texts) => {
-            let (end, is_heard) = meet(rt, clock, alloc, task.action, &texts, out, err);
+            let naming = Naming {
+                types,
+                own: task.declaration,
+                deploy: task.deploy,
+                lines: texts.lines.as_slice(),
+            };
+            let (end, is_heard) = meet(rt, clock, alloc, &naming, task.action, &texts, out, err);
             let note = note_to(alloc, types, task, &end, &texts);
             let end = end_with(alloc, types, task.declaration, &texts, end);
             Answer {

@@ -1,4 +1,5 @@
-use Rattle.std.proofs.Common.{[], inl, inr, refl, ap, Err}
+use Rattle.std.proofs.Common.{[], List, ℕ, map, option_map, inl, inr, refl, ap, subst, Err}
+use Rattle.fbsim_command.specs.Command.{Reports}
 use Rattle.fbsim_command.specs.Texts.{given_of, lines_of}
 use Rattle.fbsim_command.proofs.Reporting.{quiet}
 use Rattle.fbsim_command.proofs.program.perform.Goals as goal
@@ -13,7 +14,10 @@ returns-in-Ok g c = (
     read = c.in-Ok.ensures.read;
     inner = c.meet-end.result.0;
     done = c.meet-end.ensures.done;
-    reported = c.meet-end.ensures.reported.1;
+    reported =
+        subst
+        (λ (ls : List ℕ). Reports (record { types = map (λ t. t.now) c.args.types.now; own = c.args.task.now.declaration.now; deploy = option_map (λ d. d.now) c.args.task.now.deploy; lines = ls }) (given_of c.in-Ok.texts) c.args.task.now.action (g.W.Write.contents c.args.out.now) (g.W.Write.contents c.meet-end.new.out) c.meet-end.result.0 c.meet-end.ensures.reported.0)
+        c.as_slice.ensures.value c.meet-end.ensures.reported.1;
     noted = c.note_to-note.ensures;
     ends = c.end_with-end.ensures;
   }),

@@ -1,0 +1,41 @@
+-- Where warnings are in a declaration (this project's own).
+use Rattle.std.specs.Prelude.{ℕ, Option, Some, None}
+use Rattle.fb_check_names.specs.declared.ports.PortKind.{PortKind}
+use Rattle.fb_check_names.specs.declared.ports.PortKind.TheVariants as kind
+use Rattle.fb_read_positions.specs.declared.position.Position.{Position}
+use Rattle.fb_read_positions.specs.declared.position.Position.TheVariants.{InApplication, Block, InPorts, InBasic, InComposite}
+use Rattle.fb_read_positions.specs.declared.position.BasicPart.TheVariants as basic
+use Rattle.fb_read_positions.specs.declared.position.NetworkPart.TheVariants.{Instance}
+use Rattle.fb_read_positions.specs.declared.position.PortPart.{PortPart}
+use Rattle.fb_read_positions.specs.declared.position.PortPart.TheVariants as port
+use Rattle.fb_read_positions.specs.declared.position.TransitionPart.TheVariants as part
+use Rattle.fb_why_kinds.specs.declared.location.Site.{Site}
+use Rattle.fb_why_kinds.specs.declared.location.Site.TheVariants.{Application, Inside}
+use Rattle.fb_lint.specs.declared.warning.Warning.{Warning}
+use Rattle.fb_lint.specs.declared.warning.Warning.TheVariants.{UnsampledInput, UnfedInput, UnsampledInGuard, UnsampledInAlgorithm, UnreachedState, FinalState, ShadowedTransition, UnnamedEvent, UnusedAlgorithm, UnusedType, UnusedPort, UnassignedEvent, UnusedLink}
+
+abbrev pub port_of : PortKind → ℕ → PortPart
+port_of kind.EventInput k = port.EventInput k
+port_of kind.EventOutput k = port.EventOutput k
+port_of kind.Input k = port.Input k
+port_of kind.Output k = port.Output k
+
+abbrev pub instance_of : Site → ℕ → Position
+instance_of Application i = InApplication (Instance i)
+instance_of (Inside b) i = InComposite b (Instance i)
+
+-- a link is not in the declaration
+abbrev pub position_of : Warning → Option Position
+position_of (UnsampledInput b k) = Some (InPorts b (port.Input k))
+position_of (UnfedInput s i k) = Some (instance_of s i)
+position_of (UnsampledInGuard b x k) = Some (InBasic b (basic.Transition x part.Guard))
+position_of (UnsampledInAlgorithm b a k) = Some (InBasic b (basic.Algorithm a))
+position_of (UnreachedState b k) = Some (InBasic b (basic.State k))
+position_of (FinalState b k) = Some (InBasic b (basic.State k))
+position_of (ShadowedTransition b k) = Some (InBasic b (basic.Transition k part.From))
+position_of (UnnamedEvent b k) = Some (InPorts b (port.EventInput k))
+position_of (UnusedAlgorithm b k) = Some (InBasic b (basic.Algorithm k))
+position_of (UnusedType b) = Some (Block b)
+position_of (UnusedPort b p k) = Some (InPorts b (port_of p k))
+position_of (UnassignedEvent b k) = Some (InPorts b (port.EventOutput k))
+position_of (UnusedLink k) = None

@@ -1,0 +1,81 @@
+//! Where warnings are in a declaration.
+
+ghost use Rattle.std.specs.Prelude.{◌≡◌};
+ghost use Rattle.fb_lint.specs.Positions as spec;
+
+use crate::warning::Warning;
+use fb_check_names::PortKind;
+use fb_read_positions::{BasicPart, NetworkPart, PortPart, Position, TransitionPart};
+use fb_why_kinds::Site;
+
+/// The name of a port.
+fn port_of(port_kind: PortKind, port: usize) -> PortPart
+    ensures { result ≡ spec.port_of port_kind port }
+{
+    match port_kind {
+        PortKind::EventInput => PortPart::EventInput(port),
+        PortKind::EventOutput => PortPart::EventOutput(port),
+        PortKind::Input => PortPart::Input(port),
+        PortKind::Output => PortPart::Output(port),
+    }
+}
+
+/// The name of an instance.
+fn instance_of(site: Site, instance: usize) -> Position
+    ensures { result ≡ spec.instance_of site instance }
+{
+    match site {
+        Site::Application => Position::InApplication(NetworkPart::Instance(instance)),
+        Site::Inside(block) => Position::InComposite(block, NetworkPart::Instance(instance)),
+    }
+}
+
+/// The position in the declaration at which a warning is shown. There is none for a link.
+pub fn position_of(warning: &Warning) -> Option<Position>
+    ensures { result ≡ spec.position_of warning.now }
+{
+    let position = match *warning {
+        Warning::UnsampledInput { block, input } => Position::InPorts(
+            block,
+            PortPart::Input(input),
+        ),
+        Warning::UnfedInput { site, instance, .. } => instance_of(site, instance),
+        Warning::UnsampledInGuard {
+            block,
+            transition,
+            ..
+        } => Position::InBasic(
+            block,
+            BasicPart::Transition(transition, TransitionPart::Guard),
+        ),
+        Warning::UnsampledInAlgorithm {
+            block,
+            algorithm,
+            ..
+        }
+        | Warning::UnusedAlgorithm { block, algorithm } => {
+            Position::InBasic(block, BasicPart::Algorithm(algorithm))
+        }
+        Warning::UnreachedState { block, state } | Warning::FinalState { block, state } => {
+            Position::InBasic(block, BasicPart::State(state))
+        }
+        Warning::ShadowedTransition { block, transition } => Position::InBasic(
+            block,
+            BasicPart::Transition(transition, TransitionPart::From),
+        ),
+        Warning::UnnamedEvent { block, event } => {
+            Position::InPorts(block, PortPart::EventInput(event))
+        }
+        Warning::UnusedType { block } => Position::Block(block),
+        Warning::UnusedPort {
+            block,
+            port_kind,
+            port,
+        } => Position::InPorts(block, port_of(port_kind, port)),
+        Warning::UnassignedEvent { block, event } => {
+            Position::InPorts(block, PortPart::EventOutput(event))
+        }
+        Warning::UnusedLink { .. } => return None,
+    };
+    Some(position)
+}

@@ -1,0 +1,90 @@
+-- The lines of warnings with their places (docs/FORMATS.md, "Warnings"; this project's own).
+use Rattle.std.specs.Prelude.{◌≡◌, ◌⊎◌, ℕ, List, [], ◌∷◌, ◌++◌, map, Option, Some, None, option_map, codes, decimal}
+use Rattle.clap.specs.Words.{Text}
+use Rattle.fb_types.specs.Headline.{Inputs}
+use Rattle.fb_types.specs.declared.library.Library.{Library}
+use Rattle.fb_lint.specs.Lines.{IsLine}
+use Rattle.fb_lint.specs.Positions.{position_of}
+use Rattle.fb_lint.specs.Warnings.{warnings}
+use Rattle.fb_lint.specs.declared.warning.Warning.{Warning}
+use Rattle.fb_read_positions.specs.declared.position.Position.{Position}
+use Rattle.fb_why.specs.Places.{IsPlaceAt}
+use Rattle.fb_why_bytes.specs.declared.text_locations.TextLocation.{TextLocation}
+use Rattle.fb_sim.specs.Given.{Given}
+use Rattle.fb_sim.specs.Serial.{Declares}
+use Rattle.fbsim_command.specs.Joining.{IsLineOf, name_at}
+use Rattle.fbsim_command.specs.OwnLines.{IsInNone}
+use Rattle.fbsim_command.specs.Outcomes.{End}
+use Rattle.fbsim_command.specs.declared.line.Task.{Task}
+use Rattle.fbsim_command.specs.declared.call_names.Naming as code
+
+-- The names that a call gives to its files, and how many lines each file of the declaration has, if there are several.
+pub record Naming : Type 0 where
+  pub types : List Text
+  pub own : Text
+  pub deploy : Option Text
+  pub lines : List ℕ
+
+abbrev pub naming_of : code.Naming → Naming
+naming_of n = record { types = map (λ t. t.now) n.types.now; own = n.own.now; deploy = option_map (λ d. d.now) n.deploy; lines = n.lines.now }
+
+-- the names that a task gives
+abbrev pub naming_in : (types : List Text) → Task → (lines : List ℕ) → Naming
+naming_in types c lines = record { types = types; own = c.declaration.now; deploy = option_map (λ d. d.now) c.deploy; lines = lines }
+
+-- ---- Places
+
+-- a file, a line and a column, as editors take them
+abbrev pub place_text : (name : Text) → (line column : ℕ) → Text
+place_text name line column = name ++ (codes ":" ++ (decimal line ++ (codes ":" ++ (decimal column ++ codes ": "))))
+
+-- The text has the file with this line of the whole declaration, and the line in it. A declaration in one file has its own lines.
+abbrev pub IsPlaceText : Naming → (whole column : ℕ) → Text → Type 0
+IsPlaceText n whole column text =
+    ((file : ℕ) × (line : ℕ) × IsLineOf n.lines whole file line × (text ≡ place_text (name_at n.types n.own file) line column))
+    ⊎ (IsInNone n.lines whole × (text ≡ place_text n.own whole column))
+
+-- The text is the place of the warning in the declaration.
+pub record IsDeclaredPlace (n : Naming) (declaration : Text) (library : Library) (w : Warning) (text : Text) : Type 0 where
+  pub position : Position
+  pub position_is : position_of w ≡ Some position
+  pub place : TextLocation
+  pub placed : IsPlaceAt declaration library position place
+  pub shown : IsPlaceText n place.line place.column text
+
+-- The text is that of the beginning of the deployment, in which a link is.
+pub record IsDeploymentPlace (n : Naming) (w : Warning) (text : Text) : Type 0 where
+  pub none : position_of w ≡ None
+  pub name : Text
+  pub named : n.deploy ≡ Some name
+  pub shown : text ≡ place_text name 1 1
+
+-- the place of a warning, or nothing
+abbrev pub IsPlace : Naming → (declaration : Text) → Library → Warning → Text → Type 0
+IsPlace n declaration library w text = IsDeclaredPlace n declaration library w text ⊎ IsDeploymentPlace n w text ⊎ (text ≡ [])
+
+-- ---- Lines
+
+-- The place, if it is known, and then the number and words.
+pub record IsPlacedLine (n : Naming) (declaration : Text) (library : Library) (w : Warning) (line : Text) : Type 0 where
+  pub place : Text
+  pub is_place : IsPlace n declaration library w place
+  pub words : Text
+  pub is_line : IsLine w words
+  pub is : line ≡ place ++ words
+
+-- this line is added
+abbrev pub IsAdded : Naming → (declaration : Text) → Library → Warning → (old new : Text) → Type 0
+IsAdded n declaration library w old new = (line : Text) × IsPlacedLine n declaration library w line × (new ≡ old ++ line)
+
+-- a line for each warning, in their order
+abbrev pub AreLines : Naming → (declaration : Text) → Library → List Warning → Text → Type 0
+AreLines n declaration library [] text = text ≡ []
+AreLines n declaration library (w ∷ ws) text =
+    (line : Text) × (rest : Text) × IsPlacedLine n declaration library w line × AreLines n declaration library ws rest × (text ≡ line ++ rest)
+
+-- The inputs are accepted, and these are the lines of the warnings about them.
+pub record AreWarnings (n : Naming) (given : Given) (reports : Text) : Type 0 where
+  pub inputs : Inputs
+  pub declared : Declares given inputs
+  pub lines : AreLines n given.declaration inputs.library (warnings inputs.library inputs.plan inputs.stimuli) reports
