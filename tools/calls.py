@@ -230,7 +230,7 @@ BLANKS = b" " * (MOST_OF_A_TEXT + 1)
 
 
 def placed(refusal, note, text=None):
-    """What is told of a refusal with the note of a place: its source line too, by default of the file that the note names."""
+    """What standard error gets of a refusal with the note of a place: its source line too, by default that of the file in the note."""
     name = note.split(b":")[0]
     return refusal + with_source(note, {name: FILES[name.decode()] if text is None else text})
 
