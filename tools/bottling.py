@@ -102,14 +102,14 @@ def bottles_arrive(lines):
 
 def caps_are_tight(lines):
     """A cap is turned until it has the torque of the recipe, three times at most; a try that a halt interrupts does not count."""
-    air, tries, wanted = 70, 0, 0
+    air, tries, expected = 70, 0, 0
     for it in at(lines, ">CAP.PRESSED", ">CAP.HEAD.BOTTLE", "<CAP.HEAD.TURNED", "<CAP.HEAD.PAUSED", "<CAP.CAPPED"):
         if it.port == ">CAP.PRESSED":
             air = it.AIR
         elif it.port == ">CAP.HEAD.BOTTLE":
-            tries, wanted = 0, it.WANTED
+            tries, expected = 0, it.WANTED
         elif it.port == "<CAP.CAPPED":
-            if (it.TRIES, it.TORQUE) != (tries, 2 * air + 20 * (tries - 1)) or it.TORQUE < wanted and tries < 3:
+            if (it.TRIES, it.TORQUE) != (tries, 2 * air + 20 * (tries - 1)) or it.TORQUE < expected and tries < 3:
                 yield it.tick
         else:
             tries += 1 if it.port == "<CAP.HEAD.TURNED" else -1
@@ -158,13 +158,13 @@ def three_rejects_block(lines):
 def modes_follow(lines):
     """The modes of the panel: which button leads from which mode where."""
     ways = {(0, "START"): 1, (1, "STOP"): 0, (1, "ALARM"): 3, (2, "RESET"): 0, (3, "RESET"): 0, **{(it, "EMERGENCY"): 2 for it in (0, 1, 3)}}
-    mode, wanted = 0, []
+    mode, expected = 0, []
     for it in lines:
         if it.port.startswith(">LINE."):
             new = ways.get((mode, it.port.removeprefix(">LINE.")), mode)
-            wanted += [(it.tick, new, new == 1)] * (new != mode)
+            expected += [(it.tick, new, new == 1)] * (new != mode)
             mode = new
-    yield from [tick for tick, *_ in {*wanted} ^ {(it.tick, it.MODE, it.RUN) for it in at(lines, "<LINE.CHANGED")}]
+    yield from [tick for tick, *_ in {*expected} ^ {(it.tick, it.MODE, it.RUN) for it in at(lines, "<LINE.CHANGED")}]
 
 
 def recipes_wait(lines):
@@ -176,10 +176,10 @@ def recipes_wait(lines):
             continue
         if not runs and it.NUMBER in RECIPES:
             volume, torque, layer = RECIPES[it.NUMBER]
-            wanted = {"VOLUME": volume, "FILL_TIME": 2 * volume, "TORQUE": torque, "PER_LAYER": layer}
+            expected = {"VOLUME": volume, "FILL_TIME": 2 * volume, "TORQUE": torque, "PER_LAYER": layer}
         else:
-            wanted = {"REASON": 1 if runs else 2}
-        if answer.values != wanted or answer.tick != it.tick:
+            expected = {"REASON": 1 if runs else 2}
+        if answer.values != expected or answer.tick != it.tick:
             yield it.tick
 
 
@@ -187,11 +187,11 @@ def pallet_is_packed(lines):
     """Bottles are put in rows of two, layer by layer, and wait on the table while a full pallet is there."""
     on, capacity, waiting, placed = 0, 0, 0, []
     for it in at(lines, ">PALLET.BOTTLE", ">PALLET.REMOVED"):
-        stands = capacity and on == capacity
+        is_full = capacity and on == capacity
         if it.port == ">PALLET.REMOVED":
-            on, came, waiting = (0, waiting, 0) if stands else (on, 0, waiting)
+            on, came, waiting = (0, waiting, 0) if is_full else (on, 0, waiting)
         else:
-            came, waiting, layer = (0, waiting + 1, it.PER_LAYER) if stands else (1, waiting, it.PER_LAYER)
+            came, waiting, layer = (0, waiting + 1, it.PER_LAYER) if is_full else (1, waiting, it.PER_LAYER)
         for _ in range(came):
             capacity = capacity if on else LAYERS * layer
             spot = on % (capacity // LAYERS)

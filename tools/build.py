@@ -119,11 +119,11 @@ def main():
     signal.signal(signal.SIGINT, signal.SIG_DFL)
     crates = crates_as_built()
     program = next(it for it in crates if it.name == PROGRAM)
-    wanted = [*program.below(), program]
-    held = rtlib.lock(wanted)
-    left = [it for it in wanted if it.is_program or not it.is_built()]
+    needed = [*program.below(), program]
+    held = rtlib.lock(needed)
+    left = [it for it in needed if it.is_program or not it.is_built()]
     progress, names = Progress(len(left)), {it.name for it in left}
-    proved = Proved(wanted, [it for it in wanted if it not in left])
+    proved = Proved(needed, [it for it in needed if it not in left])
     say(f"proving and building the program, {len(left)} crates; it can be interrupted, and goes on the next time")
 
     def work(crate, given, jobs):

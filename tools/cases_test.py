@@ -92,12 +92,12 @@ FAULTY = [
 
 def try_text(folder, text):
     """Returns whether the cases of this text have their answers, and what is printed about them."""
-    path, told = f"{folder}/cases.toml", io.StringIO()
+    path, printed = f"{folder}/cases.toml", io.StringIO()
     with open(path, "w", encoding="utf-8") as it:
         it.write(text)
-    with contextlib.redirect_stdout(told):
+    with contextlib.redirect_stdout(printed):
         is_well = cases.run_all(f"{folder}/stub", [path])
-    return is_well, told.getvalue()
+    return is_well, printed.getvalue()
 
 
 def is_none(folder, text):

@@ -52,11 +52,11 @@ def rows(page):
     return [(ROW.fullmatch(it)[1], it.strip("| ").split(" | ")[1:]) for it in lines]
 
 
-def has_all(page, wanted, may_repeat=False):
+def has_all(page, required, may_repeat=False):
     """Returns the faults of a page that must have each of these crates in a row, and in no other one unless crates may repeat."""
     named = [crate for crate, _ in rows(page)]
-    counts = {it: bool(named.count(it)) if may_repeat else named.count(it) for it in {*wanted, *named}}
-    return [f"{page}: {it} is in {named.count(it)} rows" for it in sorted(counts) if counts[it] != (it in wanted)]
+    counts = {it: bool(named.count(it)) if may_repeat else named.count(it) for it in {*required, *named}}
+    return [f"{page}: {it} is in {named.count(it)} rows" for it in sorted(counts) if counts[it] != (it in required)]
 
 
 def module_faults():

@@ -173,14 +173,14 @@ def run_of(room, seed, ways):
     horizon, steps = sketch.dice.one_of(HORIZONS), sketch.dice.one_of(STEPS)
     system = interpreter.System(declaration, tomllib.loads(deployment), interpreter.stimuli_in(stimuli), steps)
     trace = system.run(horizon, form=2).encode()
-    wanted = int(trace.splitlines()[-1].startswith(b"stop")), trace, b""
+    expected = int(trace.splitlines()[-1].startswith(b"stop")), trace, b""
     numbers = ["--horizon", str(horizon), "--steps", str(steps), "--trace", "2"]
     for ending, text in (("deploy", deployment), ("stimuli", stimuli)):
         with open(f"{room.folder}/{seed}.{ending}", "w", encoding="utf-8") as it:
             it.write(text)
     words = ["run", "-", "--deploy", f"{seed}.deploy", "--stim", f"{seed}.stimuli", *numbers]
     came = [room.call([*words, *way], declaration.encode()) for way in ways]
-    return wanted, [(it.returncode, it.stdout, it.stderr) for it in came]
+    return expected, [(it.returncode, it.stdout, it.stderr) for it in came]
 
 
 def try_all(program):
@@ -190,9 +190,9 @@ def try_all(program):
     with Room(program) as room:
         came = side_by_side(lambda seed: run_of(room, seed, ways), seeds)
     faults, stops = [], 0
-    for seed, (wanted, runs) in zip(seeds, came):
-        stops += wanted[0] == 1
-        faults += [f"the system of {seed}, {' '.join(way)}: {shown(*it)}" for way, it in zip(ways, runs) if it != wanted]
+    for seed, (expected, runs) in zip(seeds, came):
+        stops += expected[0] == 1
+        faults += [f"the system of {seed}, {' '.join(way)}: {shown(*it)}" for way, it in zip(ways, runs) if it != expected]
     print("\n".join(faults[:SHOWN]), end="\n" * bool(faults))
     print(f"random systems: {len(seeds)}, of which {stops} stop; {len(faults)} faults", flush=True)
     return not faults and 20 < stops < 180

@@ -187,9 +187,9 @@ def vim(text):
     return found
 
 
-def differences(name, editor, text, wanted, colours):
+def differences(name, editor, text, due, colours):
     """Returns a line about the first character that has another colour. Blanks are ignored."""
-    for place, (letter, want, have) in enumerate(zip(text, wanted, colours, strict=True)):
+    for place, (letter, want, have) in enumerate(zip(text, due, colours, strict=True)):
         if want != have and not letter.isspace():
             return [f"{name}: {editor}, line {text.count(chr(10), 0, place) + 1}: {text[place:place + 20]!r} is {have}, and not {want}"]
     return []
@@ -204,7 +204,7 @@ def main():
         ways["TextMate by Oniguruma"] = lambda text: textmate(onig, grammar, text)
     if shutil.which("vim"):
         ways["Vim"] = vim
-    faults = [fault for place, text, wanted in given for editor, way in ways.items() for fault in differences(place, editor, text, wanted, way(text))]
+    faults = [fault for place, text, due in given for editor, way in ways.items() for fault in differences(place, editor, text, due, way(text))]
     for it in faults:
         print(f"editors: {it}", file=sys.stderr)
     print(f"editors: {len(faults)} faults in {len(given)} texts, coloured by {', '.join(ways)}")

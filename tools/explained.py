@@ -37,7 +37,7 @@ def rows(table):
     return "".join(f"| {' | '.join(row)} |\n" for row in cells)
 
 
-def wanted_lines():
+def expected_lines():
     """Returns the lines that a stored case or a call expects."""
     with open(CASES, "rb") as it:
         groups = tomllib.load(it)["group"]
@@ -51,8 +51,8 @@ def untried(page):
     if page.count(WHY_HEADING) != 1:
         sys.exit(f"{PAGE}: the table of lines of --why must be there once")
     shown = page.split(WHY_HEADING)[1].split("\n\n")[0].splitlines()
-    wanted = wanted_lines()
-    return [row for row in shown if row.split(" | ", 1)[1].removesuffix(" |").strip("`") not in wanted]
+    expected = expected_lines()
+    return [row for row in shown if row.split(" | ", 1)[1].removesuffix(" |").strip("`") not in expected]
 
 
 def numbers():
@@ -68,7 +68,7 @@ def main(words):
     """Compares the page with the table, or writes it, and returns the status."""
     with open(TABLE) as it:
         table = it.read()
-    wanted = HEADING + rows(table)
+    expected = HEADING + rows(table)
     if (explained := sorted(name for name, *_ in entries(table) if re.fullmatch(r"E\d\d", name))) != numbers():
         print(f"{TABLE}: explains {explained}, and the sources number {numbers()}", file=sys.stderr)
         return 1
@@ -80,10 +80,10 @@ def main(words):
     shown, after = rest.split(LAST)
     if words == ["--write"]:
         with open(PAGE, "w") as it:
-            it.write(before + FIRST + wanted + LAST + after)
+            it.write(before + FIRST + expected + LAST + after)
     elif words:
         sys.exit(__doc__)
-    elif shown != wanted:
+    elif shown != expected:
         print(f"{PAGE}: shows other explanations than {TABLE} has: tools/explained.py --write", file=sys.stderr)
         return 1
     if rows_untried := untried(page):

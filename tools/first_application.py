@@ -96,10 +96,10 @@ def follow(page, reader):
     count, faults = 0, []
     for above, how, number, lines in blocks(page):
         if how == "console":
-            for at, command, told in commands(number, lines):
+            for at, command, shown in commands(number, lines):
                 printed = reader.does(command)
                 count += 1
-                if printed != told:
+                if printed != shown:
                     faults.append("\n  ".join([f"{PAGE}:{at}: $ {command}", "prints:", *printed]))
         elif name := FILE.fullmatch(above):
             reader.write(name[1], lines)

@@ -1,4 +1,4 @@
-"""The functions of a crate's source texts: where each stands, what rattle calls it, and where its proof stands.
+"""The functions of a crate's source texts: where each is, what rattle calls it, and where its proof is.
 
 The texts are as `rt fmt` lays them out, which the gate sees to."""
 
@@ -20,7 +20,7 @@ class Function:
     """A function of a source text.
 
     `first`, `named` and `last` are its lines, from 1: that of its first comment or attribute, that of its name, and that of its
-    last brace. `impl` is what rattle calls the impl that it stands in, `kind` says which that is: "free", "own" (of a type),
+    last brace. `impl` is what rattle calls the impl that it is in, `kind` says which that is: "free", "own" (of a type),
     "trait" (a trait's for one type) or "any" (a trait, or a trait's for each type of some kind). `cycle` is the name of the cycle
     of calls that it is in with others, if it is in one, and `cycle_proof` the folder of that cycle's proof, or of the function's
     own where it calls itself."""
@@ -34,7 +34,7 @@ class Function:
         return path == self.path and self.first <= line <= self.last
 
     def above(self):
-        """Returns the names of the modules and of the type that the function stands in."""
+        """Returns the names of the modules and of the type that the function is in."""
         modules = [] if self.module in ("lib", "main") else self.module.split("/")
         return [*modules, *([self.impl] if self.impl else [])]
 
@@ -51,13 +51,13 @@ class Function:
         return os.path.dirname(file) in (self.proof(), self.cycle_proof)
 
     def has_goal(self, file, goal):
-        """Says whether a goal whose answer stands in this proof file is one of the function's own."""
+        """Says whether a goal whose answer is in this proof file is one of the function's own."""
         if file == f"{self.proof()}/Answers.antt":
             return True
         return file == f"{self.cycle_proof}/Answers.antt" and self.is_named_in(goal)
 
     def is_named_in(self, goal):
-        """Says whether a goal of its cycle of calls is the function's own. Where it stands alone, all are."""
+        """Says whether a goal of its cycle of calls is the function's own. Where it is alone, all are."""
         return not self.cycle or goal.startswith(f"{self.name}-")
 
 
@@ -100,7 +100,7 @@ def last_line(lines, at, indent):
 
 
 def functions(path, text):
-    """Returns the functions of a source text, but for those that stand in others."""
+    """Returns the functions of a source text, but for those that are inside others."""
     lines, found, impl, kind = text.split("\n"), [], "", "free"
     for at, line in enumerate(lines):
         if BLOCK.match(line):
@@ -135,7 +135,7 @@ class Sources:
 
 
 def functions_of_types(path, text, modules):
-    """Returns the functions of a text. A method is named by the module of its type, also where the impl stands in another."""
+    """Returns the functions of a text. A method is named by the module of its type, also where the impl is in another."""
     lines, found = text.split("\n"), functions(path, text)
     for it in found:
         of_type = modules.get(it.impl, {it.module})
@@ -150,7 +150,7 @@ def functions_of_types(path, text, modules):
 
 
 def begin_of_body(lines, function):
-    """Returns the line, from 1, at whose end a function's body begins, behind its clauses or else behind its signature, or None
+    """Returns the line, from 1, at whose end a function's body begins, after its clauses or else after its signature, or None
     where it ends in that line."""
     indent = FUNCTION.match(lines[function.named - 1])[1]
     for at in range(function.named, function.last):

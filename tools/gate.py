@@ -7,7 +7,7 @@ Without a crate it is the whole gate. In order:
   exists (tools/documents.py); the traces of the examples are those of a second simulator (tools/interpreter.py) and keep the rules of
   their page (tools/bottling.py); the syntax files of editors/ colour declarations right (tools/editors.py)
 - tools: those that try stored cases and wrong implementations distinguish right from wrong (tools/cases_test.py,
-  tools/wrong_bodies_test.py)
+  tools/must_fail_test.py)
 - proofs, from scratch: every crate and its tests are proved, and every wrong implementation in crates/*/must-fail is refused
 - tests and programs
 - calls of the program: each status (tools/calls.py), the commands of docs/FIRST_APPLICATION.md (tools/first_application.py),
@@ -24,7 +24,7 @@ failed. With crates it does the same only for these and those below them, on a c
 It runs the kit's own `rt ci`, so it proves and judges like that. Some kits cache on the machine what passed, by the checksums of
 everything that it depends on. With such a kit a later run, in another clone too, proves and tries only what changed and what depends
 on that. With others each run is from scratch. Four things differ: a crate that has only tests is proved only with them; all wrong
-implementations of a crate are in one check, each in its own function (tools/wrong_bodies.py); a check gets a second job only if
+implementations of a crate are in one check, each in its own function (tools/must_fail.py); a check gets a second job only if
 a processor would be idle (tools/lanes.py); and both compilers build the program at the same time."""
 
 import os
@@ -60,12 +60,12 @@ import waves
 import wide
 from kit import KEEPS, TOP, rt, rtlib
 from lanes import in_lanes
-from wrong_bodies import add_edits, try_all
+from must_fail import add_edits, try_all
 
 # Runs a command and adds to a file how much processor time and memory it took, as a line 'seconds', 'MB', folder, and the
 # command's words.
 MEASURE = """
-import os, signal, sys
+import os, sys
 log, *words = sys.argv[1:]
 child = os.fork()
 if not child:
@@ -75,7 +75,6 @@ with open(log, "a") as it:
     row = [str(used.ru_utime + used.ru_stime), str(used.ru_maxrss // 1000), os.getcwd(), *words]
     it.write("\\t".join(row).replace("\\n", " ") + "\\n")
 if os.WIFSIGNALED(status):
-    signal.signal(os.WTERMSIG(status), signal.SIG_DFL)
     os.kill(os.getpid(), os.WTERMSIG(status))
 sys.exit(os.WEXITSTATUS(status))
 """
@@ -101,8 +100,8 @@ class Crate(rt.Crate):
         """Compiles and links a proved program. The kit asks for LLVM's program, and then for that of Rattle's own compiler, when
         nothing else runs any more. Here both are built at the same time."""
         if backend == "llvm":
-            with ThreadPoolExecutor(1) as beside:
-                self.own = beside.submit(super().compile_by, "rattle", words, to)
+            with ThreadPoolExecutor(1) as other:
+                self.own = other.submit(super().compile_by, "rattle", words, to)
                 return super().compile_by(backend, words, to)
         return self.own.result()
 
@@ -141,7 +140,8 @@ class Times:
         return is_well
 
     def of_crates(self):
-        """Returns the seconds by crate and task, and by crate the most memory of one of its checks."""
+        """Returns the seconds by crate and task, those of edits that the crate's common check did not settle ("alone", a part of "edits"),
+        and by crate the most memory of one of its checks."""
         found = {(name, "runs"): seconds for name, seconds in self.runs.items()}
         with open(self.log, encoding="utf-8", errors="replace") as it:
             rows = [line.rstrip("\n").split("\t") for line in it]
@@ -151,6 +151,8 @@ class Times:
             task = "edits" if OF_EDITS.search(folder) else "tests" if is_of_tests else "proof"
             found[name, task] = found.get((name, task), 0) + float(seconds)
             found[name, "MB"] = max(found.get((name, "MB"), 0), int(most))
+            if task == "edits" and "--allow-holes" not in words:
+                found[name, "alone"] = found.get((name, "alone"), 0) + float(seconds)
         return found
 
     def tell(self):
@@ -166,6 +168,9 @@ class Times:
             print(row.format(name, *[f"{it:.0f}" for it in seconds], found.get((name, "MB"), 0)))
         most = max((found.get((it, "MB"), 0) for it in names), default=0)
         print(row.format(f"all {len(names)} crates", *[f"{it:.0f}" for it in sums], most))
+        for name in names:
+            if (name, "alone") in found:
+                print(f"{name}: {found[name, 'alone']:.0f} s of them for edits that were tried alone (docs/PROOF_COST.md)")
         used, minutes = used_by_children() / 60, (time.time() - self.start) / 60
         print(f"{used:.0f} processor minutes in {minutes:.0f} minutes on {rt.processors()} processors", flush=True)
 
@@ -263,13 +268,13 @@ def copy_of(names, room):
     lacking = sorted({*names} - {it.name for it in crates})
     if lacking:
         rtlib.stop(f"crates.txt names no {', '.join(lacking)}")
-    wanted = {*names} | {below.name for it in crates if it.name in names for below in it.below()}
+    needed = {*names} | {below.name for it in crates if it.name in names for below in it.below()}
     top = f"{room}/copy"
-    for it in wanted:
+    for it in needed:
         shutil.copytree(f"{TOP}/crates/{it}", f"{top}/crates/{it}", ignore=shutil.ignore_patterns("out"))
     shutil.copy(f"{TOP}/HANDLES", top)
     with open(f"{TOP}/crates.txt", encoding="utf-8") as lines, open(f"{top}/crates.txt", "w", encoding="utf-8") as it:
-        it.writelines(line for line in lines if re.split(r"[\s:]", line)[0] in wanted)
+        it.writelines(line for line in lines if re.split(r"[\s:]", line)[0] in needed)
     return top
 
 
@@ -301,7 +306,7 @@ def main(words):
         print("0 passed, 1 failed")
         return 1
     with tempfile.TemporaryDirectory(prefix="gate-") as room:
-        look = Beside("tools/wrong_bodies_test.py")
+        look = Beside("tools/must_fail_test.py")
         call_after_each_run()
         share_processors()
         has_failed = tell_before_the_last_line(Times(room), look)

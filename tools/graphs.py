@@ -7,7 +7,7 @@ in its graph once, and nothing else: names, ends, conditions, actions, resources
 graphviz must accept each graph without a warning, and find the same numbers of nodes, edges and clusters in it.
 
 If `dot` is missing, this installs the package graphviz of the system. If that fails, the graphs are read by this tool alone: the last
-line says so, and the status 0 stands for the comparisons that were made. ./gate installs nothing."""
+line says so, and the status 0 is for the comparisons that were made. ./gate installs nothing."""
 
 import glob
 import json
@@ -186,10 +186,10 @@ def faults_of_chart(graph, chart):
     yield from differ("others", graph.clusters + graph.links + graph.connections, [])
 
 
-def differ(what, found, wanted):
-    if [*map(repr, found)] != [*map(repr, wanted)]:
-        lost = Counter(map(repr, wanted)) - Counter(map(repr, found))
-        more = Counter(map(repr, found)) - Counter(map(repr, wanted))
+def differ(what, found, expected):
+    if [*map(repr, found)] != [*map(repr, expected)]:
+        lost = Counter(map(repr, expected)) - Counter(map(repr, found))
+        more = Counter(map(repr, found)) - Counter(map(repr, expected))
         yield f"{what}: missing {[*lost][:3]}, too many {[*more][:3]}" if lost or more else f"{what} are in another order"
 
 
@@ -247,12 +247,12 @@ def faults_of(room, declaration, plan, with_graphviz):
     """What is wrong with the graphs of a declaration, and their number."""
     types, application = Reader(declaration.decode("utf-8-sig")).library()
     table = tomllib.loads(plan.decode()) if plan else None
-    wanted = [(None, lambda graph: faults_of_application(graph, application, types, table))]
+    expected = [(None, lambda graph: faults_of_application(graph, application, types, table))]
     for name, it in types.items():
         look = (lambda graph, it=it: faults_of_chart(graph, it.chart)) if it.chart else (lambda graph, it=it: faults_of_composite(graph, it, types))
-        wanted.append((name, look))
+        expected.append((name, look))
     found = []
-    for name, look in wanted:
+    for name, look in expected:
         try:
             text = drawn(room, declaration, plan, name and name.lower())
             graph = Graph(text)
@@ -263,7 +263,7 @@ def faults_of(room, declaration, plan, with_graphviz):
         if name and graph.name != name:
             wrong.append(f"is called {graph.name}")
         found += [f"{name or 'application'}: {it}" for it in wrong]
-    return found, len(wanted)
+    return found, len(expected)
 
 
 def make_all(program, says=print):

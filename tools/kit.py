@@ -32,7 +32,7 @@ def once_for_each_crate(work):
 rtlib.Crate.stamp = once_for_each_crate(rtlib.Crate.stamp)
 
 # The part of the memory that the kit reckons with for a check which is kept for it. Those of this repository take about half of what the
-# kit reckons, of which the gate tells each crate's most; by all of it the longest chain of crates waits for room that nobody takes.
+# kit reckons, of which the gate shows each crate's most; by all of it the longest chain of crates waits for room that nobody takes.
 TAKEN = 0.6
 _reckoned = rt.need
 rt.need = lambda crate: int(TAKEN * _reckoned(crate))

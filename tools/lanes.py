@@ -1,8 +1,8 @@
-"""Shares the processors among the gate's tasks: the proof of each crate, that of its tests, and the tries of its wrong bodies.
+"""Shares the processors among the gate's tasks: the proof of each crate, that of its tests, and the tries of its wrong implementations.
 
 The kit gives a proof all processors that no other proof waits for. A check by four jobs takes up to twice the processor time of one by
 a single job, since each job loads the libraries, and the tries of wrong implementations wait meanwhile. Here each task has one job, and
-those with the longest chain of others behind them begin first. Only where fewer tasks are ready than processors are free do the proofs
+those with the longest chain of others after them begin first. Only where fewer tasks are ready than processors are free do the proofs
 among them share the rest. (By a model of these tasks, a second job for each proof at the head of the longest chain takes four minutes off the gate
 on four processors, and adds four minutes of processor time.) A check of few lines always has one job: most of its time is the loading of libraries,
 which each job does."""
@@ -24,12 +24,12 @@ MEMORY = 0.85
 
 def chains(tasks):
     """Returns for each task the work, in lines, of the longest chain of tasks that it begins. A task comes after those that it waits for."""
-    behind = dict.fromkeys(tasks, 0)
+    after = dict.fromkeys(tasks, 0)
     for key in reversed([*tasks]):
-        behind[key] += tasks[key][1]
+        after[key] += tasks[key][1]
         for it in tasks[key][0]:
-            behind[it] = max(behind[it], behind[key])
-    return behind
+            after[it] = max(after[it], after[key])
+    return after
 
 
 def jobs_of(key, lines, idle, ready):
@@ -42,8 +42,8 @@ def jobs_of(key, lines, idle, ready):
 def in_lanes(tasks):
     """Runs tasks side by side, one a processor, as many as memory holds, each once those it waits for have ended, and returns what each gave. A task is
     what it waits for, its work in lines, its memory, and a call that gets what was given and how many jobs it may use."""
-    lanes, memory, behind = rt.processors(), MEMORY * rt.free(), chains(tasks)
-    left, running, given = sorted(tasks, key=lambda it: (it[1] not in PROOFS, -behind[it])), {}, {}
+    lanes, memory, after = rt.processors(), MEMORY * rt.free(), chains(tasks)
+    left, running, given = sorted(tasks, key=lambda it: (it[1] not in PROOFS, -after[it])), {}, {}
     with rt.ending(), ThreadPoolExecutor(lanes) as pool:
         while left or running:
             ready = [it for it in left if all(below in given for below in tasks[it][0])]
@@ -53,7 +53,7 @@ def in_lanes(tasks):
                 idle = lanes - sum(jobs for _, _, jobs in running.values())
                 room = memory - sum(held for _, held, _ in running.values())
                 if idle <= 0 or lacks and key[1] not in PROOFS:
-                    # (a proof that waits for memory gets it before the tries of wrong bodies)
+                    # (a proof that waits for memory gets it before the tries of wrong implementations)
                     break
                 if running and needs > room:
                     lacks = True

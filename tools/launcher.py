@@ -60,9 +60,9 @@ def unnamed(texts):
     faults = []
     for place in (MANUAL, *COMPLETIONS):
         text = unbuilt.content(f"{TOP}/share/{place}").replace("\\-", "-")
-        wanted = {it for it in COMMANDS if it} | {f"-l {it} " if place.endswith(".fish") else f"--{it}" for it in options}
-        wanted |= set() if place == MANUAL else {*EXPLAINED[:-1]}
-        faults += [f"share/{place}: lacks {it}" for it in sorted(wanted) if it not in text and f"-{{h,-{it}" not in text]
+        required = {it for it in COMMANDS if it} | {f"-l {it} " if place.endswith(".fish") else f"--{it}" for it in options}
+        required |= set() if place == MANUAL else {*EXPLAINED[:-1]}
+        faults += [f"share/{place}: lacks {it}" for it in sorted(required) if it not in text and f"-{{h,-{it}" not in text]
     return faults
 
 
@@ -78,10 +78,10 @@ def texts_beside(room):
     faults = unnamed(unbuilt.helps())
     if help_page(room) != unbuilt.content(unbuilt.HELP):
         faults.append("docs/HELP.md: the program prints another help: tools/launcher.py --write")
-    told = unbuilt.explanations()
-    faults += [f"explain {it}: the program prints another text than tools/unbuilt.py" for it in EXPLAINED if printed(room, ["explain", it]) != told.get(it)]
-    wanted = {("fbsim", "wa"): ["wave"], ("fbsim", "run", "--se"): ["--serial"], ("fbsim", "explain", "E3"): ["E30"], ("fbsim", "expect", "--st"): ["--strict"], ("fbsim", "draw", "--t"): ["--types", "--type"], ("fbsim", "check", "cas"): ["cases"]}
-    faults += [f"bash completes {words} to {completed(*words)}" for words, to in wanted.items() if completed(*words) != to]
+    texts = unbuilt.explanations()
+    faults += [f"explain {it}: the program prints another text than tools/unbuilt.py" for it in EXPLAINED if printed(room, ["explain", it]) != texts.get(it)]
+    required = {("fbsim", "wa"): ["wave"], ("fbsim", "run", "--se"): ["--serial"], ("fbsim", "explain", "E3"): ["E30"], ("fbsim", "expect", "--st"): ["--strict"], ("fbsim", "draw", "--t"): ["--types", "--type"], ("fbsim", "check", "cas"): ["cases"]}
+    faults += [f"bash completes {words} to {completed(*words)}" for words, to in required.items() if completed(*words) != to]
     return faults
 
 

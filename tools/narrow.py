@@ -85,9 +85,9 @@ def with_room(words, text, steps, status=0):
     of its bytes."""
     for room in range(len(text) + 1):
         is_whole = room == len(text)
-        told = b"" if is_whole else b"write fault after %d bytes\n" % room
+        reported = b"" if is_whole else b"write fault after %d bytes\n" % room
         for step in steps:
-            yield Call(words, output(1, step, room), status if is_whole else 3, text[:room], told)
+            yield Call(words, output(1, step, room), status if is_whole else 3, text[:room], reported)
 
 
 def of_resources(it, ways):
@@ -102,8 +102,8 @@ def of_resources(it, ways):
 def at_room(words, text, room, step, **how):
     """A call with these arguments, which writes the text, with this much room: the text, or its beginning and the number of its bytes."""
     is_whole = room >= len(text)
-    told = b"" if is_whole else b"write fault after %d bytes\n" % room
-    return Call(words, output(1, step, room, **how), 0 if is_whole else 3, text[:room], told)
+    reported = b"" if is_whole else b"write fault after %d bytes\n" % room
+    return Call(words, output(1, step, room, **how), 0 if is_whole else 3, text[:room], reported)
 
 
 def of_one_failure():
@@ -144,16 +144,16 @@ def of_waves():
 
 def of_errors():
     """Calls whose standard error takes little."""
-    for words, status, told in FAILING:
+    for words, status, reported in FAILING:
         for room in (0, 1, 5):
-            yield Call(words, output(2, 2, room), status, b"", told[:room] or room)
+            yield Call(words, output(2, 2, room), status, b"", reported[:room] or room)
     words = [*RUN, "--progress"]
     for room in (0, 1, 40, len(TOLD_TO_8) - 1):
         yield Call(words, output(2, 1000, room), 0, TO_8, TOLD_TO_8[:room])
     # Four bytes of the line at tick 3 are taken, so the run does not come to tick 4.
     room = TO_8.index(b"3 MAIN") + 4
-    told = b"".join(TOLD_TO_8.splitlines(keepends=True)[:3]) + b"write fault after %d bytes\n" % room
-    yield Call(words, output(1, 7, room), 3, TO_8[:room], told)
+    reported = b"".join(TOLD_TO_8.splitlines(keepends=True)[:3]) + b"write fault after %d bytes\n" % room
+    yield Call(words, output(1, 7, room), 3, TO_8[:room], reported)
 
 
 def of_readers():

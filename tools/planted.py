@@ -4,7 +4,7 @@
 
 The kit's own scripts choose the functions, write the implementations and judge them. They check the whole crate first, which takes
 minutes in a crate with many libraries, and then prove each implementation in a check that proves its callees again. Here each other
-function of the crate is taken by its statement (a hole, as in wrong_bodies.py), since the gate proves it. So an implementation costs a
+function of the crate is taken by its statement (a hole, as in must_fail.py), since the gate proves it. So an implementation costs a
 second or two, and ten to thirty for the libraries below.
 
 With --private this tries the private functions, without it the public ones and the methods of traits. The libraries below the crate
@@ -22,7 +22,7 @@ import types
 import kit
 from functions import Sources
 from kit import rtlib
-from wrong_bodies import Trial
+from must_fail import Trial
 
 # What a check says of an implementation that meets its contract, given the statements of its callees.
 MEETS = re.compile(r"(?m)^(fn \S+: )(?:no holes|depends on a hole in )")
@@ -49,12 +49,12 @@ class Source(bodies.Source):
     """What the kit reads of a crate, for bodies with values that compile."""
 
     def tokens(self, file):
-        """Returns the kit's tokens but for docs, which stand in them where a derive reads them, and would be taken for names."""
+        """Returns the kit's tokens but for docs, which are in them where a derive reads them, and would be taken for names."""
         rows, data = super().tokens(file)
         return [it for it in rows if not it[4].startswith("///")], data
 
     def add_library(self, name, folder):
-        """Takes the types of a library below by the modules that they stand in, not as if they stood at its root."""
+        """Takes the types of a library below by the modules that they are in, not as if they were at its root."""
         below = Source(folder)
         below.read("src/lib.rt")
         for it, found in below.declared.items():

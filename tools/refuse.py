@@ -163,11 +163,11 @@ class Refusals:
 
     def run(self, number):
         """Runs it with the request of this number refused, if there is one. Returns its status, its output, and whether one was refused."""
-        told = f"{self.room.folder}/refused-{number}"
-        ran = self.room.call(self.words, settings=[f"LD_PRELOAD={self.before}", f"REFUSE={number}", f"REFUSE_TELL={told}"])
-        refused = os.path.exists(told)
+        report = f"{self.room.folder}/refused-{number}"
+        ran = self.room.call(self.words, settings=[f"LD_PRELOAD={self.before}", f"REFUSE={number}", f"REFUSE_TELL={report}"])
+        refused = os.path.exists(report)
         if refused:
-            os.remove(told)
+            os.remove(report)
         if ran.returncode == -signal.SIGABRT and GAVE_UP.fullmatch(ran.stderr) and STOPPED.fullmatch(ran.stdout):
             return FAILED_TEST, b"", refused
         return ran.returncode, ran.stdout, refused
@@ -200,12 +200,12 @@ def tell(name, faults, made):
 
 def try_run(program, it, way):
     """Refuses each request of this run, and returns whether there were no faults."""
-    name, wanted = f"{PROGRAM}, {it.name}, {' '.join(way)}", "".join(it.rounds).encode()
+    name, expected = f"{PROGRAM}, {it.name}, {' '.join(way)}", "".join(it.rounds).encode()
     ends = ends_of(it.rounds) if it.is_known_by_rounds else None
     with Room(program, {name: text.encode() for name, text in it.texts.items()}) as room:
         refusals = Refusals(room, ["run", "d.iec", *it.words, *way], WANT_OF_MEMORY, ends)
         status, output, _ = refusals.run(0)
-        if (status, output) != (it.status, wanted):
+        if (status, output) != (it.status, expected):
             return tell(name, [f"with memory: status {status}, {output[:300]!r}"], 0)
         return tell(name, *refusals.faults(status, output))
 

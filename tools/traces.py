@@ -130,8 +130,8 @@ def changed(text):
         for it in (b"", text[at : at + 1] * 2, *(bytes([other]) for other in OTHERS)):
             yield text[:at] + it + text[at + 1 :]
     for at, line in enumerate(lines):
-        for before, behind in (([], []), ([line, line], []), ([], [line])):
-            yield b"".join([*lines[:at], *before, *lines[at + 1 : -1], *behind, *lines[max(at + 1, len(lines) - 1) :]])
+        for before, after in (([], []), ([line, line], []), ([], [line])):
+            yield b"".join([*lines[:at], *before, *lines[at + 1 : -1], *after, *lines[max(at + 1, len(lines) - 1) :]])
 
 
 def faults_of_dump(it, text, dump):

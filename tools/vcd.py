@@ -39,10 +39,10 @@ class Reader:
         self.words, self.dump, self.names, self.now = iter(text.split()), Dump(), {}, {}
         self.is_declared, self.begins = False, False
 
-    def next(self, wanted):
+    def next(self, expected):
         word = next(self.words, None)
         if word is None:
-            raise Fault(f"the text ends where {wanted} is wanted")
+            raise Fault(f"the text ends where {expected} is expected")
         return word
 
     def to_end(self, command):

@@ -115,7 +115,7 @@ def begun_by(case):
     return found
 
 
-def told_by(trace, begun):
+def expected_by(trace, begun):
     """Returns what a trace of form one says, where the variables begin with these bits. It may be cut off after a line."""
     fired, counts, values, end = {}, {}, {}, 0
     *lines, last = [*trace.splitlines(), b""] if not is_last((trace.splitlines() or [b""])[-1]) else trace.splitlines()
@@ -137,15 +137,15 @@ def told_by(trace, begun):
 # ---- What a dump says
 
 
-def begins(told, name, size):
+def begins(expected, name, size):
     """The initial bits of a signal: a count is 0, a variable has its initial value."""
-    return "0" * size if name.endswith(COUNT) else told.begun[name]
+    return "0" * size if name.endswith(COUNT) else expected.begun[name]
 
 
-def steps_of(told, name, size):
+def steps_of(expected, name, size):
     """The times at which a signal changes, with its bits from then on. The first is 0."""
-    found = [(0, begins(told, name, size))]
-    for tick, bits in sorted(told.values.get(name, {}).items()):
+    found = [(0, begins(expected, name, size))]
+    for tick, bits in sorted(expected.values.get(name, {}).items()):
         if tick == 0:
             found = []
         if not found or found[-1][1] != bits:
@@ -153,40 +153,40 @@ def steps_of(told, name, size):
     return found
 
 
-def kind_of(told, name):
+def kind_of(expected, name):
     """The declaration of a signal of a trace."""
-    if name in told.fired:
+    if name in expected.fired:
         return vcd.Signal("event", 1)
-    size = len(next(iter(told.values[name].values())))
+    size = len(next(iter(expected.values[name].values())))
     return vcd.Signal("wire" if size == 1 else "reg", size)
 
 
-def differences(told, dump):
+def differences(expected, dump):
     """The differences between a dump and the trace, a line each."""
-    for name in sorted({*told.fired, *told.values} - {*dump.signals}):
+    for name in sorted({*expected.fired, *expected.values} - {*dump.signals}):
         yield f"{name} is no signal"
     for name, signal in dump.signals.items():
-        if name in told.fired or name in told.values:
-            if signal != kind_of(told, name):
+        if name in expected.fired or name in expected.values:
+            if signal != kind_of(expected, name):
                 yield f"{name} is declared as {signal.kind} {signal.size}"
         if signal.kind == "event":
-            seen, wanted = dump.fired.get(name, []), told.fired.get(name, [])
+            seen, due = dump.fired.get(name, []), expected.fired.get(name, [])
         else:
-            seen, wanted = dump.values.get(name, []), steps_of(told, name, signal.size)
-        if seen != wanted:
-            yield f"{name} has {seen[:9]} and not {wanted[:9]}"
-    if dump.end != told.end:
-        yield f"the last time is {dump.end} and not {told.end}"
+            seen, due = dump.values.get(name, []), steps_of(expected, name, signal.size)
+        if seen != due:
+            yield f"{name} has {seen[:9]} and not {due[:9]}"
+    if dump.end != expected.end:
+        yield f"the last time is {dump.end} and not {expected.end}"
 
 
-def faults_of_form(told, dump):
+def faults_of_form(expected, dump):
     """The differences between the program's dump and docs/FORMATS.md."""
     if dump.scale != "1ms":
         yield f"the time scale is {dump.scale}"
-    if dump.comments != told.comments:
-        yield f"the comments are {dump.comments} and not {told.comments}"
+    if dump.comments != expected.comments:
+        yield f"the comments are {dump.comments} and not {expected.comments}"
     for name, signal in dump.signals.items():
-        if signal.kind != "event" and dump.begun.get(name) != begins(told, name, signal.size):
+        if signal.kind != "event" and dump.begun.get(name) != begins(expected, name, signal.size):
             yield f"{name} begins with {dump.begun.get(name)}"
         if signal.kind == "event" and (name in dump.begun or dump.signals.get(name + COUNT) != vcd.Signal("reg", BITS)):
             yield f"{name} fires in $dumpvars, or has no count"
@@ -201,26 +201,26 @@ def by_gtkwave(dump):
         made = subprocess.run(["vcd2fst", text, base], capture_output=True)
         if made.returncode or not os.path.exists(base):
             raise vcd.Fault(f"vcd2fst says {(made.stdout + made.stderr).decode(errors='replace').strip()}")
-        told = subprocess.run(["fst2vcd", base], check=True, capture_output=True).stdout.decode("ascii")
+        converted = subprocess.run(["fst2vcd", base], check=True, capture_output=True).stdout.decode("ascii")
     # (it closes $dumpvars at the next time, and so not if there is none)
-    return told if "$end" in told.partition("$dumpvars")[2] else told + "$end\n"
+    return converted if "$end" in converted.partition("$dumpvars")[2] else converted + "$end\n"
 
 
-def faults_by(text_of, told, look):
+def faults_by(text_of, expected, look):
     """The faults that these checks find in a text, or that it is no dump."""
     try:
         read = vcd.read(text_of())
-        return [it for one in look for it in one(told, read)]
+        return [it for one in look for it in one(expected, read)]
     except (vcd.Fault, UnicodeDecodeError) as fault:
         return [str(fault)]
 
 
 def faults(case, dump, with_gtkwave):
     """What is wrong with the dump of the trace of form one of a case."""
-    told = told_by(case.forms[0], begun_by(case))
-    found = faults_by(lambda: dump.decode("ascii"), told, [faults_of_form, differences])
+    expected = expected_by(case.forms[0], begun_by(case))
+    found = faults_by(lambda: dump.decode("ascii"), expected, [faults_of_form, differences])
     if with_gtkwave:
-        found += [f"by GTKWave: {it}" for it in faults_by(lambda: by_gtkwave(dump), told, [differences])]
+        found += [f"by GTKWave: {it}" for it in faults_by(lambda: by_gtkwave(dump), expected, [differences])]
     return found
 
 

@@ -4,7 +4,7 @@ use Rattle.std.specs.Prelude.{IfSome}
 use Rattle.fb_sim.specs.Given.{Given}
 use Rattle.fbsim_command.specs.Expecting.{IsNoteAt, own_of, types_of}
 use Rattle.fbsim_command.specs.Texts.{given_of, lines_of, may_lines_of}
-use Rattle.fbsim_command.specs.declared.bench_line.Expect.{Expect}
+use Rattle.fbsim_line.specs.declared.bench_line.Expect.{Expect}
 use Rattle.fbsim_command.specs.declared.texts.Texts.{Texts}
 use Rattle.fbsim_command.specs.Notes.{IsNote, IsNoteBy, IsNoteIn, IsNoteOfNumber, Notes, number_of}
 use Rattle.fb_why.specs.Findings.{Finds}

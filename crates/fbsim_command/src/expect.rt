@@ -6,10 +6,8 @@ ghost use Rattle.fbsim_command.specs.Expecting.{AreRules, AreUnheld, Expects, Ho
 ghost use Rattle.fbsim_command.specs.OwnLines.{EndsIn};
 ghost use Rattle.fbsim_command.specs.Texts.{given_of, may_lines_of};
 
-use crate::bench_line::{Diff, Expect};
 use crate::failure::{Failure, RefusalLine};
 use crate::known::has_names;
-use crate::line::{Action, Task};
 use crate::output::write_text;
 use crate::own_lines::end_in;
 use crate::rules_notes::{note_of_names, note_of_rules, note_to_rules};
@@ -22,6 +20,7 @@ use fb_expect::{
 };
 use fb_sim::{Inputs, discard, open};
 use fb_types::Items;
+use fbsim_line::{Action, Diff, Expect, Task};
 use std::alloc::Global;
 use std::io::{BufRead, Write};
 

@@ -1,18 +1,15 @@
-//! One call of the program: its words, its files, what it does with them, and how it ends.
+//! One call of the program: its files, what it does with them, and how it ends. Its words are read by `fbsim_line`.
 //!
-//! It guarantees to callers: `parse` gives the call that the parser's matches of the words represent, defaults
-//! included.
-//! `command` says for every way in which a call can end: its status, what was read, what was written, and what was
-//! reported of a failure. `Files` reads the first bytes of a file, at most as many as are asked for, and standard input
-//! once.
+//! It guarantees to callers: `command` says for every way in which a call can end: its status, what was read, what was
+//! written, and what was reported of a failure. `Files` reads the first bytes of a file, at most as many as are asked for,
+//! and standard input once.
 //!
-//! Read it in this order: `line` and `bench_line`, the words; `sources`, where files come from; `files`, those of the
-//! machine; `program`, the call; `texts`, what is read, with `join`, a declaration in several files, and `own_lines`, how its
-//! refusals name a file and a line, which agree by `laws`; `lint`, with `call_names` and `warning_lines`, the lines of warnings;
-//! `wave`; `expect` and `known`, rules and traces; `output`; `failure`, `notes`, `rules_notes` and `statuses`, how it ends.
+//! Read it in this order: `sources`, where files come from; `files`, those of the machine; `program`, the call; `texts`,
+//! what is read, with `join`, a declaration in several files, and `own_lines`, how its refusals name a file and a line,
+//! which agree by `laws`; `lint`, with `call_names` and `warning_lines`, the lines of warnings; `wave`; `draw`; `expect` and
+//! `known`, rules and traces; `output`; `failure`, `notes`, `rules_notes` and `statuses`, how it ends.
 #![tactic(auto)]
 
-mod bench_line;
 pub mod call_names;
 mod draw;
 mod expect;
@@ -21,7 +18,6 @@ pub mod files;
 mod join;
 mod known;
 pub mod laws;
-pub mod line;
 mod lint;
 mod notes;
 pub mod output;
@@ -34,11 +30,8 @@ mod texts;
 pub mod warning_lines;
 mod wave;
 
-pub use bench_line::{Diff, Expect};
-pub use draw::Draw;
 pub use failure::{Failure, RefusalLine};
 pub use files::{Files, Opened};
-pub use line::{Action, Call, LineFault, Task, Wave, parse};
 pub use program::{command, command_exit, command_with_clock};
 pub use sources::{Source, SourceFault, Streams};
 pub use statuses::{Done, ExitStatus, status};

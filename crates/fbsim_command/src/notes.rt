@@ -6,12 +6,12 @@ ghost use Rattle.fbsim_command.specs.OwnLines.{IsPlaced};
 ghost use Rattle.fbsim_command.specs.Texts.{given_of, lines_of};
 
 use crate::failure::{Failure, RefusalLine};
-use crate::line::Task;
 use crate::own_lines::note_at;
 use crate::sources::SourceFault;
 use crate::texts::{Part, Texts, Unread};
 use fb_why::{Finding, PlacedFinding, finding_of};
 use fb_why_bytes::{TextLocation, excerpt};
+use fbsim_line::Task;
 use std::alloc::{AllocError, Global};
 
 /// The number of a fault of the grammar, whose line says where it is also.

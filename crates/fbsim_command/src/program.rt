@@ -16,7 +16,6 @@ use crate::call_names::Naming;
 use crate::draw::show_graph;
 use crate::expect::{diff, expect};
 use crate::failure::Failure;
-use crate::line::{Action, Call, LineFault, Task, parse};
 use crate::lint::check_and_warn;
 use crate::notes::{note_of, note_of_file};
 use crate::output::write_text;
@@ -31,6 +30,7 @@ use fb_sim::{
     run_with_progress,
 };
 use fb_why::{Explanation, explain};
+use fbsim_line::{Action, Call, LineFault, Task, parse};
 use std::alloc::{AllocError, Global};
 use std::io;
 use std::io::Write;

@@ -9,7 +9,6 @@ ghost use Rattle.fbsim_command.specs.Known.{IsUnknownAt};
 ghost use Rattle.fbsim_command.specs.Notes.{IsNoteOfNumber, Notes};
 ghost use Rattle.fbsim_command.specs.Texts.{given_of, lines_of, may_lines_of};
 
-use crate::bench_line::Expect;
 use crate::expect::{files_of, own_name};
 use crate::failure::Failure;
 use crate::known::unknown_place;
@@ -20,6 +19,7 @@ use crate::texts::{Texts, Unread};
 use fb_expect::{Rule, RuleKey, UNKNOWN_NAME, read_rules, rules_place};
 use fb_sim::{discard, open};
 use fb_why_bytes::{rules_message, unknown_key_message};
+use fbsim_line::Expect;
 use std::alloc::Global;
 
 /// The first number of a refusal of rules. Those below are of declarations, deployments and stimuli.

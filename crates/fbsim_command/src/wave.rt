@@ -5,7 +5,6 @@ ghost use Rattle.fbsim_command.specs.Notes.{Notes};
 ghost use Rattle.fbsim_command.specs.Showing.{Dumps, IsTraceFileNote, Shows, cut_of, files_of};
 
 use crate::failure::Failure;
-use crate::line::{Action, Task, Wave};
 use crate::notes::{note_of_file, note_of_name};
 use crate::own_lines::end_with;
 use crate::program::note_to;
@@ -14,6 +13,7 @@ use crate::statuses::Done;
 use crate::texts::read_files;
 use fb_sim::{Inputs, discard, open};
 use fb_wave::{Cut, write_wave_with};
+use fbsim_line::{Action, Task, Wave};
 use std::alloc::Global;
 use std::io::{BufRead, Write};
 

@@ -1,0 +1,17 @@
+use Rattle.std.specs.Prelude.{IfOk}
+use Rattle.fbsim_line.specs.Line as spec
+use Rattle.fbsim_line.proofs.BuildLaws.{Builds, grown_on, stands_well, app_well, local_well}
+use Rattle.fbsim_line.proofs.line.wave_command.Goals as goal
+
+made : (c : goal.After-with_arg) → IfOk c.with_arg.result (λ r. Builds r spec.wave)
+made c =
+    let deployed = stands_well _ _ c.deployed-command.ensures.app c.deployed-command.ensures.globals in
+    let traced = grown_on _ _ _ _ _ c.with_arg-command.ensures c.required.ensures.local c.required.ensures.rule deployed in
+    let cut = grown_on _ _ _ _ _ c.with_arg-command-2.ensures c.flag.ensures.local c.flag.ensures.rule traced in
+    grown_on _ _ _ _ _ c.with_arg.ensures c.flag-2.ensures.local c.flag-2.ensures.rule cut
+
+pub returns-clause-app : goal.returns-clause-app
+returns-clause-app c = app_well _ _ (made c)
+
+pub returns-clause-globals : goal.returns-clause-globals
+returns-clause-globals c = local_well _ _ (made c)
