@@ -9,7 +9,6 @@ use Rattle.fb_types.specs.Text.{last_line, lines_text}
 use Rattle.fb_sim.specs.Advances.{FailsToOpen, Finishes, FinishesBy}
 use Rattle.fb_sim.specs.Given.{Given}
 use Rattle.fb_sim.specs.Rounds.{FailsRun, after_bytes}
-use Rattle.fb_sim.specs.Serial as serial
 use Rattle.fb_sim.specs.Serial.{AreWithin, Declares}
 use Rattle.fb_trace.specs.Progress.{IsPartWritten}
 use Rattle.fb_sim.specs.Sessions.{Session}

@@ -1,5 +1,5 @@
 -- The first rounds of a run, whose text waits in memory, and what comes after.
-use Rattle.std.proofs.Common.{◌≡◌, ◌≤◌, ◌<◌, ℕ, ◌+◌, List, [], ◌++◌, length, take, drop, take-append-drop, drop_of_length-le, append-nil, length-append, Option, Some, Result, Ok, Err, sym, ap, ◌∙◌, subst, arith}
+use Rattle.std.proofs.Common.{◌≡◌, ◌≤◌, ◌<◌, ℕ, ◌+◌, List, [], ◌++◌, length, take, take-append-drop, drop_of_length-le, append-nil, length-append, Option, Some, Ok, Err, sym, ap, ◌∙◌, subst, arith}
 use Rattle.std.specs.Io.KnownBytes.{Appends}
 use Rattle.fb_types.specs.Headline.{Inputs}
 use Rattle.fb_types.specs.Simulation.{AtHorizon, AtStop}

@@ -1,5 +1,5 @@
 -- What a phase hands out belongs to the system, whatever was handed out before.
-use Rattle.std.proofs.Common.{◌≡◌, ℕ, List, sym, ap, ap₂, ◌∙◌, subst}
+use Rattle.std.proofs.Common.{◌≡◌, ℕ, List, sym, ap₂, ◌∙◌, subst}
 use Rattle.std.specs.Prelude.{All}
 use Rattle.std.specs.List.{AllZip}
 use Rattle.fb_types.specs.Headline.{Inputs, system_of, stimuli_of}

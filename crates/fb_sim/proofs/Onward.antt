@@ -1,6 +1,6 @@
 -- A run that goes on to a later tick, with the counts of what it has written.
-use Rattle.std.proofs.Common.{◌≡◌, ℕ, ◌+◌, List, ◌++◌, length, Option, refl, sym, ap, ◌∙◌, subst, arith}
-use Rattle.std.specs.Prelude.{Result, Ok, Err}
+use Rattle.std.proofs.Common.{◌≡◌, ℕ, ◌+◌, List, ◌++◌, length, Option, refl, ap, ◌∙◌, subst, arith}
+use Rattle.std.specs.Prelude.{Ok, Err}
 use Rattle.std.specs.Io.KnownBytes.{Appends}
 use Rattle.fb_types.specs.Headline.{system_of}
 use Rattle.fb_types.specs.Text.{lines_text}

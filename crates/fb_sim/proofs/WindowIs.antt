@@ -1,6 +1,5 @@
 -- From what the calls of a round say of each other's values to what the round hands out.
 use Rattle.std.proofs.Common.{◌≡◌, ℕ, List, ◌++◌, map, length, Option, Result, Ok, Err, sym, ap, ap₂, ◌∙◌, subst}
-use Rattle.std.specs.Global.{Vec}
 use Rattle.std.specs.Prelude.{All}
 use Rattle.std.proofs.lemmas.List.{length-map}
 use Rattle.std.specs.List.{AllZip}

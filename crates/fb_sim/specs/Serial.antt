@@ -4,7 +4,7 @@ use Rattle.std.specs.Io.KnownBytes.{Appends}
 use Rattle.fb_types.specs.Accepted.{IsLeastFault}
 use Rattle.fb_types.specs.Headline.{Inputs, AreAccepted, IsTrace}
 use Rattle.fb_types.specs.Limits.{IsWithinLimits, single}
-use Rattle.fb_types.specs.Simulation.{Ending, AtHorizon, AtStop}
+use Rattle.fb_types.specs.Simulation.{Ending}
 use Rattle.fb_types.specs.declared.deploy.Plan.{Plan}
 use Rattle.fb_types.specs.declared.deploy.Stimulus.{Stimulus}
 use Rattle.fb_types.specs.declared.library.Library.{Library}
@@ -19,8 +19,6 @@ use Rattle.fb_check.specs.Refusals as judge
 use Rattle.fb_trace.specs.Progress.{IsPartWritten}
 use Rattle.fb_sim.specs.Given.{Given}
 use Rattle.fb_sim.specs.declared.options.Options.{Options}
-use Rattle.fb_trace.specs.declared.last.Outcome.{Outcome}
-use Rattle.fb_trace.specs.declared.last.Outcome.TheVariants.{End, Stop}
 use Rattle.fb_sim.specs.declared.outcome.Refusal.{Refusal}
 use Rattle.fb_sim.specs.declared.outcome.Refusal.TheVariants.{Declaration, Deployment, Stimuli, Check}
 use Rattle.fb_sim.specs.declared.outcome.RunError.{RunError}

@@ -27,7 +27,7 @@ use crate::one_agenda::machine::Machine;
 use crate::one_agenda::pause::Pause;
 use crate::options::Options;
 use crate::outcome::RunError;
-use crate::pace::{Par, Stopwatch, Verdict};
+use crate::pace::{AgendaTrial, Pace, Verdict};
 use crate::rounds::hand_out;
 use crate::runs::close;
 use fb_system::System;
@@ -76,7 +76,8 @@ fn run_through<W: Write>(
 /// After this many lines a trial reads the clock again.
 const SOME_LINES: usize = 64;
 
-/// Whether one agenda gives the first lines of a run, and their text, in less time than rounds did. Nothing is written.
+/// Whether one agenda gives the first lines of a run, and their text, at a higher pace than rounds did. Nothing is
+/// written.
 ///
 /// # Errors
 /// When memory runs out.
@@ -84,24 +85,19 @@ pub(crate) fn is_quicker<C: CpuClock>(
     alloc: Global,
     system: &System,
     options: Options,
-    par: Par,
+    rounds: Pace,
     clock: &C,
 ) -> Result<bool, AllocError>
     requires options { AreWithin options }
 {
     let mut machine = Machine::open(alloc, system)?;
-    let watch = Stopwatch::start_on_thread(clock);
-    let mut lines: u128 = 0;
+    let mut trial = AgendaTrial::new(rounds, clock);
     loop {
         let pause = machine.go_on(system, options.horizon, options.steps, SOME_LINES)?;
         if hand_out(&mut io::sink(), system, options.form, machine.lines()).is_err() {
             return Ok(false);
         }
-        lines = lines.saturating_add(machine.lines().len() as u128);
-        let Some(nanoseconds) = watch.worked(clock) else {
-            return Ok(false);
-        };
-        match par.judge(nanoseconds, lines) {
+        match trial.count(clock, machine.lines().len()) {
             Verdict::Slower => return Ok(false),
             Verdict::Quicker => return Ok(true),
             Verdict::Open => {}

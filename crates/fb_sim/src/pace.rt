@@ -35,9 +35,6 @@ impl CpuClock for NoClock {
     }
 }
 
-/// The rounds of a trial take these nanoseconds, or one round.
-const TRIAL: u128 = 2_000_000;
-
 /// The nanoseconds since a time, if the clock can be read.
 fn nanoseconds_since(earlier: Duration, later: io::Result<Duration>) -> Option<u128> {
     match later {
@@ -48,81 +45,138 @@ fn nanoseconds_since(earlier: Duration, later: io::Result<Duration>) -> Option<u
 
 /// A time from which on nanoseconds are counted, if the clock can be read.
 #[derive(Clone, Copy)]
-pub(crate) struct Stopwatch {
+struct Stopwatch {
     began: Option<Duration>,
 }
 
 impl Stopwatch {
     /// Begins now, by the machine's clock.
-    pub(crate) fn start<C: Clock>(clock: &C) -> Stopwatch {
+    fn start<C: Clock>(clock: &C) -> Stopwatch {
         Stopwatch {
             began: clock.monotonic().ok(),
         }
     }
 
     /// Begins now, by the processor time of this thread.
-    pub(crate) fn start_on_thread<C: CpuClock>(clock: &C) -> Stopwatch {
+    fn start_on_thread<C: CpuClock>(clock: &C) -> Stopwatch {
         Stopwatch {
             began: clock.thread_cpu_time().ok(),
         }
     }
 
     /// How many nanoseconds have passed.
-    pub(crate) fn passed<C: Clock>(&self, clock: &C) -> Option<u128> {
+    fn passed<C: Clock>(&self, clock: &C) -> Option<u128> {
         nanoseconds_since(self.began?, clock.monotonic())
     }
 
     /// How many nanoseconds this thread has worked.
-    pub(crate) fn worked<C: CpuClock>(&self, clock: &C) -> Option<u128> {
+    fn worked<C: CpuClock>(&self, clock: &C) -> Option<u128> {
         nanoseconds_since(self.began?, clock.thread_cpu_time())
     }
 }
 
-/// What the rounds of a trial have taken, and how many lines they gave, final or not.
+/// What a stretch of a run has taken, and how many lines it gave.
 #[derive(Clone, Copy)]
-pub(crate) struct Par {
-    pub nanoseconds: u128,
-    pub lines: u128,
-}
-
-/// The first rounds of a run. The very first is not timed: its threads, and the memory that it asks for, are new.
-#[derive(Clone, Copy)]
-pub(crate) struct Trial {
-    watch: Option<Stopwatch>,
+pub(crate) struct Pace {
+    nanoseconds: u128,
     lines: u128,
 }
 
-impl Trial {
-    /// Before the first round.
-    pub(crate) fn new() -> Trial {
-        Trial {
-            watch: None,
+impl Pace {
+    /// Nothing yet.
+    fn none() -> Pace {
+        Pace {
+            nanoseconds: 0,
             lines: 0,
         }
     }
 
-    /// Counts a round that gave this many lines. It answers whether the rounds have taken long enough to be judged, or
-    /// cannot be judged.
-    pub(crate) fn count<C: Clock>(&mut self, clock: &C, lines: u128) -> bool {
-        let Some(watch) = self.watch else {
-            let watch = Stopwatch::start(clock);
-            self.watch = Some(watch);
-            return watch.began.is_none();
-        };
-        self.lines = self.lines.saturating_add(lines);
-        match watch.passed(clock) {
-            Some(passed) => passed >= TRIAL,
-            None => true,
+    /// This stretch and another.
+    fn and(&self, other: Pace) -> Pace {
+        Pace {
+            nanoseconds: self.nanoseconds.saturating_add(other.nanoseconds),
+            lines: self.lines.saturating_add(other.lines),
         }
     }
 
-    /// What the timed rounds have taken, if the clock can be read.
-    pub(crate) fn par<C: Clock>(&self, clock: &C) -> Option<Par> {
-        let nanoseconds = self.watch?.passed(clock)?;
-        Some(Par {
-            nanoseconds,
-            lines: self.lines,
-        })
+    /// This stretch without a part of it.
+    fn without(&self, part: Pace) -> Pace {
+        Pace {
+            nanoseconds: self.nanoseconds.saturating_sub(part.nanoseconds),
+            lines: self.lines.saturating_sub(part.lines),
+        }
+    }
+
+    /// Whether a line has taken more than this many hundredths of what it took there.
+    fn is_slower(&self, hundredths: u128, there: Pace) -> bool {
+        let here = self
+            .nanoseconds
+            .saturating_mul(there.lines)
+            .saturating_mul(100);
+        here > there
+            .nanoseconds
+            .saturating_mul(self.lines)
+            .saturating_mul(hundredths)
+    }
+}
+
+/// The timed rounds of a trial take these nanoseconds.
+const LONG: u128 = 2_000_000;
+
+/// This many rounds are not timed: their threads and memory are new. The second still takes half as long again as later
+/// ones.
+const UNTIMED_ROUNDS: u64 = 3;
+
+/// This many rounds are made at least.
+const ROUNDS: u64 = 5;
+
+/// The first rounds of a run.
+#[derive(Clone, Copy)]
+pub(crate) struct RoundTrial {
+    rounds: u64,
+    watch: Stopwatch,
+    /// All timed rounds.
+    all: Pace,
+    /// The slowest of them.
+    slowest: Pace,
+}
+
+impl RoundTrial {
+    /// Before the first round.
+    pub(crate) fn new<C: Clock>(clock: &C) -> RoundTrial {
+        RoundTrial {
+            rounds: 0,
+            watch: Stopwatch::start(clock),
+            all: Pace::none(),
+            slowest: Pace::none(),
+        }
+    }
+
+    /// Counts a round that gave this many lines. It answers whether the rounds have taken long enough to be judged, or
+    /// can't be judged.
+    pub(crate) fn count<C: Clock>(&mut self, clock: &C, lines: u128) -> bool {
+        let Some(nanoseconds) = self.watch.passed(clock) else {
+            self.watch = Stopwatch { began: None };
+            return true;
+        };
+        self.rounds = self.rounds.saturating_add(1);
+        self.watch = Stopwatch::start(clock);
+        if self.rounds <= UNTIMED_ROUNDS {
+            return false;
+        }
+        let round = Pace { nanoseconds, lines };
+        if self.all.nanoseconds == 0 || round.is_slower(100, self.slowest) {
+            self.slowest = round;
+        }
+        self.all = self.all.and(round);
+        self.rounds >= ROUNDS && self.all.nanoseconds >= LONG
+    }
+
+    /// What the timed rounds have taken, if the clock can be read. The slowest is left out, since other programs may have
+    /// disturbed it.
+    pub(crate) fn pace(&self) -> Option<Pace> {
+        self.watch.began?;
+        Some(self.all.without(self.slowest))
     }
 }
 
@@ -133,21 +187,77 @@ pub(crate) enum Verdict {
     Slower,
     /// Nobody knows yet.
     Open,
-    /// It has given as many lines in no more time.
+    /// It takes less time.
     Quicker,
 }
 
-impl Par {
-    /// What one agenda is that took these nanoseconds for this many lines. It is stopped early where it will clearly take
-    /// more than twice as long.
-    pub(crate) fn judge(&self, nanoseconds: u128, lines: u128) -> Verdict {
-        let is_late = nanoseconds > self.nanoseconds;
-        let is_behind = nanoseconds > self.nanoseconds / 8
-            && nanoseconds.saturating_mul(self.lines)
-                > self.nanoseconds.saturating_mul(lines).saturating_mul(2);
-        if is_late || is_behind {
+/// This many lines of one agenda are not timed: it touches its blocks for the first time.
+const UNTIMED_LINES: u128 = 2048;
+
+/// One agenda, in a trial against rounds.
+#[derive(Clone, Copy)]
+pub(crate) struct AgendaTrial {
+    rounds: Pace,
+    watch: Stopwatch,
+    lines: u128,
+    is_timed: bool,
+}
+
+impl AgendaTrial {
+    /// Before its first line.
+    pub(crate) fn new<C: CpuClock>(rounds: Pace, clock: &C) -> AgendaTrial {
+        AgendaTrial {
+            rounds,
+            watch: Stopwatch::start_on_thread(clock),
+            lines: 0,
+            is_timed: false,
+        }
+    }
+
+    /// Counts some lines, and judges them. It is slower if the clock can't be read.
+    pub(crate) fn count<C: CpuClock>(&mut self, clock: &C, lines: usize) -> Verdict {
+        let Some(nanoseconds) = self.watch.worked(clock) else {
+            return Verdict::Slower;
+        };
+        self.lines = self.lines.saturating_add(lines as u128);
+        if self.is_timed {
+            return self.judge(nanoseconds);
+        }
+        let is_late = nanoseconds >= self.rounds.nanoseconds / 4;
+        if is_late && self.pace(nanoseconds).is_slower(300, self.rounds) {
+            return Verdict::Slower;
+        }
+        if is_late || self.lines >= UNTIMED_LINES {
+            self.is_timed = true;
+            self.lines = 0;
+            self.watch = Stopwatch::start_on_thread(clock);
+        }
+        Verdict::Open
+    }
+
+    /// The lines that are counted, which took these nanoseconds.
+    fn pace(&self, nanoseconds: u128) -> Pace {
+        Pace {
+            nanoseconds,
+            lines: self.lines,
+        }
+    }
+
+    /// What one agenda is that took these nanoseconds. The trial ends early where one of the two takes half as long again
+    /// as the other.
+    fn judge(&self, nanoseconds: u128) -> Verdict {
+        let agenda = self.pace(nanoseconds);
+        let is_whole = nanoseconds >= self.rounds.nanoseconds || self.lines >= self.rounds.lines;
+        let is_part = nanoseconds >= self.rounds.nanoseconds / 8;
+        if is_whole {
+            if agenda.is_slower(100, self.rounds) {
+                Verdict::Slower
+            } else {
+                Verdict::Quicker
+            }
+        } else if is_part && agenda.is_slower(150, self.rounds) {
             Verdict::Slower
-        } else if lines >= self.lines {
+        } else if is_part && self.rounds.is_slower(150, agenda) {
             Verdict::Quicker
         } else {
             Verdict::Open

@@ -72,8 +72,8 @@ fn run_workers<R: Threads + Wait + Sync, W: Write, P: Gate, C: Clock + CpuClock>
     let fewer = Options { workers, ..options };
     let core = open_core(alloc, system, options.steps)?;
     let mut text = Vec::new(alloc);
-    let (leg, begun, par) = run_first(rt, alloc, system, core, fewer, &mut text, gate, clock)?;
-    let chosen = choose(alloc, system, options, leg, par, clock)?;
+    let (leg, begun, pace) = run_first(rt, alloc, system, core, fewer, &mut text, gate, clock)?;
+    let chosen = choose(alloc, system, options, leg, pace, clock)?;
     let Some(leg) = chosen else {
         return run_one_agenda(alloc, system, options, out);
     };
@@ -169,10 +169,10 @@ pub fn run<R: Threads + Wait + Sync, W: Write, P: Gate>(
     run_with_clock(rt, alloc, inputs, options, out, gate, &NoClock)
 }
 
-/// Runs the application of the inputs as `run` does, and lets clocks decide how. Several workers make a round, and then
-/// rounds for two milliseconds, one at least, whose text waits in memory. Then one agenda gives as many lines: if it is
-/// quicker, by the processor time of this thread, the run begins again on it, and goes on so. If a clock can't be read,
-/// rounds go on. The trace is the same.
+/// Runs the application of the inputs as `run` does, and lets clocks decide how. Several workers make three rounds, and
+/// then rounds for two milliseconds, two at least, whose text waits in memory. Then one agenda gives at most as many lines
+/// as these: if it is quicker, by the processor time of this thread, the run begins again on it, and goes on so. If a
+/// clock can't be read, rounds go on. The trace is the same.
 ///
 /// # Errors
 /// Those of `run`.

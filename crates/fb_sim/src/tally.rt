@@ -20,8 +20,7 @@ const FULL: usize = 32_768;
 /// How many ticks past the least event a bound may be at most, so that a round does not gather lines without end.
 pub(crate) const LONGEST_WINDOW: u64 = 1024;
 
-/// How many at most in the round after one whose window gave too many lines. From there on a window grows or shrinks by
-/// twos.
+/// How many ticks past the least event a bound of the first round may be at least.
 const SHORT_WINDOW: u64 = 16;
 
 /// How many ticks past the least event a bound of the first round may be. Nobody knows yet how many lines a tick gives:
@@ -120,7 +119,8 @@ impl Tally {
         ensures few { result ≤ 1024 }
     {
         if self.lines > FULL {
-            (last / 2).max(1).min(SHORT_WINDOW)
+            let ticks = last * (FULL as u64) / (self.lines as u64);
+            ticks.max(1).min(LONGEST_WINDOW)
         } else if self.lines < FULL / 4 {
             (last * 2).min(LONGEST_WINDOW)
         } else {

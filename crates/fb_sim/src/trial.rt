@@ -9,7 +9,7 @@ use crate::drive::{Finish, later, run_on};
 use crate::one_agenda::is_quicker;
 use crate::options::Options;
 use crate::outcome::RunError;
-use crate::pace::{Par, Trial};
+use crate::pace::{Pace, RoundTrial};
 use crate::progress::Round;
 use crate::rounds::round_with_counts;
 use crate::tally::{RoundPlan, Written, first_window};
@@ -46,7 +46,7 @@ pub(crate) fn run_first<R: Threads + Wait + Sync, P: Gate, C: Clock>(
     text: &mut Vec<u8>,
     gate: &P,
     clock: &C,
-) -> Result<(Leg, Written, Option<Par>), RunError>
+) -> Result<(Leg, Written, Option<Pace>), RunError>
     requires options { AreWithin options }
     requires come { HasCome system.now options.steps options.horizon first [] }
     requires text { text.old.items ≡ [] }
@@ -56,7 +56,7 @@ pub(crate) fn run_first<R: Threads + Wait + Sync, P: Gate, C: Clock>(
     system.facts();
     let mut core = first;
     let mut written = Written { bytes: 0, lines: 0 };
-    let mut trial = Trial::new();
+    let mut trial = RoundTrial::new(clock);
     let mut workers = options.workers;
     let mut turns = 0;
     let mut ticks = first_window(system.count());
@@ -76,7 +76,7 @@ pub(crate) fn run_first<R: Threads + Wait + Sync, P: Gate, C: Clock>(
                 match round {
                     Round::Going(next) => {
                         if is_over {
-                            return Ok((Leg::Going(next), written, trial.par(clock)));
+                            return Ok((Leg::Going(next), written, trial.pace()));
                         }
                         core = next;
                     }
@@ -105,19 +105,19 @@ pub(crate) fn choose<C: CpuClock>(
     system: &System,
     options: Options,
     leg: Leg,
-    par: Option<Par>,
+    pace: Option<Pace>,
     clock: &C,
 ) -> Result<Option<Leg>, AllocError>
     requires { AreWithin options }
     ensures { IfOk result (λ found. IfSome found (λ same. same ≡ leg)) }
 {
-    let Some(par) = par else {
+    let Some(pace) = pace else {
         return Ok(Some(leg));
     };
     match leg {
         Leg::Over(finish) => Ok(Some(Leg::Over(finish))),
         Leg::Going(core) => {
-            if is_quicker(alloc, system, options, par, clock)? {
+            if is_quicker(alloc, system, options, pace, clock)? {
                 Ok(None)
             } else {
                 Ok(Some(Leg::Going(core)))

@@ -13,20 +13,27 @@ use std::sync::atomic::Ordering::SeqCst;
 use std::thread::Threads;
 use std::time::{Clock, CpuClock, Duration};
 
-/// Clocks that go on by these nanoseconds each time they are read.
+/// Clocks that go on by these nanoseconds each time they are read. From one reading on, the machine's clock is ten seconds
+/// later.
 #[derive(Drop)]
 struct Stepping {
     by_wall: u64,
     by_thread: u64,
+    late_from: u64,
     wall: AtomicU64,
     thread: AtomicU64,
 }
 
 impl Stepping {
     fn new(by_wall: u64, by_thread: u64) -> Stepping {
+        Stepping::with_delay(by_wall, by_thread, u64::MAX)
+    }
+
+    fn with_delay(by_wall: u64, by_thread: u64, late_from: u64) -> Stepping {
         Stepping {
             by_wall,
             by_thread,
+            late_from,
             wall: AtomicU64::new(0),
             thread: AtomicU64::new(0),
         }
@@ -35,7 +42,14 @@ impl Stepping {
 
 impl Clock for Stepping {
     fn monotonic(&self) -> io::Result<Duration> {
-        Ok(Duration::from_nanos(self.wall.fetch_add(self.by_wall, SeqCst)))
+        let reading = self.wall.fetch_add(1, SeqCst);
+        let delay = if reading < self.late_from {
+            0
+        } else {
+            10_000_000_000
+        };
+        let passed = reading.saturating_mul(self.by_wall).saturating_add(delay);
+        Ok(Duration::from_nanos(passed))
     }
 
     fn since_1970(&self) -> io::Result<Duration> {
@@ -87,8 +101,8 @@ fn passes_with<R: Abort + Threads + Wait + Sync, C: Clock + CpuClock>(
     gate.passes.load(SeqCst)
 }
 
-// Messages take five ticks, and the horizon is at tick 40: eight rounds. Each run begins with one that is not timed, and
-// one that is.
+// Messages take five ticks, and the horizon is at tick 40: eight rounds of some 1,280 lines. Each run begins with three that
+// are not timed, and two that are.
 #[test]
 fn clocks_choose_how_a_run_goes_on(rt: HostRuntime) {
     let inputs = inputs_of(DECLARATION, DEPLOYMENT, "");
@@ -98,11 +112,11 @@ fn clocks_choose_how_a_run_goes_on(rt: HostRuntime) {
     assert!(rt; outcome == Outcome::End(HORIZON));
     let trace = trace.as_slice();
     for workers in [2, 3, 64] {
-        // The second round takes ten milliseconds, one agenda no time.
+        // A round takes ten milliseconds, one agenda no time.
         let quick = Stepping::new(10_000_000, 0);
         let passes = passes_with(&rt, rt.alloc(), workers, &quick, trace);
-        assert!(rt; passes == 8, "one agenda did not go on");
-        // One agenda takes a second for some lines.
+        assert!(rt; passes == 20, "one agenda did not go on");
+        // One agenda takes a second for 64 lines.
         let slow = Stepping::new(10_000_000, 1_000_000_000);
         let passes = passes_with(&rt, rt.alloc(), workers, &slow, trace);
         assert!(rt; passes == 32, "rounds did not go on");
@@ -114,8 +128,30 @@ fn clocks_choose_how_a_run_goes_on(rt: HostRuntime) {
         assert!(rt; passes == 32, "rounds did not go on without a clock");
         // By the machine's clocks either may come.
         let passes = passes_with(&rt, rt.alloc(), workers, &rt, trace);
-        assert!(rt; passes >= 8, "the run did not begin with rounds");
+        assert!(rt; passes >= 20, "the run did not begin with rounds");
     }
+}
+
+// One agenda takes half as long as a round for as many lines, or twice as long: that is read after the lines that are not
+// timed, and before all others.
+#[test]
+fn the_higher_pace_goes_on(rt: HostRuntime) {
+    let inputs = inputs_of(DECLARATION, DEPLOYMENT, "");
+    let mut trace = Vec::new(rt.alloc());
+    let options = to(HORIZON, ENOUGH, 1);
+    run_serial(rt.alloc(), &inputs, options, &mut trace).expect(&rt, "run");
+    let trace = trace.as_slice();
+    // A round of 1,280 lines takes two milliseconds; 64 lines would take a twentieth of it.
+    let quicker = Stepping::new(2_000_000, 50_000);
+    let passes = passes_with(&rt, rt.alloc(), 2, &quicker, trace);
+    assert!(rt; passes == 20, "one agenda did not go on");
+    let slower = Stepping::new(2_000_000, 200_000);
+    let passes = passes_with(&rt, rt.alloc(), 2, &slower, trace);
+    assert!(rt; passes == 32, "rounds did not go on");
+    // Another program takes ten seconds from the fourth round. Only the fifth counts.
+    let disturbed = Stepping::with_delay(2_000_000, 200_000, 7);
+    let passes = passes_with(&rt, rt.alloc(), 2, &disturbed, trace);
+    assert!(rt; passes == 32, "the disturbed round counts");
 }
 
 /// One resource leaves nothing to do for a second worker, so nobody passes the gate.

@@ -1,4 +1,4 @@
-use Rattle.std.proofs.Common.{List, ℕ, arith, subst, sym}
+use Rattle.std.proofs.Common.{List, ℕ, arith, subst}
 use Rattle.std.specs.Io.KnownBytes.{Appends}
 use Rattle.std.proofs.lemmas.List.{take_all}
 use Rattle.fb_sim.proofs.printing.write_text.Goals as goal

@@ -1,4 +1,4 @@
-use Rattle.std.proofs.Common.{arith, subst, sym}
+use Rattle.std.proofs.Common.{arith, subst}
 use Rattle.fb_laws.specs.Sound.{AreGood}
 use Rattle.fb_sim.specs.Rounds.{HasBegun, HasRunOut, IsLeg}
 use Rattle.fb_sim.specs.declared.trial.Leg.{Leg}
