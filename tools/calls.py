@@ -37,6 +37,9 @@ TO_8 = b"0 MAIN < S.COLD\n0 MAIN > C.START DT=3\n3 MAIN < C.EO\n6 MAIN < C.EO\ne
 # The ticks 1 to 8 are hundredths of 8, each once: there are two lines at tick 0, one at 3 and one at 6.
 TOLD_TO_8 = b"".join(b"progress: tick %d of 8, %d lines\n" % at for at in zip(range(1, 9), (2, 2, 2, 3, 3, 3, 4, 4)))
 KEYED_TO_8 = b"1 0 0 0 MAIN < S.COLD\n3 0 0 0 MAIN > C.START DT=3\n1 1 0 3 MAIN < C.EO\n1 1 0 6 MAIN < C.EO\nend 8\n"
+# What the timer of the cycle does is between the lines.
+INSIDE_TO_8 = b"0 MAIN < S.COLD\n0 MAIN > C.START DT=3\n  due 3\n3 MAIN < C.EO\n  due 6\n6 MAIN < C.EO\n  due 9\nend 8\n"
+KEYED_INSIDE_TO_8 = b"1 0 0 0 MAIN < S.COLD\n3 0 0 0 MAIN > C.START DT=3\n  due 3\n1 1 0 3 MAIN < C.EO\n  due 6\n1 1 0 6 MAIN < C.EO\n  due 9\nend 8\n"
 RING = b"""APPLICATION A FBS S : E_RESTART; M : E_MERGE; END_FBS
 EVENT_CONNECTIONS S.COLD TO M.EI1; M.EO TO M.EI2; END_CONNECTIONS END_APPLICATION
 """
@@ -257,9 +260,12 @@ HELP_OF_EXPECT = (
 )
 HELP_OF_DIFF = ("first trace", "second trace", "Example: fbsim diff ")
 HELP_OF_DRAW = ("DECL", "declaration of the types", "--types", "once for each file", "--deploy", "in TOML", "--type", "type to draw", "network of a composite", "Example: fbsim draw ")
+HELP_OF_INSPECT = (
+    "DECL", "declaration of the types", "TRACE", "file with the trace", "--types", "--deploy", "in TOML", "--only", "path of an instance", "--steps", "limit of steps of the run", "Example: fbsim inspect ",
+)
 HELP_OF_EXPLAIN = ("NAME", "name of the refusal", "E01 to E45", "L01 to L13", "steps, divide or range", "Example: fbsim explain E21")
 HELP_OF_ALL = (
-    "run", "writes its trace", "check", "the first fault", "wave", "value change dump", "expect", "Checks rules", "diff", "the same bytes", "draw", "graphviz", "explain",
+    "run", "writes its trace", "check", "the first fault", "wave", "value change dump", "expect", "Checks rules", "diff", "the same bytes", "draw", "graphviz", "inspect", "inside the blocks", "explain",
     "what a refusal or the reason of a stop means", "a millisecond", "Example: fbsim run ",
 )
 
@@ -301,6 +307,7 @@ CALLS = [
     Call(["expect", "--help"], 0, out=None, has=HELP_OF_EXPECT),
     Call(["diff", "--help"], 0, out=None, has=HELP_OF_DIFF),
     Call(["draw", "--help"], 0, out=None, has=HELP_OF_DRAW),
+    Call(["inspect", "--help"], 0, out=None, has=HELP_OF_INSPECT),
     # The version is that of CHANGELOG.md.
     *(Call([it], 0, out=f"fbsim {unbuilt.version()}\n".encode()) for it in ("--version", "-V")),
     Call(["--version"], 3, err=b"write fault after 0 bytes\n", to="full"),
@@ -677,6 +684,28 @@ CALLS += [
     of("wave cycle --deploy other_plan trace", 2, err=b"refused trace line 1\n"),
     of("wave twice --deploy no_plan no_trace", 2, err=b"refused E10\n"),
     of("wave cycle --deploy nowhere trace", 3, err=b"file fault\n"),
+    # Insides of traces. The declaration and the deployment are refused before the trace is opened, and a path before it is read.
+    of("inspect cycle trace", 0, out=INSIDE_TO_8),
+    of("inspect - trace", 0, out=INSIDE_TO_8, given=CYCLE),
+    of("inspect cycle -", 0, out=KEYED_INSIDE_TO_8, given=KEYED_TO_8),
+    of("inspect cycle trace --only c", 0, out=INSIDE_TO_8[16:]),
+    of("inspect cycle trace --only S --only C", 0, out=INSIDE_TO_8),
+    of("inspect cycle trace --only D", 2, err=b"refused E21\n"),
+    of("inspect cycle no_trace --only D", 2, err=b"refused E21\n"),
+    of("inspect cycle no_trace", 2, err=b"refused trace line 1\n"),
+    of("inspect cycle - --deploy other_plan", 2, err=b"refused trace line 1\n", given=TO_8),
+    # The timer does not go off at this tick.
+    of("inspect cycle -", 2, err=b"refused trace line 3\n", given=TO_8.replace(b"3 MAIN <", b"4 MAIN <")),
+    of("inspect ring - --steps 3", 0, out=STOPPED, given=STOPPED),
+    of("inspect ring -", 2, err=b"refused trace line 6\n", given=STOPPED),
+    of("inspect ring - --steps 2", 2, err=b"refused trace line 4\n", given=STOPPED),
+    of("inspect twice trace", 2, err=b"refused E20\n"),
+    of("inspect cycle nowhere", 3, err=b"file fault\n"),
+    of("inspect cycle --deploy nowhere trace", 3, err=b"file fault\n"),
+    of("inspect cycle trace --steps 0", 5, err=None),
+    of("inspect cycle", 5, err=None),
+    *(of("inspect cycle trace", 3, err=b"write fault after 0 bytes\n", to=it) for it in OUTPUTS[:3]),
+    of("inspect cycle trace", 3, out=INSIDE_TO_8[:ROOM], err=b"write fault after 10 bytes\n", to="short"),
     # Graphs. What is drawn is refused before the name of a type, in the order of a check.
     of("draw cycle", 0, out=GRAPH),
     of("draw -", 0, out=GRAPH, given=CYCLE),

@@ -8,7 +8,7 @@ what. None comes from the program's output.
 A file has named texts under `[text]`, and groups of cases, `[[group]]`. A group takes what it lacks from `[head]`, if the file has
 one. A group has
 - `name`: what its cases show
-- `command`: `check` (the default), `run`, `wave`, `draw`, `expect` or `diff`
+- `command`: `check` (the default), `run`, `wave`, `draw`, `expect`, `diff` or `inspect`
 - `declaration`, `deployment`, `stimuli` and `trace`: the texts that the program reads; the last three are optional
 - `block_types` and `more_block_types`: block types in files of their own, which are read before the declaration, in this order; both are optional
 - `options`: further words
@@ -56,6 +56,7 @@ WAYS = {
     "draw": [[]],
     "expect": [[]],
     "diff": [[]],
+    "inspect": [[]],
 }
 # The text of a case that is given on standard input, and the others with the words before each.
 INPUT = {"expect": "trace", "diff": "second"}

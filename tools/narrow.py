@@ -16,7 +16,7 @@ import sys
 from typing import NamedTuple
 
 import refuse
-from calls import CYCLE, FILES, KEYED_TO_8, LONG_TRACE, LONG_WAVE, MOST_OF_A_TEXT, TO_8, TOLD_TO_8, WAVE_TO_8
+from calls import CYCLE, FILES, INSIDE_TO_8, KEYED_TO_8, LONG_TRACE, LONG_WAVE, MOST_OF_A_TEXT, TO_8, TOLD_TO_8, WAVE_TO_8
 from kit import TOP, rtlib
 from program import Room, side_by_side
 
@@ -59,6 +59,8 @@ FOR_THE_FULL = [
     ["check", "cycle", "--deploy", "full", "--why"],
     ["wave", "full", "trace"],
     ["wave", "cycle", "full"],
+    ["inspect", "full", "trace"],
+    ["inspect", "cycle", "full"],
 ]
 
 
@@ -176,6 +178,7 @@ def all_calls(help_text):
         yield from with_room([*RUN, "--workers", count], TO_8, STEPS)
     yield from with_room(["--help"], help_text, STEPS[3:4])
     yield from of_waves()
+    yield from with_room(["inspect", "cycle", "trace"], INSIDE_TO_8, STEPS)
     yield from of_errors()
     yield from of_readers()
     yield from of_one_failure()

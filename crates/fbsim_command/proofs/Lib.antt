@@ -15,3 +15,4 @@ mod Noting
 mod Reporting
 pub mod Warning
 pub mod PlacedLines
+pub mod Inspecting

@@ -14,6 +14,8 @@ use Rattle.fb_sim.specs.declared.outcome.Refusal as sim
 use Rattle.fb_sim.specs.declared.outcome.Refusal.TheVariants as of
 use Rattle.fb_sim.specs.declared.outcome.RunError.{RunError}
 use Rattle.fb_sim.specs.declared.outcome.RunError.TheVariants as run
+use Rattle.fb_inspect.specs.declared.error.InspectError.{InspectError}
+use Rattle.fb_inspect.specs.declared.error.InspectError.TheVariants as inspect
 use Rattle.fb_wave.specs.declared.error.WaveError.{WaveError}
 use Rattle.fb_wave.specs.declared.error.WaveError.TheVariants as wave
 use Rattle.fbsim_command.specs.declared.failure.Failure.{Failure}
@@ -66,6 +68,14 @@ failure_of_wave wave.Memory = Memory
 failure_of_wave wave.Read = File
 failure_of_wave (wave.Write n) = Write n
 failure_of_wave wave.Names = Memory
+
+abbrev pub failure_of_inspection : InspectError → Failure
+failure_of_inspection (inspect.Refused line) = Refused (Trace line)
+failure_of_inspection inspect.Unknown = Refused (Numbered 21)
+failure_of_inspection inspect.Memory = Memory
+failure_of_inspection inspect.Read = File
+failure_of_inspection (inspect.Write n) = Write n
+failure_of_inspection inspect.Names = Memory
 
 abbrev pub failure_of_rules : RulesError → Failure
 failure_of_rules e = numbered_input (rules.number_of e)

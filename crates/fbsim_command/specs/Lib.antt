@@ -12,4 +12,5 @@ pub mod Expecting
 pub mod Comparing
 pub mod Drawing
 pub mod WarningLines
+pub mod Inspecting
 pub mod Command

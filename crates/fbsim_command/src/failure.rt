@@ -1,13 +1,14 @@
 //! Why a call of the program does not do what is asked, and how that is reported.
 
 ghost use Rattle.std.specs.Prelude.{◌≡◌};
-ghost use Rattle.fbsim_command.specs.Failures.{failure_of, failure_of_check, failure_of_read, failure_of_input, failure_of_refusal, failure_of_rules, failure_of_source, failure_of_wave};
+ghost use Rattle.fbsim_command.specs.Failures.{failure_of, failure_of_check, failure_of_inspection, failure_of_read, failure_of_input, failure_of_refusal, failure_of_rules, failure_of_source, failure_of_wave};
 ghost use Rattle.fbsim_command.specs.declared.failure.Failure.TheVariants.{Memory};
 
 use crate::sources::SourceFault;
 use fb_check::CheckError;
 use fb_expect::RulesError;
 use fb_inputs::InputError;
+use fb_inspect::InspectError;
 use fb_read::ReadError;
 use fb_sim::{Refusal, RunError};
 use fb_wave::WaveError;
@@ -125,6 +126,22 @@ impl From<WaveError> for Failure {
             WaveError::Write(written) => Failure::Write(written),
             // Only a declaration that no text gives has two ports that are written alike.
             WaveError::Names => Failure::Memory,
+        }
+    }
+}
+
+impl From<InspectError> for Failure {
+    ghost from_gives = { λ error failure. failure ≡ failure_of_inspection error };
+
+    fn from(error: InspectError) -> Failure {
+        match error {
+            InspectError::Refused(line) => Failure::Refused(RefusalLine::Trace(line)),
+            InspectError::Unknown => Failure::Refused(RefusalLine::Numbered(21)),
+            InspectError::Memory => Failure::Memory,
+            InspectError::Read => Failure::File,
+            InspectError::Write(written) => Failure::Write(written),
+            // Only a declaration that no text gives has two ports that are written alike.
+            InspectError::Names => Failure::Memory,
         }
     }
 }

@@ -6,8 +6,8 @@
 //!
 //! Read it in this order: `sources`, where files come from; `files`, those of the machine; `program`, the call; `texts`,
 //! what is read, with `join`, a declaration in several files, and `own_lines`, how its refusals name a file and a line,
-//! which agree by `laws`; `lint`, with `call_names` and `warning_lines`, the lines of warnings; `wave`; `draw`; `expect` and
-//! `known`, rules and traces; `output`; `failure`, `notes`, `rules_notes` and `statuses`, how it ends.
+//! which agree by `laws`; `lint`, with `call_names` and `warning_lines`, the lines of warnings; `wave`; `draw`; `inspect`;
+//! `expect` and `known`, rules and traces; `output`; `failure`, `notes`, `rules_notes` and `statuses`, how it ends.
 #![tactic(auto)]
 
 pub mod call_names;
@@ -15,6 +15,7 @@ mod draw;
 mod expect;
 pub mod failure;
 pub mod files;
+mod inspect;
 mod join;
 mod known;
 pub mod laws;

@@ -16,6 +16,7 @@ use crate::call_names::Naming;
 use crate::draw::show_graph;
 use crate::expect::{diff, expect};
 use crate::failure::Failure;
+use crate::inspect::show_insides;
 use crate::lint::check_and_warn;
 use crate::notes::{note_of, note_of_file};
 use crate::output::write_text;
@@ -294,6 +295,9 @@ fn obey<'w, R: Threads + Wait + Sync, C: Clock + CpuClock, S: Source + Streams, 
         Ok(Call::Diff(call)) => ended(diff(alloc, &call, source, out)),
         Ok(Call::Draw(call, types)) => {
             ended(show_graph(alloc, types.as_slice(), &call, source, out))
+        }
+        Ok(Call::Inspect(call, types)) => {
+            ended(show_insides(alloc, types.as_slice(), &call, source, out))
         }
         Err(LineFault::Help(text)) => ended(help_to(text.as_str(), out)),
         Err(LineFault::Fault(text)) => ended(Err(Failure::Line(text))),

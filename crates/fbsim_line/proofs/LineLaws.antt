@@ -1,5 +1,5 @@
 -- Where the words name no call.
-use Rattle.std.proofs.Common.{◌≡◌, ◌&&◌, ℕ, Bool, Bor, Option, Some, None, Result, Ok, Err, List, false, true, not, is_some, map, option_map, refl, sym, ap, ◌∙◌, subst, inl, inr, codes}
+use Rattle.std.proofs.Common.{◌≡◌, ℕ, Bor, Option, Some, None, Result, Ok, Err, List, false, true, map, option_map, refl, sym, ap, ◌∙◌, subst, inl, inr, codes}
 use Rattle.std.specs.Global.{Vec}
 use Rattle.std.specs.Str.{bytes_eq}
 use Rattle.std.proofs.lemmas.Slice.Eq.{bytes_eq-Decides}
@@ -11,7 +11,7 @@ use Rattle.clap.specs.declared.error.kind.ErrorKind.TheVariants.{DisplayHelp, Di
 use Rattle.fb_types.specs.declared.run.Form.{Form}
 use Rattle.fb_types.specs.declared.run.Form.TheVariants.{One, Two}
 use Rattle.clap.specs.declared.builder.value_parser.ValueParser.{ValueParser}
-use Rattle.fbsim_line.specs.Line.{AreCall, AreNoCall, AreTypes, AskHelp, IsTaken, NameNoCall, IsForm, AsksDiff, AsksDraw, AsksExpect, AsksWave, IsNumber, IsAction, IsTask, IsCall, IsCallOf, IsFault, IsFlag, IsText, command_name, call_name, declares_nothing, or_none, AreForms, simulator, simulator_with}
+use Rattle.fbsim_line.specs.Line.{AreCall, AreNoCall, AskHelp, IsTaken, NameNoCall, IsForm, AsksDiff, AsksDraw, AsksExpect, AsksInspect, AsksWave, IsNumber, IsAction, IsTask, IsCall, IsCallOf, IsFault, IsFlag, IsText, command_name, call_name, declares_nothing, or_none, AreForms, simulator, simulator_with}
 use Rattle.fbsim_line.proofs.FormLaws.{same_fault, same_subcommand, same_takes}
 use Rattle.fbsim_line.specs.declared.line.LineFault.{LineFault}
 use Rattle.fbsim_line.specs.declared.line.Task.{Task}
@@ -23,6 +23,7 @@ use Rattle.fbsim_line.specs.declared.line.Wave.{Wave}
 use Rattle.fbsim_line.specs.declared.bench_line.Diff.{Diff}
 use Rattle.fbsim_line.specs.declared.bench_line.Expect.{Expect}
 use Rattle.fbsim_line.specs.declared.draw_line.Draw.{Draw}
+use Rattle.fbsim_line.specs.declared.inspect_line.Inspect.{Inspect}
 
 pub if_none : {T : Type 0} (r : Option T) (P : Type 0) → P → IfNone r P
 if_none (Some x) P p = tt
@@ -114,6 +115,7 @@ no_name rows name is none (call.Wave w types) named given = differs (codes "expl
 no_name rows name is none (call.Expect x) named given = differs (codes "explain") (codes "expect") refl (sym is ∙ named)
 no_name rows name is none (call.Diff d) named given = differs (codes "explain") (codes "diff") refl (sym is ∙ named)
 no_name rows name is none (call.Draw d types) named given = differs (codes "explain") (codes "draw") refl (sym is ∙ named)
+no_name rows name is none (call.Inspect x types) named given = differs (codes "explain") (codes "inspect") refl (sym is ∙ named)
 
 pub no_wave : (rows : List Row) (name : Text) → name ≡ codes "wave" → ((w : Wave) → AsksWave rows w → ⊥) → (r : Call) → name ≡ call_name r → IsCall rows r → ⊥
 no_wave rows name is none (call.Explain word) named given = differs (codes "wave") (codes "explain") refl (sym is ∙ named)
@@ -122,6 +124,7 @@ no_wave rows name is none (call.Wave w types) named given = none w given.0
 no_wave rows name is none (call.Expect x) named given = differs (codes "wave") (codes "expect") refl (sym is ∙ named)
 no_wave rows name is none (call.Diff d) named given = differs (codes "wave") (codes "diff") refl (sym is ∙ named)
 no_wave rows name is none (call.Draw d types) named given = differs (codes "wave") (codes "draw") refl (sym is ∙ named)
+no_wave rows name is none (call.Inspect x types) named given = differs (codes "wave") (codes "inspect") refl (sym is ∙ named)
 
 pub no_expect : (rows : List Row) (name : Text) → name ≡ codes "expect" → ((x : Expect) → AsksExpect rows x → ⊥) → (r : Call) → name ≡ call_name r → IsCall rows r → ⊥
 no_expect rows name is none (call.Explain word) named given = differs (codes "expect") (codes "explain") refl (sym is ∙ named)
@@ -130,6 +133,7 @@ no_expect rows name is none (call.Wave w types) named given = differs (codes "ex
 no_expect rows name is none (call.Expect x) named given = none x given
 no_expect rows name is none (call.Diff d) named given = differs (codes "expect") (codes "diff") refl (sym is ∙ named)
 no_expect rows name is none (call.Draw d types) named given = differs (codes "expect") (codes "draw") refl (sym is ∙ named)
+no_expect rows name is none (call.Inspect x types) named given = differs (codes "expect") (codes "inspect") refl (sym is ∙ named)
 
 pub no_diff : (rows : List Row) (name : Text) → name ≡ codes "diff" → ((d : Diff) → AsksDiff rows d → ⊥) → (r : Call) → name ≡ call_name r → IsCall rows r → ⊥
 no_diff rows name is none (call.Explain word) named given = differs (codes "diff") (codes "explain") refl (sym is ∙ named)
@@ -138,6 +142,7 @@ no_diff rows name is none (call.Wave w types) named given = differs (codes "diff
 no_diff rows name is none (call.Expect x) named given = differs (codes "diff") (codes "expect") refl (sym is ∙ named)
 no_diff rows name is none (call.Diff d) named given = none d given
 no_diff rows name is none (call.Draw d types) named given = differs (codes "diff") (codes "draw") refl (sym is ∙ named)
+no_diff rows name is none (call.Inspect x types) named given = differs (codes "diff") (codes "inspect") refl (sym is ∙ named)
 
 pub no_draw : (rows : List Row) (name : Text) → name ≡ codes "draw" → ((d : Draw) → AsksDraw rows d → ⊥) → (r : Call) → name ≡ call_name r → IsCall rows r → ⊥
 no_draw rows name is none (call.Explain word) named given = differs (codes "draw") (codes "explain") refl (sym is ∙ named)
@@ -146,16 +151,27 @@ no_draw rows name is none (call.Wave w types) named given = differs (codes "draw
 no_draw rows name is none (call.Expect x) named given = differs (codes "draw") (codes "expect") refl (sym is ∙ named)
 no_draw rows name is none (call.Diff d) named given = differs (codes "draw") (codes "diff") refl (sym is ∙ named)
 no_draw rows name is none (call.Draw d types) named given = none d given.0
+no_draw rows name is none (call.Inspect x types) named given = differs (codes "draw") (codes "inspect") refl (sym is ∙ named)
+
+pub no_inspect : (rows : List Row) (name : Text) → name ≡ codes "inspect" → ((x : Inspect) → AsksInspect rows x → ⊥) → (r : Call) → name ≡ call_name r → IsCall rows r → ⊥
+no_inspect rows name is none (call.Explain word) named given = differs (codes "inspect") (codes "explain") refl (sym is ∙ named)
+no_inspect rows name is none (call.Task c types) named given = no_task c.action name (codes "inspect") is (λ e. cc) (λ e. cc) named
+no_inspect rows name is none (call.Wave w types) named given = differs (codes "inspect") (codes "wave") refl (sym is ∙ named)
+no_inspect rows name is none (call.Expect x) named given = differs (codes "inspect") (codes "expect") refl (sym is ∙ named)
+no_inspect rows name is none (call.Diff d) named given = differs (codes "inspect") (codes "diff") refl (sym is ∙ named)
+no_inspect rows name is none (call.Draw d types) named given = differs (codes "inspect") (codes "draw") refl (sym is ∙ named)
+no_inspect rows name is none (call.Inspect x types) named given = none x given.0
 
 pub no_other_call :
     (rows : List Row) (name : Text) → (name ≡ codes "explain" → ⊥) → (name ≡ codes "wave" → ⊥) → (name ≡ codes "expect" → ⊥) → (name ≡ codes "diff" → ⊥) → (name ≡ codes "draw" → ⊥)
-    → ((c : Task) → name ≡ command_name c.action → IsTask rows c → ⊥) → (r : Call) → name ≡ call_name r → IsCall rows r → ⊥
-no_other_call rows name no_explain no_wave no_expect no_diff no_draw none (call.Explain word) named given = no_explain named
-no_other_call rows name no_explain no_wave no_expect no_diff no_draw none (call.Task c types) named given = none c named given.0
-no_other_call rows name no_explain no_wave no_expect no_diff no_draw none (call.Wave w types) named given = no_wave named
-no_other_call rows name no_explain no_wave no_expect no_diff no_draw none (call.Expect x) named given = no_expect named
-no_other_call rows name no_explain no_wave no_expect no_diff no_draw none (call.Diff d) named given = no_diff named
-no_other_call rows name no_explain no_wave no_expect no_diff no_draw none (call.Draw d types) named given = no_draw named
+    → (name ≡ codes "inspect" → ⊥) → ((c : Task) → name ≡ command_name c.action → IsTask rows c → ⊥) → (r : Call) → name ≡ call_name r → IsCall rows r → ⊥
+no_other_call rows name no_explain no_wave no_expect no_diff no_draw no_inspect none (call.Explain word) named given = no_explain named
+no_other_call rows name no_explain no_wave no_expect no_diff no_draw no_inspect none (call.Task c types) named given = none c named given.0
+no_other_call rows name no_explain no_wave no_expect no_diff no_draw no_inspect none (call.Wave w types) named given = no_wave named
+no_other_call rows name no_explain no_wave no_expect no_diff no_draw no_inspect none (call.Expect x) named given = no_expect named
+no_other_call rows name no_explain no_wave no_expect no_diff no_draw no_inspect none (call.Diff d) named given = no_diff named
+no_other_call rows name no_explain no_wave no_expect no_diff no_draw no_inspect none (call.Draw d types) named given = no_draw named
+no_other_call rows name no_explain no_wave no_expect no_diff no_draw no_inspect none (call.Inspect x types) named given = no_inspect named
 
 -- ---- Rules and traces
 
@@ -168,15 +184,15 @@ no_traces rows none x is = let given = is.traces in absurd cc
 abbrev text : Bor Text → Text
 text n = n.now
 
--- the names of the files of block types
-pub types-some :
-    {E : Type 0} (rows : List Row) (names : List (Bor Text)) (r : Result (Vec (Bor Text)) E) → all_of (codes "types") rows ≡ Some (map text names) → IfOk r (λ v. v.items ≡ names)
-    → IfOk r (λ v. AreTypes rows v.items)
-types-some rows names (Err e) is same = tt
-types-some rows names (Ok v) is same = ap or_none is ∙ ap (map text) (sym same)
+-- the texts of an option that may be there several times
+pub texts-some :
+    {E : Type 0} (rows : List Row) (id : Text) (names : List (Bor Text)) (r : Result (Vec (Bor Text)) E) → all_of id rows ≡ Some (map text names) → IfOk r (λ v. v.items ≡ names)
+    → IfOk r (λ v. or_none (all_of id rows) ≡ map text v.items)
+texts-some rows id names (Err e) is same = tt
+texts-some rows id names (Ok v) is same = ap or_none is ∙ ap (map text) (sym same)
 
-pub types-none : (rows : List Row) (names : List (Bor Text)) → all_of (codes "types") rows ≡ None → names ≡ [] → AreTypes rows names
-types-none rows names is none = ap or_none is ∙ ap (map text) (sym none)
+pub texts-none : (rows : List Row) (id : Text) (names : List (Bor Text)) → all_of id rows ≡ None → names ≡ [] → or_none (all_of id rows) ≡ map text names
+texts-none rows id names is none = ap or_none is ∙ ap (map text) (sym none)
 
 -- a deployment or block types of no declaration
 pub declares_alone :
@@ -209,6 +225,15 @@ no_trace rows none w is = let given = is.trace in absurd cc
 
 pub no_drawing : (rows : List Row) → first_of (codes "DECL") rows ≡ None → (d : Draw) → AsksDraw rows d → ⊥
 no_drawing rows none d is = let given = is.declaration in absurd cc
+
+pub no_inspected : (rows : List Row) → first_of (codes "DECL") rows ≡ None → (x : Inspect) → AsksInspect rows x → ⊥
+no_inspected rows none x is = let given = is.declaration in absurd cc
+
+pub no_inspected_trace : (rows : List Row) → first_of (codes "TRACE") rows ≡ None → (x : Inspect) → AsksInspect rows x → ⊥
+no_inspected_trace rows none x is = let given = is.trace in absurd cc
+
+pub no_limit : (rows : List Row) → ((n : ℕ) → IsNumber rows (codes "steps") n → ⊥) → (x : Inspect) → AsksInspect rows x → ⊥
+no_limit rows none x is = none x.steps is.steps
 
 -- ---- The words, by what the parser says of them
 

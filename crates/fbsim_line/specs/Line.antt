@@ -13,6 +13,7 @@ use Rattle.fb_types.specs.declared.run.Form.TheVariants.{One, Two}
 use Rattle.fbsim_line.specs.declared.bench_line.Diff.{Diff}
 use Rattle.fbsim_line.specs.declared.bench_line.Expect.{Expect}
 use Rattle.fbsim_line.specs.declared.draw_line.Draw.{Draw}
+use Rattle.fbsim_line.specs.declared.inspect_line.Inspect.{Inspect}
 use Rattle.fbsim_line.specs.declared.line.Action.{Action}
 use Rattle.fbsim_line.specs.declared.line.Action.TheVariants.{Check, Run}
 use Rattle.fbsim_line.specs.declared.line.Task.{Task}
@@ -135,13 +136,22 @@ diff = with_rule (begun (codes "diff") (codes "A")) (required (codes "B"))
 abbrev pub draw : App
 draw = with_rule (deployed (codes "draw")) (file (codes "type"))
 
+-- a command with the names of a declaration, of its deployment and of its trace, of the instances that are shown, and the limit
+-- of the run
+abbrev pub inspect : App
+inspect =
+    with_rule (with_rule (with_rule (deployed (codes "inspect"))
+    (required (codes "TRACE")))
+    (repeated (codes "only")))
+    (record (limited (codes "steps") (up_to 10000000)) { defaults = codes "10000" ∷ [] })
+
 -- a command with the name of a refusal
 abbrev pub explain : App
 explain = begun (codes "explain") (codes "NAME")
 
 -- the program's command, with this parser for the form of the trace
 abbrev pub simulator_with : ValueParser → App
-simulator_with values = with_subcommand (with_subcommand (with_subcommand (with_subcommand (with_subcommand (with_subcommand (with_subcommand
+simulator_with values = with_subcommand (with_subcommand (with_subcommand (with_subcommand (with_subcommand (with_subcommand (with_subcommand (with_subcommand
     (record { top = record (new_app (codes "fbsim")).top { has_version = true; subcommand_required = true }; subs = [] })
     (with_run_options values (files (codes "run"))).top)
     check.top)
@@ -149,6 +159,7 @@ simulator_with values = with_subcommand (with_subcommand (with_subcommand (with_
     expect.top)
     diff.top)
     draw.top)
+    inspect.top)
     explain.top
 
 abbrev pub simulator : App
@@ -167,6 +178,7 @@ call_name (call.Wave w types) = codes "wave"
 call_name (call.Expect x) = codes "expect"
 call_name (call.Diff d) = codes "diff"
 call_name (call.Draw d types) = codes "draw"
+call_name (call.Inspect x types) = codes "inspect"
 
 -- the option has one text, a decimal numeral that may begin with a plus, and this is its number
 pub record IsNumber (rows : List Row) (id : Text) (n : ℕ) : Type 0 where
@@ -251,6 +263,14 @@ pub record AsksDraw (rows : List Row) (d : Draw) : Type 0 where
   pub deploy : first_of (codes "deploy") rows ≡ option_map (λ n. n.now) d.deploy
   pub block_type : first_of (codes "type") rows ≡ option_map (λ n. n.now) d.block_type
 
+-- this trace must be inspected
+pub record AsksInspect (rows : List Row) (x : Inspect) : Type 0 where
+  pub declaration : first_of (codes "DECL") rows ≡ Some x.declaration.now
+  pub deploy : first_of (codes "deploy") rows ≡ option_map (λ n. n.now) x.deploy
+  pub trace : first_of (codes "TRACE") rows ≡ Some x.trace.now
+  pub only : or_none (all_of (codes "only") rows) ≡ map (λ t. t.now) x.only.items
+  pub steps : IsNumber rows (codes "steps") x.steps
+
 abbrev pub IsCall : List Row → Call → Type 0
 IsCall rows (call.Explain name) = first_of (codes "NAME") rows ≡ Some name.now
 IsCall rows (call.Task c types) = IsTask rows c × AreTypes rows types.items
@@ -258,6 +278,7 @@ IsCall rows (call.Wave w types) = AsksWave rows w × AreTypes rows types.items
 IsCall rows (call.Expect x) = AsksExpect rows x
 IsCall rows (call.Diff d) = AsksDiff rows d
 IsCall rows (call.Draw d types) = AsksDraw rows d × AreTypes rows types.items
+IsCall rows (call.Inspect x types) = AsksInspect rows x × AreTypes rows types.items
 
 -- a command's name and its rows ask for this
 pub record IsCallOf (found : Option (Text × List Row)) (r : Call) : Type 0 where

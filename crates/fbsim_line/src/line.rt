@@ -15,6 +15,7 @@ ghost use Rattle.clap.specs.declared.builder.command.Command.TheViews.{out-Comma
 
 use crate::bench_line::{Diff, Expect, diff_command, diff_of, expect_command, expect_of};
 use crate::draw_line::{Draw, draw_command, draw_of};
+use crate::inspect_line::{Inspect, inspect_command, inspect_of};
 use clap::builder::ValueParser;
 use clap::error::ErrorKind;
 use clap::{Arg, ArgAction, ArgMatches, Command, Error};
@@ -37,6 +38,8 @@ pub enum Call<'a> {
     Diff(Diff<'a>),
     /// Draws what is declared.
     Draw(Draw<'a>, Vec<&'a str>),
+    /// Shows what happens inside the blocks of a trace.
+    Inspect(Inspect<'a>, Vec<&'a str>),
 }
 
 /// A trace to be shown as waveforms, and what it is a trace of.
@@ -214,7 +217,12 @@ pub(crate) fn repeated<'a>(alloc: Global, id: &'a str, help: &'a str) -> Arg<'a>
 }
 
 /// An option that takes a value of this kind.
-fn limited<'a>(alloc: Global, id: &'a str, values: ValueParser<'a>, help: &'a str) -> Arg<'a>
+pub(crate) fn limited<'a>(
+    alloc: Global,
+    id: &'a str,
+    values: ValueParser<'a>,
+    help: &'a str,
+) -> Arg<'a>
     ensures rule { rule_of result ≡ spec.limited id.entry.now values.entry }
     ensures local { result.global ≡ false }
 {
@@ -305,7 +313,7 @@ fn check_command<'a>(alloc: Global) -> Result<Command<'a>, AllocError>
 }
 
 /// Whole numbers from 1 to the most.
-fn up_to<'a>(most: u64) -> ValueParser<'a>
+pub(crate) fn up_to<'a>(most: u64) -> ValueParser<'a>
     ensures { result ≡ spec.up_to most }
 {
     ValueParser::Unsigned(1, most)
@@ -407,10 +415,11 @@ fn simulator<'a>(alloc: Global, forms: ValueParser<'a>) -> Result<Command<'a>, A
     let command = with_subcommand(command, expect_command(alloc));
     let command = with_subcommand(command, diff_command(alloc));
     let command = with_subcommand(command, draw_command(alloc));
+    let command = with_subcommand(command, inspect_command(alloc));
     with_subcommand(command, explain(alloc))
 }
 
-fn number(found: &ArgMatches<'_>, id: &str) -> Option<u64>
+pub(crate) fn number(found: &ArgMatches<'_>, id: &str) -> Option<u64>
     ensures number { IfSome result (IsNumber (rows_of (found_of found.now)) id.now) }
     ensures none { IfNone result ((n : ℕ) → IsNumber (rows_of (found_of found.now)) id.now n → ⊥) }
 {
@@ -567,6 +576,7 @@ fn call_of<'a>(
         "expect" => expect_of(alloc, found),
         "diff" => Ok(diff_of(found)),
         "draw" => draw_of(alloc, found),
+        "inspect" => inspect_of(alloc, found),
         _ => task_call(alloc, name, found),
     }
 }

@@ -32,6 +32,7 @@ const HELP: &str =
     \x20 expect   Checks rules against traces, and reports in the Test Anything Protocol.\n\
     \x20 diff     Prints the first line in which two traces differ, or nothing if they are the same bytes.\n\
     \x20 draw     Writes the application or a type to standard output as a graph that graphviz draws.\n\
+    \x20 inspect  Writes a trace to standard output with what happens inside the blocks between its lines.\n\
     \x20 explain  Prints what a refusal or the reason of a stop means, two examples, and what to look at.\n\
     \x20 help     Print this message or the help of the given subcommand(s)\n\n\
     Options:\n\
@@ -40,7 +41,7 @@ const HELP: &str =
     Example: fbsim run cell.iec --deploy cell.toml --stim cell.csv --horizon 1000\n";
 
 const NO_COMMAND: &str = "error: 'fbsim' requires a subcommand but one was not provided\n\
-    \x20 [subcommands: run, check, wave, expect, diff, draw, explain, help]\n\n\
+    \x20 [subcommands: run, check, wave, expect, diff, draw, inspect, explain, help]\n\n\
     Usage: fbsim <COMMAND>\n\nFor more information, try '--help'.\n";
 
 const NO_HORIZON: &str = "error: the following required arguments were not provided:\n\

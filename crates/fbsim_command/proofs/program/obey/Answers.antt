@@ -5,6 +5,7 @@ use Rattle.fbsim_line.specs.declared.line.LineFault.{LineFault}
 use Rattle.fbsim_line.specs.declared.line.Call.{Call}
 use Rattle.fbsim_command.specs.Command.{Does, Performs}
 use Rattle.fbsim_command.specs.Drawing.{Draws}
+use Rattle.fbsim_command.specs.Inspecting.{ShowsInsides}
 use Rattle.fbsim_command.specs.Showing.{Shows}
 use Rattle.fbsim_command.specs.Outcomes.{End}
 use Rattle.fbsim_command.specs.declared.failure.Failure.TheVariants.{Line, Memory}
@@ -66,6 +67,18 @@ returns-in-Ok-Draw g c =
     (λ (end : End) (reports : Text) (note : Option Text). Does g.S.Source.gives g.S.Streams.opens c.args.source.now c.show_graph.new.source words old new end reports note)
     (inr (inr (inr (inr (inr (inl (c.in-Ok-Draw.call, c.in-Ok-Draw.types, asked, c.in-Ok-Draw.ensures.taken, drawn, refl, refl)))))))
 
+pub returns-in-Ok-Inspect : goal.returns-in-Ok-Inspect
+returns-in-Ok-Inspect g c =
+    let words = map (λ (w : Bor (List ℕ)). w.now) c.args.words.now in
+    let old = g.W.Write.contents c.args.out.now in
+    let new = g.W.Write.contents c.show_insides.new.out in
+    let asked = subst (λ (r : Call). AreCall words r) c.in-Ok-Inspect.field-0-is c.in-Ok-Inspect.ensures.call in
+    let shown = subst (λ (ns : List (Bor Text)). ShowsInsides g.S.Source.gives g.S.Streams.opens c.args.source.now c.show_insides.new.source (map (λ (n : Bor Text). n.now) ns) c.in-Ok-Inspect.call old new c.show_insides.result)
+    c.as_slice-in-Ok-Inspect.ensures.value c.show_insides.ensures in
+    ended_so c.ended-in-Ok-Inspect.result c.show_insides.result c.ended-in-Ok-Inspect.ensures (g.E.Write.contents c.args.err.now)
+    (λ (end : End) (reports : Text) (note : Option Text). Does g.S.Source.gives g.S.Streams.opens c.args.source.now c.show_insides.new.source words old new end reports note)
+    (inr (inr (inr (inr (inr (inr (inl (c.in-Ok-Inspect.call, c.in-Ok-Inspect.types, asked, c.in-Ok-Inspect.ensures.taken, shown, refl, refl))))))))
+
 pub returns-in-Err-Help : goal.returns-in-Err-Help
 returns-in-Err-Help g c =
     let words = map (λ (w : Bor (List ℕ)). w.now) c.args.words.now in
@@ -75,7 +88,7 @@ returns-in-Err-Help g c =
     let help : IsHelp c.in-Err-Help.field-0 = subst (λ (x : LineFault). IsHelp x) (sym c.in-Err-Help.field-0-is) tt in
     ended_so c.ended-in-Err-Help.result c.help_to.result c.ended-in-Err-Help.ensures (g.E.Write.contents c.args.err.now)
     (λ (end : End) (reports : Text) (note : Option Text). Does g.S.Source.gives g.S.Streams.opens source source words old new end reports note)
-    (inr (inr (inr (inr (inr (inr (helped words old new c.as_str.result.now (c.in-Err-Help.ensures.help help) c.help_to.result c.help_to.ensures.whole c.help_to.ensures.part, (refl, refl, refl))))))))
+    (inr (inr (inr (inr (inr (inr (inr (helped words old new c.as_str.result.now (c.in-Err-Help.ensures.help help) c.help_to.result c.help_to.ensures.whole c.help_to.ensures.part, (refl, refl, refl)))))))))
 
 pub returns-in-Err-Fault : goal.returns-in-Err-Fault
 returns-in-Err-Fault g c =
@@ -85,7 +98,7 @@ returns-in-Err-Fault g c =
     let fault : IsFault c.in-Err-Fault.field-0 = subst (λ (x : LineFault). IsFault x) (sym c.in-Err-Fault.field-0-is) tt in
     ended_so c.ended-in-Err-Fault.result (Err (Line _)) c.ended-in-Err-Fault.ensures (g.E.Write.contents c.args.err.now)
     (λ (end : End) (reports : Text) (note : Option Text). Does g.S.Source.gives g.S.Streams.opens source source words old old end reports note)
-    (inr (inr (inr (inr (inr (inr ((c.in-Err-Fault.ensures.none fault, refl), (refl, refl, refl))))))))
+    (inr (inr (inr (inr (inr (inr (inr ((c.in-Err-Fault.ensures.none fault, refl), (refl, refl, refl)))))))))
 
 pub returns-in-Err-Memory : goal.returns-in-Err-Memory
 returns-in-Err-Memory g c =
@@ -94,4 +107,4 @@ returns-in-Err-Memory g c =
     let old = g.W.Write.contents c.args.out.now in
     ended_so c.ended-in-Err-Memory.result (Err Memory) c.ended-in-Err-Memory.ensures (g.E.Write.contents c.args.err.now)
     (λ (end : End) (reports : Text) (note : Option Text). Does g.S.Source.gives g.S.Streams.opens source source words old old end reports note)
-    (inr (inr (inr (inr (inr (inr (refl, (refl, refl, refl))))))))
+    (inr (inr (inr (inr (inr (inr (inr (refl, (refl, refl, refl)))))))))

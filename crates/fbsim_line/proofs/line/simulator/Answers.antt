@@ -17,4 +17,5 @@ returns c =
     let holds = joined_on _ _ _ _ _ c.with_subcommand-command-4.ensures shows (stands_well _ _ c.expect_command.ensures.app c.expect_command.ensures.globals) in
     let compares = joined_on _ _ _ _ _ c.with_subcommand-command-5.ensures holds (stands_well _ _ c.diff_command.ensures.app c.diff_command.ensures.globals) in
     let draws = joined_on _ _ _ _ _ c.with_subcommand-command-6.ensures compares (stands_well _ _ c.draw_command.ensures.app c.draw_command.ensures.globals) in
-    joined_on _ _ _ _ _ c.with_subcommand.ensures draws (stands_well _ _ c.explain.ensures.app c.explain.ensures.globals)
+    let inspects = joined_on _ _ _ _ _ c.with_subcommand-command-7.ensures draws (stands_well _ _ c.inspect_command.ensures.app c.inspect_command.ensures.globals) in
+    joined_on _ _ _ _ _ c.with_subcommand.ensures inspects (stands_well _ _ c.explain.ensures.app c.explain.ensures.globals)

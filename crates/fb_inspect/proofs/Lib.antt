@@ -1,0 +1,13 @@
+pub mod Showing
+pub mod ShowingLaws
+pub mod Moving
+pub mod Emitted
+pub mod Charted
+pub mod Sampled
+pub mod Timed
+pub mod Walked
+pub mod Gone
+pub mod Opened
+pub mod Within
+pub mod Actions
+pub mod Placed

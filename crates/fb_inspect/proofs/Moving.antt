@@ -1,0 +1,99 @@
+-- Lines that are gone through one after another.
+use Rattle.std.proofs.Common.{◌≡◌, ℕ, Bool, true, false, List, [], ◌∷◌, ◌++◌, map, Option, refl, sym, ◌∙◌, ap, subst, append_assoc, append-nil}
+use Rattle.std.specs.Prelude.{All}
+use Rattle.std.specs.Io.KnownBytes.{Consumes}
+use Rattle.std.proofs.KnownBytes.{Consumes-nil, Consumes-trans}
+use Rattle.std.proofs.lemmas.List.{map-append}
+use Rattle.std.proofs.lemmas.List.Elements.{All-append, All-nil, All-push}
+use Rattle.fb_types.specs.Numbers.{line_of}
+use Rattle.fb_types.specs.States as model
+use Rattle.fb_types.specs.Systems.{System}
+use Rattle.fb_types.specs.Text.{line_text, lines_text}
+use Rattle.fb_types.specs.declared.run.Form.{Form}
+use Rattle.fb_types.specs.declared.run.Line.{Line}
+use Rattle.fb_wave.specs.Lines.{IsLineOf, IsTextOf}
+use Rattle.fb_inspect.specs.Moves.{Goes, IsLineAt, shown_text}
+use Rattle.fb_inspect.specs.declared.trail.Trail.{Trail}
+
+-- the text of lines, and of others after them
+pub lines-append : (form : Form) (sys : System) (ls ks : List model.Line) → lines_text form sys (ls ++ ks) ≡ lines_text form sys ls ++ lines_text form sys ks
+lines-append form sys [] ks = refl
+lines-append form sys (l ∷ ls) ks =
+    ap (λ (t : List ℕ). line_text form sys l ++ t) (lines-append form sys ls ks) ∙ sym (append_assoc (line_text form sys l) (lines_text form sys ls) (lines_text form sys ks))
+
+pub shown-append : (b : Bool) (xs ys : List ℕ) → shown_text b (xs ++ ys) ≡ shown_text b xs ++ shown_text b ys
+shown-append true xs ys = refl
+shown-append false xs ys = refl
+
+pub shown-nil : (b : Bool) → shown_text b [] ≡ []
+shown-nil true = refl
+shown-nil false = refl
+
+module _ (sys : System) (form : Form) (tick : ℕ) where
+  -- text is added, and no line is read
+  pub goes_note :
+      (old new : Trail) (bytes : List ℕ) (left : Option (List ℕ)) → new.is_shown ≡ old.is_shown → new.reading.line.items ≡ old.reading.line.items
+      → new.page.text.items ≡ old.page.text.items ++ bytes → Goes sys form tick [] bytes old new left left
+  goes_note old new bytes left shown line text = record {
+    each = All-nil (IsLineAt sys tick);
+    kept = shown;
+    taken = [];
+    took = Consumes-nil left;
+    read = append-nil old.reading.line.items ∙ sym line;
+    text = text;
+  }
+
+  pub goes_then :
+      (a b c : Trail) (ls ks : List Line) (bs cs : List ℕ) (l m n : Option (List ℕ)) → Goes sys form tick ls bs a b l m → Goes sys form tick ks cs b c m n
+      → Goes sys form tick (ls ++ ks) (bs ++ cs) a c l n
+  goes_then a b c ls ks bs cs l m n first second =
+      let L : List ℕ = lines_text form sys (map (line_of sys) ls) in
+      let K : List ℕ = lines_text form sys (map (line_of sys) ks) in
+      record {
+        each = All-append (IsLineAt sys tick) ls ks first.each second.each;
+        kept = second.kept ∙ first.kept;
+        taken = first.taken ++ second.taken;
+        took = Consumes-trans l m n first.taken second.taken first.took second.took;
+        read = sym (append_assoc a.reading.line.items first.taken second.taken)
+            ∙ ap (λ (x : List ℕ). x ++ second.taken) first.read
+            ∙ append_assoc L b.reading.line.items second.taken
+            ∙ ap (λ (x : List ℕ). L ++ x) second.read
+            ∙ sym (append_assoc L K c.reading.line.items)
+            ∙ ap (λ (x : List ℕ). x ++ c.reading.line.items) (sym (ap (lines_text form sys) (map-append (line_of sys) ls ks) ∙ lines-append form sys (map (line_of sys) ls) (map (line_of sys) ks)));
+        text = second.text ∙ ap (λ (x : List ℕ). x ++ cs) first.text ∙ append_assoc a.page.text.items bs cs;
+      }
+
+  -- the same text by another name
+  pub goes_as :
+      (a b : Trail) (ls : List Line) (bs cs : List ℕ) (l m : Option (List ℕ)) → bs ≡ cs → Goes sys form tick ls bs a b l m → Goes sys form tick ls cs a b l m
+  goes_as a b ls bs cs l m same goes = subst (λ (x : List ℕ). Goes sys form tick ls x a b l m) same goes
+
+-- one line is read, and added where it is shown
+pub goes_pass :
+    (sys : System) (form : Form) (line : Line) (a c : Trail) (l m : Option (List ℕ)) → IsTextOf sys form line a.reading.line.items
+    → c.page.text.items ≡ a.page.text.items ++ shown_text a.is_shown a.reading.line.items → c.is_shown ≡ a.is_shown → Consumes l m c.reading.line.items
+    → Goes sys form line.key.tick (line ∷ []) (shown_text a.is_shown (line_text form sys (line_of sys line))) a c l m
+goes_pass sys form line a c l m is put shown took = record {
+  each = All-one sys line is.line;
+  kept = shown;
+  taken = c.reading.line.items;
+  took = took;
+  read = ap (λ (x : List ℕ). x ++ c.reading.line.items) (is.is ∙ sym (append-nil (line_text form sys (line_of sys line))));
+  text = put ∙ ap (λ (x : List ℕ). a.page.text.items ++ shown_text a.is_shown x) is.is;
+}
+  where
+    All-one : (sys : System) (line : Line) → IsLineOf sys line → All (IsLineAt sys line.key.tick) (line ∷ [])
+    All-one sys line one = All-push (IsLineAt sys line.key.tick) [] line (All-nil (IsLineAt sys line.key.tick)) (record { line = one; tick_is = refl })
+
+-- the same way from a trail with the same line and text
+pub goes_same :
+    (sys : System) (form : Form) (tick : ℕ) (ls : List Line) (bytes : List ℕ) (a b c : Trail) (l m : Option (List ℕ)) → a.is_shown ≡ b.is_shown
+    → a.reading.line.items ≡ b.reading.line.items → a.page.text.items ≡ b.page.text.items → Goes sys form tick ls bytes a c l m → Goes sys form tick ls bytes b c l m
+goes_same sys form tick ls bytes a b c l m shown line text goes = record {
+  each = goes.each;
+  kept = goes.kept ∙ shown;
+  taken = goes.taken;
+  took = goes.took;
+  read = ap (λ (x : List ℕ). x ++ goes.taken) (sym line) ∙ goes.read;
+  text = goes.text ∙ ap (λ (x : List ℕ). x ++ bytes) text;
+}

@@ -1,0 +1,35 @@
+use Rattle.std.proofs.Common.{◌++◌, ℕ, List, [], ◌∷◌, length, map, Option, refl, ◌∙◌, ap, subst}
+use Rattle.std.proofs.lemmas.List.{length-map}
+use Rattle.fb_types.specs.Charts.{Acts, Position}
+use Rattle.fb_types.specs.Names.{Name}
+use Rattle.fb_types.specs.declared.run.Emission as run
+use Rattle.fb_st.specs.Frames.{values_of}
+use Rattle.fb_ecc.specs.Indexes.{index}
+use Rattle.fb_inspect.specs.Charting.{place}
+use Rattle.fb_inspect.specs.Moves.{shown_text}
+use Rattle.fb_inspect.specs.Notes.{ran_by_action}
+use Rattle.fb_inspect.proofs.Charted.{act_goes}
+use Rattle.fb_inspect.proofs.charts.perform.Goals as goal
+
+pub note_ran-requires : goal.note_ran-requires
+note_ran-requires g c = λ some.
+    let own : List Name = c.args.chart.now.own.items in
+    ap length (c.in_ok-keep_before.ensures some ∙ ap (λ (ns : List Name). map (values_of c.args.chart.now.state.frame) ns) c.as_slice-variables.ensures.value)
+    ∙ length-map own (values_of c.args.chart.now.state.frame)
+
+pub returns-clause-shown : goal.returns-clause-shown
+returns-clause-shown g c = λ a at.
+    let x = c.args.taking.now in
+    let t = x.block.now in
+    let left : ℕ = c.args.meter.now.left in
+    let own : List Name = c.args.chart.now.own.items in
+    let before = values_of c.args.chart.now.state.frame in
+    let after = values_of c.acted.new.state.frame in
+    let p : Position = place t c.args.chart.now left in
+    let q : Position = index t c.acted.new.state.state c.acted.new.state.frame c.acted.new.meter.left c.acted.new.emits in
+    let acts = subst (λ (es : List run.Emission). Acts t (a ∷ []) left (index t c.args.chart.now.state.state c.args.chart.now.state.frame left es) c.in_ok-end.end q) c.new-emits.ensures
+    (c.in_ok-end.ensures.acted a at) in
+    let noted = c.in_ok-note_ran.ensures before (λ some. c.in_ok-keep_before.ensures some ∙ ap (λ (ns : List Name). map before ns) c.as_slice-variables.ensures.value)
+    ∙ ap (λ (n : Option Name). c.args.trail.now.page.text.items ++ shown_text c.args.trail.now.is_shown (ran_by_action n left before after own)) (c.algorithm_of-algorithm.ensures a at)
+    ∙ ap (λ (ns : List Name). c.args.trail.now.page.text.items ++ shown_text c.args.trail.now.is_shown (ran_by_action a.algorithm left before after ns)) c.requires.chart.own in
+    act_goes x t a p q c.acted.new.emits _ c.args.trail.now _ _ _ _ c.requires.taking.kind refl refl acts refl refl noted c.in_ok-emit_all.ensures.goes

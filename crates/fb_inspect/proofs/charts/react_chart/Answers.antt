@@ -1,0 +1,32 @@
+use Rattle.std.proofs.Common.{List, Some, refl, ap, subst, ◌∙◌}
+use Rattle.fb_types.specs.Charts.{Position}
+use Rattle.fb_types.specs.Names.{Name}
+use Rattle.fb_types.specs.Numbers.{event_at}
+use Rattle.fb_types.specs.declared.value.Value.{Value}
+use Rattle.fb_st.specs.Frames.{values_of}
+use Rattle.fb_ecc.specs.Indexes.{sampled}
+use Rattle.fb_inspect.specs.Chains.{ShowsChain}
+use Rattle.fb_inspect.specs.Charting.{ChartGoes, place}
+use Rattle.fb_inspect.specs.declared.trail.Trail.{Trail}
+use Rattle.fb_inspect.proofs.Charted.{begun_at, reaction_goes}
+use Rattle.fb_inspect.proofs.charts.react_chart.Goals as goal
+
+pub returns-clause-shown : goal.returns-clause-shown
+returns-clause-shown g c =
+    let x = c.args.taking.now in
+    let t = x.block.now in
+    let was = c.args.chart.now.state in
+    let now = c.begin.new.state in
+    let left = c.args.meter.now.left in
+    let old = values_of was.frame in
+    let e : Name = event_at t.ports.event_inputs x.line.now.event in
+    let values_are = c.begin.ensures.sampled ∙ ap (λ (vs : List Value). sampled t x.line.now.event vs old) c.as_slice-values.ensures in
+    let at = begun_at t was.state now.state was.frame now.frame (sampled t x.line.now.event x.line.now.values old) left c.begin.ensures.state values_are in
+    let p : Position = record (place t c.args.chart.now left) { vars = sampled t x.line.now.event x.line.now.values old } in
+    let q : Position = place t c.follow.new.chart c.follow.new.meter.left in
+    let new : Trail = c.follow.new.trail in
+    let noted : Trail = record new { page = record (new.page) { text = c.note_stop.new.text } } in
+    let before = g.R.Read.remaining c.args.input.now in
+    let after = g.R.Read.remaining c.follow.new.input in
+    reaction_goes x e p q c.in_ok-end.end c.args.trail.now new noted before after refl refl c.in_ok-note_stop.ensures
+    (subst (λ (m : Position). ChartGoes x (ShowsChain t (Some e)) m c.in_ok-end.end q c.args.trail.now new before after) at c.in_ok-end.ensures.shown)

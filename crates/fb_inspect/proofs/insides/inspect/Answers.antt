@@ -1,0 +1,47 @@
+use Rattle.std.proofs.Common.{◌≡◌, Option, Some, subst}
+use Rattle.std.specs.Prelude.{IfSome, OnErr, OnOk}
+use Rattle.fb_types.specs.Headline.{Inputs, system_of}
+use Rattle.fb_wave.specs.Tables.{IsTable}
+use Rattle.fb_wave.specs.declared.table.PortTable.{PortTable}
+use Rattle.fb_inspect.specs.Inspections.{IsShown, ShowsFront}
+use Rattle.fb_inspect.proofs.Gone.{front_none}
+use Rattle.fb_inspect.proofs.Placed.{err_any}
+use Rattle.fb_inspect.proofs.insides.inspect.Goals as goal
+
+of_table : (o : Option PortTable) (t : PortTable) (s : Inputs) → o ≡ Some t → IfSome o (λ t. IsTable t × (t.system.now ≡ s)) → t.system.now ≡ s
+of_table o t s is are = (subst (λ (o : Option PortTable). IfSome o (λ t. IsTable t × (t.system.now ≡ s))) is are).1
+
+pub returns-then-not-have_paths-clause-fault : goal.returns-then-not-have_paths-clause-fault
+returns-then-not-have_paths-clause-fault g c =
+    front_none (system_of c.args.system.now) c.args.inspection.only.now c.args.inspection.steps (g.W.Write.contents c.args.out.now)
+
+pub returns-in_err-ports-clause-fault : goal.returns-in_err-ports-clause-fault
+returns-in_err-ports-clause-fault g c =
+    err_any c.from_residual.result _ (front_none (system_of c.args.system.now) c.args.inspection.only.now c.args.inspection.steps (g.W.Write.contents c.args.out.now))
+
+pub returns-in_err-texts-clause-fault : goal.returns-in_err-texts-clause-fault
+returns-in_err-texts-clause-fault g c =
+    err_any c.from_residual-in_err-texts.result _ (front_none (system_of c.args.system.now) c.args.inspection.only.now c.args.inspection.steps (g.W.Write.contents c.args.out.now))
+
+pub returns-in_err-table-clause-fault : goal.returns-in_err-table-clause-fault
+returns-in_err-table-clause-fault g c =
+    err_any c.from_residual-in_err-table.result _ (front_none (system_of c.args.system.now) c.args.inspection.only.now c.args.inspection.steps (g.W.Write.contents c.args.out.now))
+
+pub returns-in_default-clause-fault : goal.returns-in_default-clause-fault
+returns-in_default-clause-fault g c = front_none (system_of c.args.system.now) c.args.inspection.only.now c.args.inspection.steps (g.W.Write.contents c.args.out.now)
+
+pub returns-clause-whole : goal.returns-clause-whole
+returns-clause-whole g c =
+    let x = c.args.inspection in
+    let old = g.W.Write.contents c.args.out.now in
+    let new = g.W.Write.contents c.inspect_with.new.out in
+    subst (λ (s : Inputs). OnOk c.inspect_with.result (IfSome (g.R.Read.remaining c.args.input.now) (λ text. IsShown (system_of s) x.only.now x.steps text old new)))
+    (of_table _ c.in-Some.table c.args.system.now c.in-Some.is c.in_ok-table.ensures.table) c.inspect_with.ensures.whole
+
+pub returns-clause-fault : goal.returns-clause-fault
+returns-clause-fault g c =
+    let x = c.args.inspection in
+    let old = g.W.Write.contents c.args.out.now in
+    let new = g.W.Write.contents c.inspect_with.new.out in
+    subst (λ (s : Inputs). OnErr c.inspect_with.result (ShowsFront (system_of s) x.only.now x.steps old new))
+    (of_table _ c.in-Some.table c.args.system.now c.in-Some.is c.in_ok-table.ensures.table) c.inspect_with.ensures.fault

@@ -1,0 +1,13 @@
+use Rattle.std.proofs.Common.{◌≡◌, ◌<◌, ℕ, length}
+use Rattle.fb_types.specs.Headline.{system_of}
+use Rattle.fb_types.specs.Numbers.{path_at}
+use Rattle.fb_inspect.specs.Inspections.{is_kept}
+use Rattle.fb_inspect.specs.Walking.{flag_at}
+use Rattle.fb_inspect.proofs.insides.shown_of.Given as goal
+
+-- for the first instances
+abbrev pub invariant-loop-index : goal.invariant-loop-index
+invariant-loop-index l = record {
+  counted : length l.shown.items ≡ l.index;
+  shown : (k : ℕ) → k < l.index → flag_at l.shown.items k ≡ is_kept l.only (path_at (system_of l.system) k);
+}

@@ -1,0 +1,36 @@
+use Rattle.std.proofs.Common.{◌<◌, ℕ, refl, sym, subst}
+use Rattle.fb_types.specs.Headline.{system_of}
+use Rattle.fb_types.specs.Numbers.{path_at}
+use Rattle.fb_inspect.proofs.Placed.{item_is, ok_then}
+use Rattle.fb_inspect.proofs.walk.Walk.react.Goals as goal
+
+pub react_kept-requires-clause-can : goal.react_kept-requires-clause-can
+react_kept-requires-clause-can g c =
+    let sys = system_of c.args.fixed.now.table.now.system.now in
+    let l = c.args.line.now in
+    let are = c.requires.blocks.1 in
+    let within = subst (λ (n : ℕ). l.instance < n) (sym are.all) c.requires.is.line.belongs.instance in
+    record {
+      is = c.requires.is;
+      early = c.requires.early;
+      seen = c.requires.blocks.0.blocks (path_at sys l.instance);
+      kept = are.each l.instance c.in-Some-get_mut.block.now (item_is c.args.self.now.blocks.items l.instance c.in-Some-get_mut.block.now within c.in-Some-get_mut.ensures.value);
+    }
+
+pub returns-clause-goes : goal.returns-clause-goes
+returns-clause-goes g c = λ look are.
+    let l = c.args.line.now in
+    let within = subst (λ (n : ℕ). l.instance < n) (sym are.all) c.requires.is.line.belongs.instance in
+    let at = item_is c.args.self.now.blocks.items l.instance c.in-Some-get_mut.block.now within c.in-Some-get_mut.ensures.value in
+    let resource = subst (λ (n : ℕ). l.key.resource < n) (sym c.requires.steps) c.requires.is.line.belongs.resource in
+    ok_then c.react_kept.result _ _ (c.react_kept.ensures.goes look (are.each l.instance c.in-Some-get_mut.block.now at))
+    (λ stop goes. record {
+      own = c.in-Some.steps.now;
+      stood = item_is c.args.self.now.steps.items l.key.resource c.in-Some.steps.now resource c.in-Some.ensures.value;
+      block = c.react_kept.new.block;
+      left = c.react_kept.new.meter.left;
+      goes = goes;
+      blocks_are = refl;
+      steps_are = refl;
+      shown_are = refl;
+    })

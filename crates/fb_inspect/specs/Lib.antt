@@ -1,0 +1,11 @@
+pub mod Lines
+pub mod Pages
+pub mod Notes
+pub mod Chains
+pub mod Looks
+pub mod Inspections
+pub mod Counted
+pub mod Moves
+pub mod Charting
+pub mod Timing
+pub mod Walking

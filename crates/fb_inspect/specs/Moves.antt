@@ -1,0 +1,50 @@
+-- How a trace is gone through, line by line: lines are read, and text is added for them (this project's own).
+use Rattle.std.specs.Prelude.{◌≡◌, ℕ, List, [], ◌∷◌, ◌++◌, map, All, Bool, false, if◌then◌else◌, Option}
+use Rattle.std.specs.Io.KnownBytes.{Consumes}
+use Rattle.fb_types.specs.Numbers.{line_of}
+use Rattle.fb_types.specs.Systems.{System}
+use Rattle.fb_types.specs.Text.{lines_text}
+use Rattle.fb_types.specs.declared.run.Emission.{Emission}
+use Rattle.fb_types.specs.declared.run.Form.{Form}
+use Rattle.fb_types.specs.declared.run.Line.{Line}
+use Rattle.fb_wave.specs.Lines.{IsLineOf}
+use Rattle.fb_inspect.specs.declared.trail.Trail.{Trail}
+
+-- a line of the system, of a tick
+pub record IsLineAt (sys : System) (tick : ℕ) (l : Line) : Type 0 where
+  pub line : IsLineOf sys l
+  pub tick_is : l.key.tick ≡ tick
+
+-- These lines, all of one tick, were read, and this text was added for them.
+pub record Goes (sys : System) (form : Form) (tick : ℕ) (ls : List Line) (bytes : List ℕ) (old new : Trail) (left after : Option (List ℕ)) : Type 0 where
+  pub each : All (IsLineAt sys tick) ls
+  pub kept : new.is_shown ≡ old.is_shown
+  pub taken : List ℕ
+  pub took : Consumes left after taken
+  pub read : old.reading.line.items ++ taken ≡ lines_text form sys (map (line_of sys) ls) ++ new.reading.line.items
+  pub text : new.page.text.items ≡ old.page.text.items ++ bytes
+
+-- what is written of a text of an instance that is shown, or not
+abbrev pub shown_text : Bool → List ℕ → List ℕ
+shown_text is_shown text = if is_shown then text else []
+
+-- The line is that of an emission of the block of another line.
+pub record IsEmission (l line : Line) (e : Emission) : Type 0 where
+  pub taken : l.taken ≡ false
+  pub instance : l.instance ≡ line.instance
+  pub event : l.event ≡ e.event
+  pub key : l.key ≡ line.key
+  pub values : l.values ≡ e.values
+
+-- the lines are those of these emissions, one by one
+abbrev pub AreEmissions : List Line → Line → List Emission → Type 0
+AreEmissions [] line [] = Unit {0}
+AreEmissions [] line (e ∷ es) = ⊥
+AreEmissions (l ∷ ls) line [] = ⊥
+AreEmissions (l ∷ ls) line (e ∷ es) = IsEmission l line e × AreEmissions ls line es
+
+-- All these emissions of the block of a line are in the lines that were read.
+pub record EmitsGo (sys : System) (form : Form) (line : Line) (es : List Emission) (old new : Trail) (left after : Option (List ℕ)) : Type 0 where
+  pub lines : List Line
+  pub are : AreEmissions lines line es
+  pub goes : Goes sys form line.key.tick lines (shown_text old.is_shown (lines_text form sys (map (line_of sys) lines))) old new left after

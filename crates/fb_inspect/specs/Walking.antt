@@ -1,0 +1,200 @@
+-- What the program keeps of the blocks of a system, and one taking of a walk through a trace (this project's own).
+use Rattle.std.specs.Prelude.{◌≡◌, ◌<◌, ◌≤◌, ◌^◌, ℕ, suc, List, [], ◌∷◌, ◌++◌, map, length, slice_get, slice_set, unwrap_or, Bool, false, Option, Some, None}
+use Rattle.std.specs.Io.KnownBytes.{Appends, Consumes, IsAtEnd}
+use Rattle.fb_types.specs.Names.{Name, Path, same_path}
+use Rattle.fb_types.specs.Blocks.{Kind, Basic, Event, Composite}
+use Rattle.fb_types.specs.Numbers.{line_of, path_at}
+use Rattle.fb_types.specs.States.{InState}
+use Rattle.fb_types.specs.Systems.{System}
+use Rattle.fb_types.specs.Text.{lines_text}
+use Rattle.fb_types.specs.declared.key.Key.{Key}
+use Rattle.fb_types.specs.declared.library.BasicType.{BasicType}
+use Rattle.fb_types.specs.declared.run.Form.{Form}
+use Rattle.fb_types.specs.declared.run.Line.{Line}
+use Rattle.fb_types.specs.declared.value.Reason.{Reason}
+use Rattle.fb_st.specs.Frames.{values_of}
+use Rattle.fb_ecc.specs.Indexes.{state_at}
+use Rattle.fb_ecc.specs.Sound.{IsSound}
+use Rattle.fb_wave.specs.Dumps.{last_tick}
+use Rattle.fb_wave.specs.Lines.{IsTextOf}
+use Rattle.fb_wave.specs.Waves.{AreLinesOf}
+use Rattle.fb_inspect.specs.Charting.{IsChartOf}
+use Rattle.fb_inspect.specs.Counted.{left_of}
+use Rattle.fb_inspect.specs.Inspections.{AreTurns, all_lines, all_text, is_kept, last_look}
+use Rattle.fb_inspect.specs.Lines.{IsNext}
+use Rattle.fb_inspect.specs.Looks.{Look, Seen, Turn, Turns, TurnsAt, left_at, opening_look, turn_lines, turn_text, with_left}
+use Rattle.fb_inspect.specs.Moves.{Goes, shown_text}
+use Rattle.fb_inspect.specs.Timing.{IsBlockKept}
+use Rattle.fb_inspect.specs.declared.blocks.Chart.{Chart}
+use Rattle.fb_inspect.specs.declared.blocks.Remembered.{Remembered}
+use Rattle.fb_inspect.specs.declared.blocks.Remembered.TheVariants as kept
+use Rattle.fb_inspect.specs.declared.reading.Reading.{Reading}
+use Rattle.fb_inspect.specs.declared.steps.TickSteps.{TickSteps}
+use Rattle.fb_inspect.specs.declared.trail.Trail.{Trail}
+use Rattle.fb_inspect.specs.declared.walk.Walk.{Walk}
+
+-- whether an instance is shown
+abbrev pub flag_at : List Bool → ℕ → Bool
+flag_at flags k = unwrap_or (slice_get flags k) false
+
+-- ---- One block
+
+pub record IsChartKept (t : BasicType) (c : Chart) (s : Seen) : Type 0 where
+  pub sound : IsSound t
+  pub chart : IsChartOf t c
+  pub memory_is : s.memory ≡ InState (state_at t c.state.state)
+  pub variables_are : (n : Name) → s.variables n ≡ values_of c.state.frame n
+
+abbrev pub IsKept : Option Kind → Remembered → Seen → Type 0
+IsKept (Some (Basic t)) (kept.Basic c) s = IsChartKept t c s
+IsKept (Some (Event k)) (kept.Event b) s = IsBlockKept k b s
+IsKept (Some (Composite t)) kept.Composite s = Unit {0}
+IsKept _ _ s = ⊥
+
+-- ---- Before the first event
+
+-- What is kept says what an instance remembers before the first event.
+abbrev pub OpensAs : System → (instance : ℕ) → Remembered → Type 0
+OpensAs sys k b = let p = path_at sys k in IsKept (sys.kind p) b ((opening_look sys).blocks p)
+
+-- .. of the first instances, this many
+pub record OpenAll (sys : System) (n : ℕ) (blocks : List Remembered) : Type 0 where
+  pub all : length blocks ≡ n
+  pub each : (k : ℕ) (b : Remembered) → slice_get blocks k ≡ Some b → OpensAs sys k b
+
+-- ---- All of them
+
+-- What is kept of the blocks says what the look says.
+pub record AreKept (sys : System) (blocks : List Remembered) (look : Look) : Type 0 where
+  pub all : length blocks ≡ length sys.paths
+  pub each : (k : ℕ) (b : Remembered) → slice_get blocks k ≡ Some b → IsKept (sys.kind (path_at sys k)) b (look.blocks (path_at sys k))
+
+-- .. and of the steps
+pub record IsLookOf (sys : System) (blocks : List Remembered) (steps : List TickSteps) (look : Look) : Type 0 where
+  pub are : AreKept sys blocks look
+  pub counts : length steps ≡ length sys.resource_names
+  pub lefts : (r : ℕ) (s : TickSteps) → slice_get steps r ≡ Some s → look.steps r ≡ left_of s
+
+-- ---- One taking
+
+-- What an instance remembers has reacted to a line, and this is kept of it then.
+pub record KeptGoes (sys : System) (form : Form) (look : Look) (left : ℕ) (line : Line) (stop : Option Reason) (b : Remembered) (steps : ℕ) (old new : Trail) (remaining rest : Option (List ℕ)) : Type 0 where
+  pub turn : Turn
+  pub first_is : turn.first ≡ line_of sys line
+  pub stop_is : turn.stop ≡ stop
+  pub turns : TurnsAt left look (sys.kind (path_at sys line.instance)) turn
+  pub kept : IsKept (sys.kind (path_at sys line.instance)) b (turn.after.blocks (path_at sys line.instance))
+  pub others : (q : Path) → same_path q (path_at sys line.instance) ≡ false → turn.after.blocks q ≡ look.blocks q
+  pub steps_are : turn.after.steps ≡ (with_left line.key steps look).steps
+  pub lines : List Line
+  pub lines_are : map (line_of sys) lines ≡ turn_lines turn
+  pub goes : Goes sys form line.key.tick lines (shown_text old.is_shown (turn_text form sys turn)) old new remaining rest
+
+-- An instance can react to a line.
+pub record CanReact (sys : System) (form : Form) (b : Remembered) (line : Line) (text : List ℕ) : Type 0 where
+  pub is : IsTextOf sys form line text
+  pub early : line.key.tick ≤ 10 ^ 12
+  pub seen : Seen
+  pub kept : IsKept (sys.kind (path_at sys line.instance)) b seen
+
+-- the steps of a resource with another number of them left
+abbrev pub with_steps : TickSteps → ℕ → TickSteps
+with_steps s left = record s { meter = record { left = left } }
+
+-- A step was used of a resource.
+pub record HasStepped (limit : ℕ) (key : Key) (old new : List TickSteps) : Type 0 where
+  pub before : TickSteps
+  pub stood : slice_get old key.resource ≡ Some before
+  pub after : TickSteps
+  pub used : left_at limit key.tick (left_of before) ≡ suc after.meter.left
+  pub tick_is : after.tick ≡ Some key.tick
+  pub steps_are : new ≡ slice_set old key.resource after
+
+-- The instance of a line has reacted to it, and no other one.
+pub record ReactGoes (sys : System) (form : Form) (look : Look) (line : Line) (stop : Option Reason) (old new : Walk) (remaining rest : Option (List ℕ)) : Type 0 where
+  pub own : TickSteps
+  pub stood : slice_get old.steps.items line.key.resource ≡ Some own
+  pub block : Remembered
+  pub left : ℕ
+  pub goes : KeptGoes sys form look own.meter.left line stop block left old.trail new.trail remaining rest
+  pub blocks_are : new.blocks.items ≡ slice_set old.blocks.items line.instance block
+  pub steps_are : new.steps.items ≡ slice_set old.steps.items line.key.resource (with_steps own left)
+  pub shown_are : new.shown ≡ old.shown
+
+-- The taking of the event of a line was gone through: its lines were read, and what is shown of it was added.
+pub record TurnGoes (sys : System) (form : Form) (limit : ℕ) (look : Look) (line : Line) (stop : Option Reason) (old new : Walk) (remaining rest : Option (List ℕ)) : Type 0 where
+  pub turn : Turn
+  pub first_is : turn.first ≡ line_of sys line
+  pub stop_is : turn.stop ≡ stop
+  pub turns : Turns sys limit look turn
+  pub look_after : IsLookOf sys new.blocks.items new.steps.items turn.after
+  pub shown_are : new.shown ≡ old.shown
+  pub lines : List Line
+  pub lines_are : map (line_of sys) lines ≡ turn_lines turn
+  pub goes :
+      let is_shown = flag_at old.shown.items line.instance in
+      Goes sys form line.key.tick lines (shown_text is_shown (turn_text form sys turn)) (record old.trail { is_shown = is_shown }) new.trail remaining rest
+
+-- ---- All takings so far
+
+-- no taking stopped its resource
+abbrev pub NoneStops : List Turn → Type 0
+NoneStops [] = Unit {0}
+NoneStops (x ∷ xs) = (x.stop ≡ None) × NoneStops xs
+
+-- what is shown of a system: the lines of these instances
+abbrev pub ShowsOf : System → (only : List Name) → (shown : List Bool) → Type 0
+ShowsOf sys only shown = (k : ℕ) → k < length sys.paths → flag_at shown k ≡ is_kept only (path_at sys k)
+
+-- These takings were gone through, and the next line was read. A part of what is shown was sent, and a part waits.
+pub record IsGone (sys : System) (form : Form) (only : List Name) (limit : ℕ) (walk : Walk) (turns : List Turn) (input remaining old new : Option (List ℕ)) : Type 0 where
+  pub chain : AreTurns sys limit (opening_look sys) turns
+  pub look : IsLookOf sys walk.blocks.items walk.steps.items (last_look (opening_look sys) turns)
+  pub shown : ShowsOf sys only walk.shown.items
+  pub lines : List Line
+  pub lines_are : map (line_of sys) lines ≡ all_lines turns
+  pub are : AreLinesOf sys lines
+  pub read : Consumes input remaining (lines_text form sys (map (line_of sys) lines) ++ walk.trail.reading.line.items)
+  pub sent : List ℕ
+  pub got : Appends old new sent
+  pub text : sent ++ walk.trail.page.text.items ≡ all_text form sys only turns
+
+-- .. and none of them stopped its resource
+pub record HasGone (sys : System) (form : Form) (only : List Name) (limit : ℕ) (walk : Walk) (input remaining old new : Option (List ℕ)) : Type 0 where
+  pub turns : List Turn
+  pub goes_on : NoneStops turns
+  pub gone : IsGone sys form only limit walk turns input remaining old new
+  pub next : IsNext sys form (last_tick 0 gone.lines) walk.trail.reading.line.items walk.trail.reading.next
+
+-- nothing was taken in any of the resources
+pub record AreUnused (n : ℕ) (steps : List TickSteps) : Type 0 where
+  pub all : length steps ≡ n
+  pub each : (r : ℕ) (s : TickSteps) → slice_get steps r ≡ Some s → left_of s ≡ record { tick = None; left = 0 }
+
+-- A walk that was begun with a line that was read.
+pub record Begins (sys : System) (only : List Name) (reading : Reading) (walk : Walk) : Type 0 where
+  pub blocks : AreKept sys walk.blocks.items (opening_look sys)
+  pub steps : AreUnused (length sys.resource_names) walk.steps.items
+  pub shown : ShowsOf sys only walk.shown.items
+  pub empty : walk.trail.page.text.items ≡ []
+  pub reading_is : walk.trail.reading ≡ reading
+
+-- .. and the line is one with which a trace can begin.
+pub record Starts (sys : System) (form : Form) (only : List Name) (walk : Walk) : Type 0 where
+  pub blocks : AreKept sys walk.blocks.items (opening_look sys)
+  pub steps : AreUnused (length sys.resource_names) walk.steps.items
+  pub shown : ShowsOf sys only walk.shown.items
+  pub empty : walk.trail.page.text.items ≡ []
+  pub next : IsNext sys form 0 walk.trail.reading.line.items walk.trail.reading.next
+
+-- The last line was passed, nothing is left, and all that waited was sent.
+pub record Finishes (walk : Walk) (remaining old new : Option (List ℕ)) : Type 0 where
+  pub over : IsAtEnd remaining
+  pub got : Appends old new (walk.trail.page.text.items ++ walk.trail.reading.line.items)
+
+-- A part of what waited and of the last line was sent, or nothing.
+pub record SendsPart (walk : Walk) (old new : Option (List ℕ)) : Type 0 where
+  pub got : List ℕ
+  pub rest : List ℕ
+  pub parts : walk.trail.page.text.items ++ walk.trail.reading.line.items ≡ got ++ rest
+  pub appended : Appends old new got

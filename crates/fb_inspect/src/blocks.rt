@@ -1,0 +1,221 @@
+//! What the blocks of a system remember.
+
+ghost use Rattle.std.specs.Prelude.{◌≡◌, ◌≢◌, ◌<◌, ◌++◌, IfNone, IfOk, IfSome, OnOk, Some, length, map};
+ghost use Rattle.fb_types.specs.Blocks.{Basic, Event, variable_names};
+ghost use Rattle.fb_types.specs.Headline.{system_of};
+ghost use Rattle.fb_types.specs.Numbers.{path_at};
+ghost use Rattle.fb_types.specs.Simulation.{opening_block};
+ghost use Rattle.fb_types.specs.declared.library.BasicType.{BasicType};
+ghost use Rattle.fb_st.specs.Frames.{values_of};
+ghost use Rattle.fb_net.specs.Blocks as net;
+ghost use Rattle.fb_net.specs.Opening.{AreCharts};
+ghost use Rattle.fb_net.specs.Worlds.{Represents};
+ghost use Rattle.fb_net.specs.declared.block.Block.TheVariants as block;
+ghost use Rattle.fb_inspect.specs.Looks as spec;
+ghost use Rattle.fb_inspect.specs.Notes.{own_variables};
+ghost use Rattle.fb_inspect.specs.Walking.{OpenAll, OpensAs};
+ghost use Rattle.fb_inspect.specs.declared.blocks.Remembered.TheVariants as kept;
+
+use fb_check_names::TypeNumber;
+use fb_ecc::BasicState;
+use fb_event::EventState;
+use fb_laws::accepted_are_typed;
+use fb_net::{Block, Charts, block_of};
+use fb_st::Frame;
+use fb_system::System;
+use fb_types::{BasicType, BlockType, EventKind, Items, Reference, Value, Variable};
+use std::alloc::{AllocError, Global};
+use std::collections::BTreeMap;
+
+/// A basic block.
+pub(crate) struct Chart {
+    pub(crate) state: BasicState,
+    /// Its output and internal variables.
+    pub(crate) own: Vec<Reference>,
+    /// The values of these before the last algorithm.
+    pub(crate) before: Vec<Value>,
+}
+
+impl Drop for Chart {
+    fn drop(self) {
+        let Chart {
+            state: _,
+            own: _,
+            before: _,
+        } = self;
+    }
+}
+
+/// Puts the values of variables in the place of others.
+pub(crate) fn keep_values(
+    before: &mut Vec<Value>,
+    variables: &[Reference],
+    frame: &Frame,
+) -> Result<(), AllocError>
+    ensures { OnOk result (before.new.items ≡ map (values_of frame.now) variables.now) }
+{
+    before.clear();
+    for variable in variables {
+        before.push(frame.value(variable))?;
+    }
+    Ok(())
+}
+
+/// An event block, with its inputs as they were sampled last, and the tick at which its timer goes off.
+pub(crate) struct EventBlock {
+    pub(crate) state: EventState,
+    pub(crate) inputs: Items<Value>,
+    pub(crate) due: Option<u64>,
+}
+
+impl Drop for EventBlock {
+    fn drop(self) {
+        let EventBlock {
+            state: _,
+            inputs: _,
+            due: _,
+        } = self;
+    }
+}
+
+/// What an instance remembers.
+pub(crate) enum Remembered {
+    Basic(Chart),
+    Event(EventBlock),
+    Composite,
+}
+
+impl Drop for Remembered {
+    fn drop(self) {
+        match self {
+            Remembered::Basic(_) | Remembered::Event(_) | Remembered::Composite => {}
+        }
+    }
+}
+
+/// Adds variables after others, each at its index in the frame.
+fn add_own(
+    alloc: Global,
+    own: &mut Vec<Reference>,
+    first: usize,
+    variables: &[Variable],
+) -> Result<(), AllocError>
+    ensures { OnOk result (own.new.items ≡ own.old.items ++ variable_names variables.now) }
+{
+    for (index, variable) in variables.iter().enumerate() {
+        let reference = Reference::new(variable.name.try_clone(alloc)?);
+        reference.expect_at(first.saturating_add(index));
+        own.push(reference)?;
+    }
+    Ok(())
+}
+
+/// The output and internal variables of a type.
+fn own_of(alloc: Global, block: &BasicType) -> Result<Vec<Reference>, AllocError>
+    ensures { IfOk result (λ own. own.items ≡ own_variables block.now) }
+{
+    let mut own = Vec::new(alloc);
+    let outputs = block.ports.outputs.as_slice();
+    let first = block.ports.inputs.len();
+    add_own(alloc, &mut own, first, outputs)?;
+    let first = first.saturating_add(outputs.len());
+    add_own(alloc, &mut own, first, block.internals.as_slice())?;
+    Ok(own)
+}
+
+/// The basic type of an instance, if it has one.
+pub(crate) fn basic_type(system: &System, instance: u32) -> Option<&BasicType>
+    requires { instance < length (system_of system.now).paths }
+    ensures basic { IfSome result (λ t. (system_of system.now).kind (path_at (system_of system.now) instance) ≡ Some (Basic t.now)) }
+    ensures other { IfNone result ((t : BasicType) → (system_of system.now).kind (path_at (system_of system.now) instance) ≢ Some (Basic t)) }
+{
+    match system.kind(instance) {
+        TypeNumber::Event(_) => None,
+        TypeNumber::Declared(index) => match system.library().blocks.get(index) {
+            Some(BlockType::Basic(block)) => Some(block),
+            _ => None,
+        },
+    }
+}
+
+/// The tick at which the timer of an event block goes off, before the first event.
+fn first_due(kind: EventKind) -> Option<u64>
+    ensures { result ≡ spec.first_due (Some (Event kind)) }
+{
+    match kind {
+        EventKind::Restart => Some(0),
+        _ => None,
+    }
+}
+
+/// A basic block before the first event.
+fn opened_chart(
+    alloc: Global,
+    system: &System,
+    instance: u32,
+    state: BasicState,
+) -> Result<Chart, AllocError>
+    requires instance { instance < length (system_of system.now).paths }
+    requires stands { let p = path_at (system_of system.now) instance in Represents (system_of system.now) p (net.own_of (block.Basic state)) (opening_block (system_of system.now) p) }
+    ensures { IfOk result (λ chart. OpensAs (system_of system.now) instance (kept.Basic chart)) }
+{
+    let Some(block) = basic_type(system, instance) else {
+        unreachable!()
+    };
+    let own = own_of(alloc, block)?;
+    Ok(Chart {
+        state,
+        own,
+        before: Vec::new(alloc),
+    })
+}
+
+/// An event block before the first event.
+fn opened_block(
+    alloc: Global,
+    system: &System,
+    instance: u32,
+    state: EventState,
+) -> Result<EventBlock, AllocError>
+    requires instance { instance < length (system_of system.now).paths }
+    requires stands { let p = path_at (system_of system.now) instance in Represents (system_of system.now) p (net.own_of (block.Event state)) (opening_block (system_of system.now) p) }
+    ensures { IfOk result (λ b. OpensAs (system_of system.now) instance (kept.Event b)) }
+{
+    system.facts();
+    accepted_are_typed();
+    let inputs = system.initial_inputs(alloc, instance)?;
+    let due = first_due(state.kind());
+    Ok(EventBlock { state, inputs, due })
+}
+
+/// What an instance remembers before the first event.
+fn opened(
+    alloc: Global,
+    system: &System,
+    instance: u32,
+    charts: &mut Charts,
+) -> Result<Remembered, AllocError>
+    requires instance { instance < length (system_of system.now).paths }
+    requires charts { AreCharts system.now charts.old }
+    ensures opens { IfOk result (OpensAs (system_of system.now) instance) }
+    ensures charts { OnOk result (AreCharts system.now charts.new) }
+{
+    match block_of(alloc, system, instance, Items::new(alloc), charts)? {
+        Block::Basic(state) => Ok(Remembered::Basic(opened_chart(alloc, system, instance, state)?)),
+        Block::Event(state) => Ok(Remembered::Event(opened_block(alloc, system, instance, state)?)),
+        Block::Composite(_) => Ok(Remembered::Composite),
+    }
+}
+
+/// What all instances remember before the first event, each at its number.
+pub(crate) fn opened_all(alloc: Global, system: &System) -> Result<Vec<Remembered>, AllocError>
+    ensures { IfOk result (λ all. OpenAll (system_of system.now) (length (system_of system.now).paths) all.items) }
+{
+    let mut all = Vec::new(alloc);
+    let mut charts = BTreeMap::new(alloc);
+    system.facts();
+    for index in 0..system.count() {
+        all.push(opened(alloc, system, index as u32, &mut charts)?)?;
+    }
+    Ok(all)
+}

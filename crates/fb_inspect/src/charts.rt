@@ -1,0 +1,353 @@
+//! The reactions of basic blocks, step by step.
+
+ghost use Rattle.std.specs.Prelude.{◌≡◌, ◌<◌, ◌≤◌, ◌∷◌, ◌++◌, [], IfOk, IfSome, IsSome, OnOk, Some, length, map, option_map, slice_get};
+ghost use Rattle.fb_types.specs.Charts.{Acts, actions_of};
+ghost use Rattle.fb_types.specs.Numbers.{event_at};
+ghost use Rattle.fb_types.specs.Values.{Values};
+ghost use Rattle.fb_types.specs.declared.library.Action.{Action};
+ghost use Rattle.fb_st.specs.Frames.{values_of};
+ghost use Rattle.fb_ecc.specs.Indexes.{IsBlockOf, IsStateOf, index, sampled, state_at};
+ghost use Rattle.fb_ecc.specs.Sound.{IsSound};
+ghost use Rattle.fb_ecc.specs.Trials.{transition_at};
+ghost use Rattle.fb_inspect.specs.Chains.{Acting, ShowsChain, ShowsReaction};
+ghost use Rattle.fb_inspect.specs.Charting.{ChartGoes, HasLinked, IsChartOf, IsChartTaking, place, sys_of};
+ghost use Rattle.fb_inspect.specs.Lines.{IsNext};
+ghost use Rattle.fb_inspect.specs.Moves.{shown_text};
+ghost use Rattle.fb_inspect.specs.Notes.{cleared_note, lost_if, ran_by_action, ran_text, stop_note};
+ghost use Rattle.fb_inspect.specs.declared.charts.Linked.TheVariants.{Went};
+
+use crate::blocks::{Chart, keep_values};
+use crate::error::InspectError;
+use crate::notes::{put_cleared, put_lost, put_ran, put_stopped};
+use crate::trail::{Fixed, Trail};
+use fb_ecc::{BasicState, act, action_count, begin, clear};
+use fb_st::{Frame, Meter};
+use fb_types::{BasicType, Emits, Halt, Line, Name, Reason, Reference, Value};
+use std::alloc::{AllocError, Global};
+use std::io::BufRead;
+
+/// Taking an event by a basic block of a type, in a line of a trace.
+#[derive(Clone, Copy)]
+pub(crate) struct ChartTaking<'a, 'f, 's> {
+    pub(crate) fixed: Fixed<'f, 's>,
+    pub(crate) block: &'a BasicType,
+    pub(crate) line: &'a Line,
+}
+
+/// The algorithm of an action of the state in which a chart is.
+fn algorithm_of(block: &BasicType, state: usize, action: usize) -> Option<&Name>
+    requires sound { IsSound block.now }
+    requires state { IsStateOf block.now state }
+    ensures { (a : Action) → slice_get (actions_of block.now (state_at block.now state)) action ≡ Some a → option_map (λ n. n.now) result ≡ a.algorithm }
+{
+    let state = block.states.get(state)?;
+    let action = state.actions.get(action)?;
+    action.algorithm.as_ref()
+}
+
+/// Keeps the values of the variables before an action, if it has an algorithm.
+fn keep_before(
+    before: &mut Vec<Value>,
+    variables: &[Reference],
+    frame: &Frame,
+    algorithm: Option<&Name>,
+) -> Result<(), AllocError>
+    ensures { OnOk result (IsSome algorithm.entry → before.new.items ≡ map (values_of frame.now) variables.now) }
+{
+    match algorithm {
+        Some(_) => keep_values(before, variables, frame),
+        None => Ok(()),
+    }
+}
+
+/// Notes what an algorithm changed.
+fn note_algorithm(
+    alloc: Global,
+    text: &mut Vec<u8>,
+    is_shown: bool,
+    chart: &Chart,
+    algorithm: &Name,
+) -> Result<(), AllocError>
+    requires { length chart.now.before.items ≡ length chart.now.own.items }
+    ensures { (values : Values) → chart.now.before.items ≡ map values chart.now.own.items
+        → OnOk result (text.new.items ≡ text.old.items ++ shown_text is_shown (ran_text algorithm.now values (values_of chart.now.state.frame) chart.now.own.items)) }
+{
+    if !is_shown {
+        return Ok(());
+    }
+    let variables = chart.own.as_slice();
+    let before = chart.before.as_slice();
+    put_ran(
+        alloc,
+        text,
+        algorithm,
+        variables,
+        before,
+        &chart.state.frame,
+    )
+}
+
+/// Notes what the algorithm of an action changed, if the action has one and was begun.
+fn note_ran(
+    alloc: Global,
+    text: &mut Vec<u8>,
+    is_shown: bool,
+    chart: &Chart,
+    algorithm: Option<&Name>,
+    left: u64,
+) -> Result<(), AllocError>
+    requires { IsSome algorithm → length chart.now.before.items ≡ length chart.now.own.items }
+    ensures { (values : Values) → (IsSome algorithm.entry → chart.now.before.items ≡ map values chart.now.own.items)
+        → OnOk result (text.new.items ≡ text.old.items ++ shown_text is_shown (ran_by_action (option_map (λ n. n.now) algorithm.entry) left values (values_of chart.now.state.frame) chart.now.own.items)) }
+{
+    match algorithm {
+        Some(algorithm) if left > 0 => note_algorithm(alloc, text, is_shown, chart, algorithm),
+        _ => Ok(()),
+    }
+}
+
+/// Performs an action. Answers the reason that ends the reaction, if one does.
+fn acted(
+    block: &BasicType,
+    state: &mut BasicState,
+    meter: &mut Meter,
+    action: usize,
+    emits: &mut Emits,
+) -> Result<Option<Reason>, InspectError>
+    requires sound { IsSound block.now }
+    requires block { IsBlockOf block.now state.old }
+    requires within { action < length (actions_of block.now (state_at block.now state.old.state)) }
+    ensures acted { (a : Action) → slice_get (actions_of block.now (state_at block.now state.old.state)) action ≡ Some a →
+        IfOk result (λ stop. Acts block.now (a ∷ []) meter.old.left (index block.now state.old.state state.old.frame meter.old.left emits.old) stop (index block.now state.new.state state.new.frame meter.new.left emits.new)) }
+    ensures block { IsBlockOf block.now state.new }
+    ensures state { state.new.state ≡ state.old.state }
+    ensures fewer { meter.new.left ≤ meter.old.left }
+{
+    match act(state, block, action, meter, emits) {
+        Ok(()) => Ok(None),
+        Err(Halt::Stop(reason)) => Ok(Some(reason)),
+        Err(Halt::Memory) => Err(InspectError::Memory),
+    }
+}
+
+/// Performs an action of the state in which the chart is, and takes the line of what it emits. Answers the reason that
+/// ends the reaction, if one does.
+fn perform<R: BufRead>(
+    taking: &ChartTaking<'_, '_, '_>,
+    trail: &mut Trail,
+    chart: &mut Chart,
+    meter: &mut Meter,
+    action: usize,
+    input: &mut R,
+) -> Result<Option<Reason>, InspectError>
+    requires taking { IsChartTaking taking.now }
+    requires chart { IsChartOf taking.now.block.now chart.old }
+    requires within { action < length (actions_of taking.now.block.now (state_at taking.now.block.now chart.old.state.state)) }
+    requires next { IsNext (sys_of taking.now) taking.now.fixed.form taking.now.line.now.key.tick trail.old.reading.line.items trail.old.reading.next }
+    ensures shown { (a : Action) → slice_get (actions_of taking.now.block.now (state_at taking.now.block.now chart.old.state.state)) action ≡ Some a →
+        IfOk result (λ stop. let t = taking.now.block.now in
+        ChartGoes taking.now (Acting t (a ∷ [])) (place t chart.old meter.old.left) stop (place t chart.new meter.new.left) trail.old trail.new (R.remaining input.old) (R.remaining input.new)) }
+    ensures chart { OnOk result (IsChartOf taking.now.block.now chart.new) }
+    ensures state { chart.new.state.state ≡ chart.old.state.state }
+    ensures fewer { meter.new.left ≤ meter.old.left }
+    ensures next { OnOk result (IsNext (sys_of taking.now) taking.now.fixed.form taking.now.line.now.key.tick trail.new.reading.line.items trail.new.reading.next) }
+{
+    let algorithm = algorithm_of(taking.block, chart.state.state, action);
+    let variables = chart.own.as_slice();
+    keep_before(&mut chart.before, variables, &chart.state.frame, algorithm)?;
+    let left = meter.left;
+    let alloc = taking.fixed.alloc;
+    let mut emits = Emits::new(alloc);
+    let end = acted(taking.block, &mut chart.state, meter, action, &mut emits)?;
+    let is_shown = trail.is_shown;
+    note_ran(
+        alloc,
+        &mut trail.page.text,
+        is_shown,
+        chart,
+        algorithm,
+        left,
+    )?;
+    trail.emit_all(&taking.fixed, taking.line, &mut emits, input)?;
+    Ok(end)
+}
+
+/// Performs all actions of the state in which the chart is.
+fn perform_all<R: BufRead>(
+    taking: &ChartTaking<'_, '_, '_>,
+    trail: &mut Trail,
+    chart: &mut Chart,
+    meter: &mut Meter,
+    input: &mut R,
+) -> Result<Option<Reason>, InspectError>
+    requires taking { IsChartTaking taking.now }
+    requires chart { IsChartOf taking.now.block.now chart.old }
+    requires next { IsNext (sys_of taking.now) taking.now.fixed.form taking.now.line.now.key.tick trail.old.reading.line.items trail.old.reading.next }
+    ensures shown { IfOk result (λ stop. let t = taking.now.block.now in
+        ChartGoes taking.now (Acting t (actions_of t (state_at t chart.old.state.state))) (place t chart.old meter.old.left) stop (place t chart.new meter.new.left) trail.old trail.new (R.remaining input.old) (R.remaining input.new)) }
+    ensures chart { OnOk result (IsChartOf taking.now.block.now chart.new) }
+    ensures fewer { meter.new.left ≤ meter.old.left }
+    ensures next { OnOk result (IsNext (sys_of taking.now) taking.now.fixed.form taking.now.line.now.key.tick trail.new.reading.line.items trail.new.reading.next) }
+{
+    for action in 0..action_count(&chart.state) {
+        if let Some(reason) = perform(taking, trail, chart, meter, action, input)? {
+            return Ok(Some(reason));
+        }
+    }
+    Ok(None)
+}
+
+/// The name of the state at an index.
+fn state_name(block: &BasicType, state: usize) -> &[u8]
+    ensures { result.now ≡ state_at block.now state }
+{
+    match block.states.get(state) {
+        Some(state) => state.name.as_bytes(),
+        None => b"",
+    }
+}
+
+/// Notes an event that cleared no transition. The end of a chain after other links is not noted.
+fn note_lost(
+    text: &mut Vec<u8>,
+    is_shown: bool,
+    state: &[u8],
+    present: Option<usize>,
+) -> Result<(), AllocError>
+    ensures { OnOk result (text.new.items ≡ text.old.items ++ shown_text is_shown (lost_if present state.now)) }
+{
+    if present.is_none() || !is_shown {
+        return Ok(());
+    }
+    put_lost(text, state)
+}
+
+/// Notes the transition at an index, which cleared.
+fn note_cleared(
+    alloc: Global,
+    text: &mut Vec<u8>,
+    is_shown: bool,
+    block: &BasicType,
+    index: usize,
+) -> Result<(), AllocError>
+    requires { index < length block.now.transitions }
+    ensures { OnOk result (text.new.items ≡ text.old.items ++ shown_text is_shown (cleared_note (transition_at block.now index))) }
+{
+    if !is_shown {
+        return Ok(());
+    }
+    put_cleared(alloc, text, &block.transitions.as_slice()[index])
+}
+
+/// How a link of a chain ended.
+pub(crate) enum Linked {
+    /// A transition cleared, and all actions of its target were performed.
+    Went,
+    /// No transition cleared, so the chain is over.
+    Rested,
+    /// A reason ended the reaction.
+    Stopped(Reason),
+}
+
+/// One link of the chain: a transition, and the actions of the state to which it leads.
+fn link<R: BufRead>(
+    taking: &ChartTaking<'_, '_, '_>,
+    trail: &mut Trail,
+    chart: &mut Chart,
+    meter: &mut Meter,
+    present: Option<usize>,
+    input: &mut R,
+) -> Result<Linked, InspectError>
+    requires taking { IsChartTaking taking.now }
+    requires chart { IsChartOf taking.now.block.now chart.old }
+    requires present { IfSome present (λ event. event < length taking.now.block.now.ports.event_inputs) }
+    requires next { IsNext (sys_of taking.now) taking.now.fixed.form taking.now.line.now.key.tick trail.old.reading.line.items trail.old.reading.next }
+    ensures linked { let event = option_map (event_at taking.now.block.now.ports.event_inputs) present in let t = taking.now.block.now in
+        IfOk result (HasLinked taking.now event (place t chart.old meter.old.left) (place t chart.new meter.new.left) trail.old trail.new (R.remaining input.old) (R.remaining input.new)) }
+    ensures chart { OnOk result (IsChartOf taking.now.block.now chart.new) }
+    ensures less { IfOk result (λ how. how ≡ Went → meter.new.left < meter.old.left) }
+    ensures fewer { meter.new.left ≤ meter.old.left }
+    ensures next { OnOk result (IsNext (sys_of taking.now) taking.now.fixed.form taking.now.line.now.key.tick trail.new.reading.line.items trail.new.reading.next) }
+{
+    match clear(&mut chart.state, taking.block, present, meter) {
+        Err(reason) => Ok(Linked::Stopped(reason)),
+        Ok(None) => {
+            let state = state_name(taking.block, chart.state.state);
+            let is_shown = trail.is_shown;
+            note_lost(&mut trail.page.text, is_shown, state, present)?;
+            Ok(Linked::Rested)
+        }
+        Ok(Some(index)) => {
+            let is_shown = trail.is_shown;
+            let alloc = taking.fixed.alloc;
+            note_cleared(alloc, &mut trail.page.text, is_shown, taking.block, index)?;
+            match perform_all(taking, trail, chart, meter, input)? {
+                Some(reason) => Ok(Linked::Stopped(reason)),
+                None => Ok(Linked::Went),
+            }
+        }
+    }
+}
+
+/// Goes through the chain of transitions that an event begins. Answers the reason that ends the reaction, if one does.
+fn follow<R: BufRead>(
+    taking: &ChartTaking<'_, '_, '_>,
+    trail: &mut Trail,
+    chart: &mut Chart,
+    meter: &mut Meter,
+    input: &mut R,
+) -> Result<Option<Reason>, InspectError>
+    requires taking { IsChartTaking taking.now }
+    requires chart { IsChartOf taking.now.block.now chart.old }
+    requires next { IsNext (sys_of taking.now) taking.now.fixed.form taking.now.line.now.key.tick trail.old.reading.line.items trail.old.reading.next }
+    ensures shown { let t = taking.now.block.now in
+        IfOk result (λ stop. ChartGoes taking.now (ShowsChain t (Some (event_at t.ports.event_inputs taking.now.line.now.event))) (place t chart.old meter.old.left) stop (place t chart.new meter.new.left) trail.old trail.new (R.remaining input.old) (R.remaining input.new)) }
+    ensures chart { OnOk result (IsChartOf taking.now.block.now chart.new) }
+    ensures next { OnOk result (IsNext (sys_of taking.now) taking.now.fixed.form taking.now.line.now.key.tick trail.new.reading.line.items trail.new.reading.next) }
+{
+    let mut present = Some(taking.line.event as usize);
+    loop {
+        match link(taking, trail, chart, meter, present, input)? {
+            Linked::Went => {}
+            Linked::Rested => return Ok(None),
+            Linked::Stopped(reason) => return Ok(Some(reason)),
+        }
+        present = None;
+    }
+}
+
+/// Notes the reason that ended a reaction, if one did.
+fn note_stop(text: &mut Vec<u8>, is_shown: bool, end: Option<Reason>) -> Result<(), AllocError>
+    ensures { OnOk result (text.new.items ≡ text.old.items ++ shown_text is_shown (stop_note end)) }
+{
+    match end {
+        Some(reason) if is_shown => put_stopped(text, reason),
+        _ => Ok(()),
+    }
+}
+
+/// The reaction of a basic block to the event of a line. Answers the reason that ends the reaction, if one does.
+pub(crate) fn react_chart<R: BufRead>(
+    taking: &ChartTaking<'_, '_, '_>,
+    trail: &mut Trail,
+    chart: &mut Chart,
+    meter: &mut Meter,
+    input: &mut R,
+) -> Result<Option<Reason>, InspectError>
+    requires taking { IsChartTaking taking.now }
+    requires chart { IsChartOf taking.now.block.now chart.old }
+    requires next { IsNext (sys_of taking.now) taking.now.fixed.form taking.now.line.now.key.tick trail.old.reading.line.items trail.old.reading.next }
+    ensures shown { let t = taking.now.block.now in let l = taking.now.line.now in
+        let begun = record (place t chart.old meter.old.left) { vars = sampled t l.event l.values (values_of chart.old.state.frame) } in
+        IfOk result (λ stop. ChartGoes taking.now (ShowsReaction t (event_at t.ports.event_inputs l.event)) begun stop (place t chart.new meter.new.left) trail.old trail.new (R.remaining input.old) (R.remaining input.new)) }
+    ensures chart { OnOk result (IsChartOf taking.now.block.now chart.new) }
+    ensures next { OnOk result (IsNext (sys_of taking.now) taking.now.fixed.form taking.now.line.now.key.tick trail.new.reading.line.items trail.new.reading.next) }
+{
+    let event = taking.line.event;
+    let values = taking.line.values.as_slice();
+    begin(&mut chart.state, taking.block, event, values);
+    let end = follow(taking, trail, chart, meter, input)?;
+    let is_shown = trail.is_shown;
+    note_stop(&mut trail.page.text, is_shown, end)?;
+    Ok(end)
+}

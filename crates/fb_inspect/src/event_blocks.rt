@@ -1,0 +1,242 @@
+//! The reactions of event blocks.
+
+ghost use Rattle.std.specs.Prelude.{◌≡◌, ◌≤◌, ◌^◌, ◌++◌, ◌&&◌, [], IfOk, IsTrue, None, OnOk, if◌then◌else◌, true};
+ghost use Rattle.fb_types.specs.Headline.{system_of};
+ghost use Rattle.fb_event.specs.Reactions.{FitInputs, expiry_of, reaction_to};
+ghost use Rattle.fb_event.specs.Seen.{seen_memory};
+ghost use Rattle.fb_wave.specs.Lines.{IsTextOf};
+ghost use Rattle.fb_wave.specs.Tables.{IsTable};
+ghost use Rattle.fb_inspect.specs.Lines.{IsNext};
+ghost use Rattle.fb_inspect.specs.Looks as spec;
+ghost use Rattle.fb_inspect.specs.Looks.{Seen};
+ghost use Rattle.fb_inspect.specs.Moves.{shown_text};
+ghost use Rattle.fb_inspect.specs.Notes.{memory_note};
+ghost use Rattle.fb_inspect.specs.Timing.{BlockGoes, HasExpired, HasReacted, IsBlockKept, IsBlockLine, IsOnly, TimerGoes, inputs_after, taken_reaction, taken_variables};
+
+use crate::blocks::EventBlock;
+use crate::error::InspectError;
+use crate::notes::put_memory;
+use crate::trail::{Fixed, Trail, is_emission};
+use fb_event::{EventMemory, expire, memory_of, react};
+use fb_types::{Emits, Items, Line, TimerAsk, Value};
+use std::alloc::{AllocError, Global};
+use std::io::BufRead;
+
+/// What is shown of an event block: what it remembers, and when its timer goes off.
+#[derive(Clone, Copy)]
+struct BlockMemory {
+    memory: EventMemory,
+    due: Option<u64>,
+}
+
+/// The tick at which the timer goes off, where it runs.
+fn due_of(memory: EventMemory, due: Option<u64>) -> Option<u64>
+    ensures { result ≡ spec.due_of (seen_memory memory) due }
+{
+    match memory {
+        EventMemory::Running(_) => due,
+        _ => None,
+    }
+}
+
+fn seen_of(block: &EventBlock) -> BlockMemory
+    ensures memory { seen_memory result.memory ≡ block.now.state.memory }
+    ensures due { result.due ≡ spec.due_of (seen_memory result.memory) block.now.due }
+{
+    let memory = memory_of(&block.state);
+    let due = due_of(memory, block.due);
+    BlockMemory { memory, due }
+}
+
+fn is_same_memory(before: EventMemory, after: EventMemory) -> bool
+    ensures { result ≡ spec.same_memory (seen_memory before) (seen_memory after) }
+{
+    match (before, after) {
+        (EventMemory::Idle, EventMemory::Idle) => true,
+        (
+            EventMemory::Marks { first, second },
+            EventMemory::Marks {
+                first: new_first,
+                second: new_second,
+            },
+        ) => first == new_first && second == new_second,
+        (EventMemory::Flag(old), EventMemory::Flag(new)) => old == new,
+        (EventMemory::Running(old), EventMemory::Running(new)) => old == new,
+        (
+            EventMemory::Count { count, reached },
+            EventMemory::Count {
+                count: new_count,
+                reached: new_reached,
+            },
+        ) => count == new_count && reached == new_reached,
+        _ => false,
+    }
+}
+
+fn is_same_tick(before: Option<u64>, after: Option<u64>) -> bool
+    ensures { result ≡ spec.same_tick before after }
+{
+    match (before, after) {
+        (None, None) => true,
+        (Some(old), Some(new)) => old == new,
+        _ => false,
+    }
+}
+
+/// Notes what an event block remembers, if that has changed.
+fn note_change(
+    alloc: Global,
+    text: &mut Vec<u8>,
+    is_shown: bool,
+    before: BlockMemory,
+    after: BlockMemory,
+) -> Result<(), AllocError>
+    ensures { OnOk result (text.new.items ≡ text.old.items ++ shown_text is_shown (if spec.same_memory (seen_memory before.memory) (seen_memory after.memory) && spec.same_tick before.due after.due then [] else memory_note (seen_memory after.memory) after.due)) }
+{
+    let is_same = is_same_memory(before.memory, after.memory)
+        && is_same_tick(before.due, after.due);
+    if is_same || !is_shown {
+        return Ok(());
+    }
+    put_memory(alloc, text, after.memory, after.due)
+}
+
+/// The tick at which the timer goes off after a reaction that requests this.
+fn due_after(due: Option<u64>, ask: TimerAsk) -> Option<u64>
+    ensures { result ≡ spec.due_after ask due }
+{
+    match ask {
+        TimerAsk::Keep => due,
+        TimerAsk::Clear => None,
+        TimerAsk::At(tick) => Some(tick),
+    }
+}
+
+/// Puts the values of a line in the place of the inputs. All inputs are WITH its event, or none is.
+fn sample(alloc: Global, inputs: &mut Items<Value>, values: &[Value]) -> Result<(), AllocError>
+    ensures { OnOk result (inputs.new ≡ inputs_after inputs.old values.now) }
+{
+    if !values.is_empty() {
+        *inputs = Items::from_slice(alloc, values)?;
+    }
+    Ok(())
+}
+
+/// The reaction of an event block, which has sampled its inputs, to the event of a line.
+fn answer(block: &mut EventBlock, line: &Line, emits: &mut Emits) -> Result<(), InspectError>
+    requires early { line.now.key.tick ≤ 10 ^ 12 }
+    requires typed { FitInputs block.old.state.kind block.old.inputs }
+    requires fresh { emits.old ≡ [] }
+    ensures { OnOk result (HasReacted (reaction_to block.old.state line.now.event line.now.key.tick block.old.inputs) block.old.due block.old block.new emits.new) }
+{
+    let mut ask = TimerAsk::Keep;
+    let inputs = block.inputs.as_slice();
+    match react(
+        &mut block.state,
+        line.event,
+        line.key.tick,
+        inputs,
+        emits,
+        &mut ask,
+    ) {
+        Ok(()) => {
+            block.due = due_after(block.due, ask);
+            Ok(())
+        }
+        // A reaction of an event block never stops a resource.
+        Err(_) => Err(InspectError::Memory),
+    }
+}
+
+/// The reaction of an event block to the event of a line.
+pub(crate) fn react_block<R: BufRead>(
+    fixed: &Fixed<'_, '_>,
+    trail: &mut Trail,
+    block: &mut EventBlock,
+    line: &Line,
+    input: &mut R,
+) -> Result<(), InspectError>
+    requires line { IsBlockLine (system_of fixed.now.table.now.system.now) block.old line.now }
+    requires taken { line.now.taken ≡ true }
+    requires table { IsTable fixed.now.table.now }
+    requires next { IsNext (system_of fixed.now.table.now.system.now) fixed.now.form line.now.key.tick trail.old.reading.line.items trail.old.reading.next }
+    ensures turned { (s : Seen) → IsBlockKept block.old.state.kind block.old s → OnOk result (let sys = system_of fixed.now.table.now.system.now in
+        BlockGoes sys fixed.now.form block.old.state.kind line.now (taken_reaction sys block.old.state.kind s line.now) (taken_variables sys s line.now) s.due s block.new trail.old trail.new (R.remaining input.old) (R.remaining input.new)) }
+    ensures next { OnOk result (IsNext (system_of fixed.now.table.now.system.now) fixed.now.form line.now.key.tick trail.new.reading.line.items trail.new.reading.next) }
+{
+    let alloc = fixed.alloc;
+    sample(alloc, &mut block.inputs, line.values.as_slice())?;
+    let before = seen_of(block);
+    let mut emits = Emits::new(alloc);
+    answer(block, line, &mut emits)?;
+    let after = seen_of(block);
+    let is_shown = trail.is_shown;
+    note_change(alloc, &mut trail.page.text, is_shown, before, after)?;
+    trail.emit_all(fixed, line, &mut emits, input)
+}
+
+/// Whether a line is that of the first of some emissions, which is the only one.
+fn is_only(line: &Line, emits: &mut Emits) -> bool
+    ensures { IsTrue result → IsOnly line.now emits.old }
+{
+    match emits.pop_first() {
+        Some(emission) => emits.is_empty() && is_emission(line, line, &emission),
+        None => false,
+    }
+}
+
+/// The reaction of an event block to its timer.
+fn expire_at(block: &mut EventBlock, tick: u64, emits: &mut Emits) -> Result<(), InspectError>
+    requires early { tick ≤ 10 ^ 12 }
+    requires fresh { emits.old ≡ [] }
+    ensures { OnOk result (HasReacted (expiry_of block.old.state tick) None block.old block.new emits.new) }
+{
+    let mut ask = TimerAsk::Keep;
+    match expire(&mut block.state, tick, emits, &mut ask) {
+        Ok(()) => {
+            block.due = due_after(None, ask);
+            Ok(())
+        }
+        Err(_) => Err(InspectError::Memory),
+    }
+}
+
+/// The reaction of an event block to its timer, which goes off at the tick of a line. Answers whether the line is that of
+/// its only emission.
+fn expire_to(alloc: Global, block: &mut EventBlock, line: &Line) -> Result<bool, InspectError>
+    requires early { line.now.key.tick ≤ 10 ^ 12 }
+    ensures { IfOk result (λ is_only. IsTrue is_only → HasExpired line.now block.old block.new) }
+{
+    if block.due != Some(line.key.tick) {
+        return Ok(false);
+    }
+    let mut emits = Emits::new(alloc);
+    expire_at(block, line.key.tick, &mut emits)?;
+    Ok(is_only(line, &mut emits))
+}
+
+/// The reaction of an event block to its timer, whose emission is in the next line.
+pub(crate) fn expire_block<R: BufRead>(
+    fixed: &Fixed<'_, '_>,
+    trail: &mut Trail,
+    block: &mut EventBlock,
+    line: &Line,
+    input: &mut R,
+) -> Result<(), InspectError>
+    requires line { IsBlockLine (system_of fixed.now.table.now.system.now) block.old line.now }
+    requires table { IsTable fixed.now.table.now }
+    requires text { IsTextOf (system_of fixed.now.table.now.system.now) fixed.now.form line.now trail.old.reading.line.items }
+    ensures turned { (s : Seen) → IsBlockKept block.old.state.kind block.old s → OnOk result (let sys = system_of fixed.now.table.now.system.now in
+        TimerGoes sys fixed.now.form block.old.state.kind line.now s block.new trail.old trail.new (R.remaining input.old) (R.remaining input.new)) }
+    ensures next { OnOk result (IsNext (system_of fixed.now.table.now.system.now) fixed.now.form line.now.key.tick trail.new.reading.line.items trail.new.reading.next) }
+{
+    let before = seen_of(block);
+    if !expire_to(fixed.alloc, block, line)? {
+        return Err(trail.reading.refusal());
+    }
+    let after = seen_of(block);
+    trail.pass(fixed, line, input)?;
+    let is_shown = trail.is_shown;
+    note_change(fixed.alloc, &mut trail.page.text, is_shown, before, after)?;
+    Ok(())
+}

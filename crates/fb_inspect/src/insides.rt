@@ -1,0 +1,226 @@
+//! What happens inside the blocks of a trace.
+
+ghost use Rattle.std.specs.Prelude.{◌≡◌, IfOk, IfSome, OnErr, OnOk, length};
+ghost use Rattle.std.specs.List.{list_any};
+ghost use Rattle.fb_types.specs.Headline.{system_of};
+ghost use Rattle.fb_types.specs.Names.{Path};
+ghost use Rattle.fb_types.specs.Text.{path_text};
+ghost use Rattle.fb_wave.specs.Tables.{IsTable};
+ghost use Rattle.fb_inspect.specs.Inspections as spec;
+ghost use Rattle.fb_inspect.specs.Inspections.{IsShown, ShowsFront};
+ghost use Rattle.fb_inspect.specs.Lines.{IsNext};
+ghost use Rattle.fb_inspect.specs.Walking.{AreUnused, Begins, ShowsOf};
+
+use crate::blocks::opened_all;
+use crate::error::InspectError;
+use crate::page::Page;
+use crate::reading::{Reading, judged};
+use crate::steps::TickSteps;
+use crate::trail::{Fixed, Trail};
+use crate::walk::Walk;
+use fb_system::System;
+use fb_types::{Form, Name};
+use fb_wave::words::after_front;
+use fb_wave::{Guess, PortTable, form_of, next_line, ports_of, texts_of};
+use std::alloc::{AllocError, Global};
+use std::io::{BufRead, Write};
+
+/// What must be shown of a trace.
+#[derive(Clone, Copy)]
+pub struct Inspection<'a> {
+    /// The paths of the instances that are shown, each with its components; all are where there is none.
+    pub only: &'a [Name],
+    /// The most steps of a resource in a tick, in a run that stops for them.
+    pub steps: u64,
+}
+
+/// Whether nothing is left of a path, or a full stop and more.
+fn is_cut_there(rest: &[u8]) -> bool
+    ensures { result ≡ spec.is_cut_there rest.now }
+{
+    match rest {
+        [] => true,
+        [first, ..] => *first == b'.',
+    }
+}
+
+/// Whether an instance at a path is one at another path, or a component of it.
+fn is_within(path: &[u8], whole: &[u8]) -> bool
+    ensures { result ≡ spec.is_within whole.now path.now }
+{
+    match after_front(path, whole) {
+        Some(rest) => is_cut_there(rest),
+        None => false,
+    }
+}
+
+/// Whether an instance at a path is one at one of these paths, or a component of one.
+fn is_one_of(path: &[u8], only: &[Name]) -> bool
+    ensures { result ≡ list_any (λ v. spec.is_within v path.now) only.now }
+{
+    for whole in only {
+        if is_within(path, whole.as_bytes()) {
+            return true;
+        }
+    }
+    false
+}
+
+/// Whether an instance at a path is shown.
+fn is_shown(path: &[u8], only: &[Name]) -> bool
+    ensures { (p : Path) → path.now ≡ path_text p → result ≡ spec.is_kept only.now p }
+{
+    if only.is_empty() {
+        return true;
+    }
+    is_one_of(path, only)
+}
+
+/// For each instance whether it is shown.
+fn shown_of(alloc: Global, system: &System, only: &[Name]) -> Result<Vec<bool>, AllocError>
+    ensures { IfOk result (λ shown. ShowsOf (system_of system.now) only.now shown.items) }
+{
+    let mut shown = Vec::new(alloc);
+    system.facts();
+    for index in 0..system.count() {
+        let path = system.path(index as u32);
+        shown.push(is_shown(path, only))?;
+    }
+    Ok(shown)
+}
+
+/// Whether an instance has this path.
+fn has_path(system: &System, path: &Name) -> bool {
+    system.facts();
+    for index in 0..system.count() {
+        if system.path(index as u32) == path.as_bytes() {
+            return true;
+        }
+    }
+    false
+}
+
+/// Whether an instance has each of these paths.
+fn have_paths(system: &System, only: &[Name]) -> bool {
+    for path in only {
+        if !has_path(system, path) {
+            return false;
+        }
+    }
+    true
+}
+
+/// No steps were made in any resource.
+fn steps_of(alloc: Global, system: &System) -> Result<Vec<TickSteps>, AllocError>
+    ensures { IfOk result (λ all. AreUnused (length (system_of system.now).resource_names) all.items) }
+{
+    let mut all = Vec::new(alloc);
+    for _ in 0..system.resources() {
+        all.push(TickSteps::new())?;
+    }
+    Ok(all)
+}
+
+/// The first line of a trace, as it was read.
+fn first_reading(
+    alloc: Global,
+    table: &PortTable<'_>,
+    form: Form,
+    line: Vec<u8>,
+) -> Result<Reading, AllocError>
+    requires { IsTable table.now }
+    ensures line { IfOk result (λ r. r.line.items ≡ line.items) }
+    ensures next { IfOk result (λ r. IsNext (system_of table.now.system.now) form 0 r.line.items r.next) }
+{
+    let mut guess = Guess::new(alloc, table)?;
+    let next = judged(alloc, table, &mut guess, form, 0, line.as_slice())?;
+    Ok(Reading {
+        guess,
+        number: 1,
+        line,
+        next,
+    })
+}
+
+/// A walk at the first line of a trace.
+fn begun(
+    alloc: Global,
+    system: &System,
+    only: &[Name],
+    reading: Reading,
+) -> Result<Walk, AllocError>
+    ensures { IfOk result (λ walk. Begins (system_of system.now) only.now reading walk) }
+{
+    let blocks = opened_all(alloc, system)?;
+    let steps = steps_of(alloc, system)?;
+    let shown = shown_of(alloc, system, only)?;
+    let trail = Trail {
+        reading,
+        page: Page::new(alloc),
+        is_shown: true,
+    };
+    Ok(Walk {
+        blocks,
+        steps,
+        trail,
+        shown,
+    })
+}
+
+/// Reads a trace of the system of a table, and writes it with what happens inside the blocks between its lines.
+fn inspect_with<R: BufRead, W: Write>(
+    alloc: Global,
+    table: &PortTable<'_>,
+    inspection: Inspection<'_>,
+    input: &mut R,
+    out: &mut W,
+) -> Result<(), InspectError>
+    requires { IsTable table.now }
+    ensures whole { OnOk result (IfSome (R.remaining input.old) (λ text. IsShown (system_of table.now.system.now) inspection.entry.only.now inspection.entry.steps text (W.contents out.old) (W.contents out.new))) }
+    ensures fault { OnErr result (ShowsFront (system_of table.now.system.now) inspection.entry.only.now inspection.entry.steps (W.contents out.old) (W.contents out.new)) }
+{
+    let mut line = Vec::new(alloc);
+    let Ok(()) = next_line(input, &mut line) else {
+        return Err(InspectError::Read);
+    };
+    let form = form_of(line.as_slice());
+    let reading = first_reading(alloc, table, form, line)?;
+    let mut walk = begun(alloc, table.system, inspection.only, reading)?;
+    let fixed = Fixed {
+        alloc,
+        table,
+        form,
+        limit: inspection.steps,
+    };
+    walk.go(&fixed, input, out)
+}
+
+/// Reads a trace of the system, in either form, and writes it with what happens inside the blocks between its lines. Each
+/// line between them begins with two spaces.
+///
+/// All memory is that of the blocks, of a line, of a page, and of what is shown of one event that is taken.
+///
+/// # Errors
+/// `Refused` with the number of the first line that shows that no run has the trace: it is no line of the system, or not
+/// what the blocks emit there. Sampled values and the ticks of events are taken as they are. What was written then is the
+/// beginning of what would be written of the trace, up to an event that was taken as a whole.
+pub fn inspect<R: BufRead, W: Write>(
+    alloc: Global,
+    system: &System,
+    inspection: Inspection<'_>,
+    input: &mut R,
+    out: &mut W,
+) -> Result<(), InspectError>
+    ensures whole { OnOk result (IfSome (R.remaining input.old) (λ text. IsShown (system_of system.now) inspection.entry.only.now inspection.entry.steps text (W.contents out.old) (W.contents out.new))) }
+    ensures fault { OnErr result (ShowsFront (system_of system.now) inspection.entry.only.now inspection.entry.steps (W.contents out.old) (W.contents out.new)) }
+{
+    if !have_paths(system, inspection.only) {
+        return Err(InspectError::Unknown);
+    }
+    let ports = ports_of(alloc, system)?;
+    let texts = texts_of(alloc, system, ports.as_slice())?;
+    let Some(table) = PortTable::of(alloc, system, ports.as_slice(), texts.as_slice())? else {
+        return Err(InspectError::Names);
+    };
+    inspect_with(alloc, &table, inspection, input, out)
+}

@@ -1,0 +1,61 @@
+//! Text that waits to be written.
+
+ghost use Rattle.std.specs.Prelude.{◌≡◌, ◌+◌, [], IfErr, OnOk, length};
+ghost use Rattle.std.specs.Io.KnownBytes.{Appends};
+ghost use Rattle.fb_trace.specs.Progress.{bounded};
+ghost use Rattle.fb_inspect.specs.Pages.{IsCutShort, IsFlushed};
+
+use crate::error::InspectError;
+use fb_trace::write_front;
+use std::alloc::Global;
+use std::io::Write;
+
+/// This many bytes wait before some are written, to make few writes of many.
+const MANY: usize = 65_536;
+
+/// Text that waits to be written, and how many bytes were written before it, up to the greatest `u128`.
+#[derive(Drop)]
+pub(crate) struct Page {
+    pub(crate) text: Vec<u8>,
+    written: u128,
+}
+
+impl Page {
+    /// An empty page, before which nothing was written.
+    pub(crate) fn new(alloc: Global) -> Page
+        ensures empty { result.text.items ≡ [] }
+        ensures none { result.written ≡ 0 }
+    {
+        Page {
+            text: Vec::new(alloc),
+            written: 0,
+        }
+    }
+
+    /// Writes all that waits.
+    pub(crate) fn flush<W: Write>(&mut self, out: &mut W) -> Result<(), InspectError>
+        ensures whole { OnOk result (Appends (W.contents out.old) (W.contents out.new) self.old.text.items) }
+        ensures empty { OnOk result (self.new.text.items ≡ []) }
+        ensures counted { OnOk result (self.new.written ≡ bounded (self.old.written + length self.old.text.items)) }
+        ensures part { IfErr result (IsCutShort (W.contents out.old) (W.contents out.new) self.old) }
+    {
+        let taken = write_front(out, self.text.as_slice());
+        self.written = self.written.saturating_add(taken as u128);
+        if taken < self.text.len() {
+            return Err(InspectError::Write(self.written));
+        }
+        self.text.clear();
+        Ok(())
+    }
+
+    /// Writes all that waits, where it is much.
+    pub(crate) fn flush_much<W: Write>(&mut self, out: &mut W) -> Result<(), InspectError>
+        ensures whole { OnOk result (IsFlushed (W.contents out.old) (W.contents out.new) self.old self.new) }
+        ensures part { IfErr result (IsCutShort (W.contents out.old) (W.contents out.new) self.old) }
+    {
+        if self.text.len() < MANY {
+            return Ok(());
+        }
+        self.flush(out)
+    }
+}

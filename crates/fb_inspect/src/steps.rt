@@ -1,0 +1,56 @@
+//! The steps of a resource in a tick.
+
+ghost use Rattle.std.specs.Prelude.{◌≡◌, suc, Some, None};
+ghost use Rattle.std.specs.Bool.{OnFalse, OnTrue};
+ghost use Rattle.fb_inspect.specs.Counted.{left_of};
+ghost use Rattle.fb_inspect.specs.Looks as spec;
+
+use fb_st::Meter;
+
+/// The steps that a resource has left in the tick of the last event that it took.
+#[derive(Clone, Copy)]
+pub(crate) struct TickSteps {
+    pub(crate) tick: Option<u64>,
+    pub(crate) meter: Meter,
+}
+
+impl TickSteps {
+    /// Nothing was taken yet.
+    pub(crate) fn new() -> TickSteps
+        ensures { left_of result ≡ record { tick = None; left = 0 } }
+    {
+        TickSteps {
+            tick: None,
+            meter: Meter { left: 0 },
+        }
+    }
+
+    /// The number of steps that are left in a tick, of this limit.
+    pub(crate) fn left_at(&self, limit: u64, tick: u64) -> u64
+        ensures { result ≡ spec.left_at limit tick (left_of self.now) }
+    {
+        if self.tick == Some(tick) {
+            self.meter.left
+        } else {
+            limit
+        }
+    }
+
+    /// Uses a step of a tick, of this limit. Where no step is left nothing changes, and the answer is `false`.
+    pub(crate) fn step(&mut self, limit: u64, tick: u64) -> bool
+        ensures used { OnTrue result (spec.left_at limit tick (left_of self.old) ≡ suc self.new.meter.left) }
+        ensures tick { OnTrue result (self.new.tick ≡ Some tick) }
+        ensures none { OnFalse result (spec.left_at limit tick (left_of self.old) ≡ 0) }
+        ensures kept { OnFalse result (self.new ≡ self.old) }
+    {
+        let left = self.left_at(limit, tick);
+        if left == 0 {
+            return false;
+        }
+        *self = TickSteps {
+            tick: Some(tick),
+            meter: Meter { left: left - 1 },
+        };
+        true
+    }
+}

@@ -1,0 +1,161 @@
+//! How far a trace was gone through: its lines, and the text that is written of them.
+
+ghost use Rattle.std.specs.Prelude.{◌≡◌, [], ◌∷◌, ◌++◌, IsTrue, OnOk};
+ghost use Rattle.fb_types.specs.Headline.{system_of};
+ghost use Rattle.fb_types.specs.Numbers.{line_of};
+ghost use Rattle.fb_types.specs.Text.{line_text};
+ghost use Rattle.fb_types.specs.declared.run.Line as run;
+ghost use Rattle.fb_wave.specs.Lines.{IsTextOf};
+ghost use Rattle.fb_wave.specs.Tables.{IsTable};
+ghost use Rattle.fb_inspect.specs.Lines.{IsNext};
+ghost use Rattle.fb_inspect.specs.Moves.{EmitsGo, Goes, IsEmission, shown_text};
+
+use crate::error::InspectError;
+use crate::notes::are_same;
+use crate::page::Page;
+use crate::reading::{Next, Reading};
+use fb_trace::Outcome;
+use fb_types::{Emission, Emits, Form, Key, Line, Reason, Value};
+use fb_wave::PortTable;
+use std::alloc::{AllocError, Global};
+use std::io::BufRead;
+use std::mem;
+
+/// What stays the same while a trace is gone through.
+#[derive(Clone, Copy)]
+pub(crate) struct Fixed<'t, 's> {
+    pub(crate) alloc: Global,
+    pub(crate) table: &'t PortTable<'s>,
+    pub(crate) form: Form,
+    /// The most steps of a resource in a tick.
+    pub(crate) limit: u64,
+}
+
+/// How far a trace was gone through.
+#[derive(Drop)]
+pub(crate) struct Trail {
+    pub(crate) reading: Reading,
+    pub(crate) page: Page,
+    /// Whether the instance of the line that was taken last is shown.
+    pub(crate) is_shown: bool,
+}
+
+/// Whether this is the stop of a resource at a tick, for this reason.
+pub(crate) fn is_stop(next: &Next, key: &Key, reason: Reason) -> bool
+    ensures { IsTrue result → next.now ≡ Next.End (Outcome.Stop (record { tick = key.now.tick; resource = key.now.resource; reason = reason })) }
+{
+    match next {
+        Next::End(Outcome::Stop(mark)) => {
+            mark.tick == key.tick && mark.resource == key.resource && mark.reason == reason
+        }
+        _ => false,
+    }
+}
+
+/// Whether the values of two rows are the same.
+fn have_same_values(left: &[Value], right: &[Value]) -> bool
+    ensures { IsTrue result → left.now ≡ right.now }
+{
+    if left.len() != right.len() {
+        return false;
+    }
+    for (index, value) in left.iter().enumerate() {
+        if !are_same(*value, right[index]) {
+            return false;
+        }
+    }
+    true
+}
+
+/// Whether a line is that of an emission of the block of another line.
+pub(crate) fn is_emission(next: &Line, line: &Line, emission: &Emission) -> bool
+    ensures { IsTrue result → IsEmission next.now line.now emission.now }
+{
+    if next.taken {
+        return false;
+    }
+    if next.instance != line.instance {
+        return false;
+    }
+    if next.event != emission.event {
+        return false;
+    }
+    if next.key != line.key {
+        return false;
+    }
+    have_same_values(next.values.as_slice(), emission.values.as_slice())
+}
+
+/// Adds a line, if its instance is shown.
+pub(crate) fn put_line(text: &mut Vec<u8>, line: &[u8], is_shown: bool) -> Result<(), AllocError>
+    ensures { OnOk result (text.new.items ≡ text.old.items ++ shown_text is_shown line.now) }
+{
+    if is_shown {
+        text.extend_from_slice(line)?;
+    }
+    Ok(())
+}
+
+impl Trail {
+    /// Goes past the next line, which is this one. It is added, if its instance is shown.
+    pub(crate) fn pass<R: BufRead>(
+        &mut self,
+        fixed: &Fixed<'_, '_>,
+        line: &Line,
+        input: &mut R,
+    ) -> Result<(), InspectError>
+        requires table { IsTable fixed.now.table.now }
+        requires line { IsTextOf (system_of fixed.now.table.now.system.now) fixed.now.form line.now self.old.reading.line.items }
+        ensures goes { OnOk result (let sys = system_of fixed.now.table.now.system.now in
+            Goes sys fixed.now.form line.now.key.tick (line.now ∷ []) (shown_text self.old.is_shown (line_text fixed.now.form sys (line_of sys line.now))) self.old self.new (R.remaining input.old) (R.remaining input.new)) }
+        ensures next { OnOk result (IsNext (system_of fixed.now.table.now.system.now) fixed.now.form line.now.key.tick self.new.reading.line.items self.new.reading.next) }
+    {
+        let whole = self.reading.line.as_slice();
+        put_line(&mut self.page.text, whole, self.is_shown)?;
+        self.reading
+            .advance(fixed.alloc, fixed.table, fixed.form, line.key.tick, input)
+    }
+
+    /// Goes past the next line, which must be that of an emission of the block of this line.
+    pub(crate) fn emit<R: BufRead>(
+        &mut self,
+        fixed: &Fixed<'_, '_>,
+        line: &Line,
+        emission: &Emission,
+        input: &mut R,
+    ) -> Result<(), InspectError>
+        requires table { IsTable fixed.now.table.now }
+        requires next { IsNext (system_of fixed.now.table.now.system.now) fixed.now.form line.now.key.tick self.old.reading.line.items self.old.reading.next }
+        ensures goes { OnOk result (let sys = system_of fixed.now.table.now.system.now in (l : run.Line) × IsEmission l line.now emission.now
+            × Goes sys fixed.now.form line.now.key.tick (l ∷ []) (shown_text self.old.is_shown (line_text fixed.now.form sys (line_of sys l))) self.old self.new (R.remaining input.old) (R.remaining input.new)) }
+        ensures next { OnOk result (IsNext (system_of fixed.now.table.now.system.now) fixed.now.form line.now.key.tick self.new.reading.line.items self.new.reading.next) }
+    {
+        let next = mem::replace(&mut self.reading.next, Next::Bad);
+        let Next::Event(next) = next else {
+            return Err(self.reading.refusal());
+        };
+        if !is_emission(&next, line, emission) {
+            return Err(self.reading.refusal());
+        }
+        self.pass(fixed, &next, input)
+    }
+
+    /// Goes past the next lines, which must be those of these emissions of the block of a line.
+    pub(crate) fn emit_all<R: BufRead>(
+        &mut self,
+        fixed: &Fixed<'_, '_>,
+        line: &Line,
+        emits: &mut Emits,
+        input: &mut R,
+    ) -> Result<(), InspectError>
+        requires table { IsTable fixed.now.table.now }
+        requires next { IsNext (system_of fixed.now.table.now.system.now) fixed.now.form line.now.key.tick self.old.reading.line.items self.old.reading.next }
+        ensures goes { OnOk result (EmitsGo (system_of fixed.now.table.now.system.now) fixed.now.form line.now emits.old self.old self.new (R.remaining input.old) (R.remaining input.new)) }
+        ensures next { OnOk result (IsNext (system_of fixed.now.table.now.system.now) fixed.now.form line.now.key.tick self.new.reading.line.items self.new.reading.next) }
+    {
+        while let Some(emission) = emits.pop_first() {
+            self.emit(fixed, line, &emission, input)?;
+        }
+        Ok(())
+    }
+}

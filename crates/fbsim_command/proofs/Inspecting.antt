@@ -1,0 +1,127 @@
+-- How a call that inspects a trace ends.
+use Rattle.std.proofs.Common.{◌≡◌, ℕ, List, Option, Some, None, Result, Ok, Err, inl, inr, refl, sym, ap, subst}
+use Rattle.std.specs.Prelude.{IsErrAnd, OnErr}
+use Rattle.fb_types.specs.Headline.{Inputs, system_of}
+use Rattle.fb_read.specs.declared.error.ReadError.{ReadError}
+use Rattle.fb_read.specs.declared.error.ReadError.TheVariants as read
+use Rattle.fb_check.specs.Refusals as check
+use Rattle.fb_inputs.specs.Refusals as input
+use Rattle.fb_inspect.specs.Inspections.{ShowsFront}
+use Rattle.fb_inspect.specs.declared.error.InspectError.{InspectError}
+use Rattle.fb_inspect.specs.declared.error.InspectError.TheVariants as inspection
+use Rattle.fb_sim.specs.Given.{Given}
+use Rattle.fb_sim.specs.Serial.{Declares, IsRefusal, IsRightly}
+use Rattle.fb_sim.specs.declared.outcome.Refusal as sim
+use Rattle.fb_sim.specs.declared.outcome.Refusal.TheVariants as of
+use Rattle.fb_sim.specs.declared.outcome.RunError.{RunError}
+use Rattle.fb_sim.specs.declared.outcome.RunError.TheVariants as run
+use Rattle.clap.specs.Words.{Text}
+use Rattle.fbsim_command.specs.Failures.{failure_of, failure_of_inspection, failure_of_source, numbered_input}
+use Rattle.fbsim_command.specs.Inspecting.{Inspects, ShowsInsides, files_of, paths_of}
+use Rattle.fbsim_command.specs.Outcomes.{End, Held}
+use Rattle.fbsim_command.specs.OwnLines.{EndsIn}
+use Rattle.fbsim_command.specs.Reading.{Reading, AreRead, IsUnread}
+use Rattle.fbsim_command.specs.Showing.{Opening}
+use Rattle.fbsim_command.specs.declared.failure.Failure.{Failure}
+use Rattle.fbsim_line.specs.declared.inspect_line.Inspect.{Inspect}
+use Rattle.fbsim_line.specs.declared.line.Task.{Task}
+use Rattle.fbsim_command.specs.declared.sources.SourceFault.{SourceFault}
+use Rattle.fbsim_command.specs.declared.texts.Part.{Part}
+
+-- whatever the call answers
+pub on_err_any : {A E : Type 0} (r : Result A E) (P : Type 0) → P → OnErr r P
+on_err_any (Ok x) P p = tt
+on_err_any (Err e) P p = p
+
+-- nothing is written where the inputs are refused
+pub inspects_none : (given : Given) (x : Inspect) (trace old : Held) (error : RunError) → IsRefusal given error → Inspects given x trace old old (Err (failure_of error))
+inspects_none given x trace old (run.Refused r) is = refusal r is
+  where
+    numbered : (r : sim.Refusal) → IsRightly given r → (o : Option ℕ) → failure_of (run.Refused r) ≡ numbered_input o → Inspects given x trace old old (Err (numbered_input o))
+    numbered r is (Some n) reported = inl (record { error = run.Refused r; refused = is; reported = reported }, refl)
+    numbered r is None reported = inl refl
+
+    unread : (e : ReadError) → IsRightly given (of.Declaration e) → Inspects given x trace old old (Err (failure_of (run.Refused (of.Declaration e))))
+    unread read.Memory is = inl refl
+    unread read.Byte is = inl (record { error = run.Refused (of.Declaration read.Byte); refused = is; reported = refl }, refl)
+    unread read.Token is = inl (record { error = run.Refused (of.Declaration read.Token); refused = is; reported = refl }, refl)
+    unread (read.Syntax line) is = inl (record { error = run.Refused (of.Declaration (read.Syntax line)); refused = is; reported = refl }, refl)
+    unread read.TooLong is = inl (record { error = run.Refused (of.Declaration read.TooLong); refused = is; reported = refl }, refl)
+    unread read.Nesting is = inl (record { error = run.Refused (of.Declaration read.Nesting); refused = is; reported = refl }, refl)
+
+    refusal : (r : sim.Refusal) → IsRightly given r → Inspects given x trace old old (Err (failure_of (run.Refused r)))
+    refusal (of.Declaration e) is = unread e is
+    refusal (of.Deployment e) is = numbered (of.Deployment e) is (input.number_of e) refl
+    refusal (of.Stimuli e) is = numbered (of.Stimuli e) is (input.number_of e) refl
+    refusal (of.Check e) is = numbered (of.Check e) is (check.number_of e) refl
+inspects_none given x trace old run.Memory is = inl refl
+inspects_none given x trace old (run.Write n) is = absurd is
+inspects_none given x trace old run.BadOption is = absurd is
+inspects_none given x trace old run.Failed is = absurd is
+
+-- a beginning is written where the trace is refused, or where reading it, writing or memory fails
+pub inspects_front :
+    (given : Given) (x : Inspect) (trace old new : Held) (i : Inputs) → Declares given i → (e : InspectError) → ShowsFront (system_of i) (paths_of x) x.steps old new
+    → Inspects given x trace old new (Err (failure_of_inspection e))
+inspects_front given x trace old new i is (inspection.Refused line) front = inr (i, is, front)
+inspects_front given x trace old new i is inspection.Names front = inr (i, is, front)
+inspects_front given x trace old new i is inspection.Unknown front = inr (i, is, front)
+inspects_front given x trace old new i is inspection.Memory front = inr (i, is, front)
+inspects_front given x trace old new i is inspection.Read front = (i, is, front)
+inspects_front given x trace old new i is (inspection.Write n) front = (i, is, front)
+
+-- a failure that is passed on
+pub inspects_passed : (given : Given) (x : Inspect) (trace old new : Held) (r : End) (f : Failure) → IsErrAnd r (λ g. g ≡ f) → Inspects given x trace old new (Err f) → Inspects given x trace old new r
+inspects_passed given x trace old new (Ok d) f bad ends = absurd bad
+inspects_passed given x trace old new (Err g) f is ends = subst (λ (h : Failure). Inspects given x trace old new (Err h)) (sym is) ends
+
+-- ---- What was read
+
+-- the trace is opened, and it is inspected
+pub read_and_inspected :
+    {S : Type 0} (reads : Reading S) (opens : Opening S) (from between to : S) (types : List Text) (x : Inspect) (old new : Held) (lines : List ℕ) (given : Given) (task : Task)
+    (trace : Held) (own : Given) (inner end : End) → task ≡ files_of x → own ≡ given → AreRead reads types task from between lines given
+    → opens between x.trace.now (Ok trace) to → Inspects own x trace old new inner → EndsIn types x.declaration.now lines inner end
+    → ShowsInsides reads opens from to types x old new end
+read_and_inspected reads opens from between to types x old new lines given task trace own inner end as_task as_given was_read opened done ends =
+    inl
+    (record {
+      lines = lines;
+      given = given;
+      between = between;
+      read = subst (λ (k : Task). AreRead reads types k from between lines given) as_task was_read;
+      trace = trace;
+      opened = opened;
+      inner = inner;
+      done = subst (λ (z : Given). Inspects z x trace old new inner) as_given done;
+      ends = ends;
+    })
+
+-- a file is not read that the trace is of
+pub not_read :
+    {S : Type 0} (reads : Reading S) (opens : Opening S) (from to : S) (types : List Text) (x : Inspect) (same : Held) (task : Task) (part : Part) (fault : SourceFault) (failed : Failure)
+    → task ≡ files_of x → failed ≡ failure_of_source fault → IsUnread reads types task from to part fault → ShowsInsides reads opens from to types x same same (Err failed)
+not_read reads opens from to types x same task part fault failed as_task is unread =
+    let reported : ◌≡◌ {A = End} (Err failed) (Err (failure_of_source fault)) = ap (λ (f : Failure). Err f) is in
+    inr (fault, inl (part, subst (λ (k : Task). IsUnread reads types k from to part fault) as_task unread), reported, refl)
+
+-- the trace is not opened
+pub not_opened :
+    {S : Type 0} (reads : Reading S) (opens : Opening S) (from between to : S) (types : List Text) (x : Inspect) (same : Held) (lines : List ℕ) (given : Given) (task : Task) (fault : SourceFault)
+    (failed : Failure) → task ≡ files_of x → failed ≡ failure_of_source fault → AreRead reads types task from between lines given → opens between x.trace.now (Err fault) to
+    → ShowsInsides reads opens from to types x same same (Err failed)
+not_opened reads opens from between to types x same lines given task fault failed as_task is was_read unread =
+    let reported : ◌≡◌ {A = End} (Err failed) (Err (failure_of_source fault)) = ap (λ (f : Failure). Err f) is in
+    inr (
+      fault,
+      inr
+          (record {
+            lines = lines;
+            given = given;
+            between = between;
+            read = subst (λ (k : Task). AreRead reads types k from between lines given) as_task was_read;
+            unread = unread;
+          }),
+      reported,
+      refl,
+    )

@@ -1,0 +1,32 @@
+use Rattle.std.proofs.Common.{Bor, List, map, subst, ap, ◌∙◌}
+use Rattle.std.specs.Prelude.{IfSome, OnErr, OnOk}
+use Rattle.clap.specs.Words.{Text}
+use Rattle.fb_types.specs.Headline.{system_of}
+use Rattle.fb_inspect.specs.Inspections.{IsShown, ShowsFront}
+use Rattle.fb_inspect.proofs.Gone.{front_none}
+use Rattle.fbsim_command.specs.Inspecting.{paths_of, upper}
+use Rattle.fbsim_command.proofs.Inspecting.{on_err_any}
+use Rattle.fbsim_command.proofs.inspect.go.Goals as goal
+
+pub returns-in_err-only-clause-fault : goal.returns-in_err-only-clause-fault
+returns-in_err-only-clause-fault g c =
+    on_err_any c.from_residual.result _ (front_none (system_of c.args.system.now) (paths_of c.args.inspect.now) c.args.inspect.now.steps (g.W.Write.contents c.args.out.now))
+
+abbrev uppers : List (Bor Text) → List Text
+uppers texts = map (λ t. upper t.now) texts
+
+pub returns-clause-whole : goal.returns-clause-whole
+returns-clause-whole g c =
+    let x = c.args.inspect.now in
+    let old = g.W.Write.contents c.args.out.now in
+    let new = g.W.Write.contents c.inspect.new.out in
+    subst (λ (only : List Text). OnOk c.inspect.result (IfSome (g.R.Read.remaining c.args.trace.now) (λ text. IsShown (system_of c.args.system.now) only x.steps text old new)))
+    (c.as_slice-2.ensures.value ∙ c.in_ok-only.ensures ∙ ap uppers c.as_slice.ensures.value) c.inspect.ensures.whole
+
+pub returns-clause-fault : goal.returns-clause-fault
+returns-clause-fault g c =
+    let x = c.args.inspect.now in
+    let old = g.W.Write.contents c.args.out.now in
+    let new = g.W.Write.contents c.inspect.new.out in
+    subst (λ (only : List Text). OnErr c.inspect.result (ShowsFront (system_of c.args.system.now) only x.steps old new))
+    (c.as_slice-2.ensures.value ∙ c.in_ok-only.ensures ∙ ap uppers c.as_slice.ensures.value) c.inspect.ensures.fault

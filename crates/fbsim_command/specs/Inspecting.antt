@@ -1,0 +1,89 @@
+-- What a call that inspects a trace does (docs/FORMATS.md, "Inside a trace"; this project's own).
+use Rattle.std.specs.Prelude.{◌≡◌, ◌⊎◌, ℕ, List, false, map, None, IfSome, Ok, Err}
+use Rattle.std.specs.Char.{to_ascii_uppercase}
+use Rattle.clap.specs.Words.{Text}
+use Rattle.fb_types.specs.Headline.{Inputs, system_of}
+use Rattle.fb_inspect.specs.Inspections.{IsShown, ShowsFront}
+use Rattle.fb_sim.specs.Given.{Given}
+use Rattle.fb_sim.specs.Serial.{Declares}
+use Rattle.fbsim_command.specs.Failures.{failure_of_source}
+use Rattle.fbsim_command.specs.Outcomes.{End, Held, IsRefused}
+use Rattle.fbsim_command.specs.OwnLines.{EndsIn}
+use Rattle.fbsim_command.specs.Reading.{Reading, AreRead, IsUnread}
+use Rattle.fbsim_command.specs.Showing.{Opening}
+use Rattle.fbsim_command.specs.declared.failure.Failure.TheVariants.{Refused, RefusedTrace, File, Write, Memory, Line, BadOption}
+use Rattle.fbsim_line.specs.declared.inspect_line.Inspect.{Inspect}
+use Rattle.fbsim_line.specs.declared.line.Action.TheVariants.{Check}
+use Rattle.fbsim_line.specs.declared.line.Task.{Task}
+use Rattle.fbsim_command.specs.declared.sources.SourceFault.{SourceFault}
+use Rattle.fbsim_command.specs.declared.statuses.Done.TheVariants.{Helped, Explained, Accepted, Shown, Ended, Stopped, Met, Unmet, Same, Different}
+use Rattle.fbsim_command.specs.declared.texts.Part.{Part}
+
+-- the call that checks what a trace is of
+abbrev pub files_of : Inspect → Task
+files_of x = record { action = Check false; declaration = x.declaration; deploy = x.deploy; stimuli = None; why = false }
+
+-- the paths of the instances that are shown, in upper case
+abbrev pub upper : Text → Text
+upper text = map to_ascii_uppercase text
+
+abbrev pub paths_of : Inspect → List Text
+paths_of x = map (λ t. upper t.now) x.only.items
+
+-- ---- What is written
+
+-- The inputs are accepted, and the writer got the first bytes of what is shown of takings of their system.
+abbrev pub InspectsFront : Given → Inspect → (old new : Held) → Type 0
+InspectsFront given x old new = (i : Inputs) × Declares given i × ShowsFront (system_of i) (paths_of x) x.steps old new
+
+-- a trace of what the inputs declare is read, of which these bytes are known, and it is written with what happens inside the blocks
+abbrev pub Inspects : Given → Inspect → (trace : Held) → (old new : Held) → End → Type 0
+Inspects given x trace old new (Ok Shown) = (i : Inputs) × Declares given i × IfSome trace (λ text. IsShown (system_of i) (paths_of x) x.steps text old new)
+Inspects given x trace old new (Ok Helped) = ⊥
+Inspects given x trace old new (Ok Explained) = ⊥
+Inspects given x trace old new (Ok Accepted) = ⊥
+Inspects given x trace old new (Ok Ended) = ⊥
+Inspects given x trace old new (Ok Stopped) = ⊥
+Inspects given x trace old new (Ok Met) = ⊥
+Inspects given x trace old new (Ok Unmet) = ⊥
+Inspects given x trace old new (Ok Same) = ⊥
+Inspects given x trace old new (Ok Different) = ⊥
+Inspects given x trace old new (Err (Refused refusal)) = (IsRefused given refusal × (new ≡ old)) ⊎ InspectsFront given x old new
+Inspects given x trace old new (Err File) = InspectsFront given x old new
+Inspects given x trace old new (Err (Write n)) = InspectsFront given x old new
+Inspects given x trace old new (Err Memory) = (new ≡ old) ⊎ InspectsFront given x old new
+Inspects given x trace old new (Err (Line message)) = ⊥
+Inspects given x trace old new (Err BadOption) = ⊥
+Inspects given x trace old new (Err (RefusedTrace text)) = ⊥
+
+-- ---- What is read
+
+-- All is read that the trace is of, the trace is opened, and it is inspected. A syntax fault is one of the file that has it.
+pub record IsReadAndInspected {S : Type 0} (reads : Reading S) (opens : Opening S) (from to : S) (types : List Text) (x : Inspect) (old new : Held) (end : End) : Type 0 where
+  pub lines : List ℕ
+  pub given : Given
+  pub between : S
+  pub read : AreRead reads types (files_of x) from between lines given
+  pub trace : Held
+  pub opened : opens between x.trace.now (Ok trace) to
+  pub inner : End
+  pub done : Inspects given x trace old new inner
+  pub ends : EndsIn types x.declaration.now lines inner end
+
+-- All is read that the trace is of, and the trace is not opened.
+pub record IsUnopened {S : Type 0} (reads : Reading S) (opens : Opening S) (from to : S) (types : List Text) (x : Inspect) (fault : SourceFault) : Type 0 where
+  pub lines : List ℕ
+  pub given : Given
+  pub between : S
+  pub read : AreRead reads types (files_of x) from between lines given
+  pub unread : opens between x.trace.now (Err fault) to
+
+-- this fault keeps a file from being read
+abbrev pub IsUninspected : {S : Type 0} → Reading S → Opening S → (from to : S) → (types : List Text) → Inspect → SourceFault → Type 0
+IsUninspected reads opens from to types x fault =
+    ((part : Part) × IsUnread reads types (files_of x) from to part fault) ⊎ IsUnopened reads opens from to types x fault
+
+abbrev pub ShowsInsides : {S : Type 0} → Reading S → Opening S → (from to : S) → (types : List Text) → Inspect → (old new : Held) → End → Type 0
+ShowsInsides reads opens from to types x old new end =
+    IsReadAndInspected reads opens from to types x old new end
+    ⊎ ((fault : SourceFault) × IsUninspected reads opens from to types x fault × (end ≡ Err (failure_of_source fault)) × (new ≡ old))

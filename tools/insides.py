@@ -1,0 +1,194 @@
+#!/usr/bin/env python3
+"""tools/insides.py [PROGRAM]: what `inspect` writes between the lines of traces, beside an interpreter of its own.
+
+The second simulator of tools/interpreter.py runs each example and each random system of tools/drawn.py once more, and notes what each
+block does as docs/FORMATS.md says: transitions, algorithms with what they change, lost events, and what event blocks remember. The
+program is given the trace alone. Both texts are to be the same, and without the lines that begin with two spaces they are the trace.
+Of traces in which one emission was changed or left out, the program is to refuse the first line that shows it."""
+
+import glob
+import os
+import re
+import sys
+import tomllib
+
+import drawn
+import interpreter
+from graphs import condition_in, plain
+from kit import TOP
+from program import Room, side_by_side
+
+PROGRAM = f"{TOP}/crates/fbsim/out/fbsim"
+PORT = re.compile(r" ([<>]) ([\w.]+)\.\w+")
+CLEARED = re.compile(r"(  \w+ -> \w+ by )(.*)\n")
+SHOWN = 10
+
+
+def shown(value):
+    return str(value).upper()
+
+
+def remembered(block):
+    """What an event block remembers, as it is noted."""
+    match block.type.event_block:
+        case "E_REND":
+            marks = block.memory or set()
+            return f"has {min(marks)}" if marks else "has none"
+        case "E_SR" | "E_D_FF":
+            return "set" if block.values["Q"] else "reset"
+        case "E_R_TRIG" | "E_F_TRIG":
+            return "set" if block.memory else "reset"
+        case "E_DELAY" | "E_CYCLE":
+            return "idle" if block.timer is None else f"due {block.timer}"
+        case "E_CTU":
+            return f"count {block.values['CV']}"
+    return "idle"
+
+
+class Noted(interpreter.System):
+    """The simulation, with notes between its lines. A condition is noted as tools/declaration.py reads it."""
+
+    def note(self, text):
+        self.lines.append(f"  {text}\n")
+
+    def run_block(self, block, event):
+        before = block.timer
+        # (the timer that goes off was taken away before)
+        text = remembered(block) if event is not None or block.type.event_block not in ("E_DELAY", "E_CYCLE") else f"due {self.tick}"
+        found = interpreter.react(block, event)
+        if block.timer not in (None, before):
+            self.add(block.timer, block.home, 1, block.number, 0, ("timer", block))
+        notes = [it for it in [remembered(block)] if it != text]
+        for at, it in enumerate(found):
+            if event is not None or at:
+                for _ in range(len(notes)):
+                    self.note(notes.pop())
+            self.emit(block, it)
+        for it in notes:
+            self.note(it)
+
+    def run_chart(self, block, present):
+        try:
+            self.follow(block, present)
+        except interpreter.Stop as it:
+            self.note(f"stops: {it.args[0]}")
+            raise
+
+    def follow(self, block, present):
+        chart, is_first = block.type.chart, True
+        while True:
+            start = block.state
+            found = next((it for it in chart.transitions if self.clears(block, it, present)), None)
+            if found is None:
+                if is_first:
+                    self.note(f"lost in {start}")
+                return
+            is_first, present, block.state = False, "", found[1]
+            self.note(f"{start} -> {block.state} by {plain(found[2:])!r}")
+            for algorithm, event in chart.states[block.state]:
+                self.step()
+                if algorithm:
+                    self.run_noted(block, algorithm)
+                if event:
+                    self.emit(block, event)
+
+    def run_noted(self, block, algorithm):
+        own = [*block.type.var_out, *block.type.inner]
+        before = {it: block.values[it] for it in own}
+        try:
+            self.run_algorithm(block, block.type.chart.algorithms[algorithm])
+        finally:
+            changed = "".join(f" {it}={shown(block.values[it])}" for it in own if block.values[it] != before[it])
+            self.note(f"{algorithm}:{changed}")
+
+
+def with_conditions(text):
+    """A text with each condition as tools/declaration.py reads it."""
+    return CLEARED.sub(lambda it: f"{it[1]}{condition_in(it[2])!r}\n", text)
+
+
+def without_notes(text):
+    return "".join(it for it in text.splitlines(keepends=True) if not it.startswith("  "))
+
+
+# ---- Cases
+
+
+def content(path):
+    with open(path, encoding="utf-8-sig") as it:
+        return it.read()
+
+
+def examples():
+    """The name, the texts and the numbers of each example."""
+    for args in sorted(glob.glob(f"{TOP}/examples/**/args", recursive=True)):
+        folder = os.path.dirname(args)
+        words = content(args).splitlines()
+        option = dict(zip(words[2::1], words[3::1]))
+        near = lambda name: os.path.normpath(f"{folder}/{name}")
+        plan = content(near(option["--deploy"])) if "--deploy" in option else None
+        stimuli = content(near(option["--stim"])) if "--stim" in option else "tick,event,values\n"
+        yield os.path.relpath(folder, TOP), content(near(words[1])), plan, stimuli, int(option["--horizon"]), int(option.get("--steps", 10_000))
+
+
+def systems():
+    """The same of random systems."""
+    for seed in (first + more for first in drawn.SEEDS for more in range(10)):
+        sketch = drawn.Sketch(drawn.Dice(seed))
+        texts = sketch.declaration(), sketch.deployment(), sketch.stimuli()
+        yield f"seed {seed}", *texts, sketch.dice.one_of(drawn.HORIZONS), sketch.dice.one_of(drawn.STEPS)
+
+
+def spoiled(system, trace):
+    """Traces with an emission of a chart changed or left out, each with the number of the first line that shows it."""
+    charts = {it.path for it in system.blocks if getattr(it.type, "chart", None)}
+    lines = trace.splitlines(keepends=True)
+    for at, (before, line) in enumerate(zip(lines, lines[1:]), 1):
+        paths = [PORT.search(it) for it in (before, line)]
+        if all(paths) and [it[1] for it in paths] == [">", "<"] and paths[0][2] == paths[1][2] and paths[0][2] in charts:
+            # (emissions that are the same are told apart only by their number)
+            shown = next(it for it in range(at, len(lines)) if lines[it] != lines[it + 1])
+            yield "".join(lines[:at] + lines[at + 1 :]), shown + 1
+            if "=TRUE" in line:
+                yield "".join(lines[:at] + [line.replace("=TRUE", "=FALSE", 1)] + lines[at + 1 :]), at + 1
+            return
+
+
+def faults_of(room, number, case):
+    """What is wrong with the texts of a case."""
+    name, declaration, plan, stimuli, horizon, steps = case
+    wrong = []
+    for form in (1, 2):
+        system = Noted(declaration, tomllib.loads(plan) if plan else None, interpreter.stimuli_in(stimuli), steps)
+        wanted = system.run(horizon, form=form)
+        trace = without_notes(wanted)
+        files = {"iec": declaration, "trace": trace} | ({"toml": plan} if plan else {})
+        for ending, text in files.items():
+            with open(f"{room.folder}/{number}.{ending}", "w", encoding="utf-8") as it:
+                it.write(text)
+        words = ["inspect", f"{number}.iec", *(["--deploy", f"{number}.toml"] if plan else []), "--steps", str(steps)]
+        ran = room.call([*words, f"{number}.trace"])
+        found = with_conditions(ran.stdout.decode())
+        if ran.returncode or ran.stderr or found != wanted:
+            pairs = zip(found.splitlines() + ["(none)"], wanted.splitlines() + ["(none)"])
+            part = next((f"{a!r} and not {b!r}" for a, b in pairs if a != b), "")
+            wrong.append(f"{name}, form {form}: status {ran.returncode} {ran.stderr.decode().strip()}: {part}")
+        for text, line in spoiled(system, trace):
+            ran = room.call([*words, "-"], text.encode())
+            if (ran.returncode, ran.stderr) != (2, f"refused trace line {line}\n".encode()):
+                wrong.append(f"{name}, form {form}: a spoiled line {line}: status {ran.returncode} {ran.stderr.decode().strip()}")
+    return wrong
+
+
+def make_all(program):
+    """Returns whether each text is as it is to be."""
+    cases = [*examples(), *systems()]
+    with Room(program) as room:
+        wrong = [it for found in side_by_side(lambda it: faults_of(room, *it), [*enumerate(cases)]) for it in found]
+    print("\n".join(wrong[:SHOWN]), end="\n" * bool(wrong))
+    print(f"insides: {len(wrong)} faults in {len(cases)} systems", flush=True)
+    return not wrong
+
+
+if __name__ == "__main__":
+    sys.exit(not make_all(sys.argv[1] if sys.argv[1:] else PROGRAM))
