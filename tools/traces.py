@@ -3,7 +3,7 @@
 
 The expected result of each text is worked out here from docs/FORMATS.md, "What is no trace", without the program. A text that is
 still a trace has the dump of its lines (tools/waves.py); with --cut, so has one that is cut off. Any other is refused with the number
-of the line at which that shows first. These calls show it for some thousands of texts.
+of the line at which that shows first, and --why adds a line about it. These calls show it for some thousands of texts.
 
 ./gate makes them each time it has run the program. Without ./gate they use the program that ./simulate built."""
 
@@ -148,9 +148,10 @@ def fault(it, text, may_cut, ran):
     """What is wrong with the result of a text, or None."""
     refused: Optional[int] = refused_at(text.decode("latin-1"), it.ports, may_cut)
     if refused is not None:
-        is_well = (ran.returncode, ran.stdout, ran.stderr) == (2, b"", b"refused trace line %d\n" % refused)
+        said = re.compile(rb"refused trace line %d\ntrace: line %d: [^\n]+\n" % (refused, refused))
+        is_well = (ran.returncode, ran.stdout) == (2, b"") and said.fullmatch(ran.stderr)
         return None if is_well else f"{text!r}: line {refused}, and not {ran.returncode} {ran.stdout[-200:]!r} {ran.stderr!r}"
-    wrong = [str(ran.stderr)] if ran.returncode else faults_of_dump(it, text, ran.stdout)
+    wrong = [str(ran.stderr)] if ran.returncode or ran.stderr else faults_of_dump(it, text, ran.stdout)
     return f"{text!r}: a trace{', which may be cut off,' * may_cut} and {wrong}" if wrong else None
 
 
@@ -160,7 +161,7 @@ def try_all(program):
     with Room(program, FILES) as room:
         for it, may_cut in itertools.product(TEXTS, (False, True)):
             texts = sorted({it.trace, *changed(it.trace)})
-            runs = side_by_side(lambda text: room.call([*it.words, *["--cut"] * may_cut], text), texts)
+            runs = side_by_side(lambda text: room.call([*it.words, "--why", *["--cut"] * may_cut], text), texts)
             found = [fault(it, text, may_cut, ran) for text, ran in zip(texts, runs)]
             made, faults = made + len(texts), faults + [one for one in found if one]
     for it in faults[:SHOWN]:

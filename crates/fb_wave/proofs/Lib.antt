@@ -7,6 +7,7 @@ pub mod Pairing
 pub mod Placing
 pub mod Showing
 pub mod Severed
+pub mod Current
 pub mod Declaring
 pub mod Listing
 pub mod Noting

@@ -1,5 +1,5 @@
 -- How a dump is copied from a trace, line by line (this project's profile).
-use Rattle.std.specs.Prelude.{◌≡◌, ◌<◌, ◌≤◌, ◌⊎◌, ℕ, ◌+◌, List, [], ◌∷◌, ◌++◌, length, map, IfSome, Option, Some}
+use Rattle.std.specs.Prelude.{◌≡◌, ◌<◌, ◌≤◌, ◌⊎◌, ℕ, ◌+◌, List, [], ◌∷◌, ◌++◌, length, map, true, IfSome, Option, Some}
 use Rattle.std.specs.Io.BufRead.{take_through}
 use Rattle.std.specs.Io.KnownBytes.{Appends, Consumes, IsAtEnd}
 use Rattle.fb_types.specs.Systems.{System}
@@ -20,6 +20,7 @@ use Rattle.fb_wave.specs.Named.{HasNames}
 use Rattle.fb_wave.specs.Waves.{AreLinesOf}
 use Rattle.fb_wave.specs.declared.copy.Progress.{Progress}
 use Rattle.fb_wave.specs.declared.error.WaveError.{WaveError}
+use Rattle.fb_wave.specs.declared.current_line.CurrentLine.{CurrentLine}
 use Rattle.fb_wave.specs.declared.error.WaveError.TheVariants.{Refused, Names, Memory, Read, Write}
 use Rattle.fb_wave.specs.declared.page.DumpPage.{DumpPage}
 
@@ -54,6 +55,15 @@ RefusesEnd end t number left (Write n) = Unit {0}
 -- the line is all up to the first line feed of the text, which it has too
 abbrev pub IsFirstLine : (line : List ℕ) → (text : Option (List ℕ)) → Type 0
 IsFirstLine line text = IfSome text (λ bytes. line ≡ take_through 10 bytes)
+
+-- Where an end is refused, its line is still the last one; where something comes after it, that is.
+abbrev pub IsRefusedAt : Outcome → (tick number : ℕ) → (left : Option (List ℕ)) → (old new : CurrentLine) → WaveError → Type 0
+IsRefusedAt end t number left old new (Refused n) =
+    ((n ≡ number) × (new ≡ old) × ¬ (IsAfter t end)) ⊎ ((new.after_end ≡ true) × IsAfter t end × IsFirstLine new.text.items left)
+IsRefusedAt end t number left old new Names = Unit {0}
+IsRefusedAt end t number left old new Memory = Unit {0}
+IsRefusedAt end t number left old new Read = Unit {0}
+IsRefusedAt end t number left old new (Write n) = Unit {0}
 
 -- the writer did not fail
 abbrev pub IsNoWriteFault : WaveError → Type 0

@@ -17,3 +17,4 @@ pub mod ByTick
 pub mod Nested
 pub mod Copying
 pub mod CutOff
+pub mod CurrentLines

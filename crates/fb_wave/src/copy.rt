@@ -7,12 +7,14 @@ ghost use Rattle.fb_types.specs.Systems.{System as Flat};
 ghost use Rattle.fb_wave.specs.Lines.{IsLast};
 ghost use Rattle.fb_wave.specs.Tables.{IsTable};
 ghost use Rattle.fb_wave.specs.Writing.{HasShown, IsDump};
-ghost use Rattle.fb_wave.specs.Copying.{IsAfter, IsCutFinished, IsCutUnfinished, IsFinished, IsFirstLine, IsNoWriteFault, IsTaken, IsUnfinished, RefusesEnd, RefusesLine};
+ghost use Rattle.fb_wave.specs.Copying.{IsAfter, IsCutFinished, IsCutUnfinished, IsFinished, IsFirstLine, IsNoWriteFault, IsRefusedAt, IsTaken, IsUnfinished, RefusesEnd, RefusesLine};
 ghost use Rattle.fb_wave.specs.CutOff.{BlamesShown, FailsShown, IsShown};
+ghost use Rattle.fb_wave.specs.CurrentLines.{IsRefusedLine};
 ghost use Rattle.fb_wave.specs.Named as named;
 ghost use Rattle.fb_wave.specs.Named.{HasNames};
 ghost use Rattle.fb_wave.specs.Words.{is_word};
 
+use crate::current_line::CurrentLine;
 use crate::dump::Dump;
 use crate::error::WaveError;
 use crate::last::read_last;
@@ -77,6 +79,7 @@ pub fn can_end(tick: u64, end: Outcome) -> bool
 pub fn is_over<R: BufRead>(input: &mut R, line: &mut Vec<u8>) -> Result<bool, WaveError>
     ensures over { IfOk result (λ over. IsTrue over → IsAtEnd (R.remaining input.old)) }
     ensures more { IfOk result (λ over. over ≡ false → IfSome (R.remaining input.old) (λ rest. 0 < length rest)) }
+    ensures line { OnOk result (IsFirstLine line.new.items (R.remaining input.old)) }
     ensures fault { IfErr result (λ e. e ≡ WaveError.Read) }
 {
     next_line(input, line)?;
@@ -107,6 +110,7 @@ impl Progress {
         requires dump { IsDump (system_of table.now.system.now) self.old.dump }
         ensures taken { OnOk result (IsTaken (system_of table.now.system.now) form line.now self.old self.new) }
         ensures fault { IfErr result IsNoWriteFault }
+        ensures tick { IfErr result (λ e. self.new.tick ≡ self.old.tick) }
         ensures refused { HasNames (system_of table.now.system.now)
             → IfErr result (RefusesLine (system_of table.now.system.now) form self.old.tick number line.now) }
     {
@@ -127,22 +131,25 @@ impl Progress {
         system: &System,
         end: Outcome,
         number: u64,
-        line: &mut Vec<u8>,
+        current: &mut CurrentLine,
         input: &mut R,
         out: &mut W,
     ) -> Result<(), WaveError>
         requires dump { IsDump (system_of system.now) self.old.dump }
         requires number { number + 1 < 2 ^ 64 }
-        requires end { IsLast (system_of system.now) line.old.items end }
+        requires end { IsLast (system_of system.now) current.old.text.items end }
         ensures whole { OnOk result (IsFinished (system_of system.now) end self.old (R.remaining input.old) (W.contents out.old) (W.contents out.new)) }
         ensures part { IfErr result (IsUnfinished (system_of system.now) self.old (W.contents out.old) (W.contents out.new)) }
         ensures refused { IfErr result (RefusesEnd end self.old.tick number (R.remaining input.old)) }
+        ensures tick { self.new.tick ≡ self.old.tick }
+        ensures current { IfErr result (IsRefusedAt end self.old.tick number (R.remaining input.old) current.old current.new) }
     {
         if !can_end(self.tick, end) {
             return Err(WaveError::Refused(number));
         }
         self.dump.end(system, end, &mut self.page.text)?;
-        if !is_over(input, line)? {
+        current.after_end = true;
+        if !is_over(input, &mut current.text)? {
             return Err(WaveError::Refused(number + 1));
         }
         self.page.flush(out)
@@ -158,14 +165,13 @@ impl Progress {
         self.page.flush(out)
     }
 
-    /// Reads a trace, and writes its dump. The buffer is for the line that was read last: it is lent, so that no way out of
-    /// the loop lets one go.
+    /// Reads a trace, and writes its dump. The line that was read last is lent, so that it is there after a refusal.
     pub(crate) fn copy<R: BufRead, W: Write>(
         &mut self,
         alloc: Global,
         table: &PortTable,
         cut: Cut,
-        line: &mut Vec<u8>,
+        current: &mut CurrentLine,
         input: &mut R,
         out: &mut W,
     ) -> Result<(), WaveError>
@@ -174,23 +180,27 @@ impl Progress {
         requires tick { self.old.tick ≡ 0 }
         requires shown { HasShown (system_of table.now.system.now) [] self.old.page.text.items self.old.dump }
         requires written { self.old.page.written ≡ 0 }
+        requires current { current.old.after_end ≡ false }
         ensures whole { OnOk result (IfSome (R.remaining input.old) (λ text. IsShown cut (system_of table.now.system.now) text (W.contents out.old) (W.contents out.new))) }
         ensures part { IfErr result (FailsShown cut (system_of table.now.system.now) (W.contents out.old) (W.contents out.new)) }
         ensures refused { HasNames (system_of table.now.system.now)
             → IfErr result (BlamesShown cut (system_of table.now.system.now) (R.remaining input.old)) }
+        ensures current { HasNames (system_of table.now.system.now)
+            → IfErr result (IsRefusedLine (system_of table.now.system.now) (R.remaining input.old) (record current.new { tick = self.new.tick })) }
     {
-        next_line(input, line)?;
-        let form = form_of(line.as_slice());
+        next_line(input, &mut current.text)?;
+        let form = form_of(current.text.as_slice());
+        current.form = form;
         for number in 1..u64::MAX {
-            if let Some(end) = read_last(table.system, line.as_slice()) {
-                return self.finish(table.system, end, number, line, input, out);
+            if let Some(end) = read_last(table.system, current.text.as_slice()) {
+                return self.finish(table.system, end, number, current, input, out);
             }
-            if is_cut(cut, line.as_slice()) {
+            if is_cut(cut, current.text.as_slice()) {
                 return self.finish_cut(out);
             }
-            self.take(alloc, table, form, number, line.as_slice())?;
+            self.take(alloc, table, form, number, current.text.as_slice())?;
             self.page.flush_much(out)?;
-            next_line(input, line)?;
+            next_line(input, &mut current.text)?;
         }
         Err(WaveError::Read)
     }

@@ -14,7 +14,7 @@ use fb_trace::Outcome;
 use fb_types::{Reason, StopMark};
 
 /// The number of the resource with a name.
-fn resource_of(system: &System, name: &[u8]) -> Option<u32>
+pub fn resource_of(system: &System, name: &[u8]) -> Option<u32>
     ensures within { IfSome result (λ r. r < length (system_of system.now).resource_names) }
     ensures named { IfSome result (λ r. name.now ≡ slice_index_or (system_of system.now).resource_names r []) }
     ensures none { IfNone result ((r : ℕ) → r < length (system_of system.now).resource_names

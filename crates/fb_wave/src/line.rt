@@ -19,10 +19,10 @@ use std::alloc::{AllocError, Global};
 
 /// The class and the parts of a key.
 #[derive(Clone, Copy)]
-struct Parts {
-    class: u8,
-    a: u128,
-    b: u128,
+pub struct Parts {
+    pub class: u8,
+    pub a: u128,
+    pub b: u128,
 }
 
 /// The class in 8 bits, where it has no more.
@@ -37,7 +37,7 @@ fn class_of(number: u128) -> Option<u8>
 }
 
 /// What a line begins with in a form, and what comes after it.
-fn parts_of(form: Form, text: &[u8]) -> Option<(Parts, &[u8])>
+pub fn parts_of(form: Form, text: &[u8]) -> Option<(Parts, &[u8])>
     ensures head { MatchOption result (HasNoHead form text.now) (λ p. IsHead form text.now p.0 p.1.now) }
     ensures range { IfSome result (λ p. AreInRange p.0) }
 {

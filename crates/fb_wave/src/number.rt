@@ -57,7 +57,7 @@ pub(crate) fn number(text: &[u8]) -> Option<(u128, &[u8])>
 }
 
 /// A number of 64 bits before a blank, and what comes after the blank.
-pub(crate) fn tick(text: &[u8]) -> Option<(u64, &[u8])>
+pub fn tick(text: &[u8]) -> Option<(u64, &[u8])>
     ensures tick { MatchOption result (HasNoNumber (2 ^ 64) text.now) (λ p. text.now ≡ number_text p.0 ++ p.1.now) }
     ensures range { IfSome result (λ p. p.0 < 2 ^ 64) }
 {

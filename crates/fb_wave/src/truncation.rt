@@ -11,7 +11,7 @@ pub enum Cut {
 }
 
 /// Whether a line does not end in a line feed.
-fn is_unended(line: &[u8]) -> bool
+pub fn is_unended(line: &[u8]) -> bool
     ensures { result ≡ spec.is_unended line.now }
 {
     match line.last() {

@@ -54,7 +54,7 @@ fn value_in(text: &[u8]) -> Option<Value>
 }
 
 /// The value of a type that a text is.
-fn value_of(ty: Ty, text: &[u8]) -> Option<Value>
+pub fn value_of(ty: Ty, text: &[u8]) -> Option<Value>
     ensures { MatchOption result (IsNoValue ty text.now) (λ v. (fits ty v ≡ true) × (text.now ≡ value_text v)) }
 {
     let value = value_in(text)?;
@@ -62,7 +62,7 @@ fn value_of(ty: Ty, text: &[u8]) -> Option<Value>
 }
 
 /// A variable with a value of its type, and what comes after them.
-fn binding<'a>(variable: &Variable, text: &'a [u8]) -> Option<(Value, &'a [u8])>
+pub fn binding<'a>(variable: &Variable, text: &'a [u8]) -> Option<(Value, &'a [u8])>
     ensures { MatchOption result (IsUnbound variable.now.name variable.now.ty text.now)
         (λ p. IsBound variable.now.name variable.now.ty text.now p.0 p.1.now) }
 {

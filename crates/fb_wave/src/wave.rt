@@ -3,10 +3,12 @@
 ghost use Rattle.std.specs.Prelude.{IfErr, IfSome, OnOk};
 ghost use Rattle.fb_types.specs.Headline.{system_of};
 ghost use Rattle.fb_wave.specs.CutOff.{BlamesShown, FailsShown, IsShown};
+ghost use Rattle.fb_wave.specs.CurrentLines.{IsRefusedLine};
 ghost use Rattle.fb_wave.specs.Refusals.{Blames};
 ghost use Rattle.fb_wave.specs.Waves.{FailsWave, IsWave};
 
 use crate::copy::Progress;
+use crate::current_line::CurrentLine;
 use crate::dump::Dump;
 use crate::error::WaveError;
 use crate::names::has_names;
@@ -52,11 +54,14 @@ pub fn write_wave<R: BufRead, W: Write>(
     ensures part { IfErr result (FailsWave (system_of system.now) (W.contents out.old) (W.contents out.new)) }
     ensures refused { IfErr result (Blames (system_of system.now) (R.remaining input.old)) }
 {
-    write_wave_with(alloc, system, Cut::Refused, input, out)
+    let mut current = CurrentLine::new(alloc);
+    write_wave_with(alloc, system, Cut::Refused, &mut current, input, out)
 }
 
 /// The same of a trace that may be cut off: end without a last line, or within a line, which then does not count. Its dump
 /// ends in a comment that says so.
+///
+/// The line that was read last is lent, so that after a refusal it shows which line was refused.
 ///
 /// # Errors
 /// As those of `write_wave`, but no trace is refused because it is cut off.
@@ -64,12 +69,14 @@ pub fn write_wave_with<R: BufRead, W: Write>(
     alloc: Global,
     system: &System,
     cut: Cut,
+    current: &mut CurrentLine,
     input: &mut R,
     out: &mut W,
 ) -> Result<(), WaveError>
     ensures whole { OnOk result (IfSome (R.remaining input.old) (λ text. IsShown cut (system_of system.now) text (W.contents out.old) (W.contents out.new))) }
     ensures part { IfErr result (FailsShown cut (system_of system.now) (W.contents out.old) (W.contents out.new)) }
     ensures refused { IfErr result (BlamesShown cut (system_of system.now) (R.remaining input.old)) }
+    ensures current { IfErr result (IsRefusedLine (system_of system.now) (R.remaining input.old) current.new) }
 {
     system.facts();
     if !has_names(system) {
@@ -89,6 +96,8 @@ pub fn write_wave_with<R: BufRead, W: Write>(
         guess,
         tick: 0,
     };
-    let mut line = Vec::new(alloc);
-    progress.copy(alloc, &table, cut, &mut line, input, out)
+    current.after_end = false;
+    let written = progress.copy(alloc, &table, cut, current, input, out);
+    current.tick = progress.tick;
+    written
 }

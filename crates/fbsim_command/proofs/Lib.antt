@@ -10,6 +10,7 @@ mod Declaring
 mod Parting
 mod Drawing
 mod Explaining
+mod NotedLines
 mod Showing
 mod Noting
 mod Reporting

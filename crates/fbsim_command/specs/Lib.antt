@@ -6,6 +6,7 @@ pub mod Reading
 pub mod Notes
 pub mod Outcomes
 pub mod OwnLines
+pub mod LineNotes
 pub mod Showing
 pub mod Known
 pub mod Expecting

@@ -1,18 +1,19 @@
 //! The waveforms of a trace.
 
 ghost use Rattle.std.specs.Prelude.{◌≡◌, map, option_map, string_bytes};
+ghost use Rattle.fbsim_command.specs.LineNotes.{NotesLine};
 ghost use Rattle.fbsim_command.specs.Notes.{Notes};
 ghost use Rattle.fbsim_command.specs.Showing.{Dumps, IsTraceFileNote, Shows, cut_of, files_of};
 
 use crate::failure::Failure;
+use crate::line_notes::{note_of_trace_line, note_of_wave};
 use crate::notes::{note_of_file, note_of_name};
 use crate::own_lines::end_with;
-use crate::program::note_to;
 use crate::sources::{Source, SourceFault, Streams};
 use crate::statuses::Done;
 use crate::texts::read_files;
 use fb_sim::{Inputs, discard, open};
-use fb_wave::{Cut, write_wave_with};
+use fb_wave::{CurrentLine, Cut, write_wave_with};
 use fbsim_line::{Action, Task, Wave};
 use std::alloc::Global;
 use std::io::{BufRead, Write};
@@ -41,22 +42,31 @@ fn cut_of(wave: &Wave<'_>) -> Cut
     }
 }
 
-/// Reads a trace of what is declared, and writes its waveforms.
+/// Reads a trace of what is declared, and writes its waveforms. It says how that ends, and what is reported of the line
+/// at which the trace is refused.
 fn dump<R: BufRead, W: Write>(
     alloc: Global,
-    cut: Cut,
+    wave: &Wave<'_>,
     inputs: &Inputs<'_>,
     trace: &mut R,
     out: &mut W,
-) -> Result<Done, Failure>
-    ensures { Dumps cut inputs.now (R.remaining trace.old) (W.contents out.old) (W.contents out.new) result }
+) -> (Result<Done, Failure>, Option<String>)
+    ensures dumped { Dumps (cut_of wave.now) inputs.now (R.remaining trace.old) (W.contents out.old) (W.contents out.new) result.0 }
+    ensures noted { NotesLine wave.now.why inputs.now (R.remaining trace.old) result.0 (option_map string_bytes result.1) }
 {
-    let system = open(alloc, inputs)?;
-    let written = write_wave_with(alloc, &system, cut, trace, out);
+    let system = match open(alloc, inputs) {
+        Ok(system) => system,
+        Err(error) => return (Err(Failure::from(error)), None),
+    };
+    let mut current = CurrentLine::new(alloc);
+    let written = write_wave_with(alloc, &system, cut_of(wave), &mut current, trace, out);
+    let note = note_of_trace_line(alloc, wave.why, &system, &written, &current);
     // Dropped by one call: the end of its scope would prove the drop part by part.
     discard(system);
-    written?;
-    Ok(Done::Shown)
+    match written {
+        Ok(()) => (Ok(Done::Shown), note),
+        Err(error) => (Err(Failure::from(error)), note),
+    }
 }
 
 /// The note to the file of the trace, which is not opened, where one is asked for.
@@ -98,8 +108,8 @@ pub fn show<S: Source + Streams, W: Write>(
             return (Err(Failure::from(fault)), note);
         }
     };
-    let end = dump(alloc, cut_of(wave), &texts.inputs(), &mut trace, out);
-    let note = note_to(alloc, types, &task, &end, &texts);
+    let (end, line) = dump(alloc, wave, &texts.inputs(), &mut trace, out);
+    let note = note_of_wave(alloc, types, &task, &end, &texts, line);
     let end = end_with(alloc, types, wave.declaration, &texts, end);
     (end, note)
 }

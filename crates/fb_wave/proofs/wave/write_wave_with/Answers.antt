@@ -14,6 +14,7 @@ use Rattle.fb_wave.proofs.Alike.{texts_differ}
 use Rattle.fb_wave.proofs.Copied.{front_none}
 use Rattle.fb_wave.proofs.Severed.{blames_memory, blames_names, fails_in}
 use Rattle.fb_wave.proofs.Handing.{on_passed}
+use Rattle.fb_wave.specs.CurrentLines.{IsRefusedLine}
 use Rattle.fb_wave.proofs.wave.write_wave_with.Goals as goal
 
 of_table : (o : Option PortTable) (t : PortTable) (s : Inputs) → o ≡ Some t → IfSome o (λ t. IsTable t × (t.system.now ≡ s)) → t.system.now ≡ s
@@ -23,12 +24,12 @@ of_table o t s is are = (subst (λ (o : Option PortTable). IfSome o (λ t. IsTab
 names_so : {P : Type 0} (b : Bool) → b ≡ true → (IsTrue b → P) → P
 names_so b is so = so is
 
-pub copy-requires-clause-dump : goal.copy-requires-clause-dump
-copy-requires-clause-dump g c =
+pub copy-written-requires-clause-dump : goal.copy-written-requires-clause-dump
+copy-written-requires-clause-dump g c =
     subst (λ (s : Inputs). IsDump (system_of s) c.in_ok-dump.dump) (sym (of_table _ c.in-Some.table c.args.system.now c.in-Some.is c.in_ok-table.ensures.table)) c.in_ok-dump.ensures.numbers
 
-pub copy-requires-clause-shown : goal.copy-requires-clause-shown
-copy-requires-clause-shown g c =
+pub copy-written-requires-clause-shown : goal.copy-written-requires-clause-shown
+copy-written-requires-clause-shown g c =
     subst (λ (s : Inputs). HasShown (system_of s) [] c.begin.new.text.items c.in_ok-dump.dump) (sym (of_table _ c.in-Some.table c.args.system.now c.in-Some.is c.in_ok-table.ensures.table))
     (c.in_ok-dump.ensures.shown c.new-page.ensures.empty)
 
@@ -36,15 +37,15 @@ pub returns-clause-whole : goal.returns-clause-whole
 returns-clause-whole g c =
     subst
     (λ (s : Inputs).
-    OnOk c.copy.result
-    (IfSome (g.R.Read.remaining c.args.input.now) (λ text. IsShown c.args.cut (system_of s) text (g.W.Write.contents c.args.out.now) (g.W.Write.contents c.copy.new.out))))
-    (of_table _ c.in-Some.table c.args.system.now c.in-Some.is c.in_ok-table.ensures.table) c.copy.ensures.whole
+    OnOk c.copy-written.result
+    (IfSome (g.R.Read.remaining c.args.input.now) (λ text. IsShown c.args.cut (system_of s) text (g.W.Write.contents c.args.out.now) (g.W.Write.contents c.copy-written.new.out))))
+    (of_table _ c.in-Some.table c.args.system.now c.in-Some.is c.in_ok-table.ensures.table) c.copy-written.ensures.whole
 
 pub returns-clause-part : goal.returns-clause-part
 returns-clause-part g c =
     subst
-    (λ (s : Inputs). IfErr c.copy.result (FailsShown c.args.cut (system_of s) (g.W.Write.contents c.args.out.now) (g.W.Write.contents c.copy.new.out)))
-    (of_table _ c.in-Some.table c.args.system.now c.in-Some.is c.in_ok-table.ensures.table) c.copy.ensures.part
+    (λ (s : Inputs). IfErr c.copy-written.result (FailsShown c.args.cut (system_of s) (g.W.Write.contents c.args.out.now) (g.W.Write.contents c.copy-written.new.out)))
+    (of_table _ c.in-Some.table c.args.system.now c.in-Some.is c.in_ok-table.ensures.table) c.copy-written.ensures.part
 
 pub returns-in_err-ports-clause-part : goal.returns-in_err-ports-clause-part
 returns-in_err-ports-clause-part g c = on_passed _ _ _ c.from_residual.ensures.1 (fails_in c.args.cut (system_of c.args.system.now) _ _ _ (front_none _ _))
@@ -71,8 +72,8 @@ pub returns-clause-refused : goal.returns-clause-refused
 returns-clause-refused g c =
     subst
     (λ (s : Inputs).
-    HasNames (system_of s) → IfErr c.copy.result (BlamesShown c.args.cut (system_of s) (g.R.Read.remaining c.args.input.now)))
-    (of_table _ c.in-Some.table c.args.system.now c.in-Some.is c.in_ok-table.ensures.table) c.copy.ensures.refused
+    HasNames (system_of s) → IfErr c.copy-written.result (BlamesShown c.args.cut (system_of s) (g.R.Read.remaining c.args.input.now)))
+    (of_table _ c.in-Some.table c.args.system.now c.in-Some.is c.in_ok-table.ensures.table) c.copy-written.ensures.refused
     (names_so c.has_names.result c.if-not-has_names.false c.has_names.ensures.named)
 
 pub returns-in_err-ports-clause-refused : goal.returns-in_err-ports-clause-refused
@@ -98,3 +99,26 @@ unreachable-requires g c =
     texts_differ i c.facts.ensures.accepted c.facts.ensures.numbered (names_so c.has_names.result c.if-not-has_names.false c.has_names.ensures.named) c.in_ok-ports.ports.items c.in_ok-ports.ensures.are
     c.in_ok-ports.ensures.once
     (subst (λ (ns : List Name). Twice ns) (c.as_slice-3.ensures.value ∙ c.in_ok-texts.ensures ∙ ap (map (port_text (system_of i))) c.as_slice.ensures.value) twice)
+
+pub returns-clause-current : goal.returns-clause-current
+returns-clause-current g c =
+    subst
+    (λ (s : Inputs).
+    HasNames (system_of s) → IfErr c.copy-written.result (IsRefusedLine (system_of s) (g.R.Read.remaining c.args.input.now) (record c.copy-written.new.current { tick = c.copy-written.new.self.tick })))
+    (of_table _ c.in-Some.table c.args.system.now c.in-Some.is c.in_ok-table.ensures.table) c.copy-written.ensures.current
+    (names_so c.has_names.result c.if-not-has_names.false c.has_names.ensures.named)
+
+pub returns-in_err-ports-clause-current : goal.returns-in_err-ports-clause-current
+returns-in_err-ports-clause-current g c = on_passed _ _ (IsRefusedLine (system_of c.args.system.now) (g.R.Read.remaining c.args.input.now) _) c.from_residual.ensures.1 tt
+
+pub returns-in_err-texts-clause-current : goal.returns-in_err-texts-clause-current
+returns-in_err-texts-clause-current g c = on_passed _ _ (IsRefusedLine (system_of c.args.system.now) (g.R.Read.remaining c.args.input.now) _) c.from_residual-in_err-texts.ensures.1 tt
+
+pub returns-in_err-table-clause-current : goal.returns-in_err-table-clause-current
+returns-in_err-table-clause-current g c = on_passed _ _ (IsRefusedLine (system_of c.args.system.now) (g.R.Read.remaining c.args.input.now) _) c.from_residual-in_err-table.ensures.1 tt
+
+pub returns-in_err-guess-clause-current : goal.returns-in_err-guess-clause-current
+returns-in_err-guess-clause-current g c = on_passed _ _ (IsRefusedLine (system_of c.args.system.now) (g.R.Read.remaining c.args.input.now) _) c.from_residual-in_err-guess.ensures.1 tt
+
+pub returns-in_err-dump-clause-current : goal.returns-in_err-dump-clause-current
+returns-in_err-dump-clause-current g c = on_passed _ _ (IsRefusedLine (system_of c.args.system.now) (g.R.Read.remaining c.args.input.now) _) c.from_residual-in_err-dump.ensures.1 tt

@@ -1,4 +1,5 @@
-use Rattle.std.proofs.Common.{map, option_map, string_bytes}
+use Rattle.std.proofs.Common.{map, option_map, refl, string_bytes}
+use Rattle.fbsim_command.specs.Showing.{cut_of}
 use Rattle.fbsim_command.specs.Texts.{given_of, lines_of}
 use Rattle.fbsim_command.proofs.Showing.{read_and_shown, unopened, unread_for}
 use Rattle.fbsim_command.proofs.wave.show.Goals as goal
@@ -18,6 +19,6 @@ returns-in-Err-open g c =
 pub returns : goal.returns
 returns g c =
     read_and_shown g.S.Source.gives g.S.Streams.opens c.args.source.now c.read_files.new.source c.open.new.self (map (λ t. t.now) c.args.types.now) c.args.wave.now
-    (g.W.Write.contents c.args.out.now) (g.W.Write.contents c.dump-end.new.out) (lines_of c.in-Ok.texts) (given_of c.in-Ok.texts) c.files_of-task.result c.cut_of.result _ c.inputs.result
-    c.dump-end.result c.end_with-end.result (option_map string_bytes c.note_to-note.result) c.files_of-task.ensures c.cut_of.ensures c.inputs.ensures c.in-Ok.ensures.read c.in-Ok-open.ensures
-    c.dump-end.ensures c.note_to-note.ensures c.end_with-end.ensures
+    (g.W.Write.contents c.args.out.now) (g.W.Write.contents c.dump-end.new.out) (lines_of c.in-Ok.texts) (given_of c.in-Ok.texts) c.files_of-task.result (cut_of c.args.wave.now) _ c.inputs.result
+    c.dump-end.result.0 c.end_with-end.result (option_map string_bytes c.note_of_wave-note.result) c.files_of-task.ensures refl c.inputs.ensures c.in-Ok.ensures.read c.in-Ok-open.ensures
+    c.dump-end.ensures.dumped (option_map string_bytes c.dump-end.result.1) c.dump-end.ensures.noted c.note_of_wave-note.ensures c.end_with-end.ensures

@@ -8,27 +8,41 @@ use Rattle.fb_wave.proofs.Blaming.{end_blamed, line_blamed, some_resource}
 use Rattle.fb_wave.proofs.Forming.{ShowsForm, form_shown}
 use Rattle.fb_wave.proofs.Handing.{on_fault, on_ok, on_passed}
 use Rattle.fb_wave.proofs.Severed.{blames_in, blames_read, cut_blames, cut_fails, cut_shown, end_no_cut, fails_in, line_no_cut, shown_in, uncut_line, write_blames}
+use Rattle.fb_wave.specs.CurrentLines.{IsRefusedLine}
+use Rattle.fb_wave.proofs.Current.{cut_current, end_current, line_current, write_current}
 use Rattle.fb_wave.proofs.copy.Progress.copy.Goals as goal
 
 pub loop-number-init : goal.loop-number-init
 loop-number-init g c =
-    copied_none (system_of c.args.table.now.system.now) _ _ c.args.self.now _ _ _ _ c.requires.tick c.requires.dump c.requires.shown c.requires.written c.in_ok-next_line.ensures.read c.in_ok-next_line.ensures.line refl
-    (λ names f l is. form_shown (system_of c.args.table.now.system.now) c.form_of-form.result f l c.next_line.new.line.items names
-    (subst (λ (t : List ℕ). ShowsForm c.form_of-form.result t) c.as_slice.ensures.value c.form_of-form.ensures) is)
+    record {
+      copied =
+          copied_none (system_of c.args.table.now.system.now) _ _ c.args.self.now _ _ _ _ c.requires.tick c.requires.dump c.requires.shown c.requires.written
+          c.in_ok-next_line.ensures.read c.in_ok-next_line.ensures.line refl
+          (λ names f l is. form_shown (system_of c.args.table.now.system.now) c.form_of-form.result f l c.next_line.new.line.items names
+          (subst (λ (t : List ℕ). ShowsForm c.form_of-form.result t) c.as_slice.ensures.value c.form_of-form.ensures) is);
+      formed = refl;
+      inside = c.requires.current;
+    }
 
 pub loop-number-preserved : goal.loop-number-preserved
 loop-number-preserved g c =
     let sys = system_of c.args.table.now.system.now in
     let form = c.form_of-form.result in
-    copied_one sys form c.loop-number.number c.loop-number.self c.take.new.self _ c.loop-number.line.items c.next_line-in-loop-number.new.line.items _ _ _ _ _ _ c.loop-number.invariant
-    (subst (λ (l : List ℕ). IsTaken sys form l c.loop-number.self c.take.new.self) c.as_slice-in-loop-number-3.ensures.value c.in_ok-take.ensures.taken) refl refl
-    c.in_ok-flush_much.ensures.whole c.in_ok-next_line-2.ensures.read c.in_ok-next_line-2.ensures.line
+    record {
+      copied =
+          copied_one sys form c.loop-number.number c.loop-number.self c.take.new.self _ c.loop-number.current.text.items c.next_line-in-loop-number.new.line.items _ _ _ _ _ _
+          c.loop-number.invariant.copied
+          (subst (λ (l : List ℕ). IsTaken sys form l c.loop-number.self c.take.new.self) c.as_slice-in-loop-number-3.ensures.value c.in_ok-take.ensures.taken) refl refl
+          c.in_ok-flush_much.ensures.whole c.in_ok-next_line-2.ensures.read c.in_ok-next_line-2.ensures.line;
+      formed = c.loop-number.invariant.formed;
+      inside = c.loop-number.invariant.inside;
+    }
 
 pub finish-requires-clause-dump : goal.finish-requires-clause-dump
-finish-requires-clause-dump g c = c.loop-number.invariant.numbers
+finish-requires-clause-dump g c = c.loop-number.invariant.copied.numbers
 
 pub take-requires-clause-dump : goal.take-requires-clause-dump
-take-requires-clause-dump g c = c.loop-number.invariant.numbers
+take-requires-clause-dump g c = c.loop-number.invariant.copied.numbers
 
 pub returns-in-Some-clause-whole : goal.returns-in-Some-clause-whole
 returns-in-Some-clause-whole g c =
@@ -36,7 +50,7 @@ returns-in-Some-clause-whole g c =
     on_ok c.finish.result _ _ c.finish.ensures.whole
     (λ finished.
     shown_in c.args.cut sys _ _ _
-    (copied_all sys c.form_of-form.result c.loop-number.number c.loop-number.self c.loop-number.line.items _ _ _ _ _ c.in-Some.end c.loop-number.invariant
+    (copied_all sys c.form_of-form.result c.loop-number.number c.loop-number.self c.loop-number.current.text.items _ _ _ _ _ c.in-Some.end c.loop-number.invariant.copied
     (subst (λ (l : List ℕ). IsLast sys l c.in-Some.end) c.as_slice-in-loop-number.ensures.value c.in-Some.ensures.last) finished))
 
 pub returns-in_err-next_line-clause-part : goal.returns-in_err-next_line-clause-part
@@ -46,19 +60,19 @@ returns-in_err-next_line-clause-part g c =
 
 pub returns-in-Some-clause-part : goal.returns-in-Some-clause-part
 returns-in-Some-clause-part g c =
-    on_fault c.finish.result _ _ c.finish.ensures.part (λ e unfinished. fails_in c.args.cut _ _ _ e (fails_unfinished _ _ _ _ _ _ _ _ _ _ c.loop-number.invariant e unfinished))
+    on_fault c.finish.result _ _ c.finish.ensures.part (λ e unfinished. fails_in c.args.cut _ _ _ e (fails_unfinished _ _ _ _ _ _ _ _ _ _ c.loop-number.invariant.copied e unfinished))
 
 pub returns-in_err-take-clause-part : goal.returns-in_err-take-clause-part
 returns-in_err-take-clause-part g c =
     on_passed _ _ (FailsShown c.args.cut (system_of c.args.table.now.system.now) _ _) c.from_residual-in_err-take.ensures.1
-    (fails_in c.args.cut _ _ _ _ (fails_front _ _ _ _ c.in_err-take.ensures.fault (front_copied _ _ _ _ _ _ _ _ _ c.loop-number.invariant)))
+    (fails_in c.args.cut _ _ _ _ (fails_front _ _ _ _ c.in_err-take.ensures.fault (front_copied _ _ _ _ _ _ _ _ _ c.loop-number.invariant.copied)))
 
 pub returns-in_err-flush_much-clause-part : goal.returns-in_err-flush_much-clause-part
 returns-in_err-flush_much-clause-part g c =
     let sys = system_of c.args.table.now.system.now in
     on_passed _ _ (FailsShown c.args.cut sys (g.W.Write.contents c.args.out.now) (g.W.Write.contents c.flush_much.new.out)) c.from_residual-in_err-flush_much.ensures.1
     (fails_in c.args.cut sys _ _ _
-    (fails_taken sys _ _ _ _ _ _ _ _ _ _ c.loop-number.invariant
+    (fails_taken sys _ _ _ _ _ _ _ _ _ _ c.loop-number.invariant.copied
     (subst (λ (l : List ℕ). IsTaken sys c.form_of-form.result l c.loop-number.self c.take.new.self) c.as_slice-in-loop-number-3.ensures.value c.in_ok-take.ensures.taken) _
     c.in_err-flush_much.ensures.part))
 
@@ -68,40 +82,40 @@ returns-in_err-next_line-2-clause-part g c =
     on_passed _ _ (FailsShown c.args.cut sys (g.W.Write.contents c.args.out.now) (g.W.Write.contents c.flush_much.new.out)) c.from_residual-in_err-next_line-2.ensures.1
     (fails_in c.args.cut sys _ _ _
     (fails_front _ _ _ _ (subst IsNoWriteFault (sym c.in_err-next_line-2.ensures.fault) tt)
-    (front_flushed sys _ _ _ _ _ _ _ _ _ _ _ c.loop-number.invariant
+    (front_flushed sys _ _ _ _ _ _ _ _ _ _ _ c.loop-number.invariant.copied
     (subst (λ (l : List ℕ). IsTaken sys c.form_of-form.result l c.loop-number.self c.take.new.self) c.as_slice-in-loop-number-3.ensures.value c.in_ok-take.ensures.taken)
     c.in_ok-flush_much.ensures.whole)))
 
 pub returns-clause-part : goal.returns-clause-part
-returns-clause-part g c = fails_in c.args.cut _ _ _ _ (front_copied _ _ _ _ _ _ _ _ _ c.loop-number.invariant)
+returns-clause-part g c = fails_in c.args.cut _ _ _ _ (front_copied _ _ _ _ _ _ _ _ _ c.loop-number.invariant.copied)
 
 pub returns-in-Some-clause-refused : goal.returns-in-Some-clause-refused
 returns-in-Some-clause-refused g c names =
     let sys = system_of c.args.table.now.system.now in
-    let last : IsLast sys c.loop-number.line.items c.in-Some.end = subst (λ (l : List ℕ). IsLast sys l c.in-Some.end) c.as_slice-in-loop-number.ensures.value c.in-Some.ensures.last in
+    let last : IsLast sys c.loop-number.current.text.items c.in-Some.end = subst (λ (l : List ℕ). IsLast sys l c.in-Some.end) c.as_slice-in-loop-number.ensures.value c.in-Some.ensures.last in
     on_fault c.finish.result _ _ c.finish.ensures.refused
     (λ e refuses.
     blames_in c.args.cut sys _ e
-    (end_blamed sys c.form_of-form.result c.loop-number.number c.loop-number.self c.loop-number.line.items (g.R.Read.remaining c.args.input.now) (g.R.Read.remaining c.loop-number.input)
-    (g.W.Write.contents c.args.out.now) (g.W.Write.contents c.loop-number.out) c.loop-number.invariant names (some_resource c.args.table.now.system.now c.requires.table.limits) c.in-Some.end last e refuses)
-    (λ same. end_no_cut sys c.form_of-form.result c.loop-number.number c.loop-number.self c.loop-number.line.items (g.R.Read.remaining c.args.input.now) (g.R.Read.remaining c.loop-number.input)
-    (g.W.Write.contents c.args.out.now) (g.W.Write.contents c.loop-number.out) c.loop-number.invariant names c.in-Some.end last e refuses))
+    (end_blamed sys c.form_of-form.result c.loop-number.number c.loop-number.self c.loop-number.current.text.items (g.R.Read.remaining c.args.input.now) (g.R.Read.remaining c.loop-number.input)
+    (g.W.Write.contents c.args.out.now) (g.W.Write.contents c.loop-number.out) c.loop-number.invariant.copied names (some_resource c.args.table.now.system.now c.requires.table.limits) c.in-Some.end last e refuses)
+    (λ same. end_no_cut sys c.form_of-form.result c.loop-number.number c.loop-number.self c.loop-number.current.text.items (g.R.Read.remaining c.args.input.now) (g.R.Read.remaining c.loop-number.input)
+    (g.W.Write.contents c.args.out.now) (g.W.Write.contents c.loop-number.out) c.loop-number.invariant.copied names c.in-Some.end last e refuses))
 
 pub returns-in_err-take-clause-refused : goal.returns-in_err-take-clause-refused
 returns-in_err-take-clause-refused g c names =
     let sys = system_of c.args.table.now.system.now in
     let e = c.in_err-take.field-0.0 in
-    let refuses : RefusesLine sys c.form_of-form.result c.loop-number.self.tick c.loop-number.number c.loop-number.line.items e =
+    let refuses : RefusesLine sys c.form_of-form.result c.loop-number.self.tick c.loop-number.number c.loop-number.current.text.items e =
     subst (λ (l : List ℕ). RefusesLine sys c.form_of-form.result c.loop-number.self.tick c.loop-number.number l e) c.as_slice-in-loop-number-3.ensures.value (c.in_err-take.ensures.refused names)
     in
     on_passed _ _ _ c.from_residual-in_err-take.ensures.1
     (blames_in c.args.cut sys _ e
-    (line_blamed sys c.form_of-form.result c.loop-number.number c.loop-number.self c.loop-number.line.items (g.R.Read.remaining c.args.input.now) (g.R.Read.remaining c.loop-number.input)
-    (g.W.Write.contents c.args.out.now) (g.W.Write.contents c.loop-number.out) c.loop-number.invariant names (some_resource c.args.table.now.system.now c.requires.table.limits)
+    (line_blamed sys c.form_of-form.result c.loop-number.number c.loop-number.self c.loop-number.current.text.items (g.R.Read.remaining c.args.input.now) (g.R.Read.remaining c.loop-number.input)
+    (g.W.Write.contents c.args.out.now) (g.W.Write.contents c.loop-number.out) c.loop-number.invariant.copied names (some_resource c.args.table.now.system.now c.requires.table.limits)
     (subst (λ (l : List ℕ). IsNoLast sys l) c.as_slice-in-loop-number.ensures.value (c.in_default.ensures.none names)) e refuses)
     (λ same.
-    line_no_cut sys c.form_of-form.result c.loop-number.number c.loop-number.self c.loop-number.line.items (g.R.Read.remaining c.args.input.now) (g.R.Read.remaining c.loop-number.input)
-    (g.W.Write.contents c.args.out.now) (g.W.Write.contents c.loop-number.out) c.loop-number.invariant names
+    line_no_cut sys c.form_of-form.result c.loop-number.number c.loop-number.self c.loop-number.current.text.items (g.R.Read.remaining c.args.input.now) (g.R.Read.remaining c.loop-number.input)
+    (g.W.Write.contents c.args.out.now) (g.W.Write.contents c.loop-number.out) c.loop-number.invariant.copied names
     (subst (λ (l : List ℕ). is_unended l ≡ false) c.as_slice-in-loop-number-2.ensures.value (uncut_line c.args.cut c.as_slice-in-loop-number-2.result.now (sym c.is_cut.ensures ∙ c.if-is_cut.false) same)) e refuses))
 
 pub returns-in_err-next_line-clause-refused : goal.returns-in_err-next_line-clause-refused
@@ -124,26 +138,69 @@ returns-in_err-flush_much-clause-refused g c names =
     (write_blames c.args.cut sys input _ _ c.take.new.self.page c.in_err-flush_much.field-0.0 c.in_err-flush_much.ensures.part)
 
 pub finish_cut-requires : goal.finish_cut-requires
-finish_cut-requires g c = c.loop-number.invariant.numbers.fit.within
+finish_cut-requires g c = c.loop-number.invariant.copied.numbers.fit.within
 
 pub returns-then-is_cut-clause-whole : goal.returns-then-is_cut-clause-whole
 returns-then-is_cut-clause-whole g c =
     let sys = system_of c.args.table.now.system.now in
     on_ok c.finish_cut.result _ _ (c.finish_cut.ensures.whole sys)
-    (cut_shown sys c.form_of-form.result c.loop-number.number c.loop-number.self c.loop-number.line.items (g.R.Read.remaining c.args.input.now) (g.R.Read.remaining c.loop-number.input)
-    (g.W.Write.contents c.args.out.now) (g.W.Write.contents c.loop-number.out) c.loop-number.invariant _ c.args.cut
+    (cut_shown sys c.form_of-form.result c.loop-number.number c.loop-number.self c.loop-number.current.text.items (g.R.Read.remaining c.args.input.now) (g.R.Read.remaining c.loop-number.input)
+    (g.W.Write.contents c.args.out.now) (g.W.Write.contents c.loop-number.out) c.loop-number.invariant.copied _ c.args.cut
     (subst (λ (l : List ℕ). is_cut c.args.cut l ≡ true) c.as_slice-in-loop-number-2.ensures.value (sym c.is_cut.ensures ∙ c.if-is_cut.true)))
 
 pub returns-then-is_cut-clause-part : goal.returns-then-is_cut-clause-part
 returns-then-is_cut-clause-part g c =
     let sys = system_of c.args.table.now.system.now in
     on_fault c.finish_cut.result _ _ (c.finish_cut.ensures.part sys)
-    (cut_fails sys c.form_of-form.result c.loop-number.number c.loop-number.self c.loop-number.line.items (g.R.Read.remaining c.args.input.now) (g.R.Read.remaining c.loop-number.input)
-    (g.W.Write.contents c.args.out.now) (g.W.Write.contents c.loop-number.out) c.loop-number.invariant _ c.args.cut
+    (cut_fails sys c.form_of-form.result c.loop-number.number c.loop-number.self c.loop-number.current.text.items (g.R.Read.remaining c.args.input.now) (g.R.Read.remaining c.loop-number.input)
+    (g.W.Write.contents c.args.out.now) (g.W.Write.contents c.loop-number.out) c.loop-number.invariant.copied _ c.args.cut
     (subst (λ (l : List ℕ). is_cut c.args.cut l ≡ true) c.as_slice-in-loop-number-2.ensures.value (sym c.is_cut.ensures ∙ c.if-is_cut.true)))
 
 pub returns-then-is_cut-clause-refused : goal.returns-then-is_cut-clause-refused
 returns-then-is_cut-clause-refused g c names =
     let sys = system_of c.args.table.now.system.now in
-    on_fault c.finish_cut.result _ _ (c.finish_cut.ensures.part sys) (cut_blames sys c.form_of-form.result c.loop-number.number c.loop-number.self c.loop-number.line.items (g.R.Read.remaining c.args.input.now) (g.R.Read.remaining c.loop-number.input)
-    (g.W.Write.contents c.args.out.now) (g.W.Write.contents c.loop-number.out) c.loop-number.invariant _ c.args.cut)
+    on_fault c.finish_cut.result _ _ (c.finish_cut.ensures.part sys) (cut_blames sys c.form_of-form.result c.loop-number.number c.loop-number.self c.loop-number.current.text.items (g.R.Read.remaining c.args.input.now) (g.R.Read.remaining c.loop-number.input)
+    (g.W.Write.contents c.args.out.now) (g.W.Write.contents c.loop-number.out) c.loop-number.invariant.copied _ c.args.cut)
+
+-- ---- The line that was read last
+
+pub returns-in-Some-clause-current : goal.returns-in-Some-clause-current
+returns-in-Some-clause-current g c names =
+    let sys = system_of c.args.table.now.system.now in
+    let last : IsLast sys c.loop-number.current.text.items c.in-Some.end = subst (λ (l : List ℕ). IsLast sys l c.in-Some.end) c.as_slice-in-loop-number.ensures.value c.in-Some.ensures.last in
+    on_fault c.finish.result _ _ c.finish.ensures.current
+    (end_current sys c.form_of-form.result c.loop-number.number c.loop-number.self c.loop-number.current.text.items (g.R.Read.remaining c.args.input.now) (g.R.Read.remaining c.loop-number.input)
+    (g.W.Write.contents c.args.out.now) (g.W.Write.contents c.loop-number.out) c.loop-number.invariant.copied c.loop-number.current c.finish.new.current c.finish.new.self.tick refl c.loop-number.invariant.formed c.loop-number.invariant.inside c.finish.ensures.tick c.in-Some.end last)
+
+pub returns-in_err-take-clause-current : goal.returns-in_err-take-clause-current
+returns-in_err-take-clause-current g c names =
+    let sys = system_of c.args.table.now.system.now in
+    let e = c.in_err-take.field-0.0 in
+    let refuses : RefusesLine sys c.form_of-form.result c.loop-number.self.tick c.loop-number.number c.loop-number.current.text.items e =
+    subst (λ (l : List ℕ). RefusesLine sys c.form_of-form.result c.loop-number.self.tick c.loop-number.number l e) c.as_slice-in-loop-number-3.ensures.value (c.in_err-take.ensures.refused names)
+    in
+    on_passed _ _ (IsRefusedLine sys (g.R.Read.remaining c.args.input.now) (record c.loop-number.current { tick = c.take.new.self.tick })) c.from_residual-in_err-take.ensures.1
+    (line_current sys c.form_of-form.result c.loop-number.number c.loop-number.self c.loop-number.current.text.items (g.R.Read.remaining c.args.input.now) (g.R.Read.remaining c.loop-number.input)
+    (g.W.Write.contents c.args.out.now) (g.W.Write.contents c.loop-number.out) c.loop-number.invariant.copied (record c.loop-number.current { tick = c.take.new.self.tick }) refl c.loop-number.invariant.formed c.in_err-take.ensures.tick c.loop-number.invariant.inside
+    (subst (λ (l : List ℕ). IsNoLast sys l) c.as_slice-in-loop-number.ensures.value (c.in_default.ensures.none names)) e refuses)
+
+pub returns-in_err-next_line-clause-current : goal.returns-in_err-next_line-clause-current
+returns-in_err-next_line-clause-current g c names =
+    let sys = system_of c.args.table.now.system.now in
+    let input = g.R.Read.remaining c.args.input.now in
+    on_passed _ _ (IsRefusedLine sys input _) c.from_residual.ensures.1 (subst (IsRefusedLine sys input _) (sym c.in_err-next_line.ensures.fault) tt)
+
+pub returns-in_err-next_line-2-clause-current : goal.returns-in_err-next_line-2-clause-current
+returns-in_err-next_line-2-clause-current g c names =
+    let sys = system_of c.args.table.now.system.now in
+    let input = g.R.Read.remaining c.args.input.now in
+    on_passed _ _ (IsRefusedLine sys input _) c.from_residual-in_err-next_line-2.ensures.1 (subst (IsRefusedLine sys input _) (sym c.in_err-next_line-2.ensures.fault) tt)
+
+pub returns-in_err-flush_much-clause-current : goal.returns-in_err-flush_much-clause-current
+returns-in_err-flush_much-clause-current g c names =
+    on_passed _ _ _ c.from_residual-in_err-flush_much.ensures.1 (write_current _ _ _ _ c.take.new.self.page _ c.in_err-flush_much.field-0.0 c.in_err-flush_much.ensures.part)
+
+pub returns-then-is_cut-clause-current : goal.returns-then-is_cut-clause-current
+returns-then-is_cut-clause-current g c names =
+    let sys = system_of c.args.table.now.system.now in
+    on_fault c.finish_cut.result _ _ (c.finish_cut.ensures.part sys) (cut_current sys _ _ _ c.loop-number.self _)

@@ -1,0 +1,63 @@
+-- The note to the line at which a trace is refused.
+use Rattle.std.proofs.Common.{◌≡◌, ◌⊎◌, ℕ, List, Bool, Option, Some, None, Result, Ok, Err, option_map, codes, decimal, ◌++◌, inl, inr, sym, ap, subst, ◌∙◌}
+use Rattle.std.specs.Prelude.{IfErr, IfSome, IsTrue}
+use Rattle.clap.specs.Words.{Text}
+use Rattle.fb_types.specs.Headline.{Inputs, system_of}
+use Rattle.fb_types.specs.Systems.{System}
+use Rattle.fb_sim.specs.Given.{Given}
+use Rattle.fb_sim.specs.Serial.{Declares}
+use Rattle.fb_wave.specs.CurrentLines.{IsRefusedLine}
+use Rattle.fb_wave.specs.declared.current_line.CurrentLine.{CurrentLine}
+use Rattle.fb_wave.specs.declared.error.WaveError.{WaveError}
+use Rattle.fb_wave.specs.declared.error.WaveError.TheVariants as wave
+use Rattle.fb_wave_why.specs.Faults.{Applies}
+use Rattle.fb_wave_why.specs.declared.fault.LineFault.{LineFault}
+use Rattle.fbsim_command.specs.Failures.{failure_of_wave}
+use Rattle.fbsim_command.specs.LineNotes.{NotesLine, SaysFault}
+use Rattle.fbsim_command.specs.Notes.{NotesOf}
+use Rattle.fbsim_command.specs.Outcomes.{End, Held}
+use Rattle.fbsim_command.specs.Showing.{files_of}
+use Rattle.fbsim_command.specs.declared.failure.Failure.{Failure}
+use Rattle.fbsim_line.specs.declared.line.Wave.{Wave}
+
+-- a note of a check, or of a line
+pub noted_in :
+    (types : List Text) (w : Wave) (lines : List ℕ) (given : Given) (trace : Held) (end : End) (note line : Option Text) → NotesLine w.why given trace end line
+    → NotesOf types (files_of w) lines given end note ⊎ (note ≡ line) → NotesOf types (files_of w) lines given end note ⊎ NotesLine w.why given trace end note
+noted_in types w lines given trace end note line of_line (inl noted) = inl noted
+noted_in types w lines given trace end note line of_line (inr same) = inr (subst (λ (n : Option Text). NotesLine w.why given trace end n) (sym same) of_line)
+
+-- the note that says what is wrong with a line
+pub says :
+    {S : Type 0} (bytes : S → Text) (sys : System) (x : CurrentLine) (line : ℕ) (fault : LineFault) (words : Text) (note : Option S) → Applies sys x fault
+    → IfSome note (λ n. bytes n ≡ codes "trace: line " ++ (decimal line ++ (codes ": " ++ words))) → IfSome note (λ n. SaysFault sys x line (bytes n))
+says bytes sys x line fault words None applies is = tt
+says bytes sys x line fault words (Some n) applies is = record { fault = fault; applies = applies; words = words; is = is }
+
+-- what is said of a refused line
+pub line_noted :
+    {U S : Type 0} (bytes : S → Text) (why : Bool) (given : Given) (trace : Held) (i : Inputs) (x : CurrentLine) (written : Result U WaveError) (e : WaveError) (failure : Failure) (note : Option S)
+    → Declares given i → written ≡ Err e → IfErr written (IsRefusedLine (system_of i) trace x) → failure ≡ failure_of_wave e
+    → IfSome note (λ n. IsTrue why × ((line : ℕ) × (written ≡ Err (wave.Refused line)) × SaysFault (system_of i) x line (bytes n)))
+    → NotesLine why given trace (Err failure) (option_map bytes note)
+line_noted bytes why given trace i x written e failure None declares is refused reported noted = tt
+line_noted {U = U} bytes why given trace i x written e failure (Some n) declares is refused reported noted =
+    let line : ℕ = noted.1.0 in
+    let both : ◌≡◌ {A = Result U WaveError} (Err e) (Err (wave.Refused line)) = sym is ∙ noted.1.1 in
+    let same : e ≡ wave.Refused line = cc in (
+      noted.0,
+      (
+        line,
+        ap (λ (f : Failure). Err f) (reported ∙ ap failure_of_wave same),
+        (i, declares, (x, subst (λ (r : Result U WaveError). IfErr r (IsRefusedLine (system_of i) trace x)) noted.1.1 refused, noted.1.2)),
+      ),
+    )
+
+-- nothing is said of a trace that is written whole
+pub none_noted :
+    {U S : Type 0} (bytes : S → Text) (why : Bool) (given : Given) (trace : Held) (i : Inputs) (x : CurrentLine) (written : Result U WaveError) (end : End) (u : U) (note : Option S)
+    → written ≡ Ok u → IfSome note (λ n. IsTrue why × ((line : ℕ) × (written ≡ Err (wave.Refused line)) × SaysFault (system_of i) x line (bytes n)))
+    → NotesLine why given trace end (option_map bytes note)
+none_noted bytes why given trace i x written end u None is noted = tt
+none_noted {U = U} bytes why given trace i x written end u (Some n) is noted =
+    let both : ◌≡◌ {A = Result U WaveError} (Ok u) (Err (wave.Refused noted.1.0)) = sym is ∙ noted.1.1 in absurd (cc)

@@ -1,0 +1,77 @@
+//! What is reported after the refusal of a line of a trace: what is wrong with it.
+
+ghost use Rattle.std.specs.Prelude.{◌≡◌, ◌⊎◌, ◌++◌, ℕ, Err, IfSome, IsTrue, codes, decimal, map, option_map, string_bytes};
+ghost use Rattle.fb_types.specs.Headline.{system_of};
+ghost use Rattle.fb_wave.specs.declared.error.WaveError.TheVariants as failed;
+ghost use Rattle.fbsim_command.specs.LineNotes.{SaysFault};
+ghost use Rattle.fbsim_command.specs.Notes.{NotesOf};
+ghost use Rattle.fbsim_command.specs.Texts.{given_of, lines_of};
+
+use crate::failure::Failure;
+use crate::program::note_to;
+use crate::statuses::Done;
+use crate::texts::Texts;
+use fb_system::System;
+use fb_wave::{CurrentLine, WaveError};
+use fb_wave_why::{fault_of, line_message};
+use fbsim_line::Task;
+use std::alloc::Global;
+
+/// The note to the line of this number. Without memory for it there is none.
+fn note_with(alloc: Global, line: u64, words: &str) -> Option<String>
+    ensures { IfSome result (λ note. string_bytes note ≡ codes "trace: line " ++ (decimal line ++ (codes ": " ++ words.now))) }
+{
+    match format!(in alloc; "trace: line {line}: {words}") {
+        Ok(note) => Some(note),
+        Err(_) => None,
+    }
+}
+
+/// What is wrong with the line of this number, at which a trace is refused. Without memory for it there is none.
+fn note_of_line(alloc: Global, system: &System, line: u64, current: &CurrentLine) -> Option<String>
+    ensures { IfSome result (λ note. SaysFault (system_of system.now) current.now line (string_bytes note)) }
+{
+    let fault = fault_of(system, current)?;
+    let Ok(words) = line_message(alloc, system, current, fault) else {
+        return None;
+    };
+    note_with(alloc, line, words.as_str())
+}
+
+/// The note to a trace of which this was written, where one is asked for.
+pub(crate) fn note_of_trace_line(
+    alloc: Global,
+    why: bool,
+    system: &System,
+    written: &Result<(), WaveError>,
+    current: &CurrentLine,
+) -> Option<String>
+    ensures { IfSome result (λ note. IsTrue why × ((line : ℕ) × (written.now ≡ Err (failed.Refused line))
+        × SaysFault (system_of system.now) current.now line (string_bytes note))) }
+{
+    if !why {
+        return None;
+    }
+    match written {
+        Err(WaveError::Refused(line)) => note_of_line(alloc, system, *line, current),
+        _ => None,
+    }
+}
+
+/// The note to the end of a call for waveforms: that of a line, if there is one, or that of a check.
+pub(crate) fn note_of_wave(
+    alloc: Global,
+    types: &[&str],
+    task: &Task<'_>,
+    end: &Result<Done, Failure>,
+    texts: &Texts,
+    line: Option<String>,
+) -> Option<String>
+    ensures { NotesOf (map (λ t. t.now) types.now) task.now (lines_of texts.now) (given_of texts.now) end.now (option_map string_bytes result)
+        ⊎ (option_map string_bytes result ≡ option_map string_bytes line) }
+{
+    match line {
+        Some(note) => Some(note),
+        None => note_to(alloc, types, task, end, texts),
+    }
+}
