@@ -243,7 +243,7 @@ PIPES = {"trace_pipe": LONG_TRACE, "pipe": CYCLE, "cut_pipe": CYCLE[:40], "empty
 
 # Parts of the help of `run` and `check`: each argument's name and words of its sentence, with the range, and an example.
 HELP_OF_FILES = (
-    "DECL", "declaration of the types", "--types", "once for each file", "--deploy", "in TOML", "at most 1 MiB", "--stim", "in CSV", "at most 16 MiB", "--why", "location of a refusal",
+    "DECL", "declaration of the types", "--types", "once for each file", "--deploy", "in TOML", "at most 1 MiB", "--stim", "in CSV", "at most 16 MiB", "--why", "locations of a refusal", "or a stop",
 )
 HELP_OF_RUN = (
     *HELP_OF_FILES, "--horizon", "in milliseconds, at which the run ends, 1 to 1000000000000", "--steps", "number of steps", "1 to 10000000",
@@ -285,7 +285,7 @@ class Call(NamedTuple):
     given: bytes = b""
     memory: Optional[int] = None
     to: str = "pipe"
-    tells: str = "pipe"
+    errors_to: str = "pipe"
     closes_input: bool = False
     has: tuple = ()
     example: str = ""
@@ -352,7 +352,7 @@ CALLS = [
     Call(["wave", "cycle", "trace", "--stim", "trace"], 5, err=None),
     *(Call(["wave", "cycle", "trace"], 3, err=b"write fault after 0 bytes\n", to=it) for it in OUTPUTS[:3]),
     Call(["wave", "cycle", "long_trace"], 3, out=SIGNALS[:ROOM], err=b"write fault after 10 bytes\n", to="short"),
-    *(Call(["wave", "cycle", "no_trace"], 2, tells=it) for it in OUTPUTS[:3]),
+    *(Call(["wave", "cycle", "no_trace"], 2, errors_to=it) for it in OUTPUTS[:3]),
     Call(["check", "cycle"], 0, out=b"accepted\n"),
     Call(["check", "-"], 0, out=b"accepted\n", given=CYCLE),
     Call(["run", "cycle", "--horizon", "8"], 0, out=TO_8),
@@ -370,7 +370,7 @@ CALLS = [
     Call(["run", "twice", "--horizon", "8", "--progress"], 2, err=b"refused E20\n"),
     Call(["run", "cycle", "--horizon", "8", "--progress"], 3, err=b"write fault after 0 bytes\n", to="full"),
     Call(["run", "cycle", "--horizon", "8", "--progress"], 3, out=TO_8[:ROOM], err=b"write fault after 10 bytes\n", to="short"),
-    *(Call(["run", "cycle", "--horizon", "8", "--progress"], 0, out=TO_8, tells=it) for it in OUTPUTS[:3]),
+    *(Call(["run", "cycle", "--horizon", "8", "--progress"], 0, out=TO_8, errors_to=it) for it in OUTPUTS[:3]),
     Call(["check", "cycle", "--progress"], 5, err=None),
     Call(["check", "twice"], 2, err=b"refused E20\n"),
     Call(["check", "twice", "--why"], 2, err=placed(b"refused E20\n", b"twice:1:32: E20: application A: instance S is given twice\n")),
@@ -380,7 +380,7 @@ CALLS = [
     Call(["run", "-", "--horizon", "8", "--why"], 2, err=placed(b"refused E21\n", b"-" + AT_THE_SLIP, FILES["slip"]), given=FILES["slip"]),
     Call(["check", "-", "--why"], 2, err=placed(b"refused E01\n", b"-:1:21: E01: byte 255 is allowed only in comments\n", STRANGE), given=STRANGE),
     Call(["check", "-", "--why"], 2, err=placed(b"refused E04\n", b"-:1:1048577: E04: a text has at most 1048576 bytes\n", BLANKS), given=BLANKS),
-    Call(["check", "cycle", "--deploy", "cut_plan", "--why"], 2, err=b"refused E10\ndeployment: line 2, column 5: this is no TOML\n"),
+    Call(["check", "cycle", "--deploy", "cut_plan", "--why"], 2, err=placed(b"refused E10\n", b"cut_plan:2:5: E10: this is no TOML\n")),
     Call(["check", "too_many", "--why"], 2, err=placed(b"refused E30\n", b"too_many:1:13: E30: application: there are more than 4,096 instances, components included\n")),
     Call(["check", "cycle", "--why"], 0, out=b"accepted\n"),
     Call(["check", "nowhere", "--why"], 3, err=b"file fault\ndeclaration nowhere: no file of this name can be read\n"),
@@ -440,13 +440,13 @@ CALLS = [
     *(Call(["--help"], 3, err=b"write fault after 0 bytes\n", to=it) for it in OUTPUTS[:3]),
     *(Call(["check", "twice"], 2, err=b"refused E20\n", to=it) for it in OUTPUTS),
     *(Call(["check", "nowhere"], 3, err=b"file fault\n", to=it) for it in OUTPUTS),
-    *(Call(["run", "cycle", "--horizon", "8"], 0, out=TO_8, tells=it) for it in OUTPUTS[:3]),
+    *(Call(["run", "cycle", "--horizon", "8"], 0, out=TO_8, errors_to=it) for it in OUTPUTS[:3]),
     Call(["explain", "E21"], 3, err=b"write fault after 0 bytes\n", to="full"),
-    *(Call(["check", "slip", "--why"], 2, tells=it) for it in OUTPUTS[:3]),
-    *(Call(["check", "twice"], 2, tells=it) for it in OUTPUTS[:3]),
-    *(Call(["check", "nowhere"], 3, tells=it) for it in OUTPUTS[:3]),
-    *(Call(["walk"], 5, tells=it) for it in OUTPUTS[:3]),
-    Call(["run", "cycle", "--horizon", "8"], 3, to="full", tells="full"),
+    *(Call(["check", "slip", "--why"], 2, errors_to=it) for it in OUTPUTS[:3]),
+    *(Call(["check", "twice"], 2, errors_to=it) for it in OUTPUTS[:3]),
+    *(Call(["check", "nowhere"], 3, errors_to=it) for it in OUTPUTS[:3]),
+    *(Call(["walk"], 5, errors_to=it) for it in OUTPUTS[:3]),
+    Call(["run", "cycle", "--horizon", "8"], 3, to="full", errors_to="full"),
     Call(["check", "cycle", "--stim", "longest_stimuli"], 4, err=b"out of memory\n", memory=LITTLE_MEMORY),
     Call(["check", b"\xff"], 5, err=b"error: the words of the command line are no text\n"),
 ]
@@ -646,9 +646,9 @@ CALLS += [
     of("run empty --horizon 8 --workers 64", 0, out=b"end 8\n"),
     # The location of a fault is printed if it is asked for.
     of("run slip --horizon 1 --why", 2, err=placed(b"refused E21\n", b"slip" + AT_THE_SLIP)),
-    of("check merge --deploy merge_plan --why", 2, err=b"refused E21\nresource R: instance N: application A has no instance N\n"),
+    of("check merge --deploy merge_plan --why", 2, err=placed(b"refused E21\n", b"merge_plan:4:1: E21: resource R: instance N: application A has no instance N\n")),
     of("check - --why", 2, err=placed(b"refused E03 line 2\n", b"-:2:7: E03: found the end of the text, expected :\n", b"APPLICATION A\nFBS M "), given=b"APPLICATION A\nFBS M "),
-    of("check merge --stim merge_fed --why", 2, err=b"refused E29\nstimuli: 1st row after the heading: there is no instance N\n"),
+    of("check merge --stim merge_fed --why", 2, err=placed(b"refused E29\n", b"merge_fed:2:3: E29: row 0: there is no instance N\n")),
     of("check slip --deploy nowhere --why", 3, err=b"file fault\ndeployment nowhere: no file of this name can be read\n"),
     of("check nowhere --deploy nowhere --why", 3, err=b"file fault\ndeclaration nowhere: no file of this name can be read\n"),
     of(
@@ -812,8 +812,8 @@ def suite(folder, drop, program, room):
     return []
 
 
-def is_as_wanted(wrote, wanted):
-    return wrote == wanted if wanted is not None else wrote.endswith(b"\n")
+def is_as_expected(wrote, expected):
+    return wrote == expected if expected is not None else wrote.endswith(b"\n")
 
 
 def shown(it):
@@ -845,10 +845,10 @@ def prepare(call):
     """Sets the call's limits, and closes the outputs that it must find closed. The new process runs this."""
     if call.memory:
         resource.setrlimit(resource.RLIMIT_AS, (call.memory, call.memory))
-    if "short" in (call.to, call.tells):
+    if "short" in (call.to, call.errors_to):
         signal.signal(signal.SIGXFSZ, signal.SIG_IGN)
         resource.setrlimit(resource.RLIMIT_FSIZE, (ROOM, ROOM))
-    for number, is_closed in enumerate((call.closes_input, call.to == "closed", call.tells == "closed")):
+    for number, is_closed in enumerate((call.closes_input, call.to == "closed", call.errors_to == "closed")):
         if is_closed:
             os.close(number)
 
@@ -858,11 +858,11 @@ def make(call, words, room):
     folder = f"{room}/files/{call.example}"
     for name in PIPES.keys() & set(call.words):
         threading.Thread(target=feed, args=(f"{folder}/{name}", PIPES[name]), daemon=True).start()
-    ends = [None if how == "pipe" else output(how, room) for how in (call.to, call.tells)]
+    ends = [None if how == "pipe" else output(how, room) for how in (call.to, call.errors_to)]
     out, err = (subprocess.PIPE if it is None else it for it in ends)
     how = {"stdout": out, "stderr": err, "cwd": folder, "preexec_fn": lambda: prepare(call)}
     ran = subprocess.run([*words, *call.words], input=call.given, timeout=SECONDS, **how)
-    wrote, told = ran.stdout or b"", ran.stderr or b""
+    wrote, errors = ran.stdout or b"", ran.stderr or b""
     if call.to == "short":
         wrote = content(out.name)
     for it in ends:
@@ -871,10 +871,10 @@ def make(call, words, room):
     wrong = []
     if ran.returncode != call.status:
         wrong.append(f"the status is {ran.returncode}, and not {call.status}")
-    if not is_as_wanted(wrote, call.out) or not all(it.encode() in wrote for it in call.has):
+    if not is_as_expected(wrote, call.out) or not all(it.encode() in wrote for it in call.has):
         wrong.append(f"it wrote {shown(wrote)}")
-    if call.tells == "pipe" and not is_as_wanted(told, call.err):
-        wrong.append(f"standard error had {shown(told)}")
+    if call.errors_to == "pipe" and not is_as_expected(errors, call.err):
+        wrong.append(f"standard error had {shown(errors)}")
     return wrong
 
 
@@ -902,7 +902,7 @@ def make_all(program):
             wrong = make(call, [*drop, copy], room)
             failed += bool(wrong)
             for it in wrong:
-                print(f"{PROGRAM} {call.words}, to {call.to}, {call.tells}: {it}")
+                print(f"{PROGRAM} {call.words}, to {call.to}, {call.errors_to}: {it}")
         wrong = suite(folder, drop, copy, room)
         print(*wrong, sep="\n", end="\n" if wrong else "")
         failed += bool(wrong)

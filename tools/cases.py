@@ -17,7 +17,7 @@ one. A group has
 - `answer`: `accepted`, `same`, a refusal as the program prints it (`E20`, `E03 line 4`, `trace line 3`), or a trace, a dump, a report
   or a difference, to the byte. The text that the program gets on standard input is called `-`, the first one of `diff` `FIRST`, `block_types` and `more_block_types`
   `TYPES` and `MORE`, and the deployment `DEPLOY`
-- `why`: the line after the refusal, for `--why`. The source line with a mark follows a line that begins with a place
+- `why`: the line after the refusal, or after a run that stops, for `--why`. The source line with a mark follows a line that begins with a place
 - `lint`: the warnings about what is accepted, for `--lint`
 - `rows`: one case each; a group without rows is one case. A row is the list of its values by `columns`, by default `text` and
   `answer`. A row that is only a text has that as its first value, and no others. A column with the name of a field above is that field
@@ -62,7 +62,7 @@ WAYS = {
 INPUT = {"expect": "trace", "diff": "second"}
 FILES = {"block_types": ["--types"], "more_block_types": ["--types"], "deployment": ["--deploy"], "stimuli": ["--stim"], "trace": []}
 FILES_OF = {"expect": {"rules": [], "declaration": ["--decl"], "deployment": ["--deploy"]}, "diff": {"first": []}}
-CALLED = {"block_types": b"TYPES", "more_block_types": b"MORE", "deployment": b"DEPLOY"}
+CALLED = {"block_types": b"TYPES", "more_block_types": b"MORE", "deployment": b"DEPLOY", "stimuli": b"STIM"}
 NUMBERS = {"horizon": "--horizon", "steps": "--steps", "form": "--trace"}
 FIELDS = {"declaration", "answer", "why", "lint", "rules", "options", "first", "second", *FILES, *NUMBERS}
 OF_GROUP = {"name", "command", "rows", "columns", "within", "text", "bytes", *FIELDS}
@@ -88,8 +88,8 @@ def text_of(piece, names):
         first, last = (int(text_of(piece[it], names)) for it in ("from", "to"))
         by = piece.get("by", 1)
         return "".join(text_of(piece["numbered"], {**names, "number": it, "below": it - 1}) for it in range(first, last + by, by))
-    before, inside, behind, times = (text_of(it, names) for it in piece)
-    return before * int(times) + inside + behind * int(times)
+    before, inside, after, times = (text_of(it, names) for it in piece)
+    return before * int(times) + inside + after * int(times)
 
 
 def rows_of(table, columns):
@@ -136,12 +136,12 @@ def cases_of(path):
     return found
 
 
-def wanted(case):
+def expected_result(case):
     """Returns the status, standard output and standard error."""
     fields, answer = case.fields, case.fields["answer"]
+    texts = {b"-": fields.get("declaration", b""), **{name: fields[field] for field, name in CALLED.items() if field in fields}}
     if REFUSAL.fullmatch(answer.decode("latin-1")):
-        texts = {name: fields[field] for field, name in CALLED.items() if field in fields}
-        return 2, b"", b"refused " + answer + b"\n" + with_source(fields.get("why", b""), {b"-": fields.get("declaration", b""), **texts})
+        return 2, b"", b"refused " + answer + b"\n" + with_source(fields.get("why", b""), texts)
     if answer == b"accepted":
         return 0, b"accepted\n", fields.get("lint", b"")
     if answer == b"same":
@@ -151,12 +151,12 @@ def wanted(case):
     if answer.startswith(b"line "):
         return 1, answer, b""
     is_stop = case.command == "run" and answer.split(b"\n")[-2].startswith(b"stop ")
-    return int(is_stop), answer, b""
+    return int(is_stop), answer, with_source(fields.get("why", b""), texts)
 
 
-def shown(status, wrote, told):
+def shown(status, wrote, errors):
     """Returns how a call ended, as a line can show it."""
-    short = [repr(it) if len(it) <= 400 else f"{len(it)} bytes {it[:200]!r} .. {it[-100:]!r}" for it in (wrote, told)]
+    short = [repr(it) if len(it) <= 400 else f"{len(it)} bytes {it[:200]!r} .. {it[-100:]!r}" for it in (wrote, errors)]
     return f"status {status}, wrote {short[0]}, standard error {short[1]}"
 
 
@@ -185,7 +185,7 @@ def words_of(room, case):
 
 def fault_of(room, case):
     """Returns what is wrong with the result of a case, or None."""
-    words, is_to_be = words_of(room, case), wanted(case)
+    words, is_to_be = words_of(room, case), expected_result(case)
     for way in WAYS[case.command]:
         ran = room.call([*words, *way], case.fields[INPUT.get(case.command, "declaration")])
         written = ran.stdout.replace(words[1].encode(), b"FIRST") if case.command == "diff" else ran.stdout

@@ -41,11 +41,13 @@ SIGNS = "; : , . .. ( ) [ ] := -> = <> < > <= >= + - * / &".split()
 TRIED = {**KINDS, **{it: it for it in (*WORDS, *KEYWORDS, *SIGNS)}}
 
 HERE = re.compile(r"(line 2, column 1: |-:2:1: E03: )found ")
+# What is probably meant, which may follow the list.
+HINT = re.compile(r" \((an earlier line ends|a word of|ELSE IF begins|comments do not nest).*\)$")
 
 
 def listed(line, found):
     """Returns the tokens that a line of --why lists, none if it has no list, if it is about this token; None if it is about another."""
-    before, is_found, words = line.partition(f" found {found}")
+    before, is_found, words = HINT.sub("", line).partition(f" found {found}")
     return {*words.removeprefix(", expected ").removeprefix("one of ").split()} if is_found else None
 
 

@@ -6,6 +6,7 @@ marks there. Each line of --why that the page shows must be expected by a stored
 of a refusal in the sources must have one explanation, and each explanation of a refusal must have one number. Otherwise this
 reports it and ends with status 1. ./gate runs it."""
 
+import glob
 import re
 import sys
 import tomllib
@@ -14,7 +15,9 @@ import calls
 from kit import TOP
 from unbuilt import TABLE, entries
 
-CASES = f"{TOP}/cases/why.toml"
+# The stored cases of --why, and what they call the files of a deployment and of stimuli, which have these names on the page.
+CASES = sorted(glob.glob(f"{TOP}/cases/why*.toml"))
+NAMES = {"DEPLOY:": "plan.toml:", "STIM:": "stim.csv:"}
 PAGE = f"{TOP}/docs/FORMATS.md"
 FIRST = "<!-- The explanations of crates/fb_why/src/table.rt, by tools/explained.py --write -->\n"
 LAST = "<!-- The end of the explanations -->\n"
@@ -39,11 +42,17 @@ def rows(table):
 
 def expected_lines():
     """Returns the lines that a stored case or a call expects."""
-    with open(CASES, "rb") as it:
-        groups = tomllib.load(it)["group"]
-    texts = [text for group in groups for row in group["rows"] for text in row]
-    texts += [call.err.decode() for call in calls.CALLS if call.err]
-    return {line for text in texts for line in text.splitlines()}
+    texts = [call.err.decode() for call in calls.CALLS if call.err]
+    for path in CASES:
+        with open(path, "rb") as it:
+            texts += [text for group in tomllib.load(it)["group"] for row in group.get("rows", ()) for text in row if isinstance(text, str)]
+    return {named_as_on_the_page(line) for text in texts for line in text.splitlines()}
+
+
+def named_as_on_the_page(line):
+    """Returns a line of a case with the names that the page gives to the files."""
+    name = next((it for it in NAMES if line.startswith(it)), "")
+    return NAMES.get(name, "") + line.removeprefix(name)
 
 
 def untried(page):
@@ -87,7 +96,7 @@ def main(words):
         print(f"{PAGE}: shows other explanations than {TABLE} has: tools/explained.py --write", file=sys.stderr)
         return 1
     if rows_untried := untried(page):
-        print(f"{PAGE}: neither {CASES} nor tools/calls.py expects these lines:", *rows_untried, sep="\n", file=sys.stderr)
+        print(f"{PAGE}: neither cases/why*.toml nor tools/calls.py expects these lines:", *rows_untried, sep="\n", file=sys.stderr)
         return 1
     print("explained: the page shows the explanations of the program, and lines that it prints")
     return 0

@@ -82,7 +82,7 @@ class Reader:
         self.status = ran.returncode
         if file:
             self.write(file.removeprefix(FOLDER), ran.stdout.decode().splitlines())
-            return ran.stderr.decode().splitlines()
+            return self.named(ran.stderr.decode(), words).splitlines()
         lines = (ran.stdout.decode() + self.named(ran.stderr.decode(), words)).splitlines()
         if not cut:
             return lines

@@ -2,7 +2,7 @@
 
 import re
 
-PLACE = re.compile(rb"([^\n]*?):([0-9]+):([0-9]+): E[0-9][0-9]: ")
+PLACE = re.compile(rb"([^\n]*?):([0-9]+):([0-9]+): (?:E[0-9][0-9]|stop): ")
 MOST_SHOWN = 200
 MOST_BEFORE = 100
 BYTE_ORDER_MARK = b"\xef\xbb\xbf"
@@ -18,10 +18,15 @@ def source_line(text, line, column):
     return part + b"\n" + before + b"^\n"
 
 
-def with_source(note, texts):
-    """Returns a note with the source line of its place, if it begins with one. `texts` has the text of each file by its name."""
+def with_source(notes, texts):
+    """Returns notes, each of which that begins with a place with its source line. `texts` has the text of each file by its name."""
+    return b"".join(note + source_of(note, texts) for note in notes.splitlines(keepends=True))
+
+
+def source_of(note, texts):
+    """Returns the source line of the place with which a note begins, or nothing if it does not begin with one."""
     found = PLACE.match(note)
     if not found:
-        return note
+        return b""
     name, line, column = found[1], int(found[2]), int(found[3])
-    return note + source_line(texts[name], line, column)
+    return source_line(texts[name], line, column)

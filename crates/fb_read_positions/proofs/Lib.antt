@@ -1,2 +1,4 @@
 pub mod Steps
 pub mod Named
+mod LocalBlocks
+mod Resuming

@@ -300,22 +300,22 @@ pass_blocks (suc n) = do
   skip block
   pass_blocks n
 
-unfoldable pub to_block : ℕ → Walk
-to_block k = do
-  pass_blocks k
+-- up to the name of the block type that is next, past the application if it is before it
+unfoldable pub begun : Walk
+begun = do
   past_application
   expect mark.FunctionBlock
 
--- after the name of a block type
-unfoldable pub to_ports : ℕ → Walk
-to_ports k = do
-  to_block k
+-- after its name
+unfoldable pub to_ports : Walk
+to_ports = do
+  begun
   skip name
 
--- after the interface of a block type
-unfoldable pub to_inside : ℕ → Walk
-to_inside k = do
-  to_ports k
+-- after its interface
+unfoldable pub to_inside : Walk
+to_inside = do
+  to_ports
   skip ports
 
 unfoldable pub to_application : Walk
@@ -329,18 +329,33 @@ to_network = do
   to_application
   skip name
 
+-- up to a position in the block type that is next
+abbrev pub from_block : Position → Walk
+from_block position.Application = λ ts. Err (syntax ts)
+from_block (position.InApplication part) = λ ts. Err (syntax ts)
+from_block (position.Block k) = begun
+from_block (position.InPorts k part) = do
+  to_ports
+  to_port_part part
+from_block (position.InBasic k part) = do
+  to_inside
+  to_basic_part part
+from_block (position.InComposite k part) = do
+  to_inside
+  to_network_part part
+
+-- up to a position in the block type at an index
+unfoldable pub to_block : ℕ → Position → Walk
+to_block k position = do
+  pass_blocks k
+  from_block position
+
 unfoldable pub to_position : Position → Walk
 to_position position.Application = to_application
 to_position (position.InApplication part) = do
   to_network
   to_network_part part
-to_position (position.Block k) = to_block k
-to_position (position.InPorts k part) = do
-  to_ports k
-  to_port_part part
-to_position (position.InBasic k part) = do
-  to_inside k
-  to_basic_part part
-to_position (position.InComposite k part) = do
-  to_inside k
-  to_network_part part
+to_position (position.Block k) = to_block k (position.Block k)
+to_position (position.InPorts k part) = to_block k (position.InPorts k part)
+to_position (position.InBasic k part) = to_block k (position.InBasic k part)
+to_position (position.InComposite k part) = to_block k (position.InComposite k part)

@@ -8,20 +8,18 @@ ghost use Rattle.fb_read.specs.Located.{AreLocated};
 ghost use Rattle.fb_read.specs.Refusals.{IsNext};
 ghost use Rattle.fb_read.specs.Tokens.{after_mark};
 ghost use Rattle.fb_read.specs.Whole.{most_bytes};
-ghost use Rattle.fb_read_positions.specs.Walks as spec;
 ghost use Rattle.fb_read_positions.specs.Places.{IsAt, IsNameOf, IsNamed};
+ghost use Rattle.fb_read_positions.specs.Resumed.{IsReached, IsStop};
 
 use crate::names::name_at;
 use crate::position::Position;
-use crate::walk::to_position;
+use crate::resume::{Reached, Stop, beginning, reach};
 use fb_read::ReadFault;
-use fb_read::cursor::Cursor;
-use fb_read::fault::ParseFault;
 use fb_read::front::{LexFault, front};
 use fb_read::read::span_before;
 use fb_read::token::{Located, Span, Token};
 use fb_read::tokens::lex;
-use fb_types::{Library, MOST_BYTES, Name};
+use fb_types::{Items, Library, MOST_BYTES, Name};
 use std::alloc::{AllocError, Global};
 
 /// Whether a token is this name.
@@ -59,40 +57,91 @@ fn is_named(alloc: Global, text: &[u8], span: Span, name: Option<&Name>) -> Resu
     }
 }
 
-/// Reads up to a position. Returns whether there is one.
-fn reach(cursor: &mut Cursor<'_>, position: Position) -> Result<bool, AllocError>
-    ensures { IfOk result (λ b. IsTrue b → spec.to_position position cursor.old ≡ Ok (tt, cursor.new)) }
+/// The tokens of a text that was read before, for the bytes at positions in it.
+///
+/// # Errors
+///
+/// When memory runs out.
+pub fn tokens_of(alloc: Global, text: &[u8]) -> Result<Items<Located>, AllocError>
+    ensures few { IfOk result (λ tokens. length tokens ≤ most_bytes) }
+    ensures located { IfOk result (λ tokens. AreLocated text.now tokens (after_mark text.now)) }
 {
-    match to_position(cursor, position) {
-        Ok(()) => Ok(true),
-        Err(ParseFault::Memory) => Err(AllocError),
-        Err(_) => Ok(false),
+    // It has been read before, so it is short, and fails for memory alone.
+    if text.len() > MOST_BYTES {
+        return Err(AllocError);
+    }
+    match lex(alloc, text) {
+        Ok(tokens) => Ok(tokens),
+        Err(_) => Err(AllocError),
     }
 }
 
-/// The bytes at a position, from the tokens of the text.
-fn span_among(
+/// Frees tokens. Each crate that drops some proves their destructors once more, so other crates call this function.
+pub fn discard(tokens: Items<Located>) {
+    drop(tokens);
+}
+
+/// The bytes of a token, and how far its text was read.
+#[derive(Clone, Copy)]
+pub struct Found {
+    /// The bytes of the token at the position. `None` if there is no such position.
+    pub span: Option<Span>,
+    /// How far the text was read.
+    pub reached: Reached,
+}
+
+/// The bytes at a stop, if the token there is the name that the library has at the position.
+fn span_at_stop(
     alloc: Global,
     text: &[u8],
     tokens: &[Located],
     library: &Library,
     position: Position,
+    stop: Stop,
 ) -> Result<Option<Span>, AllocError>
-    requires few { length tokens.now ≤ most_bytes }
     requires located { AreLocated text.now tokens.now (after_mark text.now) }
+    requires stop { IsStop tokens.now position stop }
     ensures { IfOk result (λ o. IfSome o (IsAt text.now library.now position)) }
 {
-    let mut cursor = Cursor::new(alloc, tokens);
-    if !reach(&mut cursor, position)? {
-        return Ok(None);
-    }
-    let left = cursor.left();
-    let span = span_before(alloc, text, tokens, left)?;
+    let span = span_before(alloc, text, tokens, stop.left)?;
     if is_named(alloc, text, span, name_at(position, library))? {
         Ok(Some(span))
     } else {
         Ok(None)
     }
+}
+
+/// The bytes of the token at a position of a declaration, from the tokens of the text that declares this library, and from
+/// where they were read before. Positions that follow the order of the block types are found by one walk.
+///
+/// # Errors
+///
+/// When memory runs out.
+pub fn span_from(
+    alloc: Global,
+    text: &[u8],
+    tokens: &[Located],
+    library: &Library,
+    reached: Reached,
+    position: Position,
+) -> Result<Found, AllocError>
+    requires few { length tokens.now ≤ most_bytes }
+    requires located { AreLocated text.now tokens.now (after_mark text.now) }
+    requires reached { IsReached tokens.now reached }
+    ensures found { IfOk result (λ f. IfSome f.span (IsAt text.now library.now position)) }
+    ensures reached { IfOk result (λ f. IsReached tokens.now f.reached) }
+{
+    let Some(stop) = reach(alloc, tokens, reached, position)? else {
+        return Ok(Found {
+            span: None,
+            reached,
+        });
+    };
+    let span = span_at_stop(alloc, text, tokens, library, position, stop)?;
+    Ok(Found {
+        span,
+        reached: stop.reached,
+    })
 }
 
 /// The bytes of the token at a position of a declaration, in the text that declares this library. `None` if there is no
@@ -113,7 +162,11 @@ pub fn span_of(
         return Ok(None);
     }
     match lex(alloc, text) {
-        Ok(tokens) => span_among(alloc, text, tokens.as_slice(), library, position),
+        Ok(tokens) => {
+            let tokens = tokens.as_slice();
+            let found = span_from(alloc, text, tokens, library, beginning(tokens), position)?;
+            Ok(found.span)
+        }
         Err(ReadFault::Memory) => Err(AllocError),
         Err(_) => Ok(None),
     }

@@ -30,7 +30,7 @@ fn past_application(cursor: &mut Cursor<'_>) -> Result<(), ParseFault>
 }
 
 /// Reads this many block types, and the application if one follows it.
-fn pass_blocks(cursor: &mut Cursor<'_>, count: usize) -> Result<(), ParseFault>
+pub fn pass_blocks(cursor: &mut Cursor<'_>, count: usize) -> Result<(), ParseFault>
     ensures { Reads (spec.pass_blocks count cursor.old) result cursor.new }
 {
     for _turn in 0..count {
@@ -40,32 +40,53 @@ fn pass_blocks(cursor: &mut Cursor<'_>, count: usize) -> Result<(), ParseFault>
     Ok(())
 }
 
-/// Reads up to the name of a block type.
-#[tactic(auto, unfolding(crate::specs::Walks::to_block))]
-fn to_block(cursor: &mut Cursor<'_>, index: usize) -> Result<(), ParseFault>
-    ensures { Reads (spec.to_block index cursor.old) result cursor.new }
+/// Reads up to the name of the block type that is next.
+#[tactic(auto, unfolding(crate::specs::Walks::begun))]
+fn begun(cursor: &mut Cursor<'_>) -> Result<(), ParseFault>
+    ensures { Reads (spec.begun cursor.old) result cursor.new }
 {
-    pass_blocks(cursor, index)?;
     past_application(cursor)?;
     cursor.expect(Mark::FunctionBlock)
 }
 
-/// Reads up to the interface of a block type.
+/// Reads up to the interface of the block type that is next.
 #[tactic(auto, unfolding(crate::specs::Walks::to_ports))]
-fn to_ports(cursor: &mut Cursor<'_>, index: usize) -> Result<(), ParseFault>
-    ensures { Reads (spec.to_ports index cursor.old) result cursor.new }
+fn to_ports(cursor: &mut Cursor<'_>) -> Result<(), ParseFault>
+    ensures { Reads (spec.to_ports cursor.old) result cursor.new }
 {
-    to_block(cursor, index)?;
+    begun(cursor)?;
     skip::<Name>(cursor)
 }
 
-/// Reads up to what follows the interface of a block type.
+/// Reads up to what follows the interface of the block type that is next.
 #[tactic(auto, unfolding(crate::specs::Walks::to_inside))]
-fn to_inside(cursor: &mut Cursor<'_>, index: usize) -> Result<(), ParseFault>
-    ensures { Reads (spec.to_inside index cursor.old) result cursor.new }
+fn to_inside(cursor: &mut Cursor<'_>) -> Result<(), ParseFault>
+    ensures { Reads (spec.to_inside cursor.old) result cursor.new }
 {
-    to_ports(cursor, index)?;
+    to_ports(cursor)?;
     skip::<Ports>(cursor)
+}
+
+/// Reads up to a position in the block type that is next.
+pub fn from_block(cursor: &mut Cursor<'_>, position: Position) -> Result<(), ParseFault>
+    ensures { Reads (spec.from_block position cursor.old) result cursor.new }
+{
+    match position {
+        Position::Application | Position::InApplication(_) => Err(ParseFault::Syntax),
+        Position::Block(_) => begun(cursor),
+        Position::InPorts(_, part) => {
+            to_ports(cursor)?;
+            to_port_part(cursor, part)
+        }
+        Position::InBasic(_, part) => {
+            to_inside(cursor)?;
+            to_basic_part(cursor, part)
+        }
+        Position::InComposite(_, part) => {
+            to_inside(cursor)?;
+            to_network_part(cursor, part)
+        }
+    }
 }
 
 /// Reads the block types before the application.
@@ -89,11 +110,20 @@ fn to_application(cursor: &mut Cursor<'_>) -> Result<(), ParseFault>
 
 /// Reads up to the network of the application.
 #[tactic(auto, unfolding(crate::specs::Walks::to_network))]
-fn to_network(cursor: &mut Cursor<'_>) -> Result<(), ParseFault>
+pub fn to_network(cursor: &mut Cursor<'_>) -> Result<(), ParseFault>
     ensures { Reads (spec.to_network cursor.old) result cursor.new }
 {
     to_application(cursor)?;
     skip::<Name>(cursor)
+}
+
+/// Reads up to a position in the block type at this index.
+#[tactic(auto, unfolding(crate::specs::Walks::to_block))]
+fn to_block(cursor: &mut Cursor<'_>, block: usize, position: Position) -> Result<(), ParseFault>
+    ensures { Reads (spec.to_block block position cursor.old) result cursor.new }
+{
+    pass_blocks(cursor, block)?;
+    from_block(cursor, position)
 }
 
 /// Reads up to a position in a declaration.
@@ -107,18 +137,9 @@ pub fn to_position(cursor: &mut Cursor<'_>, position: Position) -> Result<(), Pa
             to_network(cursor)?;
             to_network_part(cursor, part)
         }
-        Position::Block(block) => to_block(cursor, block),
-        Position::InPorts(block, part) => {
-            to_ports(cursor, block)?;
-            to_port_part(cursor, part)
-        }
-        Position::InBasic(block, part) => {
-            to_inside(cursor, block)?;
-            to_basic_part(cursor, part)
-        }
-        Position::InComposite(block, part) => {
-            to_inside(cursor, block)?;
-            to_network_part(cursor, part)
-        }
+        Position::Block(block)
+        | Position::InPorts(block, _)
+        | Position::InBasic(block, _)
+        | Position::InComposite(block, _) => to_block(cursor, block, position),
     }
 }

@@ -1,7 +1,7 @@
 -- Loops that search the first element that passes a test, or fails it.
-use Rattle.std.proofs.Common.{◌≡◌, ℕ, ◌+◌, ◌<◌, ◌≤◌, Bool, true, false, ◌&&◌, ◌||◌, List, ◌∷◌, drop, get_or, length, Option, Some, None, refl, sym, ◌∙◌, ap, arith}
+use Rattle.std.proofs.Common.{◌≡◌, ℕ, ◌+◌, ◌<◌, ◌≤◌, Bool, true, false, ◌||◌, List, ◌∷◌, drop, get_or, length, Option, Some, None, refl, sym, ◌∙◌, ap, arith}
 use Rattle.std.specs.Prelude.{position, option_map, slice_get}
-use Rattle.std.specs.List.{list_all, list_any}
+use Rattle.std.specs.List.{list_any}
 use Rattle.std.proofs.lemmas.List.{at_drop_all, at_drop_more}
 use Rattle.std.proofs.lemmas.Option.{slice_get-get_or}
 use Rattle.fb_types.proofs.Positions.{position-first, position-later}
@@ -47,14 +47,6 @@ found_none p xs k past before = sym (before ∙ ap (following k) (at_drop_all (p
 -- the element at hand
 pub at_hand : {A : Type 0} (xs : List A) (i : ℕ) (x : A) → i < length xs → x ≡ get_or xs i x → slice_get xs i ≡ Some x
 at_hand {A} xs i x within is = slice_get-get_or xs i x within ∙ ap (λ (y : A). Some y) (sym is)
-
--- one element more of which it holds
-pub holds_on :
-    {A : Type 0} (f : A → Bool) (xs : List A) (i : ℕ) (x : A) → i < length xs → x ≡ get_or xs i x → list_all f xs ≡ list_all f (drop i xs) → f x ≡ true
-    → list_all f xs ≡ list_all f (drop (i + 1) xs)
-holds_on {A} f xs i x within is before holds =
-    before ∙ at_drop_more (list_all f) xs i x within ∙ ap (λ (y : A). f y && list_all f (drop (i + 1) xs)) (sym is)
-    ∙ ap (λ b. b && list_all f (drop (i + 1) xs)) holds
 
 -- ---- A loop that searches an element that passes a test
 

@@ -5,23 +5,11 @@ use Rattle.fb_types.specs.declared.deploy.Plan.{Plan}
 use Rattle.fb_types.specs.declared.deploy.Stimulus.{Stimulus}
 use Rattle.fb_types.specs.declared.library.Library.{Library}
 use Rattle.fb_read.specs.Whole.{IsLibraryText}
-use Rattle.fb_why.specs.Causes.{IsCause}
-use Rattle.fb_why.specs.Findings.{AppliesAt, AppliesNowhere, AreStimuli, ExceedsAt, ExceedsNowhere, HasNoExcess, HasNoFlaw, IsPlan, IsSilent, IsSilentOf, Finds, FindsExcess, FindsFlaw, FindsOf}
+use Rattle.fb_why.specs.Findings.{AreStimuli, ExceedsAt, ExceedsNowhere, HasNoExcess, IsPlan, FindsExcess}
 use Rattle.fb_why.specs.Places.{IsPlacedFinding}
-use Rattle.fb_why.specs.declared.cause.Cause.{Cause}
 use Rattle.fb_why.specs.declared.cause.Excess.{Excess}
-use Rattle.fb_why.specs.declared.cause.Flaw.{Flaw}
 use Rattle.fb_why.specs.declared.place.PlacedFinding.{PlacedFinding}
 use Rattle.fb_why.specs.declared.spot.Finding.{Finding}
-
--- a declaration and a deployment
-pub flaw_found :
-    {E : Type 0} (flaw : Flaw) (text : List ℕ) (bytes : Option (List ℕ)) (library : Library) (plan : Plan) (made : Result (Option Finding) E) → IsLibraryText text library → IsPlan bytes plan
-    → IfOk made (λ o. MatchOption o (AppliesNowhere flaw library plan) (λ r. AppliesAt flaw library plan r.location))
-    → IfOk made (λ o. MatchOption o (HasNoFlaw flaw text bytes) (λ r. FindsFlaw flaw text bytes r.location))
-flaw_found flaw text bytes library plan (Err e) read planned holds = tt
-flaw_found flaw text bytes library plan (Ok None) read planned holds = inl (record { library = library; plan = plan; read = read; planned = planned; nowhere = holds })
-flaw_found flaw text bytes library plan (Ok (Some r)) read planned holds = record { library = library; plan = plan; read = read; planned = planned; applies = holds }
 
 -- and stimuli
 pub excess_found :
@@ -40,15 +28,6 @@ pub unread_found :
 unread_found (Err e) F N T said so = tt
 unread_found (Ok None) F N T said so = so said.1
 unread_found (Ok (Some r)) F N T said so = absurd (let other : Some r ≡ None = said.0 in cc)
-
--- and by the number
-pub numbered :
-    {E : Type 0} (cause : Cause) (n : ℕ) (text : List ℕ) (bytes given : Option (List ℕ)) (made : Result (Option PlacedFinding) E) → IsCause n cause
-    → IfOk made (λ o. MatchOption o (IsSilentOf cause n text bytes given) (λ r. FindsOf cause n text bytes given r.finding.location))
-    → IfOk made (λ o. MatchOption o (IsSilent text bytes given n) (λ r. Finds text bytes given n r.finding.location))
-numbered cause n text bytes given (Err e) is holds = tt
-numbered cause n text bytes given (Ok None) is holds = (cause, is, holds)
-numbered cause n text bytes given (Ok (Some r)) is holds = (cause, is, holds)
 
 pub unplaced :
     {E : Type 0} (text : List ℕ) (made : Result (Option PlacedFinding) E) (F : Type 0) → IfOk made (λ o. (o ≡ None) × F) → IfOk made (λ o. IfSome o (IsPlacedFinding text))

@@ -130,7 +130,7 @@ served lib plan d h cut =
       | false ↦ λ e g. let w = passes_somewhere (brings lib plan d) all g in served_from_brings lib plan d w.0 w.1 w.2
     ] refl h
 
-all_served :
+pub all_served :
     (lib : Library) (plan : Plan) (cs : List Connection) → cs ≡ lib.application.network.data_connections → list_all (is_served lib plan) cs ≡ true
     → ¬ (NoEvent lib plan)
 all_served lib plan cs same all w =

@@ -2,14 +2,17 @@ pub mod Explained
 pub mod Causes
 pub mod Positions
 pub mod Places
+pub mod InputPlaces
 pub mod Findings
 pub mod Stimuli
 pub mod Trials
 pub mod Pairs
 pub mod Unmapped
 pub mod Twice
+pub mod Repeats
 pub mod Sources
 pub mod Unlinked
 pub mod Unserved
 pub mod Heights
 pub mod Applies
+pub mod Listings

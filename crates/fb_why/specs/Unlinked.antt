@@ -1,5 +1,5 @@
 -- Where a connection between two resources has no link (E27; links are this project's profile).
-use Rattle.std.specs.Prelude.{◌≡◌, ℕ, List, [], Bool, ◌&&◌, ◌||◌, nat_eq, Some, None, slice_get}
+use Rattle.std.specs.Prelude.{◌≡◌, ℕ, List, [], ◌++◌, Bool, ◌&&◌, ◌||◌, nat_eq, Some, None, slice_get}
 use Rattle.std.specs.List.{list_any}
 use Rattle.fb_types.specs.Names.{Name, Port, same_name}
 use Rattle.fb_types.specs.Flat.{port_in, resource_of, link_between, name_of_resource}
@@ -8,6 +8,7 @@ use Rattle.fb_types.specs.declared.library.Connection.{Connection}
 use Rattle.fb_types.specs.declared.library.Library.{Library}
 use Rattle.fb_types.specs.declared.deploy.Link.{Link}
 use Rattle.fb_types.specs.declared.deploy.Plan.{Plan}
+use Rattle.fb_why_kinds.specs.Listed.{each_at, unless}
 use Rattle.fb_why.specs.declared.unlinked.Unlinked.{Unlinked}
 use Rattle.fb_why.specs.declared.unlinked.Unlinked.TheVariants as location
 
@@ -32,3 +33,14 @@ pub record IsUnlinked (plan : Plan) (pairs : List (Port × Port)) (k : ℕ) : Ty
 abbrev pub IsUnlinkedAt : Library → Plan → Unlinked → Type 0
 IsUnlinkedAt lib plan (location.Event k) = IsUnlinked plan (event_pairs_of lib) k
 IsUnlinkedAt lib plan (location.Data k) = IsUnlinked plan (data_pairs_of lib) k
+
+-- all such connections, in the order of the declaration
+abbrev pub unlinked_event : Plan → ℕ → Connection → List Unlinked
+unlinked_event plan k c = unless (is_linked plan c) (location.Event k)
+
+abbrev pub unlinked_data : Plan → ℕ → Connection → List Unlinked
+unlinked_data plan k c = unless (is_linked plan c) (location.Data k)
+
+abbrev pub unlinked_all : Library → Plan → List Unlinked
+unlinked_all lib plan =
+    each_at (unlinked_event plan) lib.application.network.event_connections ++ each_at (unlinked_data plan) lib.application.network.data_connections

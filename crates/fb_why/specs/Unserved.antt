@@ -1,6 +1,6 @@
 -- Where no event serves a data connection between two resources (E28; that it needs a matching event connection is this
 -- project's profile).
-use Rattle.std.specs.Prelude.{◌≡◌, ℕ, Bool, false, ◌&&◌, ◌||◌, nat_eq, [], Option, Some, None, slice_get}
+use Rattle.std.specs.Prelude.{◌≡◌, ℕ, Bool, false, ◌&&◌, ◌||◌, nat_eq, List, [], Option, Some, None, slice_get}
 use Rattle.std.specs.List.{list_any}
 use Rattle.fb_types.specs.Names.{Name, Port, same_path}
 use Rattle.fb_types.specs.Blocks.{Kind, among, ports_of, outputs_with}
@@ -9,6 +9,7 @@ use Rattle.fb_types.specs.Mapped.{IsCut, IsServed, data_pairs_of}
 use Rattle.fb_types.specs.declared.library.Connection.{Connection}
 use Rattle.fb_types.specs.declared.library.Library.{Library}
 use Rattle.fb_types.specs.declared.deploy.Plan.{Plan}
+use Rattle.fb_why_kinds.specs.Listed.{each_at, unless}
 
 -- whether an output event of the type has the variable WITH it
 abbrev pub carries : Option Kind → (event variable : Name) → Bool
@@ -42,3 +43,10 @@ pub record IsUnservedAt (lib : Library) (plan : Plan) (k : ℕ) : Type 0 where
   pub found : slice_get (data_pairs_of lib) k ≡ Some at_index
   pub cut : IsCut plan at_index
   pub alone : ¬ (IsServed lib plan at_index)
+
+-- all such data connections, in the order of the declaration
+abbrev pub unserved_at : Library → Plan → ℕ → Connection → List ℕ
+unserved_at lib plan k d = unless (is_served lib plan d) k
+
+abbrev pub unserved_all : Library → Plan → List ℕ
+unserved_all lib plan = each_at (unserved_at lib plan) lib.application.network.data_connections

@@ -1,13 +1,15 @@
-//! Finds where a refusal applies: reads the bytes again, and searches for a location at which the refusal applies.
+//! Finds where a refusal applies: reads the bytes again, and searches for the locations at which the refusal applies.
 
-ghost use Rattle.std.specs.Prelude.{◌≡◌, ℕ, List, Option, None, IfOk, IfSome, MatchOption, option_map};
+ghost use Rattle.std.specs.Prelude.{◌≡◌, ℕ, [], All, List, Option, None, IfOk, IfSome, MatchOption, false, option_map};
 ghost use Rattle.fb_read.specs.Whole.{IsLibraryText, IsMemory};
-ghost use Rattle.fb_why.specs.Findings.{AreNoStimuli, AreStimuli, HasNoExcess, HasNoFlaw, IsNoPlan, IsPlan, IsSilent, IsSilentOf, IsSilentOfBytes, Finds, FindsExcess, FindsFlaw, FindsInBytes, FindsInText, FindsOf};
+ghost use Rattle.fb_why.specs.Findings.{AreNoStimuli, AreStimuli, HasNoExcess, IsNoPlan, IsPlan, IsSilentOfBytes, FindsExcess, FindsInBytes, FindsInText};
+ghost use Rattle.fb_why.specs.Listings.{AreFlaws, AreFound, AreFoundBy, AreShown, IsOnce};
 ghost use Rattle.fb_why.specs.Places.{IsPlacedFinding};
 
 use crate::cause::{Cause, Excess, Flaw, cause_of};
-use crate::declared::finding_in;
+use crate::declared::spots_in;
 use crate::fed::finding_with;
+use crate::listing::{Findings, listed, one};
 use crate::place::{PlacedFinding, placed_in, placed_itself};
 use crate::refused::{bytes_finding, text_finding};
 use crate::spot::Finding;
@@ -24,6 +26,14 @@ fn no_finding(fault: ReadError) -> Result<Option<PlacedFinding>, AllocError>
         ReadError::Memory => Err(AllocError),
         _ => Ok(None),
     }
+}
+
+/// The same, as the findings of a number.
+fn no_findings(alloc: Global, fault: ReadError) -> Result<Findings, AllocError>
+    ensures { IfOk result (λ f. (f.shown.items ≡ []) × (f.more ≡ false) × ¬ (IsMemory fault)) }
+{
+    let none = no_finding(fault)?;
+    one(alloc, none)
 }
 
 /// The deployment that is given, or the default one if none is given. `None` if the bytes are refused.
@@ -54,57 +64,57 @@ fn stimuli_of(alloc: Global, stimuli: Option<&[u8]>) -> Result<Option<Vec<Stimul
     }
 }
 
-/// Where the refusal applies to a library and to the deployment in these bytes.
-fn flaw_finding_in(
+/// Where the refusal applies to a library, which this text declares, and to a plan.
+fn flaws_of(
     alloc: Global,
     flaw: Flaw,
+    declaration: &[u8],
     library: &Library,
-    deploy: Option<&[u8]>,
-) -> Result<Option<Finding>, AllocError>
-    ensures { let plan = option_map (λ b. b.now) deploy.entry in (declaration : List ℕ) → IsLibraryText declaration library.now →
-        IfOk result (λ o. MatchOption o (HasNoFlaw flaw declaration plan) (λ r. FindsFlaw flaw declaration plan r.location)) }
+    plan: &Plan,
+) -> Result<Findings, AllocError>
+    requires { IsLibraryText declaration.now library.now }
+    ensures found { (deploy : Option (List ℕ)) → IsPlan deploy plan.now → IfOk result (AreShown flaw declaration.now deploy) }
+    ensures placed { IfOk result (λ f. All (IsPlacedFinding declaration.now) f.shown.items) }
 {
-    let Some(deploy) = deploy_of(alloc, deploy)? else {
-        return Ok(None);
-    };
-    finding_in(alloc, flaw, library, deploy.plan())
+    let spots = spots_in(alloc, flaw, library, plan)?;
+    listed(alloc, declaration, library, plan, spots.as_slice())
 }
 
 /// Where the refusal applies to a library, which this text declares, and to the deployment in these bytes.
-fn placed_flaw(
+fn flaws_in(
     alloc: Global,
     flaw: Flaw,
     declaration: &[u8],
     library: &Library,
     deploy: Option<&[u8]>,
-) -> Result<Option<PlacedFinding>, AllocError>
+) -> Result<Findings, AllocError>
     requires { IsLibraryText declaration.now library.now }
-    ensures found { let plan = option_map (λ b. b.now) deploy.entry in
-        IfOk result (λ o. MatchOption o (HasNoFlaw flaw declaration.now plan) (λ r. FindsFlaw flaw declaration.now plan r.finding.location)) }
-    ensures placed { IfOk result (λ o. IfSome o (IsPlacedFinding declaration.now)) }
+    ensures found { IfOk result (AreFlaws flaw declaration.now (option_map (λ b. b.now) deploy.entry)) }
+    ensures placed { IfOk result (λ f. All (IsPlacedFinding declaration.now) f.shown.items) }
 {
-    let finding = flaw_finding_in(alloc, flaw, library, deploy)?;
-    placed_in(alloc, declaration, library, finding)
+    let Some(deploy) = deploy_of(alloc, deploy)? else {
+        return one(alloc, None);
+    };
+    flaws_of(alloc, flaw, declaration, library, deploy.plan())
 }
 
 /// Where the refusal applies to the declaration and the deployment in these bytes.
-fn flaw_finding(
+fn flaw_findings(
     alloc: Global,
     flaw: Flaw,
     declaration: &[u8],
     deploy: Option<&[u8]>,
-) -> Result<Option<PlacedFinding>, AllocError>
-    ensures found { let plan = option_map (λ b. b.now) deploy.entry in
-        IfOk result (λ o. MatchOption o (HasNoFlaw flaw declaration.now plan) (λ r. FindsFlaw flaw declaration.now plan r.finding.location)) }
-    ensures placed { IfOk result (λ o. IfSome o (IsPlacedFinding declaration.now)) }
+) -> Result<Findings, AllocError>
+    ensures found { IfOk result (AreFlaws flaw declaration.now (option_map (λ b. b.now) deploy.entry)) }
+    ensures placed { IfOk result (λ f. All (IsPlacedFinding declaration.now) f.shown.items) }
 {
     match read_library(alloc, declaration) {
         Ok(library) => {
-            let finding = placed_flaw(alloc, flaw, declaration, &library, deploy);
+            let findings = flaws_in(alloc, flaw, declaration, &library, deploy);
             discard(library);
-            finding
+            findings
         }
-        Err(fault) => no_finding(fault),
+        Err(fault) => no_findings(alloc, fault),
     }
 }
 
@@ -210,46 +220,59 @@ fn placed_bytes(
     Ok(placed_itself(finding))
 }
 
+/// What was found, as the findings of a number.
+fn once(
+    alloc: Global,
+    found: Result<Option<PlacedFinding>, AllocError>,
+) -> Result<Findings, AllocError>
+    ensures { IfOk result (IsOnce found) }
+{
+    one(alloc, found?)
+}
+
 /// Where the refusal with this number and this cause applies.
-fn finding_by(
+fn findings_by(
     alloc: Global,
     cause: Cause,
     number: u8,
     declaration: &[u8],
     deploy: Option<&[u8]>,
     stimuli: Option<&[u8]>,
-) -> Result<Option<PlacedFinding>, AllocError>
+) -> Result<Findings, AllocError>
     ensures found { let plan = option_map (λ b. b.now) deploy.entry in let rows = option_map (λ b. b.now) stimuli.entry in
-        IfOk result (λ o. MatchOption o (IsSilentOf cause number declaration.now plan rows) (λ r. FindsOf cause number declaration.now plan rows r.finding.location)) }
-    ensures placed { IfOk result (λ o. IfSome o (IsPlacedFinding declaration.now)) }
+        IfOk result (AreFoundBy cause number declaration.now plan rows) }
+    ensures placed { IfOk result (λ f. All (IsPlacedFinding declaration.now) f.shown.items) }
 {
     match cause {
-        Cause::Text => placed_text(alloc, number, declaration),
-        Cause::Bytes => placed_bytes(alloc, number, deploy, stimuli),
-        Cause::Flaw(flaw) => flaw_finding(alloc, flaw, declaration, deploy),
-        Cause::Excess(excess) => excess_finding(alloc, excess, declaration, deploy, stimuli),
-        Cause::Other => Ok(None),
+        Cause::Text => once(alloc, placed_text(alloc, number, declaration)),
+        Cause::Bytes => once(alloc, placed_bytes(alloc, number, deploy, stimuli)),
+        Cause::Flaw(flaw) => flaw_findings(alloc, flaw, declaration, deploy),
+        Cause::Excess(excess) => {
+            let found = excess_finding(alloc, excess, declaration, deploy, stimuli);
+            once(alloc, found)
+        }
+        Cause::Other => one(alloc, None),
     }
 }
 
 /// Where the refusal with this number applies to the bytes of a declaration, a deployment and stimuli, of which the last
-/// two may be missing, with its place in the declaration.
+/// two may be missing: the first findings, with their places in the declaration.
 ///
 /// # Errors
 ///
 /// When memory runs out.
-pub fn finding_of(
+pub fn findings_of(
     alloc: Global,
     number: u8,
     declaration: &[u8],
     deploy: Option<&[u8]>,
     stimuli: Option<&[u8]>,
-) -> Result<Option<PlacedFinding>, AllocError>
+) -> Result<Findings, AllocError>
     ensures found { let plan = option_map (λ b. b.now) deploy.entry in let rows = option_map (λ b. b.now) stimuli.entry in
-        IfOk result (λ o. MatchOption o (IsSilent declaration.now plan rows number) (λ r. Finds declaration.now plan rows number r.finding.location)) }
-    ensures placed { IfOk result (λ o. IfSome o (IsPlacedFinding declaration.now)) }
+        IfOk result (AreFound declaration.now plan rows number) }
+    ensures placed { IfOk result (λ f. All (IsPlacedFinding declaration.now) f.shown.items) }
 {
-    finding_by(
+    findings_by(
         alloc,
         cause_of(number),
         number,

@@ -17,7 +17,7 @@
 //!
 //! Read in this order: `explanation` and `table`; `cause` and `spot`, what each number is about, and where. Then names,
 //! connections and the mapping: `among`, whether a name is in a list, and `pair`, what is in a list twice; `twice`,
-//! `sources`, `heights`, `unmapped`, `unlinked` and `unserved`; `laws`; the modules `tell_..`, a location as text. Then
+//! `sources`, `heights`, `unmapped`, `unlinked` and `unserved`; `laws`; the modules `.._messages`, a location as text. Then
 //! stimuli and limits: `location`, their locations; `verdict`, the least fault; `trial`, which applies the check to a part
 //! of a stimulus; `stimulus`, `limit` and `limit_messages`. Then `refused`, `declared` and `fed`, locations in bytes, in what they
 //! declare, and in stimuli; `positions` and `place`, where a location is in the text of the
@@ -33,10 +33,12 @@ pub mod finding;
 mod flaw_message;
 mod height_messages;
 pub mod heights;
+pub mod input_place;
 mod joined_messages;
 pub mod laws;
 mod limit;
 mod limit_messages;
+pub mod listing;
 pub mod location;
 pub mod pair;
 pub mod place;
@@ -59,8 +61,10 @@ mod verdict;
 
 pub use cause::{Cause, Excess, Flaw};
 pub use explanation::explain;
-pub use finding::finding_of;
+pub use finding::findings_of;
 pub use heights::Descent;
+pub use input_place::{InputFile, Place, place_in_inputs};
+pub use listing::{Findings, MOST_FINDINGS, discard_findings};
 pub use location::{Limit, StimulusFault, StimulusLocation};
 pub use pair::Repeat;
 pub use place::PlacedFinding;

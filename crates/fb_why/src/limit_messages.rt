@@ -1,22 +1,15 @@
 //! Texts for stimuli that do not fit, and for limits that are exceeded.
 
 use crate::location::{Limit, StimulusFault, StimulusLocation};
-use fb_types::{Connection, Library, Name, Setting, Stimulus};
+use fb_types::{
+    Connection, Library, Name, Setting, Stimulus, Ty, Variable, block_named,
+    event_block_input_named, instance_named, kind_named,
+};
 use fb_why_kinds::Text;
 use std::alloc::{AllocError, Global};
 
-/// The ending of an ordinal number, as in 1st.
-fn ending(location: usize) -> &'static str {
-    match (location % 10, location % 100) {
-        (_, 11..=13) => "th",
-        (1, _) => "st",
-        (2, _) => "nd",
-        (3, _) => "rd",
-        _ => "th",
-    }
-}
-
-/// Says what is wrong with the stimulus at this location.
+/// Says what is wrong with the stimulus at this location. Rows are counted from 0 after the heading, as in the keys of
+/// events.
 pub fn stimulus_message(
     alloc: Global,
     library: &Library,
@@ -33,7 +26,7 @@ pub fn limit_message(alloc: Global, limit: Limit) -> Result<String, AllocError> 
     let mut text = Text::new(alloc);
     text.words(match limit {
         Limit::Instances => "application: there are more than 4,096 instances, components included",
-        Limit::Stimuli => "stimuli: there are more than 100,000 rows",
+        Limit::Stimuli => "there are more than 100,000 rows",
     });
     text.into_string()
 }
@@ -44,11 +37,8 @@ fn push_stimulus(
     stimuli: &[Stimulus],
     location: StimulusLocation,
 ) {
-    // Rows are counted from 0 in the code, and from 1 in the text.
-    let counted = location.row.saturating_add(1);
-    text.numbered("stimuli: ", counted as i128);
-    text.words(ending(counted));
-    text.words(" row after the heading: ");
+    text.numbered("row ", location.row as i128);
+    text.words(": ");
     if let Some(stimulus) = stimuli.get(location.row) {
         push_fault(text, library, stimulus, location.fault);
     }
@@ -97,6 +87,45 @@ fn is_connected(library: &Library, instance: &Name, variable: &Name) -> bool {
     false
 }
 
+/// The type of the data input with this name of the instance to which a stimulus goes.
+fn input_type(library: &Library, stimulus: &Stimulus, variable: &Name) -> Option<Ty> {
+    let instances = library.application.network.instances.as_slice();
+    let instance = instance_named(instances, &stimulus.instance)?;
+    match kind_named(instance.block_type.as_bytes()) {
+        Some(kind) => event_block_input_named(kind, variable.as_bytes()),
+        None => {
+            let block = block_named(library.blocks.as_slice(), &instance.block_type)?;
+            declared_type(block.ports().inputs.as_slice(), variable)
+        }
+    }
+}
+
+/// The type of the variable with this name.
+fn declared_type(variables: &[Variable], name: &Name) -> Option<Ty> {
+    for variable in variables {
+        if variable.name.is(name) {
+            return Some(variable.ty);
+        }
+    }
+    None
+}
+
+/// The values of a type.
+fn values_of(ty: Ty) -> &'static str {
+    match ty {
+        Ty::Bool => "BOOL: TRUE or FALSE",
+        Ty::Sint => "SINT: -128 to 127",
+        Ty::Int => "INT: -32768 to 32767",
+        Ty::Dint => "DINT: -2147483648 to 2147483647",
+        Ty::Lint => "LINT: -9223372036854775808 to 9223372036854775807",
+        Ty::Usint => "USINT: 0 to 255",
+        Ty::Uint => "UINT: 0 to 65535",
+        Ty::Udint => "UDINT: 0 to 4294967295",
+        Ty::Ulint => "ULINT: 0 to 18446744073709551615",
+        Ty::Time => "TIME: a whole number of milliseconds, without T#",
+    }
+}
+
 fn push_setting(text: &mut Text, library: &Library, stimulus: &Stimulus, setting: &Setting) {
     text.name(&setting.variable);
     text.words("=");
@@ -105,8 +134,17 @@ fn push_setting(text: &mut Text, library: &Library, stimulus: &Stimulus, setting
         text.words(": a data connection leads to the variable");
         return;
     }
-    text.named(": no data input that goes WITH ", &stimulus.event);
-    text.words(" has this name and holds this value");
+    match input_type(library, stimulus, &setting.variable) {
+        Some(ty) if !ty.holds(setting.value) => {
+            text.named(": ", &setting.variable);
+            text.words(" is ");
+            text.words(values_of(ty));
+        }
+        _ => {
+            text.named(": no data input that goes WITH ", &stimulus.event);
+            text.words(" has this name");
+        }
+    }
 }
 
 /// Adds the first variable that is set twice.

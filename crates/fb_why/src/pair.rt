@@ -1,12 +1,12 @@
-//! Finds the first item of a list that is in it twice.
+//! Finds the items of a list that are in it twice.
 
-ghost use Rattle.std.specs.Prelude.{◌≡◌, map, IfOk};
+ghost use Rattle.std.specs.Prelude.{◌≡◌, ◌++◌, map, IfOk};
+ghost use Rattle.fb_types.specs.Names.{same_name};
 ghost use Rattle.fb_check_names.specs.Ends.{link_ends};
 ghost use Rattle.fb_check_names.specs.Indexes.{names_in};
-ghost use Rattle.fb_why.specs.Pairs.{Paired, compared, key_ports};
-ghost use Rattle.fb_why.specs.Sources.{targets};
+ghost use Rattle.fb_why.specs.Pairs.{compared, key_ports, last_place, pair_at, repeats, same_ends, same_sides};
 
-use crate::unlinked::location_of_link;
+use crate::unlinked::is_joining;
 use fb_check_names::{Named, end_names, push_names};
 use fb_types::{Connection, Link, Name};
 use std::alloc::{AllocError, Global};
@@ -15,29 +15,36 @@ use std::collections::BTreeMap;
 /// The indices of two equal items in a list, the earlier one first.
 pub type Repeat = (usize, usize);
 
-/// The first name that is in the list before, with both indices.
-pub(crate) fn name_pair(alloc: Global, names: &[&Name]) -> Result<Option<Repeat>, AllocError>
-    ensures { IfOk result (Paired (names_in names.now)) }
+/// Adds a pair for an item that is in the list before.
+fn push_pair(pairs: &mut Vec<Repeat>, first: Option<usize>, second: usize) -> Result<(), AllocError>
+    ensures { IfOk result (λ _. pairs.new.items ≡ pairs.old.items ++ pair_at second first) }
+{
+    if let Some(first) = first {
+        pairs.push((first, second))?;
+    }
+    Ok(())
+}
+
+/// Each name that is in the list before, with the index of the nearest such name.
+pub(crate) fn name_pairs(alloc: Global, names: &[&Name]) -> Result<Vec<Repeat>, AllocError>
+    ensures { IfOk result (λ pairs. pairs.items ≡ repeats same_name (names_in names.now)) }
 {
     let mut seen = BTreeMap::new(alloc);
+    let mut pairs = Vec::new(alloc);
     for (second, name) in names.iter().enumerate() {
-        if let Some(first) = seen.insert(name.as_bytes(), second)? {
-            return Ok(Some((first, second)));
-        }
+        let first = seen.insert(name.as_bytes(), second)?;
+        push_pair(&mut pairs, first, second)?;
     }
-    Ok(None)
+    Ok(pairs)
 }
 
 /// The same for the names of the items of a list.
-pub(crate) fn called_pair<T: Named>(
-    alloc: Global,
-    items: &[T],
-) -> Result<Option<Repeat>, AllocError>
-    ensures { IfOk result (Paired (map T.called items.now)) }
+pub(crate) fn called_pairs<T: Named>(alloc: Global, items: &[T]) -> Result<Vec<Repeat>, AllocError>
+    ensures { IfOk result (λ pairs. pairs.items ≡ repeats same_name (map T.called items.now)) }
 {
     let mut names = Vec::new(alloc);
     push_names(&mut names, items)?;
-    name_pair(alloc, names.as_slice())
+    name_pairs(alloc, names.as_slice())
 }
 
 /// The names at both ends of a connection: the component, if there is one, and the port of its beginning, and the same of
@@ -56,43 +63,48 @@ fn names_of(connection: &Connection, both: bool) -> ConnectionNames<'_>
     (None, &[], component, port)
 }
 
-/// The first connection that is equal to one before, by both ends or only by where they lead, with both indices.
-pub(crate) fn connection_pair(
+/// Each connection that is equal to one before, by both ends or only by where they lead, with the index of the nearest
+/// such connection.
+pub(crate) fn connection_pairs(
     alloc: Global,
     connections: &[Connection],
     both: bool,
-) -> Result<Option<Repeat>, AllocError>
-    ensures { IfOk result (Paired (map (compared both) connections.now)) }
+) -> Result<Vec<Repeat>, AllocError>
+    ensures { IfOk result (λ pairs. pairs.items ≡ repeats same_ends (map (compared both) connections.now)) }
 {
     let mut seen = BTreeMap::new(alloc);
+    let mut pairs = Vec::new(alloc);
     for (second, connection) in connections.iter().enumerate() {
-        if let Some(first) = seen.insert(names_of(connection, both), second)? {
-            return Ok(Some((first, second)));
+        let first = seen.insert(names_of(connection, both), second)?;
+        push_pair(&mut pairs, first, second)?;
+    }
+    Ok(pairs)
+}
+
+/// The index of the last of these links that goes from and to the same resources as a link.
+fn last_link(links: &[Link], link: &Link) -> Option<usize>
+    ensures { result ≡ last_place (same_sides (link_ends link.now)) (map link_ends links.now) }
+{
+    let from = link.from.as_bytes();
+    let to = link.to.as_bytes();
+    let mut last = None;
+    for (index, other) in links.iter().enumerate() {
+        if is_joining(other, from, to) {
+            last = Some(index);
         }
     }
-    Ok(None)
+    last
 }
 
-/// The first connection that leads to the port of one before, with both indices.
-pub(crate) fn target_pair(
-    alloc: Global,
-    connections: &[Connection],
-) -> Result<Option<Repeat>, AllocError>
-    ensures { IfOk result (Paired (targets connections.now)) }
+/// Each link that goes from and to the same resources as one before, with the index of the nearest such link. Links are
+/// few, so they are compared without a table.
+pub(crate) fn link_pairs(alloc: Global, links: &[Link]) -> Result<Vec<Repeat>, AllocError>
+    ensures { IfOk result (λ pairs. pairs.items ≡ repeats same_sides (map link_ends links.now)) }
 {
-    connection_pair(alloc, connections, false)
-}
-
-/// The first link that goes from and to the same resources as one before, with both indices. Links are few, so they are
-/// compared without a table.
-pub(crate) fn link_pair(links: &[Link]) -> Option<Repeat>
-    ensures { Paired (map link_ends links.now) result }
-{
+    let mut pairs = Vec::new(alloc);
     for (second, link) in links.iter().enumerate() {
         let before = &links[..second];
-        if let Some(first) = location_of_link(before, link.from.as_bytes(), link.to.as_bytes()) {
-            return Some((first, second));
-        }
+        push_pair(&mut pairs, last_link(before, link), second)?;
     }
-    None
+    Ok(pairs)
 }

@@ -1,23 +1,26 @@
 //! What is given twice (E20): names in their name spaces, event connections and links.
 
-ghost use Rattle.std.specs.Prelude.{◌≡◌, ◌++◌, IfOk, MatchOption, Some, All, map, slice_get, true, false};
-ghost use Rattle.std.specs.List.{list_all};
-ghost use Rattle.fb_types.specs.Repeated.{NameTwice, Twice};
-ghost use Rattle.fb_types.specs.declared.library.BlockType.{BlockType};
-ghost use Rattle.fb_types.specs.declared.library.BlockType.TheVariants as block;
-ghost use Rattle.fb_types.specs.declared.library.EventPort.{EventPort};
-ghost use Rattle.fb_types.specs.declared.library.Instance.{Instance};
+ghost use Rattle.std.specs.Prelude.{◌≡◌, ◌++◌, [], All, IfOk, map};
+ghost use Rattle.fb_types.specs.Repeated.{NameTwice};
+ghost use Rattle.fb_types.specs.declared.library.BlockType.TheVariants as kind;
+ghost use Rattle.fb_check_names.specs.Ends.{link_ends};
 ghost use Rattle.fb_check_names.specs.Indexes.{names_in};
-ghost use Rattle.fb_check_names.specs.GivenTwice.{BlockTwice, NetworkTwice, PortTwice, names_of_ports};
-ghost use Rattle.fb_why.specs.Pairs.{IsPair, Paired};
-ghost use Rattle.fb_why.specs.Twice.{IsEventBlock, IsParameterTwice, IsTwiceAt, IsTwiceInBlock, IsTwiceInNetwork, IsTwiceInPorts, IsTwiceInSome, IsWithTwice, is_own_name, parameter_names};
+ghost use Rattle.fb_check_names.specs.GivenTwice.{names_of_ports};
+ghost use Rattle.fb_why_kinds.specs.Listed.{each_at};
+ghost use Rattle.fb_why.specs.Pairs.{same_ends, same_sides};
+ghost use Rattle.fb_why.specs.Repeats.{event_block_at, given_in, given_in_network, given_with, names_twice, parameters_twice, twice_all, twice_by, twice_in_block, twice_in_library, twice_in_network, twice_in_ports, with_twice};
+ghost use Rattle.fb_why.specs.Twice.{IsTwiceAt};
+ghost use Rattle.fb_why.specs.declared.twice.NameSpace.TheVariants as space;
+ghost use Rattle.fb_types.specs.Repeated as repeated;
 
-use crate::pair::{Repeat, called_pair, connection_pair, link_pair, name_pair};
+use crate::pair::{Repeat, called_pairs, connection_pairs, link_pairs, name_pairs};
 use fb_check_names::{Named, push_names};
 use fb_types::{
-    BasicType, BlockType, CompositeType, EventPort, Instance, Library, Name, Network, Plan, Ports,
-    Variable, kind_named,
+    BasicType, BlockType, CompositeType, Connection, EventPort, Instance, Library, Link, Name,
+    Network, Plan, Ports, Variable, kind_named,
 };
+use fb_why_kinds::listed::push_unless;
+use fb_why_kinds::{Direction, Site};
 use std::alloc::{AllocError, Global};
 
 /// What a network gives twice.
@@ -66,48 +69,155 @@ pub enum GivenTwice {
     Link(Repeat),
 }
 
-/// The first event with a variable twice in its WITH list.
-fn with_pair(alloc: Global, events: &[EventPort]) -> Result<Option<(usize, Repeat)>, AllocError>
-    ensures { IfOk result (λ o. MatchOption o (All (λ e. ¬ (Twice e.with)) events.now) (λ r. IsWithTwice events.now r.0 r.1)) }
-{
-    for (location, event) in events.iter().enumerate() {
-        if let Some(pair) = called_pair(alloc, event.with.as_slice())? {
-            return Ok(Some((location, pair)));
-        }
-    }
-    Ok(None)
+/// A list in which nothing may be given twice.
+#[derive(Clone, Copy)]
+pub enum NameSpace {
+    /// The block types.
+    Types,
+    /// The event inputs, event outputs, inputs, outputs and internal variables of the block type at this index.
+    Ports(usize),
+    /// The WITH list of an event of the block type, by the direction of the event and its index.
+    With(usize, Direction, usize),
+    /// The states of the block type.
+    States(usize),
+    /// The algorithms of the block type.
+    Algorithms(usize),
+    /// The instances of a network.
+    Instances(Site),
+    /// The parameters of the instance at this index of a network.
+    Parameters(Site, usize),
+    /// The event connections of a network.
+    Connections(Site),
+    /// The resources.
+    Resources,
+    /// The links.
+    Links,
 }
 
-/// The first instance that gives a parameter twice.
-fn parameter_pair(
+fn given_in_network(site: Site, found: InNetwork) -> GivenTwice
+    ensures { result ≡ given_in_network site found }
+{
+    match site {
+        Site::Application => GivenTwice::Application(found),
+        Site::Inside(block) => GivenTwice::Block(block, InBlock::Inside(found)),
+    }
+}
+
+fn given_with(block: usize, direction: Direction, event: usize, pair: Repeat) -> GivenTwice
+    ensures { result ≡ given_with block direction event pair }
+{
+    match direction {
+        Direction::Input => GivenTwice::Block(block, InBlock::WithInput(event, pair)),
+        Direction::Output => GivenTwice::Block(block, InBlock::WithOutput(event, pair)),
+    }
+}
+
+/// What a pair of a name space gives twice.
+fn given_in(name_space: NameSpace, pair: Repeat) -> GivenTwice
+    ensures { result ≡ given_in name_space pair }
+{
+    match name_space {
+        NameSpace::Types => GivenTwice::Type(pair),
+        NameSpace::Ports(block) => GivenTwice::Block(block, InBlock::Port(pair)),
+        NameSpace::With(block, direction, event) => given_with(block, direction, event, pair),
+        NameSpace::States(block) => GivenTwice::Block(block, InBlock::State(pair)),
+        NameSpace::Algorithms(block) => GivenTwice::Block(block, InBlock::Algorithm(pair)),
+        NameSpace::Instances(site) => given_in_network(site, InNetwork::Instance(pair)),
+        NameSpace::Parameters(site, instance) => {
+            given_in_network(site, InNetwork::Parameter(instance, pair))
+        }
+        NameSpace::Connections(site) => given_in_network(site, InNetwork::Connection(pair)),
+        NameSpace::Resources => GivenTwice::Resource(pair),
+        NameSpace::Links => GivenTwice::Link(pair),
+    }
+}
+
+/// Adds what the pairs of a name space give twice.
+fn push_pairs(
+    found: &mut Vec<GivenTwice>,
+    name_space: NameSpace,
+    pairs: &[Repeat],
+) -> Result<(), AllocError>
+    ensures { IfOk result (λ _. found.new.items ≡ found.old.items ++ map (given_in name_space) pairs.now) }
+{
+    for pair in pairs {
+        found.push(given_in(name_space, *pair))?;
+    }
+    Ok(())
+}
+
+/// Adds the items of a list that have the name of one before.
+fn push_called<T: Named>(
     alloc: Global,
-    instances: &[Instance],
-) -> Result<Option<(usize, Repeat)>, AllocError>
-    ensures { IfOk result (λ o. MatchOption o (All (λ i. ¬ (Twice (parameter_names i))) instances.now) (λ r. IsParameterTwice instances.now r.0 r.1)) }
+    found: &mut Vec<GivenTwice>,
+    name_space: NameSpace,
+    items: &[T],
+) -> Result<(), AllocError>
+    ensures { IfOk result (λ _. found.new.items ≡ found.old.items ++ names_twice name_space (map T.called items.now)) }
 {
-    for (location, instance) in instances.iter().enumerate() {
-        if let Some(pair) = called_pair(alloc, instance.parameters.as_slice())? {
-            return Ok(Some((location, pair)));
-        }
-    }
-    Ok(None)
+    let pairs = called_pairs(alloc, items)?;
+    push_pairs(found, name_space, pairs.as_slice())
 }
 
-/// What a network gives twice.
-fn twice_in_network(alloc: Global, network: &Network) -> Result<Option<InNetwork>, AllocError>
-    ensures { IfOk result (λ o. MatchOption o (¬ (NetworkTwice network.now)) (IsTwiceInNetwork network.now)) }
+/// Adds what the WITH lists of events of one direction give twice.
+fn push_in_withs(
+    alloc: Global,
+    found: &mut Vec<GivenTwice>,
+    block: usize,
+    direction: Direction,
+    events: &[EventPort],
+) -> Result<(), AllocError>
+    ensures { IfOk result (λ _. found.new.items ≡ found.old.items ++ each_at (with_twice block direction) events.now) }
+{
+    for (event, declared) in events.iter().enumerate() {
+        let name_space = NameSpace::With(block, direction, event);
+        push_called(alloc, found, name_space, declared.with.as_slice())?;
+    }
+    Ok(())
+}
+
+/// Adds the parameters that instances give twice.
+fn push_parameters(
+    alloc: Global,
+    found: &mut Vec<GivenTwice>,
+    site: Site,
+    instances: &[Instance],
+) -> Result<(), AllocError>
+    ensures { IfOk result (λ _. found.new.items ≡ found.old.items ++ each_at (parameters_twice site) instances.now) }
+{
+    for (instance, declared) in instances.iter().enumerate() {
+        let name_space = NameSpace::Parameters(site, instance);
+        push_called(alloc, found, name_space, declared.parameters.as_slice())?;
+    }
+    Ok(())
+}
+
+/// Adds the event connections that a network gives twice.
+fn push_connections(
+    alloc: Global,
+    found: &mut Vec<GivenTwice>,
+    site: Site,
+    network: &Network,
+) -> Result<(), AllocError>
+    ensures { IfOk result (λ _. found.new.items ≡ found.old.items ++ twice_by (space.Connections site) same_ends (repeated.event_pairs network.now)) }
+{
+    let pairs = connection_pairs(alloc, network.event_connections.as_slice(), true)?;
+    push_pairs(found, NameSpace::Connections(site), pairs.as_slice())
+}
+
+/// Adds what a network gives twice.
+fn push_in_network(
+    alloc: Global,
+    found: &mut Vec<GivenTwice>,
+    site: Site,
+    network: &Network,
+) -> Result<(), AllocError>
+    ensures { IfOk result (λ _. found.new.items ≡ found.old.items ++ twice_in_network site network.now) }
 {
     let instances = network.instances.as_slice();
-    if let Some(pair) = called_pair(alloc, instances)? {
-        return Ok(Some(InNetwork::Instance(pair)));
-    }
-    if let Some((instance, pair)) = parameter_pair(alloc, instances)? {
-        return Ok(Some(InNetwork::Parameter(instance, pair)));
-    }
-    match connection_pair(alloc, network.event_connections.as_slice(), true)? {
-        Some(pair) => Ok(Some(InNetwork::Connection(pair))),
-        None => Ok(None),
-    }
+    push_called(alloc, found, NameSpace::Instances(site), instances)?;
+    push_parameters(alloc, found, site, instances)?;
+    push_connections(alloc, found, site, network)
 }
 
 /// Adds the names of ports and internal variables.
@@ -125,131 +235,162 @@ fn push_port_names<'a>(
     push_names(names, internals)
 }
 
-/// The first name of ports and internal variables that is among them before.
-fn port_pair(
+/// Adds the names of ports and internal variables that are among them before.
+fn push_ports(
     alloc: Global,
+    found: &mut Vec<GivenTwice>,
+    block: usize,
     ports: &Ports,
     internals: &[Variable],
-) -> Result<Option<Repeat>, AllocError>
-    ensures { IfOk result (Paired (names_of_ports ports.now internals.now)) }
+) -> Result<(), AllocError>
+    ensures { IfOk result (λ _. found.new.items ≡ found.old.items ++ names_twice (space.Ports block) (names_of_ports ports.now internals.now)) }
 {
     let mut names = Vec::new(alloc);
     push_port_names(&mut names, ports, internals)?;
-    name_pair(alloc, names.as_slice())
+    let pairs = name_pairs(alloc, names.as_slice())?;
+    push_pairs(found, NameSpace::Ports(block), pairs.as_slice())
 }
 
-/// What ports and internal variables give twice.
-fn twice_in_ports(
+/// Adds what ports and internal variables give twice.
+fn push_in_ports(
     alloc: Global,
+    found: &mut Vec<GivenTwice>,
+    block: usize,
     ports: &Ports,
     internals: &[Variable],
-) -> Result<Option<InBlock>, AllocError>
-    ensures { IfOk result (λ o. MatchOption o (¬ (PortTwice ports.now internals.now)) (IsTwiceInPorts ports.now internals.now)) }
+) -> Result<(), AllocError>
+    ensures { IfOk result (λ _. found.new.items ≡ found.old.items ++ twice_in_ports block ports.now internals.now) }
 {
-    if let Some(pair) = port_pair(alloc, ports, internals)? {
-        return Ok(Some(InBlock::Port(pair)));
-    }
-    if let Some((event, pair)) = with_pair(alloc, ports.event_inputs.as_slice())? {
-        return Ok(Some(InBlock::WithInput(event, pair)));
-    }
-    match with_pair(alloc, ports.event_outputs.as_slice())? {
-        Some((event, pair)) => Ok(Some(InBlock::WithOutput(event, pair))),
-        None => Ok(None),
-    }
+    push_ports(alloc, found, block, ports, internals)?;
+    let inputs = ports.event_inputs.as_slice();
+    push_in_withs(alloc, found, block, Direction::Input, inputs)?;
+    let outputs = ports.event_outputs.as_slice();
+    push_in_withs(alloc, found, block, Direction::Output, outputs)
 }
 
-fn twice_in_basic(alloc: Global, basic: &BasicType) -> Result<Option<InBlock>, AllocError>
-    ensures { IfOk result (λ o. MatchOption o (¬ (BlockTwice (block.Basic basic.now))) (IsTwiceInBlock (block.Basic basic.now))) }
-{
-    if let Some(found) = twice_in_ports(alloc, &basic.ports, basic.internals.as_slice())? {
-        return Ok(Some(found));
-    }
-    if let Some(pair) = called_pair(alloc, basic.states.as_slice())? {
-        return Ok(Some(InBlock::State(pair)));
-    }
-    match called_pair(alloc, basic.algorithms.as_slice())? {
-        Some(pair) => Ok(Some(InBlock::Algorithm(pair))),
-        None => Ok(None),
-    }
-}
-
-fn twice_in_composite(
+fn push_in_basic(
     alloc: Global,
+    found: &mut Vec<GivenTwice>,
+    block: usize,
+    basic: &BasicType,
+) -> Result<(), AllocError>
+    ensures { IfOk result (λ _. found.new.items ≡ found.old.items ++ twice_in_block block (kind.Basic basic.now)) }
+{
+    push_in_ports(
+        alloc,
+        found,
+        block,
+        &basic.ports,
+        basic.internals.as_slice(),
+    )?;
+    let states = basic.states.as_slice();
+    push_called(alloc, found, NameSpace::States(block), states)?;
+    let algorithms = basic.algorithms.as_slice();
+    push_called(alloc, found, NameSpace::Algorithms(block), algorithms)
+}
+
+fn push_in_composite(
+    alloc: Global,
+    found: &mut Vec<GivenTwice>,
+    block: usize,
     composite: &CompositeType,
-) -> Result<Option<InBlock>, AllocError>
-    ensures { IfOk result (λ o. MatchOption o (¬ (BlockTwice (block.Composite composite.now))) (IsTwiceInBlock (block.Composite composite.now))) }
+) -> Result<(), AllocError>
+    ensures { IfOk result (λ _. found.new.items ≡ found.old.items ++ twice_in_block block (kind.Composite composite.now)) }
 {
-    if let Some(found) = twice_in_ports(alloc, &composite.ports, &[])? {
-        return Ok(Some(found));
-    }
-    match twice_in_network(alloc, &composite.network)? {
-        Some(found) => Ok(Some(InBlock::Inside(found))),
-        None => Ok(None),
-    }
+    push_in_ports(alloc, found, block, &composite.ports, &[])?;
+    push_in_network(alloc, found, Site::Inside(block), &composite.network)
 }
 
-fn twice_in_block(alloc: Global, block: &BlockType) -> Result<Option<InBlock>, AllocError>
-    ensures { IfOk result (λ o. MatchOption o (¬ (BlockTwice block.now)) (IsTwiceInBlock block.now)) }
-{
-    match block {
-        BlockType::Basic(basic) => twice_in_basic(alloc, basic),
-        BlockType::Composite(composite) => twice_in_composite(alloc, composite),
-    }
-}
-
-/// The first block type that gives something twice, and what.
-fn twice_in_blocks(
+/// Adds what a block type gives twice.
+fn push_in_block(
     alloc: Global,
+    found: &mut Vec<GivenTwice>,
+    block: usize,
+    declared: &BlockType,
+) -> Result<(), AllocError>
+    ensures { IfOk result (λ _. found.new.items ≡ found.old.items ++ twice_in_block block declared.now) }
+{
+    match declared {
+        BlockType::Basic(basic) => push_in_basic(alloc, found, block, basic),
+        BlockType::Composite(composite) => push_in_composite(alloc, found, block, composite),
+    }
+}
+
+/// The same for all block types.
+fn push_in_blocks(
+    alloc: Global,
+    found: &mut Vec<GivenTwice>,
     blocks: &[BlockType],
-) -> Result<Option<(usize, InBlock)>, AllocError>
-    ensures { IfOk result (λ o. MatchOption o (All (λ t. ¬ (BlockTwice t)) blocks.now) (λ r. IsTwiceInSome blocks.now r.0 r.1)) }
+) -> Result<(), AllocError>
+    ensures { IfOk result (λ _. found.new.items ≡ found.old.items ++ each_at twice_in_block blocks.now) }
 {
-    for (location, block) in blocks.iter().enumerate() {
-        if let Some(found) = twice_in_block(alloc, block)? {
-            return Ok(Some((location, found)));
-        }
+    for (block, declared) in blocks.iter().enumerate() {
+        push_in_block(alloc, found, block, declared)?;
     }
-    Ok(None)
+    Ok(())
 }
 
-/// The first block type with the name of an event block.
-fn event_block(blocks: &[BlockType]) -> Option<usize>
-    ensures { MatchOption result (list_all is_own_name blocks.now ≡ true) (IsEventBlock blocks.now) }
+/// Adds the block types with the name of an event block.
+fn push_event_blocks(found: &mut Vec<GivenTwice>, blocks: &[BlockType]) -> Result<(), AllocError>
+    ensures { IfOk result (λ _. found.new.items ≡ found.old.items ++ each_at event_block_at blocks.now) }
 {
-    for (location, block) in blocks.iter().enumerate() {
-        if kind_named(block.name().as_bytes()).is_some() {
-            return Some(location);
-        }
+    for (block, declared) in blocks.iter().enumerate() {
+        let is_own_name = kind_named(declared.name().as_bytes()).is_none();
+        push_unless(found, is_own_name, GivenTwice::EventBlock(block))?;
     }
-    None
+    Ok(())
 }
 
-/// What is given twice, if anything is.
-pub(crate) fn twice_location(
+/// Adds the links that are given twice.
+fn push_links(alloc: Global, found: &mut Vec<GivenTwice>, links: &[Link]) -> Result<(), AllocError>
+    ensures { IfOk result (λ _. found.new.items ≡ found.old.items ++ twice_by space.Links same_sides (map link_ends links.now)) }
+{
+    let pairs = link_pairs(alloc, links)?;
+    push_pairs(found, NameSpace::Links, pairs.as_slice())
+}
+
+/// Adds what a declaration gives twice.
+fn push_in_library(
+    alloc: Global,
+    found: &mut Vec<GivenTwice>,
+    library: &Library,
+) -> Result<(), AllocError>
+    ensures { IfOk result (λ _. found.new.items ≡ found.old.items ++ twice_in_library library.now) }
+{
+    let blocks = library.blocks.as_slice();
+    push_event_blocks(found, blocks)?;
+    push_called(alloc, found, NameSpace::Types, blocks)?;
+    push_in_blocks(alloc, found, blocks)?;
+    push_in_network(
+        alloc,
+        found,
+        Site::Application,
+        &library.application.network,
+    )
+}
+
+/// The list of all that is given twice.
+fn all_given(alloc: Global, library: &Library, plan: &Plan) -> Result<Vec<GivenTwice>, AllocError>
+    ensures { IfOk result (λ found. found.items ≡ twice_all library.now plan.now) }
+{
+    let mut found = Vec::new(alloc);
+    push_in_library(alloc, &mut found, library)?;
+    let resources = plan.resources.as_slice();
+    push_called(alloc, &mut found, NameSpace::Resources, resources)?;
+    push_links(alloc, &mut found, plan.links.as_slice())?;
+    Ok(found)
+}
+
+/// All that is given twice, in the order of the declaration.
+pub(crate) fn twice_locations(
     alloc: Global,
     library: &Library,
     plan: &Plan,
-) -> Result<Option<GivenTwice>, AllocError>
-    ensures { IfOk result (λ o. MatchOption o (¬ (NameTwice library.now plan.now)) (IsTwiceAt library.now plan.now)) }
+) -> Result<Vec<GivenTwice>, AllocError>
+    ensures listed { IfOk result (λ found. found.items ≡ twice_all library.now plan.now) }
+    // Each is given twice.
+    ensures each { IfOk result (λ found. All (IsTwiceAt library.now plan.now) found.items) }
+    ensures none { IfOk result (λ found. found.items ≡ [] → ¬ (NameTwice library.now plan.now)) }
 {
-    let blocks = library.blocks.as_slice();
-    if let Some(block) = event_block(blocks) {
-        return Ok(Some(GivenTwice::EventBlock(block)));
-    }
-    if let Some(pair) = called_pair(alloc, blocks)? {
-        return Ok(Some(GivenTwice::Type(pair)));
-    }
-    if let Some((block, found)) = twice_in_blocks(alloc, blocks)? {
-        return Ok(Some(GivenTwice::Block(block, found)));
-    }
-    if let Some(found) = twice_in_network(alloc, &library.application.network)? {
-        return Ok(Some(GivenTwice::Application(found)));
-    }
-    if let Some(pair) = called_pair(alloc, plan.resources.as_slice())? {
-        return Ok(Some(GivenTwice::Resource(pair)));
-    }
-    match link_pair(plan.links.as_slice()) {
-        Some(pair) => Ok(Some(GivenTwice::Link(pair))),
-        None => Ok(None),
-    }
+    all_given(alloc, library, plan)
 }

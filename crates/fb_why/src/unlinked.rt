@@ -1,17 +1,19 @@
 //! Connections between two resources without a link (E27).
 
-ghost use Rattle.std.specs.Prelude.{◌≡◌, ◌&&◌, MatchOption, [], Some, true, false, position, slice_get, unwrap_or};
-ghost use Rattle.std.specs.List.{list_all, list_any};
+ghost use Rattle.std.specs.Prelude.{◌≡◌, ◌++◌, ◌&&◌, [], All, IfOk, position, unwrap_or};
+ghost use Rattle.std.specs.List.{list_any};
 ghost use Rattle.fb_types.specs.Blocks.{among};
 ghost use Rattle.fb_types.specs.Names.{same_name};
 ghost use Rattle.fb_types.specs.Flat as spec;
 ghost use Rattle.fb_types.specs.Flat.{name_of_resource, port_in};
 ghost use Rattle.fb_types.specs.Mapped.{NoLink};
-ghost use Rattle.fb_types.specs.declared.library.Connection.{Connection};
-ghost use Rattle.fb_why.specs.Unlinked.{IsUnlinkedAt, is_joining, is_linked};
+ghost use Rattle.fb_why_kinds.specs.Listed.{each_at};
+ghost use Rattle.fb_why.specs.Unlinked.{IsUnlinkedAt, is_joining, is_linked, unlinked_all, unlinked_data, unlinked_event};
 
 use crate::among::is_among;
 use fb_types::{Connection, Library, Link, Name, Plan, PortName, ResourceEntry};
+use fb_why_kinds::listed::push_unless;
+use std::alloc::{AllocError, Global};
 
 /// A connection of the application between two resources without a link, by its index among those that carry the same.
 #[derive(Clone, Copy)]
@@ -61,14 +63,14 @@ fn name_of(plan: &Plan, resource: usize) -> &[u8]
     }
 }
 
-fn is_joining(link: &Link, from: &[u8], to: &[u8]) -> bool
+pub(crate) fn is_joining(link: &Link, from: &[u8], to: &[u8]) -> bool
     ensures { result ≡ is_joining from.now to.now link.now }
 {
     link.from.as_bytes() == from && link.to.as_bytes() == to
 }
 
 /// The index of the first link from the one resource to the other.
-pub(crate) fn location_of_link(links: &[Link], from: &[u8], to: &[u8]) -> Option<usize>
+fn location_of_link(links: &[Link], from: &[u8], to: &[u8]) -> Option<usize>
     ensures { result ≡ position (is_joining from.now to.now) links.now }
 {
     for (location, link) in links.iter().enumerate() {
@@ -100,28 +102,56 @@ fn is_linked(plan: &Plan, connection: &Connection) -> bool
         )
 }
 
-/// The first connection without a link.
-fn first_unlinked(plan: &Plan, connections: &[Connection]) -> Option<usize>
-    ensures { MatchOption result (list_all (is_linked plan.now) connections.now ≡ true) (λ k. (c : Connection) × (slice_get connections.now k ≡ Some c) × (is_linked plan.now c ≡ false)) }
+/// Adds the event connections without a link.
+fn push_events(
+    found: &mut Vec<Unlinked>,
+    plan: &Plan,
+    connections: &[Connection],
+) -> Result<(), AllocError>
+    ensures { IfOk result (λ _. found.new.items ≡ found.old.items ++ each_at (unlinked_event plan.now) connections.now) }
 {
-    for (location, connection) in connections.iter().enumerate() {
-        if !is_linked(plan, connection) {
-            return Some(location);
-        }
+    for (connection, declared) in connections.iter().enumerate() {
+        let is_linked = is_linked(plan, declared);
+        push_unless(found, is_linked, Unlinked::Event(connection))?;
     }
-    None
+    Ok(())
 }
 
-/// A connection of the application between two resources without a link, if there is one.
-pub(crate) fn unlinked_location(library: &Library, plan: &Plan) -> Option<Unlinked>
-    ensures { MatchOption result (¬ (NoLink library.now plan.now)) (IsUnlinkedAt library.now plan.now) }
+/// Adds the data connections without a link.
+fn push_data(
+    found: &mut Vec<Unlinked>,
+    plan: &Plan,
+    connections: &[Connection],
+) -> Result<(), AllocError>
+    ensures { IfOk result (λ _. found.new.items ≡ found.old.items ++ each_at (unlinked_data plan.now) connections.now) }
+{
+    for (connection, declared) in connections.iter().enumerate() {
+        let is_linked = is_linked(plan, declared);
+        push_unless(found, is_linked, Unlinked::Data(connection))?;
+    }
+    Ok(())
+}
+
+/// The list of all such connections.
+fn all_unlinked(alloc: Global, library: &Library, plan: &Plan) -> Result<Vec<Unlinked>, AllocError>
+    ensures { IfOk result (λ found. found.items ≡ unlinked_all library.now plan.now) }
 {
     let network = &library.application.network;
-    if let Some(location) = first_unlinked(plan, network.event_connections.as_slice()) {
-        return Some(Unlinked::Event(location));
-    }
-    match first_unlinked(plan, network.data_connections.as_slice()) {
-        Some(location) => Some(Unlinked::Data(location)),
-        None => None,
-    }
+    let mut found = Vec::new(alloc);
+    push_events(&mut found, plan, network.event_connections.as_slice())?;
+    push_data(&mut found, plan, network.data_connections.as_slice())?;
+    Ok(found)
+}
+
+/// All connections of the application between two resources without a link, in the order of the declaration.
+pub(crate) fn unlinked_locations(
+    alloc: Global,
+    library: &Library,
+    plan: &Plan,
+) -> Result<Vec<Unlinked>, AllocError>
+    ensures listed { IfOk result (λ found. found.items ≡ unlinked_all library.now plan.now) }
+    ensures each { IfOk result (λ found. All (IsUnlinkedAt library.now plan.now) found.items) }
+    ensures none { IfOk result (λ found. found.items ≡ [] → ¬ (NoLink library.now plan.now)) }
+{
+    all_unlinked(alloc, library, plan)
 }

@@ -1,16 +1,18 @@
 //! Instances of the application that are not mapped to one resource (E26).
 
-ghost use Rattle.std.specs.Prelude.{◌≡◌, IfOk, MatchOption, Some, true, false, slice_get, flat_map};
-ghost use Rattle.std.specs.List.{list_all, list_any};
+ghost use Rattle.std.specs.Prelude.{◌≡◌, ◌++◌, [], All, IfOk, flat_map, map};
+ghost use Rattle.std.specs.List.{list_any};
 ghost use Rattle.fb_types.specs.Names.{same_name};
 ghost use Rattle.fb_types.specs.Mapped.{NotMapped, mapped};
-ghost use Rattle.fb_types.specs.declared.library.Instance.{Instance};
 ghost use Rattle.fb_check_names.specs.Indexes.{names_in};
-ghost use Rattle.fb_why.specs.Unmapped.{AllListed, IsUnmappedAmong, IsUnmappedAt, is_listed};
+ghost use Rattle.fb_why_kinds.specs.Listed.{each_at};
+ghost use Rattle.fb_why.specs.Unmapped.{IsUnmappedAt, unlisted_at, unmapped_all, unmapped_among};
+ghost use Rattle.fb_why.specs.declared.unmapped.Unmapped.TheVariants.{Again};
 
-use crate::pair::{Repeat, name_pair};
+use crate::pair::{Repeat, name_pairs};
 use fb_check_names::push_names;
 use fb_types::{Instance, Library, Name, Plan, ResourceEntry};
+use fb_why_kinds::listed::push_unless;
 use std::alloc::{AllocError, Global};
 
 /// Where an instance of the application is not mapped to one resource.
@@ -63,42 +65,49 @@ fn is_listed(names: &[&Name], name: &Name) -> bool
     false
 }
 
-/// The first instance that is not among the names.
-fn first_unlisted(names: &[&Name], instances: &[Instance]) -> Option<usize>
-    ensures { MatchOption result (list_all (is_listed names.now) instances.now ≡ true) (λ k. (i : Instance) × (slice_get instances.now k ≡ Some i) × (is_listed names.now i ≡ false)) }
+/// Adds the instances that are not among the names.
+fn push_unlisted(
+    found: &mut Vec<Unmapped>,
+    names: &[&Name],
+    instances: &[Instance],
+) -> Result<(), AllocError>
+    ensures { IfOk result (λ _. found.new.items ≡ found.old.items ++ each_at (unlisted_at (names_in names.now)) instances.now) }
 {
-    for (location, instance) in instances.iter().enumerate() {
-        if !is_listed(names, &instance.name) {
-            return Some(location);
-        }
+    for (instance, declared) in instances.iter().enumerate() {
+        let is_listed = is_listed(names, &declared.name);
+        push_unless(found, is_listed, Unmapped::Unlisted(instance))?;
     }
-    None
+    Ok(())
 }
 
-/// Which instance is not among the names, or which name is among them twice.
+/// Adds the names that are listed before.
+fn push_again(found: &mut Vec<Unmapped>, pairs: &[Repeat]) -> Result<(), AllocError>
+    ensures { IfOk result (λ _. found.new.items ≡ found.old.items ++ map (λ r. Again r) pairs.now) }
+{
+    for pair in pairs {
+        found.push(Unmapped::Again(*pair))?;
+    }
+    Ok(())
+}
+
+/// All instances that are not among the names, and all names that are among them twice.
 fn unmapped_among(
     alloc: Global,
     names: &[&Name],
     instances: &[Instance],
-) -> Result<Option<Unmapped>, AllocError>
-    ensures { IfOk result (λ o. MatchOption o (AllListed (names_in names.now) instances.now) (IsUnmappedAmong (names_in names.now) instances.now)) }
+) -> Result<Vec<Unmapped>, AllocError>
+    ensures { IfOk result (λ found. found.items ≡ unmapped_among (names_in names.now) instances.now) }
 {
-    if let Some(instance) = first_unlisted(names, instances) {
-        return Ok(Some(Unmapped::Unlisted(instance)));
-    }
-    match name_pair(alloc, names)? {
-        Some(pair) => Ok(Some(Unmapped::Again(pair))),
-        None => Ok(None),
-    }
+    let mut found = Vec::new(alloc);
+    push_unlisted(&mut found, names, instances)?;
+    let pairs = name_pairs(alloc, names)?;
+    push_again(&mut found, pairs.as_slice())?;
+    Ok(found)
 }
 
-/// Which instance of the application is not mapped to one resource, if there is one.
-pub(crate) fn unmapped_location(
-    alloc: Global,
-    library: &Library,
-    plan: &Plan,
-) -> Result<Option<Unmapped>, AllocError>
-    ensures { IfOk result (λ o. MatchOption o (¬ (NotMapped library.now plan.now)) (IsUnmappedAt library.now plan.now)) }
+/// The list of all such instances of the application.
+fn all_unmapped(alloc: Global, library: &Library, plan: &Plan) -> Result<Vec<Unmapped>, AllocError>
+    ensures { IfOk result (λ found. found.items ≡ unmapped_all library.now plan.now) }
 {
     let names = mapped_names(alloc, library, plan)?;
     unmapped_among(
@@ -106,4 +115,17 @@ pub(crate) fn unmapped_location(
         names.as_slice(),
         library.application.network.instances.as_slice(),
     )
+}
+
+/// All instances of the application that are not mapped to one resource.
+pub(crate) fn unmapped_locations(
+    alloc: Global,
+    library: &Library,
+    plan: &Plan,
+) -> Result<Vec<Unmapped>, AllocError>
+    ensures listed { IfOk result (λ found. found.items ≡ unmapped_all library.now plan.now) }
+    ensures each { IfOk result (λ found. All (IsUnmappedAt library.now plan.now) found.items) }
+    ensures none { IfOk result (λ found. found.items ≡ [] → ¬ (NotMapped library.now plan.now)) }
+{
+    all_unmapped(alloc, library, plan)
 }

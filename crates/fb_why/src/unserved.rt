@@ -1,12 +1,12 @@
 //! Data connections between two resources that no event serves (E28).
 
-ghost use Rattle.std.specs.Prelude.{◌≡◌, MatchOption, [], Some, true, false, slice_get};
-ghost use Rattle.std.specs.List.{list_all, list_any};
+ghost use Rattle.std.specs.Prelude.{◌≡◌, ◌++◌, [], All, IfOk};
+ghost use Rattle.std.specs.List.{list_any};
 ghost use Rattle.fb_types.specs.Blocks.{among, goes_with, outputs_with};
 ghost use Rattle.fb_types.specs.Flat.{kind_at, port_in, type_named};
 ghost use Rattle.fb_types.specs.Mapped.{NoEvent};
-ghost use Rattle.fb_types.specs.declared.library.Connection.{Connection};
-ghost use Rattle.fb_why.specs.Unserved.{IsUnservedAt, begin_together, brings, carries, is_served};
+ghost use Rattle.fb_why_kinds.specs.Listed.{each_at};
+ghost use Rattle.fb_why.specs.Unserved.{IsUnservedAt, begin_together, brings, carries, is_served, unserved_all, unserved_at};
 
 use crate::among::is_among;
 use crate::unlinked::resource_of;
@@ -14,6 +14,8 @@ use fb_types::{
     Connection, EventPort, Library, Name, Plan, PortName, Ports, block_named, event_block_carries,
     has_variable, instance_named, kind_named,
 };
+use fb_why_kinds::listed::push_unless;
+use std::alloc::{AllocError, Global};
 
 /// Whether an event of this name has a variable WITH it.
 fn has_event(events: &[EventPort], event: &Name, variable: &Name) -> bool
@@ -106,22 +108,42 @@ fn is_served(library: &Library, plan: &Plan, connection: &Connection) -> bool
         || has_bringer(library, plan, connection, events)
 }
 
-/// The first data connection that no event serves.
-fn first_unserved(library: &Library, plan: &Plan, connections: &[Connection]) -> Option<usize>
-    ensures { MatchOption result (list_all (is_served library.now plan.now) connections.now ≡ true) (λ k. (c : Connection) × (slice_get connections.now k ≡ Some c) × (is_served library.now plan.now c ≡ false)) }
+/// Adds the data connections that no event serves.
+fn push_unserved(
+    found: &mut Vec<usize>,
+    library: &Library,
+    plan: &Plan,
+    connections: &[Connection],
+) -> Result<(), AllocError>
+    ensures { IfOk result (λ _. found.new.items ≡ found.old.items ++ each_at (unserved_at library.now plan.now) connections.now) }
 {
-    for (location, connection) in connections.iter().enumerate() {
-        if !is_served(library, plan, connection) {
-            return Some(location);
-        }
+    for (connection, declared) in connections.iter().enumerate() {
+        let is_served = is_served(library, plan, declared);
+        push_unless(found, is_served, connection)?;
     }
-    None
+    Ok(())
 }
 
-/// The index of a data connection of the application between two resources that no event serves, if there is one.
-pub fn unserved_location(library: &Library, plan: &Plan) -> Option<usize>
-    ensures { MatchOption result (¬ (NoEvent library.now plan.now)) (IsUnservedAt library.now plan.now) }
+/// The list of all such data connections.
+fn all_unserved(alloc: Global, library: &Library, plan: &Plan) -> Result<Vec<usize>, AllocError>
+    ensures { IfOk result (λ found. found.items ≡ unserved_all library.now plan.now) }
 {
-    let network = &library.application.network;
-    first_unserved(library, plan, network.data_connections.as_slice())
+    let connections = library.application.network.data_connections.as_slice();
+    let mut found = Vec::new(alloc);
+    push_unserved(&mut found, library, plan, connections)?;
+    Ok(found)
+}
+
+/// The indices of all data connections of the application between two resources that no event serves, in the order of the
+/// declaration.
+pub(crate) fn unserved_locations(
+    alloc: Global,
+    library: &Library,
+    plan: &Plan,
+) -> Result<Vec<usize>, AllocError>
+    ensures listed { IfOk result (λ found. found.items ≡ unserved_all library.now plan.now) }
+    ensures each { IfOk result (λ found. All (IsUnservedAt library.now plan.now) found.items) }
+    ensures none { IfOk result (λ found. found.items ≡ [] → ¬ (NoEvent library.now plan.now)) }
+{
+    all_unserved(alloc, library, plan)
 }

@@ -1,2 +1,3 @@
 pub mod Locations
 pub mod Faults
+pub mod InputPlaces

@@ -1,11 +1,11 @@
 //! The texts that say where a deployment is refused.
 
-use crate::text::{ByteText, front};
+use crate::text::ByteText;
 use fb_inputs::{DeployKey, DeployLocation, TableFault, TableLocation};
 use std::alloc::{AllocError, Global};
 use toml::{Table, Value};
 
-/// Where a deployment is refused, and what was expected there.
+/// What is wrong at a location of a deployment, and what was expected there.
 pub fn deployment_message(
     alloc: Global,
     bytes: &[u8],
@@ -17,10 +17,9 @@ pub fn deployment_message(
 }
 
 fn push_deployment(alloc: Global, text: &mut ByteText, bytes: &[u8], location: DeployLocation) {
-    text.words("deployment: ");
     match location {
         DeployLocation::Bytes => text.words("there are more than 1,048,576 bytes"),
-        DeployLocation::Document(at) => push_position(text, bytes, at),
+        DeployLocation::Document(_) => text.words("this is no TOML"),
         DeployLocation::Shape { table, fault } => {
             push_table(text, table);
             push_fault(alloc, text, bytes, table, fault);
@@ -28,22 +27,6 @@ fn push_deployment(alloc: Global, text: &mut ByteText, bytes: &[u8], location: D
         DeployLocation::Latency { link, entry } => push_latency(alloc, text, bytes, link, entry),
         _ => push_numbers(text, location),
     }
-}
-
-/// The line and the column of a byte, both counted from 1. A column counts characters.
-pub(crate) fn push_position(text: &mut ByteText, bytes: &[u8], at: usize) {
-    let mut line = 1usize;
-    let mut column = 1usize;
-    for byte in front(bytes, at) {
-        if *byte == b'\n' {
-            line = line.saturating_add(1);
-            column = 1;
-        } else if *byte & 0xC0 != 0x80 {
-            column = column.saturating_add(1);
-        }
-    }
-    text.position(line, column);
-    text.words("this is no TOML");
 }
 
 fn push_table(text: &mut ByteText, table: TableLocation) {

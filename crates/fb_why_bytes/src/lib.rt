@@ -8,8 +8,12 @@
 //! `stimuli_messages`, `deployment_messages`, `rules_messages`. All of this runs only after a refusal.
 #![tactic(auto)]
 
+mod comments;
 pub mod deployment_messages;
 pub mod find;
+mod fraction;
+mod hints;
+pub mod input_places;
 pub mod rules_messages;
 pub mod source_line;
 pub mod stimuli_messages;
@@ -19,6 +23,7 @@ pub mod text_messages;
 
 pub use deployment_messages::deployment_message;
 pub use find::text_location;
+pub use input_places::{place_in_deployment, place_in_stimuli};
 pub use rules_messages::{rules_message, unknown_key_message};
 pub use source_line::excerpt;
 pub use stimuli_messages::stimuli_message;

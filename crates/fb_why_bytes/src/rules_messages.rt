@@ -1,7 +1,6 @@
 //! The texts that say where rules are refused.
 
-use crate::deployment_messages::push_position;
-use crate::text::ByteText;
+use crate::text::{ByteText, front};
 use fb_expect::{RuleFault, RuleKey, RulesPlace, key_text};
 use std::alloc::{AllocError, Global};
 use toml::Table;
@@ -34,6 +33,22 @@ pub fn rules_message(alloc: Global, bytes: &[u8], place: RulesPlace) -> Result<S
         _ => push_read(alloc, &mut text, bytes, place),
     }
     text.into_string()
+}
+
+/// The line and the column of a byte, both counted from 1. A column counts characters.
+fn push_position(text: &mut ByteText, bytes: &[u8], at: usize) {
+    let mut line = 1usize;
+    let mut column = 1usize;
+    for byte in front(bytes, at) {
+        if *byte == b'\n' {
+            line = line.saturating_add(1);
+            column = 1;
+        } else if *byte & 0xC0 != 0x80 {
+            column = column.saturating_add(1);
+        }
+    }
+    text.position(line, column);
+    text.words("this is no TOML");
 }
 
 /// Adds what is at a place in a document.

@@ -5,7 +5,11 @@ use csv::{ByteRecord, Error};
 use fb_inputs::{RowFault, StimuliLocation, records_of};
 use std::alloc::{AllocError, Global};
 
-/// Where stimuli are refused, and what was expected there.
+/// The most fields of a record that are shown.
+const MOST_FIELDS: usize = 6;
+
+/// What is wrong at a location of stimuli, and what was expected there. Rows are counted from 0 after the heading, as in the
+/// keys of events.
 pub fn stimuli_message(
     alloc: Global,
     bytes: &[u8],
@@ -17,26 +21,50 @@ pub fn stimuli_message(
 }
 
 fn push_stimuli(alloc: Global, text: &mut ByteText, bytes: &[u8], location: StimuliLocation) {
-    text.words("stimuli: ");
     match location {
         StimuliLocation::Bytes => text.words("there are more than 16,777,216 bytes"),
-        StimuliLocation::Heading => text.words("the first record is not tick,event,values"),
+        StimuliLocation::Heading => push_heading(alloc, text, bytes),
         StimuliLocation::Row { row, fault } => {
-            text.placed("", row, " row after the heading: ");
+            text.numbered("row ", row, ": ");
             push_row(alloc, text, bytes, row, fault);
         }
     }
 }
 
-/// The record of the row at a location, if it is there.
-fn row_at(alloc: Global, bytes: &[u8], location: usize) -> Option<Result<ByteRecord, Error>> {
+/// The record with this index, the heading among them, if it is there.
+fn record_at(alloc: Global, bytes: &[u8], index: usize) -> Option<Result<ByteRecord, Error>> {
     let mut rows = records_of(alloc, bytes);
-    rows.nth(location.saturating_add(1))
+    rows.nth(index)
+}
+
+/// Adds what is in place of the heading. There is no text if it was not read because memory ran out.
+fn push_heading(alloc: Global, text: &mut ByteText, bytes: &[u8]) {
+    match record_at(alloc, bytes, 0) {
+        Some(Ok(first)) => push_fields(text, &first),
+        Some(Err(_)) => text.give_up(),
+        None => {}
+    }
+}
+
+/// Adds the fields of the first record.
+fn push_fields(text: &mut ByteText, first: &ByteRecord) {
+    text.words("the first record ");
+    for index in 0..first.len().min(MOST_FIELDS) {
+        if index > 0 {
+            text.words(",");
+        }
+        text.quoted(first.get(index).unwrap_or(&[]));
+    }
+    text.words(if first.len() > MOST_FIELDS {
+        ",.. is not tick,event,values"
+    } else {
+        " is not tick,event,values"
+    });
 }
 
 /// Adds what is wrong with the row at a location. There is no text if the row was not read because memory ran out.
 fn push_row(alloc: Global, text: &mut ByteText, bytes: &[u8], location: usize, fault: RowFault) {
-    match row_at(alloc, bytes, location) {
+    match record_at(alloc, bytes, location.saturating_add(1)) {
         Some(Ok(row)) => push_fault(text, &row, fault),
         Some(Err(_)) => text.give_up(),
         None => {}

@@ -5,6 +5,9 @@ use std::alloc::{AllocError, Global};
 /// The most bytes that are shown as they are.
 const MOST_SHOWN: usize = 60;
 
+/// The most bytes of a token that are shown.
+const MOST_OF_TOKEN: usize = 40;
+
 /// The ending of an ordinal number, as in 1st.
 fn ending(location: usize) -> &'static str {
     match (location % 10, location % 100) {
@@ -97,6 +100,19 @@ impl ByteText {
     pub fn position(&mut self, line: usize, column: usize) {
         self.numbered("line ", line, "");
         self.numbered(", column ", column, ": ");
+    }
+
+    /// Appends bytes, up to a limit. A byte that is not printable is shown by its number.
+    pub fn shown(&mut self, bytes: &[u8]) {
+        for byte in front(bytes, MOST_OF_TOKEN) {
+            match *byte {
+                b' '..=b'~' => self.letter(*byte),
+                _ => self.numbered("byte ", usize::from(*byte), ""),
+            }
+        }
+        if bytes.len() > MOST_OF_TOKEN {
+            self.words("..");
+        }
     }
 
     /// Appends bytes between quotes, up to a limit.

@@ -1,13 +1,13 @@
 //! The text for a location in a declaration.
 
+use crate::comments::push_comment;
+use crate::fraction::{Fraction, fraction_of, push_time};
+use crate::hints::{push_else_if, push_left_out, push_semicolon};
 use crate::text::{ByteText, front};
 use crate::text_locations::TextLocation;
 use fb_read::{ReadError, expected_at};
 use fb_types::MOST_BYTES;
 use std::alloc::{AllocError, Global};
-
-/// The most bytes of a token that are shown.
-const MOST_SHOWN: usize = 40;
 
 /// Says what is wrong at a location: what is there, and what was expected.
 pub fn text_message(
@@ -30,9 +30,15 @@ fn push_fault(
 ) {
     let TextLocation { start, end, .. } = location;
     let here = token(text.get(start..end).unwrap_or(&[]));
-    push_matter(message, fault, here);
-    if let ReadError::Syntax { .. } = fault {
-        push_expected(alloc, message, text, start);
+    match fault {
+        ReadError::Syntax { .. } => {
+            push_found(message, here);
+            push_left_out(message, here);
+            push_expected(alloc, message, text, start);
+            push_comment(message, text, start);
+        }
+        ReadError::Token => push_no_token(message, here, text.get(start..).unwrap_or(&[])),
+        _ => push_matter(message, fault, here),
     }
 }
 
@@ -49,24 +55,35 @@ fn push_matter(message: &mut ByteText, fault: &ReadError, here: &[u8]) {
     match fault {
         ReadError::Memory => message.words("out of memory"),
         ReadError::Byte => push_about(message, "", here, " is allowed only in comments"),
-        ReadError::Token => push_no_token(message, here),
-        ReadError::Syntax { .. } => push_found(message, here),
         ReadError::TooLong => message.numbered("a text has at most ", MOST_BYTES, " bytes"),
         ReadError::Nesting => push_about(message, "with ", here, " more than 64 are nested"),
+        ReadError::Token | ReadError::Syntax { .. } => {}
     }
 }
 
-fn push_no_token(message: &mut ByteText, here: &[u8]) {
-    match here {
-        [b'(', b'*', ..] => message.words("the comment that begins here is not closed"),
-        _ => push_about(message, "", here, " is no token"),
+/// Adds what is no token, which these bytes begin with.
+fn push_no_token(message: &mut ByteText, here: &[u8], rest: &[u8]) {
+    if let [b'(', b'*', ..] = here {
+        message.words("the comment that begins here is not closed");
+        return;
     }
+    match fraction_of(rest) {
+        Some(fraction) => push_fraction(message, rest, fraction),
+        None => push_about(message, "", here, " is no token"),
+    }
+}
+
+/// Adds a time with a fraction, and how it is written.
+fn push_fraction(message: &mut ByteText, rest: &[u8], fraction: Fraction) {
+    push_about(message, "", front(rest, fraction.len), " is no token: ");
+    push_time(message, fraction.milliseconds);
+    message.words(" is the same time in whole numbers");
 }
 
 /// Adds the token, between words.
 fn push_about(message: &mut ByteText, before: &str, here: &[u8], after: &str) {
     message.words(before);
-    push_shown(message, here);
+    message.shown(here);
     message.words(after);
 }
 
@@ -76,14 +93,18 @@ fn push_found(message: &mut ByteText, here: &[u8]) {
     if here.is_empty() {
         message.words("the end of the text");
     } else {
-        push_shown(message, here);
+        message.shown(here);
     }
 }
 
 /// Adds the tokens with which the text could go on at an offset.
 fn push_expected(alloc: Global, message: &mut ByteText, text: &[u8], start: usize) {
     match expected_words(alloc, text, start) {
-        Ok(words) => push_words(message, words.as_str()),
+        Ok(words) => {
+            push_words(message, words.as_str());
+            push_semicolon(alloc, message, text, start, words.as_str());
+            push_else_if(alloc, message, text, start, words.as_str());
+        }
         Err(_) => message.give_up(),
     }
 }
@@ -103,17 +124,4 @@ fn push_words(message: &mut ByteText, words: &str) {
         ", expected "
     });
     message.words(words);
-}
-
-/// Adds bytes as text, up to a limit. A byte that is not printable is shown by its number.
-fn push_shown(message: &mut ByteText, bytes: &[u8]) {
-    for byte in front(bytes, MOST_SHOWN) {
-        match *byte {
-            b' '..=b'~' => message.letter(*byte),
-            _ => message.numbered("byte ", usize::from(*byte), ""),
-        }
-    }
-    if bytes.len() > MOST_SHOWN {
-        message.words("..");
-    }
 }

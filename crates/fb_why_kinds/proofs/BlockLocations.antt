@@ -1,5 +1,5 @@
 -- Block types in which a name is unknown, and those in which each is known.
-use Rattle.std.proofs.Common.{◌≡◌, ◌&&◌, ℕ, true, false, List, Some, Option, sym, ◌∙◌, ap, subst}
+use Rattle.std.proofs.Common.{◌≡◌, ◌&&◌, ℕ, true, false, List, Some, Option, sym, ◌∙◌, ap}
 use Rattle.std.specs.Prelude.{slice_get, option_map, option_and_then}
 use Rattle.std.specs.List.{list_all}
 use Rattle.fb_types.specs.Names.{Name}
@@ -46,13 +46,6 @@ with_location lib b t d p es r at of_type of_side found =
 pub withs_known :
     (p : Ports) → list_all (with_inputs p) p.event_inputs ≡ true → list_all (with_outputs p) p.event_outputs ≡ true → all_met (required_withs p) ≡ true
 withs_known p ins outs = withs_met p ∙ (λ i. ins i && outs i)
-
-pub withs_known_of :
-    (q p : Ports) (es os : List EventPort) → p ≡ q → es ≡ p.event_inputs → os ≡ p.event_outputs → list_all (with_inputs p) es ≡ true → list_all (with_outputs p) os ≡ true
-    → all_met (required_withs q) ≡ true
-withs_known_of q p es os same inputs outputs ins outs =
-    subst (λ (q : Ports). all_met (required_withs q) ≡ true) same
-    (withs_known p (sym (ap (list_all (with_inputs p)) inputs) ∙ ins) (sym (ap (list_all (with_outputs p)) outputs) ∙ outs))
 
 -- ---- Charts
 

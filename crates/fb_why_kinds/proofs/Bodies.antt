@@ -1,20 +1,12 @@
 -- An algorithm is right if each of its statements is, by itself.
-use Rattle.std.proofs.Common.{◌≡◌, ℕ, zero, suc, ◌+◌, ◌<◌, arith, Bool, true, false, ◌&&◌, List, [], ◌∷◌, ◌++◌, drop, get_or, length, Option, Some, None, refl, subst, sym, ◌∙◌, ap}
-use Rattle.std.specs.Prelude.{MatchOption, slice_get}
+use Rattle.std.proofs.Common.{◌≡◌, Bool, true, false, ◌&&◌, List, ◌++◌, refl, ◌∙◌, ap}
 use Rattle.std.specs.List.{list_all}
-use Rattle.std.proofs.lemmas.List.{at_drop_more}
 use Rattle.std.proofs.lemmas.List.Folds.{list_all-append}
-use Rattle.fb_types.specs.Kinds.{is_right, body_right, choices_right, branches_right, is_whole, is_condition, Context}
-use Rattle.fb_types.specs.Syntax.{Stmt, Empty, Exit, Return, Assign, If, Case, For, While, Repeat, Stmts, no_stmt, then_stmts, Choices, no_choice, then_choices, Branches, no_branch, then_branches, body_of, expr_of}
-use Rattle.fb_types.specs.declared.library.Algorithm.{Algorithm}
+use Rattle.fb_types.specs.Kinds.{is_right, body_right, choices_right, branches_right, is_whole, is_condition}
+use Rattle.fb_types.specs.Syntax.{Stmt, Empty, Exit, Return, Assign, If, Case, For, While, Repeat, Stmts, no_stmt, then_stmts, Choices, no_choice, then_choices, Branches, no_branch, then_branches}
 use Rattle.fb_types.specs.declared.library.BasicType.{BasicType}
-use Rattle.fb_types.specs.declared.text.Choice.{Choice, out-Choice}
-use Rattle.fb_check_types.specs.Checks.{algorithm_right, in_place}
-use Rattle.fb_check_types.specs.Trees.{choice_of, choices_of}
-use Rattle.fb_why_kinds.specs.declared.location.StatementPart.{StatementPart}
-use Rattle.fb_why_kinds.specs.declared.statements.Standing as code
-use Rattle.fb_check_types.proofs.Says.{choice_says}
-use Rattle.fb_why_kinds.specs.Statements.{Standing, WrongAmong, all_standing, standing_of, choice_right, conditions_right, each_in_body, each_in_branches, each_in_choices, each_inside, own_right, stands_right}
+use Rattle.fb_check_types.specs.Checks.{in_place}
+use Rattle.fb_why_kinds.specs.Statements.{Standing, conditions_right, each_in_body, each_in_branches, each_in_choices, each_inside, own_right, stands_right}
 
 -- ---- Truth values
 
@@ -91,36 +83,3 @@ mutual
   branches_each t l no_branch = refl
   branches_each t l (then_branches ls body rest) =
       both_right t (each_in_body l body) (each_in_branches l rest) (body_right (in_place t l) body) (branches_right (in_place t l) rest) (body_each t l body) (branches_each t l rest)
-
--- ---- Conditions
-
-pub choice_at :
-    (p : Context) (cs : List Choice) (k : ℕ) (c : Choice) → k < length cs → c ≡ get_or cs k c
-    → choice_right p (choices_of cs) k ≡ is_condition p (expr_of (out-Choice c).condition)
-choice_at p [] k c h e = absurd (omega (arith, h))
-choice_at p (d ∷ ds) zero c h e = ap (λ (x : Choice). is_condition p (choice_of x).0) (sym e) ∙ ap (λ r. is_condition p r.0) (choice_says c)
-choice_at p (d ∷ ds) (suc k) c h e = choice_at p ds k c (omega (arith, h)) e
-
-pub choices_on :
-    (p : Context) (cs : List Choice) (k : ℕ) (c : Choice) → k < length cs → c ≡ get_or cs k c → is_condition p (expr_of (out-Choice c).condition) ≡ true
-    → conditions_right p (choices_of (drop k cs)) ≡ conditions_right p (choices_of (drop (k + 1) cs))
-choices_on p cs k c h e right =
-    at_drop_more (λ (cs : List Choice). conditions_right p (choices_of cs)) cs k c h
-    ∙ ap (λ (x : Choice). is_condition p (choice_of x).0 && conditions_right p (choices_of (drop (k + 1) cs))) (sym e)
-    ∙ ap (λ b. b && conditions_right p (choices_of (drop (k + 1) cs))) (ap (λ r. is_condition p r.0) (choice_says c) ∙ right)
-
--- ---- The search of an algorithm
-
-pub standing_at : (ss : List code.Standing) (k : ℕ) (x : code.Standing) → k < length ss → x ≡ get_or ss k x → slice_get (all_standing ss) k ≡ Some (standing_of x)
-standing_at [] k x h e = absurd (omega (arith, h))
-standing_at (y ∷ ys) zero x h e = ap (λ (z : code.Standing). Some (standing_of z)) (sym e)
-standing_at (y ∷ ys) (suc k) x h e = standing_at ys k x (omega (arith, h)) e
-
-pub statement_answer :
-    (t : BasicType) (a : Algorithm) (ss : List Standing) (r : Option (ℕ × StatementPart)) → ss ≡ each_in_body false (body_of a.body)
-    → MatchOption r (all_right t ss ≡ true) (WrongAmong t ss) → MatchOption r (algorithm_right t a ≡ true) (WrongAmong t (each_in_body false (body_of a.body)))
-statement_answer t a ss r all answer =
-    elim r as (λ r. MatchOption r (all_right t ss ≡ true) (WrongAmong t ss) → MatchOption r (algorithm_right t a ≡ true) (WrongAmong t (each_in_body false (body_of a.body)))) [
-      | None ↦ λ h. sym (body_each t false (body_of a.body)) ∙ ap (all_right t) (sym all) ∙ h
-      | Some p ↦ λ h. subst (λ (ss : List Standing). WrongAmong t ss p) all h
-    ] answer

@@ -14,3 +14,7 @@ mod Searches
 mod Added
 mod Mentioned
 mod Inside
+pub mod Listing
+pub mod Witnesses
+pub mod AllThere
+pub mod KindWitnesses

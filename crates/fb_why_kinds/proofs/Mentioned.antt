@@ -1,8 +1,9 @@
 -- What expressions and statements name, each by its parts.
-use Rattle.std.proofs.Common.{◌≡◌, List, [], ◌∷◌, ◌++◌, Option, sym, ◌∙◌, ap}
+use Rattle.std.proofs.Common.{◌≡◌, List, [], ◌∷◌, ◌++◌, Option, None, Some, sym, ◌∙◌, ap}
 use Rattle.fb_types.specs.Names.{Name}
 use Rattle.fb_types.specs.Syntax.{expr_of, stmt_of}
-use Rattle.fb_types.specs.Unknown.{Mention, OfFunction, OfVariable, mentions, mentions_all, mentions_body, mentions_branches, mentions_choices, mentions_in}
+use Rattle.fb_types.specs.Unknown.{Mention, OfFunction, OfVariable, is_known, mentions, mentions_all, mentions_body, mentions_branches, mentions_choices, mentions_in}
+use Rattle.fb_types.specs.declared.library.BasicType.{BasicType}
 use Rattle.fb_types.specs.declared.text.BinaryOperator.{BinaryOperator}
 use Rattle.fb_types.specs.declared.text.Expr as expr
 use Rattle.fb_types.specs.declared.text.Expr.{Expr}
@@ -12,7 +13,12 @@ use Rattle.fb_types.specs.declared.text.UnaryOperator.{UnaryOperator}
 use Rattle.fb_types.specs.declared.text.Branch.{Branch, out-Branch}
 use Rattle.fb_types.specs.declared.text.Choice.{Choice, out-Choice}
 use Rattle.fb_check_types.specs.Trees.{all_of, arguments_of, branch_of, branches_of, choice_of, choices_of}
-use Rattle.fb_why_kinds.specs.Mentions.{mentions_of_control}
+use Rattle.fb_why_kinds.specs.declared.blocks.Naming.{Naming}
+use Rattle.fb_why_kinds.specs.declared.mentions.Mention as gathered
+use Rattle.fb_why_kinds.specs.Listed.{each_at, unless}
+use Rattle.fb_why_kinds.specs.Mentions.{meant, meant_all, mentions_of_control}
+use Rattle.fb_why_kinds.specs.Unknowns.{mention_in, unknown_mentions}
+use Rattle.fb_why_kinds.proofs.Listing.{each_from-map}
 use Rattle.fb_check_types.proofs.Says.{assign_says, binary_says, branch_says, call_says, case_says, choice_says, for_says, group_says, if_says, repeat_says, unary_says, variable_says, while_says}
 
 -- ---- Expressions
@@ -83,3 +89,15 @@ choice_names c os body =
 
 pub branch_names : (b : Branch) (os : List Stmt) → os ≡ (out-Branch b).body → mentions_body (branch_of b).1 ≡ named_in os
 branch_names b os body = ap (λ r. mentions_body r.1) (branch_says b) ∙ ap named_in (sym body)
+
+-- ---- Those that are unknown
+
+-- what a guard names, if there is one
+abbrev pub mentions_of : Option Expr → List Mention
+mentions_of o = elim o [ None ↦ [] | Some g ↦ mentions (expr_of g) ]
+
+-- the mentions are those that the code gathered
+pub mentions_are :
+    (t : BasicType) (text : Naming) (gs : List gathered.Mention) (ms : List Mention) → meant_all gs ≡ ms
+    → unknown_mentions t text ms ≡ each_at (λ m x. unless (is_known t (meant x)) (mention_in text m)) gs
+mentions_are t text gs ms are = ap (unknown_mentions t text) (sym are) ∙ each_from-map (λ m x. unless (is_known t x) (mention_in text m)) meant gs 0

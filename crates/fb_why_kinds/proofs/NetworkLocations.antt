@@ -1,9 +1,10 @@
 -- Networks in which a name is unknown, and networks in which each is known.
-use Rattle.std.proofs.Common.{◌≡◌, ◌&&◌, ◌||◌, ℕ, zero, suc, Bool, true, false, List, [], ◌∷◌, map, Some, None, Option, Contains, MatchOption, refl, sym, ◌∙◌, ap, subst, inl, inr}
+use Rattle.std.proofs.Common.{◌≡◌, ◌&&◌, ◌||◌, ℕ, Bool, true, false, List, [], ◌∷◌, ◌++◌, map, Some, None, Option, Contains, refl, sym, ◌∙◌, ap, inl, inr}
 use Rattle.std.specs.Prelude.{flat_map, slice_get, option_map, option_and_then}
 use Rattle.std.specs.List.{find, list_all, list_any}
 use Rattle.std.proofs.lemmas.Bool.{true≢false}
 use Rattle.std.proofs.lemmas.Option.{same_Some}
+use Rattle.std.proofs.lemmas.List.{append-nil}
 use Rattle.std.proofs.lemmas.List.Elements.{Contains-append_cases}
 use Rattle.fb_types.specs.Names.{Name, same_name}
 use Rattle.fb_types.specs.Blocks.{Kind, among, ports_of}
@@ -18,7 +19,7 @@ use Rattle.fb_types.specs.declared.library.Parameter.{Parameter}
 use Rattle.fb_types.specs.declared.library.PortName.{PortName}
 use Rattle.fb_types.specs.declared.library.Ports.{Ports}
 use Rattle.fb_types.proofs.NameLaws.{any_from_contains, find-named}
-use Rattle.fb_check_types.specs.Checks.{is_met, all_met}
+use Rattle.fb_check_types.specs.Checks.{is_met}
 use Rattle.fb_types.proofs.ListTests.{list_all-map, list_all-flat_map}
 use Rattle.fb_check_names.specs.Unknown.{NetworkUnknown}
 use Rattle.fb_check_names.proofs.NetworkUnknown.{met, met_required, list_all-all_of}
@@ -26,16 +27,15 @@ use Rattle.fb_why_kinds.specs.declared.location.FlowKind.{FlowKind}
 use Rattle.fb_why_kinds.specs.declared.location.FlowKind.TheVariants.{Events, Data}
 use Rattle.fb_why_kinds.specs.declared.location.Side.{Side}
 use Rattle.fb_why_kinds.specs.declared.location.Site.{Site}
+use Rattle.fb_why_kinds.specs.declared.location.UnknownName.{UnknownName}
+use Rattle.fb_why_kinds.specs.declared.location.UnknownName.TheVariants as location
+use Rattle.fb_why_kinds.specs.Listed.{each_at, unless}
 use Rattle.fb_why_kinds.specs.Sites.{network_at, instance_at, connections_of}
+use Rattle.fb_why_kinds.specs.Unknowns.{unknown_in_instance, unknown_parameters}
+use Rattle.fb_why_kinds.proofs.Listing.{each_from-map}
 use Rattle.fb_why_kinds.specs.Unknown.{Unmet, UnmetParameter, IsUnknownEnd, type_required, parameter_required, is_type_met, are_parameters_met, is_side_known, are_ends_known}
 
 -- ---- Names that are required
-
-pub slice_get_map : {A B : Type 0} (f : A → B) (xs : List A) (k : ℕ) → slice_get (map f xs) k ≡ option_map f (slice_get xs k)
-slice_get_map f [] zero = refl
-slice_get_map f [] (suc k) = refl
-slice_get_map f (x ∷ xs) zero = refl
-slice_get_map f (x ∷ xs) (suc k) = slice_get_map f xs k
 
 pub unmet_is : (w : Required) → is_met w ≡ false → ¬ (Contains w.1 w.0)
 unmet_is w h c = true≢false (sym (any_from_contains w.0 w.1 c) ∙ h)
@@ -44,13 +44,6 @@ unmet_is w h c = true≢false (sym (any_from_contains w.0 w.1 c) ∙ h)
 pub any_map : {A : Type 0} (f : A → Name) (n : Name) (xs : List A) → list_any (λ x. same_name n (f x)) xs ≡ among (map f xs) n
 any_map f n [] = refl
 any_map f n (x ∷ xs) = ap (λ b. same_name n (f x) || b) (any_map f n xs)
-
--- if there is no result
-pub none_answer : {A : Type 0} (o : Option A) (N : Type 0) (P : A → Type 0) → o ≡ None → N → MatchOption o N P
-none_answer {A} o N P e h = subst (λ (o : Option A). MatchOption o N P) (sym e) h
-
-pub unmet_from : (o : Option Required) (w : Required) → o ≡ Some w → is_met w ≡ false → Unmet o
-unmet_from o w e h = (w, e, unmet_is w h)
 
 -- ---- Parameters
 
@@ -72,29 +65,29 @@ required_of lib i p h =
       | Some k ↦ λ e h. parameters_are lib i k e ∙ ap (λ (q : Ports). all_of (set_names i.parameters) (data_ins q)) (sym (same_Some p (ports_of k) h))
     ] refl h
 
--- the result of the search for a parameter that is not an input
-abbrev pub InputAnswer : Ports → List Parameter → Option ℕ → Type 0
-InputAnswer p xs r =
-    MatchOption r (list_all (λ x. among (data_ins p) x.name) xs ≡ true)
-    (λ k. (x : Parameter) × (slice_get xs k ≡ Some x) × (among (data_ins p) x.name ≡ false))
-
-pub parameters_answer :
-    (lib : Library) (i : Instance) (p : Ports) (xs : List Parameter) (r : Option ℕ) → Some p ≡ option_map ports_of (kind_of_instance lib i) → xs ≡ i.parameters
-    → InputAnswer p xs r → MatchOption r (are_parameters_met lib i ≡ true) (UnmetParameter lib i)
-parameters_answer lib i p xs r of_type all answer =
+-- the parameters that are unknown, by the ports of the type
+pub parameters_of :
+    (lib : Library) (s : Site) (k : ℕ) (i : Instance) (p : Ports) (xs : List Parameter) → Some p ≡ option_map ports_of (kind_of_instance lib i) → xs ≡ i.parameters
+    → unknown_parameters lib s k i ≡ each_at (λ j x. unless (among (data_ins p) x.name) (location.Parameter s k j)) xs
+parameters_of lib s k i p xs of_type all =
     let ins : List Name = data_ins p in
-    let required : required_parameters lib i ≡ all_of (set_names xs) ins =
+    let required : required_parameters lib i ≡ map (λ (n : Name). (n, ins)) (map (λ (x : Parameter). x.name) xs) =
     required_of lib i p of_type ∙ ap (λ (xs : List Parameter). all_of (set_names xs) ins) (sym all) in
-    elim r as (λ r. InputAnswer p xs r → MatchOption r (are_parameters_met lib i ≡ true) (UnmetParameter lib i)) [
-      | None ↦ λ h.
-          ap all_met required ∙ list_all-all_of (set_names xs) ins ∙ list_all-map (λ m. list_any (same_name m) ins) (λ (x : Parameter). x.name) xs ∙ h
-      | Some k ↦ λ h. (
-        (h.0.name, ins),
-        ap (λ (ws : List Required). slice_get ws k) required ∙ slice_get_map (λ (n : Name). (n, ins)) (set_names xs) k
-            ∙ ap (option_map (λ (n : Name). (n, ins))) (slice_get_map (λ (x : Parameter). x.name) xs k ∙ ap (option_map (λ (x : Parameter). x.name)) h.1),
-        unmet_is (h.0.name, ins) h.2,
-      )
-    ] answer
+    ap (each_at (λ j w. unless (is_met w) (location.Parameter s k j))) required
+    ∙ each_from-map (λ j w. unless (is_met w) (location.Parameter s k j)) (λ (n : Name). (n, ins)) (set_names xs) 0
+    ∙ each_from-map (λ j n. unless (among ins n) (location.Parameter s k j)) (λ (x : Parameter). x.name) xs 0
+
+-- those of a type that is unknown
+pub no_parameters :
+    (lib : Library) (s : Site) (k : ℕ) (i : Instance) (old : List UnknownName) → None ≡ option_map ports_of (kind_of_instance lib i)
+    → old ++ unless (is_type_met lib i) (location.InstanceType s k) ≡ old ++ unknown_in_instance lib s k i
+no_parameters lib s k i old of_type =
+    let type = unless (is_type_met lib i) (location.InstanceType s k) in
+    let none : kind_of_instance lib i ≡ None =
+    elim (kind_of_instance lib i) as (λ (o : Option Kind). None ≡ option_map ports_of o → o ≡ None) [ None ↦ λ e. refl | Some x ↦ λ e. absurd (cc) ] of_type in
+    let nothing : required_parameters lib i ≡ [] =
+    ap (λ (o : Option Kind). elim o as (λ _. List Required) [ None ↦ [] | Some k ↦ all_of (set_names i.parameters) (data_ins (ports_of k)) ]) none in
+    ap (λ (ys : List UnknownName). old ++ ys) (sym (append-nil type) ∙ ap (λ (ws : List Required). type ++ each_at (λ j w. unless (is_met w) (location.Parameter s k j)) ws) (sym nothing))
 
 -- ---- Ends at components
 

@@ -1,226 +1,251 @@
 //! Unknown names in block types (E21).
 
-ghost use Rattle.std.specs.Prelude.{◌≡◌, All, IfOk, MatchOption, Some, true, false, slice_get, option_map};
-ghost use Rattle.std.specs.List.{list_all};
-ghost use Rattle.fb_types.specs.Syntax.{body_of};
-ghost use Rattle.fb_types.specs.Unknown.{Mention, required_chart, is_known, mentioned, mentions_body, required_withs};
-ghost use Rattle.fb_types.specs.declared.library.Algorithm.{Algorithm};
-ghost use Rattle.fb_types.specs.declared.library.Transition.{Transition};
-ghost use Rattle.fb_check_types.specs.Checks.{all_known, all_met, body_known, guard_known, guard_mentions};
+ghost use Rattle.std.specs.Prelude.{◌≡◌, ◌++◌, IfOk};
+ghost use Rattle.fb_types.specs.Unknown.{is_known};
+ghost use Rattle.fb_check_types.specs.Checks.{guard_mentions};
 ghost use Rattle.fb_check_names.specs.Types.{ports_of_block};
-ghost use Rattle.fb_why_kinds.specs.Mentions.{meant, meant_all};
-ghost use Rattle.fb_why_kinds.specs.Sites.{basic_at};
-ghost use Rattle.fb_why_kinds.specs.Unknown.{IsBlockKnown, IsUnknownIn, UnknownAmong};
+ghost use Rattle.fb_why_kinds.specs.declared.blocks.Naming.TheVariants as naming;
+ghost use Rattle.fb_why_kinds.specs.declared.location.Direction.TheVariants as direction;
+ghost use Rattle.fb_why_kinds.specs.Listed.{each_at, unless};
+ghost use Rattle.fb_why_kinds.specs.Mentions.{meant};
+ghost use Rattle.fb_why_kinds.specs.Unknowns.{mention_in, unknown_in_block, unknown_in_body, unknown_in_chart, unknown_in_transition, unknown_inside, unknown_mentions, unknown_withs};
 
-use crate::charts::{unknown_in_states, unknown_in_transitions, unknown_with};
+use crate::charts::{push_in_states, push_in_withs, push_names};
+use crate::listed::push_unless;
 use crate::location::{Direction, Site, UnknownName};
 use crate::lookup::BlockTypes;
 use crate::mentions::{Mention, is_mention_known, push_body, push_expression};
-use crate::networks::{LocatedNetwork, unknown_in_network};
+use crate::networks::{LocatedNetwork, push_in_network};
 use fb_check_names::PortKind;
-use fb_types::{Algorithm, BasicType, BlockType, Library, Transition};
+use fb_types::{Algorithm, BasicType, BlockType, Ports, Transition};
 use std::alloc::{AllocError, Global};
 
-/// Where a WITH list of a block type has a name that is no variable.
-fn unknown_in_withs(library: &Library, block: usize, declared: &BlockType) -> Option<UnknownName>
-    requires { slice_get library.now.blocks block ≡ Some declared.now }
-    ensures { MatchOption result (all_met (required_withs (ports_of_block declared.now)) ≡ true) (IsUnknownIn library.now) }
-{
-    let ports = declared.ports();
-    let inputs = unknown_with(ports, PortKind::Input, ports.event_inputs.as_slice());
-    if let Some((event, variable)) = inputs {
-        return Some(UnknownName::With {
-            block,
-            direction: Direction::Input,
-            event,
-            variable,
-        });
-    }
-    let (event, variable) = unknown_with(ports, PortKind::Output, ports.event_outputs.as_slice())?;
-    Some(UnknownName::With {
-        block,
-        direction: Direction::Output,
-        event,
-        variable,
-    })
+/// A text of a block type that names variables and functions.
+#[derive(Clone, Copy)]
+pub enum Naming {
+    /// The guard of the transition at this index of the block type.
+    Guard { block: usize, transition: usize },
+    /// The algorithm at this index of the block type.
+    Body { block: usize, algorithm: usize },
 }
 
-/// Where a chart has an unknown name.
-fn unknown_in_chart(library: &Library, block: usize, basic: &BasicType) -> Option<UnknownName>
-    requires { basic_at library.now block ≡ Some basic.now }
-    ensures { MatchOption result (all_met (required_chart basic.now) ≡ true) (IsUnknownIn library.now) }
+/// The variable or the function at an index among those that a text names.
+fn mention_in(naming: Naming, mention: usize) -> UnknownName
+    ensures { result ≡ mention_in naming mention }
 {
-    if let Some((transition, part)) = unknown_in_transitions(basic, basic.transitions.as_slice()) {
-        return Some(UnknownName::Transition {
+    match naming {
+        Naming::Guard { block, transition } => UnknownName::Guard {
             block,
             transition,
-            part,
-        });
-    }
-    let (state, (action, part)) = unknown_in_states(basic, basic.states.as_slice())?;
-    Some(UnknownName::Action {
-        block,
-        state,
-        action,
-        part,
-    })
-}
-
-/// The first of these mentions that is unknown in the type.
-fn first_unknown(basic: &BasicType, mentions: &[Mention]) -> Option<usize>
-    ensures { MatchOption result (all_known basic.now (meant_all mentions.now) ≡ true) (UnknownAmong basic.now (meant_all mentions.now)) }
-{
-    for (location, mention) in mentions.iter().enumerate() {
-        if !is_mention_known(basic, mention) {
-            return Some(location);
-        }
-    }
-    None
-}
-
-/// The first unknown name of an algorithm.
-fn unknown_in_body(
-    alloc: Global,
-    basic: &BasicType,
-    algorithm: &Algorithm,
-) -> Result<Option<usize>, AllocError>
-    ensures { IfOk result (λ o. MatchOption o (body_known basic.now algorithm.now ≡ true) (UnknownAmong basic.now (mentions_body (body_of algorithm.now.body)))) }
-{
-    let mut mentions = Vec::new(alloc);
-    push_body(&mut mentions, &algorithm.body)?;
-    Ok(first_unknown(basic, mentions.as_slice()))
-}
-
-/// The first algorithm with an unknown name, and the name.
-fn unknown_in_bodies(
-    alloc: Global,
-    basic: &BasicType,
-    algorithms: &[Algorithm],
-) -> Result<Option<(usize, usize)>, AllocError>
-    ensures { IfOk result (λ o. MatchOption o (list_all (body_known basic.now) algorithms.now ≡ true) (λ r. (a : Algorithm) × (slice_get algorithms.now r.0 ≡ Some a) × UnknownAmong basic.now (mentions_body (body_of a.body)) r.1)) }
-{
-    for (location, algorithm) in algorithms.iter().enumerate() {
-        if let Some(mention) = unknown_in_body(alloc, basic, algorithm)? {
-            return Ok(Some((location, mention)));
-        }
-    }
-    Ok(None)
-}
-
-/// The first unknown name of a guard.
-fn unknown_in_guard(
-    alloc: Global,
-    basic: &BasicType,
-    transition: &Transition,
-) -> Result<Option<usize>, AllocError>
-    ensures { IfOk result (λ o. MatchOption o (guard_known basic.now transition.now ≡ true) (UnknownAmong basic.now (guard_mentions transition.now))) }
-{
-    let Some(guard) = &transition.condition.guard else {
-        return Ok(None);
-    };
-    let mut mentions = Vec::new(alloc);
-    push_expression(&mut mentions, guard)?;
-    Ok(first_unknown(basic, mentions.as_slice()))
-}
-
-/// The first transition with an unknown name in its guard, and the name.
-fn unknown_in_guards(
-    alloc: Global,
-    basic: &BasicType,
-    transitions: &[Transition],
-) -> Result<Option<(usize, usize)>, AllocError>
-    ensures { IfOk result (λ o. MatchOption o (list_all (guard_known basic.now) transitions.now ≡ true) (λ r. (x : Transition) × (slice_get transitions.now r.0 ≡ Some x) × UnknownAmong basic.now (guard_mentions x) r.1)) }
-{
-    for (location, transition) in transitions.iter().enumerate() {
-        if let Some(mention) = unknown_in_guard(alloc, basic, transition)? {
-            return Ok(Some((location, mention)));
-        }
-    }
-    Ok(None)
-}
-
-/// Where an algorithm or a guard names a variable or a function that does not exist.
-fn unknown_in_texts(
-    alloc: Global,
-    library: &Library,
-    block: usize,
-    basic: &BasicType,
-) -> Result<Option<UnknownName>, AllocError>
-    requires { basic_at library.now block ≡ Some basic.now }
-    ensures { IfOk result (λ o. MatchOption o (all_known basic.now (mentioned basic.now) ≡ true) (IsUnknownIn library.now)) }
-{
-    if let Some((algorithm, mention)) = unknown_in_bodies(
-        alloc,
-        basic,
-        basic.algorithms.as_slice(),
-    )? {
-        return Ok(Some(UnknownName::Body {
+            mention,
+        },
+        Naming::Body { block, algorithm } => UnknownName::Body {
             block,
             algorithm,
             mention,
-        }));
-    }
-    match unknown_in_guards(alloc, basic, basic.transitions.as_slice())? {
-        Some((transition, mention)) => Ok(Some(UnknownName::Guard {
-            block,
-            transition,
-            mention,
-        })),
-        None => Ok(None),
+        },
     }
 }
 
-/// Where a name of a block type is unknown, if there is such a location.
-fn unknown_in_block(
+/// Adds those of these mentions that are unknown in the type.
+fn push_mentions(
+    found: &mut Vec<UnknownName>,
+    basic: &BasicType,
+    naming: Naming,
+    mentions: &[Mention],
+) -> Result<(), AllocError>
+    ensures { IfOk result (λ _. found.new.items ≡ found.old.items ++ each_at (λ m x. unless (is_known basic.now (meant x)) (mention_in naming m)) mentions.now) }
+{
+    for (index, mention) in mentions.iter().enumerate() {
+        let is_known = is_mention_known(basic, mention);
+        push_unless(found, is_known, mention_in(naming, index))?;
+    }
+    Ok(())
+}
+
+/// Adds the unknown names of an algorithm.
+fn push_in_body(
     alloc: Global,
+    found: &mut Vec<UnknownName>,
+    basic: &BasicType,
+    block: usize,
+    algorithm: usize,
+    declared: &Algorithm,
+) -> Result<(), AllocError>
+    ensures { IfOk result (λ _. found.new.items ≡ found.old.items ++ unknown_in_body basic.now block algorithm declared.now) }
+{
+    let mut mentions = Vec::new(alloc);
+    push_body(&mut mentions, &declared.body)?;
+    let naming = Naming::Body { block, algorithm };
+    push_mentions(found, basic, naming, mentions.as_slice())
+}
+
+/// The same for all algorithms of a basic type.
+fn push_in_bodies(
+    alloc: Global,
+    found: &mut Vec<UnknownName>,
+    basic: &BasicType,
+    block: usize,
+    algorithms: &[Algorithm],
+) -> Result<(), AllocError>
+    ensures { IfOk result (λ _. found.new.items ≡ found.old.items ++ each_at (unknown_in_body basic.now block) algorithms.now) }
+{
+    for (algorithm, declared) in algorithms.iter().enumerate() {
+        push_in_body(alloc, found, basic, block, algorithm, declared)?;
+    }
+    Ok(())
+}
+
+/// Adds the unknown names of a guard.
+fn push_in_guard(
+    alloc: Global,
+    found: &mut Vec<UnknownName>,
+    basic: &BasicType,
+    block: usize,
+    transition: usize,
+    declared: &Transition,
+) -> Result<(), AllocError>
+    ensures { IfOk result (λ _. found.new.items ≡ found.old.items ++ unknown_mentions basic.now (naming.Guard block transition) (guard_mentions declared.now)) }
+{
+    let Some(guard) = &declared.condition.guard else {
+        return Ok(());
+    };
+    let mut mentions = Vec::new(alloc);
+    push_expression(&mut mentions, guard)?;
+    let naming = Naming::Guard { block, transition };
+    push_mentions(found, basic, naming, mentions.as_slice())
+}
+
+/// Adds the names of a transition that are unknown, and those in its guard.
+fn push_in_transition(
+    alloc: Global,
+    found: &mut Vec<UnknownName>,
+    basic: &BasicType,
+    block: usize,
+    transition: usize,
+    declared: &Transition,
+) -> Result<(), AllocError>
+    ensures { IfOk result (λ _. found.new.items ≡ found.old.items ++ unknown_in_transition basic.now block transition declared.now) }
+{
+    push_names(found, basic, block, transition, declared)?;
+    push_in_guard(alloc, found, basic, block, transition, declared)
+}
+
+/// The same for all transitions of a basic type.
+fn push_in_transitions(
+    alloc: Global,
+    found: &mut Vec<UnknownName>,
+    basic: &BasicType,
+    block: usize,
+    transitions: &[Transition],
+) -> Result<(), AllocError>
+    ensures { IfOk result (λ _. found.new.items ≡ found.old.items ++ each_at (unknown_in_transition basic.now block) transitions.now) }
+{
+    for (transition, declared) in transitions.iter().enumerate() {
+        push_in_transition(alloc, found, basic, block, transition, declared)?;
+    }
+    Ok(())
+}
+
+/// Adds the unknown names of a chart and of its algorithms.
+fn push_in_chart(
+    alloc: Global,
+    found: &mut Vec<UnknownName>,
+    block: usize,
+    basic: &BasicType,
+) -> Result<(), AllocError>
+    ensures { IfOk result (λ _. found.new.items ≡ found.old.items ++ unknown_in_chart basic.now block) }
+{
+    push_in_states(found, basic, block, basic.states.as_slice())?;
+    push_in_transitions(alloc, found, basic, block, basic.transitions.as_slice())?;
+    push_in_bodies(alloc, found, basic, block, basic.algorithms.as_slice())
+}
+
+/// Adds the unknown names of what is inside a block type.
+fn push_inside(
+    alloc: Global,
+    found: &mut Vec<UnknownName>,
     types: &BlockTypes,
     block: usize,
     declared: &BlockType,
-) -> Result<Option<UnknownName>, AllocError>
-    requires { slice_get types.now.library.now.blocks block ≡ Some declared.now }
-    ensures { IfOk result (λ o. MatchOption o (IsBlockKnown types.now.library.now declared.now) (IsUnknownIn types.now.library.now)) }
+) -> Result<(), AllocError>
+    ensures { IfOk result (λ _. found.new.items ≡ found.old.items ++ unknown_inside types.now.library.now block declared.now) }
 {
-    if let Some(location) = unknown_in_withs(types.library, block, declared) {
-        return Ok(Some(location));
-    }
     match declared {
-        BlockType::Basic(basic) => match unknown_in_chart(types.library, block, basic) {
-            Some(location) => Ok(Some(location)),
-            None => unknown_in_texts(alloc, types.library, block, basic),
-        },
+        BlockType::Basic(basic) => push_in_chart(alloc, found, block, basic),
         BlockType::Composite(composite) => {
             let scope = LocatedNetwork {
                 composite: Some(composite),
                 network: &composite.network,
             };
-            Ok(unknown_in_network(types, Site::Inside(block), &scope))
+            push_in_network(found, types, Site::Inside(block), &scope)
         }
     }
 }
 
-/// Where a name of the block types is unknown, if there is such a location.
-fn unknown_in_some(
+/// Adds the names in the WITH lists of event inputs that are no data inputs.
+fn push_in_input_withs(
+    found: &mut Vec<UnknownName>,
+    block: usize,
+    ports: &Ports,
+) -> Result<(), AllocError>
+    ensures { IfOk result (λ _. found.new.items ≡ found.old.items ++ unknown_withs block direction.Input ports.now) }
+{
+    push_in_withs(
+        found,
+        ports,
+        PortKind::Input,
+        block,
+        Direction::Input,
+        ports.event_inputs.as_slice(),
+    )
+}
+
+/// Adds the names in the WITH lists of event outputs that are no data outputs.
+fn push_in_output_withs(
+    found: &mut Vec<UnknownName>,
+    block: usize,
+    ports: &Ports,
+) -> Result<(), AllocError>
+    ensures { IfOk result (λ _. found.new.items ≡ found.old.items ++ unknown_withs block direction.Output ports.now) }
+{
+    push_in_withs(
+        found,
+        ports,
+        PortKind::Output,
+        block,
+        Direction::Output,
+        ports.event_outputs.as_slice(),
+    )
+}
+
+/// Adds the unknown names of a block type.
+fn push_in_block(
     alloc: Global,
+    found: &mut Vec<UnknownName>,
+    types: &BlockTypes,
+    block: usize,
+    declared: &BlockType,
+) -> Result<(), AllocError>
+    ensures { IfOk result (λ _. found.new.items ≡ found.old.items ++ unknown_in_block types.now.library.now block declared.now) }
+{
+    let ports = declared.ports();
+    push_in_input_withs(found, block, ports)?;
+    push_in_output_withs(found, block, ports)?;
+    push_inside(alloc, found, types, block, declared)
+}
+
+/// The same for block types of a declaration.
+pub fn push_in_blocks(
+    alloc: Global,
+    found: &mut Vec<UnknownName>,
     types: &BlockTypes,
     blocks: &[BlockType],
-) -> Result<Option<UnknownName>, AllocError>
-    requires { blocks.now ≡ types.now.library.now.blocks }
-    ensures { IfOk result (λ o. MatchOption o (All (IsBlockKnown types.now.library.now) blocks.now) (IsUnknownIn types.now.library.now)) }
+) -> Result<(), AllocError>
+    ensures { IfOk result (λ _. found.new.items ≡ found.old.items ++ each_at (unknown_in_block types.now.library.now) blocks.now) }
 {
-    for (location, block) in blocks.iter().enumerate() {
-        if let Some(found) = unknown_in_block(alloc, types, location, block)? {
-            return Ok(Some(found));
-        }
+    for (block, declared) in blocks.iter().enumerate() {
+        push_in_block(alloc, found, types, block, declared)?;
     }
-    Ok(None)
-}
-
-/// The same for all block types.
-pub fn unknown_in_blocks(
-    alloc: Global,
-    types: &BlockTypes,
-) -> Result<Option<UnknownName>, AllocError>
-    ensures { IfOk result (λ o. MatchOption o (All (IsBlockKnown types.now.library.now) types.now.library.now.blocks) (IsUnknownIn types.now.library.now)) }
-{
-    unknown_in_some(alloc, types, types.library.blocks.as_slice())
+    Ok(())
 }

@@ -1,49 +1,64 @@
 //! Unknown names in WITH lists and in charts (E21).
 
-ghost use Rattle.std.specs.Prelude.{◌≡◌, MatchOption, Some, true, false, slice_get};
-ghost use Rattle.std.specs.List.{list_all};
+ghost use Rattle.std.specs.Prelude.{◌≡◌, ◌++◌, IfOk};
 ghost use Rattle.fb_types.specs.Blocks.{among};
 ghost use Rattle.fb_types.specs.Repeated.{algorithm_names, state_names};
-ghost use Rattle.fb_types.specs.declared.library.Action.{Action};
-ghost use Rattle.fb_types.specs.declared.library.EventPort.{EventPort};
-ghost use Rattle.fb_types.specs.declared.library.State.{State};
-ghost use Rattle.fb_types.specs.declared.library.Transition.{Transition};
-ghost use Rattle.fb_types.specs.Names.{Name};
-ghost use Rattle.fb_check_types.specs.Checks.{action_met, actions_met, transition_met};
 ghost use Rattle.fb_check_names.specs.PortKinds.{names_of_kind};
-ghost use Rattle.fb_why_kinds.specs.Unknown.{Unmet, required_action, required_transition};
+ghost use Rattle.fb_why_kinds.specs.declared.location.ActionPart.TheVariants as actions;
+ghost use Rattle.fb_why_kinds.specs.declared.location.TransitionPart.TheVariants as part;
+ghost use Rattle.fb_why_kinds.specs.declared.location.UnknownName.TheVariants as location;
+ghost use Rattle.fb_why_kinds.specs.Listed.{each_at};
+ghost use Rattle.fb_why_kinds.specs.Unknown.{required_action, required_transition};
+ghost use Rattle.fb_why_kinds.specs.Unknowns.{unknown_in_action, unknown_in_state, unknown_names, unknown_variables, unmet_at};
 
-use crate::location::{ActionPart, TransitionPart};
+use crate::listed::push_unless;
+use crate::location::{ActionPart, Direction, TransitionPart, UnknownName};
 use crate::lookup::{has_port, is_called};
 use fb_check_names::PortKind;
 use fb_types::{Action, BasicType, EventPort, Name, Ports, State, Transition};
+use std::alloc::AllocError;
 
-/// The first name that is not a variable of the kind.
-fn unknown_variable(ports: &Ports, port_kind: PortKind, names: &[Name]) -> Option<usize>
-    ensures { MatchOption result (list_all (among (names_of_kind port_kind ports.now)) names.now ≡ true) (λ k. (n : Name) × (slice_get names.now k ≡ Some n) × (among (names_of_kind port_kind ports.now) n ≡ false)) }
-{
-    for (location, name) in names.iter().enumerate() {
-        if !has_port(ports, port_kind, name) {
-            return Some(location);
-        }
-    }
-    None
-}
-
-/// The first event with such a name in its WITH list, and the index of the name there.
-pub fn unknown_with(
+/// Adds the variables in the WITH list of an event that are not of the kind.
+fn push_variables(
+    found: &mut Vec<UnknownName>,
     ports: &Ports,
     port_kind: PortKind,
-    events: &[EventPort],
-) -> Option<(usize, usize)>
-    ensures { MatchOption result (list_all (λ e. list_all (among (names_of_kind port_kind ports.now)) e.with) events.now ≡ true) (λ r. (e : EventPort) × (slice_get events.now r.0 ≡ Some e) × ((n : Name) × (slice_get e.with r.1 ≡ Some n) × (among (names_of_kind port_kind ports.now) n ≡ false))) }
+    block: usize,
+    direction: Direction,
+    event: usize,
+    declared: &EventPort,
+) -> Result<(), AllocError>
+    ensures { IfOk result (λ _. found.new.items ≡ found.old.items ++ unknown_variables (names_of_kind port_kind ports.now) block direction event declared.now) }
 {
-    for (location, event) in events.iter().enumerate() {
-        if let Some(variable) = unknown_variable(ports, port_kind, event.with.as_slice()) {
-            return Some((location, variable));
-        }
+    let names = declared.with.as_slice();
+    for (variable, name) in names.iter().enumerate() {
+        let is_of_kind = has_port(ports, port_kind, name);
+        let location = UnknownName::With {
+            block,
+            direction,
+            event,
+            variable,
+        };
+        push_unless(found, is_of_kind, location)?;
     }
-    None
+    Ok(())
+}
+
+/// The same for all events of one direction of a block type.
+pub fn push_in_withs(
+    found: &mut Vec<UnknownName>,
+    ports: &Ports,
+    port_kind: PortKind,
+    block: usize,
+    direction: Direction,
+    events: &[EventPort],
+) -> Result<(), AllocError>
+    ensures { IfOk result (λ _. found.new.items ≡ found.old.items ++ each_at (unknown_variables (names_of_kind port_kind ports.now) block direction) events.now) }
+{
+    for (event, declared) in events.iter().enumerate() {
+        push_variables(found, ports, port_kind, block, direction, event, declared)?;
+    }
+    Ok(())
 }
 
 fn is_state(basic: &BasicType, name: &Name) -> bool
@@ -58,79 +73,143 @@ fn is_algorithm(basic: &BasicType, name: &Name) -> bool
     is_called(basic.algorithms.as_slice(), name)
 }
 
-/// The first unknown name of a transition.
-fn unknown_part(basic: &BasicType, transition: &Transition) -> Option<TransitionPart>
-    ensures { MatchOption result (transition_met basic.now transition.now ≡ true) (λ part. Unmet (required_transition basic.now transition.now part)) }
-{
-    if !is_state(basic, &transition.from) {
-        return Some(TransitionPart::From);
-    }
-    if !is_state(basic, &transition.to) {
-        return Some(TransitionPart::To);
-    }
-    match &transition.condition.event {
-        Some(event) if !has_port(&basic.ports, PortKind::EventInput, event) => {
-            Some(TransitionPart::Event)
-        }
-        _ => None,
-    }
-}
-
-/// The first transition with such a name, and the name.
-pub fn unknown_in_transitions(
+/// Adds the event of a transition, if it is unknown.
+fn push_event(
+    found: &mut Vec<UnknownName>,
     basic: &BasicType,
-    transitions: &[Transition],
-) -> Option<(usize, TransitionPart)>
-    ensures { MatchOption result (list_all (transition_met basic.now) transitions.now ≡ true) (λ r. (x : Transition) × (slice_get transitions.now r.0 ≡ Some x) × Unmet (required_transition basic.now x r.1)) }
+    block: usize,
+    transition: usize,
+    declared: &Transition,
+) -> Result<(), AllocError>
+    ensures { IfOk result (λ _. found.new.items ≡ found.old.items ++ unmet_at (required_transition basic.now declared.now part.Event) (location.Transition block transition part.Event)) }
 {
-    for (location, transition) in transitions.iter().enumerate() {
-        if let Some(part) = unknown_part(basic, transition) {
-            return Some((location, part));
-        }
-    }
-    None
+    let Some(event) = &declared.condition.event else {
+        return Ok(());
+    };
+    let is_event = has_port(&basic.ports, PortKind::EventInput, event);
+    let location = UnknownName::Transition {
+        block,
+        transition,
+        part: TransitionPart::Event,
+    };
+    push_unless(found, is_event, location)
 }
 
-/// The first name of an action that is unknown.
-fn unknown_action(basic: &BasicType, action: &Action) -> Option<ActionPart>
-    ensures { MatchOption result (action_met basic.now action.now ≡ true) (λ part. Unmet (required_action basic.now action.now part)) }
-{
-    if let Some(algorithm) = &action.algorithm {
-        if !is_algorithm(basic, algorithm) {
-            return Some(ActionPart::Algorithm);
-        }
-    }
-    match &action.output {
-        Some(output) if !has_port(&basic.ports, PortKind::EventOutput, output) => {
-            Some(ActionPart::Output)
-        }
-        _ => None,
-    }
-}
-
-/// The first action with such a name, and the name.
-fn unknown_in_actions(basic: &BasicType, actions: &[Action]) -> Option<(usize, ActionPart)>
-    ensures { MatchOption result (list_all (action_met basic.now) actions.now ≡ true) (λ r. (a : Action) × (slice_get actions.now r.0 ≡ Some a) × Unmet (required_action basic.now a r.1)) }
-{
-    for (location, action) in actions.iter().enumerate() {
-        if let Some(part) = unknown_action(basic, action) {
-            return Some((location, part));
-        }
-    }
-    None
-}
-
-/// The first state with such an action, the action, and the name.
-pub fn unknown_in_states(
+/// Adds the names of a transition that are unknown.
+pub fn push_names(
+    found: &mut Vec<UnknownName>,
     basic: &BasicType,
+    block: usize,
+    transition: usize,
+    declared: &Transition,
+) -> Result<(), AllocError>
+    ensures { IfOk result (λ _. found.new.items ≡ found.old.items ++ unknown_names basic.now block transition declared.now) }
+{
+    let from = UnknownName::Transition {
+        block,
+        transition,
+        part: TransitionPart::From,
+    };
+    push_unless(found, is_state(basic, &declared.from), from)?;
+    let to = UnknownName::Transition {
+        block,
+        transition,
+        part: TransitionPart::To,
+    };
+    push_unless(found, is_state(basic, &declared.to), to)?;
+    push_event(found, basic, block, transition, declared)
+}
+
+/// Adds the algorithm of an action, if it is unknown.
+fn push_algorithm(
+    found: &mut Vec<UnknownName>,
+    basic: &BasicType,
+    block: usize,
+    state: usize,
+    action: usize,
+    declared: &Action,
+) -> Result<(), AllocError>
+    ensures { IfOk result (λ _. found.new.items ≡ found.old.items ++ unmet_at (required_action basic.now declared.now actions.Algorithm) (location.Action block state action actions.Algorithm)) }
+{
+    let Some(algorithm) = &declared.algorithm else {
+        return Ok(());
+    };
+    let location = UnknownName::Action {
+        block,
+        state,
+        action,
+        part: ActionPart::Algorithm,
+    };
+    push_unless(found, is_algorithm(basic, algorithm), location)
+}
+
+/// Adds the output event of an action, if it is unknown.
+fn push_output(
+    found: &mut Vec<UnknownName>,
+    basic: &BasicType,
+    block: usize,
+    state: usize,
+    action: usize,
+    declared: &Action,
+) -> Result<(), AllocError>
+    ensures { IfOk result (λ _. found.new.items ≡ found.old.items ++ unmet_at (required_action basic.now declared.now actions.Output) (location.Action block state action actions.Output)) }
+{
+    let Some(output) = &declared.output else {
+        return Ok(());
+    };
+    let is_output = has_port(&basic.ports, PortKind::EventOutput, output);
+    let location = UnknownName::Action {
+        block,
+        state,
+        action,
+        part: ActionPart::Output,
+    };
+    push_unless(found, is_output, location)
+}
+
+/// Adds the names of an action that are unknown.
+fn push_in_action(
+    found: &mut Vec<UnknownName>,
+    basic: &BasicType,
+    block: usize,
+    state: usize,
+    action: usize,
+    declared: &Action,
+) -> Result<(), AllocError>
+    ensures { IfOk result (λ _. found.new.items ≡ found.old.items ++ unknown_in_action basic.now block state action declared.now) }
+{
+    push_algorithm(found, basic, block, state, action, declared)?;
+    push_output(found, basic, block, state, action, declared)
+}
+
+/// The same for the actions of a state.
+fn push_in_state(
+    found: &mut Vec<UnknownName>,
+    basic: &BasicType,
+    block: usize,
+    state: usize,
+    declared: &State,
+) -> Result<(), AllocError>
+    ensures { IfOk result (λ _. found.new.items ≡ found.old.items ++ unknown_in_state basic.now block state declared.now) }
+{
+    let actions = declared.actions.as_slice();
+    for (action, each) in actions.iter().enumerate() {
+        push_in_action(found, basic, block, state, action, each)?;
+    }
+    Ok(())
+}
+
+/// The same for all states of a basic type.
+pub fn push_in_states(
+    found: &mut Vec<UnknownName>,
+    basic: &BasicType,
+    block: usize,
     states: &[State],
-) -> Option<(usize, (usize, ActionPart))>
-    ensures { MatchOption result (list_all (actions_met basic.now) states.now ≡ true) (λ r. (s : State) × (slice_get states.now r.0 ≡ Some s) × ((a : Action) × (slice_get s.actions r.1.0 ≡ Some a) × Unmet (required_action basic.now a r.1.1))) }
+) -> Result<(), AllocError>
+    ensures { IfOk result (λ _. found.new.items ≡ found.old.items ++ each_at (unknown_in_state basic.now block) states.now) }
 {
-    for (location, state) in states.iter().enumerate() {
-        if let Some(found) = unknown_in_actions(basic, state.actions.as_slice()) {
-            return Some((location, found));
-        }
+    for (state, declared) in states.iter().enumerate() {
+        push_in_state(found, basic, block, state, declared)?;
     }
-    None
+    Ok(())
 }

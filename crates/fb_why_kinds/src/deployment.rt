@@ -1,75 +1,96 @@
 //! Unknown names in a deployment (E21): mapped instances and the ends of links.
 
-ghost use Rattle.std.specs.Prelude.{◌≡◌, MatchOption, Some, true, false, slice_get};
-ghost use Rattle.std.specs.List.{list_all};
-ghost use Rattle.fb_types.specs.Names.{Name};
-ghost use Rattle.fb_types.specs.declared.deploy.Link.{Link};
-ghost use Rattle.fb_types.specs.declared.deploy.ResourceEntry.{ResourceEntry};
-ghost use Rattle.fb_check_names.specs.Unknown.{DeploymentUnknown};
-ghost use Rattle.fb_why_kinds.specs.Unknown.{IsUnknownAt, are_sides_met, are_mapped, is_instance, is_resource, side_of};
+ghost use Rattle.std.specs.Prelude.{◌≡◌, ◌++◌, IfOk};
+ghost use Rattle.fb_why_kinds.specs.declared.location.UnknownName.TheVariants as location;
+ghost use Rattle.fb_why_kinds.specs.Listed.{each_at};
+ghost use Rattle.fb_why_kinds.specs.Unknowns.{unknown_in_deployment, unknown_mapped, unknown_sides};
 
+use crate::listed::push_unless;
 use crate::location::{Side, UnknownName};
 use crate::lookup::is_called;
-use fb_types::{Instance, Library, Link, Name, Plan, ResourceEntry};
+use fb_types::{Instance, Library, Link, Plan, ResourceEntry};
+use std::alloc::AllocError;
 
-/// The first name that is not an instance.
-fn unknown_name(instances: &[Instance], names: &[Name]) -> Option<usize>
-    ensures { MatchOption result (list_all (is_instance instances.now) names.now ≡ true) (λ k. (n : Name) × (slice_get names.now k ≡ Some n) × (is_instance instances.now n ≡ false)) }
+/// Adds the names in the list of a resource that are no instances.
+fn push_mapped(
+    found: &mut Vec<UnknownName>,
+    instances: &[Instance],
+    resource: usize,
+    declared: &ResourceEntry,
+) -> Result<(), AllocError>
+    ensures { IfOk result (λ _. found.new.items ≡ found.old.items ++ unknown_mapped instances.now resource declared.now) }
 {
-    for (location, name) in names.iter().enumerate() {
-        if !is_called(instances, name) {
-            return Some(location);
-        }
+    let names = declared.instances.as_slice();
+    for (instance, name) in names.iter().enumerate() {
+        let is_instance = is_called(instances, name);
+        push_unless(
+            found,
+            is_instance,
+            UnknownName::Mapped { resource, instance },
+        )?;
     }
-    None
+    Ok(())
 }
 
-/// The first resource that lists such a name, and the name.
-fn unknown_mapped(instances: &[Instance], resources: &[ResourceEntry]) -> Option<(usize, usize)>
-    ensures { MatchOption result (list_all (are_mapped instances.now) resources.now ≡ true) (λ r. (x : ResourceEntry) × (slice_get resources.now r.0 ≡ Some x) × ((n : Name) × (slice_get x.instances r.1 ≡ Some n) × (is_instance instances.now n ≡ false))) }
+/// The same for all resources.
+fn push_in_resources(
+    found: &mut Vec<UnknownName>,
+    instances: &[Instance],
+    resources: &[ResourceEntry],
+) -> Result<(), AllocError>
+    ensures { IfOk result (λ _. found.new.items ≡ found.old.items ++ each_at (unknown_mapped instances.now) resources.now) }
 {
-    for (location, resource) in resources.iter().enumerate() {
-        if let Some(instance) = unknown_name(instances, resource.instances.as_slice()) {
-            return Some((location, instance));
-        }
+    for (resource, declared) in resources.iter().enumerate() {
+        push_mapped(found, instances, resource, declared)?;
     }
-    None
+    Ok(())
 }
 
-/// The end of a link that is not a resource, the first one if both are not.
-fn unknown_side(resources: &[ResourceEntry], link: &Link) -> Option<Side>
-    ensures { MatchOption result (are_sides_met resources.now link.now ≡ true) (λ side. is_resource resources.now (side_of side link.now) ≡ false) }
+/// Adds the ends of a link that are no resources.
+fn push_sides(
+    found: &mut Vec<UnknownName>,
+    resources: &[ResourceEntry],
+    link: usize,
+    declared: &Link,
+) -> Result<(), AllocError>
+    ensures { IfOk result (λ _. found.new.items ≡ found.old.items ++ unknown_sides resources.now link declared.now) }
 {
-    if !is_called(resources, &link.from) {
-        return Some(Side::From);
-    }
-    if !is_called(resources, &link.to) {
-        return Some(Side::To);
-    }
-    None
+    let from = UnknownName::LinkEnd {
+        link,
+        side: Side::From,
+    };
+    push_unless(found, is_called(resources, &declared.from), from)?;
+    let to = UnknownName::LinkEnd {
+        link,
+        side: Side::To,
+    };
+    push_unless(found, is_called(resources, &declared.to), to)
 }
 
-/// The first link with such an end, and the end.
-fn unknown_link(resources: &[ResourceEntry], links: &[Link]) -> Option<(usize, Side)>
-    ensures { MatchOption result (list_all (are_sides_met resources.now) links.now ≡ true) (λ r. (l : Link) × (slice_get links.now r.0 ≡ Some l) × (is_resource resources.now (side_of r.1 l) ≡ false)) }
+/// The same for all links.
+fn push_in_links(
+    found: &mut Vec<UnknownName>,
+    resources: &[ResourceEntry],
+    links: &[Link],
+) -> Result<(), AllocError>
+    ensures { IfOk result (λ _. found.new.items ≡ found.old.items ++ each_at (unknown_sides resources.now) links.now) }
 {
-    for (location, link) in links.iter().enumerate() {
-        if let Some(side) = unknown_side(resources, link) {
-            return Some((location, side));
-        }
+    for (link, declared) in links.iter().enumerate() {
+        push_sides(found, resources, link, declared)?;
     }
-    None
+    Ok(())
 }
 
-/// Where a name of a deployment is unknown, if there is such a location.
-pub fn unknown_in_deployment(library: &Library, plan: &Plan) -> Option<UnknownName>
-    ensures { MatchOption result (¬ (DeploymentUnknown library.now plan.now)) (IsUnknownAt library.now plan.now) }
+/// Adds the unknown names of a deployment.
+pub fn push_in_deployment(
+    found: &mut Vec<UnknownName>,
+    library: &Library,
+    plan: &Plan,
+) -> Result<(), AllocError>
+    ensures { IfOk result (λ _. found.new.items ≡ found.old.items ++ unknown_in_deployment library.now plan.now) }
 {
     let instances = library.application.network.instances.as_slice();
     let resources = plan.resources.as_slice();
-    if let Some((resource, instance)) = unknown_mapped(instances, resources) {
-        return Some(UnknownName::Mapped { resource, instance });
-    }
-    let (link, side) = unknown_link(resources, plan.links.as_slice())?;
-    Some(UnknownName::LinkEnd { link, side })
+    push_in_resources(found, instances, resources)?;
+    push_in_links(found, resources, plan.links.as_slice())
 }

@@ -18,6 +18,7 @@ mod charts;
 mod deployment;
 pub mod kind_messages;
 pub mod laws;
+pub mod listed;
 pub mod location;
 pub mod lookup;
 pub mod mentions;
@@ -37,9 +38,9 @@ pub use location::{
     ActionPart, Direction, FlowKind, Misfit, Misjoin, Side, Site, StatementPart, TransitionPart,
     UnknownName, Variables,
 };
-pub use misfits::misfit_location;
-pub use misjoins::misjoin_location;
+pub use misfits::misfit_locations;
+pub use misjoins::misjoin_locations;
 pub use site_messages::push_instance;
-pub use unknown::unknown_location;
+pub use unknown::unknown_locations;
 pub use unknown_messages::unknown_message;
 pub use words::{Text, type_words};

@@ -1,36 +1,40 @@
-//! Where a declared value, a parameter, a guard or a statement has the wrong kind (E22).
+//! Where declared values, parameters, guards or statements have the wrong kind (E22).
 
-ghost use Rattle.std.specs.Prelude.{◌≡◌, IfOk, MatchOption, Some, true, false, slice_get};
-ghost use Rattle.std.specs.List.{list_all};
-ghost use Rattle.fb_types.specs.Kinds.{KindWrong, declared_right};
+ghost use Rattle.std.specs.Prelude.{◌≡◌, ◌++◌, [], All, IfOk};
+ghost use Rattle.fb_types.specs.Kinds.{KindWrong};
 ghost use Rattle.fb_types.specs.Flat.{kind_of};
 ghost use Rattle.fb_types.specs.Repeated as repeated;
-ghost use Rattle.fb_types.specs.declared.library.Algorithm.{Algorithm};
-ghost use Rattle.fb_types.specs.declared.library.BlockType.{BlockType};
-ghost use Rattle.fb_types.specs.declared.library.Transition.{Transition};
-ghost use Rattle.fb_types.specs.Syntax.{body_of};
-ghost use Rattle.fb_check_types.specs.Checks.{algorithm_right, chart_right, is_guard_right};
-ghost use Rattle.fb_why_kinds.specs.Misfits.{InitialIn, IsMisfitAt, MisfitAmong, are_initials_right, is_all_right};
-ghost use Rattle.fb_why_kinds.specs.Sites.{basic_at};
-ghost use Rattle.fb_why_kinds.specs.Statements.{WrongAmong, each_in_body};
+ghost use Rattle.fb_check_types.specs.Checks.{is_guard_right};
+ghost use Rattle.fb_why_kinds.specs.Listed.{each_at};
+ghost use Rattle.fb_why_kinds.specs.MisfitLists.{misfit_guard, misfit_initial, misfits_all, misfits_in_block, misfits_in_body, misfits_initial, misfits_inside};
+ghost use Rattle.fb_why_kinds.specs.Misfits.{IsMisfitAt};
 
-use crate::location::{Misfit, Site, StatementPart, Variables};
-use crate::parameters::misfit_in_network;
-use crate::statements::wrong_statement;
+use crate::listed::push_unless;
+use crate::location::{Misfit, Site, Variables};
+use crate::parameters::push_in_instances;
+use crate::statements::push_in_body;
 use fb_check_types::is_condition;
 use fb_types::{Algorithm, BasicType, BlockType, Library, Transition, Variable};
 use std::alloc::{AllocError, Global};
 
-/// The first of these variables that is declared with a value not of its type.
-fn wrong_among(variables: &[Variable]) -> Option<usize>
-    ensures { MatchOption result (list_all declared_right variables.now ≡ true) (MisfitAmong variables.now) }
+/// Adds the variables that are declared with a value not of their type.
+fn push_variables(
+    found: &mut Vec<Misfit>,
+    block: usize,
+    list: Variables,
+    variables: &[Variable],
+) -> Result<(), AllocError>
+    ensures { IfOk result (λ _. found.new.items ≡ found.old.items ++ each_at (misfit_initial block list) variables.now) }
 {
-    for (location, variable) in variables.iter().enumerate() {
-        if !variable.is_declared_right() {
-            return Some(location);
-        }
+    for (variable, declared) in variables.iter().enumerate() {
+        let location = Misfit::Initial {
+            block,
+            variables: list,
+            variable,
+        };
+        push_unless(found, declared.is_declared_right(), location)?;
     }
-    None
+    Ok(())
 }
 
 /// The internal variables of a block type.
@@ -43,19 +47,18 @@ pub(crate) fn internals_of(block: &BlockType) -> &[Variable]
     }
 }
 
-/// The first variable of a block type that is declared with such a value.
-fn wrong_initial(block: &BlockType) -> Option<(Variables, usize)>
-    ensures { MatchOption result (are_initials_right block.now ≡ true) (InitialIn block.now) }
+/// Adds the variables of a block type that are declared with such a value.
+fn push_initials(
+    found: &mut Vec<Misfit>,
+    block: usize,
+    declared: &BlockType,
+) -> Result<(), AllocError>
+    ensures { IfOk result (λ _. found.new.items ≡ found.old.items ++ misfits_initial block declared.now) }
 {
-    let ports = block.ports();
-    if let Some(location) = wrong_among(ports.inputs.as_slice()) {
-        return Some((Variables::Inputs, location));
-    }
-    if let Some(location) = wrong_among(ports.outputs.as_slice()) {
-        return Some((Variables::Outputs, location));
-    }
-    let location = wrong_among(internals_of(block))?;
-    Some((Variables::Internals, location))
+    let ports = declared.ports();
+    push_variables(found, block, Variables::Inputs, ports.inputs.as_slice())?;
+    push_variables(found, block, Variables::Outputs, ports.outputs.as_slice())?;
+    push_variables(found, block, Variables::Internals, internals_of(declared))
 }
 
 /// Whether the guard of a transition, if it has one, is a truth value.
@@ -68,106 +71,111 @@ fn is_guard_right(basic: &BasicType, transition: &Transition) -> bool
     }
 }
 
-/// The first of these transitions whose guard is not a truth value.
-fn wrong_guard(basic: &BasicType, transitions: &[Transition]) -> Option<usize>
-    ensures { MatchOption result (list_all (is_guard_right basic.now) transitions.now ≡ true) (λ k. (x : Transition) × (slice_get transitions.now k ≡ Some x) × (is_guard_right basic.now x ≡ false)) }
-{
-    for (location, transition) in transitions.iter().enumerate() {
-        if !is_guard_right(basic, transition) {
-            return Some(location);
-        }
-    }
-    None
-}
-
-/// The first of these algorithms with a wrong statement, and the statement with its wrong part.
-fn wrong_body(
-    alloc: Global,
+/// Adds the transitions whose guards are not truth values.
+fn push_guards(
+    found: &mut Vec<Misfit>,
     basic: &BasicType,
-    algorithms: &[Algorithm],
-) -> Result<Option<(usize, (usize, StatementPart))>, AllocError>
-    ensures { IfOk result (λ o. MatchOption o (list_all (algorithm_right basic.now) algorithms.now ≡ true) (λ r. (a : Algorithm) × (slice_get algorithms.now r.0 ≡ Some a) × WrongAmong basic.now (each_in_body false (body_of a.body)) r.1)) }
-{
-    for (location, algorithm) in algorithms.iter().enumerate() {
-        if let Some(found) = wrong_statement(alloc, basic, algorithm)? {
-            return Ok(Some((location, found)));
-        }
-    }
-    Ok(None)
-}
-
-/// Where a guard or a statement of a basic type is wrong.
-fn misfit_in_chart(
-    alloc: Global,
-    library: &Library,
     block: usize,
-    basic: &BasicType,
-) -> Result<Option<Misfit>, AllocError>
-    requires { basic_at library.now block ≡ Some basic.now }
-    ensures { IfOk result (λ o. MatchOption o (chart_right basic.now ≡ true) (IsMisfitAt library.now)) }
+    transitions: &[Transition],
+) -> Result<(), AllocError>
+    ensures { IfOk result (λ _. found.new.items ≡ found.old.items ++ each_at (misfit_guard basic.now block) transitions.now) }
 {
-    if let Some(transition) = wrong_guard(basic, basic.transitions.as_slice()) {
-        return Ok(Some(Misfit::Guard { block, transition }));
+    for (transition, declared) in transitions.iter().enumerate() {
+        let is_right = is_guard_right(basic, declared);
+        push_unless(found, is_right, Misfit::Guard { block, transition })?;
     }
-    match wrong_body(alloc, basic, basic.algorithms.as_slice())? {
-        Some((algorithm, (statement, part))) => Ok(Some(Misfit::Statement {
-            block,
-            algorithm,
-            statement,
-            part,
-        })),
-        None => Ok(None),
-    }
+    Ok(())
 }
 
-/// Where something in a block type is wrong.
-fn misfit_in_block(
+/// Adds the wrong statements of algorithms.
+fn push_in_bodies(
     alloc: Global,
+    found: &mut Vec<Misfit>,
+    basic: &BasicType,
+    block: usize,
+    algorithms: &[Algorithm],
+) -> Result<(), AllocError>
+    ensures { IfOk result (λ _. found.new.items ≡ found.old.items ++ each_at (misfits_in_body basic.now block) algorithms.now) }
+{
+    for (algorithm, declared) in algorithms.iter().enumerate() {
+        push_in_body(alloc, found, basic, block, algorithm, declared)?;
+    }
+    Ok(())
+}
+
+/// Adds what is wrong inside a block type, after its variables.
+fn push_inside(
+    alloc: Global,
+    found: &mut Vec<Misfit>,
     library: &Library,
     block: usize,
     declared: &BlockType,
-) -> Result<Option<Misfit>, AllocError>
-    requires { slice_get library.now.blocks block ≡ Some declared.now }
-    ensures { IfOk result (λ o. MatchOption o (is_all_right library.now declared.now ≡ true) (IsMisfitAt library.now)) }
+) -> Result<(), AllocError>
+    ensures { IfOk result (λ _. found.new.items ≡ found.old.items ++ misfits_inside library.now block declared.now) }
 {
-    if let Some((variables, variable)) = wrong_initial(declared) {
-        return Ok(Some(Misfit::Initial {
-            block,
-            variables,
-            variable,
-        }));
-    }
     match declared {
-        BlockType::Basic(basic) => misfit_in_chart(alloc, library, block, basic),
-        BlockType::Composite(composite) => {
-            Ok(misfit_in_network(library, Site::Inside(block), &composite.network))
+        BlockType::Basic(basic) => {
+            push_guards(found, basic, block, basic.transitions.as_slice())?;
+            push_in_bodies(alloc, found, basic, block, basic.algorithms.as_slice())
         }
+        BlockType::Composite(composite) => push_in_instances(
+            found,
+            library,
+            Site::Inside(block),
+            composite.network.instances.as_slice(),
+        ),
     }
 }
 
-/// Where something in the block types is wrong.
-fn misfit_in_some(
+/// Adds what is wrong in a block type.
+fn push_in_block(
     alloc: Global,
+    found: &mut Vec<Misfit>,
+    library: &Library,
+    block: usize,
+    declared: &BlockType,
+) -> Result<(), AllocError>
+    ensures { IfOk result (λ _. found.new.items ≡ found.old.items ++ misfits_in_block library.now block declared.now) }
+{
+    push_initials(found, block, declared)?;
+    push_inside(alloc, found, library, block, declared)
+}
+
+/// The same for block types of a declaration.
+fn push_in_blocks(
+    alloc: Global,
+    found: &mut Vec<Misfit>,
     library: &Library,
     blocks: &[BlockType],
-) -> Result<Option<Misfit>, AllocError>
-    requires { blocks.now ≡ library.now.blocks }
-    ensures { IfOk result (λ o. MatchOption o (list_all (is_all_right library.now) blocks.now ≡ true) (IsMisfitAt library.now)) }
+) -> Result<(), AllocError>
+    ensures { IfOk result (λ _. found.new.items ≡ found.old.items ++ each_at (misfits_in_block library.now) blocks.now) }
 {
-    for (location, block) in blocks.iter().enumerate() {
-        if let Some(found) = misfit_in_block(alloc, library, location, block)? {
-            return Ok(Some(found));
-        }
+    for (block, declared) in blocks.iter().enumerate() {
+        push_in_block(alloc, found, library, block, declared)?;
     }
-    Ok(None)
+    Ok(())
 }
 
-/// A location at which a value, an expression or a statement has the wrong kind, or `None` if there is none.
-pub fn misfit_location(alloc: Global, library: &Library) -> Result<Option<Misfit>, AllocError>
-    ensures { IfOk result (λ o. MatchOption o (¬ (KindWrong library.now)) (IsMisfitAt library.now)) }
+/// The list of all such locations.
+fn all_misfits(alloc: Global, library: &Library) -> Result<Vec<Misfit>, AllocError>
+    ensures { IfOk result (λ found. found.items ≡ misfits_all library.now) }
 {
-    if let Some(location) = misfit_in_some(alloc, library, library.blocks.as_slice())? {
-        return Ok(Some(location));
-    }
-    Ok(misfit_in_network(library, Site::Application, &library.application.network))
+    let mut found = Vec::new(alloc);
+    push_in_blocks(alloc, &mut found, library, library.blocks.as_slice())?;
+    let instances = library.application.network.instances.as_slice();
+    push_in_instances(&mut found, library, Site::Application, instances)?;
+    Ok(found)
+}
+
+/// All locations at which a value, an expression or a statement has the wrong kind, in the order of the declaration.
+///
+/// # Errors
+///
+/// When memory runs out.
+pub fn misfit_locations(alloc: Global, library: &Library) -> Result<Vec<Misfit>, AllocError>
+    ensures listed { IfOk result (λ found. found.items ≡ misfits_all library.now) }
+    ensures each { IfOk result (λ found. All (IsMisfitAt library.now) found.items) }
+    ensures none { IfOk result (λ found. found.items ≡ [] → ¬ (KindWrong library.now)) }
+{
+    all_misfits(alloc, library)
 }

@@ -1,20 +1,21 @@
 //! Data connections to a type that does not contain all values of the source type (E23).
 
-ghost use Rattle.std.specs.Prelude.{◌≡◌, MatchOption, Some, true, false, slice_get};
-ghost use Rattle.std.specs.List.{list_all};
+ghost use Rattle.std.specs.Prelude.{◌≡◌, ◌++◌, [], All, IfOk};
 ghost use Rattle.fb_types.specs.Joined as joined;
 ghost use Rattle.fb_types.specs.Joined.{OutOfRange};
-ghost use Rattle.fb_types.specs.declared.library.BlockType.{BlockType};
-ghost use Rattle.fb_types.specs.declared.library.Connection.{Connection};
+ghost use Rattle.fb_why_kinds.specs.Listed.{each_at};
+ghost use Rattle.fb_why_kinds.specs.MisfitLists.{misjoin_at, misjoins_all, misjoins_in, misjoins_inside};
+ghost use Rattle.fb_why_kinds.specs.Misjoins.{IsMisjoinedAt, is_joined};
 ghost use Rattle.fb_why_kinds.specs.Sites.{placed};
-ghost use Rattle.fb_why_kinds.specs.Misjoins.{IsMisjoinedAt, IsMisjoinedInside, MisjoinedIn, are_joined, are_joined_inside, is_joined};
 
+use crate::listed::push_unless;
 use crate::location::{Misjoin, Site};
 use crate::networks::LocatedNetwork;
 use crate::types::type_named;
 use fb_check_networks::is_within;
 use fb_check_types::port_type;
 use fb_types::{BlockType, Connection, Library, PortName, Ty, instance_named};
+use std::alloc::{AllocError, Global};
 
 /// The type of the variable at an end of a data connection.
 pub(crate) fn type_at_end(library: &Library, scope: &LocatedNetwork, end: &PortName) -> Option<Ty>
@@ -45,74 +46,99 @@ fn is_joined(library: &Library, scope: &LocatedNetwork, connection: &Connection)
     }
 }
 
-/// The first of these data connections that leads out of range.
-fn first_misjoined(
+/// Adds the data connections of a network that lead out of range.
+fn push_in_connections(
+    found: &mut Vec<Misjoin>,
     library: &Library,
+    site: Site,
     scope: &LocatedNetwork,
     connections: &[Connection],
-) -> Option<usize>
-    ensures { MatchOption result (list_all (is_joined library.now (placed scope.now)) connections.now ≡ true) (λ k. (c : Connection) × (slice_get connections.now k ≡ Some c) × (is_joined library.now (placed scope.now) c ≡ false)) }
+) -> Result<(), AllocError>
+    ensures { IfOk result (λ _. found.new.items ≡ found.old.items ++ each_at (misjoin_at library.now site (placed scope.now)) connections.now) }
 {
-    for (location, connection) in connections.iter().enumerate() {
-        if !is_joined(library, scope, connection) {
-            return Some(location);
-        }
+    for (connection, declared) in connections.iter().enumerate() {
+        let is_in_range = is_joined(library, scope, declared);
+        push_unless(found, is_in_range, Misjoin { site, connection })?;
     }
-    None
+    Ok(())
 }
 
-/// The first data connection of a network that leads out of range.
-fn misjoined_in(library: &Library, scope: &LocatedNetwork) -> Option<usize>
-    ensures { MatchOption result (are_joined library.now (placed scope.now) ≡ true) (MisjoinedIn library.now (placed scope.now)) }
+/// The same for a network.
+fn push_in_network(
+    found: &mut Vec<Misjoin>,
+    library: &Library,
+    site: Site,
+    scope: &LocatedNetwork,
+) -> Result<(), AllocError>
+    ensures { IfOk result (λ _. found.new.items ≡ found.old.items ++ misjoins_in library.now site (placed scope.now)) }
 {
-    first_misjoined(library, scope, scope.network.data_connections.as_slice())
+    push_in_connections(
+        found,
+        library,
+        site,
+        scope,
+        scope.network.data_connections.as_slice(),
+    )
 }
 
-/// The first data connection inside a block type that leads out of range.
-fn misjoined_inside(library: &Library, block: &BlockType) -> Option<usize>
-    ensures { MatchOption result (are_joined_inside library.now block.now ≡ true) (IsMisjoinedInside library.now block.now) }
+/// The same for the network inside a block type, if there is one.
+fn push_inside(
+    found: &mut Vec<Misjoin>,
+    library: &Library,
+    block: usize,
+    declared: &BlockType,
+) -> Result<(), AllocError>
+    ensures { IfOk result (λ _. found.new.items ≡ found.old.items ++ misjoins_inside library.now block declared.now) }
 {
-    match block {
-        BlockType::Basic(_) => None,
+    match declared {
+        BlockType::Basic(_) => Ok(()),
         BlockType::Composite(composite) => {
             let scope = LocatedNetwork {
                 composite: Some(composite),
                 network: &composite.network,
             };
-            misjoined_in(library, &scope)
+            push_in_network(found, library, Site::Inside(block), &scope)
         }
     }
 }
 
-/// The first block type with such a data connection inside, and the connection.
-fn misjoined_in_some(library: &Library, blocks: &[BlockType]) -> Option<(usize, usize)>
-    ensures { MatchOption result (list_all (are_joined_inside library.now) blocks.now ≡ true) (λ r. (b : BlockType) × (slice_get blocks.now r.0 ≡ Some b) × IsMisjoinedInside library.now b r.1) }
+/// The same for block types of a declaration.
+fn push_in_blocks(
+    found: &mut Vec<Misjoin>,
+    library: &Library,
+    blocks: &[BlockType],
+) -> Result<(), AllocError>
+    ensures { IfOk result (λ _. found.new.items ≡ found.old.items ++ each_at (misjoins_inside library.now) blocks.now) }
 {
-    for (location, block) in blocks.iter().enumerate() {
-        if let Some(connection) = misjoined_inside(library, block) {
-            return Some((location, connection));
-        }
+    for (block, declared) in blocks.iter().enumerate() {
+        push_inside(found, library, block, declared)?;
     }
-    None
+    Ok(())
 }
 
-/// A data connection to a type that does not contain all values of the source type, or `None` if there is none.
-pub fn misjoin_location(library: &Library) -> Option<Misjoin>
-    ensures { MatchOption result (¬ (OutOfRange library.now)) (IsMisjoinedAt library.now) }
+/// The list of all such data connections.
+fn all_misjoins(alloc: Global, library: &Library) -> Result<Vec<Misjoin>, AllocError>
+    ensures { IfOk result (λ found. found.items ≡ misjoins_all library.now) }
 {
+    let mut found = Vec::new(alloc);
+    push_in_blocks(&mut found, library, library.blocks.as_slice())?;
     let scope = LocatedNetwork {
         composite: None,
         network: &library.application.network,
     };
-    if let Some(connection) = misjoined_in(library, &scope) {
-        return Some(Misjoin {
-            site: Site::Application,
-            connection,
-        });
-    }
-    let (block, connection) = misjoined_in_some(library, library.blocks.as_slice())?;
-    Some(Misjoin {
-        site: Site::Inside(block),
-        connection,
-    })
+    push_in_network(&mut found, library, Site::Application, &scope)?;
+    Ok(found)
+}
+
+/// All data connections to a type that does not contain all values of the source type, in the order of the declaration.
+///
+/// # Errors
+///
+/// When memory runs out.
+pub fn misjoin_locations(alloc: Global, library: &Library) -> Result<Vec<Misjoin>, AllocError>
+    ensures listed { IfOk result (λ found. found.items ≡ misjoins_all library.now) }
+    ensures each { IfOk result (λ found. All (IsMisjoinedAt library.now) found.items) }
+    ensures none { IfOk result (λ found. found.items ≡ [] → ¬ (OutOfRange library.now)) }
+{
+    all_misjoins(alloc, library)
 }

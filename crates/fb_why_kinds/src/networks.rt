@@ -1,26 +1,24 @@
 //! Unknown names in networks (E21): types, parameters and ends of connections.
 
-ghost use Rattle.std.specs.Prelude.{◌≡◌, MatchOption, Some, true, false, slice_get, option_map};
-ghost use Rattle.std.specs.List.{list_all};
-ghost use Rattle.std.specs.Option.{option_copied};
+ghost use Rattle.std.specs.Prelude.{◌≡◌, ◌++◌, IfOk};
 ghost use Rattle.fb_types.specs.Blocks.{among};
 ghost use Rattle.fb_types.specs.Unknown as spec;
 ghost use Rattle.fb_types.specs.Unknown.{data_ins};
-ghost use Rattle.fb_types.specs.declared.library.Connection.{Connection};
-ghost use Rattle.fb_types.specs.declared.library.Instance.{Instance};
-ghost use Rattle.fb_types.specs.declared.library.Parameter.{Parameter};
-ghost use Rattle.fb_check_names.specs.Unknown.{NetworkUnknown};
-ghost use Rattle.fb_why_kinds.specs.Sites.{connections_of, network_at, placed};
+ghost use Rattle.fb_why_kinds.specs.Sites.{placed};
 ghost use Rattle.fb_check_names.specs.PortKinds.{names_of_kind};
-ghost use Rattle.fb_why_kinds.specs.declared.location.UnknownName.TheVariants.{End};
-ghost use Rattle.fb_why_kinds.specs.Unknown.{IsUnknownIn, UnmetParameter, are_ends_known, are_parameters_met, inputs_of, is_side_known, is_type_met, outputs_of};
+ghost use Rattle.fb_why_kinds.specs.declared.location.UnknownName.TheVariants as location;
+ghost use Rattle.fb_why_kinds.specs.Listed.{each_at, unless};
+ghost use Rattle.fb_why_kinds.specs.Unknown.{inputs_of, is_side_known, outputs_of};
+ghost use Rattle.fb_why_kinds.specs.Unknowns.{unknown_ends, unknown_in_instance, unknown_in_network};
 
+use crate::listed::push_unless;
 use crate::location::{FlowKind, Side, Site, UnknownName};
 use crate::lookup::{BlockTypes, has_port};
 use fb_check_names::PortKind;
 use fb_types::{
     CompositeType, Connection, Instance, Network, Parameter, PortName, Ports, instance_named,
 };
+use std::alloc::AllocError;
 
 /// A network with the composite type that contains it, or none for the application's.
 #[derive(Clone, Copy)]
@@ -31,48 +29,65 @@ pub struct LocatedNetwork<'a> {
     pub network: &'a Network,
 }
 
-/// The first instance whose type is unknown.
-fn unknown_type(types: &BlockTypes, instances: &[Instance]) -> Option<usize>
-    ensures { MatchOption result (list_all (is_type_met types.now.library.now) instances.now ≡ true) (λ k. (i : Instance) × (slice_get instances.now k ≡ Some i) × (is_type_met types.now.library.now i ≡ false)) }
+/// Adds the parameters that are not data inputs of the interface.
+fn push_parameters(
+    found: &mut Vec<UnknownName>,
+    ports: &Ports,
+    site: Site,
+    instance: usize,
+    parameters: &[Parameter],
+) -> Result<(), AllocError>
+    ensures { IfOk result (λ _. found.new.items ≡ found.old.items ++ each_at (λ k x. unless (among (data_ins ports.now) x.name) (location.Parameter site instance k)) parameters.now) }
 {
-    for (location, instance) in instances.iter().enumerate() {
-        if !types.is_type(&instance.block_type) {
-            return Some(location);
-        }
+    for (parameter, declared) in parameters.iter().enumerate() {
+        let is_input = has_port(ports, PortKind::Input, &declared.name);
+        let location = UnknownName::Parameter {
+            site,
+            instance,
+            parameter,
+        };
+        push_unless(found, is_input, location)?;
     }
-    None
+    Ok(())
 }
 
-/// The first parameter that is not a data input of the interface.
-fn unknown_input(ports: &Ports, parameters: &[Parameter]) -> Option<usize>
-    ensures { MatchOption result (list_all (λ x. among (data_ins ports.now) x.name) parameters.now ≡ true) (λ k. (x : Parameter) × (slice_get parameters.now k ≡ Some x) × (among (data_ins ports.now) x.name ≡ false)) }
+/// Adds the type of an instance and its parameters, those that are unknown. If the type is, its parameters are not added.
+fn push_in_instance(
+    found: &mut Vec<UnknownName>,
+    types: &BlockTypes,
+    site: Site,
+    instance: usize,
+    declared: &Instance,
+) -> Result<(), AllocError>
+    ensures { IfOk result (λ _. found.new.items ≡ found.old.items ++ unknown_in_instance types.now.library.now site instance declared.now) }
 {
-    for (location, parameter) in parameters.iter().enumerate() {
-        if !has_port(ports, PortKind::Input, &parameter.name) {
-            return Some(location);
-        }
+    let is_type = types.is_type(&declared.block_type);
+    push_unless(found, is_type, UnknownName::InstanceType { site, instance })?;
+    match types.ports_named(&declared.block_type) {
+        Some(ports) => push_parameters(
+            found,
+            ports,
+            site,
+            instance,
+            declared.parameters.as_slice(),
+        ),
+        None => Ok(()),
     }
-    None
 }
 
-/// The first parameter of an instance that is not a data input of its type. If the type is unknown there is none.
-fn unknown_parameter(types: &BlockTypes, instance: &Instance) -> Option<usize>
-    ensures { MatchOption result (are_parameters_met types.now.library.now instance.now ≡ true) (UnmetParameter types.now.library.now instance.now) }
+/// The same for all instances of a network.
+fn push_in_instances(
+    found: &mut Vec<UnknownName>,
+    types: &BlockTypes,
+    site: Site,
+    instances: &[Instance],
+) -> Result<(), AllocError>
+    ensures { IfOk result (λ _. found.new.items ≡ found.old.items ++ each_at (unknown_in_instance types.now.library.now site) instances.now) }
 {
-    let ports = types.ports_named(&instance.block_type)?;
-    unknown_input(ports, instance.parameters.as_slice())
-}
-
-/// The first instance with such a parameter, and the parameter.
-fn unknown_parameters(types: &BlockTypes, instances: &[Instance]) -> Option<(usize, usize)>
-    ensures { MatchOption result (list_all (are_parameters_met types.now.library.now) instances.now ≡ true) (λ r. (i : Instance) × (slice_get instances.now r.0 ≡ Some i) × UnmetParameter types.now.library.now i r.1) }
-{
-    for (location, instance) in instances.iter().enumerate() {
-        if let Some(parameter) = unknown_parameter(types, instance) {
-            return Some((location, parameter));
-        }
+    for (instance, declared) in instances.iter().enumerate() {
+        push_in_instance(found, types, site, instance, declared)?;
     }
-    None
+    Ok(())
 }
 
 /// Whether an end is among the ports of the one kind at a component, or of the other at the boundary.
@@ -137,43 +152,47 @@ fn is_side_known(
     }
 }
 
-/// The end of a connection that is unknown, the first one if both are.
-fn unknown_side(
+/// Adds the ends of a connection that are unknown.
+fn push_ends(
+    found: &mut Vec<UnknownName>,
     types: &BlockTypes,
+    site: Site,
     scope: &LocatedNetwork,
     flow: FlowKind,
-    connection: &Connection,
-) -> Option<Side>
-    ensures { MatchOption result (are_ends_known types.now.library.now (placed scope.now) flow connection.now ≡ true) (λ side. is_side_known types.now.library.now (placed scope.now) flow side connection.now ≡ false) }
+    connection: usize,
+    declared: &Connection,
+) -> Result<(), AllocError>
+    ensures { IfOk result (λ _. found.new.items ≡ found.old.items ++ unknown_ends types.now.library.now site (placed scope.now) flow connection declared.now) }
 {
-    if !is_side_known(types, scope, flow, Side::From, connection) {
-        return Some(Side::From);
-    }
-    if !is_side_known(types, scope, flow, Side::To, connection) {
-        return Some(Side::To);
-    }
-    None
+    let is_from_known = is_side_known(types, scope, flow, Side::From, declared);
+    push_unless(
+        found,
+        is_from_known,
+        end(site, flow, connection, Side::From),
+    )?;
+    let is_to_known = is_side_known(types, scope, flow, Side::To, declared);
+    push_unless(found, is_to_known, end(site, flow, connection, Side::To))
 }
 
-/// The first connection with an unknown end, and the end.
-fn unknown_end(
+/// The same for connections of a network that carry the same.
+fn push_in_connections(
+    found: &mut Vec<UnknownName>,
     types: &BlockTypes,
+    site: Site,
     scope: &LocatedNetwork,
     flow: FlowKind,
     connections: &[Connection],
-) -> Option<(usize, Side)>
-    ensures { MatchOption result (list_all (are_ends_known types.now.library.now (placed scope.now) flow) connections.now ≡ true) (λ r. (c : Connection) × (slice_get connections.now r.0 ≡ Some c) × (is_side_known types.now.library.now (placed scope.now) flow r.1 c ≡ false)) }
+) -> Result<(), AllocError>
+    ensures { IfOk result (λ _. found.new.items ≡ found.old.items ++ each_at (unknown_ends types.now.library.now site (placed scope.now) flow) connections.now) }
 {
-    for (location, connection) in connections.iter().enumerate() {
-        if let Some(side) = unknown_side(types, scope, flow, connection) {
-            return Some((location, side));
-        }
+    for (connection, declared) in connections.iter().enumerate() {
+        push_ends(found, types, site, scope, flow, connection, declared)?;
     }
-    None
+    Ok(())
 }
 
 fn end(site: Site, flow: FlowKind, connection: usize, side: Side) -> UnknownName
-    ensures { result ≡ End site flow connection side }
+    ensures { result ≡ location.End site flow connection side }
 {
     UnknownName::End {
         site,
@@ -183,32 +202,19 @@ fn end(site: Site, flow: FlowKind, connection: usize, side: Side) -> UnknownName
     }
 }
 
-/// Where a name of a network is unknown, if there is such a location.
-pub fn unknown_in_network(
+/// Adds the names of a network that are unknown.
+pub fn push_in_network(
+    found: &mut Vec<UnknownName>,
     types: &BlockTypes,
     site: Site,
     scope: &LocatedNetwork,
-) -> Option<UnknownName>
-    requires { network_at types.now.library.now site ≡ Some (placed scope.now) }
-    ensures { MatchOption result (¬ (NetworkUnknown types.now.library.now (placed scope.now))) (IsUnknownIn types.now.library.now) }
+) -> Result<(), AllocError>
+    ensures { IfOk result (λ _. found.new.items ≡ found.old.items ++ unknown_in_network types.now.library.now site (placed scope.now)) }
 {
     let network = scope.network;
-    let instances = network.instances.as_slice();
-    if let Some(instance) = unknown_type(types, instances) {
-        return Some(UnknownName::InstanceType { site, instance });
-    }
-    if let Some((instance, parameter)) = unknown_parameters(types, instances) {
-        return Some(UnknownName::Parameter {
-            site,
-            instance,
-            parameter,
-        });
-    }
+    push_in_instances(found, types, site, network.instances.as_slice())?;
     let events = network.event_connections.as_slice();
-    if let Some((connection, side)) = unknown_end(types, scope, FlowKind::Events, events) {
-        return Some(end(site, FlowKind::Events, connection, side));
-    }
+    push_in_connections(found, types, site, scope, FlowKind::Events, events)?;
     let data = network.data_connections.as_slice();
-    let (connection, side) = unknown_end(types, scope, FlowKind::Data, data)?;
-    Some(end(site, FlowKind::Data, connection, side))
+    push_in_connections(found, types, site, scope, FlowKind::Data, data)
 }

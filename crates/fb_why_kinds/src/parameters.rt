@@ -1,18 +1,18 @@
 //! Parameters of instances that are not values of their inputs' types (E22).
 
-ghost use Rattle.std.specs.Prelude.{◌≡◌, MatchOption, Some, true, false, slice_get};
-ghost use Rattle.std.specs.List.{list_all};
+ghost use Rattle.std.specs.Prelude.{◌≡◌, ◌++◌, IfOk};
 ghost use Rattle.fb_types.specs.Blocks.{ports_of};
-ghost use Rattle.fb_types.specs.Kinds.{parameter_right, parameters_right};
-ghost use Rattle.fb_types.specs.declared.library.Instance.{Instance};
-ghost use Rattle.fb_types.specs.declared.library.Parameter.{Parameter};
-ghost use Rattle.fb_why_kinds.specs.Misfits.{IsMisfitAt, IsParameterWrong, ParameterAmong};
-ghost use Rattle.fb_why_kinds.specs.Sites.{IsNetworkAt};
+ghost use Rattle.fb_types.specs.Kinds.{parameter_right};
+ghost use Rattle.fb_why_kinds.specs.declared.location.Misfit.TheVariants as misfit;
+ghost use Rattle.fb_why_kinds.specs.Listed.{each_at, unless};
+ghost use Rattle.fb_why_kinds.specs.MisfitLists.{misfit_parameters, misfits_in_network};
 ghost use Rattle.fb_why_kinds.specs.Types.{meant};
 
+use crate::listed::push_unless;
 use crate::location::{Misfit, Site};
 use crate::types::{Kind, type_named};
-use fb_types::{Instance, Library, Network, Parameter};
+use fb_types::{Instance, Library, Parameter};
+use std::alloc::AllocError;
 
 /// Whether a parameter is a value of the type of the input that it sets, if the type has the input.
 fn is_right(kind: Kind, parameter: &Parameter) -> bool
@@ -24,47 +24,54 @@ fn is_right(kind: Kind, parameter: &Parameter) -> bool
     }
 }
 
-/// The first of these parameters that is not.
-fn first_wrong(kind: Kind, parameters: &[Parameter]) -> Option<usize>
-    ensures { MatchOption result (list_all (parameter_right (ports_of (meant kind.entry))) parameters.now ≡ true) (λ k. (x : Parameter) × (slice_get parameters.now k ≡ Some x) × (parameter_right (ports_of (meant kind.entry)) x ≡ false)) }
+/// Adds the parameters of an instance that are not.
+fn push_parameters(
+    found: &mut Vec<Misfit>,
+    kind: Kind,
+    site: Site,
+    instance: usize,
+    parameters: &[Parameter],
+) -> Result<(), AllocError>
+    ensures { IfOk result (λ _. found.new.items ≡ found.old.items ++ each_at (λ p v. unless (parameter_right (ports_of (meant kind.entry)) v) (misfit.Parameter site instance p)) parameters.now) }
 {
-    for (location, parameter) in parameters.iter().enumerate() {
-        if !is_right(kind, parameter) {
-            return Some(location);
-        }
+    for (parameter, declared) in parameters.iter().enumerate() {
+        let location = Misfit::Parameter {
+            site,
+            instance,
+            parameter,
+        };
+        push_unless(found, is_right(kind, declared), location)?;
     }
-    None
+    Ok(())
 }
 
-/// The first parameter of an instance that is not.
-fn wrong_parameter(library: &Library, instance: &Instance) -> Option<usize>
-    ensures { MatchOption result (parameters_right library.now instance.now ≡ true) (IsParameterWrong library.now instance.now) }
+/// The same, by the type of the instance.
+fn push_in_instance(
+    found: &mut Vec<Misfit>,
+    library: &Library,
+    site: Site,
+    instance: usize,
+    declared: &Instance,
+) -> Result<(), AllocError>
+    ensures { IfOk result (λ _. found.new.items ≡ found.old.items ++ misfit_parameters library.now site instance declared.now) }
 {
-    let kind = type_named(library, &instance.block_type)?;
-    first_wrong(kind, instance.parameters.as_slice())
-}
-
-/// The first of these instances with such a parameter, and the parameter.
-fn wrong_in_instances(library: &Library, instances: &[Instance]) -> Option<(usize, usize)>
-    ensures { MatchOption result (list_all (parameters_right library.now) instances.now ≡ true) (ParameterAmong library.now instances.now) }
-{
-    for (location, instance) in instances.iter().enumerate() {
-        if let Some(parameter) = wrong_parameter(library, instance) {
-            return Some((location, parameter));
-        }
+    match type_named(library, &declared.block_type) {
+        Some(kind) => push_parameters(found, kind, site, instance, declared.parameters.as_slice()),
+        None => Ok(()),
     }
-    None
 }
 
-/// Where a parameter in a network is not a value of its input's type.
-pub fn misfit_in_network(library: &Library, site: Site, network: &Network) -> Option<Misfit>
-    requires { IsNetworkAt library.now site network.now }
-    ensures { MatchOption result (list_all (parameters_right library.now) network.now.instances ≡ true) (IsMisfitAt library.now) }
+/// The same for the instances of a network.
+pub fn push_in_instances(
+    found: &mut Vec<Misfit>,
+    library: &Library,
+    site: Site,
+    instances: &[Instance],
+) -> Result<(), AllocError>
+    ensures { IfOk result (λ _. found.new.items ≡ found.old.items ++ misfits_in_network library.now site instances.now) }
 {
-    let (instance, parameter) = wrong_in_instances(library, network.instances.as_slice())?;
-    Some(Misfit::Parameter {
-        site,
-        instance,
-        parameter,
-    })
+    for (instance, declared) in instances.iter().enumerate() {
+        push_in_instance(found, library, site, instance, declared)?;
+    }
+    Ok(())
 }

@@ -1,14 +1,16 @@
-//! The first statement of an algorithm with a part of the wrong kind (IEC 61131-3, 7.3.3).
+//! Statements of algorithms, and those with a part of the wrong kind (IEC 61131-3, 7.3.3).
 
-ghost use Rattle.std.specs.Prelude.{◌≡◌, ◌∷◌, ◌++◌, [], IfOk, MatchOption, true, false};
-ghost use Rattle.std.specs.List.{list_all};
+ghost use Rattle.std.specs.Prelude.{◌≡◌, ◌∷◌, ◌++◌, [], IfOk, true, false};
 ghost use Rattle.fb_types.specs.Kinds.{context_in};
 ghost use Rattle.fb_types.specs.Syntax.{Assign, For, body_of, expr_of, no_stmt, stmt_of, step_of};
-ghost use Rattle.fb_check_types.specs.Checks.{algorithm_right, in_place};
+ghost use Rattle.fb_check_types.specs.Checks.{in_place};
 ghost use Rattle.fb_check_types.specs.Trees.{all_of, branches_of, choices_of};
-ghost use Rattle.fb_why_kinds.specs.Statements.{WrongAmong, all_standing, choice_right, conditions_right, each_in_body, each_in_branches, each_in_choices, each_inside, own_right, part_right, stands_right, standing_of};
+ghost use Rattle.fb_why_kinds.specs.Listed.{each_at, unless};
+ghost use Rattle.fb_why_kinds.specs.MisfitLists.{misfits_in_body, misfits_in_statement, part_at, wrong_choices, wrong_control, wrong_parts};
+ghost use Rattle.fb_why_kinds.specs.Statements.{all_standing, each_in_body, each_in_branches, each_in_choices, each_inside, standing_of};
 
-use crate::location::StatementPart;
+use crate::listed::push_unless;
+use crate::location::{Misfit, StatementPart};
 use crate::types::is_input;
 use fb_check_types::{
     Typing, are_same, is_condition, is_step_whole, is_value_kind, is_whole, value_kind_of_type,
@@ -115,121 +117,163 @@ pub fn all_statements(alloc: Global, body: &Body) -> Result<Vec<Standing>, Alloc
     Ok(all)
 }
 
-/// The first condition of IF and its ELSIFs that is not a truth value.
-fn wrong_choice(basic: &BasicType, choices: &[Choice]) -> Option<usize>
-    ensures { MatchOption result (conditions_right (context_in basic.now) (choices_of choices.now) ≡ true) (λ k. choice_right (context_in basic.now) (choices_of choices.now) k ≡ false) }
-{
-    for (location, choice) in choices.iter().enumerate() {
-        if !is_condition(&choice.condition, basic) {
-            return Some(location);
-        }
-    }
-    None
+/// A statement of an algorithm of a block type, by its indices.
+#[derive(Clone, Copy)]
+pub struct StatementIndex {
+    /// The index of the block type.
+    pub block: usize,
+    /// The index of the algorithm.
+    pub algorithm: usize,
+    /// The index of the statement, counted as statements begin in the text.
+    pub statement: usize,
 }
 
-/// What is wrong with an assignment.
-fn wrong_in_assignment(
+/// Adds a part of a statement, unless it is right.
+fn push_part(
+    found: &mut Vec<Misfit>,
+    at: StatementIndex,
+    is_right: bool,
+    part: StatementPart,
+) -> Result<(), AllocError>
+    ensures { IfOk result (λ _. found.new.items ≡ found.old.items ++ unless is_right (part_at at part)) }
+{
+    let location = Misfit::Statement {
+        block: at.block,
+        algorithm: at.algorithm,
+        statement: at.statement,
+        part,
+    };
+    push_unless(found, is_right, location)
+}
+
+/// Adds the conditions of IF and its ELSIFs that are not truth values.
+fn push_choice_parts(
+    found: &mut Vec<Misfit>,
     basic: &BasicType,
+    at: StatementIndex,
+    choices: &[Choice],
+) -> Result<(), AllocError>
+    ensures { IfOk result (λ _. found.new.items ≡ found.old.items ++ wrong_choices (part_at at) (context_in basic.now) 0 (choices_of choices.now)) }
+{
+    for (index, choice) in choices.iter().enumerate() {
+        let is_right = is_condition(&choice.condition, basic);
+        push_part(found, at, is_right, StatementPart::Choice(index))?;
+    }
+    Ok(())
+}
+
+/// Adds what is wrong with an assignment.
+fn push_assignment_parts(
+    found: &mut Vec<Misfit>,
+    basic: &BasicType,
+    at: StatementIndex,
     variable: &Reference,
     expr: &Expr,
-) -> Option<StatementPart>
-    ensures { MatchOption result (own_right (context_in basic.now) (Assign variable.now (expr_of expr.now)) ≡ true) (λ part. part_right (context_in basic.now) (Assign variable.now (expr_of expr.now)) part ≡ false) }
+) -> Result<(), AllocError>
+    ensures { IfOk result (λ _. found.new.items ≡ found.old.items ++ wrong_parts (part_at at) (context_in basic.now) (Assign variable.now (expr_of expr.now))) }
 {
-    if is_input(basic, variable.name()) {
-        return Some(StatementPart::Assigned);
-    }
-    let port_kind = value_kind_of_type(basic.type_of(variable.name()));
-    if !is_value_kind(port_kind, expr, basic) {
-        return Some(StatementPart::Value);
-    }
-    None
+    let is_assignable = !is_input(basic, variable.name());
+    push_part(found, at, is_assignable, StatementPart::Assigned)?;
+    let kind = value_kind_of_type(basic.type_of(variable.name()));
+    let is_of_kind = is_value_kind(kind, expr, basic);
+    push_part(found, at, is_of_kind, StatementPart::Value)
 }
 
-/// What is wrong with a FOR, except for the statements inside it.
-fn wrong_in_for(
+/// Adds what is wrong with the variable that controls a FOR.
+fn push_control_parts(
+    found: &mut Vec<Misfit>,
     basic: &BasicType,
+    at: StatementIndex,
+    variable: &Reference,
+) -> Result<(), AllocError>
+    ensures { IfOk result (λ _. found.new.items ≡ found.old.items ++ wrong_control (part_at at) (context_in basic.now) variable.now) }
+{
+    let is_assignable = !is_input(basic, variable.name());
+    push_part(found, at, is_assignable, StatementPart::Assigned)?;
+    let kind = value_kind_of_type(basic.type_of(variable.name()));
+    let is_number = are_same(ValueKind::WholeNumber, kind);
+    push_part(found, at, is_number, StatementPart::Control)
+}
+
+/// Adds what is wrong with a FOR, except for the statements inside it.
+fn push_for_parts(
+    found: &mut Vec<Misfit>,
+    basic: &BasicType,
+    at: StatementIndex,
     variable: &Reference,
     start: &Expr,
     end: &Expr,
     step: &Option<Expr>,
-) -> Option<StatementPart>
-    ensures { MatchOption result (own_right (context_in basic.now) (For variable.now (expr_of start.now) (expr_of end.now) (step_of step.now) no_stmt) ≡ true) (λ part. part_right (context_in basic.now) (For variable.now (expr_of start.now) (expr_of end.now) (step_of step.now) no_stmt) part ≡ false) }
+) -> Result<(), AllocError>
+    ensures { IfOk result (λ _. found.new.items ≡ found.old.items ++ wrong_parts (part_at at) (context_in basic.now) (For variable.now (expr_of start.now) (expr_of end.now) (step_of step.now) no_stmt)) }
 {
-    if is_input(basic, variable.name()) {
-        return Some(StatementPart::Assigned);
-    }
-    let port_kind = value_kind_of_type(basic.type_of(variable.name()));
-    if !are_same(ValueKind::WholeNumber, port_kind) {
-        return Some(StatementPart::Control);
-    }
-    if !is_whole(start, basic) {
-        return Some(StatementPart::Start);
-    }
-    if !is_whole(end, basic) {
-        return Some(StatementPart::End);
-    }
-    if !is_step_whole(step, basic) {
-        return Some(StatementPart::Step);
-    }
-    None
+    push_control_parts(found, basic, at, variable)?;
+    push_part(found, at, is_whole(start, basic), StatementPart::Start)?;
+    push_part(found, at, is_whole(end, basic), StatementPart::End)?;
+    let is_number = is_step_whole(step, basic);
+    push_part(found, at, is_number, StatementPart::Step)
 }
 
-/// The first wrong part of a statement, except for the statements inside it.
-fn wrong_part(basic: &BasicType, standing: &Standing) -> Option<StatementPart>
-    ensures { MatchOption result (stands_right basic.now (standing_of standing.now) ≡ true) (λ part. part_right (in_place basic.now standing.now.in_loop) (stmt_of standing.now.statement.now) part ≡ false) }
+/// Adds the wrong parts of a statement, except for the statements inside it.
+fn push_parts(
+    found: &mut Vec<Misfit>,
+    basic: &BasicType,
+    at: StatementIndex,
+    standing: &Standing,
+) -> Result<(), AllocError>
+    ensures { IfOk result (λ _. found.new.items ≡ found.old.items ++ wrong_parts (part_at at) (in_place basic.now standing.now.in_loop) (stmt_of standing.now.statement.now)) }
 {
     match standing.statement {
-        Stmt::Empty | Stmt::Return => None,
-        Stmt::Exit => {
-            if standing.in_loop {
-                None
-            } else {
-                Some(StatementPart::Exit)
-            }
-        }
-        Stmt::Assign(variable, expr) => wrong_in_assignment(basic, variable, expr),
-        Stmt::If(choices, _) => Some(StatementPart::Choice(wrong_choice(
-            basic,
-            choices.as_slice(),
-        )?)),
+        Stmt::Empty | Stmt::Return => Ok(()),
+        Stmt::Exit => push_part(found, at, standing.in_loop, StatementPart::Exit),
+        Stmt::Assign(variable, expr) => push_assignment_parts(found, basic, at, variable, expr),
+        Stmt::If(choices, _) => push_choice_parts(found, basic, at, choices.as_slice()),
         Stmt::Case(selector, _, _) => {
-            if is_whole(selector, basic) {
-                None
-            } else {
-                Some(StatementPart::Selector)
-            }
+            let is_number = is_whole(selector, basic);
+            push_part(found, at, is_number, StatementPart::Selector)
         }
-        Stmt::For(variable, start, end, step, _) => wrong_in_for(basic, variable, start, end, step),
+        Stmt::For(variable, start, end, step, _) => {
+            push_for_parts(found, basic, at, variable, start, end, step)
+        }
         Stmt::While(condition, _) | Stmt::Repeat(_, condition) => {
-            if is_condition(condition, basic) {
-                None
-            } else {
-                Some(StatementPart::Condition)
-            }
+            let is_right = is_condition(condition, basic);
+            push_part(found, at, is_right, StatementPart::Condition)
         }
     }
 }
 
-/// The first of these statements with a wrong part, and the part.
-fn first_wrong(basic: &BasicType, statements: &[Standing]) -> Option<(usize, StatementPart)>
-    ensures { MatchOption result (list_all (stands_right basic.now) (all_standing statements.now) ≡ true) (WrongAmong basic.now (all_standing statements.now)) }
-{
-    for (location, statement) in statements.iter().enumerate() {
-        if let Some(part) = wrong_part(basic, statement) {
-            return Some((location, part));
-        }
-    }
-    None
-}
-
-/// The first statement of an algorithm with a wrong part, and the part.
-pub fn wrong_statement(
-    alloc: Global,
+/// The same for statements of an algorithm.
+fn push_in_statements(
+    found: &mut Vec<Misfit>,
     basic: &BasicType,
-    algorithm: &Algorithm,
-) -> Result<Option<(usize, StatementPart)>, AllocError>
-    ensures { IfOk result (λ o. MatchOption o (algorithm_right basic.now algorithm.now ≡ true) (WrongAmong basic.now (each_in_body false (body_of algorithm.now.body)))) }
+    block: usize,
+    algorithm: usize,
+    statements: &[Standing],
+) -> Result<(), AllocError>
+    ensures { IfOk result (λ _. found.new.items ≡ found.old.items ++ each_at (λ k s. misfits_in_statement basic.now block algorithm k (standing_of s)) statements.now) }
 {
-    let statements = all_statements(alloc, &algorithm.body)?;
-    Ok(first_wrong(basic, statements.as_slice()))
+    for (statement, standing) in statements.iter().enumerate() {
+        let at = StatementIndex {
+            block,
+            algorithm,
+            statement,
+        };
+        push_parts(found, basic, at, standing)?;
+    }
+    Ok(())
+}
+
+/// Adds the statements of an algorithm with a wrong part.
+pub fn push_in_body(
+    alloc: Global,
+    found: &mut Vec<Misfit>,
+    basic: &BasicType,
+    block: usize,
+    algorithm: usize,
+    declared: &Algorithm,
+) -> Result<(), AllocError>
+    ensures { IfOk result (λ _. found.new.items ≡ found.old.items ++ misfits_in_body basic.now block algorithm declared.now) }
+{
+    let statements = all_statements(alloc, &declared.body)?;
+    push_in_statements(found, basic, block, algorithm, statements.as_slice())
 }

@@ -1,51 +1,56 @@
-//! Where a name of a declaration or a deployment is unknown (E21).
+//! Where names of a declaration or a deployment are unknown (E21).
 
-ghost use Rattle.std.specs.Prelude.{◌≡◌, IfOk, MatchOption};
+ghost use Rattle.std.specs.Prelude.{◌≡◌, [], All, Contains, IfOk};
 ghost use Rattle.fb_types.specs.Unknown.{NameUnknown};
+ghost use Rattle.fb_why_kinds.specs.declared.location.UnknownName.{UnknownName};
 ghost use Rattle.fb_why_kinds.specs.Unknown.{IsUnknownAt};
+ghost use Rattle.fb_why_kinds.specs.Unknowns.{unknown_all};
 
-use crate::blocks::unknown_in_blocks;
-use crate::deployment::unknown_in_deployment;
+use crate::blocks::push_in_blocks;
+use crate::deployment::push_in_deployment;
 use crate::location::{Site, UnknownName};
 use crate::lookup::BlockTypes;
-use crate::networks::{LocatedNetwork, unknown_in_network};
+use crate::networks::{LocatedNetwork, push_in_network};
 use fb_types::{Library, Plan};
 use std::alloc::{AllocError, Global};
 
-/// The location, from the types of the declaration.
+/// The locations, from the types of the declaration.
 fn unknown_with(
     alloc: Global,
     library: &Library,
     plan: &Plan,
     types: &BlockTypes,
-) -> Result<Option<UnknownName>, AllocError>
+) -> Result<Vec<UnknownName>, AllocError>
     requires { types.now.library.now ≡ library.now }
-    ensures { IfOk result (λ o. MatchOption o (¬ (NameUnknown library.now plan.now)) (IsUnknownAt library.now plan.now)) }
+    ensures { IfOk result (λ found. found.items ≡ unknown_all library.now plan.now) }
 {
+    let mut found = Vec::new(alloc);
+    push_in_blocks(alloc, &mut found, types, library.blocks.as_slice())?;
     let scope = LocatedNetwork {
         composite: None,
         network: &library.application.network,
     };
-    if let Some(location) = unknown_in_network(types, Site::Application, &scope) {
-        return Ok(Some(location));
-    }
-    if let Some(location) = unknown_in_blocks(alloc, types)? {
-        return Ok(Some(location));
-    }
-    Ok(unknown_in_deployment(library, plan))
+    push_in_network(&mut found, types, Site::Application, &scope)?;
+    push_in_deployment(&mut found, library, plan)?;
+    Ok(found)
 }
 
-/// A location at which nothing of the required kind has a name, or `None` if there is no such name.
+/// All locations at which nothing of the required kind has a name, in the order of the declaration.
 ///
 /// # Errors
 ///
 /// When memory runs out.
-pub fn unknown_location(
+pub fn unknown_locations(
     alloc: Global,
     library: &Library,
     plan: &Plan,
-) -> Result<Option<UnknownName>, AllocError>
-    ensures { IfOk result (λ o. MatchOption o (¬ (NameUnknown library.now plan.now)) (IsUnknownAt library.now plan.now)) }
+) -> Result<Vec<UnknownName>, AllocError>
+    ensures listed { IfOk result (λ found. found.items ≡ unknown_all library.now plan.now) }
+    // Nothing of the required kind has the name at each of them.
+    ensures each { IfOk result (λ found. All (IsUnknownAt library.now plan.now) found.items) }
+    // No such location is left out.
+    ensures whole { (p : UnknownName) → IsUnknownAt library.now plan.now p → IfOk result (λ found. Contains found.items p) }
+    ensures none { IfOk result (λ found. found.items ≡ [] → ¬ (NameUnknown library.now plan.now)) }
 {
     let types = BlockTypes::new(alloc, library)?;
     unknown_with(alloc, library, plan, &types)

@@ -17,3 +17,4 @@ mod Reporting
 pub mod Warning
 pub mod PlacedLines
 pub mod Inspecting
+pub mod Located

@@ -1,42 +1,109 @@
 -- A note that is given only where it is asked for.
-use Rattle.std.proofs.Common.{◌≡◌, ℕ, List, Bool, true, Option, Some, None, option_map, String, string_bytes, refl, sym, subst, inl, inr}
-use Rattle.std.specs.Prelude.{IfSome}
+use Rattle.std.proofs.Common.{◌≡◌, ◌+◌, ◌<◌, ◌&&◌, ℕ, zero, suc, List, [], ◌∷◌, ◌++◌, append_assoc, length, take, get_or, Bool, true, false, Option, Some, None, option_map, String, string_bytes, refl, sym, ◌∙◌, ap, subst, inl, inr, arith}
+use Rattle.std.specs.Prelude.{All, IfSome, nat_eq}
+use Rattle.std.proofs.lemmas.Bool.Decides.{nat_tests}
+use Rattle.std.proofs.lemmas.List.{append-nil, take_more}
 use Rattle.fb_sim.specs.Given.{Given}
-use Rattle.fbsim_command.specs.Expecting.{IsNoteAt, own_of, types_of}
+use Rattle.fbsim_command.specs.Expecting.{IsNoteAt, input_names_of, own_of, types_of}
 use Rattle.fbsim_command.specs.Texts.{given_of, lines_of, may_lines_of}
 use Rattle.fbsim_line.specs.declared.bench_line.Expect.{Expect}
 use Rattle.fbsim_command.specs.declared.texts.Texts.{Texts}
-use Rattle.fbsim_command.specs.Notes.{IsNote, IsNoteBy, IsNoteIn, IsNoteOfNumber, Notes, number_of}
-use Rattle.fb_why.specs.Findings.{Finds}
+use Rattle.fbsim_command.specs.Notes.{AreNotesFrom, AreNotesOf, IsNote, IsNoteBy, IsNoteIn, IsNoteOfFindings, IsNoteOfNumber, Notes, more_line, number_of, on_line}
+use Rattle.fbsim_command.specs.InputNotes.{FileNames}
+use Rattle.fb_why.specs.declared.spot.Spot.{Spot}
+use Rattle.fb_why.specs.Listings.{AreFound}
+use Rattle.fb_why.specs.declared.listing.Findings.{Findings}
 use Rattle.fb_why.specs.declared.place.PlacedFinding.{PlacedFinding}
 use Rattle.fb_why.specs.Places.{IsPlacedFinding}
 use Rattle.fb_why_bytes.specs.declared.text_locations.TextLocation.{TextLocation}
 use Rattle.fbsim_command.specs.declared.failure.Failure.{Failure}
 
 pub noted :
-    {T : Type 0} (show : T → List ℕ) (types : List (List ℕ)) (own lines : List ℕ) (given : Given) (why : Bool) (failure : Failure) (n : ℕ) (note : Option T) → why ≡ true
-    → number_of failure ≡ Some n → IfSome note (λ t. IsNoteOfNumber types own lines given n (show t)) → Notes why (IsNote types own lines given failure) (option_map show note)
-noted show types own lines given why failure n None asked is holds = tt
-noted show types own lines given why failure n (Some t) asked is holds = (asked, (n, is, holds))
+    {T : Type 0} (show : T → List ℕ) (types : List (List ℕ)) (own : List ℕ) (names : FileNames) (lines : List ℕ) (given : Given) (why : Bool) (failure : Failure) (n : ℕ) (note : Option T) → why ≡ true
+    → number_of failure ≡ Some n → IfSome note (λ t. IsNoteOfNumber types own names lines given n (show t)) → Notes why (IsNote types own names lines given failure) (option_map show note)
+noted show types own names lines given why failure n None asked is holds = tt
+noted show types own names lines given why failure n (Some t) asked is holds = (asked, (n, is, holds))
 
--- the note of a location that was found
+-- ---- Notes of several findings
+
+abbrev pub is_nil : List PlacedFinding → Bool
+is_nil [] = true
+is_nil (f ∷ fs) = false
+
+and_true : (b : Bool) → (b && true) ≡ b
+and_true true = refl
+and_true false = refl
+
+and_false : (b : Bool) → (b && false) ≡ false
+and_false true = refl
+and_false false = refl
+
+-- one note more
+notes_push :
+    (types : List (List ℕ)) (own : List ℕ) (names : FileNames) (lines : List ℕ) (given : Given) (first : Bool) (fs : List PlacedFinding) (f : PlacedFinding) (text note : List ℕ) → AreNotesFrom types own names lines given first fs text
+    → IsNoteIn types own names lines given f note → AreNotesFrom types own names lines given first (fs ++ f ∷ []) (text ++ on_line (first && is_nil fs) note)
+notes_push types own names lines given first [] f text note none is = (
+  note,
+  [],
+  is,
+  refl,
+  ap (λ (t : List ℕ). t ++ on_line (first && true) note) none ∙ ap (λ (b : Bool). on_line b note) (and_true first) ∙ sym (append-nil (on_line first note)),
+)
+notes_push types own names lines given first (g ∷ gs) f text note (n, after, shown, rest, whole) is = (
+  n,
+  after ++ on_line (false && is_nil gs) note,
+  shown,
+  notes_push types own names lines given false gs f after note rest is,
+  ap (λ (t : List ℕ). t ++ on_line (first && false) note) whole ∙ ap (λ (b : Bool). (on_line first n ++ after) ++ on_line b note) (and_false first)
+      ∙ append_assoc (on_line first n) after (on_line false note),
+)
+
+not_first : (i : ℕ) → nat_eq (suc i) 0 ≡ false
+not_first i = grind (arith, nat_tests)
+
+-- the first note is that at index 0
+first_is : (fs : List PlacedFinding) (i : ℕ) → i < length fs → nat_eq i 0 ≡ is_nil (take i fs)
+first_is [] i within = absurd (omega (arith, within))
+first_is (f ∷ fs) zero within = refl
+first_is (f ∷ fs) (suc i) within = not_first i
+
+pub notes_more :
+    (types : List (List ℕ)) (own : List ℕ) (names : FileNames) (lines : List ℕ) (given : Given) (fs : List PlacedFinding) (i : ℕ) (f : PlacedFinding) (first : Bool) (text note all : List ℕ) → i < length fs → f ≡ get_or fs i f
+    → first ≡ nat_eq i 0 → AreNotesOf types own names lines given (take i fs) text → IsNoteIn types own names lines given f note → all ≡ text ++ on_line first note
+    → AreNotesOf types own names lines given (take (i + 1) fs) all
+notes_more types own names lines given fs i f first text note all within is at before shown made =
+    let pushed = notes_push types own names lines given true (take i fs) f text note before shown in
+    let whole : all ≡ text ++ on_line (true && is_nil (take i fs)) note = made ∙ ap (λ (b : Bool). text ++ on_line b note) (at ∙ first_is fs i within) in
+    subst (λ (gs : List PlacedFinding). AreNotesOf types own names lines given gs all) (ap (λ (g : PlacedFinding). take i fs ++ g ∷ []) is ∙ sym (take_more fs i f within))
+    (subst (λ (t : List ℕ). AreNotesOf types own names lines given (take i fs ++ f ∷ []) t) (sym whole) pushed)
+
+-- the note of what was found, if anything was
+pub noted-of :
+    {A : Type 0} (types : List (List ℕ)) (own : List ℕ) (names : FileNames) (lines : List ℕ) (given : Given) (text : List ℕ) (f : Findings) (fs : List PlacedFinding) (note : Option (String A)) → fs ≡ f.shown.items → (length fs ≡ 0 → ⊥)
+    → AreNotesOf types own names lines given fs text → IfSome note (λ t. string_bytes t ≡ text ++ more_line f.more) → IfSome note (λ t. IsNoteOfFindings types own names lines given f (string_bytes t))
+noted-of types own names lines given text f fs None same some are is = tt
+noted-of types own names lines given text f fs (Some t) same some are is =
+    (λ none. some (ap length (same ∙ none)), (text, subst (λ (gs : List PlacedFinding). AreNotesOf types own names lines given gs text) same are, is))
+
+-- the note of findings of a number
 pub noted-in :
-    {A : Type 0} (types : List (List ℕ)) (own lines : List ℕ) (given : Given) (n : ℕ) (found : PlacedFinding) (note : Option (String A)) → IsPlacedFinding given.declaration found
-    → Finds given.declaration given.deploy given.stimuli n found.finding.location
-    → IfSome note (λ t. IsNoteIn types own lines found (string_bytes t)) → IfSome note (λ t. IsNoteOfNumber types own lines given n (string_bytes t))
-noted-in types own lines given n found None placed shows is = tt
-noted-in types own lines given n found (Some t) placed shows is = (found, is, placed, shows)
+    {A : Type 0} (types : List (List ℕ)) (own : List ℕ) (names : FileNames) (lines : List ℕ) (given : Given) (n : ℕ) (f : Findings) (note : Option (String A))
+    → All (IsPlacedFinding given.declaration) f.shown.items → AreFound given.declaration given.deploy given.stimuli n f
+    → IfSome note (λ t. IsNoteOfFindings types own names lines given f (string_bytes t)) → IfSome note (λ t. IsNoteOfNumber types own names lines given n (string_bytes t))
+noted-in types own names lines given n f None placed found is = tt
+noted-in types own names lines given n f (Some t) placed found is = (f, is, placed, found)
 
 -- of a place
 pub noted-by :
-    {A : Type 0} (types : List (List ℕ)) (own lines text : List ℕ) (place other : Option TextLocation) (note : Option (String A)) → place ≡ other
-    → IfSome note (λ t. IsNoteBy types own lines other text (string_bytes t)) → IfSome note (λ t. IsNoteBy types own lines place text (string_bytes t))
-noted-by {A} types own lines text place other note same is = subst (λ (o : Option TextLocation). IfSome note (λ t. IsNoteBy types own lines o text (string_bytes t))) (sym same) is
+    {A : Type 0} (types : List (List ℕ)) (own : List ℕ) (names : FileNames) (lines : List ℕ) (given : Given) (location : Spot) (text : List ℕ) (place other : Option TextLocation) (note : Option (String A)) → place ≡ other
+    → IfSome note (λ t. IsNoteBy types own names lines given location other text (string_bytes t)) → IfSome note (λ t. IsNoteBy types own names lines given location place text (string_bytes t))
+noted-by {A} types own names lines given location text place other note same is =
+    subst (λ (o : Option TextLocation). IfSome note (λ t. IsNoteBy types own names lines given location o text (string_bytes t))) (sym same) is
 
 -- that of what is declared, for rules
 pub plan-noted :
     {A : Type 0} (x : Expect) (bytes : List ℕ) (declared : Option Texts) (texts : Texts) (n : ℕ) (note : Option (String A)) → declared ≡ Some texts
-    → IfSome note (λ t. IsNoteOfNumber (types_of x) (own_of x.declaration) (lines_of texts) (given_of texts) n (string_bytes t))
+    → IfSome note (λ t. IsNoteOfNumber (types_of x) (own_of x.declaration) (input_names_of x) (lines_of texts) (given_of texts) n (string_bytes t))
     → IfSome note (λ t. IsNoteAt x bytes (may_lines_of declared) (option_map given_of declared) n (string_bytes t))
 plan-noted x bytes declared texts n None is noted = tt
 plan-noted x bytes declared texts n (Some t) is noted =

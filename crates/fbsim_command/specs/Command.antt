@@ -1,5 +1,5 @@
 -- What a call of the program does (this project's own).
-use Rattle.std.specs.Prelude.{◌≡◌, ◌⊎◌, ℕ, Bool, true, false, List, [], map, Option, None, Result, Ok, Err, codes, string_bytes}
+use Rattle.std.specs.Prelude.{◌≡◌, ◌⊎◌, ◌++◌, ℕ, Bool, true, false, List, [], map, Option, None, Result, Ok, Err, codes, string_bytes}
 use Rattle.std.specs.Borrow.{Bor}
 use Rattle.std.specs.Global.{Vec}
 use Rattle.std.specs.List.{list_any}
@@ -26,6 +26,7 @@ use Rattle.fbsim_command.specs.Outcomes.{End, Held, IsRefused}
 use Rattle.fbsim_command.specs.OwnLines.{EndsIn}
 use Rattle.fbsim_command.specs.WarningLines.{AreWarnings, Naming, naming_in}
 use Rattle.fbsim_command.specs.Reading.{Reading, AreRead, IsUnread}
+use Rattle.fbsim_command.specs.Stops.{ReportsStop}
 use Rattle.fbsim_command.specs.Showing.{Opening, Shows}
 use Rattle.fbsim_command.specs.Comparing.{Compares}
 use Rattle.fbsim_command.specs.Drawing.{Draws}
@@ -124,14 +125,18 @@ Reports n given (Run horizon steps workers serial form progress) old new end rep
 
 -- ---- The call
 
--- The files are read, and what the task asks for is done with them. A syntax fault is one of the file that has it.
+-- The files are read, and what the task asks for is done with them; then it is reported where a run stopped. A syntax fault is one of the file that has it.
 pub record AreReadAndDone {S : Type 0} (reads : Reading S) (from to : S) (types : List Text) (c : Task) (old new : Held) (end : End) (reports : Text) (note : Option Text) : Type 0 where
   pub lines : List ℕ
   pub given : Given
   pub read : AreRead reads types c from to lines given
   pub inner : End
   pub done : Meets given c.action old new inner
-  pub reported : Reports (naming_in types c lines) given c.action old new inner reports
+  pub first : Text
+  pub reported : Reports (naming_in types c lines) given c.action old new inner first
+  pub last : Text
+  pub located : ReportsStop types c lines given inner last
+  pub reports_are : reports ≡ first ++ last
   pub noted : NotesOf types c lines given inner note
   pub ends : EndsIn types c.declaration.now lines inner end
 

@@ -1,5 +1,5 @@
 -- What a call that holds rules against traces does (docs/FORMATS.md, "Rules over traces"; this project's own).
-use Rattle.std.specs.Prelude.{◌≡◌, ◌⊎◌, ℕ, ◌+◌, ◌*◌, Bool, true, false, if◌then◌else◌, nat_lt, List, [], ◌∷◌, ◌++◌, length, map, Option, Some, None, IfSome, Ok, Err, codes, decimal, string_bytes}
+use Rattle.std.specs.Prelude.{option_map, ◌≡◌, ◌⊎◌, ℕ, ◌+◌, ◌*◌, Bool, true, false, if◌then◌else◌, nat_lt, List, [], ◌∷◌, ◌++◌, length, map, Option, Some, None, IfSome, Ok, Err, codes, decimal, string_bytes}
 use Rattle.std.specs.Borrow.{Bor}
 use Rattle.std.specs.List.{list_all}
 use Rattle.std.specs.Io.KnownBytes.{Appends}
@@ -19,6 +19,7 @@ use Rattle.fb_expect.specs.declared.place.RulesPlace.{RulesPlace}
 use Rattle.fb_expect.specs.declared.rule.Rule.{Rule}
 use Rattle.fbsim_command.specs.Failures.{IsPartWritten, failure_of_source, refused_trace}
 use Rattle.fbsim_command.specs.Known.{IsUnknownAt, has_names}
+use Rattle.fbsim_command.specs.InputNotes.{FileNames}
 use Rattle.fbsim_command.specs.Notes.{IsFileNote, IsNoteOfName, IsNoteOfNumber, Notes, number_of}
 use Rattle.fbsim_command.specs.Outcomes.{End, Held, IsRefused}
 use Rattle.fbsim_command.specs.OwnLines.{EndsIn}
@@ -54,6 +55,10 @@ types_of x = map (λ t. t.now) x.types.items
 abbrev pub own_of : Option (Bor Text) → Text
 own_of None = []
 own_of (Some name) = name.now
+
+-- the names of its inputs: there are no stimuli
+abbrev pub input_names_of : Expect → FileNames
+input_names_of x = record { deploy = option_map (λ d. d.now) x.deploy; stimuli = None }
 
 -- the declaration and the deployment are read, where a declaration is named
 abbrev pub MayDeclare : {S : Type 0} → Reading S → Expect → Option (Bor Text) → (old new : S) → (lines : List ℕ) → Option Given → Type 0
@@ -310,7 +315,7 @@ pub record IsPlaceOf (bytes : Text) (number : ℕ) : Type 0 where
 pub record IsPlanNote (x : Expect) (lines : List ℕ) (declared : Option Given) (number : ℕ) (note : Text) : Type 0 where
   pub given : Given
   pub is : declared ≡ Some given
-  pub noted : IsNoteOfNumber (types_of x) (own_of x.declaration) lines given number note
+  pub noted : IsNoteOfNumber (types_of x) (own_of x.declaration) (input_names_of x) lines given number note
 
 -- The bytes are rules, and what is declared does not have the pattern at a key of a rule.
 pub record IsUnknownPlace (bytes : Text) (declared : Option Given) (rule : ℕ) (key : RuleKey) : Type 0 where

@@ -4,6 +4,7 @@ pub mod Failures
 pub mod Texts
 pub mod Reading
 pub mod Notes
+pub mod InputNotes
 pub mod Outcomes
 pub mod OwnLines
 pub mod LineNotes
@@ -14,4 +15,5 @@ pub mod Comparing
 pub mod Drawing
 pub mod WarningLines
 pub mod Inspecting
+pub mod Stops
 pub mod Command

@@ -1,11 +1,14 @@
 -- What is reported after the line of a failure (this project's own).
-use Rattle.std.specs.Prelude.{◌≡◌, ◌≢◌, ℕ, List, ◌++◌, Bool, IsTrue, Option, Some, None, Ok, Err, option_map, slice_get, codes, string_bytes}
+use Rattle.std.specs.Prelude.{◌≡◌, ◌≢◌, ℕ, List, [], ◌∷◌, ◌++◌, All, Bool, true, false, IsTrue, Option, Some, None, Ok, Err, option_map, slice_get, codes, string_bytes}
 use Rattle.fbsim_line.specs.declared.line.Task.{Task}
 use Rattle.fb_sim.specs.Given.{Given}
-use Rattle.fb_why.specs.Findings.{Finds}
+use Rattle.fb_why.specs.Listings.{AreFound}
+use Rattle.fb_why.specs.declared.listing.Findings.{Findings}
 use Rattle.fb_why.specs.declared.place.PlacedFinding.{PlacedFinding}
 use Rattle.fb_why.specs.Places.{IsPlacedFinding}
+use Rattle.fb_why.specs.declared.spot.Spot.{Spot}
 use Rattle.fb_why_bytes.specs.declared.text_locations.TextLocation.{TextLocation}
+use Rattle.fbsim_command.specs.InputNotes.{FileNames, IsNoteThere}
 use Rattle.fbsim_command.specs.OwnLines.{IsPlaced}
 use Rattle.fbsim_command.specs.declared.failure.Failure.{Failure}
 use Rattle.fbsim_command.specs.declared.failure.Failure.TheVariants.{Refused}
@@ -57,23 +60,51 @@ number_of (Refused (Numbered n)) = Some n
 number_of (Refused (Syntax line)) = Some 3
 number_of _ = None
 
--- The note names the file, the line and the column of the place, or is the text.
-abbrev pub IsNoteBy : (types : List (List ℕ)) → (own : List ℕ) → (lines : List ℕ) → Option TextLocation → (text note : List ℕ) → Type 0
-IsNoteBy types own lines (Some at) text note = IsPlaced types own lines at.line at.column note
-IsNoteBy types own lines None text note = note ≡ text
+-- The note names the file, the line and the column of the place in the declaration, or else in another input.
+abbrev pub IsNoteBy : (types : List (List ℕ)) → (own : List ℕ) → FileNames → (lines : List ℕ) → Given → Spot → Option TextLocation → (text note : List ℕ) → Type 0
+IsNoteBy types own names lines given location (Some at) text note = IsPlaced types own lines at.line at.column note
+IsNoteBy types own names lines given location None text note = IsNoteThere names given location text note
 
 -- The note of what was found is that of its place, or its text.
-abbrev pub IsNoteIn : (types : List (List ℕ)) → (own : List ℕ) → (lines : List ℕ) → PlacedFinding → List ℕ → Type 0
-IsNoteIn types own lines found note = IsNoteBy types own lines found.place (string_bytes found.finding.text) note
+abbrev pub IsNoteIn : (types : List (List ℕ)) → (own : List ℕ) → FileNames → (lines : List ℕ) → Given → PlacedFinding → List ℕ → Type 0
+IsNoteIn types own names lines given found note = IsNoteBy types own names lines given found.finding.location found.place (string_bytes found.finding.text) note
 
--- The note is that of a place at which the refusal of this number applies.
-abbrev pub IsNoteOfNumber : (types : List (List ℕ)) → (own : List ℕ) → (lines : List ℕ) → Given → (number : ℕ) → List ℕ → Type 0
-IsNoteOfNumber types own lines given number note =
-    (r : PlacedFinding) × IsNoteIn types own lines r note × IsPlacedFinding given.declaration r × Finds given.declaration given.deploy given.stimuli number r.finding.location
+-- a note on a line of its own: each but the first begins by ending the line before
+abbrev pub on_line : Bool → List ℕ → List ℕ
+on_line true note = note
+on_line false note = 10 ∷ note
+
+-- the text is that of the notes of these findings, each on a line of its own; the first may be one among others
+abbrev pub AreNotesFrom : (types : List (List ℕ)) → (own : List ℕ) → FileNames → (lines : List ℕ) → Given → Bool → List PlacedFinding → List ℕ → Type 0
+AreNotesFrom types own names lines given is_first [] text = text ≡ []
+AreNotesFrom types own names lines given is_first (found ∷ rest) text =
+    (note : List ℕ) × (after : List ℕ) × IsNoteIn types own names lines given found note × AreNotesFrom types own names lines given false rest after × (text ≡ on_line is_first note ++ after)
+
+abbrev pub AreNotesOf : (types : List (List ℕ)) → (own : List ℕ) → FileNames → (lines : List ℕ) → Given → List PlacedFinding → List ℕ → Type 0
+AreNotesOf types own names lines given found text = AreNotesFrom types own names lines given true found text
+
+-- there are more, or not
+abbrev pub more_line : Bool → List ℕ
+more_line true = 10 ∷ codes "and more"
+more_line false = []
+
+-- The note is that of these findings, of which there is one at least.
+abbrev pub IsNoteOfFindings : (types : List (List ℕ)) → (own : List ℕ) → FileNames → (lines : List ℕ) → Given → Findings → List ℕ → Type 0
+IsNoteOfFindings types own names lines given f note =
+    (f.shown.items ≢ []) × ((text : List ℕ) × AreNotesOf types own names lines given f.shown.items text × (note ≡ text ++ more_line f.more))
+
+-- The note is that of the findings of this number.
+abbrev pub IsNoteOfNumber : (types : List (List ℕ)) → (own : List ℕ) → FileNames → (lines : List ℕ) → Given → (number : ℕ) → List ℕ → Type 0
+IsNoteOfNumber types own names lines given number note =
+    (f : Findings) × IsNoteOfFindings types own names lines given f note × All (IsPlacedFinding given.declaration) f.shown.items × AreFound given.declaration given.deploy given.stimuli number f
 
 -- The note is that of the number of the refusal.
-abbrev pub IsNote : (types : List (List ℕ)) → (own : List ℕ) → (lines : List ℕ) → Given → Failure → List ℕ → Type 0
-IsNote types own lines given failure note = (number : ℕ) × (number_of failure ≡ Some number) × IsNoteOfNumber types own lines given number note
+abbrev pub IsNote : (types : List (List ℕ)) → (own : List ℕ) → FileNames → (lines : List ℕ) → Given → Failure → List ℕ → Type 0
+IsNote types own names lines given failure note = (number : ℕ) × (number_of failure ≡ Some number) × IsNoteOfNumber types own names lines given number note
+
+-- the names of the inputs of a task
+abbrev pub input_names : Task → FileNames
+input_names c = record { deploy = option_map (λ d. d.now) c.deploy; stimuli = option_map (λ s. s.now) c.stimuli }
 
 -- A note is given only where one is asked for, and then it is such a one.
 abbrev pub Notes : (why : Bool) → (List ℕ → Type 0) → Option (List ℕ) → Type 0
@@ -83,4 +114,4 @@ Notes why is (Some note) = IsTrue why × is note
 -- where a call has failed, such a note
 abbrev pub NotesOf : (types : List (List ℕ)) → Task → (lines : List ℕ) → Given → End → Option (List ℕ) → Type 0
 NotesOf types c lines given (Ok d) note = note ≡ None
-NotesOf types c lines given (Err failure) note = Notes c.why (IsNote types c.declaration.now lines given failure) note
+NotesOf types c lines given (Err failure) note = Notes c.why (IsNote types c.declaration.now (input_names c) lines given failure) note

@@ -7,8 +7,12 @@ use Rattle.fb_lint.specs.Lines.{IsLine}
 use Rattle.fb_lint.specs.Positions.{position_of}
 use Rattle.fb_lint.specs.Warnings.{warnings}
 use Rattle.fb_lint.specs.declared.warning.Warning.{Warning}
+use Rattle.fb_lint.specs.declared.warning.Warning.TheVariants.{UnusedLink}
+use Rattle.fb_inputs.specs.declared.deploy_location.TableLocation.TheVariants as table
+use Rattle.fb_inputs_positions.specs.declared.position.DeployPosition.TheVariants as position
 use Rattle.fb_read_positions.specs.declared.position.Position.{Position}
 use Rattle.fb_why.specs.Places.{IsPlaceAt}
+use Rattle.fb_why_bytes.specs.InputPlaces.{IsDeployPlace}
 use Rattle.fb_why_bytes.specs.declared.text_locations.TextLocation.{TextLocation}
 use Rattle.fb_sim.specs.Given.{Given}
 use Rattle.fb_sim.specs.Serial.{Declares}
@@ -52,39 +56,46 @@ pub record IsDeclaredPlace (n : Naming) (declaration : Text) (library : Library)
   pub placed : IsPlaceAt declaration library position place
   pub shown : IsPlaceText n place.line place.column text
 
--- The text is that of the beginning of the deployment, in which a link is.
-pub record IsDeploymentPlace (n : Naming) (w : Warning) (text : Text) : Type 0 where
-  pub none : position_of w ≡ None
+-- The text is the place of a link in the deployment.
+pub record IsLinkPlace (n : Naming) (deploy : Option Text) (link : ℕ) (text : Text) : Type 0 where
   pub name : Text
   pub named : n.deploy ≡ Some name
-  pub shown : text ≡ place_text name 1 1
+  pub bytes : Text
+  pub given : deploy ≡ Some bytes
+  pub place : TextLocation
+  pub placed : IsDeployPlace bytes (position.Table (table.Link link)) place
+  pub shown : text ≡ place_text name place.line place.column
+
+-- The warning is about a link, and the text is the place of that.
+abbrev pub IsDeploymentPlace : Naming → (deploy : Option Text) → Warning → Text → Type 0
+IsDeploymentPlace n deploy w text = (link : ℕ) × (w ≡ UnusedLink link) × IsLinkPlace n deploy link text
 
 -- the place of a warning, or nothing
-abbrev pub IsPlace : Naming → (declaration : Text) → Library → Warning → Text → Type 0
-IsPlace n declaration library w text = IsDeclaredPlace n declaration library w text ⊎ IsDeploymentPlace n w text ⊎ (text ≡ [])
+abbrev pub IsPlace : Naming → Given → Library → Warning → Text → Type 0
+IsPlace n given library w text = IsDeclaredPlace n given.declaration library w text ⊎ IsDeploymentPlace n given.deploy w text ⊎ (text ≡ [])
 
 -- ---- Lines
 
 -- The place, if it is known, and then the number and words.
-pub record IsPlacedLine (n : Naming) (declaration : Text) (library : Library) (w : Warning) (line : Text) : Type 0 where
+pub record IsPlacedLine (n : Naming) (given : Given) (library : Library) (w : Warning) (line : Text) : Type 0 where
   pub place : Text
-  pub is_place : IsPlace n declaration library w place
+  pub is_place : IsPlace n given library w place
   pub words : Text
   pub is_line : IsLine w words
   pub is : line ≡ place ++ words
 
 -- this line is added
-abbrev pub IsAdded : Naming → (declaration : Text) → Library → Warning → (old new : Text) → Type 0
-IsAdded n declaration library w old new = (line : Text) × IsPlacedLine n declaration library w line × (new ≡ old ++ line)
+abbrev pub IsAdded : Naming → Given → Library → Warning → (old new : Text) → Type 0
+IsAdded n given library w old new = (line : Text) × IsPlacedLine n given library w line × (new ≡ old ++ line)
 
 -- a line for each warning, in their order
-abbrev pub AreLines : Naming → (declaration : Text) → Library → List Warning → Text → Type 0
-AreLines n declaration library [] text = text ≡ []
-AreLines n declaration library (w ∷ ws) text =
-    (line : Text) × (rest : Text) × IsPlacedLine n declaration library w line × AreLines n declaration library ws rest × (text ≡ line ++ rest)
+abbrev pub AreLines : Naming → Given → Library → List Warning → Text → Type 0
+AreLines n given library [] text = text ≡ []
+AreLines n given library (w ∷ ws) text =
+    (line : Text) × (rest : Text) × IsPlacedLine n given library w line × AreLines n given library ws rest × (text ≡ line ++ rest)
 
 -- The inputs are accepted, and these are the lines of the warnings about them.
 pub record AreWarnings (n : Naming) (given : Given) (reports : Text) : Type 0 where
   pub inputs : Inputs
   pub declared : Declares given inputs
-  pub lines : AreLines n given.declaration inputs.library (warnings inputs.library inputs.plan inputs.stimuli) reports
+  pub lines : AreLines n given inputs.library (warnings inputs.library inputs.plan inputs.stimuli) reports

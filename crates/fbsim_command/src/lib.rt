@@ -6,7 +6,8 @@
 //!
 //! Read it in this order: `sources`, where files come from; `files`, those of the machine; `program`, the call; `texts`,
 //! what is read, with `join`, a declaration in several files, and `own_lines`, how its refusals name a file and a line,
-//! which agree by `laws`; `lint`, with `call_names` and `warning_lines`, the lines of warnings; `wave`, with `line_notes`; `draw`; `inspect`;
+//! which agree by `laws`; `lint`, with `call_names` and `warning_lines`, the lines of warnings; `located_stop`, where a run
+//! stops; `wave`, with `line_notes`; `draw`; `inspect`;
 //! `expect` and `known`, rules and traces; `output`; `failure`, `notes`, `rules_notes` and `statuses`, how it ends.
 #![tactic(auto)]
 
@@ -15,12 +16,14 @@ mod draw;
 mod expect;
 pub mod failure;
 pub mod files;
+mod input_notes;
 mod inspect;
 mod join;
 mod known;
 pub mod laws;
 mod line_notes;
 mod lint;
+mod located_stop;
 mod notes;
 pub mod output;
 mod own_lines;

@@ -19,19 +19,19 @@ use fb_trace::write_front;
 use std::alloc::{AllocError, Global};
 use std::io::Write;
 
-/// The lines of the warnings about a system, with their places in the text that declares it.
+/// The lines of the warnings about a system, with their places in the texts that declare it.
 fn lines_in(
     alloc: Global,
     naming: &Naming<'_, '_, '_>,
-    declaration: &[u8],
+    inputs: &Inputs<'_>,
     system: &System,
 ) -> Result<Vec<u8>, AllocError>
-    ensures { IfOk result (λ text. AreLines (naming_of naming.now) declaration.now system.now.library (warnings system.now.library system.now.plan system.now.stimuli) text.items) }
+    ensures { IfOk result (λ text. AreLines (naming_of naming.now) inputs.now system.now.library (warnings system.now.library system.now.plan system.now.stimuli) text.items) }
 {
     let library = system.library();
     let plan = system.plan();
     let found = warnings(alloc, library, plan, system.stimuli())?;
-    all_lines(alloc, naming, declaration, library, plan, found.as_slice())
+    all_lines(alloc, naming, inputs, library, plan, found.as_slice())
 }
 
 /// The lines of the warnings about inputs.
@@ -44,14 +44,14 @@ fn lines_of(
     ensures refused { IfErr result (IsUndeclared inputs.now) }
 {
     let system = open(alloc, inputs)?;
-    let lines = lines_in(alloc, naming, inputs.declaration, &system);
+    let lines = lines_in(alloc, naming, inputs, &system);
     // Dropped by one call: the end of its scope would prove the drop part by part.
     discard(system);
     Ok(lines?)
 }
 
 /// Reports lines. It says whether standard error took them all.
-fn report_lines<E: Write>(err: &mut E, lines: &[u8]) -> bool
+pub(crate) fn report_lines<E: Write>(err: &mut E, lines: &[u8]) -> bool
     ensures { Hears result (E.contents err.old) (E.contents err.new) lines.now }
 {
     if lines.is_empty() {

@@ -1,15 +1,17 @@
 //! What is reported after the line of a failure: its place.
 
-ghost use Rattle.std.specs.Prelude.{◌≡◌, IfSome, map, option_map, string_bytes};
-ghost use Rattle.fbsim_command.specs.Notes.{IsFileNote, IsMatter, IsNote, IsNoteIn, IsNoteOfName, IsNoteOfNumber, Notes, file_word, name_of, number_of};
+ghost use Rattle.std.specs.Prelude.{◌≡◌, ◌++◌, IfOk, IfSome, map, option_map, string_bytes};
+ghost use Rattle.fbsim_command.specs.Notes.{AreNotesOf, IsFileNote, IsMatter, IsNote, IsNoteIn, IsNoteOfFindings, IsNoteOfName, IsNoteOfNumber, Notes, file_word, input_names, name_of, number_of, on_line};
+ghost use Rattle.fbsim_command.specs.InputNotes.{IsNoteThere, names_of};
 ghost use Rattle.fbsim_command.specs.OwnLines.{IsPlaced};
 ghost use Rattle.fbsim_command.specs.Texts.{given_of, lines_of};
 
 use crate::failure::{Failure, RefusalLine};
+use crate::input_notes::{InputNames, note_there};
 use crate::own_lines::note_at;
 use crate::sources::SourceFault;
 use crate::texts::{Part, Texts, Unread};
-use fb_why::{Finding, PlacedFinding, finding_of};
+use fb_why::{Findings, PlacedFinding, discard_findings, findings_of};
 use fb_why_bytes::{TextLocation, excerpt};
 use fbsim_line::Task;
 use std::alloc::{AllocError, Global};
@@ -95,14 +97,14 @@ pub(crate) fn number_of(failure: &Failure) -> Option<u8>
 }
 
 /// What is the matter at a place: the number, the words, and the source line with a mark.
-fn matter_at(
+pub(crate) fn matter_at(
     alloc: Global,
     number: u8,
     words: &str,
-    declaration: &[u8],
+    bytes: &[u8],
     at: TextLocation,
 ) -> Result<String, AllocError> {
-    let source = excerpt(alloc, declaration, at)?;
+    let source = excerpt(alloc, bytes, at)?;
     let tens = number / 10;
     let ones = number % 10;
     Ok(format!(in alloc; "E{tens}{ones}: {words}\n{source}")?)
@@ -128,39 +130,134 @@ fn note_at_place(
     }
 }
 
-/// The note for what was found: with its place, if it is one in the text of the declaration.
+/// A text of its own, if there is memory for it.
+fn copied(text: &String) -> Option<String>
+    ensures { IfSome result (λ copy. string_bytes copy ≡ string_bytes text.now) }
+{
+    match text.clone() {
+        Ok(copy) => Some(copy),
+        Err(_) => None,
+    }
+}
+
+/// The note for what was found elsewhere than in the declaration.
+fn note_elsewhere(
+    alloc: Global,
+    names: &InputNames<'_>,
+    number: u8,
+    texts: &Texts,
+    found: &PlacedFinding,
+) -> Option<String>
+    ensures { IfSome result (λ note. IsNoteThere (names_of names.now) (given_of texts.now) found.now.finding.location (string_bytes found.now.finding.text) (string_bytes note)) }
+{
+    let words = copied(&found.finding.text)?;
+    note_there(alloc, names, number, texts, found.finding.location, words)
+}
+
+/// The note for what was found, with its place.
 fn note_of_finding(
     alloc: Global,
     types: &[&str],
     own: &str,
+    names: &InputNames<'_>,
     number: u8,
     texts: &Texts,
-    found: PlacedFinding,
+    found: &PlacedFinding,
 ) -> Option<String>
-    ensures { IfSome result (λ note. IsNoteIn (map (λ t. t.now) types.now) own.now (lines_of texts.now) found (string_bytes note)) }
+    ensures { IfSome result (λ note. IsNoteIn (map (λ t. t.now) types.now) own.now (names_of names.now) (lines_of texts.now) (given_of texts.now) found.now (string_bytes note)) }
 {
-    let PlacedFinding { finding, place } = found;
-    let Finding { location: _, text } = finding;
-    match place {
-        Some(at) => note_at_place(alloc, types, own, number, texts, at, text.as_str()),
-        None => Some(text),
+    match found.place {
+        Some(at) => {
+            let words = found.finding.text.as_str();
+            note_at_place(alloc, types, own, number, texts, at, words)
+        }
+        None => note_elsewhere(alloc, names, number, texts, found),
     }
 }
 
-/// The place at which the refusal of this number applies. Without memory for it there is none.
+/// Adds a note, on a line of its own.
+fn push_note(text: &mut String, is_first: bool, note: &str) -> Result<(), AllocError>
+    ensures { IfOk result (λ _. string_bytes text.new ≡ string_bytes text.old ++ on_line is_first note.now) }
+{
+    if !is_first {
+        text.push_str("\n")?;
+    }
+    text.push_str(note)
+}
+
+/// The text with a note more, if there is memory for it.
+fn with_note(mut text: String, is_first: bool, note: &str) -> Option<String>
+    ensures { IfSome result (λ all. string_bytes all ≡ string_bytes text ++ on_line is_first note.now) }
+{
+    match push_note(&mut text, is_first, note) {
+        Ok(()) => Some(text),
+        Err(_) => None,
+    }
+}
+
+/// The notes of all that was found, each on a line of its own.
+fn notes_of(
+    alloc: Global,
+    types: &[&str],
+    own: &str,
+    names: &InputNames<'_>,
+    number: u8,
+    texts: &Texts,
+    shown: &[PlacedFinding],
+) -> Option<String>
+    ensures { IfSome result (λ note. AreNotesOf (map (λ t. t.now) types.now) own.now (names_of names.now) (lines_of texts.now) (given_of texts.now) shown.now (string_bytes note)) }
+{
+    let mut text = String::new(alloc);
+    for (index, found) in shown.iter().enumerate() {
+        let note = note_of_finding(alloc, types, own, names, number, texts, found)?;
+        text = with_note(text, index == 0, note.as_str())?;
+    }
+    Some(text)
+}
+
+/// The notes of the findings of a number, and whether there are more. If nothing was found, there is none.
+fn note_of_findings(
+    alloc: Global,
+    types: &[&str],
+    own: &str,
+    names: &InputNames<'_>,
+    number: u8,
+    texts: &Texts,
+    findings: &Findings,
+) -> Option<String>
+    ensures { IfSome result (λ note. IsNoteOfFindings (map (λ t. t.now) types.now) own.now (names_of names.now) (lines_of texts.now) (given_of texts.now) findings.now (string_bytes note)) }
+{
+    let shown = findings.shown.as_slice();
+    if shown.is_empty() {
+        return None;
+    }
+    let text = notes_of(alloc, types, own, names, number, texts, shown)?;
+    if findings.more {
+        with_note(text, false, "and more")
+    } else {
+        Some(text)
+    }
+}
+
+/// The places at which the refusal of this number applies. Without memory for them there is none.
 pub(crate) fn note_of_number(
     alloc: Global,
     types: &[&str],
     own: &str,
+    names: &InputNames<'_>,
     number: u8,
     texts: &Texts,
 ) -> Option<String>
-    ensures { IfSome result (λ note. IsNoteOfNumber (map (λ t. t.now) types.now) own.now (lines_of texts.now) (given_of texts.now) number (string_bytes note)) }
+    ensures { IfSome result (λ note. IsNoteOfNumber (map (λ t. t.now) types.now) own.now (names_of names.now) (lines_of texts.now) (given_of texts.now) number (string_bytes note)) }
 {
     let declaration = texts.declaration.as_slice();
-    match finding_of(alloc, number, declaration, texts.deployment(), texts.rows()) {
-        Ok(Some(found)) => note_of_finding(alloc, types, own, number, texts, found),
-        Ok(None) | Err(_) => None,
+    match findings_of(alloc, number, declaration, texts.deployment(), texts.rows()) {
+        Ok(findings) => {
+            let note = note_of_findings(alloc, types, own, names, number, texts, &findings);
+            discard_findings(findings);
+            note
+        }
+        Err(_) => None,
     }
 }
 
@@ -172,11 +269,15 @@ pub fn note_of(
     failure: &Failure,
     texts: &Texts,
 ) -> Option<String>
-    ensures { Notes task.now.why (IsNote (map (λ t. t.now) types.now) task.now.declaration.now (lines_of texts.now) (given_of texts.now) failure.now) (option_map string_bytes result) }
+    ensures { Notes task.now.why (IsNote (map (λ t. t.now) types.now) task.now.declaration.now (input_names task.now) (lines_of texts.now) (given_of texts.now) failure.now) (option_map string_bytes result) }
 {
     if !task.why {
         return None;
     }
     let number = number_of(failure)?;
-    note_of_number(alloc, types, task.declaration, number, texts)
+    let names = InputNames {
+        deploy: task.deploy,
+        stimuli: task.stimuli,
+    };
+    note_of_number(alloc, types, task.declaration, &names, number, texts)
 }

@@ -73,7 +73,13 @@ pub(crate) fn end_with(
 }
 
 /// The note for a place in the file of this name, which names it as editors do.
-fn placed(alloc: Global, name: &str, line: usize, column: usize, matter: &str) -> Option<String>
+pub(crate) fn placed(
+    alloc: Global,
+    name: &str,
+    line: usize,
+    column: usize,
+    matter: &str,
+) -> Option<String>
     ensures { IfSome result (λ note. IsPlacedText name.now line column (string_bytes note)) }
 {
     match format!(in alloc; "{name}:{line}:{column}: {matter}") {

@@ -18,6 +18,7 @@ use crate::expect::{diff, expect};
 use crate::failure::Failure;
 use crate::inspect::show_insides;
 use crate::lint::check_and_warn;
+use crate::located_stop::report_stop_after;
 use crate::notes::{note_of, note_of_file};
 use crate::output::write_text;
 use crate::own_lines::end_with;
@@ -197,6 +198,7 @@ fn perform<R: Threads + Wait + Sync, C: Clock + CpuClock, S: Source, W: Write, E
                 lines: texts.lines.as_slice(),
             };
             let (end, is_heard) = meet(rt, clock, alloc, &naming, task.action, &texts, out, err);
+            let is_heard = report_stop_after(alloc, types, task, &end, &texts, err, is_heard);
             let note = note_to(alloc, types, task, &end, &texts);
             let end = end_with(alloc, types, task.declaration, &texts, end);
             Answer {

@@ -4,13 +4,14 @@ ghost use Rattle.std.specs.Prelude.{◌≡◌, ℕ, IfOk, IfSome, Some, option_m
 ghost use Rattle.fb_types.specs.Headline.{Inputs, system_of};
 ghost use Rattle.fb_expect.specs.declared.place.RuleKey.{RuleKey};
 ghost use Rattle.fb_sim.specs.Serial.{Declares};
-ghost use Rattle.fbsim_command.specs.Expecting.{IsNamesFileNote, IsNoteAt, IsPlaceOf, IsRulesFileNote, IsUnknownPlace, NotesRules, own_of, types_of};
+ghost use Rattle.fbsim_command.specs.Expecting.{IsNamesFileNote, IsNoteAt, IsPlaceOf, IsRulesFileNote, IsUnknownPlace, NotesRules, input_names_of, own_of, types_of};
 ghost use Rattle.fbsim_command.specs.Known.{IsUnknownAt};
 ghost use Rattle.fbsim_command.specs.Notes.{IsNoteOfNumber, Notes};
 ghost use Rattle.fbsim_command.specs.Texts.{given_of, lines_of, may_lines_of};
 
 use crate::expect::{files_of, own_name};
 use crate::failure::Failure;
+use crate::input_notes::InputNames;
 use crate::known::unknown_place;
 use crate::notes::{note_of_file, note_of_name, note_of_number, number_of};
 use crate::sources::SourceFault;
@@ -104,10 +105,14 @@ fn note_of_unknown(alloc: Global, bytes: &[u8], texts: &Texts) -> Option<String>
 
 /// Where the declaration of a call is refused with this number.
 fn note_of_plan(alloc: Global, expect: &Expect<'_>, number: u8, texts: &Texts) -> Option<String>
-    ensures { IfSome result (λ note. IsNoteOfNumber (types_of expect.now) (own_of expect.now.declaration) (lines_of texts.now) (given_of texts.now) number (string_bytes note)) }
+    ensures { IfSome result (λ note. IsNoteOfNumber (types_of expect.now) (own_of expect.now.declaration) (input_names_of expect.now) (lines_of texts.now) (given_of texts.now) number (string_bytes note)) }
 {
     let own = own_name(expect.declaration);
-    note_of_number(alloc, expect.types.as_slice(), own, number, texts)
+    let names = InputNames {
+        deploy: expect.deploy,
+        stimuli: None,
+    };
+    note_of_number(alloc, expect.types.as_slice(), own, &names, number, texts)
 }
 
 /// Where a call that has read these files is refused with this number.

@@ -1,14 +1,17 @@
 //! The lines of warnings, with their places.
 
-ghost use Rattle.std.specs.Prelude.{◌≡◌, IfOk, string_bytes};
-ghost use Rattle.fbsim_command.specs.WarningLines.{AreLines, IsAdded, IsPlace, IsPlaceText, naming_of, place_text};
+ghost use Rattle.std.specs.Prelude.{◌≡◌, ◌⊎◌, [], IfOk, option_map, string_bytes};
+ghost use Rattle.fbsim_command.specs.WarningLines.{AreLines, IsAdded, IsLinkPlace, IsPlace, IsPlaceText, naming_of, place_text};
 
 use crate::call_names::Naming;
 use crate::join::{file_name, line_in_file};
+use fb_inputs::TableLocation;
+use fb_inputs_positions::DeployPosition;
 use fb_lint::{Warning, line_of, position_of};
+use fb_sim::Inputs;
 use fb_types::{Library, Plan};
 use fb_why::place::place_at;
-use fb_why_bytes::TextLocation;
+use fb_why_bytes::{TextLocation, place_in_deployment};
 use std::alloc::{AllocError, Global};
 
 /// A file, a line and a column, as editors take them.
@@ -35,23 +38,42 @@ fn place_in_files(
     }
 }
 
-/// The place of a warning: in the declaration, or for a link at the beginning of the deployment.
+/// The place of a link: that of its table in the deployment.
+fn place_of_link(
+    alloc: Global,
+    naming: &Naming<'_, '_, '_>,
+    deploy: Option<&[u8]>,
+    link: usize,
+) -> Result<String, AllocError>
+    ensures { IfOk result (λ text. IsLinkPlace (naming_of naming.now) (option_map (λ b. b.now) deploy.entry) link (string_bytes text) ⊎ (string_bytes text ≡ [])) }
+{
+    let (Some(name), Some(bytes)) = (naming.deploy, deploy) else {
+        return Ok(String::new(alloc));
+    };
+    let position = DeployPosition::Table(TableLocation::Link(link));
+    match place_in_deployment(bytes, position) {
+        Some(at) => place_text(alloc, name, at.line, at.column),
+        None => Ok(String::new(alloc)),
+    }
+}
+
+/// The place of a warning in the declaration, or for a link in the deployment.
 fn place_of(
     alloc: Global,
     naming: &Naming<'_, '_, '_>,
-    declaration: &[u8],
+    inputs: &Inputs<'_>,
     library: &Library,
     warning: &Warning,
 ) -> Result<String, AllocError>
-    ensures { IfOk result (λ text. IsPlace (naming_of naming.now) declaration.now library.now warning.now (string_bytes text)) }
+    ensures { IfOk result (λ text. IsPlace (naming_of naming.now) inputs.now library.now warning.now (string_bytes text)) }
 {
+    if let Warning::UnusedLink { link } = warning {
+        return place_of_link(alloc, naming, inputs.deploy, *link);
+    }
     let Some(position) = position_of(warning) else {
-        return match naming.deploy {
-            Some(name) => place_text(alloc, name, 1, 1),
-            None => Ok(String::new(alloc)),
-        };
+        return Ok(String::new(alloc));
     };
-    match place_at(alloc, declaration, library, position)? {
+    match place_at(alloc, inputs.declaration, library, position)? {
         Some(at) => place_in_files(alloc, naming, at),
         None => Ok(String::new(alloc)),
     }
@@ -62,14 +84,14 @@ fn push_line(
     alloc: Global,
     text: &mut Vec<u8>,
     naming: &Naming<'_, '_, '_>,
-    declaration: &[u8],
+    inputs: &Inputs<'_>,
     library: &Library,
     plan: &Plan,
     warning: &Warning,
 ) -> Result<(), AllocError>
-    ensures { IfOk result (λ _. IsAdded (naming_of naming.now) declaration.now library.now warning.now text.old.items text.new.items) }
+    ensures { IfOk result (λ _. IsAdded (naming_of naming.now) inputs.now library.now warning.now text.old.items text.new.items) }
 {
-    let place = place_of(alloc, naming, declaration, library, warning)?;
+    let place = place_of(alloc, naming, inputs, library, warning)?;
     let words = line_of(alloc, library, plan, warning)?;
     text.extend_from_slice(place.as_bytes())?;
     text.extend_from_slice(words.as_bytes())?;
@@ -80,24 +102,16 @@ fn push_line(
 pub(crate) fn all_lines(
     alloc: Global,
     naming: &Naming<'_, '_, '_>,
-    declaration: &[u8],
+    inputs: &Inputs<'_>,
     library: &Library,
     plan: &Plan,
     warnings: &[Warning],
 ) -> Result<Vec<u8>, AllocError>
-    ensures { IfOk result (λ text. AreLines (naming_of naming.now) declaration.now library.now warnings.now text.items) }
+    ensures { IfOk result (λ text. AreLines (naming_of naming.now) inputs.now library.now warnings.now text.items) }
 {
     let mut text = Vec::new(alloc);
     for warning in warnings {
-        push_line(
-            alloc,
-            &mut text,
-            naming,
-            declaration,
-            library,
-            plan,
-            warning,
-        )?;
+        push_line(alloc, &mut text, naming, inputs, library, plan, warning)?;
     }
     Ok(text)
 }

@@ -71,7 +71,7 @@ const STRICT_HELP: &str = "Counts a rule that a trace leaves undecided as broken
 const CUT_HELP: &str = "Accepts traces that end without a last line or within a line.";
 
 const WHY_HELP: &str =
-    "Prints the location of a refusal or a file fault on another line, if it is known.";
+    "Prints the locations of a refusal or a file fault on further lines, if they are known.";
 
 const FIRST_HELP: &str = "The file with the first trace; `-` is standard input, here and below.";
 

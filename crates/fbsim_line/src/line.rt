@@ -184,7 +184,7 @@ const TRACE_HELP: &str =
     "The form of the trace; in form 2 each line except the last begins with the class, a and b of its event.";
 
 const WHY_HELP: &str =
-    "Prints the location of a refusal or a file fault on another line, if it is known.";
+    "Prints the locations of a refusal, a file fault or a stop on further lines, if they are known.";
 
 const LINT_HELP: &str =
     "Reports warnings about files that are accepted on standard error, a line each; explain L01 explains the first.";

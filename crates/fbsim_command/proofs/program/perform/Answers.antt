@@ -1,4 +1,4 @@
-use Rattle.std.proofs.Common.{[], List, ℕ, map, option_map, inl, inr, refl, ap, subst, Err}
+use Rattle.std.proofs.Common.{◌++◌, [], List, ℕ, map, option_map, inl, inr, refl, ap, subst, Err}
 use Rattle.fbsim_command.specs.Command.{Reports}
 use Rattle.fbsim_command.specs.Texts.{given_of, lines_of}
 use Rattle.fbsim_command.proofs.Reporting.{quiet}
@@ -6,18 +6,22 @@ use Rattle.fbsim_command.proofs.program.perform.Goals as goal
 
 pub returns-in-Ok : goal.returns-in-Ok
 returns-in-Ok g c = (
-  c.meet-end.ensures.reported.0,
-  c.meet-end.ensures.reported.2,
+  c.meet-end.ensures.reported.0 ++ c.report_stop_after-is_heard.ensures.0,
+  c.report_stop_after-is_heard.ensures.2 (g.E.Write.contents c.args.err.now) c.meet-end.ensures.reported.0 c.meet-end.ensures.reported.2,
   inl (record {
     lines = lines_of c.in-Ok.texts;
     given = given_of c.in-Ok.texts;
     read = c.in-Ok.ensures.read;
     inner = c.meet-end.result.0;
     done = c.meet-end.ensures.done;
+    first = c.meet-end.ensures.reported.0;
     reported =
         subst
         (λ (ls : List ℕ). Reports (record { types = map (λ t. t.now) c.args.types.now; own = c.args.task.now.declaration.now; deploy = option_map (λ d. d.now) c.args.task.now.deploy; lines = ls }) (given_of c.in-Ok.texts) c.args.task.now.action (g.W.Write.contents c.args.out.now) (g.W.Write.contents c.meet-end.new.out) c.meet-end.result.0 c.meet-end.ensures.reported.0)
         c.as_slice.ensures.value c.meet-end.ensures.reported.1;
+    last = c.report_stop_after-is_heard.ensures.0;
+    located = c.report_stop_after-is_heard.ensures.1;
+    reports_are = refl;
     noted = c.note_to-note.ensures;
     ends = c.end_with-end.ensures;
   }),

@@ -1,0 +1,27 @@
+use Rattle.std.proofs.Common.{◌∙◌, ℕ, List, refl, sym, ap, subst}
+use Rattle.std.specs.Prelude.{option_map}
+use Rattle.fb_types.specs.Charts.{leaving}
+use Rattle.fb_types.specs.Numbers.{event_at}
+use Rattle.fb_st.specs.Frames.{values_of}
+use Rattle.fb_st.specs.declared.frame.Slot.{Slot}
+use Rattle.fb_ecc.specs.Indexes.{index, state_at}
+use Rattle.fb_stop.specs.Sites.{FailsAt}
+use Rattle.fb_stop.proofs.Failing.{fails_at}
+use Rattle.fb_stop.proofs.reaction.link.Goals as goal
+
+pub returns-in-Err-clause-link : goal.returns-in-Err-clause-link
+returns-in-Err-clause-link c =
+    let block = c.args.block.now in
+    let event = option_map (event_at block.ports.event_inputs) c.args.present in
+    let state = c.args.state.now in
+    let new = c.clear.new.state in
+    let left = c.clear.new.meter.left in
+    let emits = c.args.emits.now in
+    let ts = leaving block (state_at block state.state) in
+    record {
+      state = refl;
+      here = subst (λ (j : ℕ). FailsAt ts event (values_of state.frame) c.args.meter.now.left c.in-Err.reason j) (sym c.failing.ensures)
+          (fails_at event (values_of state.frame) ts c.args.meter.now.left c.in-Err.reason left c.in-Err.ensures.trial);
+      tried = c.in-Err.ensures.trial;
+      stays = ap (λ (n : ℕ). index block n new.frame left emits) c.in-Err.ensures.stopped ∙ ap (λ (f : List Slot). index block state.state f left emits) c.clear.ensures.frame;
+    }

@@ -1,0 +1,23 @@
+use Rattle.std.proofs.Common.{ℕ, List}
+use Rattle.fb_types.specs.Headline.{system_of, stimuli_of}
+use Rattle.fb_types.specs.Simulation.{Taken, opening}
+use Rattle.fb_types.specs.States.{Config}
+use Rattle.fb_sim.specs.Completions.{Reaches}
+use Rattle.fb_sim.specs.Counts.{fuel_of_all}
+use Rattle.fb_sim.specs.Machines.{IsAt, IsReady}
+use Rattle.fb_stop.specs.Copies.{AreAllCopies}
+use Rattle.fb_stop.specs.Runs.{machine_of}
+use Rattle.fb_stop.proofs.replay.Replay.go_on.Given as goal
+
+abbrev pub invariant-loop-self : goal.invariant-loop-self
+invariant-loop-self l = record {
+  ready : (tick : ℕ) × IsReady l.system l.limit tick (machine_of l.self.run);
+  at : Config;
+  taken : List Taken;
+  reaches : Reaches l.system l.horizon l.limit (opening (system_of l.system) (stimuli_of l.system)) at taken;
+  is : IsAt l.system at.state at.agenda (machine_of l.self.run);
+  copies : AreAllCopies l.system at.state l.self.copies.items;
+}
+
+abbrev pub decreases-loop-self : goal.decreases-loop-self
+decreases-loop-self l = fuel_of_all l.horizon l.limit l.self.run.meters.items

@@ -1,0 +1,72 @@
+-- Where a stop is shown in the declaration (this project's own).
+use Rattle.std.specs.Prelude.{◌≡◌, ◌⊎◌, ℕ, [], ◌∷◌, length, take, true, Option, Some, None, slice_get}
+use Rattle.std.specs.List.{filter}
+use Rattle.fb_types.specs.Blocks.{Basic}
+use Rattle.fb_types.specs.Headline.{Inputs, system_of}
+use Rattle.fb_types.specs.Names.{Name, same_name}
+use Rattle.fb_types.specs.Numbers.{path_at}
+use Rattle.fb_types.specs.declared.library.Action.{Action}
+use Rattle.fb_types.specs.declared.library.Algorithm.{Algorithm}
+use Rattle.fb_types.specs.declared.library.BasicType.{BasicType}
+use Rattle.fb_types.specs.declared.library.BlockType.TheVariants as type
+use Rattle.fb_types.specs.declared.library.State.{State}
+use Rattle.fb_types.specs.declared.library.Transition.{Transition}
+use Rattle.fb_types.specs.declared.run.Target.{Target}
+use Rattle.fb_types.specs.declared.text.Stmt.{Stmt}
+use Rattle.fb_ecc.specs.Indexes.{state_at}
+use Rattle.fb_read_positions.specs.declared.position.BasicPart.{BasicPart}
+use Rattle.fb_read_positions.specs.declared.position.BasicPart.TheVariants as part
+use Rattle.fb_read_positions.specs.declared.position.Position.{Position}
+use Rattle.fb_read_positions.specs.declared.position.Position.TheVariants as position
+use Rattle.fb_read_positions.specs.declared.position.TransitionPart.TheVariants.{Condition}
+use Rattle.fb_stop.specs.declared.found.EventSite.TheVariants.{Port}
+use Rattle.fb_stop.specs.declared.found.FoundStop.{FoundStop}
+use Rattle.fb_stop.specs.declared.found.StopSite.TheVariants.{InReaction}
+use Rattle.fb_stop.specs.declared.site.Site.{Site}
+use Rattle.fb_stop.specs.declared.site.Site.TheVariants as site
+
+-- The transition at an index of the text leaves the state, and this many do before it.
+pub record IsNth (t : BasicType) (state : Name) (nth index : ℕ) : Type 0 where
+  pub transition : Transition
+  pub at : slice_get t.transitions index ≡ Some transition
+  pub leaves : same_name transition.from state ≡ true
+  pub before : length (filter (λ x. same_name x.from state) (take index t.transitions)) ≡ nth
+
+-- The part is the only statement of the algorithm of this name, or the algorithm.
+pub record IsAlgorithmPart (t : BasicType) (n : Name) (x : BasicPart) : Type 0 where
+  pub index : ℕ
+  pub algorithm : Algorithm
+  pub at : slice_get t.algorithms index ≡ Some algorithm
+  pub named : same_name n algorithm.name ≡ true
+  pub is : (x ≡ part.Algorithm index) ⊎ ((s : Stmt) × (algorithm.body.statements ≡ s ∷ []) × (x ≡ part.Statement index 0))
+
+-- .. of the action at an index of a state, or the action, which has no algorithm
+abbrev pub IsPartOf : BasicType → (state index : ℕ) → Option Name → BasicPart → Type 0
+IsPartOf t s j None x = x ≡ part.Action s j
+IsPartOf t s j (Some n) x = IsAlgorithmPart t n x
+
+pub record IsActionPart (t : BasicType) (s j : ℕ) (x : BasicPart) : Type 0 where
+  pub state : State
+  pub there : slice_get t.states s ≡ Some state
+  pub action : Action
+  pub at : slice_get state.actions j ≡ Some action
+  pub is : IsPartOf t s j action.algorithm x
+
+-- The part of a basic type is the condition of the transition of the site, or the algorithm of its action.
+abbrev pub IsSitePart : BasicType → Site → BasicPart → Type 0
+IsSitePart t (site.Transition s j) x = (index : ℕ) × (x ≡ part.Transition index Condition) × IsNth t (state_at t s) j index
+IsSitePart t (site.Action s j) x = IsActionPart t s j x
+
+-- The position is that of the site in the type of the block at whose port the event arrives.
+pub record IsStopPosition (i : Inputs) (stop : FoundStop) (x : Position) : Type 0 where
+  pub target : Target
+  pub port : stop.at ≡ Port target
+  pub site : Site
+  pub reaction : stop.site ≡ InReaction site
+  pub index : ℕ
+  pub block : BasicType
+  pub declared : slice_get i.library.blocks index ≡ Some (type.Basic block)
+  pub kind : (system_of i).kind (path_at (system_of i) target.instance) ≡ Some (Basic block)
+  pub in_part : BasicPart
+  pub is : x ≡ position.InBasic index in_part
+  pub part_is : IsSitePart block site in_part

@@ -1,0 +1,249 @@
+//! A run with copies of its basic blocks, which react to the same events.
+
+ghost use Rattle.std.specs.Prelude.{◌≡◌, ◌^◌, ◌<◌, ◌≤◌, ℕ, suc, IfNone, IfOk, IfSome, None, OnOk, length};
+ghost use Rattle.fb_types.specs.Headline.{system_of, stimuli_of};
+ghost use Rattle.fb_types.specs.Keys.{without};
+ghost use Rattle.fb_types.specs.Simulation.{opening_agenda, opening_state};
+ghost use Rattle.fb_types.specs.States.{State};
+ghost use Rattle.fb_types.specs.States as model;
+ghost use Rattle.fb_types.specs.Takes.{begun};
+ghost use Rattle.fb_net.specs.Events.{IsEventIn, IsKeyOf, event_of};
+ghost use Rattle.fb_laws.specs.Typed.{IsTypedEvent};
+ghost use Rattle.fb_resource.specs.Counts.{IsMetered, meter_of};
+ghost use Rattle.fb_sim.specs.Machines.{IsAt, IsReady};
+ghost use Rattle.fb_sim.specs.Runs.{IsSpent};
+ghost use Rattle.fb_stop.specs.Copies.{AreAllCopies, IsFollowed, IsLocated, IsSiteBy, Steps, Stopping};
+ghost use Rattle.fb_stop.specs.Found.{ArrivesAt, Finds};
+ghost use Rattle.fb_stop.specs.Runs.{machine_of};
+
+use crate::copies::{basic_type, follow, locate_in, open_copies};
+use crate::found::{EventSite, FoundStop, StopSite};
+use crate::run::Run;
+use crate::site::Site;
+use fb_agenda::Least;
+use fb_ecc::BasicState;
+use fb_resource::TickCounts;
+use fb_system::System;
+use fb_types::{Emits, Event, Key};
+use std::alloc::{AllocError, Global};
+
+/// A run, and for each instance that is a basic block a copy of it.
+pub(crate) struct Replay {
+    pub(crate) run: Run,
+    pub(crate) copies: Vec<Option<BasicState>>,
+    /// Room for what a copy emits in one reaction.
+    pub(crate) emits: Emits,
+}
+
+// Drop is written by hand, so that callers need not prove it again (docs/DECISIONS.md, "Drop").
+impl Drop for Replay {
+    fn drop(self) {
+        let Replay {
+            run: _,
+            copies: _,
+            emits: _,
+        } = self;
+    }
+}
+
+/// Where an event arrives.
+fn site_of(system: &System, event: &Event) -> EventSite
+    requires { (resource : ℕ) × IsEventIn system.now resource event.now }
+    ensures { ArrivesAt (system_of system.now) (event_of system.now event.now) result }
+{
+    match event {
+        Event::Stimulus(row) => EventSite::Port(system.stimulus(*row).target),
+        Event::Timer(instance) => EventSite::Timer(*instance),
+        Event::Arrival(message) => EventSite::Port(message.target),
+        Event::Local(target) => EventSite::Port(*target),
+    }
+}
+
+/// The steps that are left for the reaction to an event at a tick, or `None` if none is left for the event itself.
+fn steps_left(counts: TickCounts, limit: u64, tick: u64) -> Option<u64>
+    requires { IsMetered limit counts }
+    ensures some { IfSome result (λ left. (begun limit tick (meter_of counts)).left ≡ suc left) }
+    ensures none { IfNone result ((begun limit tick (meter_of counts)).left ≡ 0) }
+{
+    let mut counts = counts;
+    if counts.step(limit, tick) {
+        Some(counts.left)
+    } else {
+        None
+    }
+}
+
+impl Replay {
+    /// The run of a system at its beginning.
+    ///
+    /// # Errors
+    /// When memory runs out.
+    pub(crate) fn open(alloc: Global, system: &System) -> Result<Replay, AllocError>
+        ensures ready { IfOk result (λ m. (limit : ℕ) → IsReady system.now limit 0 (machine_of m.run)) }
+        ensures at { IfOk result (λ m. IsAt system.now (opening_state (system_of system.now)) (opening_agenda (system_of system.now) (stimuli_of system.now)) (machine_of m.run)) }
+        ensures copies { IfOk result (λ m. AreAllCopies system.now (opening_state (system_of system.now)) m.copies.items) }
+    {
+        let run = Run::open(alloc, system)?;
+        let copies = open_copies(alloc, system)?;
+        let emits = Emits::new(alloc);
+        Ok(Replay { run, copies, emits })
+    }
+
+    /// The copy of the block at which an event arrived reacts to it, with what the line of the event says, which is the
+    /// first one, and with these steps left.
+    ///
+    /// # Errors
+    /// When memory runs out.
+    fn follow_at(
+        &mut self,
+        system: &System,
+        at: EventSite,
+        left: Option<u64>,
+    ) -> Result<(), AllocError>
+        requires copies { (s : State) × AreAllCopies system.now s self.old.copies.items }
+        requires arrives { (e : model.Event) × ArrivesAt (system_of system.now) e at }
+        ensures followed { OnOk result (IsFollowed system.now at left self.old.run.given.outbox.lines.items self.old.copies.items self.new.copies.items) }
+        ensures run { self.new.run ≡ self.old.run }
+    {
+        let EventSite::Port(target) = at else {
+            return Ok(());
+        };
+        let Some(left) = left else {
+            return Ok(());
+        };
+        let Some(block) = basic_type(system, target.instance) else {
+            return Ok(());
+        };
+        let Some(line) = self.run.given.outbox.lines.first() else {
+            return Ok(());
+        };
+        follow(
+            &mut self.copies[target.instance as usize],
+            block,
+            target.event,
+            line.values.as_slice(),
+            left,
+            &mut self.emits,
+        )
+    }
+
+    /// The site at which the reaction to an event stops, with these steps left: that of the copy, which has not reacted.
+    ///
+    /// # Errors
+    /// When memory runs out.
+    fn locate_at(&mut self, system: &System, at: EventSite, left: u64) -> Result<Site, AllocError>
+        requires { Stopping system.now at left self.old.run.given.outbox.lines.items self.old.copies.items }
+        ensures located { IfOk result (IsLocated system.now at left self.old.run.given.outbox.lines.items self.old.copies.items) }
+        ensures run { self.new.run ≡ self.old.run }
+    {
+        let EventSite::Port(target) = at else {
+            unreachable!();
+        };
+        let Some(block) = basic_type(system, target.instance) else {
+            unreachable!();
+        };
+        let Some(line) = self.run.given.outbox.lines.first() else {
+            unreachable!();
+        };
+        let stop = locate_in(
+            &mut self.copies[target.instance as usize],
+            block,
+            target.event,
+            line.values.as_slice(),
+            left,
+            &mut self.emits,
+        )?;
+        match stop {
+            Some(stop) => Ok(stop.site),
+            None => unreachable!(),
+        }
+    }
+
+    /// What gives the reason at an event that stops the run: no step was left for the event, or the reaction stops.
+    ///
+    /// # Errors
+    /// When memory runs out.
+    fn site_at(
+        &mut self,
+        system: &System,
+        at: EventSite,
+        left: Option<u64>,
+    ) -> Result<StopSite, AllocError>
+        requires { IfSome left (λ n. Stopping system.now at n self.old.run.given.outbox.lines.items self.old.copies.items) }
+        ensures site { IfOk result (IsSiteBy system.now at left self.old.run.given.outbox.lines.items self.old.copies.items) }
+        ensures run { self.new.run ≡ self.old.run }
+    {
+        match left {
+            Some(left) => Ok(StopSite::InReaction(self.locate_at(system, at, left)?)),
+            None => Ok(StopSite::BeforeEvent),
+        }
+    }
+
+    /// Takes an event that was on the agenda, and has left it; the copy of its block reacts to it too. `Some` is where the
+    /// event stops the run.
+    ///
+    /// # Errors
+    /// When memory runs out, or a link has carried 2^128 messages.
+    fn step(
+        &mut self,
+        system: &System,
+        limit: u64,
+        key: &Key,
+        event: &Event,
+    ) -> Result<Option<FoundStop>, AllocError>
+        requires ready { IsReady system.now limit key.now.tick (machine_of self.old.run) }
+        requires represents { (s : State) × (a : model.Agenda) × IsAt system.now s (without key.now a) (machine_of self.old.run) × AreAllCopies system.now s self.old.copies.items }
+        requires event { IsEventIn system.now key.now.resource event.now }
+        requires own { IsKeyOf key.now event.now }
+        requires typed { IsTypedEvent (system_of system.now) (event_of system.now event.now) }
+        requires named { key.now.resource < length (system_of system.now).resource_names }
+        requires early { key.now.tick ≤ 10 ^ 12 }
+        requires few { limit ≤ 10 ^ 7 }
+        ensures steps { IfOk result (λ found. (s : State) (a : model.Agenda) → IsAt system.now s (without key.now a) (machine_of self.old.run) → AreAllCopies system.now s self.old.copies.items
+            → Steps system.now limit s a key.now (event_of system.now event.now) self.new found) }
+        ensures ready { OnOk result (IsReady system.now limit key.now.tick (machine_of self.new.run)) }
+        ensures spent { IfOk result (λ found. found ≡ None → IsSpent limit key.now self.old.run.meters.items self.new.run.meters.items) }
+    {
+        system.facts();
+        self.run.clear_lines();
+        let at = site_of(system, event);
+        let left = steps_left(self.run.meters[key.resource as usize], limit, key.tick);
+        let Some(reason) = self.run.take(system, limit, key, event)? else {
+            self.follow_at(system, at, left)?;
+            return Ok(None);
+        };
+        let site = self.site_at(system, at, left)?;
+        Ok(Some(FoundStop {
+            key: *key,
+            at,
+            reason,
+            site,
+        }))
+    }
+
+    /// Takes all events below the horizon, least key first, or up to the first stop, which is answered.
+    ///
+    /// # Errors
+    /// When memory runs out, or a link has carried 2^128 messages.
+    pub(crate) fn go_on(
+        &mut self,
+        system: &System,
+        horizon: u64,
+        limit: u64,
+    ) -> Result<Option<FoundStop>, AllocError>
+        requires ready { IsReady system.now limit 0 (machine_of self.old.run) }
+        requires at { IsAt system.now (opening_state (system_of system.now)) (opening_agenda (system_of system.now) (stimuli_of system.now)) (machine_of self.old.run) }
+        requires copies { AreAllCopies system.now (opening_state (system_of system.now)) self.old.copies.items }
+        requires early { horizon ≤ 10 ^ 12 }
+        requires few { limit ≤ 10 ^ 7 }
+        ensures { IfOk result (Finds system.now horizon limit) }
+    {
+        let mut least = Least::new();
+        while self.run.agenda.take_least_into(horizon, &mut least) {
+            if let Some(found) = self.step(system, limit, &least.key, &least.event)? {
+                return Ok(Some(found));
+            }
+        }
+        Ok(None)
+    }
+}

@@ -1,0 +1,225 @@
+-- The findings of a number, from the locations of a library and a plan to the bytes that were read.
+use Rattle.std.proofs.Common.{◌≡◌, ℕ, suc, false, List, [], ◌∷◌, map, take, length, Option, Some, None, Result, Ok, Err, Vec, Global, refl, sym, ◌∙◌, ap, subst, inl, inr, arith}
+use Rattle.std.specs.Prelude.{All, IfOk, IfSome, MatchOption, nat_lt}
+use Rattle.std.specs.Option.{option_to_list}
+use Rattle.std.proofs.lemmas.List.Elements.{All-cons, All-map, All-nil, All-take, All-weaker}
+use Rattle.fb_read.specs.Whole.{IsLibraryText, IsMemory}
+use Rattle.fb_read.specs.declared.error.ReadError.{ReadError}
+use Rattle.fb_types.specs.Joined.{TooHigh}
+use Rattle.fb_types.specs.declared.deploy.Plan.{Plan}
+use Rattle.fb_types.specs.declared.library.Library.{Library}
+use Rattle.fb_why.specs.Causes.{IsCause}
+use Rattle.fb_why.specs.Findings.{AppliesAt, AppliesNowhere, Finds, FindsInText, FindsOf, IsNoPlan, IsNoText, IsPlan, IsSilent, IsSilentOf}
+use Rattle.fb_why.specs.Heights.{IsTooHighAt}
+use Rattle.fb_why.specs.Listings.{AreAll, AreFlaws, AreFound, AreFoundBy, AreOne, AreShown, AreSpots, IsOnce, locations_of, most_findings}
+use Rattle.fb_why.specs.Places.{IsPlacedFinding}
+use Rattle.fb_why.specs.declared.cause.Cause.{Cause}
+use Rattle.fb_why.specs.declared.cause.Cause.TheVariants as cause
+use Rattle.fb_why.specs.declared.cause.Flaw.{Flaw}
+use Rattle.fb_why.specs.declared.cause.Flaw.TheVariants as flaw
+use Rattle.fb_why.specs.declared.heights.Descent.{Descent}
+use Rattle.fb_why.specs.declared.listing.Findings.{Findings}
+use Rattle.fb_why.specs.declared.place.PlacedFinding.{PlacedFinding}
+use Rattle.fb_why.specs.declared.spot.Spot.{Spot}
+use Rattle.fb_why.specs.declared.spot.Spot.TheVariants as spot
+use Rattle.fb_why.proofs.AllTwice.{none_mapped}
+
+-- ---- Locations of a library and a plan
+
+-- locations of one kind are those of a refusal
+pub spots_of :
+    {T E : Type 0} (f : Flaw) (lib : Library) (plan : Plan) (at : T → Spot) (made : Result (Vec Spot Global) E) (found xs : List T) → IfOk made (λ v. v.items ≡ map at found)
+    → found ≡ xs → All (λ p. AppliesAt f lib plan (at p)) xs → (xs ≡ [] → AppliesNowhere f lib plan) → AreAll f lib plan (map at xs)
+    → IfOk made (λ v. AreSpots f lib plan v.items)
+spots_of f lib plan at (Err e) found xs is same each none all = tt
+spots_of f lib plan at (Ok v) found xs is same each none all =
+    let e : v.items ≡ map at xs = is ∙ ap (map at) same in
+    record {
+      each = subst (λ (ss : List Spot). All (AppliesAt f lib plan) ss) (sym e) (All-map (AppliesAt f lib plan) at xs each);
+      none = λ h. none (none_mapped at xs (sym e ∙ h));
+      all = subst (λ (ss : List Spot). AreAll f lib plan ss) (sym e) all;
+    }
+
+pub one_high :
+    {E : Type 0} (lib : Library) (plan : Plan) (d : Descent) (made : Result (Vec Spot Global) E) → IfOk made (λ v. v.items ≡ spot.TooHigh d ∷ []) → IsTooHighAt lib d
+    → IfOk made (λ v. AreSpots flaw.TooHigh lib plan v.items)
+one_high lib plan d (Err e) is high = tt
+one_high lib plan d (Ok v) is high =
+    let P : Spot → Type 0 = AppliesAt flaw.TooHigh lib plan in
+    record {
+      each = subst (λ (ss : List Spot). All P ss) (sym is) (All-cons P (spot.TooHigh d) [] high (All-nil P));
+      none = λ h. absurd (let no : spot.TooHigh d ∷ [] ≡ [] = sym is ∙ h in cc);
+      all = let one : length v.items ≡ 1 = ap (λ (ss : List Spot). length ss) is in omega (arith, one);
+    }
+
+pub no_high : (lib : Library) (plan : Plan) (spots : List Spot) → spots ≡ [] → ¬ (TooHigh lib) → AreSpots flaw.TooHigh lib plan spots
+no_high lib plan spots is low =
+    let P : Spot → Type 0 = AppliesAt flaw.TooHigh lib plan in
+    record {
+      each = subst (λ (ss : List Spot). All P ss) (sym is) (All-nil P);
+      none = λ h. low;
+      all = let none : length spots ≡ 0 = ap (λ (ss : List Spot). length ss) is in omega (arith, none);
+    }
+
+-- ---- What is read
+
+pub shown_of :
+    {E : Type 0} (f : Flaw) (text : List ℕ) (bytes : Option (List ℕ)) (lib : Library) (plan : Plan) (spots given : List Spot) (made : Result Findings E) → IsLibraryText text lib → IsPlan bytes plan
+    → AreSpots f lib plan spots → given ≡ spots → IfOk made (λ s. locations_of s ≡ take most_findings given) → IfOk made (λ s. s.more ≡ nat_lt most_findings (length given))
+    → IfOk made (AreShown f text bytes)
+shown_of f text bytes lib plan spots given (Err e) read planned are same shown more = tt
+shown_of f text bytes lib plan spots given (Ok s) read planned are same shown more = record {
+  library = lib;
+  plan = plan;
+  spots = spots;
+  read = read;
+  planned = planned;
+  are = are;
+  shown = shown ∙ ap (take most_findings) same;
+  more = more ∙ ap (λ (ss : List Spot). nat_lt most_findings (length ss)) same;
+}
+
+pub shown_flaws :
+    {E : Type 0} (f : Flaw) (text : List ℕ) (bytes : Option (List ℕ)) (made : Result Findings E) → IfOk made (AreShown f text bytes) → IfOk made (AreFlaws f text bytes)
+shown_flaws f text bytes (Err e) h = tt
+shown_flaws f text bytes (Ok s) h = inl h
+
+-- nothing is shown of what can't be read
+pub unread_plan :
+    {E : Type 0} (f : Flaw) (text : List ℕ) (bytes : Option (List ℕ)) (made : Result Findings E) → IfOk made (λ s. s.shown.items ≡ []) → IfOk made (λ s. s.more ≡ false)
+    → IsNoPlan bytes → IfOk made (AreFlaws f text bytes)
+unread_plan f text bytes (Err e) nothing no_more why = tt
+unread_plan f text bytes (Ok s) nothing no_more why = inr (record { nothing = nothing; no_more = no_more; unread = inr why })
+
+pub unread_text :
+    {E : Type 0} (f : Flaw) (text : List ℕ) (bytes : Option (List ℕ)) (fault : ReadError) (made : Result Findings E)
+    → IfOk made (λ s. (s.shown.items ≡ []) × (s.more ≡ false) × ¬ (IsMemory fault)) → (¬ (IsMemory fault) → IsNoText text) → IfOk made (AreFlaws f text bytes)
+unread_text f text bytes fault (Err e) nothing why = tt
+unread_text f text bytes fault (Ok s) nothing why = inr (record { nothing = nothing.0; no_more = nothing.1; unread = inl (why nothing.2) })
+
+pub nothing_placed : {E : Type 0} (text : List ℕ) (made : Result Findings E) → IfOk made (λ s. s.shown.items ≡ []) → IfOk made (λ s. All (IsPlacedFinding text) s.shown.items)
+nothing_placed text (Err e) nothing = tt
+nothing_placed text (Ok s) nothing = subst (λ (rs : List PlacedFinding). All (IsPlacedFinding text) rs) (sym nothing) (All-nil (IsPlacedFinding text))
+
+pub unplaced_text :
+    {E : Type 0} (text : List ℕ) (fault : ReadError) (made : Result Findings E) → IfOk made (λ s. (s.shown.items ≡ []) × (s.more ≡ false) × ¬ (IsMemory fault))
+    → IfOk made (λ s. All (IsPlacedFinding text) s.shown.items)
+unplaced_text text fault (Err e) nothing = tt
+unplaced_text text fault (Ok s) nothing = subst (λ (rs : List PlacedFinding). All (IsPlacedFinding text) rs) (sym nothing.0) (All-nil (IsPlacedFinding text))
+
+-- ---- One finding at most
+
+pub once_found :
+    {E F : Type 0} (c : Cause) (n : ℕ) (text : List ℕ) (plan rows : Option (List ℕ)) (found : Result (Option PlacedFinding) E) (made : Result Findings F)
+    → IfOk found (λ o. MatchOption o (IsSilentOf c n text plan rows) (λ r. FindsOf c n text plan rows r.finding.location)) → IfOk made (IsOnce found)
+    → IfOk made (AreOne c n text plan rows)
+once_found c n text plan rows found (Err e) holds is = tt
+once_found c n text plan rows (Err e) (Ok f) holds is = absurd (let no = is.1 in cc)
+once_found c n text plan rows (Ok o) (Ok f) holds is =
+    let same : o ≡ is.0 = let e = is.1 in cc in
+    record {
+      found = is.0;
+      shown = is.2;
+      no_more = is.3;
+      finds = subst (λ (q : Option PlacedFinding). MatchOption q (IsSilentOf c n text plan rows) (λ r. FindsOf c n text plan rows r.finding.location)) same holds;
+    }
+
+one_placed : (text : List ℕ) (o : Option PlacedFinding) → IfSome o (IsPlacedFinding text) → All (IsPlacedFinding text) (option_to_list o)
+one_placed text None h = All-nil (IsPlacedFinding text)
+one_placed text (Some r) h = All-cons (IsPlacedFinding text) r [] h (All-nil (IsPlacedFinding text))
+
+pub once_placed :
+    {E F : Type 0} (text : List ℕ) (found : Result (Option PlacedFinding) E) (made : Result Findings F) → IfOk found (λ o. IfSome o (IsPlacedFinding text)) → IfOk made (IsOnce found)
+    → IfOk made (λ f. All (IsPlacedFinding text) f.shown.items)
+once_placed text found (Err e) holds is = tt
+once_placed text (Err e) (Ok f) holds is = absurd (let no = is.1 in cc)
+once_placed text (Ok o) (Ok f) holds is =
+    let same : o ≡ is.0 = let e = is.1 in cc in
+    subst (λ (rs : List PlacedFinding). All (IsPlacedFinding text) rs) (sym is.2) (one_placed text is.0 (subst (λ (q : Option PlacedFinding). IfSome q (IsPlacedFinding text)) same holds))
+
+pub is_once :
+    {E F : Type 0} (made : Result (Option PlacedFinding) E) (o : Option PlacedFinding) (shown : Result Findings F) → made ≡ Ok o → IfOk shown (λ f. f.shown.items ≡ option_to_list o)
+    → IfOk shown (λ f. f.more ≡ false) → IfOk shown (IsOnce made)
+is_once made o (Err e) was is more = tt
+is_once made o (Ok f) was is more = (o, was, is, more)
+
+-- a text may have no location
+pub text_found :
+    {E : Type 0} (n : ℕ) (text : List ℕ) (plan rows : Option (List ℕ)) (found : Result (Option PlacedFinding) E) → IfOk found (λ o. IfSome o (λ r. FindsInText n text r.finding.location))
+    → IfOk found (λ o. MatchOption o (IsSilentOf cause.Text n text plan rows) (λ r. FindsOf cause.Text n text plan rows r.finding.location))
+text_found n text plan rows (Err e) h = tt
+text_found n text plan rows (Ok None) h = tt
+text_found n text plan rows (Ok (Some r)) h = h
+
+-- of another number nothing is shown
+pub other_found :
+    {E : Type 0} (n : ℕ) (text : List ℕ) (plan rows : Option (List ℕ)) (made : Result Findings E) → IfOk made (λ f. f.shown.items ≡ []) → IfOk made (λ f. f.more ≡ false)
+    → IfOk made (AreOne cause.Other n text plan rows)
+other_found n text plan rows (Err e) is more = tt
+other_found n text plan rows (Ok f) is more = record { found = None; shown = is; no_more = more; finds = tt }
+
+pub by_cause :
+    {E : Type 0} (c d : Cause) (n : ℕ) (text : List ℕ) (plan rows : Option (List ℕ)) (made : Result Findings E) → c ≡ d → IfOk made (AreFoundBy d n text plan rows)
+    → IfOk made (AreFoundBy c n text plan rows)
+by_cause c d n text plan rows made same holds = subst (λ (e : Cause). IfOk made (AreFoundBy e n text plan rows)) (sym same) holds
+
+-- ---- By the number
+
+none_taken : (n : ℕ) (ss : List Spot) → take (suc n) ss ≡ [] → ss ≡ []
+none_taken n [] h = refl
+none_taken n (s ∷ ss) h = absurd (cc)
+
+no_location : (f : Findings) → f.shown.items ≡ [] → locations_of f ≡ []
+no_location f h = ap (map (λ (r : PlacedFinding). r.finding.location)) h
+
+each_one :
+    (c : Cause) (n : ℕ) (text : List ℕ) (plan rows : Option (List ℕ)) (f : Findings) → IsCause n c → AreOne c n text plan rows f → All (Finds text plan rows n) (locations_of f)
+each_one c n text plan rows f is one =
+    let P : Spot → Type 0 = Finds text plan rows n in
+    let at : PlacedFinding → Spot = λ r. r.finding.location in
+    subst (λ (rs : List PlacedFinding). All P (map at rs)) (sym one.shown)
+    (elim one.found as (λ (o : Option PlacedFinding). MatchOption o (IsSilentOf c n text plan rows) (λ r. FindsOf c n text plan rows r.finding.location) → All P (map at (option_to_list o))) [
+      | None ↦ λ h. All-nil P
+      | Some r ↦ λ h. All-cons P (at r) [] (c, is, h) (All-nil P)
+    ] one.finds)
+
+none_one :
+    (c : Cause) (n : ℕ) (text : List ℕ) (plan rows : Option (List ℕ)) (f : Findings) → IsCause n c → AreOne c n text plan rows f → f.shown.items ≡ [] → IsSilent text plan rows n
+none_one c n text plan rows f is one h =
+    elim one.found as
+    (λ (o : Option PlacedFinding). option_to_list o ≡ [] → MatchOption o (IsSilentOf c n text plan rows) (λ r. FindsOf c n text plan rows r.finding.location) → IsSilent text plan rows n) [
+      | None ↦ λ e s. (c, is, s)
+      | Some r ↦ λ e s. absurd (cc)
+    ] (sym one.shown ∙ h) one.finds
+
+each_found :
+    (c : Cause) (n : ℕ) (text : List ℕ) (plan rows : Option (List ℕ)) (f : Findings) → IsCause n c → AreFoundBy c n text plan rows f → All (Finds text plan rows n) (locations_of f)
+each_found (cause.Flaw flaw) n text plan rows f is (inl s) =
+    let P : Spot → Type 0 = Finds text plan rows n in
+    subst (λ (ss : List Spot). All P ss) (sym s.shown)
+    (All-take P most_findings s.spots
+    (All-weaker (AppliesAt flaw s.library s.plan) P (λ p h. (cause.Flaw flaw, is, record { library = s.library; plan = s.plan; read = s.read; planned = s.planned; applies = h })) s.spots s.are.each))
+each_found (cause.Flaw flaw) n text plan rows f is (inr u) =
+    subst (λ (ss : List Spot). All (Finds text plan rows n) ss) (sym (no_location f u.nothing)) (All-nil (Finds text plan rows n))
+each_found cause.Text n text plan rows f is one = each_one cause.Text n text plan rows f is one
+each_found cause.Bytes n text plan rows f is one = each_one cause.Bytes n text plan rows f is one
+each_found (cause.Excess x) n text plan rows f is one = each_one (cause.Excess x) n text plan rows f is one
+each_found cause.Other n text plan rows f is one = each_one cause.Other n text plan rows f is one
+
+none_found :
+    (c : Cause) (n : ℕ) (text : List ℕ) (plan rows : Option (List ℕ)) (f : Findings) → IsCause n c → AreFoundBy c n text plan rows f → f.shown.items ≡ [] → IsSilent text plan rows n
+none_found (cause.Flaw flaw) n text plan rows f is (inl s) h =
+    let nowhere = s.are.none (none_taken 19 s.spots (sym s.shown ∙ no_location f h)) in
+    (cause.Flaw flaw, is, inl (record { library = s.library; plan = s.plan; read = s.read; planned = s.planned; nowhere = nowhere }))
+none_found (cause.Flaw flaw) n text plan rows f is (inr u) h = (cause.Flaw flaw, is, inr u.unread)
+none_found cause.Text n text plan rows f is one h = none_one cause.Text n text plan rows f is one h
+none_found cause.Bytes n text plan rows f is one h = none_one cause.Bytes n text plan rows f is one h
+none_found (cause.Excess x) n text plan rows f is one h = none_one (cause.Excess x) n text plan rows f is one h
+none_found cause.Other n text plan rows f is one h = none_one cause.Other n text plan rows f is one h
+
+pub numbered :
+    {E : Type 0} (c : Cause) (n : ℕ) (text : List ℕ) (plan rows : Option (List ℕ)) (made : Result Findings E) → IsCause n c → IfOk made (AreFoundBy c n text plan rows)
+    → IfOk made (AreFound text plan rows n)
+numbered c n text plan rows (Err e) is holds = tt
+numbered c n text plan rows (Ok f) is holds =
+    record { by_cause = c; is_cause = is; found = holds; each = each_found c n text plan rows f is holds; none = none_found c n text plan rows f is holds }

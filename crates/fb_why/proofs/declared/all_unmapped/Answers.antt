@@ -1,0 +1,11 @@
+use Rattle.std.proofs.Common.{ap, map}
+use Rattle.fb_why.specs.declared.unmapped.Unmapped.{Unmapped}
+use Rattle.fb_why.specs.declared.cause.Flaw.TheVariants as flaw
+use Rattle.fb_why.specs.declared.spot.Spot.TheVariants as spot
+use Rattle.fb_why.proofs.Numbered.{spots_of}
+use Rattle.fb_why.proofs.declared.all_unmapped.Goals as goal
+
+pub returns : goal.returns
+returns c =
+    spots_of flaw.Unmapped c.args.library.now c.args.plan.now (λ (p : Unmapped). spot.Unmapped p) c.unmapped_spots.result c.as_slice.result.now c.in_ok-found.found.items c.unmapped_spots.ensures c.as_slice.ensures.value
+    c.in_ok-found.ensures.each c.in_ok-found.ensures.none (ap (map (λ (p : Unmapped). spot.Unmapped p)) c.in_ok-found.ensures.listed)

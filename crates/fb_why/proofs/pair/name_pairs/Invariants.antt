@@ -1,0 +1,12 @@
+use Rattle.std.proofs.Common.{◌≡◌, ◌++◌, drop, map, take}
+use Rattle.fb_why_kinds.specs.Listed.{each_at, each_from}
+use Rattle.std.specs.Borrow.{Bor}
+use Rattle.fb_types.specs.Names.{Name, same_name}
+use Rattle.fb_check_names.proofs.Seen.{name_cmp}
+use Rattle.fb_why.proofs.Repeating.{AreLast, pair_in}
+use Rattle.fb_why.proofs.pair.name_pairs.Given as goal
+
+abbrev pub invariant-loop-second : goal.invariant-loop-second
+invariant-loop-second l =
+    AreLast name_cmp (λ (n : Bor Name). n.now) same_name (map (λ (n : Bor Name). n.now) (take l.second l.names)) l.seen
+    × (l.pairs.items ++ each_from (pair_in same_name (λ (n : Bor Name). n.now) l.names) l.second (drop l.second l.names) ≡ each_at (pair_in same_name (λ (n : Bor Name). n.now) l.names) l.names)

@@ -1,0 +1,114 @@
+-- Where a location is in the deployment or in the stimuli (this project's own).
+use Rattle.std.specs.Prelude.{◌≡◌, ℕ, ◌+◌, ◌-◌, nat_lt, if◌then◌else◌, List, [], ◌∷◌, length, Option, Some, None, Ok}
+use Rattle.fb_types.specs.declared.deploy.Plan.{Plan}
+use Rattle.fb_types.specs.declared.deploy.ResourceEntry.{ResourceEntry}
+use Rattle.fb_inputs.specs.Deployments.{deploy_of}
+use Rattle.fb_inputs.specs.declared.deploy_location.DeployKey.{DeployKey}
+use Rattle.fb_inputs.specs.declared.deploy_location.DeployKey.TheVariants as key
+use Rattle.fb_inputs.specs.declared.deploy_location.TableLocation.TheVariants as table
+use Rattle.fb_inputs_positions.specs.Positions.{deploy_position, stimuli_position}
+use Rattle.fb_inputs_positions.specs.declared.position.DeployPosition.{DeployPosition}
+use Rattle.fb_inputs_positions.specs.declared.position.DeployPosition.TheVariants as in_deploy
+use Rattle.fb_inputs_positions.specs.declared.position.StimuliPosition.{StimuliPosition}
+use Rattle.fb_inputs_positions.specs.declared.position.StimuliPosition.TheVariants as in_stimuli
+use Rattle.fb_why_bytes.specs.InputPlaces.{IsDeployPlace, IsStimuliPlace}
+use Rattle.fb_why_kinds.specs.declared.location.Side.{Side}
+use Rattle.fb_why_kinds.specs.declared.location.Side.TheVariants as side
+use Rattle.fb_why_kinds.specs.declared.location.UnknownName.{UnknownName}
+use Rattle.fb_why_kinds.specs.declared.location.UnknownName.TheVariants as unknown
+use Rattle.fb_why.specs.declared.input_place.InputPosition.{InputPosition}
+use Rattle.fb_why.specs.declared.input_place.InputPosition.TheVariants as input
+use Rattle.fb_why.specs.declared.location.Limit.TheVariants as limit
+use Rattle.fb_why.specs.declared.location.StimulusFault.{StimulusFault}
+use Rattle.fb_why.specs.declared.location.StimulusFault.TheVariants as fault
+use Rattle.fb_why.specs.declared.location.StimulusLocation.{StimulusLocation}
+use Rattle.fb_why.specs.declared.input_place.InputFile.TheVariants as file
+use Rattle.fb_why.specs.declared.input_place.Place.{Place}
+use Rattle.fb_why.specs.declared.spot.Spot.{Spot}
+use Rattle.fb_why.specs.declared.spot.Spot.TheVariants as spot
+use Rattle.fb_why.specs.declared.twice.GivenTwice.{GivenTwice}
+use Rattle.fb_why.specs.declared.twice.GivenTwice.TheVariants as given
+use Rattle.fb_why.specs.declared.unmapped.Unmapped.TheVariants as unmapped
+
+abbrev pub Text : Type 0
+Text = List ℕ
+
+-- ---- Positions
+
+-- an instance that a resource lists
+abbrev pub listed : (resource instance : ℕ) → InputPosition
+listed resource instance = input.Deployment (in_deploy.Element (table.Resource resource) key.Instances instance)
+
+-- the key for an end of a link
+abbrev pub key_of : Side → DeployKey
+key_of side.From = key.From
+key_of side.To = key.To
+
+-- a name of a deployment that is unknown
+abbrev pub unknown_position : UnknownName → Option InputPosition
+unknown_position (unknown.Mapped r i) = Some (listed r i)
+unknown_position (unknown.LinkEnd l s) = Some (input.Deployment (in_deploy.Key (table.Link l) (key_of s)))
+unknown_position _ = None
+
+-- what is given twice in a deployment, at its later occurrence
+abbrev pub twice_position : GivenTwice → Option InputPosition
+twice_position (given.Resource pair) = Some (input.Deployment (in_deploy.Key (table.Resource pair.1) key.Name))
+twice_position (given.Link pair) = Some (input.Deployment (in_deploy.Table (table.Link pair.1)))
+twice_position _ = None
+
+-- the event of a stimulus, the word, or all words
+abbrev pub fault_position : (row : ℕ) → StimulusFault → StimuliPosition
+fault_position row fault.Event = in_stimuli.Field row 1
+fault_position row (fault.Setting word) = in_stimuli.Word row word
+fault_position row fault.Twice = in_stimuli.Field row 2
+
+abbrev pub stimulus_position : StimulusLocation → StimuliPosition
+stimulus_position location = fault_position location.row location.fault
+
+-- The position at which a location is shown, if it is one in the deployment or in the stimuli. For a name that is listed
+-- twice the deployment says where it is.
+abbrev pub position_of : Spot → Option InputPosition
+position_of (spot.Deployment location) = Some (input.Deployment (deploy_position location))
+position_of (spot.Stimuli location) = Some (input.Stimuli (stimuli_position location))
+position_of (spot.Twice what) = twice_position what
+position_of (spot.Unknown name) = unknown_position name
+position_of (spot.Stimulus location) = Some (input.Stimuli (stimulus_position location))
+position_of (spot.Limit limit.Stimuli) = Some (input.Stimuli in_stimuli.Start)
+position_of _ = None
+
+-- the position of the name at an index in the lists of resources, one after another, by the index of the first one
+unfoldable pub listed_at : ℕ → List ResourceEntry → ℕ → Option InputPosition
+listed_at r [] index = None
+listed_at r (x ∷ xs) index =
+    if nat_lt index (length x.instances) then Some (listed r index) else listed_at (r + 1) xs (index - length x.instances)
+
+-- The position is that of the name at an index in the lists of the deployment.
+abbrev pub IsListedIn : (deploy : Option Text) → (index : ℕ) → InputPosition → Type 0
+IsListedIn deploy index position =
+    (bytes : Text) × (plan : Plan) × (deploy ≡ Some bytes) × (deploy_of bytes ≡ Ok plan) × (listed_at 0 plan.resources index ≡ Some position)
+
+-- The location is shown at the position.
+abbrev pub IsInputPosition : (deploy : Option Text) → Spot → InputPosition → Type 0
+IsInputPosition deploy (spot.Unmapped (unmapped.Again pair)) position = IsListedIn deploy pair.1 position
+IsInputPosition deploy location position = position_of location ≡ Some position
+
+-- ---- Places
+
+-- The place is that of the position in the deployment that is given.
+abbrev pub IsPlaceInDeploy : (deploy : Option Text) → DeployPosition → Place → Type 0
+IsPlaceInDeploy deploy position place =
+    (bytes : Text) × (deploy ≡ Some bytes) × (place.file ≡ file.Deployment) × IsDeployPlace bytes position place.at
+
+-- The place is that of the position in the stimuli that are given.
+abbrev pub IsPlaceInRows : (stimuli : Option Text) → StimuliPosition → Place → Type 0
+IsPlaceInRows stimuli position place =
+    (bytes : Text) × (stimuli ≡ Some bytes) × (place.file ≡ file.Stimuli) × IsStimuliPlace bytes position place.at
+
+abbrev pub IsPlaceIn : (deploy stimuli : Option Text) → InputPosition → Place → Type 0
+IsPlaceIn deploy stimuli (input.Deployment position) place = IsPlaceInDeploy deploy position place
+IsPlaceIn deploy stimuli (input.Stimuli position) place = IsPlaceInRows stimuli position place
+
+-- The place is that of the position at which the location is shown.
+abbrev pub IsInputPlace : (deploy stimuli : Option Text) → Spot → Place → Type 0
+IsInputPlace deploy stimuli location place =
+    (position : InputPosition) × IsInputPosition deploy location position × IsPlaceIn deploy stimuli position place

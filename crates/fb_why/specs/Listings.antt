@@ -1,0 +1,96 @@
+-- The findings of one number: all locations at which it applies, and the first of them (this project's own).
+use Rattle.std.specs.Prelude.{◌≡◌, ◌≤◌, ◌⊎◌, ℕ, false, List, [], Option, Result, Ok, All, MatchOption, map, take, length, nat_lt}
+use Rattle.std.specs.Option.{option_to_list}
+use Rattle.fb_read.specs.Whole.{IsLibraryText}
+use Rattle.fb_types.specs.declared.deploy.Plan.{Plan}
+use Rattle.fb_types.specs.declared.library.Library.{Library}
+use Rattle.fb_why_kinds.specs.MisfitLists.{misfits_all, misjoins_all}
+use Rattle.fb_why_kinds.specs.Unknowns.{unknown_all}
+use Rattle.fb_why.specs.Causes.{IsCause}
+use Rattle.fb_why.specs.Findings.{AppliesAt, AppliesNowhere, Finds, FindsOf, IsNoPlan, IsNoText, IsPlan, IsSilent, IsSilentOf}
+use Rattle.fb_why.specs.Repeats.{twice_all}
+use Rattle.fb_why.specs.Sources.{joined_all}
+use Rattle.fb_why.specs.Unlinked.{unlinked_all}
+use Rattle.fb_why.specs.Unmapped.{unmapped_all}
+use Rattle.fb_why.specs.Unserved.{unserved_all}
+use Rattle.fb_why.specs.declared.cause.Cause.{Cause}
+use Rattle.fb_why.specs.declared.cause.Cause.TheVariants as cause
+use Rattle.fb_why.specs.declared.cause.Flaw.{Flaw}
+use Rattle.fb_why.specs.declared.cause.Flaw.TheVariants as flaw
+use Rattle.fb_why.specs.declared.listing.Findings.{Findings}
+use Rattle.fb_why.specs.declared.place.PlacedFinding.{PlacedFinding}
+use Rattle.fb_why.specs.declared.spot.Spot.{Spot}
+use Rattle.fb_why.specs.declared.spot.Spot.TheVariants as spot
+
+-- the greatest number of findings that are shown
+abbrev pub most_findings : ℕ
+most_findings = 20
+
+abbrev pub locations_of : Findings → List Spot
+locations_of f = map (λ r. r.finding.location) f.shown.items
+
+-- ---- A declaration and a deployment that are read
+
+-- these are all locations of the number; of types that are too high one is listed at most
+abbrev pub AreAll : Flaw → Library → Plan → List Spot → Type 0
+AreAll flaw.Twice lib plan spots = spots ≡ map (λ p. spot.Twice p) (twice_all lib plan)
+AreAll flaw.Unknown lib plan spots = spots ≡ map (λ p. spot.Unknown p) (unknown_all lib plan)
+AreAll flaw.Misfit lib plan spots = spots ≡ map (λ p. spot.Misfit p) (misfits_all lib)
+AreAll flaw.Misjoin lib plan spots = spots ≡ map (λ p. spot.Misjoin p) (misjoins_all lib)
+AreAll flaw.Joined lib plan spots = spots ≡ map (λ p. spot.Joined p) (joined_all lib)
+AreAll flaw.TooHigh lib plan spots = length spots ≤ 1
+AreAll flaw.Unmapped lib plan spots = spots ≡ map (λ p. spot.Unmapped p) (unmapped_all lib plan)
+AreAll flaw.Unlinked lib plan spots = spots ≡ map (λ p. spot.Unlinked p) (unlinked_all lib plan)
+AreAll flaw.Unserved lib plan spots = spots ≡ map (λ p. spot.Unserved p) (unserved_all lib plan)
+
+-- The refusal applies at each of these locations, and nowhere if there is none.
+pub record AreSpots (flaw : Flaw) (lib : Library) (plan : Plan) (spots : List Spot) : Type 0 where
+  pub each : All (AppliesAt flaw lib plan) spots
+  pub none : spots ≡ [] → AppliesNowhere flaw lib plan
+  pub all : AreAll flaw lib plan spots
+
+-- They were read, and the first of their locations are shown.
+pub record AreShown (flaw : Flaw) (declaration : List ℕ) (deploy : Option (List ℕ)) (f : Findings) : Type 0 where
+  pub library : Library
+  pub plan : Plan
+  pub spots : List Spot
+  pub read : IsLibraryText declaration library
+  pub planned : IsPlan deploy plan
+  pub are : AreSpots flaw library plan spots
+  pub shown : locations_of f ≡ take most_findings spots
+  pub more : f.more ≡ nat_lt most_findings (length spots)
+
+-- They can't be read, and nothing is shown.
+pub record AreUnread (declaration : List ℕ) (deploy : Option (List ℕ)) (f : Findings) : Type 0 where
+  pub nothing : f.shown.items ≡ []
+  pub no_more : f.more ≡ false
+  pub unread : IsNoText declaration ⊎ IsNoPlan deploy
+
+abbrev pub AreFlaws : Flaw → (declaration : List ℕ) → (deploy : Option (List ℕ)) → Findings → Type 0
+AreFlaws flaw declaration deploy f = AreShown flaw declaration deploy f ⊎ AreUnread declaration deploy f
+
+-- ---- By the number
+
+-- what was found, if memory did not run out, is all that is shown
+abbrev pub IsOnce : {E : Type 0} → Result (Option PlacedFinding) E → Findings → Type 0
+IsOnce {E} made f = (found : Option PlacedFinding) × (made ≡ Ok found) × (f.shown.items ≡ option_to_list found) × (f.more ≡ false)
+
+-- the only finding, or none
+pub record AreOne (c : Cause) (number : ℕ) (declaration : List ℕ) (deploy stimuli : Option (List ℕ)) (f : Findings) : Type 0 where
+  pub found : Option PlacedFinding
+  pub shown : f.shown.items ≡ option_to_list found
+  pub no_more : f.more ≡ false
+  pub finds : MatchOption found (IsSilentOf c number declaration deploy stimuli) (λ r. FindsOf c number declaration deploy stimuli r.finding.location)
+
+-- what is shown for this cause
+abbrev pub AreFoundBy : Cause → (number : ℕ) → (declaration : List ℕ) → (deploy stimuli : Option (List ℕ)) → Findings → Type 0
+AreFoundBy (cause.Flaw flaw) number declaration deploy stimuli f = AreFlaws flaw declaration deploy f
+AreFoundBy c number declaration deploy stimuli f = AreOne c number declaration deploy stimuli f
+
+-- What is shown for the refusal with this number. It applies at each of the locations.
+pub record AreFound (declaration : List ℕ) (deploy stimuli : Option (List ℕ)) (number : ℕ) (f : Findings) : Type 0 where
+  pub by_cause : Cause
+  pub is_cause : IsCause number by_cause
+  pub found : AreFoundBy by_cause number declaration deploy stimuli f
+  pub each : All (Finds declaration deploy stimuli number) (locations_of f)
+  pub none : f.shown.items ≡ [] → IsSilent declaration deploy stimuli number

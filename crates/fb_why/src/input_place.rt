@@ -1,0 +1,211 @@
+//! Where a location is in the deployment or in the stimuli.
+
+ghost use Rattle.std.specs.Prelude.{◌≡◌, IfOk, IfSome, option_map};
+ghost use Rattle.fb_why.specs.InputPlaces as spec;
+ghost use Rattle.fb_why.specs.InputPlaces.{IsInputPlace, IsInputPosition, IsListedIn, IsPlaceInDeploy, IsPlaceInRows};
+
+use crate::location::{Limit, StimulusFault, StimulusLocation};
+use crate::spot::Spot;
+use crate::twice::GivenTwice;
+use crate::unmapped::Unmapped;
+use fb_inputs::{DeployKey, InputError, TableLocation, read_deploy};
+use fb_inputs_positions::{DeployPosition, StimuliPosition, deploy_position, stimuli_position};
+use fb_types::ResourceEntry;
+use fb_why_bytes::{TextLocation, place_in_deployment, place_in_stimuli};
+use fb_why_kinds::{Side, UnknownName};
+use std::alloc::{AllocError, Global};
+
+/// An input beside the declaration.
+#[derive(Clone, Copy)]
+pub enum InputFile {
+    Deployment,
+    Stimuli,
+}
+
+/// A place in an input.
+#[derive(Clone, Copy)]
+pub struct Place {
+    /// The input.
+    pub file: InputFile,
+    /// The place in its text.
+    pub at: TextLocation,
+}
+
+/// A position in the deployment or in the stimuli.
+#[derive(Clone, Copy)]
+pub enum InputPosition {
+    Deployment(DeployPosition),
+    Stimuli(StimuliPosition),
+}
+
+/// An instance that a resource lists.
+fn listed(resource: usize, instance: usize) -> InputPosition
+    ensures { result ≡ spec.listed resource instance }
+{
+    InputPosition::Deployment(DeployPosition::Element(
+        TableLocation::Resource(resource),
+        DeployKey::Instances,
+        instance,
+    ))
+}
+
+/// A name of a deployment that is unknown.
+fn unknown_position(name: UnknownName) -> Option<InputPosition>
+    ensures { result ≡ spec.unknown_position name }
+{
+    match name {
+        UnknownName::Mapped { resource, instance } => Some(listed(resource, instance)),
+        UnknownName::LinkEnd { link, side } => {
+            let key = match side {
+                Side::From => DeployKey::From,
+                Side::To => DeployKey::To,
+            };
+            let position = DeployPosition::Key(TableLocation::Link(link), key);
+            Some(InputPosition::Deployment(position))
+        }
+        _ => None,
+    }
+}
+
+/// What is given twice in a deployment, at its later occurrence.
+fn twice_position(given: GivenTwice) -> Option<InputPosition>
+    ensures { result ≡ spec.twice_position given }
+{
+    match given {
+        GivenTwice::Resource((_, resource)) => {
+            let position = DeployPosition::Key(TableLocation::Resource(resource), DeployKey::Name);
+            Some(InputPosition::Deployment(position))
+        }
+        GivenTwice::Link((_, link)) => {
+            let position = DeployPosition::Table(TableLocation::Link(link));
+            Some(InputPosition::Deployment(position))
+        }
+        _ => None,
+    }
+}
+
+/// A stimulus that does not fit its event input: its event, the word, or all words.
+fn stimulus_position(location: StimulusLocation) -> StimuliPosition
+    ensures { result ≡ spec.stimulus_position location }
+{
+    let StimulusLocation { row, fault } = location;
+    match fault {
+        StimulusFault::Event => StimuliPosition::Field(row, 1),
+        StimulusFault::Setting(word) => StimuliPosition::Word(row, word),
+        StimulusFault::Twice => StimuliPosition::Field(row, 2),
+    }
+}
+
+/// The position at which a location is shown, if it is one in the deployment or in the stimuli. For a name that is listed
+/// twice the deployment says where it is.
+fn position_of(location: Spot) -> Option<InputPosition>
+    ensures { result ≡ spec.position_of location }
+{
+    match location {
+        Spot::Deployment(location) => Some(InputPosition::Deployment(deploy_position(location))),
+        Spot::Stimuli(location) => Some(InputPosition::Stimuli(stimuli_position(location))),
+        Spot::Twice(given) => twice_position(given),
+        Spot::Unknown(name) => unknown_position(name),
+        Spot::Stimulus(location) => Some(InputPosition::Stimuli(stimulus_position(location))),
+        Spot::Limit(Limit::Stimuli) => Some(InputPosition::Stimuli(StimuliPosition::Start)),
+        _ => None,
+    }
+}
+
+/// The position of the name at an index in the lists of all resources, one after another.
+fn listed_at(resources: &[ResourceEntry], index: usize) -> Option<InputPosition>
+    ensures { result ≡ spec.listed_at 0 resources.now index }
+{
+    let mut left = index;
+    for (resource, entry) in resources.iter().enumerate() {
+        let count = entry.instances.len();
+        if left < count {
+            return Some(listed(resource, left));
+        }
+        left -= count;
+    }
+    None
+}
+
+/// The position of the name at an index in the lists of the resources of a deployment.
+fn listed_in(
+    alloc: Global,
+    deploy: Option<&[u8]>,
+    index: usize,
+) -> Result<Option<InputPosition>, AllocError>
+    ensures { IfOk result (λ o. IfSome o (IsListedIn (option_map (λ b. b.now) deploy.entry) index)) }
+{
+    let Some(bytes) = deploy else {
+        return Ok(None);
+    };
+    match read_deploy(alloc, bytes) {
+        Ok(deploy) => Ok(listed_at(deploy.plan().resources.as_slice(), index)),
+        Err(InputError::Memory) => Err(AllocError),
+        Err(_) => Ok(None),
+    }
+}
+
+/// The position at which a location is shown, if it is one in the deployment or in the stimuli.
+fn input_position(
+    alloc: Global,
+    deploy: Option<&[u8]>,
+    location: Spot,
+) -> Result<Option<InputPosition>, AllocError>
+    ensures { IfOk result (λ o. IfSome o (IsInputPosition (option_map (λ b. b.now) deploy.entry) location)) }
+{
+    match location {
+        Spot::Unmapped(Unmapped::Again((_, index))) => listed_in(alloc, deploy, index),
+        _ => Ok(position_of(location)),
+    }
+}
+
+/// The place of a position of the deployment, if one is given.
+fn place_in_deploy(deploy: Option<&[u8]>, position: DeployPosition) -> Option<Place>
+    ensures { IfSome result (IsPlaceInDeploy (option_map (λ b. b.now) deploy.entry) position) }
+{
+    let at = place_in_deployment(deploy?, position)?;
+    Some(Place {
+        file: InputFile::Deployment,
+        at,
+    })
+}
+
+/// The place of a position of the stimuli, if some are given.
+fn place_in_rows(
+    alloc: Global,
+    stimuli: Option<&[u8]>,
+    position: StimuliPosition,
+) -> Result<Option<Place>, AllocError>
+    ensures { IfOk result (λ o. IfSome o (IsPlaceInRows (option_map (λ b. b.now) stimuli.entry) position)) }
+{
+    let Some(bytes) = stimuli else {
+        return Ok(None);
+    };
+    match place_in_stimuli(alloc, bytes, position)? {
+        Some(at) => Ok(Some(Place {
+            file: InputFile::Stimuli,
+            at,
+        })),
+        None => Ok(None),
+    }
+}
+
+/// Where a location is in the deployment or in the stimuli. `None` for one in the declaration.
+///
+/// # Errors
+///
+/// When memory runs out.
+pub fn place_in_inputs(
+    alloc: Global,
+    deploy: Option<&[u8]>,
+    stimuli: Option<&[u8]>,
+    location: Spot,
+) -> Result<Option<Place>, AllocError>
+    ensures { IfOk result (λ o. IfSome o (IsInputPlace (option_map (λ b. b.now) deploy.entry) (option_map (λ b. b.now) stimuli.entry) location)) }
+{
+    match input_position(alloc, deploy, location)? {
+        Some(InputPosition::Deployment(position)) => Ok(place_in_deploy(deploy, position)),
+        Some(InputPosition::Stimuli(position)) => place_in_rows(alloc, stimuli, position),
+        None => Ok(None),
+    }
+}

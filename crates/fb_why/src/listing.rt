@@ -1,0 +1,124 @@
+//! The findings of one number.
+
+ghost use Rattle.std.specs.Prelude.{◌≡◌, ◌≤◌, All, IfOk, false, length, map, nat_lt, take};
+ghost use Rattle.std.specs.Option.{option_to_list};
+ghost use Rattle.fb_read.specs.Located.{AreLocated};
+ghost use Rattle.fb_read.specs.Tokens.{after_mark};
+ghost use Rattle.fb_read.specs.Whole.{IsLibraryText, most_bytes};
+ghost use Rattle.fb_why.specs.Listings.{locations_of, most_findings};
+ghost use Rattle.fb_why.specs.Places.{IsPlacedFinding};
+
+use crate::flaw_message::flaw_message;
+use crate::place::{PlacedFinding, place_among};
+use crate::spot::{Finding, Spot};
+use fb_read::token::Located;
+use fb_read_positions::{beginning, discard, tokens_of};
+use fb_types::{Library, Plan};
+use fb_why_bytes::TextLocation;
+use std::alloc::{AllocError, Global};
+
+/// The greatest number of findings that are shown.
+pub const MOST_FINDINGS: usize = 20;
+
+/// Where a refusal applies: the first findings of its number, in the order of the declaration.
+#[derive(Drop)]
+pub struct Findings {
+    /// The first ones, at most [`MOST_FINDINGS`].
+    pub shown: Vec<PlacedFinding>,
+    /// Set if there are more.
+    pub more: bool,
+}
+
+/// The finding of a number for which one at most is found.
+pub(crate) fn one(alloc: Global, found: Option<PlacedFinding>) -> Result<Findings, AllocError>
+    ensures shown { IfOk result (λ f. f.shown.items ≡ option_to_list found) }
+    ensures more { IfOk result (λ f. f.more ≡ false) }
+{
+    let mut shown = Vec::new(alloc);
+    if let Some(found) = found {
+        shown.push(found)?;
+    }
+    Ok(Findings { shown, more: false })
+}
+
+/// What is wrong at a location of a library and a plan, at this place.
+fn finding_at(
+    alloc: Global,
+    library: &Library,
+    plan: &Plan,
+    location: Spot,
+    place: Option<TextLocation>,
+) -> Result<PlacedFinding, AllocError>
+    ensures found { IfOk result (λ r. r.finding.location ≡ location) }
+    ensures placed { IfOk result (λ r. r.place ≡ place) }
+{
+    let text = flaw_message(alloc, library, plan, location)?;
+    let finding = Finding { location, text };
+    Ok(PlacedFinding { finding, place })
+}
+
+/// What is wrong at each of these locations, with the places in the text that declares the library.
+fn findings_at(
+    alloc: Global,
+    declaration: &[u8],
+    tokens: &[Located],
+    library: &Library,
+    plan: &Plan,
+    locations: &[Spot],
+) -> Result<Vec<PlacedFinding>, AllocError>
+    requires read { IsLibraryText declaration.now library.now }
+    requires few { length tokens.now ≤ most_bytes }
+    requires located { AreLocated declaration.now tokens.now (after_mark declaration.now) }
+    ensures found { IfOk result (λ all. map (λ r. r.finding.location) all.items ≡ locations.now) }
+    ensures placed { IfOk result (λ all. All (IsPlacedFinding declaration.now) all.items) }
+{
+    let mut all = Vec::new(alloc);
+    let mut reached = beginning(tokens);
+    for location in locations {
+        let found = place_among(alloc, declaration, tokens, library, reached, *location)?;
+        reached = found.reached;
+        all.push(finding_at(alloc, library, plan, *location, found.place)?)?;
+    }
+    Ok(all)
+}
+
+/// The first of these locations, as many as are shown.
+fn first_of(locations: &[Spot]) -> &[Spot]
+    ensures { result.now ≡ take most_findings locations.now }
+{
+    if locations.len() > MOST_FINDINGS {
+        &locations[..MOST_FINDINGS]
+    } else {
+        locations
+    }
+}
+
+/// The findings at these locations of a library and a plan. The text that declares the library is read once more for their
+/// places, if there are any.
+pub(crate) fn listed(
+    alloc: Global,
+    declaration: &[u8],
+    library: &Library,
+    plan: &Plan,
+    locations: &[Spot],
+) -> Result<Findings, AllocError>
+    requires { IsLibraryText declaration.now library.now }
+    ensures shown { IfOk result (λ f. locations_of f ≡ take most_findings locations.now) }
+    ensures more { IfOk result (λ f. f.more ≡ nat_lt most_findings (length locations.now)) }
+    ensures placed { IfOk result (λ f. All (IsPlacedFinding declaration.now) f.shown.items) }
+{
+    let more = locations.len() > MOST_FINDINGS;
+    let first = first_of(locations);
+    let tokens = tokens_of(alloc, declaration)?;
+    let shown = findings_at(alloc, declaration, tokens.as_slice(), library, plan, first);
+    discard(tokens);
+    Ok(Findings {
+        shown: shown?,
+        more,
+    })
+}
+
+/// Frees findings. Each crate that drops some proves their destructors once more, so other crates call this function.
+pub fn discard_findings(findings: Findings) {
+    drop(findings);
+}

@@ -1,0 +1,73 @@
+-- What is reported of a run that stopped.
+use Rattle.std.proofs.Common.{◌≡◌, ◌++◌, ◌∙◌, ◌∷◌, ℕ, Bool, true, List, [], Option, String, refl, sym, ap, subst, append_assoc, append-nil, Ok, Err}
+use Rattle.std.specs.Prelude.{IfOk, IfSome, None, Result, Some, string_bytes}
+use Rattle.std.proofs.KnownBytes.{Appends-trans}
+use Rattle.fb_types.specs.Headline.{Inputs}
+use Rattle.fb_types.specs.declared.library.Library.{Library}
+use Rattle.fb_read.specs.Blank.{Text}
+use Rattle.fb_read_positions.specs.declared.position.Position.{Position}
+use Rattle.fb_sim.specs.Given.{Given}
+use Rattle.fb_sim.specs.Reports.{Hears}
+use Rattle.fb_sim.specs.Serial.{Declares}
+use Rattle.fb_stop.specs.Found.{IsStop}
+use Rattle.fb_stop.specs.Places.{IsStopPosition}
+use Rattle.fb_stop.specs.declared.found.FoundStop.{FoundStop}
+use Rattle.fb_why.specs.Places.{IsPlaceAt}
+use Rattle.fb_why_bytes.specs.declared.text_locations.TextLocation.{TextLocation}
+use Rattle.fbsim_command.specs.Outcomes.{Held}
+use Rattle.fbsim_command.specs.OwnLines.{IsPlaced}
+use Rattle.fbsim_command.specs.Stops.{IsNoteOfRun, IsNoteOfStop, IsStopNote, IsStopPlace}
+
+-- one report after another, of which all was taken
+pub hears_after : (old mid new : Held) (first report : List ℕ) (heard : Bool) → Hears true old mid first → Hears heard mid new report → Hears heard old new (first ++ report)
+hears_after old mid new first report heard one two =
+    let whole : first ≡ one.front = one.parts ∙ ap (λ (r : List ℕ). one.front ++ r) (one.all refl) ∙ append-nil one.front in
+    record {
+      front = one.front ++ two.front;
+      rest = two.rest;
+      parts = ap (λ (f : List ℕ). f ++ report) whole ∙ ap (λ (r : List ℕ). one.front ++ r) two.parts ∙ sym (append_assoc one.front two.front two.rest);
+      got = Appends-trans old mid new one.front two.front one.got two.got;
+      all = two.all;
+      none = λ e. two.none (after_nil first report e) ∙ one.none (before_nil first report e);
+    }
+  where
+    before_nil : (xs ys : List ℕ) → xs ++ ys ≡ [] → xs ≡ []
+    before_nil [] ys e = refl
+    before_nil (x ∷ xs) ys e = absurd (let f : x ∷ (xs ++ ys) ≡ [] = e in cc)
+
+    after_nil : (xs ys : List ℕ) → xs ++ ys ≡ [] → ys ≡ []
+    after_nil [] ys e = e
+    after_nil (x ∷ xs) ys e = absurd (let f : x ∷ (xs ++ ys) ≡ [] = e in cc)
+
+-- .. after which nothing is reported
+pub hears_no_more : (old new : Held) (first : List ℕ) (heard : Bool) → Hears heard old new first → Hears heard old new (first ++ [])
+hears_no_more old new first heard h = subst (λ (t : List ℕ). Hears heard old new t) (sym (append-nil first)) h
+
+-- the place of a position
+pub placed : (text : Text) (i : Inputs) (stop : FoundStop) (p : Position) (library : Library) {E : Type 0} (r : Result (Option TextLocation) E) → IsStopPosition i stop p → library ≡ i.library
+    → IfOk r (λ o. IfSome o (IsPlaceAt text library p)) → IfOk r (IsStopPlace text i stop)
+placed text i stop p library (Ok None) is same h = tt
+placed text i stop p library (Ok (Some at)) is same h = (p, is, subst (λ (l : Library). IsPlaceAt text l p at) same h)
+placed text i stop p library (Err e) is same h = tt
+
+-- the note of a place, as that of a stop
+pub noted_at : {A : Type 0} (types : List (List ℕ)) (own lines : List ℕ) (given : Given) (i : Inputs) (stop : FoundStop) (at : TextLocation) (o : Option (String A))
+    → IfSome o (λ note. IsPlaced types own lines at.line at.column (string_bytes note)) → IsStopPlace given.declaration i stop (Some at)
+    → IfSome o (λ note. IsNoteOfStop types own lines given i stop (string_bytes note))
+noted_at types own lines given i stop at None noted place = tt
+noted_at types own lines given i stop at (Some note) noted place = (Some at, string_bytes note, place, noted)
+
+-- the note of a stop, as that of the run that stops there
+pub noted_run : {A : Type 0} (types : List (List ℕ)) (own lines : List ℕ) (given : Given) (i : Inputs) (horizon steps : ℕ) (stop : FoundStop) {E : Type 0} (r : Result (Option (String A)) E) → IsStop i horizon steps stop
+    → IfOk r (λ o. IfSome o (λ note. IsNoteOfStop types own lines given i stop (string_bytes note)))
+    → IfOk r (λ o. IfSome o (λ note. IsNoteOfRun types own lines given i horizon steps (string_bytes note)))
+noted_run types own lines given i horizon steps stop (Ok None) is h = tt
+noted_run types own lines given i horizon steps stop (Ok (Some note)) is h = (stop, is, h)
+noted_run types own lines given i horizon steps stop (Err e) is h = tt
+
+-- .. of what is given
+pub noted_given : {A : Type 0} (types : List (List ℕ)) (own lines : List ℕ) (given : Given) (i : Inputs) (horizon steps : ℕ) (o : Option (String A)) → Declares given i
+    → IfSome o (λ note. IsNoteOfRun types own lines given i horizon steps (string_bytes note))
+    → IfSome o (λ note. IsStopNote types own lines given horizon steps (string_bytes note))
+noted_given types own lines given i horizon steps None declares h = tt
+noted_given types own lines given i horizon steps (Some note) declares h = (i, declares, h)

@@ -1,0 +1,31 @@
+-- What is reported of a refusal whose place is in the deployment or in the stimuli (this project's own).
+use Rattle.std.specs.Prelude.{◌≡◌, ◌⊎◌, ℕ, List, Option, Some, option_map}
+use Rattle.fb_sim.specs.Given.{Given}
+use Rattle.fb_why.specs.InputPlaces.{IsInputPlace}
+use Rattle.fb_why.specs.declared.input_place.InputFile.{InputFile}
+use Rattle.fb_why.specs.declared.input_place.InputFile.TheVariants as file
+use Rattle.fb_why.specs.declared.input_place.Place.{Place}
+use Rattle.fb_why.specs.declared.spot.Spot.{Spot}
+use Rattle.fbsim_command.specs.OwnLines.{IsPlacedText}
+use Rattle.fbsim_command.specs.declared.input_notes.InputNames.{InputNames}
+
+-- the names that a call gives to its deployment and its stimuli
+pub record FileNames : Type 0 where
+  pub deploy : Option (List ℕ)
+  pub stimuli : Option (List ℕ)
+
+abbrev pub names_of : InputNames → FileNames
+names_of n = record { deploy = option_map (λ d. d.now) n.deploy; stimuli = option_map (λ s. s.now) n.stimuli }
+
+abbrev pub name_in : FileNames → InputFile → Option (List ℕ)
+name_in names file.Deployment = names.deploy
+name_in names file.Stimuli = names.stimuli
+
+-- The note names the file, the line and the column of the place.
+abbrev pub IsNotedAt : FileNames → Place → (note : List ℕ) → Type 0
+IsNotedAt names place note = (name : List ℕ) × (name_in names place.file ≡ Some name) × IsPlacedText name place.at.line place.at.column note
+
+-- The note is that of the place of the location in the deployment or in the stimuli, or the words.
+abbrev pub IsNoteThere : FileNames → Given → Spot → (words note : List ℕ) → Type 0
+IsNoteThere names given location words note =
+    ((place : Place) × IsInputPlace given.deploy given.stimuli location place × IsNotedAt names place note) ⊎ (note ≡ words)

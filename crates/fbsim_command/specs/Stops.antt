@@ -1,0 +1,64 @@
+-- Where a run stops, and how that is reported (this project's own).
+use Rattle.std.specs.Prelude.{◌≡◌, ◌⊎◌, ℕ, List, [], ◌++◌, IsTrue, Option, Some, None, Ok, codes}
+use Rattle.fb_types.specs.Headline.{Inputs}
+use Rattle.fb_read.specs.Blank.{Text}
+use Rattle.fb_read_positions.specs.declared.position.Position.{Position}
+use Rattle.fb_sim.specs.Given.{Given}
+use Rattle.fb_sim.specs.Serial.{Declares}
+use Rattle.fb_stop.specs.Found.{IsStop}
+use Rattle.fb_stop.specs.Places.{IsStopPosition}
+use Rattle.fb_stop.specs.declared.found.FoundStop.{FoundStop}
+use Rattle.fb_why.specs.Places.{IsPlaceAt}
+use Rattle.fb_why_bytes.specs.declared.text_locations.TextLocation.{TextLocation}
+use Rattle.fbsim_command.specs.Outcomes.{End}
+use Rattle.fbsim_command.specs.OwnLines.{IsPlaced}
+use Rattle.fbsim_line.specs.declared.line.Action.{Action}
+use Rattle.fbsim_line.specs.declared.line.Action.TheVariants.{Check, Run}
+use Rattle.fbsim_line.specs.declared.line.Task.{Task}
+use Rattle.fbsim_command.specs.declared.statuses.Done.TheVariants.{Stopped}
+
+-- The place of a stop is that of its position in the declaration.
+abbrev pub IsStopPlace : Text → Inputs → FoundStop → Option TextLocation → Type 0
+IsStopPlace text i stop None = Unit {0}
+IsStopPlace text i stop (Some at) = (p : Position) × IsStopPosition i stop p × IsPlaceAt text i.library p at
+
+-- The note names the file, the line and the column of the place, or is the words.
+abbrev pub IsNoteAtStop : (types : List (List ℕ)) → (own : List ℕ) → (lines : List ℕ) → Option TextLocation → (words note : List ℕ) → Type 0
+IsNoteAtStop types own lines (Some at) words note = IsPlaced types own lines at.line at.column note
+IsNoteAtStop types own lines None words note = note ≡ words
+
+-- The note of a stop names its place, or is its words.
+abbrev pub IsNoteOfStop : (types : List (List ℕ)) → (own : List ℕ) → (lines : List ℕ) → Given → Inputs → FoundStop → (note : List ℕ) → Type 0
+IsNoteOfStop types own lines given i stop note =
+    (place : Option TextLocation) × (words : List ℕ) × IsStopPlace given.declaration i stop place × IsNoteAtStop types own lines place words note
+
+-- It is the note of the stop of the simulation.
+abbrev pub IsNoteOfRun : (types : List (List ℕ)) → (own : List ℕ) → (lines : List ℕ) → Given → Inputs → (horizon steps : ℕ) → (note : List ℕ) → Type 0
+IsNoteOfRun types own lines given i horizon steps note = (stop : FoundStop) × IsStop i horizon steps stop × IsNoteOfStop types own lines given i stop note
+
+-- .. of what is given
+abbrev pub IsStopNote : (types : List (List ℕ)) → (own : List ℕ) → (lines : List ℕ) → Given → (horizon steps : ℕ) → (note : List ℕ) → Type 0
+IsStopNote types own lines given horizon steps note = (i : Inputs) × Declares given i × IsNoteOfRun types own lines given i horizon steps note
+
+-- the horizon and the steps of a run
+abbrev pub IsRunOf : Action → (horizon steps : ℕ) → Type 0
+IsRunOf (Run n limit workers serial form progress) horizon steps = (n ≡ horizon) × (limit ≡ steps)
+IsRunOf (Check lint) horizon steps = ⊥
+
+-- It is asked where a run stopped, that has stopped.
+abbrev pub AsksWhere : Task → End → (horizon steps : ℕ) → Type 0
+AsksWhere c (Ok Stopped) horizon steps = IsTrue c.why × IsRunOf c.action horizon steps
+AsksWhere c end horizon steps = ⊥
+
+-- it is asked, and such a note is reported
+pub record ReportsNote (types : List (List ℕ)) (c : Task) (lines : List ℕ) (given : Given) (end : End) (report : List ℕ) : Type 0 where
+  pub horizon : ℕ
+  pub steps : ℕ
+  pub asks : AsksWhere c end horizon steps
+  pub note : List ℕ
+  pub is : IsStopNote types c.declaration.now lines given horizon steps note
+  pub line : report ≡ note ++ codes "\n"
+
+-- What is reported after a task: where it stopped, if that is asked for and memory is there, and else nothing.
+abbrev pub ReportsStop : (types : List (List ℕ)) → Task → (lines : List ℕ) → Given → End → (report : List ℕ) → Type 0
+ReportsStop types c lines given end report = (report ≡ []) ⊎ ReportsNote types c lines given end report

@@ -1,0 +1,192 @@
+//! Where a run stops, which is reported after the run if that is asked for.
+
+ghost use Rattle.std.specs.Prelude.{◌≡◌, ◌^◌, ◌≤◌, ◌++◌, ℕ, codes, List, Option, map, IfOk, IfSome, string_bytes};
+ghost use Rattle.fb_types.specs.Headline.{Inputs};
+ghost use Rattle.fb_sim.specs.Reports.{Hears};
+ghost use Rattle.fb_sim.specs.Serial.{Declares};
+ghost use Rattle.fb_stop.specs.Found.{IsStop};
+ghost use Rattle.fbsim_command.specs.Stops.{AsksWhere, IsNoteOfRun, IsNoteOfStop, IsStopNote, IsStopPlace, ReportsStop};
+ghost use Rattle.fbsim_command.specs.Texts.{given_of, lines_of};
+
+use crate::failure::Failure;
+use crate::lint::report_lines;
+use crate::own_lines::note_at;
+use crate::statuses::Done;
+use crate::texts::Texts;
+use fb_sim::{discard, open};
+use fb_stop::{FoundStop, find_stop, position_of, words_of};
+use fb_system::System;
+use fb_types::{LATEST_TICK, MOST_STEPS};
+use fb_why::place::place_at;
+use fb_why_bytes::{TextLocation, excerpt};
+use fbsim_line::{Action, Task};
+use std::alloc::{AllocError, Global};
+use std::io::Write;
+
+/// Where a stop is shown in the text that declares the system, if it has a place there.
+fn place_of(
+    alloc: Global,
+    declaration: &[u8],
+    system: &System,
+    stop: &FoundStop,
+) -> Result<Option<TextLocation>, AllocError>
+    requires { (horizon : ℕ) × (steps : ℕ) × IsStop system.now horizon steps stop.now }
+    ensures { IfOk result (IsStopPlace declaration.now system.now stop.now) }
+{
+    match position_of(system, stop) {
+        Some(position) => place_at(alloc, declaration, system.library(), position),
+        None => Ok(None),
+    }
+}
+
+/// The note of a stop: its place, its words, and the source line with a mark.
+fn note_of_found(
+    alloc: Global,
+    types: &[&str],
+    own: &str,
+    texts: &Texts,
+    system: &System,
+    stop: &FoundStop,
+) -> Result<Option<String>, AllocError>
+    requires { (horizon : ℕ) × (steps : ℕ) × IsStop system.now horizon steps stop.now }
+    ensures { IfOk result (λ o. IfSome o (λ note. IsNoteOfStop (map (λ t. t.now) types.now) own.now (lines_of texts.now) (given_of texts.now) system.now stop.now (string_bytes note))) }
+{
+    let declaration = texts.declaration.as_slice();
+    let words = words_of(alloc, system, stop)?;
+    match place_of(alloc, declaration, system, stop)? {
+        Some(at) => {
+            let source = excerpt(alloc, declaration, at)?;
+            let matter = format!(in alloc; "{words}\n{source}")?;
+            let lines = texts.lines.as_slice();
+            Ok(note_at(alloc, types, own, lines, at, matter.as_str()))
+        }
+        None => Ok(Some(words)),
+    }
+}
+
+/// The note of the stop of a system, if it stops below the horizon.
+fn note_in(
+    alloc: Global,
+    types: &[&str],
+    own: &str,
+    texts: &Texts,
+    system: &System,
+    horizon: u64,
+    steps: u64,
+) -> Result<Option<String>, AllocError>
+    requires early { horizon ≤ 10 ^ 12 }
+    requires few { steps ≤ 10 ^ 7 }
+    ensures { IfOk result (λ o. IfSome o (λ note. IsNoteOfRun (map (λ t. t.now) types.now) own.now (lines_of texts.now) (given_of texts.now) system.now horizon steps (string_bytes note))) }
+{
+    match find_stop(alloc, system, horizon, steps)? {
+        Some(stop) => note_of_found(alloc, types, own, texts, system, &stop),
+        None => Ok(None),
+    }
+}
+
+/// The note of the stop of what is given.
+fn note_of_run(
+    alloc: Global,
+    types: &[&str],
+    own: &str,
+    texts: &Texts,
+    horizon: u64,
+    steps: u64,
+) -> Result<Option<String>, Failure>
+    requires early { horizon ≤ 10 ^ 12 }
+    requires few { steps ≤ 10 ^ 7 }
+    ensures { IfOk result (λ o. IfSome o (λ note. (i : Inputs) × Declares (given_of texts.now) i × IsNoteOfRun (map (λ t. t.now) types.now) own.now (lines_of texts.now) (given_of texts.now) i horizon steps (string_bytes note))) }
+{
+    let system = open(alloc, &texts.inputs())?;
+    let note = note_in(alloc, types, own, texts, &system, horizon, steps);
+    // Dropped by one call: the end of its scope would prove the drop part by part.
+    discard(system);
+    Ok(note?)
+}
+
+/// The note of the stop of a run. Without memory for it there is none.
+fn note_of_stop(
+    alloc: Global,
+    types: &[&str],
+    own: &str,
+    texts: &Texts,
+    horizon: u64,
+    steps: u64,
+) -> Option<String>
+    ensures { IfSome result (λ note. IsStopNote (map (λ t. t.now) types.now) own.now (lines_of texts.now) (given_of texts.now) horizon steps (string_bytes note)) }
+{
+    if horizon > LATEST_TICK || steps > MOST_STEPS {
+        return None;
+    }
+    match note_of_run(alloc, types, own, texts, horizon, steps) {
+        Ok(note) => note,
+        Err(_) => None,
+    }
+}
+
+/// The horizon and the steps of a run that stopped, if it is asked where.
+fn asked(task: &Task<'_>, end: &Result<Done, Failure>) -> Option<(u64, u64)>
+    ensures { IfSome result (λ r. AsksWhere task.now end.now r.0 r.1) }
+{
+    match end {
+        Ok(Done::Stopped) => {
+            if !task.why {
+                return None;
+            }
+            match task.action {
+                Action::Run { horizon, steps, .. } => Some((horizon, steps)),
+                Action::Check { .. } => None,
+            }
+        }
+        _ => None,
+    }
+}
+
+/// The line of a note.
+fn line_of(alloc: Global, note: &String) -> Result<String, AllocError>
+    ensures { IfOk result (λ line. string_bytes line ≡ string_bytes note.now ++ codes "\n") }
+{
+    Ok(format!(in alloc; "{note}\n")?)
+}
+
+/// Reports where a run stopped, if that is asked for. It says whether standard error took it all.
+fn report_stop<E: Write>(
+    alloc: Global,
+    types: &[&str],
+    task: &Task<'_>,
+    end: &Result<Done, Failure>,
+    texts: &Texts,
+    err: &mut E,
+) -> bool
+    ensures { (report : List ℕ) × Hears result (E.contents err.old) (E.contents err.new) report × ReportsStop (map (λ t. t.now) types.now) task.now (lines_of texts.now) (given_of texts.now) end.now report }
+{
+    let Some((horizon, steps)) = asked(task, end) else {
+        return true;
+    };
+    let Some(note) = note_of_stop(alloc, types, task.declaration, texts, horizon, steps) else {
+        return true;
+    };
+    match line_of(alloc, &note) {
+        Ok(line) => report_lines(err, line.as_bytes()),
+        Err(_) => true,
+    }
+}
+
+/// The same as `report_stop`, after other reports, of which standard error took all or not.
+pub(crate) fn report_stop_after<E: Write>(
+    alloc: Global,
+    types: &[&str],
+    task: &Task<'_>,
+    end: &Result<Done, Failure>,
+    texts: &Texts,
+    err: &mut E,
+    is_heard: bool,
+) -> bool
+    ensures { (report : List ℕ) × ReportsStop (map (λ t. t.now) types.now) task.now (lines_of texts.now) (given_of texts.now) end.now report
+        × ((old : Option (List ℕ)) (first : List ℕ) → Hears is_heard old (E.contents err.old) first → Hears result old (E.contents err.new) (first ++ report)) }
+{
+    if !is_heard {
+        return false;
+    }
+    report_stop(alloc, types, task, end, texts, err)
+}
