@@ -146,7 +146,7 @@ def spoiled(system, trace):
     for at, (before, line) in enumerate(zip(lines, lines[1:]), 1):
         paths = [PORT.search(it) for it in (before, line)]
         if all(paths) and [it[1] for it in paths] == [">", "<"] and paths[0][2] == paths[1][2] and paths[0][2] in charts:
-            # (emissions that are the same are told apart only by their number)
+            # (emissions that are the same are distinguished only by their number)
             shown = next(it for it in range(at, len(lines)) if lines[it] != lines[it + 1])
             yield "".join(lines[:at] + lines[at + 1 :]), shown + 1
             if "=TRUE" in line:
