@@ -14,12 +14,15 @@ use Rattle.std.proofs.lemmas.Map.Keys.{sorted_tail}
 use Rattle.std.proofs.lemmas.List.{get_or_default}
 use Rattle.fb_types.specs.Keys.{Precedes, key_cmp, or_else, same_key}
 use Rattle.fb_types.specs.declared.key.Key.{Key}
-use Rattle.fb_types.proofs.KeyLaws.{before_least, earlier_precedes, key_cmp_total, same_key_is, same_key_itself}
+use Rattle.fb_types.proofs.KeyLaws.{before_least, key_cmp_total, same_key_is, same_key_itself}
 use Rattle.fb_agenda.specs.Agendas.{AreRising, IsFirst, IsFirstTick}
-use Rattle.fb_agenda.specs.Calendars.{AreSplit, BeginsAt, IsIndexOf, IsQuiet, Leads, Sets}
+use Rattle.fb_agenda.specs.Calendars.{AreSplit, BeginsAt, IsIndexOf, Leads, Sets}
+use Rattle.fb_agenda.specs.Moments.{IsPast}
+use Rattle.fb_agenda.specs.declared.moment.Moment.{Moment}
 use Rattle.fb_types.specs.declared.run.Event.{Event}
 use Rattle.fb_types.proofs.Lookups.{or_else_none}
 use Rattle.fb_agenda.proofs.Apart.{before_both, either_some, precedes_tick, first_is, first_some}
+use Rattle.fb_agenda.proofs.Moments.{either_tick, precedes_resource}
 use Rattle.fb_agenda.proofs.Orders.{AllAfter, AllBefore, Rise, absent, after_at, all_later, follows, found_after, not_none, precedes, put_over, rise_after, searchable, without_first}
 
 -- ---- What is found in both
@@ -35,7 +38,7 @@ lookup_both j (e ∷ xs) ys = go (same_key j e.0) (lookup_both j xs ys)
 
 -- ---- The first key
 
-first_one : (es : List (Key × Event)) (k l : Key) → IsFirst es k → IsFirst es l → k ≡ l
+pub first_one : (es : List (Key × Event)) (k l : Key) → IsFirst es k → IsFirst es l → k ≡ l
 first_one es k l first other = go (key_cmp k l) refl
   where
     go : (r : Ordering) → key_cmp k l ≡ r → k ≡ l
@@ -64,12 +67,17 @@ leads_not_less xs ys k l first other not_less = record {
 pub leads_none : (xs ys : List (Key × Event)) → ys ≡ [] → Leads xs ys
 leads_none xs ys empty = record { none_before = λ i is j before. ap (λ es. lookup (same_key j) es) empty; none = λ none. empty }
 
--- if nothing is there at the tick of the first or below, nothing comes before it
-pub leads_past : (xs ys : List (Key × Event)) (k : Key) → IsFirst xs k → ((j : Key) → j.tick ≤ k.tick → lookup (same_key j) ys ≡ None) → Leads xs ys
-leads_past xs ys k first past = record {
-  none_before = λ i is j before. past j (precedes_tick j k (subst (λ (z : Key). Precedes j z) (first_one xs i k is first) before));
+-- if nothing is there at the moment of the first or before, nothing comes before it
+pub leads_past : (xs ys : List (Key × Event)) (k : Key) (m : Moment) → m.tick ≡ k.tick → m.resource ≡ k.resource → IsFirst xs k → IsPast m ys → Leads xs ys
+leads_past xs ys k m tick resource first past = record {
+  none_before = λ i is j before. none j (subst (λ (z : Key). Precedes j z) (first_one xs i k is first) before);
   none = λ empty. absurd (not_none (lookup (same_key k) xs) first.there (ap (λ es. lookup (same_key k) es) empty));
 }
+  where
+    none : (j : Key) → Precedes j k → lookup (same_key j) ys ≡ None
+    none j before =
+        either_tick j.tick k.tick (precedes_tick j k before) (λ less. past.below j (omega (arith, tick, less)))
+        (λ same. past.up_to j (same ∙ sym tick) (let le = precedes_resource j k before same in omega (arith, resource, le)))
 
 -- a truth value that is one of the two results
 pub when_true : {P : Type 0} (b : Bool) → (b ≡ true → P) → OnTrue b P
@@ -354,29 +362,7 @@ index_none es k rising (Err i) found =
     let parted = found (searchable k es rising) in
     absent_between k es i (λ j d less. parted.0 j d (omega arith) less) (λ j d le less. parted.1 j d le less)
 
--- ---- The tick below which nothing waits
-
-pub quiet_less : (q r : ℕ) (es : List (Key × Event)) → IsQuiet q es → r ≤ q → IsQuiet r es
-quiet_less q r es quiet le j below = quiet j (omega (arith, le, below))
-
-pub quiet_put : (q r : ℕ) (k : Key) (w : Option Event) (old new : List (Key × Event)) → IsQuiet q old → Sets k w old new → r ≤ q → r ≤ k.tick → IsQuiet r new
-quiet_put q r k w old new quiet sets less le j below = sets j ∙ go (same_key k j) refl
-  where
-    go : (b : Bool) → same_key k j ≡ b → cond b w (lookup (same_key j) old) ≡ None
-    go true same = let at : k.tick ≡ j.tick = ap (λ (z : Key). z.tick) (same_key_is k j same) in absurd (omega (arith, at, below, le))
-    go false other = quiet j (omega (arith, below, less))
-
-pub quiet_gone : (q : ℕ) (k : Key) (old new : List (Key × Event)) → IsQuiet q old → Sets k None old new → IsQuiet q new
-quiet_gone q k old new quiet sets j below = sets j ∙ go (same_key k j)
-  where
-    go : (b : Bool) → cond b None (lookup (same_key j) old) ≡ None
-    go true = refl
-    go false = quiet j below
-
-pub quiet_result : {A E : Type 0} (q r : ℕ) (k : Key) (e : Event) (old new : List (Key × Event)) → IsQuiet q old → (o : Result A E) → OnOk o (Sets k (Some e) old new)
-    → OnErr o (new ≡ old) → r ≤ q → r ≤ k.tick → IsQuiet r new
-quiet_result q r k e old new quiet (Ok x) sets kept less le = quiet_put q r k (Some e) old new quiet sets less le
-quiet_result q r k e old new quiet (Err x) sets kept less le = subst (λ es. IsQuiet r es) (sym kept) (quiet_less q r old quiet less)
+-- ---- What stays
 
 pub kept_both : {A E : Type 0} (few new many : List (Key × Event)) (o : Result A E) → OnErr o (new ≡ few) → OnErr o (new ++ many ≡ few ++ many)
 kept_both few new many (Ok x) kept = tt
@@ -390,10 +376,6 @@ pub many_kept : (few many new : List (Key × Event)) (o : Option (Key × Event))
 many_kept few many new None kept = ap (λ es. few ++ es) kept
 many_kept few many new (Some f) kept = tt
 
-pub quiet_popped : (q : ℕ) (old new : List (Key × Event)) → IsQuiet q old → (o : Option (Key × Event)) → IfSome o (λ p. Sets p.0 None old new) → IfNone o (new ≡ old) → IsQuiet q new
-quiet_popped q old new quiet None sets kept = subst (λ es. IsQuiet q es) (sym kept) quiet
-quiet_popped q old new quiet (Some p) sets kept = quiet_gone q p.0 old new quiet sets
-
 pub below_first : (es : List (Key × Event)) (t horizon : ℕ) → IsFirstTick es t → t < horizon → (o : Option (Key × Event)) → IfSome o (λ p. lookup (same_key p.0) es ≡ Some p.1)
     → IfSome o (λ p. (j : Key) → Precedes j p.0 → lookup (same_key j) es ≡ None) → IfSome o (λ p. p.0.tick < horizon)
 below_first es t horizon first below None value before = tt
@@ -401,12 +383,6 @@ below_first es t horizon first below (Some p) value before =
     let one : first.0 ≡ p.0 = first_one es first.0 p.0 first.2 (record { there = ap is_some value; none_before = before }) in
     let at : p.0.tick ≡ t = ap (λ (z : Key). z.tick) (sym one) ∙ first.1 in
     omega (arith, at, below)
-
-pub quiet_first : (t : ℕ) (es : List (Key × Event)) → IsFirstTick es t → IsQuiet t es
-quiet_first t es first j below = first.2.none_before j (earlier_precedes j first.0 (omega (arith, first.1, below)))
-
-pub quiet_none : (t : ℕ) (es : List (Key × Event)) → es ≡ [] → IsQuiet t es
-quiet_none t es empty j below = ap (λ l. lookup (same_key j) l) empty
 
 -- ---- Where a new key belongs
 

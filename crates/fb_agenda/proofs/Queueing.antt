@@ -1,32 +1,26 @@
 -- The queue of the running tick, as local events with the targets that it has.
-use Rattle.std.proofs.Common.{◌≡◌, ℕ, zero, suc, ◌<◌, ◌≤◌, Bool, true, false, cond, List, [], ◌∷◌, ◌++◌, length, get_or, set, refl, sym, ap, subst, ◌∙◌, Option, Some, None, Result, Ok, Err, arith}
-use Rattle.std.specs.Prelude.{IsSome, IfSome, IfNone, OnSome, option_map}
+use Rattle.std.proofs.Common.{◌≡◌, ℕ, zero, suc, ◌<◌, Bool, true, false, cond, List, [], ◌∷◌, ◌++◌, length, get_or, set, refl, sym, ap, subst, ◌∙◌, Option, Some, None, Result, Ok, Err, arith}
+use Rattle.std.specs.Prelude.{IsSome, IfSome, MatchOption, OnErr, OnOk, OnSome, map, option_map}
 use Rattle.std.specs.BTreeMap.{insert_entry}
 use Rattle.std.specs.List.{AllByRecursion, remove}
-use Rattle.std.specs.List.Sorted.{IsBinarySearchResult, IsSearchInRange, IsStrictlySortedBy}
-use Rattle.std.specs.Result.{result_ok}
+use Rattle.std.specs.List.Sorted.{IsStrictlySortedBy}
 use Rattle.std.specs.Map.{keys_of, lookup}
-use Rattle.std.specs.Ordering.{is_eq, nat_cmp, ordering_then}
-use Rattle.std.specs.declared.cmp.Ordering.TheVariants.{Less}
-use Rattle.std.proofs.lemmas.Bool.{lt-ltb}
+use Rattle.std.specs.Ordering.{nat_cmp, ordering_then}
 use Rattle.std.proofs.lemmas.List.{get_or-map, get_or_default, length-map, map-append}
 use Rattle.fb_types.specs.Keys.{Precedes, key_cmp, local_key, same_key}
 use Rattle.fb_types.specs.declared.key.Key.{Key}
 use Rattle.fb_types.specs.declared.run.Event.{Event}
 use Rattle.fb_types.specs.declared.run.Event.TheVariants.{Local}
 use Rattle.fb_types.specs.declared.run.Target.{Target}
-use Rattle.fb_types.proofs.KeyLaws.{same_key_is}
 use Rattle.fb_types.proofs.Lookups.{cmp_equal}
-use Rattle.fb_agenda.specs.Agendas.{AreRising, IsFirst, IsQueue, MayFollow, local_events}
-use Rattle.fb_agenda.specs.Calendars.{BeginsAt, IsIndexOf, Sets}
-use Rattle.fb_agenda.proofs.Apart.{first_is, queue_class, queue_less, queue_more}
-use Rattle.fb_agenda.proofs.Calendars.{over_is, index_here, put_rises, put_sets, removed_rises, removed_sets}
+use Rattle.fb_agenda.specs.Agendas.{AreApart, AreRising, Contents, IsAt, IsFirst, IsQueue, MayFollow, event_of, keyed, local_events, waiting}
+use Rattle.fb_agenda.specs.Calendars.{IsIndexOf, Sets}
+use Rattle.fb_agenda.proofs.Apart.{first_is, queue_apart, queue_class, queue_less, queue_more, queue_waits}
+use Rattle.fb_agenda.proofs.Moments.{number_less}
+use Rattle.fb_agenda.proofs.Calendars.{first_one, over_is, index_here, put_rises, put_sets, removed_rises, removed_sets}
 use Rattle.fb_agenda.proofs.Orders.{AllBefore, Rise, all_before, not_none, put_last}
 
 -- ---- Targets and events
-
-abbrev event_at : Key × Target → Key × Event
-event_at t = (t.0, Local t.1)
 
 keys_same : (ts : List (Key × Target)) → keys_of (local_events ts) ≡ keys_of ts
 keys_same [] = refl
@@ -44,46 +38,59 @@ lookup_same j (t ∷ ts) = go (same_key j t.0) (lookup_same j ts)
     go true rest = refl
     go false rest = rest
 
-pub none_same : (j : Key) (ts : List (Key × Target)) (o : Option ℕ) → IfNone o (lookup (same_key j) ts ≡ None) → IfNone o (lookup (same_key j) (local_events ts) ≡ None)
-none_same j ts None none = lookup_same j ts ∙ ap (option_map Local) none
-none_same j ts (Some i) none = tt
+pub no_number : ℕ × Target
+no_number = (0, record { instance = 0; event = 0; is_output = false })
 
 no_target : Key × Target
 no_target = (local_key 0 0 0, record { instance = 0; event = 0; is_output = false })
 
 -- the key at an index
-key_at : (ts : List (Key × Target)) (i : ℕ) (k : Key) → i < length ts → ((d : Key × Target) → (get_or ts i d).0 ≡ k) → IsIndexOf (local_events ts) k i
-key_at ts i k within there = record {
-  within = let same = length-map ts event_at in omega (arith, same, within);
-  there = λ d. ap (λ (e : Key × Event). e.0) (get_or-map event_at ts i no_target d within) ∙ there no_target;
+pub indexed : (ts : List (Key × Target)) (i : ℕ) (k : Key) → i < length ts → ((d : Key × Target) → (get_or ts i d).0 ≡ k) → IsIndexOf (local_events ts) k i
+indexed ts i k within there = record {
+  within = let same = length-map ts event_of in omega (arith, same, within);
+  there = λ d. ap (λ (e : Key × Event). e.0) (get_or-map event_of ts i no_target d within) ∙ there no_target;
 }
 
 pub index_within : (ts : List (Key × Target)) (k : Key) (i : ℕ) → IsIndexOf (local_events ts) k i → i < length ts
-index_within ts k i index = let same = length-map ts event_at in let within = index.within in omega (arith, same, within)
+index_within ts k i index = let same = length-map ts event_of in let within = index.within in omega (arith, same, within)
 
--- what a search returns
-pub found_target : (ts : List (Key × Target)) (k : Key) (r : Result ℕ ℕ) (n : ℕ) → n ≡ length ts → IsSearchInRange r n → IsBinarySearchResult (λ t. key_cmp t.0 k) ts r
-    → IfSome (result_ok r) (IsIndexOf (local_events ts) k)
-found_target ts k (Ok i) n count within found = key_at ts i k (subst (λ m. i < m) count within) (λ d. same_key_is (get_or ts i d).0 k (ap is_eq (found d)))
-found_target ts k (Err i) n count within found = tt
+pub within_numbers : (t r : ℕ) (es : List (ℕ × Target)) (i : ℕ) → i < length (map (keyed t r) es) → i < length es
+within_numbers t r es i within = let same = length-map es (keyed t r) in omega (arith, same, within)
+
+pub numbers_length : (t r : ℕ) (es : List (ℕ × Target)) (ts : List (Key × Target)) → map (keyed t r) es ≡ ts → length ts ≡ length es
+numbers_length t r es ts is = ap length (sym is) ∙ length-map es (keyed t r)
+
+-- the key of an event by its number
+pub key_of : (t r : ℕ) (es : List (ℕ × Target)) (i : ℕ) (x : ℕ × Target) (ts : List (Key × Target)) → map (keyed t r) es ≡ ts → i < length es → x ≡ get_or es i x
+    → (d : Key × Target) → (get_or ts i d).0 ≡ local_key t r x.0
+key_of t r es i x ts is within at d =
+    ap (λ l. (get_or l i d).0) (sym is) ∙ ap (λ (e : Key × Target). e.0) (get_or-map (keyed t r) es i x d within) ∙ ap (λ (e : ℕ × Target). local_key t r e.0) (sym at)
+
+-- no event of the queue has the key
+pub absent_all : (k : Key) (ts : List (Key × Target)) → ((j : ℕ) (d : Key × Target) → j < length ts → same_key k (get_or ts j d).0 ≡ false) → lookup (same_key k) (local_events ts) ≡ None
+absent_all k [] none = refl
+absent_all k (t ∷ ts) none =
+    ap (λ b. cond b (Some (Local t.1)) (lookup (same_key k) (local_events ts))) (none zero t (omega arith)) ∙ absent_all k ts (λ j d less. none (suc j) d (omega (arith, less)))
 
 -- ---- The first
 
-pub first_target : (ts : List (Key × Target)) (k : Key) (d : Key × Target) → AreRising (local_events ts) → 0 < length ts → k ≡ (get_or ts 0 d).0 → IsFirst (local_events ts) k
-first_target ts k d rising some is =
-    first_is (local_events ts) k (event_at d) rising (let same = length-map ts event_at in omega (arith, same, some)) (is ∙ sym (ap (λ (e : Key × Event). e.0) (get_or-map event_at ts 0 d (event_at d) some)))
+pub first_number : (t r : ℕ) (es : List (ℕ × Target)) (e d : ℕ × Target) → AreRising (local_events (map (keyed t r) es)) → 0 < length es → get_or es 0 d ≡ e
+    → IsFirst (local_events (map (keyed t r) es)) (local_key t r e.0)
+first_number t r [] e d rising some is = absurd (omega (arith, some))
+first_number t r (x ∷ es) e d rising some is =
+    first_is (local_events (map (keyed t r) (x ∷ es))) (local_key t r e.0) (event_of (keyed t r x)) rising (omega arith) (ap (λ (z : ℕ × Target). local_key t r z.0) (sym is))
 
-pub no_events : (ts : List (Key × Target)) → (0 < length ts → ⊥) → local_events ts ≡ []
-no_events [] none = refl
-no_events (t ∷ ts) none = absurd (none (omega arith))
+pub first_popped : (ts new : List (Key × Target)) (x : Key × Target) (k : Key) → AreRising (local_events ts) → IsFirst (local_events ts) k → ts ≡ x ∷ new → x.0 ≡ k
+first_popped ts new x k rising first is =
+    first_one (local_events ts) x.0 k
+    (subst (λ l. IsFirst (local_events l) x.0) (sym is) (first_is (local_events (x ∷ new)) x.0 (event_of x) (subst (λ l. AreRising (local_events l)) is rising) (omega arith) refl)) first
 
-pub begins_target : (ts : List (Key × Target)) (horizon : ℕ) (d : Key × Target) → AreRising (local_events ts) → 0 < length ts → horizon ≤ (get_or ts 0 d).0.tick → BeginsAt horizon (local_events ts)
-begins_target ts horizon d rising some le there = ((get_or ts 0 d).0, le, first_target ts (get_or ts 0 d).0 d rising some refl)
+pub below_popped : (ts new : List (Key × Target)) (k : Key) (horizon : ℕ) (o : Option (Key × Target)) → AreRising (local_events ts) → IsFirst (local_events ts) k → k.tick < horizon
+    → MatchOption o (ts ≡ []) (λ x. ts ≡ x ∷ new) → IfSome o (λ x. x.0.tick < horizon)
+below_popped ts new k horizon None rising first less is = tt
+below_popped ts new k horizon (Some x) rising first less is = let tick = ap (λ (z : Key). z.tick) (first_popped ts new x k rising first is) in omega (arith, tick, less)
 
 -- ---- What follows the last
-
-number_less : (n m : ℕ) → n < m → nat_cmp n m ≡ Less
-number_less n m less = rw (lt-ltb n m less) refl
 
 pub local_precedes : (j k : Key) → j.tick ≡ k.tick → j.resource ≡ k.resource → j.class ≡ k.class → j.a < k.a → Precedes j k
 local_precedes j k tick resource class less =
@@ -91,10 +98,6 @@ local_precedes j k tick resource class less =
     ∙ ap (λ o. ordering_then o (ordering_then (nat_cmp j.class k.class) (ordering_then (nat_cmp j.a k.a) (nat_cmp j.b k.b)))) (cmp_equal j.resource k.resource resource)
     ∙ ap (λ o. ordering_then o (ordering_then (nat_cmp j.a k.a) (nat_cmp j.b k.b))) (cmp_equal j.class k.class class)
     ∙ ap (λ o. ordering_then o (nat_cmp j.b k.b)) (number_less j.a k.a less)
-
-pub follows_none : (ts : List (Key × Target)) (k : Key) → (0 < length ts → ⊥) → MayFollow (local_events ts) k
-follows_none [] k none = record { before = tt; tick = λ j there. absurd (not_none {X = Event} None there refl) }
-follows_none (t ∷ ts) k none = absurd (none (omega arith))
 
 pub follows_last : (ts : List (Key × Target)) (k last : Key) (n : ℕ) (d : Key × Target) → IsQueue (local_events ts) → k.class ≡ 3 → length ts ≡ suc n → (get_or ts n d).0 ≡ last
     → last.tick ≡ k.tick → last.resource ≡ k.resource → last.a < k.a → MayFollow (local_events ts) k
@@ -111,12 +114,33 @@ follows_last ts k last n d queue local count is tick resource less =
     at : (e : Key × Target) → (get_or ts n e).0 ≡ last
     at e = ap (λ (t : Key × Target). t.0) (get_or_default ts n e d (omega (arith, count))) ∙ is
 
+-- an event of the same tick and resource with a later number than the last
+pub follows_number : (t r : ℕ) (es : List (ℕ × Target)) (number n : ℕ) (d : ℕ × Target) → IsQueue (local_events (map (keyed t r) es)) → length es ≡ suc n → (get_or es n d).0 < number
+    → MayFollow (local_events (map (keyed t r) es)) (local_key t r number)
+follows_number t r es number n d queue count less =
+    follows_last (map (keyed t r) es) (local_key t r number) (local_key t r (get_or es n d).0) n (keyed t r d) queue refl (length-map es (keyed t r) ∙ count)
+    (ap (λ (x : Key × Target). x.0) (get_or-map (keyed t r) es n d (keyed t r d) (omega (arith, count)))) refl refl less
+
+pub all_at : (t r : ℕ) (es : List (ℕ × Target)) → AllByRecursion (IsAt t r) (map (keyed t r) es)
+all_at t r [] = tt
+all_at t r (e ∷ es) = ((refl, refl), all_at t r es)
+
+-- events of one tick and resource have them as their own
+pub same_moment : (t r u s : ℕ) (es : List (ℕ × Target)) → AllByRecursion (IsAt u s) (map (keyed t r) es) → map (keyed u s) es ≡ map (keyed t r) es
+same_moment t r u s [] all = refl
+same_moment t r u s (e ∷ es) all =
+    ap (λ x. (local_key x s e.0, e.1) ∷ map (keyed u s) es) (sym all.0.0) ∙ ap (λ x. (local_key t x e.0, e.1) ∷ map (keyed u s) es) (sym all.0.1)
+    ∙ ap (λ l. (local_key t r e.0, e.1) ∷ l) (same_moment t r u s es all.1)
+
+pub pushed : (t r u s : ℕ) (old new : List (ℕ × Target)) (e : ℕ × Target) → AllByRecursion (IsAt u s) (map (keyed t r) old) → new ≡ old ++ e ∷ [] → map (keyed u s) new ≡ map (keyed t r) old ++ (local_key u s e.0, e.1) ∷ []
+pushed t r u s old new e all is = ap (map (keyed u s)) is ∙ map-append (keyed u s) old (e ∷ []) ∙ ap (λ l. l ++ (local_key u s e.0, e.1) ∷ []) (same_moment t r u s old all)
+
 -- ---- Changes of the queue
 
 -- an event is appended
 module _ (ts new : List (Key × Target)) (k : Key) (t : Target) (queue : IsQueue (local_events ts)) (local : k.class ≡ 3) (may : MayFollow (local_events ts) k) (is : new ≡ ts ++ (k, t) ∷ []) where
   put_is : local_events new ≡ insert_entry key_cmp (local_events ts) k (Local t)
-  put_is = ap local_events is ∙ map-append event_at ts ((k, t) ∷ []) ∙ put_last k (Local t) (local_events ts) may.before
+  put_is = ap local_events is ∙ map-append event_of ts ((k, t) ∷ []) ∙ put_last k (Local t) (local_events ts) may.before
 
   pub pushed_sets : Sets k (Some (Local t)) (local_events ts) (local_events new)
   pushed_sets = put_sets (local_events ts) (local_events new) k (Local t) put_is
@@ -124,25 +148,60 @@ module _ (ts new : List (Key × Target)) (k : Key) (t : Target) (queue : IsQueue
   pub pushed_queue : IsQueue (local_events new)
   pushed_queue = queue_more (local_events ts) (local_events new) k queue (put_rises (local_events ts) (local_events new) k (Local t) queue.rising put_is) (Local t) local may.tick pushed_sets
 
+module _ (ts new : List (Key × Target)) (later : List (Key × Event)) (due : List ℕ) (marked : Bool) (k : Key) (t : Target)
+    (apart : AreApart (record { running = local_events ts; later = later; due = due }) marked) (local : k.class ≡ 3) (may : MayFollow (local_events ts) k) (alone : lookup (same_key k) later ≡ None) where
+  abbrev before : Contents
+  before = record { running = local_events ts; later = later; due = due }
+
+  pub put_now_apart : {A E : Type 0} (r : Result A E) → OnOk r (new ≡ ts ++ (k, t) ∷ []) → OnErr r (new ≡ ts) → AreApart (record { running = local_events new; later = later; due = due }) marked
+  put_now_apart (Ok x) ok err =
+      queue_apart before marked apart k (Some (Local t)) (local_events new) (pushed_sets ts new k t apart.queue local may ok) alone (pushed_queue ts new k t apart.queue local may ok)
+  put_now_apart (Err x) ok err = subst (λ l. AreApart (record { running = local_events l; later = later; due = due }) marked) (sym err) apart
+
+  pub put_now_waits : {A E : Type 0} (r : Result A E) → OnOk r (new ≡ ts ++ (k, t) ∷ [])
+      → OnOk r ((j : Key) → waiting (record { running = local_events new; later = later; due = due }) j ≡ cond (same_key k j) (Some (Local t)) (waiting (record { running = local_events ts; later = later; due = due }) j))
+  put_now_waits (Ok x) ok = queue_waits before marked apart k (Some (Local t)) (local_events new) (pushed_sets ts new k t apart.queue local may ok) alone
+  put_now_waits (Err x) ok = tt
+
 -- an event replaces another
-set_same : (ts : List (Key × Target)) (i : ℕ) (t : Key × Target) → local_events (set ts i t) ≡ set (local_events ts) i (event_at t)
+set_same : (ts : List (Key × Target)) (i : ℕ) (t : Key × Target) → local_events (set ts i t) ≡ set (local_events ts) i (event_of t)
 set_same [] i t = refl
 set_same (x ∷ ts) zero t = refl
-set_same (x ∷ ts) (suc i) t = ap (λ es. event_at x ∷ es) (set_same ts i t)
+set_same (x ∷ ts) (suc i) t = ap (λ es. event_of x ∷ es) (set_same ts i t)
 
-module _ (ts : List (Key × Target)) (k : Key) (i : ℕ) (t : Target) (queue : IsQueue (local_events ts)) (index : IsIndexOf (local_events ts) k i) where
-  over_same : local_events (set ts i (k, t)) ≡ insert_entry key_cmp (local_events ts) k (Local t)
-  over_same = set_same ts i (k, t) ∙ over_is (local_events ts) k (Local t) i queue.rising index
+map_set : (t r : ℕ) (es : List (ℕ × Target)) (i : ℕ) (e : ℕ × Target) → map (keyed t r) (set es i e) ≡ set (map (keyed t r) es) i (keyed t r e)
+map_set t r [] i e = refl
+map_set t r (x ∷ es) zero e = refl
+map_set t r (x ∷ es) (suc i) e = ap (λ l. keyed t r x ∷ l) (map_set t r es i e)
+
+pub target_set : (t r : ℕ) (es : List (ℕ × Target)) (i : ℕ) (k : Key) (x : Target) (number : ℕ) → i < length es → IsIndexOf (local_events (map (keyed t r) es)) k i → (get_or es i no_number).0 ≡ number
+    → map (keyed t r) (set es i (number, x)) ≡ set (map (keyed t r) es) i (k, x)
+target_set t r es i k x number within index is =
+    let same = length-map es (keyed t r) in
+    let here : i < length (map (keyed t r) es) = omega (arith, same, within) in
+    let key : k ≡ local_key t r number = sym (index.there (event_of no_target)) ∙ ap (λ (e : Key × Event). e.0) (get_or-map event_of (map (keyed t r) es) i no_target (event_of no_target) here)
+    ∙ ap (λ (e : Key × Target). e.0) (get_or-map (keyed t r) es i no_number no_target within) ∙ ap (local_key t r) is in
+    map_set t r es i (number, x) ∙ ap (λ (z : Key). set (map (keyed t r) es) i (z, x)) (sym key)
+
+pub number_removed : (t r : ℕ) (es : List (ℕ × Target)) (i : ℕ) → map (keyed t r) (remove es i) ≡ remove (map (keyed t r) es) i
+number_removed t r [] zero = refl
+number_removed t r [] (suc i) = refl
+number_removed t r (e ∷ es) zero = refl
+number_removed t r (e ∷ es) (suc i) = ap (λ l. keyed t r e ∷ l) (number_removed t r es i)
+
+module _ (ts new : List (Key × Target)) (k : Key) (i : ℕ) (t : Target) (queue : IsQueue (local_events ts)) (index : IsIndexOf (local_events ts) k i) (is : new ≡ set ts i (k, t)) where
+  over_same : local_events new ≡ insert_entry key_cmp (local_events ts) k (Local t)
+  over_same = ap local_events is ∙ set_same ts i (k, t) ∙ over_is (local_events ts) k (Local t) i queue.rising index
 
   pub here : IsSome (lookup (same_key k) (local_events ts))
   here = index_here (local_events ts) k i index.within index.there
 
-  pub set_sets : Sets k (Some (Local t)) (local_events ts) (local_events (set ts i (k, t)))
-  set_sets = put_sets (local_events ts) (local_events (set ts i (k, t))) k (Local t) over_same
+  pub set_sets : Sets k (Some (Local t)) (local_events ts) (local_events new)
+  set_sets = put_sets (local_events ts) (local_events new) k (Local t) over_same
 
-  pub set_queue : IsQueue (local_events (set ts i (k, t)))
+  pub set_queue : IsQueue (local_events new)
   set_queue =
-      queue_more (local_events ts) (local_events (set ts i (k, t))) k queue (put_rises (local_events ts) (local_events (set ts i (k, t))) k (Local t) queue.rising over_same) (Local t)
+      queue_more (local_events ts) (local_events new) k queue (put_rises (local_events ts) (local_events new) k (Local t) queue.rising over_same) (Local t)
       (queue_class (local_events ts) queue k here) (λ j there. queue.tick j k there here) set_sets
 
 -- an event is removed
@@ -150,7 +209,7 @@ remove_same : (ts : List (Key × Target)) (i : ℕ) → local_events (remove ts 
 remove_same [] zero = refl
 remove_same [] (suc i) = refl
 remove_same (x ∷ ts) zero = refl
-remove_same (x ∷ ts) (suc i) = ap (λ es. event_at x ∷ es) (remove_same ts i)
+remove_same (x ∷ ts) (suc i) = ap (λ es. event_of x ∷ es) (remove_same ts i)
 
 module _ (ts new : List (Key × Target)) (k : Key) (i : ℕ) (queue : IsQueue (local_events ts)) (index : IsIndexOf (local_events ts) k i) (is : new ≡ remove ts i) where
   gone_is : local_events new ≡ remove (local_events ts) i

@@ -3,7 +3,7 @@ use Rattle.std.specs.Prelude.{◌≡◌, ◌≢◌, ◌≤◌, ℕ, Bool, true, 
 use Rattle.std.specs.List.{AllByRecursion}
 use Rattle.std.specs.List.Sorted.{IsStrictlySortedBy}
 use Rattle.std.specs.Map.{keys_of, lookup}
-use Rattle.fb_types.specs.Keys.{Map, Precedes, key_cmp, or_else, same_key, timer_key}
+use Rattle.fb_types.specs.Keys.{Map, Precedes, key_cmp, local_key, or_else, same_key, timer_key}
 use Rattle.fb_types.specs.Takes.{is_timer_of}
 use Rattle.fb_types.specs.declared.key.Key.{Key}
 use Rattle.fb_types.specs.declared.run.Target.{Target}
@@ -29,8 +29,19 @@ AreRising es = IsStrictlySortedBy key_cmp (keys_of es)
 -- ---- The queue of the running tick
 
 -- local events, of which the queue has the targets
+abbrev pub event_of : Key × Target → Key × Event
+event_of t = (t.0, Local t.1)
+
 abbrev pub local_events : List (Key × Target) → List (Key × Event)
-local_events ts = map (λ t. (t.0, Local t.1)) ts
+local_events ts = map event_of ts
+
+-- a local event of this tick and resource, by its number and its target
+abbrev pub keyed : (tick resource : ℕ) → ℕ × Target → Key × Target
+keyed t r e = (local_key t r e.0, e.1)
+
+-- The event has this tick and resource.
+abbrev pub IsAt : (tick resource : ℕ) → Key × Target → Type 0
+IsAt t r e = (e.0.tick ≡ t) × (e.0.resource ≡ r)
 
 -- Its keys rise, have one tick, and are those of local events.
 pub record IsQueue (es : List (Key × Event)) : Type 0 where

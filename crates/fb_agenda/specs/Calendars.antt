@@ -6,6 +6,8 @@ use Rattle.fb_types.specs.Keys.{Precedes, key_cmp, same_key}
 use Rattle.fb_types.specs.declared.key.Key.{Key}
 use Rattle.fb_agenda.specs.Agendas.{AreRising, IsFirst}
 use Rattle.fb_types.specs.declared.run.Event.{Event}
+use Rattle.fb_agenda.specs.Moments.{IsQuiet}
+use Rattle.fb_agenda.specs.declared.moment.Moment.{Moment}
 
 -- new has w at the key, and at each other key what old has
 abbrev pub Sets : (k : Key) (w : Option Event) (old new : List (Key × Event)) → Type 0
@@ -32,15 +34,11 @@ pub record IsBetween (es : List (Key × Event)) (k : Key) (i : ℕ) : Type 0 whe
   pub below : (j : ℕ) (d : Key × Event) → j < i → key_cmp (slice_index_or es j d).0 k ≡ Less
   pub above : (j : ℕ) (d : Key × Event) → i ≤ j → j < length es → key_cmp (slice_index_or es j d).0 k ≡ Greater
 
--- No event waits below this tick.
-abbrev pub IsQuiet : ℕ → List (Key × Event) → Type 0
-IsQuiet t es = (j : Key) → j.tick < t → lookup (same_key j) es ≡ None
-
 -- The first event, if there is one, is not below this tick.
 abbrev pub BeginsAt : ℕ → List (Key × Event) → Type 0
 BeginsAt t es = es ≢ [] → (k : Key) × (t ≤ k.tick) × IsFirst es k
 
--- The keys of the row rise, no key of the row is in the map, and none is below this tick.
-pub record AreKept (few many : List (Key × Event)) (tick : ℕ) : Type 0 where
+-- The keys of the row rise, no key of the row is in the map, and none is before this moment.
+pub record AreKept (few many : List (Key × Event)) (moment : Moment) : Type 0 where
   pub split : AreSplit few many
-  pub quiet : IsQuiet tick (few ++ many)
+  pub quiet : IsQuiet moment (few ++ many)

@@ -3,3 +3,4 @@ pub mod Arrivals
 pub mod Calendars
 pub mod Inside
 pub mod Indexes
+pub mod Moments

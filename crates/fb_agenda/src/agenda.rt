@@ -6,18 +6,20 @@ ghost use Rattle.std.specs.Map.{lookup};
 ghost use Rattle.fb_types.specs.Keys.{Precedes, changed_to, found, local_key, or_else, same_key, timer_key};
 ghost use Rattle.fb_types.specs.Takes.{is_timer_of};
 ghost use Rattle.fb_types.specs.declared.run.Event.TheVariants.{Local, Timer};
-ghost use Rattle.fb_agenda.specs.Agendas.{waiting, AreRising, IsNext, IsTimed, IsInResource, MayFollow, local_events, timer_set};
+ghost use Rattle.fb_agenda.specs.Agendas.{waiting, AreRising, IsNext, IsTimed, IsInResource, local_events, timer_set};
 ghost use Rattle.fb_agenda.specs.Arrivals.{AreNew, arrivals_at};
 ghost use Rattle.fb_agenda.specs.Calendars.{BeginsAt, Leads, Sets};
-ghost use Rattle.fb_agenda.specs.Indexes.{taken};
+ghost use Rattle.fb_agenda.specs.Indexes.{taken, took};
 
+use crate::arrivals;
 use crate::calendar::Calendar;
 use crate::later::Later;
 use crate::least::Least;
-use crate::{arrivals, queue, rising};
+use crate::moment::Moment;
+use crate::next::Next;
+use crate::queue::{self, Queue};
 use fb_types::{Event, Key, Message, Target, TimerAsk};
 use std::alloc::{AllocError, Global};
-use std::collections::VecDeque;
 use std::marker::Model;
 
 /// The events that wait, at most one under each key, and the ticks at which the timers of the instances go off.
@@ -26,7 +28,7 @@ pub struct Agenda {
     later: Later,
     /// The queue of the running tick: local events in rising order of their keys, all of one tick. `later` has none of
     /// these keys.
-    now: VecDeque<(Key, Target)>,
+    now: Queue,
 }
 
 // Drop is written by hand, so that callers need not prove it again (docs/DECISIONS.md, "Drop").
@@ -50,17 +52,17 @@ impl Model for Agenda {
 
 /// Whether the queue has an event, and no event of `later` comes before its first.
 #[inline(always)]
-fn is_now_first(now: &VecDeque<(Key, Target)>, later: &mut Calendar) -> bool
-    requires { AreRising (local_events now.now.items) }
-    ensures running { OnTrue result (Leads (local_events now.now.items) later.old) }
-    ensures later { OnFalse result (Leads later.old (local_events now.now.items)) }
+fn is_now_first(now: &Queue, later: &mut Calendar) -> bool
+    requires { AreRising (local_events now.now) }
+    ensures running { OnTrue result (Leads (local_events now.now) later.old) }
+    ensures later { OnFalse result (Leads later.old (local_events now.now)) }
     ensures kept { later.new ≡ later.old }
 {
-    let Some(first) = queue::first(now) else {
+    let Some(first) = now.first() else {
         return false;
     };
-    // Usually no other event waits at the running tick.
-    if later.is_past(first.tick) {
+    // Usually no other event waits at the running tick in this resource or before.
+    if later.is_past(Moment::of(&first)) {
         return true;
     }
     is_now_less(now, later)
@@ -68,18 +70,18 @@ fn is_now_first(now: &VecDeque<(Key, Target)>, later: &mut Calendar) -> bool
 
 /// The same as `is_now_first`, by comparing the first keys of both.
 #[inline(never)]
-fn is_now_less(now: &VecDeque<(Key, Target)>, later: &Calendar) -> bool
-    requires { AreRising (local_events now.now.items) }
-    ensures running { OnTrue result (Leads (local_events now.now.items) later.now) }
-    ensures later { OnFalse result (Leads later.now (local_events now.now.items)) }
+fn is_now_less(now: &Queue, later: &Calendar) -> bool
+    requires { AreRising (local_events now.now) }
+    ensures running { OnTrue result (Leads (local_events now.now) later.now) }
+    ensures later { OnFalse result (Leads later.now (local_events now.now)) }
 {
-    let Some(first) = queue::first(now) else {
+    let Some(first) = now.first() else {
         return false;
     };
     let Some(other) = later.first() else {
         return true;
     };
-    *first < *other
+    first < *other
 }
 
 /// Takes the first event of the calendar, if its tick is below the horizon, and moves it into the slot. Returns whether
@@ -114,7 +116,7 @@ impl Agenda {
         };
         Ok(Agenda {
             later,
-            now: VecDeque::new(alloc),
+            now: Queue::new(alloc),
         })
     }
 
@@ -154,24 +156,11 @@ impl Agenda {
         ensures due { self.new.due ≡ self.old.due }
         ensures err { OnErr result (self.new ≡ self.old) }
     {
-        let key = Key::local(tick, resource, number);
-        if self.is_next(&key) {
-            rising::make_room(&mut self.now)?;
-            self.now.push_back_reserved((key, target));
-            Ok(())
+        if !self.later.has_local && self.now.follows(tick, resource, number) {
+            self.now.push(tick, resource, number, target)
         } else {
-            self.put_aside(key, Event::Local(target))
+            self.put_aside(Key::local(tick, resource, number), Event::Local(target))
         }
-    }
-
-    /// Whether the key of a local event may be appended to the queue of the running tick. Nothing waits under it then.
-    #[inline(always)]
-    fn is_next(&self, key: &Key) -> bool
-        requires { key.now.class ≡ 3 }
-        ensures follows { OnTrue result (MayFollow self.entry.now.running key.now) }
-        ensures alone { OnTrue result (lookup (same_key key.now) self.entry.now.later ≡ None) }
-    {
-        !self.later.has_local && queue::follows(&self.now, key)
     }
 
     /// Puts an event under the key of a local event, wherever such an event waits. If the key does not fit the queue, the
@@ -187,11 +176,11 @@ impl Agenda {
         ensures due { self.new.due ≡ self.old.due }
         ensures err { OnErr result (self.new ≡ self.old) }
     {
-        let Some(index) = queue::index_of(&self.now, &key) else {
+        let Some(index) = self.now.index_of(&key) else {
             return self.later.insert_local(key, event);
         };
         if let Some(target) = queue::target_of(&event) {
-            self.now[index] = (key, target);
+            self.now.set(index, target);
             return Ok(());
         }
         // Only local events go to the queue.
@@ -243,13 +232,38 @@ impl Agenda {
         }
     }
 
+    /// Takes the event with the least key, if its tick is below the horizon (in milliseconds). A local event of the running
+    /// tick is returned; any other event moves into the slot.
+    #[inline(always)]
+    pub fn take_next(&mut self, horizon: u64, index: &mut Least) -> Next
+        ensures found { IfSome (took result index.new) (λ r. waiting self.old r.0 ≡ Some r.1) }
+        ensures below { IfSome (took result index.new) (λ r. r.0.tick < horizon) }
+        ensures least { IfSome (took result index.new) (λ r. (j : Key) → Precedes j r.0 → waiting self.old j ≡ None) }
+        ensures left { IfSome (took result index.new) (λ r. (j : Key) → waiting self.new j ≡ (if same_key r.0 j then None else waiting self.old j)) }
+        ensures due { self.new.due ≡ self.old.due }
+        ensures none { IfNone (took result index.new) ((j : Key) → j.tick < horizon → waiting self.old j ≡ None) }
+        ensures kept { IfNone (took result index.new) (self.new ≡ self.old) }
+    {
+        if is_now_first(&self.now, &mut self.later.events) {
+            return match queue::pop_below(&mut self.now, horizon) {
+                Some((key, target)) => Next::Running(key, target),
+                None => Next::Nothing,
+            };
+        }
+        if pop_later(&mut self.later.events, horizon, index) {
+            Next::Other
+        } else {
+            Next::Nothing
+        }
+    }
+
     /// The tick of the next event in milliseconds, if any event waits.
     pub fn next(&self) -> Option<u64>
         ensures some { IfSome result (IsNext self.entry.now) }
         ensures none { IfNone result ((j : Key) → waiting self.entry.now j ≡ None) }
     {
         // The least key has the lesser of the two ticks, so this compares no keys.
-        let Some(first) = queue::first(&self.now) else {
+        let Some(first) = self.now.first() else {
             return self.later.events.first_tick();
         };
         let Some(later) = self.later.events.first_tick() else {

@@ -5,14 +5,16 @@
 //! So a few events are kept in a sorted row, and also any number of events that come one after the other, as stimuli do.
 //! Only events that belong before the end of a full row go to the map, and those that come while it has any.
 
-ghost use Rattle.std.specs.Prelude.{◌≡◌, ◌<◌, ◌≤◌, List, [], IfSome, IfNone, IfOk, OnOk, OnErr, Some, None};
+ghost use Rattle.std.specs.Prelude.{◌≡◌, ◌<◌, List, [], IfSome, IfNone, OnOk, OnErr, Some, None};
 ghost use Rattle.std.specs.Bool.{OnFalse, OnTrue};
 ghost use Rattle.std.specs.Map.{lookup};
 ghost use Rattle.fb_types.specs.Keys.{Precedes, same_key};
 ghost use Rattle.fb_types.specs.declared.key.Key as keys;
 ghost use Rattle.fb_agenda.specs.Agendas.{AreRising, IsFirst, IsFirstTick};
 ghost use Rattle.fb_agenda.specs.Calendars.{BeginsAt, Leads, Sets};
+ghost use Rattle.fb_agenda.specs.Moments.{IsPast};
 
+use crate::moment::Moment;
 use crate::rising;
 use fb_types::{Event, Key};
 use std::alloc::{AllocError, Global};
@@ -30,8 +32,8 @@ pub(crate) struct Calendar {
     few: VecDeque<(Key, Event)>,
     /// The events that did not go to the row.
     many: BTreeMap<Key, Event>,
-    /// No event waits below this tick.
-    quiet: u64,
+    /// No event waits before this moment.
+    quiet: Moment,
 }
 
 impl Model for Calendar {
@@ -87,7 +89,10 @@ impl Calendar {
         Calendar {
             few: VecDeque::new(alloc),
             many: BTreeMap::new(alloc),
-            quiet: 0,
+            quiet: Moment {
+                tick: 0,
+                resource: 0,
+            },
         }
     }
 
@@ -102,7 +107,7 @@ impl Calendar {
         ensures absent { OnErr result (lookup (same_key key) self.old ≡ None) }
         ensures err { OnErr result (self.new ≡ self.old) }
     {
-        self.quiet = self.quiet.min(key.tick);
+        self.quiet = self.quiet.earlier(Moment::of(&key));
         if self.many.is_empty() && fits_in(&self.few, &key) {
             return rising::insert(&mut self.few, key, event);
         }
@@ -165,21 +170,27 @@ impl Calendar {
         Some(first.tick)
     }
 
-    /// Whether no event waits at this tick or below. This looks at the first key only if `quiet` is not enough.
+    /// Whether no event waits at this moment or before. This looks at the first key only if `quiet` is not enough.
     #[inline(always)]
-    pub(crate) fn is_past(&mut self, tick: u64) -> bool
-        ensures past { OnTrue result ((j : keys.Key) → j.tick ≤ tick → lookup (same_key j) self.old ≡ None) }
+    pub(crate) fn is_past(&mut self, moment: Moment) -> bool
+        ensures past { OnTrue result (IsPast moment self.old) }
         ensures kept { self.new ≡ self.old }
     {
-        if tick < self.quiet {
-            return true;
-        }
-        let Some(first) = self.first_tick() else {
-            self.quiet = u64::MAX;
+        moment.is_before(self.quiet) || self.is_past_first(moment)
+    }
+
+    /// The same as `is_past`, by the first key, whose moment is noted.
+    #[inline(never)]
+    fn is_past_first(&mut self, moment: Moment) -> bool
+        ensures past { OnTrue result (IsPast moment self.old) }
+        ensures kept { self.new ≡ self.old }
+    {
+        let Some(first) = self.first() else {
             return true;
         };
+        let first = Moment::of(first);
         self.quiet = first;
-        tick < first
+        moment.is_before(first)
     }
 
     /// Removes the event with the first key, if its tick is below the horizon, and returns it.

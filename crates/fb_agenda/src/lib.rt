@@ -3,8 +3,8 @@
 //! Guarantees to callers: the event with the least key is taken; an instance has at most one timer; messages are added
 //! all or none, and none if memory runs out.
 //!
-//! Read in this order: `agenda`; `queue`, the local events of the running tick; `later` and `calendar`, all other events;
-//! `rising`, rows sorted by key; `arrivals`, messages; `least`, the slot for the event that is taken.
+//! Read in this order: `agenda`; `queue`, the local events of the running tick; `later` and `calendar`, all other events,
+//! with `moment`; `rising`, rows sorted by key; `arrivals`, messages; `least` and `next`, what is taken.
 #![tactic(auto)]
 
 pub mod agenda;
@@ -12,8 +12,11 @@ mod arrivals;
 mod calendar;
 mod later;
 pub mod least;
+mod moment;
+pub mod next;
 mod queue;
 mod rising;
 
 pub use agenda::Agenda;
 pub use least::Least;
+pub use next::Next;

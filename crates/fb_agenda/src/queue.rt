@@ -1,53 +1,159 @@
 //! The queue of the running tick: local events in the order of their keys.
 //!
-//! An event raises local events of the same tick and resource, with numbers that follow the last one. So appending one,
-//! and finding the next one, takes constant time.
+//! An event raises local events of the same tick and resource, with numbers that follow the last one. So the queue has the
+//! tick and the resource once, and of each event its number and its target. Appending one, and finding the next one,
+//! takes constant time and compares no keys.
 
-ghost use Rattle.std.specs.Prelude.{◌≡◌, ◌<◌, ◌++◌, [], None, option_to_list, IfSome, IfNone};
+ghost use Rattle.std.specs.Prelude.{◌≡◌, ◌<◌, ◌++◌, ◌∷◌, [], None, option_to_list, IfSome, IfNone, MatchOption, OnErr, OnOk, length, option_map, slice_index_or, slice_set};
 ghost use Rattle.std.specs.Bool.{OnFalse, OnTrue};
+ghost use Rattle.std.specs.List.{AllByRecursion, remove};
 ghost use Rattle.std.specs.Map.{lookup};
-ghost use Rattle.fb_types.specs.Keys.{same_key};
+ghost use Rattle.fb_types.specs.Keys.{local_key, same_key};
+ghost use Rattle.fb_types.specs.declared.key.Key as keys;
 ghost use Rattle.fb_types.specs.declared.run.Event.TheVariants.{Local};
-ghost use Rattle.fb_agenda.specs.Agendas.{AreRising, IsFirst, IsQueue, MayFollow, local_events};
+ghost use Rattle.fb_types.specs.declared.run.Target.{Target as Waiting};
+ghost use Rattle.fb_agenda.specs.Agendas.{AreRising, IsAt, IsFirst, IsQueue, MayFollow, event_of, local_events};
 ghost use Rattle.fb_agenda.specs.Calendars.{BeginsAt, IsIndexOf};
 ghost use Rattle.fb_agenda.specs.Indexes.{taken};
 
 use crate::least::Least;
+use crate::rising::make_room;
 use fb_types::{Event, Key, Target};
+use std::alloc::{AllocError, Global};
 use std::collections::VecDeque;
+use std::marker::Model;
 
-/// Whether the key of a local event may be appended: the queue is empty, or its last key is an earlier one of the same tick
-/// and resource.
-#[inline(always)]
-pub(crate) fn follows(queue: &VecDeque<(Key, Target)>, key: &Key) -> bool
-    requires queue { IsQueue (local_events queue.now.items) }
-    requires local { key.now.class ≡ 3 }
-    ensures { OnTrue result (MayFollow (local_events queue.now.items) key.now) }
-{
-    let Some((last, _)) = queue.back() else {
-        return true;
-    };
-    last.tick == key.tick && last.resource == key.resource && last.a < key.a
+/// Local events of one tick and resource, in the order of their numbers. Contracts see each with its key.
+#[derive(Drop)]
+pub(crate) struct Queue {
+    /// In milliseconds.
+    tick: u64,
+    /// The number of the resource.
+    resource: u32,
+    /// The numbers of the events within the tick and the resource, and their targets.
+    waiting: VecDeque<(u128, Target)>,
 }
 
-/// The first key.
-#[inline(always)]
-pub(crate) fn first(queue: &VecDeque<(Key, Target)>) -> Option<&Key>
-    requires { AreRising (local_events queue.now.items) }
-    ensures some { IfSome result (λ k. IsFirst (local_events queue.now.items) k.now) }
-    ensures none { IfNone result (local_events queue.now.items ≡ []) }
-{
-    let (key, _) = queue.front()?;
-    Some(key)
+impl Model for Queue {
+    ghost use Rattle.std.specs.Prelude.{List, map};
+    ghost use Rattle.fb_types.specs.declared.key.Key.{Key};
+    ghost use Rattle.fb_types.specs.declared.run.Target.{Target};
+    ghost use Rattle.fb_agenda.specs.Agendas.{keyed};
+
+    ghost Value = { List (Key × Target) };
+
+    ghost view = { λ q. map (keyed q.tick q.resource) q.waiting.items };
 }
 
-/// The index of a key, if the queue has it.
-pub(crate) fn index_of(queue: &VecDeque<(Key, Target)>, key: &Key) -> Option<usize>
-    requires { AreRising (local_events queue.now.items) }
-    ensures there { IfSome result (IsIndexOf (local_events queue.now.items) key.now) }
-    ensures absent { IfNone result (lookup (same_key key.now) (local_events queue.now.items) ≡ None) }
-{
-    queue.binary_search_by_key(key, |(other, _)| *other).ok()
+impl Queue {
+    /// The queue without events.
+    pub(crate) fn new(alloc: Global) -> Queue
+        ensures { result ≡ [] }
+    {
+        Queue {
+            tick: 0,
+            resource: 0,
+            waiting: VecDeque::new(alloc),
+        }
+    }
+
+    /// The key of the first event.
+    #[inline(always)]
+    pub(crate) fn first(&self) -> Option<Key>
+        requires { AreRising (local_events self.now) }
+        ensures some { IfSome result (IsFirst (local_events self.now)) }
+        ensures none { IfNone result (local_events self.now ≡ []) }
+    {
+        let (number, _) = self.waiting.front()?;
+        Some(Key::local(self.tick, self.resource, *number))
+    }
+
+    /// Whether an event of this tick and resource may be appended: the queue is empty, or its last event has the same tick
+    /// and resource, and an earlier number.
+    #[inline(always)]
+    pub(crate) fn follows(&self, tick: u64, resource: u32, number: u128) -> bool
+        requires { IsQueue (local_events self.now) }
+        ensures follows { OnTrue result (MayFollow (local_events self.now) (local_key tick resource number)) }
+        ensures at { OnTrue result (AllByRecursion (IsAt tick resource) self.now) }
+    {
+        let Some((last, _)) = self.waiting.back() else {
+            return true;
+        };
+        self.tick == tick && self.resource == resource && *last < number
+    }
+
+    /// Appends an event of the tick and the resource of the others.
+    ///
+    /// # Errors
+    ///
+    /// When memory runs out. The queue is then as it was.
+    #[inline(always)]
+    pub(crate) fn push(
+        &mut self,
+        tick: u64,
+        resource: u32,
+        number: u128,
+        target: Target,
+    ) -> Result<(), AllocError>
+        requires { AllByRecursion (IsAt tick resource) self.old }
+        ensures ok { OnOk result (self.new ≡ self.old ++ (local_key tick resource number, target) ∷ []) }
+        ensures err { OnErr result (self.new ≡ self.old) }
+    {
+        make_room(&mut self.waiting)?;
+        self.tick = tick;
+        self.resource = resource;
+        self.waiting.push_back_reserved((number, target));
+        Ok(())
+    }
+
+    /// The key of the event at an index.
+    fn key_at(&self, index: usize) -> Key
+        requires { index < length self.now }
+        ensures { (d : keys.Key × Waiting) → (slice_index_or self.now index d).0 ≡ result }
+    {
+        let (number, _) = self.waiting[index];
+        Key::local(self.tick, self.resource, number)
+    }
+
+    /// The index of a key, if the queue has it. In a run nothing asks for it.
+    pub(crate) fn index_of(&self, key: &Key) -> Option<usize>
+        ensures there { IfSome result (IsIndexOf (local_events self.now) key.now) }
+        ensures absent { IfNone result (lookup (same_key key.now) (local_events self.now) ≡ None) }
+    {
+        for index in 0..self.waiting.len() {
+            if key.cmp(&self.key_at(index)).is_eq() {
+                return Some(index);
+            }
+        }
+        None
+    }
+
+    /// Replaces the target of the event at an index.
+    pub(crate) fn set(&mut self, index: usize, target: Target)
+        requires { index < length self.old }
+        ensures { (k : keys.Key) → IsIndexOf (local_events self.old) k index → self.new ≡ slice_set self.old index (k, target) }
+    {
+        let (number, _) = self.waiting[index];
+        self.waiting[index] = (number, target);
+    }
+
+    /// Removes the event at an index.
+    pub(crate) fn remove(&mut self, index: usize)
+        requires { index < length self.old }
+        ensures { self.new ≡ remove self.old index }
+    {
+        self.waiting.remove(index);
+    }
+
+    /// Takes the first event, and returns its key and its target.
+    #[inline(always)]
+    pub(crate) fn pop(&mut self) -> Option<(Key, Target)>
+        ensures taken { MatchOption result (self.old ≡ []) (λ e. self.old ≡ e ∷ self.new) }
+        ensures kept { IfNone result (self.new ≡ self.old) }
+    {
+        let (number, target) = self.waiting.pop_front()?;
+        Some((Key::local(self.tick, self.resource, number), target))
+    }
 }
 
 /// The target of a local event, or `None` for any other event.
@@ -60,22 +166,32 @@ pub(crate) fn target_of(event: &Event) -> Option<Target>
     }
 }
 
+/// Takes the first event, if its tick is below the horizon.
+#[inline(always)]
+pub(crate) fn pop_below(queue: &mut Queue, horizon: u64) -> Option<(Key, Target)>
+    requires { AreRising (local_events queue.old) }
+    ensures items { local_events queue.old ≡ option_to_list (option_map event_of result) ++ local_events queue.new }
+    ensures below { IfSome result (λ e. e.0.tick < horizon) }
+    ensures none { IfNone result (BeginsAt horizon (local_events queue.old)) }
+    ensures kept { IfNone result (queue.new ≡ queue.old) }
+{
+    let first = queue.first()?;
+    if first.tick >= horizon {
+        return None;
+    }
+    queue.pop()
+}
+
 /// Takes the first event, if its tick is below the horizon, and moves it into the slot. Returns whether it did.
 #[inline(always)]
-pub(crate) fn pop_into(queue: &mut VecDeque<(Key, Target)>, horizon: u64, index: &mut Least) -> bool
-    requires { AreRising (local_events queue.old.items) }
-    ensures items { local_events queue.old.items ≡ option_to_list (taken result index.new) ++ local_events queue.new.items }
+pub(crate) fn pop_into(queue: &mut Queue, horizon: u64, index: &mut Least) -> bool
+    requires { AreRising (local_events queue.old) }
+    ensures items { local_events queue.old ≡ option_to_list (taken result index.new) ++ local_events queue.new }
     ensures below { IfSome (taken result index.new) (λ r. r.0.tick < horizon) }
-    ensures none { IfNone (taken result index.new) (BeginsAt horizon (local_events queue.old.items)) }
-    ensures kept { OnFalse result (queue.new.items ≡ queue.old.items) }
+    ensures none { IfNone (taken result index.new) (BeginsAt horizon (local_events queue.old)) }
+    ensures kept { OnFalse result (queue.new ≡ queue.old) }
 {
-    let Some((first, _)) = queue.front() else {
-        return false;
-    };
-    if first.tick >= horizon {
-        return false;
-    }
-    let Some((key, target)) = queue.pop_front() else {
+    let Some((key, target)) = pop_below(queue, horizon) else {
         return false;
     };
     index.key = key;

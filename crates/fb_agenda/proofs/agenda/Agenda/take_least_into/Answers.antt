@@ -15,7 +15,7 @@ pub invariant_of-self : goal.invariant_of-self
 invariant_of-self c =
     let v = contents_of c.self.inside in
     let pop = c.pop_into in
-    let rest = local_events pop.new.queue.items in
+    let rest = local_events pop.new.queue in
     subst (λ l. AreApart (record { running = rest; later = l; due = v.due }) c.self.inside.later.has_local) (sym c.if-is_now_first.ensures.kept)
     (front_apart v c.self.inside.later.has_local c.self.invariant rest (taken pop.result pop.new.index) pop.ensures.items)
 
@@ -23,7 +23,7 @@ pub returns-then-is_now_first-clause-found : goal.returns-then-is_now_first-clau
 returns-then-is_now_first-clause-found c =
     let v = contents_of c.self.inside in
     let pop = c.pop_into in
-    rw (← c.self.view_is) (when_taken (λ r. waiting v r.0 ≡ Some r.1) pop.result pop.new.index (front_found v c.self.inside.later.has_local c.self.invariant (local_events pop.new.queue.items) (taken pop.result pop.new.index) pop.ensures.items))
+    rw (← c.self.view_is) (when_taken (λ r. waiting v r.0 ≡ Some r.1) pop.result pop.new.index (front_found v c.self.inside.later.has_local c.self.invariant (local_events pop.new.queue) (taken pop.result pop.new.index) pop.ensures.items))
 
 pub returns-then-is_now_first-clause-below : goal.returns-then-is_now_first-clause-below
 returns-then-is_now_first-clause-below c = when_taken (λ r. r.0.tick < c.args.horizon) c.pop_into.result c.pop_into.new.index c.pop_into.ensures.below
@@ -33,13 +33,13 @@ returns-then-is_now_first-clause-least c =
     let v = contents_of c.self.inside in
     let pop = c.pop_into in
     rw (← c.self.view_is)
-    (when_taken (λ r. (j : Key) → Precedes j r.0 → waiting v j ≡ None) pop.result pop.new.index (front_least v c.self.inside.later.has_local c.self.invariant (local_events pop.new.queue.items) c.if-is_now_first.ensures.running (taken pop.result pop.new.index) pop.ensures.items))
+    (when_taken (λ r. (j : Key) → Precedes j r.0 → waiting v j ≡ None) pop.result pop.new.index (front_least v c.self.inside.later.has_local c.self.invariant (local_events pop.new.queue) c.if-is_now_first.ensures.running (taken pop.result pop.new.index) pop.ensures.items))
 
 pub returns-then-is_now_first-clause-left : goal.returns-then-is_now_first-clause-left
 returns-then-is_now_first-clause-left c =
     let v = contents_of c.self.inside in
     let pop = c.pop_into in
-    let rest = local_events pop.new.queue.items in
+    let rest = local_events pop.new.queue in
     let new : Contents = record { running = rest; later = c.is_now_first.new.later; due = v.due } in
     rw (← c.self.view_is)
     (when_taken (λ r. (j : Key) → waiting new j ≡ cond (same_key r.0 j) None (waiting v j)) pop.result pop.new.index

@@ -1,9 +1,10 @@
-use Rattle.std.proofs.Common.{◌≡◌, ◌∙◌, Some, None, ap, ◌++◌, arith}
+use Rattle.std.proofs.Common.{◌≡◌, ◌∙◌, Some, None, ap, ◌++◌}
 use Rattle.std.specs.Prelude.{slice_set}
 use Rattle.std.specs.Map.{lookup}
 use Rattle.std.proofs.lemmas.List.{nil_from_length}
 use Rattle.fb_types.specs.Keys.{or_else, same_key}
-use Rattle.fb_agenda.proofs.Calendars.{alone, err_known, few_sets, few_split, kept_both, lookup_both, many_sets, many_split, over_is, put_absent, put_both, put_rises, put_sets, put_split, quiet_put, quiet_result}
+use Rattle.fb_agenda.proofs.Calendars.{alone, err_known, few_sets, few_split, kept_both, lookup_both, many_sets, many_split, over_is, put_absent, put_both, put_rises, put_sets, put_split}
+use Rattle.fb_agenda.proofs.Moments.{quiet_put, quiet_result}
 use Rattle.fb_agenda.proofs.calendar.Calendar.insert.Goals as goal
 
 -- ---- The map is empty
@@ -17,8 +18,8 @@ invariant_of-self c =
     let new = c.insert.new.events.items in
     record {
       split = put_split few many c.self.invariant.split c.args.key c.args.event r new none c.insert.ensures.ok c.insert.ensures.err;
-      quiet = quiet_result c.self.inside.quiet c.min-self-inside.result c.args.key c.args.event (few ++ many) (new ++ many) c.self.invariant.quiet r
-          (put_both few many c.self.invariant.split c.args.key c.args.event r new none c.insert.ensures.ok) (kept_both few new many r c.insert.ensures.err) (omega (arith, c.min-self-inside.ensures)) (omega (arith, c.min-self-inside.ensures));
+      quiet = quiet_result c.self.inside.quiet c.earlier-self-inside.result c.of.result c.args.key c.args.event (few ++ many) (new ++ many) c.self.invariant.quiet c.earlier-self-inside.ensures.first c.earlier-self-inside.ensures.second c.of.ensures.tick c.of.ensures.resource r
+          (put_both few many c.self.invariant.split c.args.key c.args.event r new none c.insert.ensures.ok) (kept_both few new many r c.insert.ensures.err);
     }
 
 pub returns-then-fits_in-clause-put : goal.returns-then-fits_in-clause-put
@@ -50,7 +51,7 @@ invariant_of-self-in-Some c =
     let none = alone few many c.self.invariant.split k i c.in-Some.ensures.there in
     record {
       split = few_split few many c.self.invariant.split k (Some e) new sets (put_rises few new k e c.self.invariant.split.rising is) none;
-      quiet = quiet_put c.self.inside.quiet c.min-self-inside.result k (Some e) (few ++ many) (new ++ many) c.self.invariant.quiet (few_sets few many c.self.invariant.split k (Some e) new sets none) (omega (arith, c.min-self-inside.ensures)) (omega (arith, c.min-self-inside.ensures));
+      quiet = quiet_put c.self.inside.quiet c.earlier-self-inside.result c.of.result k (Some e) (few ++ many) (new ++ many) c.self.invariant.quiet c.earlier-self-inside.ensures.first c.earlier-self-inside.ensures.second c.of.ensures.tick c.of.ensures.resource (few_sets few many c.self.invariant.split k (Some e) new sets none);
     }
 
 pub returns-in-Some-clause-put : goal.returns-in-Some-clause-put
@@ -82,8 +83,8 @@ invariant_of-self-2 c =
     let sets = c.in_ok-insert.ensures.updates.0 in
     record {
       split = many_split few many c.self.invariant.split c.args.key (Some c.args.event) new sets c.in_default.ensures.absent;
-      quiet = quiet_put c.self.inside.quiet c.min-self-inside.result c.args.key (Some c.args.event) (few ++ many) (few ++ new) c.self.invariant.quiet
-          (many_sets few many c.self.invariant.split c.args.key (Some c.args.event) new sets c.in_default.ensures.absent) (omega (arith, c.min-self-inside.ensures)) (omega (arith, c.min-self-inside.ensures));
+      quiet = quiet_put c.self.inside.quiet c.earlier-self-inside.result c.of.result c.args.key (Some c.args.event) (few ++ many) (few ++ new) c.self.invariant.quiet c.earlier-self-inside.ensures.first c.earlier-self-inside.ensures.second c.of.ensures.tick c.of.ensures.resource
+          (many_sets few many c.self.invariant.split c.args.key (Some c.args.event) new sets c.in_default.ensures.absent);
     }
 
 pub returns-clause-put : goal.returns-clause-put

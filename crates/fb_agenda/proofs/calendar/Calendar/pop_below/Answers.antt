@@ -1,6 +1,7 @@
 use Rattle.std.proofs.Common.{◌++◌, arith}
 use Rattle.std.proofs.lemmas.List.{nil_from_length}
-use Rattle.fb_agenda.proofs.Calendars.{begins_both, below_first, front_before, front_kept, front_left, front_split, front_value, leads_none, quiet_popped}
+use Rattle.fb_agenda.proofs.Calendars.{begins_both, below_first, front_before, front_kept, front_left, front_split, front_value, leads_none}
+use Rattle.fb_agenda.proofs.Moments.{quiet_popped}
 use Rattle.fb_agenda.proofs.calendar.Calendar.pop_below.Goals as goal
 
 -- ---- The map is empty

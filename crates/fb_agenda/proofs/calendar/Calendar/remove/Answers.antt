@@ -1,7 +1,8 @@
 use Rattle.std.proofs.Common.{None, sym, subst, ◌++◌}
 use Rattle.fb_agenda.specs.Agendas.{AreRising}
 use Rattle.fb_agenda.specs.Calendars.{Sets}
-use Rattle.fb_agenda.proofs.Calendars.{alone, few_sets, few_split, many_sets, many_split, quiet_gone, removed_rises, removed_sets}
+use Rattle.fb_agenda.proofs.Calendars.{alone, few_sets, few_split, many_sets, many_split, removed_rises, removed_sets}
+use Rattle.fb_agenda.proofs.Moments.{quiet_gone}
 use Rattle.fb_agenda.proofs.calendar.Calendar.remove.Goals as goal
 
 -- ---- The key is not in the row

@@ -1,0 +1,27 @@
+-- The tick and the resource of keys, and where events wait by these (this project's profile).
+use Rattle.std.specs.Prelude.{◌≡◌, ◌<◌, ◌≤◌, List, None}
+use Rattle.std.specs.Map.{lookup}
+use Rattle.fb_types.specs.Keys.{same_key}
+use Rattle.fb_types.specs.declared.key.Key.{Key}
+use Rattle.fb_types.specs.declared.run.Event.{Event}
+use Rattle.fb_agenda.specs.declared.moment.Moment.{Moment}
+
+-- The first moment comes before the second.
+pub record IsSooner (m n : Moment) : Type 0 where
+  pub tick : m.tick ≤ n.tick
+  pub resource : m.tick ≡ n.tick → m.resource < n.resource
+
+-- The first moment does not come after the second.
+pub record IsNoLater (m n : Moment) : Type 0 where
+  pub tick : m.tick ≤ n.tick
+  pub resource : m.tick ≡ n.tick → m.resource ≤ n.resource
+
+-- No event waits before this moment.
+pub record IsQuiet (m : Moment) (es : List (Key × Event)) : Type 0 where
+  pub below : (j : Key) → j.tick < m.tick → lookup (same_key j) es ≡ None
+  pub before : (j : Key) → j.tick ≡ m.tick → j.resource < m.resource → lookup (same_key j) es ≡ None
+
+-- No event waits at this moment or before.
+pub record IsPast (m : Moment) (es : List (Key × Event)) : Type 0 where
+  pub below : (j : Key) → j.tick < m.tick → lookup (same_key j) es ≡ None
+  pub up_to : (j : Key) → j.tick ≡ m.tick → j.resource ≤ m.resource → lookup (same_key j) es ≡ None
