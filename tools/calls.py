@@ -263,9 +263,22 @@ HELP_OF_DRAW = ("DECL", "declaration of the types", "--types", "once for each fi
 HELP_OF_INSPECT = (
     "DECL", "declaration of the types", "TRACE", "file with the trace", "--types", "--deploy", "in TOML", "--only", "path of an instance", "--steps", "limit of steps of the run", "Example: fbsim inspect ",
 )
+# Of the blocks of CYCLE, S starts once, and C is started and never stopped. A trace to 0 has no tick of the cycle.
+COVERED_TO_8 = b"""\
+instance S
+  event WARM was never emitted
+  event STOP was never emitted
+instance C
+  event STOP was never taken
+states 0 of 0, transitions 0 of 0, algorithms 0 of 0, events 0 of 0, ports 3 of 6
+"""
+COVERED_TO_0 = COVERED_TO_8.replace(b"never taken\n", b"never taken\n  event EO was never emitted\n").replace(b"3 of 6", b"2 of 6")
+HELP_OF_COVERAGE = (
+    "DECL", "declaration of the types", "TRACE", "files with the traces", "--types", "--deploy", "in TOML", "--steps", "limit of steps of the runs", "Example: fbsim coverage ",
+)
 HELP_OF_EXPLAIN = ("NAME", "name of the refusal", "E01 to E45", "L01 to L13", "steps, divide or range", "Example: fbsim explain E21")
 HELP_OF_ALL = (
-    "run", "writes its trace", "check", "the first fault", "wave", "value change dump", "expect", "Checks rules", "diff", "the same bytes", "draw", "graphviz", "inspect", "inside the blocks", "explain",
+    "run", "writes its trace", "check", "the first fault", "wave", "value change dump", "expect", "Checks rules", "diff", "the same bytes", "draw", "graphviz", "inspect", "inside the blocks", "coverage", "do not cover", "explain",
     "what a refusal or the reason of a stop means", "a millisecond", "Example: fbsim run ",
 )
 
@@ -308,6 +321,7 @@ CALLS = [
     Call(["diff", "--help"], 0, out=None, has=HELP_OF_DIFF),
     Call(["draw", "--help"], 0, out=None, has=HELP_OF_DRAW),
     Call(["inspect", "--help"], 0, out=None, has=HELP_OF_INSPECT),
+    Call(["coverage", "--help"], 0, out=None, has=HELP_OF_COVERAGE),
     # The version is that of CHANGELOG.md.
     *(Call([it], 0, out=f"fbsim {unbuilt.version()}\n".encode()) for it in ("--version", "-V")),
     Call(["--version"], 3, err=b"write fault after 0 bytes\n", to="full"),
@@ -714,6 +728,23 @@ CALLS += [
     of("inspect cycle", 5, err=None),
     *(of("inspect cycle trace", 3, err=b"write fault after 0 bytes\n", to=it) for it in OUTPUTS[:3]),
     of("inspect cycle trace", 3, out=INSIDE_TO_8[:ROOM], err=b"write fault after 10 bytes\n", to="short"),
+    # What traces cover. They are opened one after the other, and a refusal names the trace where there are several.
+    of("coverage cycle trace", 0, out=COVERED_TO_8),
+    of("coverage - trace", 0, out=COVERED_TO_8, given=CYCLE),
+    of("coverage cycle -", 0, out=COVERED_TO_0, given=TO_8[:TO_8.index(b"3 MAIN")] + b"end 2\n"),
+    of("coverage cycle trace -", 0, out=COVERED_TO_8, given=TO_8[:TO_8.index(b"3 MAIN")] + b"end 2\n"),
+    of("coverage cycle - trace", 0, out=COVERED_TO_8, given=KEYED_TO_8),
+    of("coverage cycle no_trace", 2, err=b"refused trace line 1\n"),
+    of("coverage cycle trace no_trace nowhere", 2, err=b"refused trace no_trace line 1\n"),
+    of("coverage cycle trace -", 2, err=b"refused trace - line 3\n", given=TO_8.replace(b"3 MAIN <", b"4 MAIN <")),
+    of("coverage ring - --steps 2", 2, err=b"refused trace line 4\n", given=STOPPED),
+    of("coverage twice trace", 2, err=b"refused E20\n"),
+    of("coverage cycle nowhere no_trace", 3, err=b"file fault\n"),
+    of("coverage cycle --deploy nowhere trace", 3, err=b"file fault\n"),
+    of("coverage cycle trace --steps 0", 5, err=None),
+    of("coverage cycle", 5, err=None),
+    *(of("coverage cycle trace", 3, err=b"write fault after 0 bytes\n", to=it) for it in OUTPUTS[:3]),
+    of("coverage cycle trace", 3, out=COVERED_TO_8[:ROOM], err=b"write fault after 10 bytes\n", to="short"),
     # Graphs. What is drawn is refused before the name of a type, in the order of a check.
     of("draw cycle", 0, out=GRAPH),
     of("draw -", 0, out=GRAPH, given=CYCLE),

@@ -8,7 +8,7 @@ what. None comes from the program's output.
 A file has named texts under `[text]`, and groups of cases, `[[group]]`. A group takes what it lacks from `[head]`, if the file has
 one. A group has
 - `name`: what its cases show
-- `command`: `check` (the default), `run`, `wave`, `draw`, `expect`, `diff` or `inspect`
+- `command`: `check` (the default), `run`, `wave`, `draw`, `expect`, `diff`, `inspect` or `coverage`
 - `declaration`, `deployment`, `stimuli` and `trace`: the texts that the program reads; the last three are optional
 - `block_types` and `more_block_types`: block types in files of their own, which are read before the declaration, in this order; both are optional
 - `options`: further words
@@ -57,16 +57,17 @@ WAYS = {
     "expect": [[]],
     "diff": [[]],
     "inspect": [[]],
+    "coverage": [[]],
 }
 # The text of a case that is given on standard input, and the others with the words before each.
 INPUT = {"expect": "trace", "diff": "second"}
-FILES = {"block_types": ["--types"], "more_block_types": ["--types"], "deployment": ["--deploy"], "stimuli": ["--stim"], "trace": []}
+FILES = {"block_types": ["--types"], "more_block_types": ["--types"], "deployment": ["--deploy"], "stimuli": ["--stim"], "trace": [], "second_trace": []}
 FILES_OF = {"expect": {"rules": [], "declaration": ["--decl"], "deployment": ["--deploy"]}, "diff": {"first": []}}
-CALLED = {"block_types": b"TYPES", "more_block_types": b"MORE", "deployment": b"DEPLOY", "stimuli": b"STIM"}
+CALLED = {"block_types": b"TYPES", "more_block_types": b"MORE", "deployment": b"DEPLOY", "stimuli": b"STIM", "trace": b"TRACE", "second_trace": b"SECOND"}
 NUMBERS = {"horizon": "--horizon", "steps": "--steps", "form": "--trace"}
 FIELDS = {"declaration", "answer", "why", "lint", "rules", "options", "first", "second", *FILES, *NUMBERS}
 OF_GROUP = {"name", "command", "rows", "columns", "within", "text", "bytes", *FIELDS}
-REFUSAL = re.compile(r"E[0-4][0-9]|E03 ((TYPES|MORE|-) )?line [1-9][0-9]*|trace (- )?line [1-9][0-9]*")
+REFUSAL = re.compile(r"E[0-4][0-9]|E03 ((TYPES|MORE|-) )?line [1-9][0-9]*|trace ((-|TRACE|SECOND) )?line [1-9][0-9]*")
 NAMED = re.compile(r"\$\{(\w+)\}")
 
 

@@ -1,5 +1,5 @@
 #!/usr/bin/env python3
-"""tools/insides.py [PROGRAM]: what `inspect` writes between the lines of traces, beside an interpreter of its own.
+"""tools/insides.py [PROGRAM]: what `inspect` writes between the lines of traces and what `coverage` reports, beside an interpreter of its own.
 
 The second simulator of tools/interpreter.py runs each example and each random system of tools/drawn.py once more, and notes what each
 block does as docs/FORMATS.md says: transitions, algorithms with what they change, lost events, and what event blocks remember. The
@@ -20,6 +20,7 @@ from program import Room, side_by_side
 
 PROGRAM = f"{TOP}/crates/fbsim/out/fbsim"
 PORT = re.compile(r" ([<>]) ([\w.]+)\.\w+")
+NEVER = re.compile(r"(  transition \w+ -> \w+ by )(.*) never cleared\n")
 CLEARED = re.compile(r"(  \w+ -> \w+ by )(.*)\n")
 SHOWN = 10
 
@@ -46,7 +47,18 @@ def remembered(block):
 
 
 class Noted(interpreter.System):
-    """The simulation, with notes between its lines. A condition is noted as tools/declaration.py reads it."""
+    """The simulation, with notes between its lines, and with what it covers. A condition is noted as tools/declaration.py reads it."""
+
+    def __init__(self, *given):
+        super().__init__(*given)
+        self.covered = {("state", id(it.type), it.state) for it in self.blocks if it.type.chart}
+
+    def cover(self, what, block, mark):
+        self.covered.add((what, id(block.type), mark))
+
+    def line(self, block, sign, event, values):
+        super().line(block, sign, event, values)
+        self.covered.add((sign, block.path, event))
 
     def note(self, text):
         self.lines.append(f"  {text}\n")
@@ -68,6 +80,7 @@ class Noted(interpreter.System):
             self.note(it)
 
     def run_chart(self, block, present):
+        self.cover("taken", block, present)
         try:
             self.follow(block, present)
         except interpreter.Stop as it:
@@ -83,6 +96,9 @@ class Noted(interpreter.System):
                 if is_first:
                     self.note(f"lost in {start}")
                 return
+            self.cover("transition", block, chart.transitions.index(found))
+            self.cover("state", block, found[1])
+            self.cover("clearing", block, present)
             is_first, present, block.state = False, "", found[1]
             self.note(f"{start} -> {block.state} by {plain(found[2:])!r}")
             for algorithm, event in chart.states[block.state]:
@@ -95,6 +111,7 @@ class Noted(interpreter.System):
     def run_noted(self, block, algorithm):
         own = [*block.type.var_out, *block.type.inner]
         before = {it: block.values[it] for it in own}
+        self.cover("algorithm", block, algorithm)
         try:
             self.run_algorithm(block, block.type.chart.algorithms[algorithm])
         finally:
@@ -104,7 +121,45 @@ class Noted(interpreter.System):
 
 def with_conditions(text):
     """A text with each condition as tools/declaration.py reads it."""
-    return CLEARED.sub(lambda it: f"{it[1]}{condition_in(it[2])!r}\n", text)
+    text = CLEARED.sub(lambda it: f"{it[1]}{condition_in(it[2])!r}\n", text)
+    return NEVER.sub(lambda it: f"{it[1]}{condition_in(it[2])!r} never cleared\n", text)
+
+
+# ---- What is covered
+
+
+def report_of(system):
+    """What `coverage` reports of a run. A condition is written as tools/declaration.py reads it."""
+    lines, counts = [], dict.fromkeys(["states", "transitions", "algorithms", "events", "ports"], (0, 0))
+
+    def count(name, marks):
+        counts[name] = counts[name][0] + sum(marks), counts[name][1] + len(marks)
+
+    for name, kind in system.types.items():
+        chart, seen = kind.chart, lambda what, mark: (what, id(kind), mark) in system.covered
+        if not chart:
+            continue
+        if not any(it.type is kind for it in system.blocks):
+            lines += [f"type {name}", "  no instance has it"]
+            continue
+        states = [(it, seen("state", it)) for it in chart.states]
+        transitions = [(it, seen("transition", at)) for at, it in enumerate(chart.transitions)]
+        algorithms = [(it, seen("algorithm", it)) for it in chart.algorithms]
+        events = [(it, seen("clearing", it)) for it in kind.ins]
+        for what, found in zip(counts, (states, transitions, algorithms, events)):
+            count(what, [mark for _, mark in found])
+        missing = [f"  state {it} was never entered" for it, mark in states if not mark]
+        missing += [f"  transition {it[0]} -> {it[1]} by {plain(it[2:])!r} never cleared" for it, mark in transitions if not mark]
+        missing += [f"  algorithm {it} never ran" for it, mark in algorithms if not mark]
+        missing += [f"  event {it} was {'only lost' if seen('taken', it) else 'never taken'}" for it, mark in events if not mark]
+        lines += [f"type {name}", *missing] if missing else []
+    for block in (it for it in system.blocks if not it.type.chart):
+        sides = [(sign, it, did) for sign, its, did in ((">", block.type.ins, "taken"), ("<", block.type.outs, "emitted")) for it in its]
+        marks = [(sign, block.path, it) in system.covered for sign, it, _ in sides]
+        count("ports", marks)
+        missing = [f"  event {it} was never {did}" for (_, it, did), mark in zip(sides, marks) if not mark]
+        lines += [f"instance {block.path}", *missing] if missing else []
+    return "".join(f"{it}\n" for it in [*lines, ", ".join(f"{name} {a} of {b}" for name, (a, b) in counts.items())])
 
 
 def without_notes(text):
@@ -173,6 +228,12 @@ def faults_of(room, number, case):
             pairs = zip(found.splitlines() + ["(none)"], wanted.splitlines() + ["(none)"])
             part = next((f"{a!r} and not {b!r}" for a, b in pairs if a != b), "")
             wrong.append(f"{name}, form {form}: status {ran.returncode} {ran.stderr.decode().strip()}: {part}")
+        ran = room.call(["coverage", *words[1:], f"{number}.trace"])
+        found, wanted = with_conditions(ran.stdout.decode()), report_of(system)
+        if ran.returncode or ran.stderr or found != wanted:
+            pairs = zip(found.splitlines() + ["(none)"], wanted.splitlines() + ["(none)"])
+            part = next((f"{a!r} and not {b!r}" for a, b in pairs if a != b), "")
+            wrong.append(f"{name}, form {form}: coverage: status {ran.returncode} {ran.stderr.decode().strip()}: {part}")
         for text, line in spoiled(system, trace):
             ran = room.call([*words, "-"], text.encode())
             if (ran.returncode, ran.stderr) != (2, f"refused trace line {line}\n".encode()):

@@ -21,7 +21,7 @@ from kit import TOP
 from program import Room
 
 PROGRAM = f"{TOP}/crates/fbsim/out/fbsim"
-COMMANDS = ("", "run", "check", "wave", "expect", "diff", "draw", "inspect", "explain")
+COMMANDS = ("", "run", "check", "wave", "expect", "diff", "draw", "inspect", "coverage", "explain")
 HEAD = "# Help\n\nWhat `--help` prints, for the program and each of its commands. `tools/launcher.py --write` writes this page.\n"
 COMPLETIONS = ("bash-completion/completions/fbsim", "zsh/site-functions/_fbsim", "fish/vendor_completions.d/fbsim.fish")
 MANUAL = "man/man1/fbsim.1"

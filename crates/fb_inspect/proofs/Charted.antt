@@ -21,6 +21,7 @@ use Rattle.fb_types.specs.declared.run.Line.{Line}
 use Rattle.fb_types.specs.declared.value.Reason.{Reason}
 use Rattle.fb_st.specs.Frames.{values_of}
 use Rattle.fb_st.specs.declared.frame.Slot.{Slot}
+use Rattle.fb_coverage.specs.declared.marks.ChartMarks.{ChartMarks}
 use Rattle.fb_ecc.specs.Indexes.{index}
 use Rattle.fb_ecc.specs.Steps.{first_true}
 use Rattle.fb_ecc.proofs.Links.{nothing_left}
@@ -28,12 +29,14 @@ use Rattle.fb_ecc.proofs.Trials.{cut_at}
 use Rattle.fb_inspect.specs.Chains.{Piece, Showing, Clears_by, Acting, ShowsActs, ShowsChain, ShowsReaction, rest_pieces, stop_pieces}
 use Rattle.fb_inspect.specs.Charting.{ChartGoes, StepGoes, sys_of}
 use Rattle.fb_inspect.specs.Looks.{emission_line, pieces_text, ran_by}
-use Rattle.fb_inspect.specs.Moves.{EmitsGo, Goes, shown_text}
+use Rattle.fb_inspect.specs.Markings.{PieceMarks, PiecesMark, with_ran_by}
+use Rattle.fb_inspect.specs.Moves.{EmitsGo, Goes, IsAside, shown_text}
 use Rattle.fb_inspect.specs.Notes.{cleared_note, lost_if, lost_note, own_variables, ran_by_action, stop_note, stopped_note}
 use Rattle.fb_inspect.specs.declared.charts.ChartTaking.{ChartTaking}
 use Rattle.fb_inspect.specs.declared.trail.Trail.{Trail}
 use Rattle.fb_inspect.proofs.Emitted.{emissions_are, emits_text, shown_pieces}
-use Rattle.fb_inspect.proofs.Moving.{goes_as, goes_note, goes_then, shown-nil}
+use Rattle.fb_inspect.proofs.Marked.{emits_mark, pieces_append, ran_marks, rest_marks, stop_marks}
+use Rattle.fb_inspect.proofs.Moving.{aside_none, goes_as, goes_note, goes_then, shown-nil}
 use Rattle.fb_inspect.proofs.Showing.{act_shown, acts_before, acts_next, acts_stop, before, chain_before, chain_fails, chain_goes_on, chain_rests, chain_stops, emits_pieces, ran_pieces}
 
 ran_text_is :
@@ -53,6 +56,12 @@ module _ (x : ChartTaking) where
   abbrev text_of : List Piece → List ℕ
   text_of ps = pieces_text x.fixed.form (sys_of x) (line_of (sys_of x) x.line.now) ps
 
+  abbrev all_mark : List Piece → ChartMarks → ChartMarks → Type 0
+  all_mark ps m n = PiecesMark x.block.now x.number x.line.now.event ps m n
+
+  mark_two : (ps qs : List Piece) (m n o : ChartMarks) → all_mark ps m n → all_mark qs n o → all_mark (ps ++ qs) m o
+  mark_two ps qs m n o first second = pieces_append x.block.now x.number x.line.now.event ps qs m n o first second
+
   shown_two :
       (b c : Bool) (ps qs : List Piece) → c ≡ b → shown_text b (text_of ps) ++ shown_text c (text_of qs) ≡ shown_text b (text_of (ps ++ qs))
   shown_two b c ps qs same = shown_pieces x.fixed.form (sys_of x) (line_of (sys_of x) x.line.now) b c ps qs same
@@ -65,8 +74,9 @@ module _ (x : ChartTaking) where
     shows = λ stop q fs qs h. h;
     lines = [];
     are = refl;
-    goes = goes_note (sys_of x) x.fixed.form x.line.now.key.tick old old (shown_text old.is_shown []) left refl refl
+    goes = goes_note (sys_of x) x.fixed.form x.line.now.key.tick old old (shown_text old.is_shown []) left (aside_none old) refl
         (sym (ap (λ (t : List ℕ). old.page.text.items ++ t) (shown-nil old.is_shown) ∙ append-nil old.page.text.items));
+    marked = refl;
   }
 
   pub step_then :
@@ -87,6 +97,7 @@ module _ (x : ChartTaking) where
     goes = goes_as (sys_of x) x.fixed.form x.line.now.key.tick a c (first.lines ++ second.lines) _ _ l j
         (shown_two a.is_shown b.is_shown first.pieces second.pieces first.goes.kept)
         (goes_then (sys_of x) x.fixed.form x.line.now.key.tick a b c first.lines second.lines _ _ l k j first.goes second.goes);
+    marked = mark_two first.pieces second.pieces a.marks.charts b.marks.charts c.marks.charts first.marked second.marked;
   }
 
   pub step_ends :
@@ -104,6 +115,7 @@ module _ (x : ChartTaking) where
     goes = goes_as (sys_of x) x.fixed.form x.line.now.key.tick a c (first.lines ++ second.lines) _ _ l j
         (shown_two a.is_shown b.is_shown first.pieces second.pieces first.goes.kept)
         (goes_then (sys_of x) x.fixed.form x.line.now.key.tick a b c first.lines second.lines _ _ l k j first.goes second.goes);
+    marked = mark_two first.pieces second.pieces a.marks.charts b.marks.charts c.marks.charts first.marked second.marked;
   }
 
   -- an action by itself, as the first of those that are left
@@ -122,6 +134,7 @@ module _ (x : ChartTaking) where
     lines = goes.lines;
     are = goes.are;
     goes = goes.goes;
+    marked = goes.marked;
   }
 
   -- .. and where a reason ends it
@@ -135,6 +148,7 @@ module _ (x : ChartTaking) where
     lines = goes.lines;
     are = goes.are;
     goes = goes.goes;
+    marked = goes.marked;
   }
 
   -- no action is left
@@ -145,8 +159,9 @@ module _ (x : ChartTaking) where
     shows = (refl, ap (λ (es : List Emission). record p { emitted = es }) (sym none), refl);
     lines = [];
     are = refl;
-    goes = goes_note (sys_of x) x.fixed.form x.line.now.key.tick b b (shown_text b.is_shown []) l refl refl
+    goes = goes_note (sys_of x) x.fixed.form x.line.now.key.tick b b (shown_text b.is_shown []) l (aside_none b) refl
         (sym (ap (λ (t : List ℕ). b.page.text.items ++ t) (shown-nil b.is_shown) ∙ append-nil b.page.text.items));
+    marked = refl;
   }
 
   -- an action, from its algorithm, its note and its emissions
@@ -154,17 +169,18 @@ module _ (x : ChartTaking) where
       (t : BasicType) (a : Action) (p q : Position) (es : List run.Emission) (stop : Option Reason) (b c d : Trail) (l k : Option (List ℕ))
       → (sys_of x).kind (path_at (sys_of x) x.line.now.instance) ≡ Some (Basic t) → p.emitted ≡ [] → q.emitted ≡ map (emission_of t.ports) es
       → Acts t (a ∷ []) p.left p stop q
-      → c.is_shown ≡ b.is_shown → c.reading.line.items ≡ b.reading.line.items
+      → IsAside b c → c.marks.charts ≡ with_ran_by x.block.now x.number a.algorithm p.left b.marks.charts → d.marks.charts ≡ c.marks.charts
+      → c.reading.line.items ≡ b.reading.line.items
       → c.page.text.items ≡ b.page.text.items ++ shown_text b.is_shown (ran_by_action a.algorithm p.left p.vars q.vars (own_variables t))
       → EmitsGo (sys_of x) x.fixed.form x.line.now es c d l k → ChartGoes x (Acting t (a ∷ [])) p stop (record q { emitted = [] }) b d l k
-  act_goes t a p q es stop b c d l k kind none emitted acts shown line noted goes =
+  act_goes t a p q es stop b c d l k kind none emitted acts aside_is ran_marked charts_are line noted goes =
       let ran : List Piece = ran_pieces a.algorithm p.left p.vars q.vars in
       let outs : List Emission = map (emission_of t.ports) es in
       let here : model.Line = line_of (sys_of x) x.line.now in
       let its : ports_at (sys_of x) (path_at (sys_of x) x.line.now.instance) ≡ t.ports = ap ports_by kind in
       let are : map (line_of (sys_of x)) goes.lines ≡ map (emission_line here) outs = emissions_are (sys_of x) t.ports goes.lines x.line.now es its goes.are in
       let first : Goes (sys_of x) x.fixed.form x.line.now.key.tick [] (shown_text b.is_shown (text_of ran)) b c l l =
-      goes_note (sys_of x) x.fixed.form x.line.now.key.tick b c (shown_text b.is_shown (text_of ran)) l shown line
+      goes_note (sys_of x) x.fixed.form x.line.now.key.tick b c (shown_text b.is_shown (text_of ran)) l aside_is line
       (noted ∙ ap (λ (y : List ℕ). b.page.text.items ++ shown_text b.is_shown y) (sym (ran_text_is x.fixed.form (sys_of x) here t a.algorithm p.left p.vars q.vars kind))) in
       let second : Goes (sys_of x) x.fixed.form x.line.now.key.tick goes.lines (shown_text c.is_shown (text_of (emits_pieces outs))) c d l k =
       goes_as (sys_of x) x.fixed.form x.line.now.key.tick c d goes.lines _ _ l k
@@ -176,8 +192,11 @@ module _ (x : ChartTaking) where
         lines = goes.lines;
         are = are;
         goes = goes_as (sys_of x) x.fixed.form x.line.now.key.tick b d goes.lines _ _ l k
-            (shown_two b.is_shown c.is_shown ran (emits_pieces outs) shown)
+            (shown_two b.is_shown c.is_shown ran (emits_pieces outs) aside_is.kept)
             (goes_then (sys_of x) x.fixed.form x.line.now.key.tick b c d [] goes.lines _ _ l l k first second);
+        marked = mark_two ran (emits_pieces outs) b.marks.charts c.marks.charts d.marks.charts
+            (subst (all_mark ran b.marks.charts) (sym ran_marked) (ran_marks x.block.now x.number x.line.now.event a.algorithm p.left p.vars q.vars b.marks.charts))
+            (subst (all_mark (emits_pieces outs) c.marks.charts) (sym charts_are) (emits_mark x.block.now x.number x.line.now.event outs c.marks.charts));
       }
 
 -- ---- All actions of a state
@@ -223,20 +242,21 @@ module _ (x : ChartTaking) (present : Option Name) where
 
   -- the note of a transition that cleared
   cleared_goes :
-      (y : Transition) (b c : Trail) (l : Option (List ℕ)) → c.is_shown ≡ b.is_shown → c.reading.line.items ≡ b.reading.line.items
+      (y : Transition) (b c : Trail) (l : Option (List ℕ)) → IsAside b c → c.reading.line.items ≡ b.reading.line.items
       → c.page.text.items ≡ b.page.text.items ++ shown_text b.is_shown (cleared_note y)
       → Goes (sys_of x) x.fixed.form x.line.now.key.tick [] (shown_text b.is_shown (text_of x (Clears_by y ∷ []))) b c l l
-  cleared_goes y b c l shown line noted =
-      goes_note (sys_of x) x.fixed.form x.line.now.key.tick b c (shown_text b.is_shown (text_of x (Clears_by y ∷ []))) l shown line
+  cleared_goes y b c l aside_is line noted =
+      goes_note (sys_of x) x.fixed.form x.line.now.key.tick b c (shown_text b.is_shown (text_of x (Clears_by y ∷ []))) l aside_is line
       (noted ∙ ap (λ (z : List ℕ). b.page.text.items ++ shown_text b.is_shown z) (sym (append-nil (cleared_note y))))
 
   -- a transition cleared, and a reason ended the actions of its target
   pub link_stopped :
       (y : Transition) (target : Name) (left : ℕ) (r : Reason) (p m q : Position) (b c d : Trail) (l k : Option (List ℕ)) → trial_at own_type present p ≡ Clears target left
-      → first_true (leaving own_type p.state) present p.vars ≡ Some y → c.is_shown ≡ b.is_shown → c.reading.line.items ≡ b.reading.line.items
+      → first_true (leaving own_type p.state) present p.vars ≡ Some y → IsAside b c
+      → PieceMarks own_type x.number x.line.now.event (Clears_by y) b.marks.charts c.marks.charts → c.reading.line.items ≡ b.reading.line.items
       → c.page.text.items ≡ b.page.text.items ++ shown_text b.is_shown (cleared_note y) → m ≡ record p { state = target; left = left }
       → ChartGoes x (Acting own_type (actions_of own_type target)) m (Some r) q c d l k → ChartGoes x (ShowsChain own_type present) p (Some r) q b d l k
-  link_stopped y target left r p m q b c d l k tried first shown line noted at goes =
+  link_stopped y target left r p m q b c d l k tried first aside_is mark line noted at goes =
       let acts = subst (λ (n : Position). ShowsActs own_type (actions_of own_type target) n.left n (Some r) (record q { emitted = goes.emits }) goes.pieces) at goes.shows in
       record {
         emits = goes.emits;
@@ -244,17 +264,19 @@ module _ (x : ChartTaking) (present : Option Name) where
         shows = chain_stops own_type present p (record q { emitted = goes.emits }) y target left r goes.pieces tried first acts;
         lines = goes.lines;
         are = goes.are;
-        goes = goes_as (sys_of x) x.fixed.form x.line.now.key.tick b d goes.lines _ _ l k (shown_two x b.is_shown c.is_shown (Clears_by y ∷ []) goes.pieces shown)
-            (goes_then (sys_of x) x.fixed.form x.line.now.key.tick b c d [] goes.lines _ _ l l k (cleared_goes y b c l shown line noted) goes.goes);
+        goes = goes_as (sys_of x) x.fixed.form x.line.now.key.tick b d goes.lines _ _ l k (shown_two x b.is_shown c.is_shown (Clears_by y ∷ []) goes.pieces aside_is.kept)
+            (goes_then (sys_of x) x.fixed.form x.line.now.key.tick b c d [] goes.lines _ _ l l k (cleared_goes y b c l aside_is line noted) goes.goes);
+        marked = (c.marks.charts, mark, goes.marked);
       }
 
   -- .. and all actions of its target were performed
   pub link_went :
       (y : Transition) (target : Name) (left : ℕ) (p m q : Position) (b c d : Trail) (l k : Option (List ℕ)) → trial_at own_type present p ≡ Clears target left
-      → first_true (leaving own_type p.state) present p.vars ≡ Some y → c.is_shown ≡ b.is_shown → c.reading.line.items ≡ b.reading.line.items
+      → first_true (leaving own_type p.state) present p.vars ≡ Some y → IsAside b c
+      → PieceMarks own_type x.number x.line.now.event (Clears_by y) b.marks.charts c.marks.charts → c.reading.line.items ≡ b.reading.line.items
       → c.page.text.items ≡ b.page.text.items ++ shown_text b.is_shown (cleared_note y) → m ≡ record p { state = target; left = left } → q.emitted ≡ []
       → ChartGoes x (Acting own_type (actions_of own_type target)) m None q c d l k → StepGoes x (ShowsChain own_type present) p (ShowsChain own_type None) q b d l k
-  link_went y target left p m q b c d l k tried first shown line noted at none goes =
+  link_went y target left p m q b c d l k tried first aside_is mark line noted at none goes =
       let acts = subst (λ (n : Position). ShowsActs own_type (actions_of own_type target) n.left n None (record q { emitted = goes.emits }) goes.pieces) at goes.shows in
       let same : before goes.emits q ≡ record q { emitted = goes.emits } =
       ap (λ (es : List Emission). record q { emitted = goes.emits ++ es }) none ∙ ap (λ (es : List Emission). record q { emitted = es }) (append-nil goes.emits) in
@@ -267,16 +289,18 @@ module _ (x : ChartTaking) (present : Option Name) where
             chain_goes_on own_type present p (record q { emitted = goes.emits }) (record n { emitted = goes.emits ++ fs }) y target left stop goes.pieces qs tried first acts later;
         lines = goes.lines;
         are = goes.are;
-        goes = goes_as (sys_of x) x.fixed.form x.line.now.key.tick b d goes.lines _ _ l k (shown_two x b.is_shown c.is_shown (Clears_by y ∷ []) goes.pieces shown)
-            (goes_then (sys_of x) x.fixed.form x.line.now.key.tick b c d [] goes.lines _ _ l l k (cleared_goes y b c l shown line noted) goes.goes);
+        goes = goes_as (sys_of x) x.fixed.form x.line.now.key.tick b d goes.lines _ _ l k (shown_two x b.is_shown c.is_shown (Clears_by y ∷ []) goes.pieces aside_is.kept)
+            (goes_then (sys_of x) x.fixed.form x.line.now.key.tick b c d [] goes.lines _ _ l l k (cleared_goes y b c l aside_is line noted) goes.goes);
+        marked = (c.marks.charts, mark, goes.marked);
       }
 
   -- no transition cleared
   pub link_rested :
       (left : ℕ) (p m : Position) (b c : Trail) (l : Option (List ℕ)) → trial_at own_type present p ≡ NoneClears left → m ≡ record p { left = left } → p.emitted ≡ []
-      → c.is_shown ≡ b.is_shown → c.reading.line.items ≡ b.reading.line.items → c.page.text.items ≡ b.page.text.items ++ shown_text b.is_shown (lost_if present p.state)
+      → IsAside b c → c.marks.charts ≡ b.marks.charts → c.reading.line.items ≡ b.reading.line.items
+      → c.page.text.items ≡ b.page.text.items ++ shown_text b.is_shown (lost_if present p.state)
       → ChartGoes x (ShowsChain own_type present) p None m b c l l
-  link_rested left p m b c l tried at none shown line noted = record {
+  link_rested left p m b c l tried at none aside_is charts_are line noted = record {
     emits = [];
     pieces = rest_pieces (NoneClears left) present p.state;
     shows = subst (λ (n : Position). ShowsChain own_type present p None n (rest_pieces (NoneClears left) present p.state))
@@ -284,8 +308,9 @@ module _ (x : ChartTaking) (present : Option Name) where
         (chain_rests own_type present p left tried);
     lines = [];
     are = refl;
-    goes = goes_note (sys_of x) x.fixed.form x.line.now.key.tick b c _ l shown line
+    goes = goes_note (sys_of x) x.fixed.form x.line.now.key.tick b c _ l aside_is line
         (noted ∙ ap (λ (z : List ℕ). b.page.text.items ++ shown_text b.is_shown z) (lost_text present p.state left));
+    marked = rest_marks own_type x.number x.line.now.event left present p.state b.marks.charts c.marks.charts charts_are;
   }
     where
       lost_text : (o : Option Name) (s : Name) (left : ℕ) → lost_if o s ≡ text_of x (rest_pieces (NoneClears left) o s)
@@ -304,8 +329,9 @@ module _ (x : ChartTaking) (present : Option Name) where
         (chain_fails own_type present p left r tried);
     lines = [];
     are = refl;
-    goes = goes_note (sys_of x) x.fixed.form x.line.now.key.tick b b (shown_text b.is_shown []) l refl refl
+    goes = goes_note (sys_of x) x.fixed.form x.line.now.key.tick b b (shown_text b.is_shown []) l (aside_none b) refl
         (sym (ap (λ (t : List ℕ). b.page.text.items ++ t) (shown-nil b.is_shown) ∙ append-nil b.page.text.items));
+    marked = refl;
   }
 
 -- ---- The reaction
@@ -317,10 +343,10 @@ module _ (x : ChartTaking) (e : Name) where
 
   -- the chain and the note of its stop
   pub reaction_goes :
-      (p q : Position) (stop : Option Reason) (b c d : Trail) (l k : Option (List ℕ)) → d.is_shown ≡ c.is_shown → d.reading.line.items ≡ c.reading.line.items
+      (p q : Position) (stop : Option Reason) (b c d : Trail) (l k : Option (List ℕ)) → IsAside c d → d.marks.charts ≡ c.marks.charts → d.reading.line.items ≡ c.reading.line.items
       → d.page.text.items ≡ c.page.text.items ++ shown_text c.is_shown (stop_note stop) → ChartGoes x (ShowsChain x.block.now (Some e)) p stop q b c l k
       → ChartGoes x (ShowsReaction x.block.now e) p stop q b d l k
-  reaction_goes p q stop b c d l k shown line noted chain = record {
+  reaction_goes p q stop b c d l k aside_is charts_are line noted chain = record {
     emits = chain.emits;
     pieces = chain.pieces ++ stop_pieces stop;
     shows = (chain.pieces, chain.shows, refl);
@@ -329,8 +355,10 @@ module _ (x : ChartTaking) (e : Name) where
     goes = subst (λ (ls : List Line). Goes (sys_of x) x.fixed.form x.line.now.key.tick ls (shown_text b.is_shown (text_of x (chain.pieces ++ stop_pieces stop))) b d l k) (append-nil chain.lines)
         (goes_as (sys_of x) x.fixed.form x.line.now.key.tick b d (chain.lines ++ []) _ _ l k (shown_two x b.is_shown c.is_shown chain.pieces (stop_pieces stop) chain.goes.kept)
         (goes_then (sys_of x) x.fixed.form x.line.now.key.tick b c d chain.lines [] _ _ l k k chain.goes
-        (goes_note (sys_of x) x.fixed.form x.line.now.key.tick c d (shown_text c.is_shown (text_of x (stop_pieces stop))) k shown line
+        (goes_note (sys_of x) x.fixed.form x.line.now.key.tick c d (shown_text c.is_shown (text_of x (stop_pieces stop))) k aside_is line
         (noted ∙ ap (λ (z : List ℕ). c.page.text.items ++ shown_text c.is_shown z) (stop_text stop)))));
+    marked = mark_two x chain.pieces (stop_pieces stop) b.marks.charts c.marks.charts d.marks.charts chain.marked
+        (stop_marks x.block.now x.number x.line.now.event stop c.marks.charts d.marks.charts charts_are);
   }
 
 -- the position of a chart that has sampled its inputs

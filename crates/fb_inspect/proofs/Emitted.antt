@@ -18,7 +18,7 @@ use Rattle.fb_inspect.specs.Chains.{Piece}
 use Rattle.fb_inspect.specs.Looks.{emission_line, piece_text, pieces_text}
 use Rattle.fb_inspect.specs.Moves.{AreEmissions, EmitsGo, Goes, IsEmission, shown_text}
 use Rattle.fb_inspect.specs.declared.trail.Trail.{Trail}
-use Rattle.fb_inspect.proofs.Moving.{goes_as, goes_note, goes_then, lines-append, shown-append, shown-nil}
+use Rattle.fb_inspect.proofs.Moving.{aside_none, goes_as, goes_note, goes_then, lines-append, shown-append, shown-nil}
 use Rattle.fb_inspect.proofs.Showing.{emits_pieces}
 
 -- ---- Texts
@@ -87,7 +87,7 @@ pub emits_none : (sys : System) (form : Form) (line : Line) (b : Trail) (l : Opt
 emits_none sys form line b l = record {
   lines = [];
   are = tt;
-  goes = goes_note sys form line.key.tick b b (shown_text b.is_shown []) l refl refl
+  goes = goes_note sys form line.key.tick b b (shown_text b.is_shown []) l (aside_none b) refl
       (sym (ap (λ (t : List ℕ). b.page.text.items ++ t) (shown-nil b.is_shown) ∙ append-nil b.page.text.items));
 }
 

@@ -5,6 +5,7 @@ use Rattle.std.specs.Io.KnownBytes.{Appends, Consumes, IsAtEnd}
 use Rattle.std.proofs.KnownBytes.{Appends-nil, Appends-trans, Consumes-trans}
 use Rattle.std.proofs.lemmas.List.{map-append}
 use Rattle.std.proofs.lemmas.List.Elements.{All-append, All-nil}
+use Rattle.fb_types.specs.Headline.{Inputs, system_of}
 use Rattle.fb_types.specs.Names.{Name}
 use Rattle.fb_types.specs.Numbers.{line_of}
 use Rattle.fb_types.specs.Simulation.{Ending, AtStop}
@@ -12,6 +13,7 @@ use Rattle.fb_types.specs.States as model
 use Rattle.fb_types.specs.Systems.{System}
 use Rattle.fb_types.specs.Text.{last_line, lines_text, trace_text}
 use Rattle.fb_types.specs.declared.key.Key.{Key}
+use Rattle.fb_types.specs.declared.library.BlockType.{BlockType}
 use Rattle.fb_types.specs.declared.run.Form.{Form}
 use Rattle.fb_types.specs.declared.run.Form.TheVariants.{One}
 use Rattle.fb_types.specs.declared.run.Line.{Line}
@@ -24,12 +26,16 @@ use Rattle.fb_wave.specs.Dumps.{last_tick}
 use Rattle.fb_wave.specs.Lines.{IsLast, IsLineOf, IsTextOf}
 use Rattle.fb_wave.specs.Waves.{RiseFrom}
 use Rattle.fb_wave.proofs.Copied.{ends_after}
-use Rattle.fb_inspect.specs.Inspections.{AreTurns, EndsWith, IsShown, MayEnd, NothingAfter, ShowsFront, all_lines, all_text, is_kept, last_look, stop_of}
+use Rattle.fb_coverage.specs.declared.marks.ChartMarks.{ChartMarks}
+use Rattle.fb_coverage.specs.declared.marks.Marks.{Marks}
+use Rattle.fb_inspect.specs.Covering.{Covers, IsCovered}
+use Rattle.fb_inspect.specs.Inspections.{AreTurns, EndsWith, IsInspected, IsShown, MayEnd, NothingAfter, ShowsFront, all_lines, all_text, is_kept, last_look, stop_of}
 use Rattle.fb_inspect.specs.Lines.{IsNext}
 use Rattle.fb_inspect.specs.Looks.{Look, Turn, Turns, emission_line, opening_look, turn_lines, turn_text}
+use Rattle.fb_inspect.specs.Markings.{TurnMarks, TurnsMark, lines_marked}
 use Rattle.fb_inspect.specs.Moves.{IsLineAt, shown_text}
 use Rattle.fb_inspect.specs.Pages.{IsCutShort, IsFlushed}
-use Rattle.fb_inspect.specs.Walking.{Begins, Finishes, HasGone, IsGone, IsLookOf, NoneStops, SendsPart, Starts, TurnGoes, flag_at}
+use Rattle.fb_inspect.specs.Walking.{AreMarked, Begins, Finishes, HasCovered, HasGone, IsGone, IsLookOf, NoneStops, SendsPart, Starts, TurnGoes, flag_at}
 use Rattle.fb_inspect.specs.declared.error.InspectError.{InspectError}
 use Rattle.fb_inspect.specs.declared.error.InspectError.TheVariants.{Refused, Names, Unknown, Memory, Read, Write}
 use Rattle.fb_inspect.specs.declared.page.Page.{Page}
@@ -37,7 +43,7 @@ use Rattle.fb_inspect.specs.declared.reading.Next.{Next}
 use Rattle.fb_inspect.specs.declared.reading.Next.TheVariants as next
 use Rattle.fb_inspect.specs.declared.reading.Reading.{Reading}
 use Rattle.fb_inspect.specs.declared.walk.Walk.{Walk}
-use Rattle.fb_inspect.proofs.Moving.{lines-append}
+use Rattle.fb_inspect.proofs.Moving.{lines-append, marked-append}
 
 -- ---- One more taking
 
@@ -117,6 +123,11 @@ last_more sys tick t ks [] x rest some all = absurd (cc)
 last_more sys tick t [] (l ∷ ls) x rest some all = last_here sys tick t l ls all
 last_more sys tick t (k ∷ ks) (l ∷ ls) x rest some all = last_more sys tick k.key.tick ks (l ∷ ls) x rest some all
 
+marks_more :
+    (types : List BlockType) (sys : System) (xs : List Turn) (x : Turn) (m n o : ChartMarks) → TurnsMark types sys xs m n → TurnMarks types sys x n o → TurnsMark types sys (xs ++ x ∷ []) m o
+marks_more types sys [] x m n o are more = (o, subst (λ (k : ChartMarks). TurnMarks types sys x k o) are more, refl)
+marks_more types sys (y ∷ ys) x m n o are more = (are.0, are.1, marks_more types sys ys x are.0 n o are.2 more)
+
 -- ---- The walk
 
 shown_if : (b c : Bool) (t : List ℕ) → c ≡ b → shown_text c t ≡ (if b then t else [])
@@ -145,8 +156,18 @@ module _ (sys : System) (form : Form) (only : List Name) (limit : ℕ) where
     next = starts.next;
   }
 
-  module _ (walk done : Walk) (turns : List Turn) (line : Line) (stop : Option Reason) (input remaining rest old mid : Option (List ℕ)) (gone : IsGone sys form only limit walk turns input remaining old mid) (none : NoneStops turns)
-      (later : last_tick 0 gone.lines ≤ line.key.tick) (within : line.instance < length sys.paths) (goes : TurnGoes sys form limit (last_look (opening_look sys) turns) line stop walk done remaining rest) where
+  -- .. and nothing is marked
+  pub covered_none :
+      (types : List BlockType) (walk : Walk) (input remaining old : Option (List ℕ)) → Starts sys form only walk → Consumes input remaining walk.trail.reading.line.items
+      → HasCovered types walk.trail.marks sys form only limit walk input remaining old old
+  unfolding gone_none
+  covered_none types walk input remaining old starts read = record {
+    gone = gone_none walk input remaining old starts read;
+    marked = record { charts = refl; ports = refl };
+  }
+
+  module _ (types : List BlockType) (walk done : Walk) (turns : List Turn) (line : Line) (stop : Option Reason) (input remaining rest old mid : Option (List ℕ)) (gone : IsGone sys form only limit walk turns input remaining old mid) (none : NoneStops turns)
+      (later : last_tick 0 gone.lines ≤ line.key.tick) (within : line.instance < length sys.paths) (goes : TurnGoes types sys form limit (last_look (opening_look sys) turns) line stop walk done remaining rest) where
     abbrev flag : Bool
     flag = flag_at walk.shown.items line.instance
 
@@ -196,32 +217,54 @@ module _ (sys : System) (form : Form) (only : List Name) (limit : ℕ) where
 
     -- .. which did not stop its resource, and a part of what waited was sent
     pub gone_on :
-        (after : Walk) (out : Option (List ℕ)) → stop ≡ None → IsNext sys form line.key.tick done.trail.reading.line.items done.trail.reading.next
-        → after ≡ record done { trail = record (done.trail) { page = after.trail.page } } → IsFlushed mid out done.trail.page after.trail.page
-        → HasGone sys form only limit after input rest old out
+        (page : Page) (out : Option (List ℕ)) → stop ≡ None → IsNext sys form line.key.tick done.trail.reading.line.items done.trail.reading.next
+        → IsFlushed mid out done.trail.page page → HasGone sys form only limit (record done { trail = record (done.trail) { page = page } }) input rest old out
     unfolding gone_more
-    gone_on after out goes_on next same flushed =
-        let P : Walk → Type 0 = λ w. HasGone sys form only limit w input rest old out in
-        subst P (sym same)
-        (record {
-          turns = turns ++ goes.turn ∷ [];
-          goes_on = none_more turns goes.turn none (goes.stop_is ∙ goes_on);
-          gone = record {
-            chain = gone_more.chain;
-            look = gone_more.look;
-            shown = gone_more.shown;
-            lines = gone_more.lines;
-            lines_are = gone_more.lines_are;
-            are = gone_more.are;
-            read = gone_more.read;
-            sent = gone_more.sent ++ flushed.sent;
-            got = Appends-trans old mid out gone_more.sent flushed.sent gone_more.got flushed.got;
-            text = append_assoc gone_more.sent flushed.sent after.trail.page.text.items ∙ ap (λ (t : List ℕ). gone_more.sent ++ t) (sym flushed.parts) ∙ gone_more.text;
-          };
-          next = subst (λ (t : ℕ). IsNext sys form t done.trail.reading.line.items done.trail.reading.next) (sym last_is) next;
-        })
+    gone_on page out goes_on next flushed = record {
+      turns = turns ++ goes.turn ∷ [];
+      goes_on = none_more turns goes.turn none (goes.stop_is ∙ goes_on);
+      gone = record {
+        chain = gone_more.chain;
+        look = gone_more.look;
+        shown = gone_more.shown;
+        lines = gone_more.lines;
+        lines_are = gone_more.lines_are;
+        are = gone_more.are;
+        read = gone_more.read;
+        sent = gone_more.sent ++ flushed.sent;
+        got = Appends-trans old mid out gone_more.sent flushed.sent gone_more.got flushed.got;
+        text = append_assoc gone_more.sent flushed.sent page.text.items ∙ ap (λ (t : List ℕ). gone_more.sent ++ t) (sym flushed.parts) ∙ gone_more.text;
+      };
+      next = subst (λ (t : ℕ). IsNext sys form t done.trail.reading.line.items done.trail.reading.next) (sym last_is) next;
+    }
+
+    -- what they cover is marked
+    pub more_marked :
+        (first : Marks) → AreMarked types sys turns gone.lines first walk.trail.marks → AreMarked types sys (turns ++ goes.turn ∷ []) (gone.lines ++ goes.lines) first done.trail.marks
+    more_marked first are = record {
+      charts = marks_more types sys turns goes.turn first.charts walk.trail.marks.charts done.trail.marks.charts are.charts goes.marked;
+      ports = goes.goes.ported ∙ ap (lines_marked goes.lines) are.ports ∙ sym (marked-append gone.lines goes.lines first.ports);
+    }
 
   -- ---- The end
+
+  -- a text that was gone through, up to its last line
+  pub inspected_as :
+      (walk : Walk) (turns : List Turn) (end : Outcome) (input remaining old mid : Option (List ℕ)) (gone : IsGone sys form only limit walk turns input remaining old mid)
+      → IsLast sys walk.trail.reading.line.items end → IsAfter (last_tick 0 gone.lines) end → EndsWith limit turns (last_look (opening_look sys) turns) (ending_of end)
+      → (text : List ℕ) → text ≡ trace_text form sys (map (line_of sys) gone.lines) (ending_of end)
+      → IsInspected sys only limit text (all_text form sys only turns ++ last_line sys (ending_of end))
+  inspected_as walk turns end input remaining old mid gone last after ends text is = record {
+    form = form;
+    lines = gone.lines;
+    end = ending_of end;
+    trace = record { lines = gone.are; last = last.can; ends = ends_after (last_tick 0 gone.lines) (last_tick 0 gone.lines) end refl after; is = is };
+    turns = turns;
+    lines_are = gone.lines_are;
+    chain = gone.chain;
+    ends = ends;
+    written = refl;
+  }
 
   -- the last line was passed
   pub gone_all :
@@ -236,17 +279,7 @@ module _ (sys : System) (form : Form) (only : List Name) (limit : ℕ) where
       shown : (text : List ℕ) → text ≡ trace_text form sys (map (line_of sys) gone.lines) (ending_of end) → IsShown sys only limit text old new
       shown text is = record {
         bytes = all_text form sys only turns ++ last_line sys (ending_of end);
-        inspected = record {
-          form = form;
-          lines = gone.lines;
-          end = ending_of end;
-          trace = record { lines = gone.are; last = last.can; ends = ends_after (last_tick 0 gone.lines) (last_tick 0 gone.lines) end refl after; is = is };
-          turns = turns;
-          lines_are = gone.lines_are;
-          chain = gone.chain;
-          ends = ends;
-          written = refl;
-        };
+        inspected = inspected_as walk turns end input remaining old mid gone last after ends text is;
         got = subst (Appends old new)
             (sym (append_assoc gone.sent walk.trail.page.text.items walk.trail.reading.line.items)
             ∙ ap (λ (t : List ℕ). t ++ walk.trail.reading.line.items) gone.text
@@ -306,20 +339,20 @@ module _ (sys : System) (form : Form) (only : List Name) (limit : ℕ) where
 
   -- .. or as the last one did
   pub stopped_all :
-      (walk done : Walk) (turns : List Turn) (line : Line) (stop : Option Reason) (r : Reason) (input remaining rest old mid new : Option (List ℕ))
+      (types : List BlockType) (walk done : Walk) (turns : List Turn) (line : Line) (stop : Option Reason) (r : Reason) (input remaining rest old mid new : Option (List ℕ))
       (gone : IsGone sys form only limit walk turns input remaining old mid) (none : NoneStops turns) (later : last_tick 0 gone.lines ≤ line.key.tick) (within : line.instance < length sys.paths)
-      (goes : TurnGoes sys form limit (last_look (opening_look sys) turns) line stop walk done remaining rest) → stop ≡ Some r
+      (goes : TurnGoes types sys form limit (last_look (opening_look sys) turns) line stop walk done remaining rest) → stop ≡ Some r
       → IsNext sys form line.key.tick done.trail.reading.line.items done.trail.reading.next
       → done.trail.reading.next ≡ next.End (Stop (record { tick = line.key.tick; resource = line.key.resource; reason = r })) → Finishes done rest mid new
       → IfSome input (λ text. IsShown sys only limit text old new)
   unfolding gone_more
-  stopped_all walk done turns line stop r input remaining rest old mid new gone none later within goes stops next_is is finished =
+  stopped_all types walk done turns line stop r input remaining rest old mid new gone none later within goes stops next_is is finished =
       let mark : Outcome = Stop (record { tick = line.key.tick; resource = line.key.resource; reason = r }) in
-      let more = gone_more sys form only limit walk done turns line stop input remaining rest old mid gone none later within goes in
+      let more = gone_more sys form only limit types walk done turns line stop input remaining rest old mid gone none later within goes in
       let here = subst (λ (n : Next). IsNext sys form line.key.tick done.trail.reading.line.items n) is next_is in
       let look : Look = last_look (opening_look sys) (turns ++ goes.turn ∷ []) in
       gone_all sys form only limit done (turns ++ goes.turn ∷ []) mark input rest old mid new more here.0
-      (subst (λ (t : ℕ). IsAfter t mark) (sym (last_is sys form only limit walk done turns line stop input remaining rest old mid gone none later within goes)) here.1)
+      (subst (λ (t : ℕ). IsAfter t mark) (sym (last_is sys form only limit types walk done turns line stop input remaining rest old mid gone none later within goes)) here.1)
       (subst (λ (k : Key). EndsWith limit (turns ++ goes.turn ∷ []) look (AtStop k.tick k.resource r)) (ap (λ (m : model.Line). m.key) goes.first_is) (must_end limit turns goes.turn look r (goes.stop_is ∙ stops)))
       finished
 
@@ -417,9 +450,9 @@ none_sent walk old = record { got = []; rest = walk.trail.page.text.items ++ wal
 
 -- a walk that was begun starts with a line that was judged
 pub starts_of :
-    (sys : System) (form : Form) (only : List Name) (reading : Reading) (walk : Walk) → Begins sys only reading walk → IsNext sys form 0 reading.line.items reading.next
+    (sys : System) (form : Form) (only : List Name) (marks : Marks) (reading : Reading) (walk : Walk) → Begins sys only marks reading walk → IsNext sys form 0 reading.line.items reading.next
     → Starts sys form only walk
-starts_of sys form only reading walk begins next = record {
+starts_of sys form only marks reading walk begins next = record {
   blocks = begins.blocks;
   steps = begins.steps;
   shown = begins.shown;
@@ -462,9 +495,9 @@ module _ (sys : System) (form : Form) (only : List Name) (limit : ℕ) (w : Walk
   pub event_text : (line : Line) → next.Event line ≡ w.trail.reading.next → IsTextOf sys form line w.trail.reading.line.items
   event_text line is = (next_here (next.Event line) is).0
 
-  module _ (done : Walk) (line : Line) (stop : Option Reason) (rest : Option (List ℕ)) (is : next.Event line ≡ w.trail.reading.next)
-      (goes : (look : Look) → IsLookOf sys w.blocks.items w.steps.items look → TurnGoes sys form limit look line stop past done remaining rest) where
-    abbrev turned : TurnGoes sys form limit seen_last line stop past done remaining rest
+  module _ (types : List BlockType) (done : Walk) (line : Line) (stop : Option Reason) (rest : Option (List ℕ)) (is : next.Event line ≡ w.trail.reading.next)
+      (goes : (look : Look) → IsLookOf sys w.blocks.items w.steps.items look → TurnGoes types sys form limit look line stop past done remaining rest) where
+    abbrev turned : TurnGoes types sys form limit seen_last line stop past done remaining rest
     turned = goes seen_last gone.gone.look
 
     within : line.instance < length sys.paths
@@ -472,15 +505,19 @@ module _ (sys : System) (form : Form) (only : List Name) (limit : ℕ) (w : Walk
 
     more : IsGone sys form only limit done (gone.turns ++ turned.turn ∷ []) input rest old mid
     unfolding past_gone replaced
-    more = gone_more sys form only limit past done gone.turns line stop input remaining rest old mid past_gone gone.goes_on (next_here (next.Event line) is).1 within turned
+    more = gone_more sys form only limit types past done gone.turns line stop input remaining rest old mid past_gone gone.goes_on (next_here (next.Event line) is).1 within turned
 
     pub event_on :
-        (after : Walk) (out : Option (List ℕ)) → stop ≡ None → IsNext sys form line.key.tick done.trail.reading.line.items done.trail.reading.next
-        → after ≡ record done { trail = record (done.trail) { page = after.trail.page } } → IsFlushed mid out done.trail.page after.trail.page
-        → HasGone sys form only limit after input rest old out
-    unfolding past_gone replaced
-    event_on after out goes_on here same flushed =
-        gone_on sys form only limit past done gone.turns line stop input remaining rest old mid past_gone gone.goes_on (next_here (next.Event line) is).1 within turned after out goes_on here same flushed
+        (page : Page) (out : Option (List ℕ)) (first : Marks) → stop ≡ None → IsNext sys form line.key.tick done.trail.reading.line.items done.trail.reading.next
+        → IsFlushed mid out done.trail.page page → AreMarked types sys gone.turns gone.gone.lines first w.trail.marks
+        → HasCovered types first sys form only limit (record done { trail = record (done.trail) { page = page } }) input rest old out
+    unfolding past_gone replaced gone_on gone_more
+    event_on page out first goes_on here flushed marked =
+        let later = (next_here (next.Event line) is).1 in
+        record {
+          gone = gone_on sys form only limit types past done gone.turns line stop input remaining rest old mid past_gone gone.goes_on later within turned page out goes_on here flushed;
+          marked = more_marked sys form only limit types past done gone.turns line stop input remaining rest old mid past_gone gone.goes_on later within turned first marked;
+        }
 
     pub event_ended :
         (r : Reason) (new : Option (List ℕ)) → stop ≡ Some r → IsNext sys form line.key.tick done.trail.reading.line.items done.trail.reading.next
@@ -488,7 +525,7 @@ module _ (sys : System) (form : Form) (only : List Name) (limit : ℕ) (w : Walk
         → IfSome input (λ text. IsShown sys only limit text old new)
     unfolding past_gone replaced
     event_ended r new stops here last finished =
-        stopped_all sys form only limit past done gone.turns line stop r input remaining rest old mid new past_gone gone.goes_on (next_here (next.Event line) is).1 within turned stops here last finished
+        stopped_all sys form only limit types past done gone.turns line stop r input remaining rest old mid new past_gone gone.goes_on (next_here (next.Event line) is).1 within turned stops here last finished
 
     pub event_front : ShowsFront sys only limit old mid
     event_front = front_gone sys form only limit done (gone.turns ++ turned.turn ∷ []) input rest old mid more
@@ -502,3 +539,86 @@ module _ (sys : System) (form : Form) (only : List Name) (limit : ℕ) (w : Walk
 
     pub event_flush : (new : Option (List ℕ)) (e : InspectError) → IsCutShort mid new done.trail.page e → ShowsFront sys only limit old new
     event_flush new e short = front_flush sys form only limit done (gone.turns ++ turned.turn ∷ []) input rest old mid new e more short
+
+-- ---- What is covered
+
+module _ (i : Inputs) (form : Form) (only : List Name) (limit : ℕ) (first : Marks) where
+  abbrev types_of : List BlockType
+  types_of = i.library.blocks
+
+  abbrev its_system : System
+  its_system = system_of i
+
+  -- the last line was passed
+  covered_all :
+      (walk : Walk) (turns : List Turn) (end : Outcome) (input remaining old mid : Option (List ℕ)) (gone : IsGone its_system form only limit walk turns input remaining old mid)
+      → IsLast its_system walk.trail.reading.line.items end → IsAfter (last_tick 0 gone.lines) end → EndsWith limit turns (last_look (opening_look its_system) turns) (ending_of end)
+      → IsAtEnd remaining → AreMarked types_of its_system turns gone.lines first walk.trail.marks → IfSome input (λ text. IsCovered i only limit text first walk.trail.marks)
+  unfolding inspected_as
+  covered_all walk turns end input remaining old mid gone last after ends over marked = by input remaining gone.read over
+    where
+      L : List ℕ
+      L = lines_text form its_system (map (line_of its_system) gone.lines)
+
+      covered : (text : List ℕ) → text ≡ trace_text form its_system (map (line_of its_system) gone.lines) (ending_of end) → IsCovered i only limit text first walk.trail.marks
+      covered text is = record {
+        bytes = all_text form its_system only turns ++ last_line its_system (ending_of end);
+        inspected = inspected_as its_system form only limit walk turns end input remaining old mid gone last after ends text is;
+        charts = marked.charts;
+        ports = marked.ports;
+      }
+
+      by : (a b : Option (List ℕ)) → Consumes a b (L ++ walk.trail.reading.line.items) → IsAtEnd b → IfSome a (λ text. IsCovered i only limit text first walk.trail.marks)
+      by None b read over = tt
+      by (Some t) None read over = absurd read
+      by (Some t) (Some u) read over =
+          covered t
+          (read ∙ ap (λ (v : List ℕ). (L ++ walk.trail.reading.line.items) ++ v) over ∙ append-nil (L ++ walk.trail.reading.line.items) ∙ ap (λ (v : List ℕ). L ++ v) last.is)
+
+  module _ (w : Walk) (bad : Next) (input remaining old mid : Option (List ℕ)) (covered : HasCovered types_of first its_system form only limit w input remaining old mid) where
+    abbrev gone_so : HasGone its_system form only limit w input remaining old mid
+    gone_so = covered.gone
+
+    -- where no taking stopped its resource
+    pub last_covered :
+        (end : Outcome) → next.End end ≡ w.trail.reading.next → MayEnd limit (last_look (opening_look its_system) gone_so.turns) (ending_of end) → IsAtEnd remaining
+        → IfSome input (λ text. IsCovered i only limit text first w.trail.marks)
+    last_covered end is may over =
+        let here = next_here its_system form only limit w bad input remaining old mid gone_so (next.End end) is in
+        covered_all w gone_so.turns end input remaining old mid gone_so.gone here.0 here.1
+        (may_end limit gone_so.turns (last_look (opening_look its_system) gone_so.turns) (ending_of end) gone_so.goes_on may) over covered.marked
+
+    -- .. or where the last one did
+    pub event_covered :
+        (done : Walk) (line : Line) (stop : Option Reason) (rest : Option (List ℕ)) (is : next.Event line ≡ w.trail.reading.next)
+        (goes : (look : Look) → IsLookOf its_system w.blocks.items w.steps.items look
+        → TurnGoes types_of its_system form limit look line stop (past its_system form only limit w bad input remaining old mid gone_so) done remaining rest)
+        (r : Reason) → stop ≡ Some r → IsNext its_system form line.key.tick done.trail.reading.line.items done.trail.reading.next
+        → done.trail.reading.next ≡ next.End (Stop (record { tick = line.key.tick; resource = line.key.resource; reason = r })) → IsAtEnd rest
+        → IfSome input (λ text. IsCovered i only limit text first done.trail.marks)
+    unfolding more gone_more past_gone replaced
+    event_covered done line stop rest is goes r stops next_is last over =
+        let mark : Outcome = Stop (record { tick = line.key.tick; resource = line.key.resource; reason = r }) in
+        let passed = past its_system form only limit w bad input remaining old mid gone_so in
+        let here_gone = past_gone its_system form only limit w bad input remaining old mid gone_so in
+        let x = turned its_system form only limit w bad input remaining old mid gone_so types_of done line stop rest is goes in
+        let later = (next_here its_system form only limit w bad input remaining old mid gone_so (next.Event line) is).1 in
+        let inside = within its_system form only limit w bad input remaining old mid gone_so types_of done line stop rest is goes in
+        let all = more its_system form only limit w bad input remaining old mid gone_so types_of done line stop rest is goes in
+        let here = subst (λ (n : Next). IsNext its_system form line.key.tick done.trail.reading.line.items n) last next_is in
+        let look : Look = last_look (opening_look its_system) (gone_so.turns ++ x.turn ∷ []) in
+        covered_all done (gone_so.turns ++ x.turn ∷ []) mark input rest old mid all here.0
+        (subst (λ (t : ℕ). IsAfter t mark)
+        (sym (last_is its_system form only limit types_of passed done gone_so.turns line stop input remaining rest old mid here_gone gone_so.goes_on later inside x)) here.1)
+        (subst (λ (k : Key). EndsWith limit (gone_so.turns ++ x.turn ∷ []) look (AtStop k.tick k.resource r)) (ap (λ (m : model.Line). m.key) x.first_is)
+        (must_end limit gone_so.turns x.turn look r (x.stop_is ∙ stops)))
+        over
+        (more_marked its_system form only limit types_of passed done gone_so.turns line stop input remaining rest old mid here_gone gone_so.goes_on later inside x first covered.marked)
+
+-- what is covered, whatever is shown of it, next to marks by another name
+pub covers_of :
+    (i : Inputs) (only : List Name) (limit : ℕ) (known : Option (List ℕ)) (own first last : Marks) → own ≡ first → IfSome known (λ text. IsCovered i only limit text own last)
+    → IfSome known (λ text. Covers i limit text first last)
+covers_of i only limit None own first last same is = tt
+covers_of i only limit (Some text) own first last same is =
+    record { only = only; covered = subst (λ (m : Marks). IsCovered i only limit text m last) same is }

@@ -1,5 +1,6 @@
 pub mod Showing
 pub mod ShowingLaws
+pub mod Marked
 pub mod Moving
 pub mod Emitted
 pub mod Charted

@@ -12,7 +12,10 @@ use Rattle.fb_types.specs.Text.{line_text, lines_text}
 use Rattle.fb_types.specs.declared.run.Form.{Form}
 use Rattle.fb_types.specs.declared.run.Line.{Line}
 use Rattle.fb_wave.specs.Lines.{IsLineOf, IsTextOf}
-use Rattle.fb_inspect.specs.Moves.{Goes, IsLineAt, shown_text}
+use Rattle.fb_coverage.specs.Sets.{with_port}
+use Rattle.fb_coverage.specs.declared.marks.PortMarks.{PortMarks}
+use Rattle.fb_inspect.specs.Markings.{lines_marked}
+use Rattle.fb_inspect.specs.Moves.{Goes, IsAside, IsLineAt, shown_text}
 use Rattle.fb_inspect.specs.declared.trail.Trail.{Trail}
 
 -- the text of lines, and of others after them
@@ -29,18 +32,31 @@ pub shown-nil : (b : Bool) → shown_text b [] ≡ []
 shown-nil true = refl
 shown-nil false = refl
 
+-- the ports of lines, and of others after them
+pub marked-append : (ls ks : List Line) (m : PortMarks) → lines_marked (ls ++ ks) m ≡ lines_marked ks (lines_marked ls m)
+marked-append [] ks m = refl
+marked-append (l ∷ ls) ks m = marked-append ls ks (with_port l.instance l.taken l.event m)
+
+-- nothing but the text differs, if that
+pub aside : (old new : Trail) → new.is_shown ≡ old.is_shown → new.marks.ports ≡ old.marks.ports → IsAside old new
+aside old new kept ported = record { kept = kept; ported = ported }
+
+pub aside_none : (t : Trail) → IsAside t t
+aside_none t = record { kept = refl; ported = refl }
+
 module _ (sys : System) (form : Form) (tick : ℕ) where
   -- text is added, and no line is read
   pub goes_note :
-      (old new : Trail) (bytes : List ℕ) (left : Option (List ℕ)) → new.is_shown ≡ old.is_shown → new.reading.line.items ≡ old.reading.line.items
+      (old new : Trail) (bytes : List ℕ) (left : Option (List ℕ)) → IsAside old new → new.reading.line.items ≡ old.reading.line.items
       → new.page.text.items ≡ old.page.text.items ++ bytes → Goes sys form tick [] bytes old new left left
-  goes_note old new bytes left shown line text = record {
+  goes_note old new bytes left aside line text = record {
     each = All-nil (IsLineAt sys tick);
-    kept = shown;
+    kept = aside.kept;
     taken = [];
     took = Consumes-nil left;
     read = append-nil old.reading.line.items ∙ sym line;
     text = text;
+    ported = aside.ported;
   }
 
   pub goes_then :
@@ -61,6 +77,7 @@ module _ (sys : System) (form : Form) (tick : ℕ) where
             ∙ sym (append_assoc L K c.reading.line.items)
             ∙ ap (λ (x : List ℕ). x ++ c.reading.line.items) (sym (ap (lines_text form sys) (map-append (line_of sys) ls ks) ∙ lines-append form sys (map (line_of sys) ls) (map (line_of sys) ks)));
         text = second.text ∙ ap (λ (x : List ℕ). x ++ cs) first.text ∙ append_assoc a.page.text.items bs cs;
+        ported = second.ported ∙ ap (lines_marked ks) first.ported ∙ sym (marked-append ls ks a.marks.ports);
       }
 
   -- the same text by another name
@@ -71,15 +88,17 @@ module _ (sys : System) (form : Form) (tick : ℕ) where
 -- one line is read, and added where it is shown
 pub goes_pass :
     (sys : System) (form : Form) (line : Line) (a c : Trail) (l m : Option (List ℕ)) → IsTextOf sys form line a.reading.line.items
-    → c.page.text.items ≡ a.page.text.items ++ shown_text a.is_shown a.reading.line.items → c.is_shown ≡ a.is_shown → Consumes l m c.reading.line.items
+    → c.page.text.items ≡ a.page.text.items ++ shown_text a.is_shown a.reading.line.items → c.is_shown ≡ a.is_shown
+    → c.marks.ports ≡ with_port line.instance line.taken line.event a.marks.ports → Consumes l m c.reading.line.items
     → Goes sys form line.key.tick (line ∷ []) (shown_text a.is_shown (line_text form sys (line_of sys line))) a c l m
-goes_pass sys form line a c l m is put shown took = record {
+goes_pass sys form line a c l m is put shown ported took = record {
   each = All-one sys line is.line;
   kept = shown;
   taken = c.reading.line.items;
   took = took;
   read = ap (λ (x : List ℕ). x ++ c.reading.line.items) (is.is ∙ sym (append-nil (line_text form sys (line_of sys line))));
   text = put ∙ ap (λ (x : List ℕ). a.page.text.items ++ shown_text a.is_shown x) is.is;
+  ported = ported;
 }
   where
     All-one : (sys : System) (line : Line) → IsLineOf sys line → All (IsLineAt sys line.key.tick) (line ∷ [])
@@ -87,13 +106,14 @@ goes_pass sys form line a c l m is put shown took = record {
 
 -- the same way from a trail with the same line and text
 pub goes_same :
-    (sys : System) (form : Form) (tick : ℕ) (ls : List Line) (bytes : List ℕ) (a b c : Trail) (l m : Option (List ℕ)) → a.is_shown ≡ b.is_shown
+    (sys : System) (form : Form) (tick : ℕ) (ls : List Line) (bytes : List ℕ) (a b c : Trail) (l m : Option (List ℕ)) → IsAside b a
     → a.reading.line.items ≡ b.reading.line.items → a.page.text.items ≡ b.page.text.items → Goes sys form tick ls bytes a c l m → Goes sys form tick ls bytes b c l m
-goes_same sys form tick ls bytes a b c l m shown line text goes = record {
+goes_same sys form tick ls bytes a b c l m aside line text goes = record {
   each = goes.each;
-  kept = goes.kept ∙ shown;
+  kept = goes.kept ∙ aside.kept;
   taken = goes.taken;
   took = goes.took;
   read = ap (λ (x : List ℕ). x ++ goes.taken) (sym line) ∙ goes.read;
   text = goes.text ∙ ap (λ (x : List ℕ). x ++ bytes) text;
+  ported = goes.ported ∙ ap (lines_marked ls) aside.ported;
 }

@@ -1,13 +1,16 @@
 -- Where a chart is after a part of a reaction, and what holds of the last call of a function.
-use Rattle.std.proofs.Common.{◌≡◌, ◌<◌, get_or, length, ℕ, List, [], Option, Some, None, Result, Ok, Err, refl, sym, ◌∙◌, ap}
-use Rattle.std.specs.Prelude.{IfOk, OnErr, OnOk, option_map}
+use Rattle.std.proofs.Common.{◌≡◌, ◌<◌, get_or, length, ℕ, List, [], Option, Some, None, Result, Ok, Err, refl, sym, ◌∙◌, ap, subst}
+use Rattle.std.specs.Prelude.{IfOk, IfSome, OnErr, OnOk, option_map}
 use Rattle.std.specs.Prelude.{slice_get}
 use Rattle.std.proofs.lemmas.Option.{get_or_from_slice_get}
 use Rattle.fb_types.proofs.ByIndex.{element_at}
+use Rattle.fb_types.specs.Headline.{Inputs}
 use Rattle.fb_types.specs.Names.{Name}
 use Rattle.fb_types.specs.declared.library.BasicType.{BasicType}
 use Rattle.fb_st.specs.declared.frame.Slot.{Slot}
 use Rattle.fb_ecc.specs.Indexes.{index, state_at}
+use Rattle.fb_wave.specs.Tables.{IsTable}
+use Rattle.fb_wave.specs.declared.table.PortTable.{PortTable}
 use Rattle.fb_inspect.specs.Notes.{lost_if}
 
 -- steps were used
@@ -53,3 +56,7 @@ pub item_is : {A : Type 0} (xs : List A) (i : ℕ) (x : A) → i < length xs →
 item_is xs i x within is =
     let one = element_at xs i within in
     one.1 ∙ ap Some (sym (is ∙ get_or_from_slice_get xs i one.0 x one.1))
+
+-- the table of a system
+pub of_table : (o : Option PortTable) (t : PortTable) (s : Inputs) → o ≡ Some t → IfSome o (λ t. IsTable t × (t.system.now ≡ s)) → t.system.now ≡ s
+of_table o t s is are = (subst (λ (o : Option PortTable). IfSome o (λ t. IsTable t × (t.system.now ≡ s))) is are).1

@@ -27,7 +27,7 @@ use Rattle.fb_wave.specs.Lines.{line_side}
 use Rattle.fb_wave.specs.Reading.{fit_each, type_at}
 use Rattle.fb_inspect.specs.Looks.{Seen, due_after, due_of, emission_line, emissions_by, memory_pieces, pieces_text, reacted, same_memory, same_tick}
 use Rattle.fb_inspect.specs.Chains.{Piece, Has}
-use Rattle.fb_inspect.specs.Moves.{EmitsGo, Goes, shown_text}
+use Rattle.fb_inspect.specs.Moves.{EmitsGo, Goes, IsAside, shown_text}
 use Rattle.fb_inspect.specs.Notes.{memory_note}
 use Rattle.fb_inspect.specs.Timing.{BlockGoes, HasExpired, HasReacted, IsBlockKept, IsBlockLine, TimerGoes, inputs_after, taken_reaction, taken_variables, timer_reaction}
 use Rattle.fb_inspect.specs.declared.blocks.EventBlock.{EventBlock}
@@ -187,10 +187,10 @@ module _ (sys : System) (b : EventBlock) (l : Line) (line : IsBlockLine sys b l)
     pub block_goes :
         (form : Form) (c : EventBlock) (es : List run.Emission) (m n : blocks.Memory) (d e : Option ℕ) (a y z : Trail) (left after : Option (List ℕ))
         → HasReacted (reaction_to b.state l.event l.key.tick (inputs_after b.inputs l.values)) b.due taken_block c es → IsSeenAs taken_block m d → IsSeenAs c n e
-        → y.is_shown ≡ a.is_shown → y.reading.line.items ≡ a.reading.line.items → y.page.text.items ≡ a.page.text.items ++ shown_text a.is_shown (note_text m n d e)
+        → IsAside a y → y.reading.line.items ≡ a.reading.line.items → y.page.text.items ≡ a.page.text.items ++ shown_text a.is_shown (note_text m n d e)
         → EmitsGo sys form l es y z left after
         → BlockGoes sys form b.state.kind l reaction (taken_variables sys s l) s.due s c a z left after
-    block_goes form c es m n d e a y z left after has before now shown line_is text goes =
+    block_goes form c es m n d e a y z left after has before now aside_is line_is text goes =
         let h = answered c es has in
         let is_kept = answered_kept c es h in
         let at : model.Line = line_of sys l in
@@ -199,7 +199,7 @@ module _ (sys : System) (b : EventBlock) (l : Line) (line : IsBlockLine sys b l)
         let are : map (line_of sys) goes.lines ≡ map (emission_line at) outs =
         emissions_are sys its goes.lines l es its_are goes.are ∙ ap (map (emission_line at)) h.emitted in
         let first : Goes sys form l.key.tick [] (shown_text a.is_shown (pieces_text form sys at changes)) a y left left =
-        goes_note sys form l.key.tick a y (shown_text a.is_shown (pieces_text form sys at changes)) left shown line_is
+        goes_note sys form l.key.tick a y (shown_text a.is_shown (pieces_text form sys at changes)) left aside_is line_is
         (text ∙ ap (λ (x : List ℕ). a.page.text.items ++ shown_text a.is_shown x)
         (memory_noted form sys at b.state.kind b.state.kind taken_block c taken_seen (reacted s reaction (taken_variables sys s l) s.due) m n d e sampled_kept is_kept before now)) in
         let second : Goes sys form l.key.tick goes.lines (shown_text y.is_shown (pieces_text form sys at (emits_pieces outs))) y z left after =
@@ -209,7 +209,7 @@ module _ (sys : System) (b : EventBlock) (l : Line) (line : IsBlockLine sys b l)
           kept = is_kept;
           lines = goes.lines;
           are = are;
-          goes = goes_as sys form l.key.tick a z goes.lines _ _ left after (shown_pieces form sys at a.is_shown y.is_shown changes (emits_pieces outs) shown)
+          goes = goes_as sys form l.key.tick a z goes.lines _ _ left after (shown_pieces form sys at a.is_shown y.is_shown changes (emits_pieces outs) aside_is.kept)
               (goes_then sys form l.key.tick a y z [] goes.lines _ _ left left after first second);
         }
 
@@ -251,15 +251,15 @@ module _ (sys : System) (b : EventBlock) (l : Line) (line : IsBlockLine sys b l)
   pub timer_goes :
       (form : Form) (c : EventBlock) (m n : blocks.Memory) (d e : Option ℕ) (a y z : Trail) (left after : Option (List ℕ)) → HasExpired l b c → IsSeenAs b m d → IsSeenAs c n e
       → Goes sys form l.key.tick (l ∷ []) (shown_text a.is_shown (line_text form sys (line_of sys l))) a y left after
-      → z.is_shown ≡ y.is_shown → z.reading.line.items ≡ y.reading.line.items → z.page.text.items ≡ y.page.text.items ++ shown_text y.is_shown (note_text m n d e)
+      → IsAside y z → z.reading.line.items ≡ y.reading.line.items → z.page.text.items ≡ y.page.text.items ++ shown_text y.is_shown (note_text m n d e)
       → TimerGoes sys form b.state.kind l s c a z left after
-  timer_goes form c m n d e a y z left after has before now passed shown line_is text =
+  timer_goes form c m n d e a y z left after has before now passed aside_is line_is text =
       let h = expired c has.emits has.reacted in
       let is_kept = expired_kept c has.emits h in
       let at : model.Line = line_of sys l in
       let changes : List Piece = memory_pieces s (reacted s expiry s.variables None) in
       let noted_is : Goes sys form l.key.tick [] (shown_text y.is_shown (pieces_text form sys at changes)) y z after after =
-      goes_note sys form l.key.tick y z (shown_text y.is_shown (pieces_text form sys at changes)) after shown line_is
+      goes_note sys form l.key.tick y z (shown_text y.is_shown (pieces_text form sys at changes)) after aside_is line_is
       (text ∙ ap (λ (x : List ℕ). y.page.text.items ++ shown_text y.is_shown x)
       (memory_noted form sys at b.state.kind b.state.kind b c s (reacted s expiry s.variables None) m n d e kept is_kept before now)) in
       record {

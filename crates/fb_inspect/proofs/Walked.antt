@@ -17,6 +17,8 @@ use Rattle.fb_types.specs.Values.{Values}
 use Rattle.fb_types.specs.declared.event_kind.EventKind.{EventKind}
 use Rattle.fb_types.specs.declared.key.Key.{Key}
 use Rattle.fb_types.specs.declared.library.BasicType.{BasicType}
+use Rattle.fb_types.specs.declared.library.BlockType.{BlockType}
+use Rattle.fb_types.specs.declared.library.BlockType.TheVariants as declared
 use Rattle.fb_types.specs.declared.library.CompositeType.{CompositeType}
 use Rattle.fb_types.specs.declared.library.EventPort.{EventPort}
 use Rattle.fb_types.specs.declared.library.Ports.{Ports}
@@ -33,10 +35,14 @@ use Rattle.fb_net.proofs.Others.{get_set_other, get_set_same}
 use Rattle.fb_net.proofs.Sampling.{ports-of_kind}
 use Rattle.fb_wave.specs.Lines.{IsLineOf}
 use Rattle.fb_wave.specs.Tables.{IsTable}
+use Rattle.fb_coverage.specs.Sets.{with_taken}
+use Rattle.fb_coverage.specs.declared.marks.ChartMarks.{ChartMarks}
+use Rattle.fb_coverage.specs.declared.marks.Marks.{Marks}
 use Rattle.fb_inspect.specs.Chains.{Piece, ShowsReaction}
 use Rattle.fb_inspect.specs.Charting.{ChartGoes, IsChartOf, IsChartTaking, place, sys_of}
 use Rattle.fb_inspect.specs.Counted.{left_of}
 use Rattle.fb_inspect.specs.Looks.{BlockTurns, ChartTurns, Left, Look, Seen, TimerTurns, Turn, Turns, TurnsAt, TurnsWith, emissions_by, emits_pieces, left_at, memory_pieces, pieces_text, reacted, turn_text, with_left, with_seen}
+use Rattle.fb_inspect.specs.Markings.{ChartMarked, PiecesMark, TurnMarks, TurnMarksAt}
 use Rattle.fb_inspect.specs.Moves.{Goes, shown_text}
 use Rattle.fb_inspect.specs.Timing.{BlockGoes, IsBlockKept, IsBlockLine, TimerGoes, taken_reaction, taken_variables, timer_reaction}
 use Rattle.fb_inspect.specs.Walking.{AreKept, CanReact, HasStepped, IsChartKept, IsKept, IsLookOf, KeptGoes, ReactGoes, TurnGoes, flag_at, with_steps}
@@ -48,7 +54,7 @@ use Rattle.fb_inspect.specs.declared.charts.ChartTaking.{ChartTaking}
 use Rattle.fb_inspect.specs.declared.steps.TickSteps.{TickSteps}
 use Rattle.fb_inspect.specs.declared.trail.Trail.{Trail}
 use Rattle.fb_inspect.specs.declared.walk.Walk.{Walk}
-use Rattle.fb_inspect.proofs.Moving.{goes_as, goes_same, goes_then, shown-append}
+use Rattle.fb_inspect.proofs.Moving.{aside, goes_as, goes_same, goes_then, shown-append}
 use Rattle.fb_inspect.proofs.Timed.{taken_is}
 
 -- ---- What is kept of an instance, by its kind
@@ -131,13 +137,15 @@ events_if sys l t = let own = ports_at sys (path_at sys l.instance) in if t then
 -- a line of a basic block that takes an event
 pub chart_taking :
     (x : ChartTaking) → IsTable x.fixed.table.now → IsLineOf (sys_of x) x.line.now → x.line.now.taken ≡ true
-    → (sys_of x).kind (path_at (sys_of x) x.line.now.instance) ≡ Some (Basic x.block.now) → IsSound x.block.now → IsChartTaking x
-chart_taking x table line taken kind sound = record {
+    → (sys_of x).kind (path_at (sys_of x) x.line.now.instance) ≡ Some (Basic x.block.now) → IsSound x.block.now
+    → slice_get x.fixed.table.now.system.now.library.blocks x.number ≡ Some (declared.Basic x.block.now) → IsChartTaking x
+chart_taking x table line taken kind sound number = record {
   table = table;
   line = line;
   taken = taken;
   kind = kind;
   sound = sound;
+  number = number;
   event = subst (λ (own : Ports). x.line.now.event < length own.event_inputs) (ports-of_kind (sys_of x) (path_at (sys_of x) x.line.now.instance) (Basic x.block.now) kind)
       (subst (λ (es : List EventPort). x.line.now.event < length es) (ap (events_if (sys_of x) x.line.now) taken) line.belongs.event);
 }
@@ -175,14 +183,16 @@ module _ (x : ChartTaking) (look : Look) (c d : Chart) (left steps : ℕ) (stop 
       (ap (sampled basic line.event line.values) (sym all) ∙ ap (λ (m : model.Line). with_values m.values before.variables) (sym here))
 
   pub chart_goes :
-      (a y z : Trail) (l k j : Option (List ℕ)) → IsChartTaking x → IsChartKept basic c before
+      (a y z : Trail) (m : ChartMarks) (l k j : Option (List ℕ)) → IsChartTaking x → IsChartKept basic c before → y.marks.charts ≡ a.marks.charts
+      → m ≡ with_taken x.number line.event y.marks.charts
       → Goes (sys_of x) x.fixed.form line.key.tick (line ∷ []) (shown_text a.is_shown (line_text x.fixed.form (sys_of x) (line_of (sys_of x) line))) a y l k
-      → ChartGoes x (ShowsReaction basic (event_at basic.ports.event_inputs line.event)) begun stop (place basic d steps) y z k j → IsChartOf basic d
-      → KeptGoes (sys_of x) x.fixed.form look left line stop (kept.Basic d) steps a z l j
-  chart_goes a y z l k j taking is passed goes chart =
+      → ChartGoes x (ShowsReaction basic (event_at basic.ports.event_inputs line.event)) begun stop (place basic d steps) (record y { marks = record (y.marks) { charts = m } }) z k j
+      → IsChartOf basic d → KeptGoes x.fixed.table.now.system.now.library.blocks (sys_of x) x.fixed.form look left line stop (kept.Basic d) steps a z l j
+  chart_goes a y z m l k j taking is charts_are taken_marked passed goes chart =
       let end : Position = record (place basic d steps) { emitted = goes.emits } in
       let after_seen : Seen = record before { memory = model.InState end.state; variables = end.vars } in
       let here = taken_is (sys_of x) basic.ports line taking.taken (ports-of_kind (sys_of x) path (Basic basic) taking.kind) in
+      let marked_trail : Trail = record y { marks = record (y.marks) { charts = m } } in
       let it : Turn = record {
         first = line_of (sys_of x) line;
         emits = goes.emits;
@@ -195,6 +205,13 @@ module _ (x : ChartTaking) (look : Look) (c d : Chart) (left steps : ℕ) (stop 
         chart = chart;
         memory_is = refl;
         variables_are = λ n. refl;
+      } in
+      let marked : ChartMarked x.fixed.table.now.system.now.library.blocks basic it a.marks.charts z.marks.charts = record {
+        number = x.number;
+        event = line.event;
+        type_is = taking.number;
+        event_is = ap (λ (n : model.Line). n.event) here;
+        pieces = subst (λ (n : ChartMarks). PiecesMark basic x.number line.event goes.pieces n z.marks.charts) (taken_marked ∙ ap (with_taken x.number line.event) charts_are) goes.marked;
       } in
       let turns : ChartTurns left look basic it = record {
         taken = taking.taken;
@@ -215,12 +232,15 @@ module _ (x : ChartTaking) (look : Look) (c d : Chart) (left steps : ℕ) (stop 
         steps_are = refl;
         lines = line ∷ goes.lines;
         lines_are = ap (λ (ls : List model.Line). line_of (sys_of x) line ∷ ls) goes.are;
-        goes = turn_goes (sys_of x) x.fixed.form line a y z goes.lines goes.pieces l k j passed goes.goes;
+        goes = turn_goes (sys_of x) x.fixed.form line a y z goes.lines goes.pieces l k j passed
+            (goes_same (sys_of x) x.fixed.form line.key.tick goes.lines (shown_text y.is_shown (pieces_text x.fixed.form (sys_of x) (line_of (sys_of x) line) goes.pieces)) marked_trail y z k j
+            (aside y marked_trail refl refl) refl refl goes.goes);
+        marked = subst (λ (o : Option Kind). TurnMarksAt x.fixed.table.now.system.now.library.blocks o it a.marks.charts z.marks.charts) (sym taking.kind) marked;
       }
 
 -- ---- An event block
 
-module _ (sys : System) (form : Form) (look : Look) (left : ℕ) (event_line_of : Line) (b d : EventBlock) (kind_is : sys.kind (path_at sys event_line_of.instance) ≡ Some (Event b.state.kind)) where
+module _ (types : List BlockType) (sys : System) (form : Form) (look : Look) (left : ℕ) (event_line_of : Line) (b d : EventBlock) (kind_is : sys.kind (path_at sys event_line_of.instance) ≡ Some (Event b.state.kind)) where
   abbrev own : Line
   own = event_line_of
 
@@ -236,11 +256,11 @@ module _ (sys : System) (form : Form) (look : Look) (left : ℕ) (event_line_of 
       (subst (λ (o : Option Kind). IsKept o (kept.Event d) s) (sym kind_is) is)
 
   pub event_goes :
-      (a y z : Trail) (l k j : Option (List ℕ)) → own.taken ≡ true
+      (a y z : Trail) (l k j : Option (List ℕ)) → own.taken ≡ true → z.marks.charts ≡ a.marks.charts
       → Goes sys form own.key.tick (own ∷ []) (shown_text a.is_shown (line_text form sys (line_of sys own))) a y l k
       → BlockGoes sys form b.state.kind own (taken_reaction sys b.state.kind was own) (taken_variables sys was own) was.due was d y z k j
-      → KeptGoes sys form look left own None (kept.Event d) left a z l j
-  event_goes a y z l k j taken passed goes =
+      → KeptGoes types sys form look left own None (kept.Event d) left a z l j
+  event_goes a y z l k j taken charts_are passed goes =
       let r = taken_reaction sys b.state.kind was own in
       let after_seen : Seen = reacted was r (taken_variables sys was own) was.due in
       let outs : List Emission = emissions_by b.state.kind r in
@@ -264,11 +284,13 @@ module _ (sys : System) (form : Form) (look : Look) (left : ℕ) (event_line_of 
         lines = own ∷ goes.lines;
         lines_are = ap (λ (ls : List model.Line). line_of sys own ∷ ls) goes.are;
         goes = turn_goes sys form own a y z goes.lines ps l k j passed goes.goes;
+        marked = subst (λ (o : Option Kind). TurnMarksAt types o it a.marks.charts z.marks.charts) (sym kind_is) charts_are;
       }
 
   pub expired_goes :
-      (a z : Trail) (l j : Option (List ℕ)) → TimerGoes sys form b.state.kind own was d a z l j → KeptGoes sys form look left own None (kept.Event d) left a z l j
-  expired_goes a z l j goes =
+      (a z : Trail) (l j : Option (List ℕ)) → z.marks.charts ≡ a.marks.charts → TimerGoes sys form b.state.kind own was d a z l j
+      → KeptGoes types sys form look left own None (kept.Event d) left a z l j
+  expired_goes a z l j charts_are goes =
       let r = timer_reaction b.state.kind was own in
       let after_seen : Seen = reacted was r was.variables None in
       let it : Turn = record {
@@ -290,16 +312,17 @@ module _ (sys : System) (form : Form) (look : Look) (left : ℕ) (event_line_of 
         lines = own ∷ [];
         lines_are = refl;
         goes = goes.goes;
+        marked = subst (λ (o : Option Kind). TurnMarksAt types o it a.marks.charts z.marks.charts) (sym kind_is) charts_are;
       }
 
 -- ---- A composite
 
 pub composite_goes :
-    (sys : System) (form : Form) (look : Look) (left : ℕ) (line : Line) (a y : Trail) (l j : Option (List ℕ))
+    (types : List BlockType) (sys : System) (form : Form) (look : Look) (left : ℕ) (line : Line) (a y : Trail) (l j : Option (List ℕ)) → y.marks.charts ≡ a.marks.charts
     → IsKept (sys.kind (path_at sys line.instance)) kept.Composite (look.blocks (path_at sys line.instance))
     → Goes sys form line.key.tick (line ∷ []) (shown_text a.is_shown (line_text form sys (line_of sys line))) a y l j
-    → KeptGoes sys form look left line None kept.Composite left a y l j
-composite_goes sys form look left line a y l j is passed =
+    → KeptGoes types sys form look left line None kept.Composite left a y l j
+composite_goes types sys form look left line a y l j charts_are is passed =
     let p : Path = path_at sys line.instance in
     let one = kept_composite (sys.kind p) (look.blocks p) is in
     let it : Turn = record { first = line_of sys line; emits = []; pieces = []; stop = None; after = with_left line.key left look } in
@@ -314,6 +337,7 @@ composite_goes sys form look left line a y l j is passed =
       lines = line ∷ [];
       lines_are = refl;
       goes = goes_as sys form line.key.tick a y (line ∷ []) _ _ l j (ap (shown_text a.is_shown) (sym (append-nil (line_text form sys (line_of sys line))))) passed;
+      marked = subst (λ (o : Option Kind). TurnMarksAt types o it a.marks.charts y.marks.charts) (sym one.1) charts_are;
     }
 
 -- ---- All instances
@@ -411,7 +435,7 @@ module _ (sys : System) (limit : ℕ) (key : Key) (look done : Look) (old mid ne
 
 -- ---- One taking
 
-module _ (sys : System) (form : Form) (limit : ℕ) (look : Look) (numbered : (i : ℕ) → i < length sys.paths → sys.number (path_at sys i) ≡ i) where
+module _ (types : List BlockType) (sys : System) (form : Form) (limit : ℕ) (look : Look) (numbered : (i : ℕ) → i < length sys.paths → sys.number (path_at sys i) ≡ i) where
   turns_at :
       (key : Key) (p : Path) (left : ℕ) (x : Turn) → x.first.key ≡ key → x.first.at ≡ p → left_at limit key.tick (look.steps key.resource) ≡ suc left → key.tick ≤ 10 ^ 12
       → TurnsAt left look (sys.kind p) x → Turns sys limit look x
@@ -422,10 +446,10 @@ module _ (sys : System) (form : Form) (limit : ℕ) (look : Look) (numbered : (i
   pub turn_taken :
       (line : Line) (stop : Option Reason) (old mid new : Walk) (remaining rest : Option (List ℕ)) → line.instance < length sys.paths
       → IsLookOf sys old.blocks.items old.steps.items look → line.key.tick ≤ 10 ^ 12 → HasStepped limit line.key old.steps.items mid.steps.items
-      → mid.blocks.items ≡ old.blocks.items → mid.shown ≡ old.shown → mid.trail.is_shown ≡ flag_at old.shown.items line.instance
+      → mid.blocks.items ≡ old.blocks.items → mid.shown ≡ old.shown → mid.trail.marks ≡ old.trail.marks → mid.trail.is_shown ≡ flag_at old.shown.items line.instance
       → mid.trail.reading.line.items ≡ old.trail.reading.line.items → mid.trail.page.text.items ≡ old.trail.page.text.items
-      → ReactGoes sys form look line stop mid new remaining rest → TurnGoes sys form limit look line stop old new remaining rest
-  turn_taken line stop old mid new remaining rest within look_is early stepped blocks_same shown_same flag line_same text_same goes =
+      → ReactGoes types sys form look line stop mid new remaining rest → TurnGoes types sys form limit look line stop old new remaining rest
+  turn_taken line stop old mid new remaining rest within look_is early stepped blocks_same shown_same marks_same flag line_same text_same goes =
       let x = goes.goes.turn in
       let mine : goes.own ≡ stepped.after =
       own_is sys limit line.key look x.after old.steps.items mid.steps.items new.steps.items stepped goes.own goes.stood goes.left goes.steps_are goes.goes.steps_are in
@@ -447,6 +471,8 @@ module _ (sys : System) (form : Form) (limit : ℕ) (look : Look) (numbered : (i
         lines = goes.goes.lines;
         lines_are = goes.goes.lines_are;
         goes = goes_same sys form line.key.tick goes.goes.lines (shown_text (flag_at old.shown.items line.instance) (turn_text form sys x)) mid.trail
-            (record (old.trail) { is_shown = flag_at old.shown.items line.instance }) new.trail remaining rest flag line_same text_same
+            (record (old.trail) { is_shown = flag_at old.shown.items line.instance }) new.trail remaining rest
+            (aside (record (old.trail) { is_shown = flag_at old.shown.items line.instance }) mid.trail flag (ap (λ (m : Marks). m.ports) marks_same)) line_same text_same
             (goes_as sys form line.key.tick mid.trail new.trail goes.goes.lines _ _ remaining rest (ap (λ (b : Bool). shown_text b (turn_text form sys x)) flag) goes.goes.goes);
+        marked = subst (λ (m : Marks). TurnMarks types sys x m.charts new.trail.marks.charts) marks_same goes.goes.marked;
       }

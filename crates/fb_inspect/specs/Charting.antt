@@ -1,5 +1,5 @@
 -- How the reaction of a basic block is gone through in a trace (this project's own).
-use Rattle.std.specs.Prelude.{◌≡◌, ◌<◌, ℕ, List, [], ◌++◌, map, length, true, Option, Some, None}
+use Rattle.std.specs.Prelude.{◌≡◌, ◌<◌, ℕ, List, [], ◌++◌, map, length, slice_get, true, Option, Some, None}
 use Rattle.fb_types.specs.Blocks.{Basic, Emission}
 use Rattle.fb_types.specs.Charts.{Position}
 use Rattle.fb_types.specs.Headline.{system_of}
@@ -7,6 +7,7 @@ use Rattle.fb_types.specs.Names.{Name}
 use Rattle.fb_types.specs.Numbers.{line_of, path_at}
 use Rattle.fb_types.specs.Systems.{System}
 use Rattle.fb_types.specs.declared.library.BasicType.{BasicType}
+use Rattle.fb_types.specs.declared.library.BlockType.TheVariants as block
 use Rattle.fb_types.specs.declared.run.Line.{Line}
 use Rattle.fb_types.specs.declared.value.Reason.{Reason}
 use Rattle.fb_ecc.specs.Indexes.{IsBlockOf, index}
@@ -15,6 +16,7 @@ use Rattle.fb_wave.specs.Lines.{IsLineOf}
 use Rattle.fb_wave.specs.Tables.{IsTable}
 use Rattle.fb_inspect.specs.Chains.{Piece, Showing, ShowsChain}
 use Rattle.fb_inspect.specs.Looks.{emission_line, pieces_text}
+use Rattle.fb_inspect.specs.Markings.{PiecesMark}
 use Rattle.fb_inspect.specs.Moves.{Goes, shown_text}
 use Rattle.fb_inspect.specs.Notes.{own_variables}
 use Rattle.fb_inspect.specs.declared.blocks.Chart.{Chart}
@@ -34,6 +36,7 @@ pub record IsChartTaking (x : ChartTaking) : Type 0 where
   pub taken : x.line.now.taken ≡ true
   pub kind : (sys_of x).kind (path_at (sys_of x) x.line.now.instance) ≡ Some (Basic x.block.now)
   pub sound : IsSound x.block.now
+  pub number : slice_get x.fixed.table.now.system.now.library.blocks x.number ≡ Some (block.Basic x.block.now)
   pub event : x.line.now.event < length x.block.now.ports.event_inputs
 
 -- What is kept of a basic block is a block of the type, with the variables that its algorithms change.
@@ -45,7 +48,8 @@ pub record IsChartOf (t : BasicType) (c : Chart) : Type 0 where
 abbrev pub place : BasicType → Chart → (left : ℕ) → Position
 place t c left = index t c.state.state c.state.frame left []
 
--- A movement of the chart was gone through: what it emits is in the lines that were read, and what is shown of it was added.
+-- A movement of the chart was gone through: what it emits is in the lines that were read, what is shown of it was added, and what it
+-- covers was marked.
 pub record ChartGoes (x : ChartTaking) (S : Showing) (p : Position) (stop : Option Reason) (q : Position) (old new : Trail) (left after : Option (List ℕ)) : Type 0 where
   pub emits : List Emission
   pub pieces : List Piece
@@ -53,6 +57,7 @@ pub record ChartGoes (x : ChartTaking) (S : Showing) (p : Position) (stop : Opti
   pub lines : List Line
   pub are : map (line_of (sys_of x)) lines ≡ map (emission_line (line_of (sys_of x) x.line.now)) emits
   pub goes : Goes (sys_of x) x.fixed.form x.line.now.key.tick lines (shown_text old.is_shown (pieces_text x.fixed.form (sys_of x) (line_of (sys_of x) x.line.now) pieces)) old new left after
+  pub marked : PiecesMark x.block.now x.number x.line.now.event pieces old.marks.charts new.marks.charts
 
 -- ---- Links
 
@@ -66,6 +71,7 @@ pub record StepGoes (x : ChartTaking) (S : Showing) (p : Position) (R : Showing)
   pub lines : List Line
   pub are : map (line_of (sys_of x)) lines ≡ map (emission_line (line_of (sys_of x) x.line.now)) emits
   pub goes : Goes (sys_of x) x.fixed.form x.line.now.key.tick lines (shown_text old.is_shown (pieces_text x.fixed.form (sys_of x) (line_of (sys_of x) x.line.now) pieces)) old new left after
+  pub marked : PiecesMark x.block.now x.number x.line.now.event pieces old.marks.charts new.marks.charts
 
 abbrev pub HasLinked : ChartTaking → (present : Option Name) → (p m : Position) → (old new : Trail) → (left after : Option (List ℕ)) → Linked → Type 0
 HasLinked x present p m old new left after Went = StepGoes x (ShowsChain x.block.now present) p (ShowsChain x.block.now None) m old new left after

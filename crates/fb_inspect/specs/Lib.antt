@@ -5,6 +5,8 @@ pub mod Chains
 pub mod Looks
 pub mod Inspections
 pub mod Counted
+pub mod Markings
+pub mod Covering
 pub mod Moves
 pub mod Charting
 pub mod Timing

@@ -8,6 +8,7 @@ use Rattle.fb_types.specs.declared.run.Emission.{Emission}
 use Rattle.fb_types.specs.declared.run.Form.{Form}
 use Rattle.fb_types.specs.declared.run.Line.{Line}
 use Rattle.fb_wave.specs.Lines.{IsLineOf}
+use Rattle.fb_inspect.specs.Markings.{lines_marked}
 use Rattle.fb_inspect.specs.declared.trail.Trail.{Trail}
 
 -- a line of the system, of a tick
@@ -15,7 +16,7 @@ pub record IsLineAt (sys : System) (tick : ℕ) (l : Line) : Type 0 where
   pub line : IsLineOf sys l
   pub tick_is : l.key.tick ≡ tick
 
--- These lines, all of one tick, were read, and this text was added for them.
+-- These lines, all of one tick, were read, their ports were marked, and this text was added for them.
 pub record Goes (sys : System) (form : Form) (tick : ℕ) (ls : List Line) (bytes : List ℕ) (old new : Trail) (left after : Option (List ℕ)) : Type 0 where
   pub each : All (IsLineAt sys tick) ls
   pub kept : new.is_shown ≡ old.is_shown
@@ -23,6 +24,12 @@ pub record Goes (sys : System) (form : Form) (tick : ℕ) (ls : List Line) (byte
   pub took : Consumes left after taken
   pub read : old.reading.line.items ++ taken ≡ lines_text form sys (map (line_of sys) ls) ++ new.reading.line.items
   pub text : new.page.text.items ≡ old.page.text.items ++ bytes
+  pub ported : new.marks.ports ≡ lines_marked ls old.marks.ports
+
+-- Text is added or marks of charts are set, and nothing else changes.
+pub record IsAside (old new : Trail) : Type 0 where
+  pub kept : new.is_shown ≡ old.is_shown
+  pub ported : new.marks.ports ≡ old.marks.ports
 
 -- what is written of a text of an instance that is shown, or not
 abbrev pub shown_text : Bool → List ℕ → List ℕ

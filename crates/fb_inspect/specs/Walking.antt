@@ -9,6 +9,7 @@ use Rattle.fb_types.specs.Systems.{System}
 use Rattle.fb_types.specs.Text.{lines_text}
 use Rattle.fb_types.specs.declared.key.Key.{Key}
 use Rattle.fb_types.specs.declared.library.BasicType.{BasicType}
+use Rattle.fb_types.specs.declared.library.BlockType.{BlockType}
 use Rattle.fb_types.specs.declared.run.Form.{Form}
 use Rattle.fb_types.specs.declared.run.Line.{Line}
 use Rattle.fb_types.specs.declared.value.Reason.{Reason}
@@ -18,11 +19,13 @@ use Rattle.fb_ecc.specs.Sound.{IsSound}
 use Rattle.fb_wave.specs.Dumps.{last_tick}
 use Rattle.fb_wave.specs.Lines.{IsTextOf}
 use Rattle.fb_wave.specs.Waves.{AreLinesOf}
+use Rattle.fb_coverage.specs.declared.marks.Marks.{Marks}
 use Rattle.fb_inspect.specs.Charting.{IsChartOf}
 use Rattle.fb_inspect.specs.Counted.{left_of}
 use Rattle.fb_inspect.specs.Inspections.{AreTurns, all_lines, all_text, is_kept, last_look}
 use Rattle.fb_inspect.specs.Lines.{IsNext}
 use Rattle.fb_inspect.specs.Looks.{Look, Seen, Turn, Turns, TurnsAt, left_at, opening_look, turn_lines, turn_text, with_left}
+use Rattle.fb_inspect.specs.Markings.{TurnMarks, TurnsMark, lines_marked}
 use Rattle.fb_inspect.specs.Moves.{Goes, shown_text}
 use Rattle.fb_inspect.specs.Timing.{IsBlockKept}
 use Rattle.fb_inspect.specs.declared.blocks.Chart.{Chart}
@@ -78,7 +81,7 @@ pub record IsLookOf (sys : System) (blocks : List Remembered) (steps : List Tick
 -- ---- One taking
 
 -- What an instance remembers has reacted to a line, and this is kept of it then.
-pub record KeptGoes (sys : System) (form : Form) (look : Look) (left : ℕ) (line : Line) (stop : Option Reason) (b : Remembered) (steps : ℕ) (old new : Trail) (remaining rest : Option (List ℕ)) : Type 0 where
+pub record KeptGoes (blocks : List BlockType) (sys : System) (form : Form) (look : Look) (left : ℕ) (line : Line) (stop : Option Reason) (b : Remembered) (steps : ℕ) (old new : Trail) (remaining rest : Option (List ℕ)) : Type 0 where
   pub turn : Turn
   pub first_is : turn.first ≡ line_of sys line
   pub stop_is : turn.stop ≡ stop
@@ -89,6 +92,7 @@ pub record KeptGoes (sys : System) (form : Form) (look : Look) (left : ℕ) (lin
   pub lines : List Line
   pub lines_are : map (line_of sys) lines ≡ turn_lines turn
   pub goes : Goes sys form line.key.tick lines (shown_text old.is_shown (turn_text form sys turn)) old new remaining rest
+  pub marked : TurnMarks blocks sys turn old.marks.charts new.marks.charts
 
 -- An instance can react to a line.
 pub record CanReact (sys : System) (form : Form) (b : Remembered) (line : Line) (text : List ℕ) : Type 0 where
@@ -111,18 +115,18 @@ pub record HasStepped (limit : ℕ) (key : Key) (old new : List TickSteps) : Typ
   pub steps_are : new ≡ slice_set old key.resource after
 
 -- The instance of a line has reacted to it, and no other one.
-pub record ReactGoes (sys : System) (form : Form) (look : Look) (line : Line) (stop : Option Reason) (old new : Walk) (remaining rest : Option (List ℕ)) : Type 0 where
+pub record ReactGoes (blocks : List BlockType) (sys : System) (form : Form) (look : Look) (line : Line) (stop : Option Reason) (old new : Walk) (remaining rest : Option (List ℕ)) : Type 0 where
   pub own : TickSteps
   pub stood : slice_get old.steps.items line.key.resource ≡ Some own
   pub block : Remembered
   pub left : ℕ
-  pub goes : KeptGoes sys form look own.meter.left line stop block left old.trail new.trail remaining rest
+  pub goes : KeptGoes blocks sys form look own.meter.left line stop block left old.trail new.trail remaining rest
   pub blocks_are : new.blocks.items ≡ slice_set old.blocks.items line.instance block
   pub steps_are : new.steps.items ≡ slice_set old.steps.items line.key.resource (with_steps own left)
   pub shown_are : new.shown ≡ old.shown
 
 -- The taking of the event of a line was gone through: its lines were read, and what is shown of it was added.
-pub record TurnGoes (sys : System) (form : Form) (limit : ℕ) (look : Look) (line : Line) (stop : Option Reason) (old new : Walk) (remaining rest : Option (List ℕ)) : Type 0 where
+pub record TurnGoes (blocks : List BlockType) (sys : System) (form : Form) (limit : ℕ) (look : Look) (line : Line) (stop : Option Reason) (old new : Walk) (remaining rest : Option (List ℕ)) : Type 0 where
   pub turn : Turn
   pub first_is : turn.first ≡ line_of sys line
   pub stop_is : turn.stop ≡ stop
@@ -134,6 +138,7 @@ pub record TurnGoes (sys : System) (form : Form) (limit : ℕ) (look : Look) (li
   pub goes :
       let is_shown = flag_at old.shown.items line.instance in
       Goes sys form line.key.tick lines (shown_text is_shown (turn_text form sys turn)) (record old.trail { is_shown = is_shown }) new.trail remaining rest
+  pub marked : TurnMarks blocks sys turn old.trail.marks.charts new.trail.marks.charts
 
 -- ---- All takings so far
 
@@ -166,18 +171,29 @@ pub record HasGone (sys : System) (form : Form) (only : List Name) (limit : ℕ)
   pub gone : IsGone sys form only limit walk turns input remaining old new
   pub next : IsNext sys form (last_tick 0 gone.lines) walk.trail.reading.line.items walk.trail.reading.next
 
+-- What takings cover was marked, next to what others covered.
+pub record AreMarked (blocks : List BlockType) (sys : System) (turns : List Turn) (lines : List Line) (first last : Marks) : Type 0 where
+  pub charts : TurnsMark blocks sys turns first.charts last.charts
+  pub ports : last.ports ≡ lines_marked lines first.ports
+
+-- .. of all takings so far
+pub record HasCovered (blocks : List BlockType) (first : Marks) (sys : System) (form : Form) (only : List Name) (limit : ℕ) (walk : Walk) (input remaining old new : Option (List ℕ)) : Type 0 where
+  pub gone : HasGone sys form only limit walk input remaining old new
+  pub marked : AreMarked blocks sys gone.turns gone.gone.lines first walk.trail.marks
+
 -- nothing was taken in any of the resources
 pub record AreUnused (n : ℕ) (steps : List TickSteps) : Type 0 where
   pub all : length steps ≡ n
   pub each : (r : ℕ) (s : TickSteps) → slice_get steps r ≡ Some s → left_of s ≡ record { tick = None; left = 0 }
 
 -- A walk that was begun with a line that was read.
-pub record Begins (sys : System) (only : List Name) (reading : Reading) (walk : Walk) : Type 0 where
+pub record Begins (sys : System) (only : List Name) (marks : Marks) (reading : Reading) (walk : Walk) : Type 0 where
   pub blocks : AreKept sys walk.blocks.items (opening_look sys)
   pub steps : AreUnused (length sys.resource_names) walk.steps.items
   pub shown : ShowsOf sys only walk.shown.items
   pub empty : walk.trail.page.text.items ≡ []
   pub reading_is : walk.trail.reading ≡ reading
+  pub marks_are : walk.trail.marks ≡ marks
 
 -- .. and the line is one with which a trace can begin.
 pub record Starts (sys : System) (form : Form) (only : List Name) (walk : Walk) : Type 0 where

@@ -1,11 +1,12 @@
 //! What the blocks of a system remember.
 
-ghost use Rattle.std.specs.Prelude.{◌≡◌, ◌≢◌, ◌<◌, ◌++◌, IfNone, IfOk, IfSome, OnOk, Some, length, map};
+ghost use Rattle.std.specs.Prelude.{◌≡◌, ◌≢◌, ◌<◌, ◌++◌, IfNone, IfOk, IfSome, OnOk, Some, length, map, slice_get};
 ghost use Rattle.fb_types.specs.Blocks.{Basic, Event, variable_names};
 ghost use Rattle.fb_types.specs.Headline.{system_of};
 ghost use Rattle.fb_types.specs.Numbers.{path_at};
 ghost use Rattle.fb_types.specs.Simulation.{opening_block};
 ghost use Rattle.fb_types.specs.declared.library.BasicType.{BasicType};
+ghost use Rattle.fb_types.specs.declared.library.BlockType.TheVariants as declared;
 ghost use Rattle.fb_st.specs.Frames.{values_of};
 ghost use Rattle.fb_net.specs.Blocks as net;
 ghost use Rattle.fb_net.specs.Opening.{AreCharts};
@@ -135,6 +136,18 @@ pub(crate) fn basic_type(system: &System, instance: u32) -> Option<&BasicType>
             Some(BlockType::Basic(block)) => Some(block),
             _ => None,
         },
+    }
+}
+
+/// The number of the type of a basic block among the declared types.
+pub(crate) fn type_number(system: &System, instance: u32) -> usize
+    requires { instance < length (system_of system.now).paths }
+    ensures { (t : BasicType) → (system_of system.now).kind (path_at (system_of system.now) instance) ≡ Some (Basic t)
+        → slice_get system.now.library.blocks result ≡ Some (declared.Basic t) }
+{
+    match system.kind(instance) {
+        TypeNumber::Declared(index) => index,
+        TypeNumber::Event(_) => 0,
     }
 }
 

@@ -1,7 +1,9 @@
 //! The reactions of basic blocks, step by step.
 
 ghost use Rattle.std.specs.Prelude.{◌≡◌, ◌<◌, ◌≤◌, ◌∷◌, ◌++◌, [], IfOk, IfSome, IsSome, OnOk, Some, length, map, option_map, slice_get};
+ghost use Rattle.std.specs.List.{position};
 ghost use Rattle.fb_types.specs.Charts.{Acts, actions_of};
+ghost use Rattle.fb_types.specs.Names.{same_name};
 ghost use Rattle.fb_types.specs.Numbers.{event_at};
 ghost use Rattle.fb_types.specs.Values.{Values};
 ghost use Rattle.fb_types.specs.declared.library.Action.{Action};
@@ -12,6 +14,7 @@ ghost use Rattle.fb_ecc.specs.Trials.{transition_at};
 ghost use Rattle.fb_inspect.specs.Chains.{Acting, ShowsChain, ShowsReaction};
 ghost use Rattle.fb_inspect.specs.Charting.{ChartGoes, HasLinked, IsChartOf, IsChartTaking, place, sys_of};
 ghost use Rattle.fb_inspect.specs.Lines.{IsNext};
+ghost use Rattle.fb_inspect.specs.Markings as marking;
 ghost use Rattle.fb_inspect.specs.Moves.{shown_text};
 ghost use Rattle.fb_inspect.specs.Notes.{cleared_note, lost_if, ran_by_action, ran_text, stop_note};
 ghost use Rattle.fb_inspect.specs.declared.charts.Linked.TheVariants.{Went};
@@ -20,9 +23,10 @@ use crate::blocks::{Chart, keep_values};
 use crate::error::InspectError;
 use crate::notes::{put_cleared, put_lost, put_ran, put_stopped};
 use crate::trail::{Fixed, Trail};
+use fb_coverage::ChartMarks;
 use fb_ecc::{BasicState, act, action_count, begin, clear};
 use fb_st::{Frame, Meter};
-use fb_types::{BasicType, Emits, Halt, Line, Name, Reason, Reference, Value};
+use fb_types::{Algorithm, BasicType, Emits, Halt, Line, Name, Reason, Reference, Value};
 use std::alloc::{AllocError, Global};
 use std::io::BufRead;
 
@@ -31,6 +35,8 @@ use std::io::BufRead;
 pub(crate) struct ChartTaking<'a, 'f, 's> {
     pub(crate) fixed: Fixed<'f, 's>,
     pub(crate) block: &'a BasicType,
+    /// The number of the type among the declared ones.
+    pub(crate) number: usize,
     pub(crate) line: &'a Line,
 }
 
@@ -106,6 +112,39 @@ fn note_ran(
     }
 }
 
+/// The index of an algorithm, if there is one with this name.
+fn find_algorithm(algorithms: &[Algorithm], name: &Name) -> Option<usize>
+    ensures { result ≡ position (λ g. same_name g.name name.now) algorithms.now }
+{
+    algorithms.iter().position(|it| it.name.is(name))
+}
+
+/// The index of an algorithm of a type, or the number of them if it has none with this name.
+fn algorithm_number(block: &BasicType, algorithm: &Name) -> usize
+    ensures { result ≡ marking.algorithm_number block.now algorithm.now }
+{
+    match find_algorithm(block.algorithms.as_slice(), algorithm) {
+        Some(index) => index,
+        None => block.algorithms.len(),
+    }
+}
+
+/// Marks the algorithm of an action, if the action has one and was begun.
+fn mark_algorithm(
+    marks: &mut ChartMarks,
+    taking: &ChartTaking<'_, '_, '_>,
+    algorithm: Option<&Name>,
+    left: u64,
+)
+    ensures { marks.new ≡ marking.with_ran_by taking.now.block.now taking.now.number (option_map (λ n. n.now) algorithm.entry) left marks.old }
+{
+    if let Some(algorithm) = algorithm {
+        if left > 0 {
+            marks.mark_ran(taking.number, algorithm_number(taking.block, algorithm));
+        }
+    }
+}
+
 /// Performs an action. Answers the reason that ends the reaction, if one does.
 fn acted(
     block: &BasicType,
@@ -168,6 +207,7 @@ fn perform<R: BufRead>(
         algorithm,
         left,
     )?;
+    mark_algorithm(&mut trail.marks.charts, taking, algorithm, left);
     trail.emit_all(&taking.fixed, taking.line, &mut emits, input)?;
     Ok(end)
 }
@@ -281,6 +321,8 @@ fn link<R: BufRead>(
             let is_shown = trail.is_shown;
             let alloc = taking.fixed.alloc;
             note_cleared(alloc, &mut trail.page.text, is_shown, taking.block, index)?;
+            let marks = &mut trail.marks.charts;
+            marks.mark_cleared(taking.number, index, chart.state.state, taking.line.event);
             match perform_all(taking, trail, chart, meter, input)? {
                 Some(reason) => Ok(Linked::Stopped(reason)),
                 None => Ok(Linked::Went),

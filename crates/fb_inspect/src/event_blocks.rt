@@ -163,6 +163,7 @@ pub(crate) fn react_block<R: BufRead>(
     ensures turned { (s : Seen) → IsBlockKept block.old.state.kind block.old s → OnOk result (let sys = system_of fixed.now.table.now.system.now in
         BlockGoes sys fixed.now.form block.old.state.kind line.now (taken_reaction sys block.old.state.kind s line.now) (taken_variables sys s line.now) s.due s block.new trail.old trail.new (R.remaining input.old) (R.remaining input.new)) }
     ensures next { OnOk result (IsNext (system_of fixed.now.table.now.system.now) fixed.now.form line.now.key.tick trail.new.reading.line.items trail.new.reading.next) }
+    ensures charts { trail.new.marks.charts ≡ trail.old.marks.charts }
 {
     let alloc = fixed.alloc;
     sample(alloc, &mut block.inputs, line.values.as_slice())?;
@@ -229,6 +230,7 @@ pub(crate) fn expire_block<R: BufRead>(
     ensures turned { (s : Seen) → IsBlockKept block.old.state.kind block.old s → OnOk result (let sys = system_of fixed.now.table.now.system.now in
         TimerGoes sys fixed.now.form block.old.state.kind line.now s block.new trail.old trail.new (R.remaining input.old) (R.remaining input.new)) }
     ensures next { OnOk result (IsNext (system_of fixed.now.table.now.system.now) fixed.now.form line.now.key.tick trail.new.reading.line.items trail.new.reading.next) }
+    ensures charts { trail.new.marks.charts ≡ trail.old.marks.charts }
 {
     let before = seen_of(block);
     if !expire_to(fixed.alloc, block, line)? {

@@ -18,6 +18,7 @@ use crate::reading::{Reading, judged};
 use crate::steps::TickSteps;
 use crate::trail::{Fixed, Trail};
 use crate::walk::Walk;
+use fb_coverage::Marks;
 use fb_system::System;
 use fb_types::{Form, Name};
 use fb_wave::words::after_front;
@@ -111,7 +112,7 @@ fn have_paths(system: &System, only: &[Name]) -> bool {
 }
 
 /// No steps were made in any resource.
-fn steps_of(alloc: Global, system: &System) -> Result<Vec<TickSteps>, AllocError>
+pub(crate) fn steps_of(alloc: Global, system: &System) -> Result<Vec<TickSteps>, AllocError>
     ensures { IfOk result (λ all. AreUnused (length (system_of system.now).resource_names) all.items) }
 {
     let mut all = Vec::new(alloc);
@@ -122,7 +123,7 @@ fn steps_of(alloc: Global, system: &System) -> Result<Vec<TickSteps>, AllocError
 }
 
 /// The first line of a trace, as it was read.
-fn first_reading(
+pub(crate) fn first_reading(
     alloc: Global,
     table: &PortTable<'_>,
     form: Form,
@@ -143,13 +144,14 @@ fn first_reading(
 }
 
 /// A walk at the first line of a trace.
-fn begun(
+pub(crate) fn begun(
     alloc: Global,
     system: &System,
     only: &[Name],
+    marks: Marks,
     reading: Reading,
 ) -> Result<Walk, AllocError>
-    ensures { IfOk result (λ walk. Begins (system_of system.now) only.now reading walk) }
+    ensures { IfOk result (λ walk. Begins (system_of system.now) only.now marks reading walk) }
 {
     let blocks = opened_all(alloc, system)?;
     let steps = steps_of(alloc, system)?;
@@ -158,6 +160,7 @@ fn begun(
         reading,
         page: Page::new(alloc),
         is_shown: true,
+        marks,
     };
     Ok(Walk {
         blocks,
@@ -185,7 +188,8 @@ fn inspect_with<R: BufRead, W: Write>(
     };
     let form = form_of(line.as_slice());
     let reading = first_reading(alloc, table, form, line)?;
-    let mut walk = begun(alloc, table.system, inspection.only, reading)?;
+    let marks = Marks::none(alloc);
+    let mut walk = begun(alloc, table.system, inspection.only, marks, reading)?;
     let fixed = Fixed {
         alloc,
         table,

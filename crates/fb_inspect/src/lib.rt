@@ -11,6 +11,7 @@
 
 mod blocks;
 mod charts;
+pub mod covering;
 pub mod error;
 mod event_blocks;
 pub mod insides;
@@ -21,5 +22,6 @@ mod steps;
 mod trail;
 mod walk;
 
+pub use covering::cover;
 pub use error::InspectError;
 pub use insides::{Inspection, inspect};

@@ -14,6 +14,7 @@ use crate::error::InspectError;
 use crate::notes::are_same;
 use crate::page::Page;
 use crate::reading::{Next, Reading};
+use fb_coverage::Marks;
 use fb_trace::Outcome;
 use fb_types::{Emission, Emits, Form, Key, Line, Reason, Value};
 use fb_wave::PortTable;
@@ -38,6 +39,8 @@ pub(crate) struct Trail {
     pub(crate) page: Page,
     /// Whether the instance of the line that was taken last is shown.
     pub(crate) is_shown: bool,
+    /// What is covered of the system.
+    pub(crate) marks: Marks,
 }
 
 /// Whether this is the stop of a resource at a tick, for this reason.
@@ -109,9 +112,11 @@ impl Trail {
         ensures goes { OnOk result (let sys = system_of fixed.now.table.now.system.now in
             Goes sys fixed.now.form line.now.key.tick (line.now ∷ []) (shown_text self.old.is_shown (line_text fixed.now.form sys (line_of sys line.now))) self.old self.new (R.remaining input.old) (R.remaining input.new)) }
         ensures next { OnOk result (IsNext (system_of fixed.now.table.now.system.now) fixed.now.form line.now.key.tick self.new.reading.line.items self.new.reading.next) }
+        ensures charts { self.new.marks.charts ≡ self.old.marks.charts }
     {
         let whole = self.reading.line.as_slice();
         put_line(&mut self.page.text, whole, self.is_shown)?;
+        self.marks.ports.mark(line.instance, line.taken, line.event);
         self.reading
             .advance(fixed.alloc, fixed.table, fixed.form, line.key.tick, input)
     }
@@ -129,6 +134,7 @@ impl Trail {
         ensures goes { OnOk result (let sys = system_of fixed.now.table.now.system.now in (l : run.Line) × IsEmission l line.now emission.now
             × Goes sys fixed.now.form line.now.key.tick (l ∷ []) (shown_text self.old.is_shown (line_text fixed.now.form sys (line_of sys l))) self.old self.new (R.remaining input.old) (R.remaining input.new)) }
         ensures next { OnOk result (IsNext (system_of fixed.now.table.now.system.now) fixed.now.form line.now.key.tick self.new.reading.line.items self.new.reading.next) }
+        ensures charts { self.new.marks.charts ≡ self.old.marks.charts }
     {
         let next = mem::replace(&mut self.reading.next, Next::Bad);
         let Next::Event(next) = next else {
@@ -152,6 +158,7 @@ impl Trail {
         requires next { IsNext (system_of fixed.now.table.now.system.now) fixed.now.form line.now.key.tick self.old.reading.line.items self.old.reading.next }
         ensures goes { OnOk result (EmitsGo (system_of fixed.now.table.now.system.now) fixed.now.form line.now emits.old self.old self.new (R.remaining input.old) (R.remaining input.new)) }
         ensures next { OnOk result (IsNext (system_of fixed.now.table.now.system.now) fixed.now.form line.now.key.tick self.new.reading.line.items self.new.reading.next) }
+        ensures charts { self.new.marks.charts ≡ self.old.marks.charts }
     {
         while let Some(emission) = emits.pop_first() {
             self.emit(fixed, line, &emission, input)?;

@@ -10,6 +10,7 @@ ghost use Rattle.fb_types.specs.Systems.{System};
 ghost use Rattle.fb_trace.specs.End.{ending_of};
 ghost use Rattle.fb_wave.specs.Lines.{IsTextOf};
 ghost use Rattle.fb_wave.specs.Tables.{IsTable};
+ghost use Rattle.fb_inspect.specs.Covering.{IsCovered};
 ghost use Rattle.fb_inspect.specs.Inspections.{IsShown, MayEnd, ShowsFront};
 ghost use Rattle.fb_inspect.specs.Lines.{IsNext};
 ghost use Rattle.fb_inspect.specs.Looks.{Look, left_at};
@@ -17,7 +18,7 @@ ghost use Rattle.fb_inspect.specs.Walking as spec;
 ghost use Rattle.fb_inspect.specs.Walking.{AreKept, CanReact, Finishes, HasStepped, IsKept, IsLookOf, KeptGoes, ReactGoes, SendsPart, Starts, TurnGoes};
 ghost use Rattle.fb_inspect.specs.declared.blocks.Remembered.TheVariants as kept;
 
-use crate::blocks::{Chart, EventBlock, Remembered, basic_type};
+use crate::blocks::{Chart, EventBlock, Remembered, basic_type, type_number};
 use crate::charts::{ChartTaking, react_chart};
 use crate::error::InspectError;
 use crate::event_blocks::{expire_block, react_block};
@@ -55,7 +56,7 @@ fn react_basic<R: BufRead>(
     requires can { CanReact (system_of fixed.now.table.now.system.now) fixed.now.form (kept.Basic chart.old) line.now trail.old.reading.line.items }
     ensures goes { (look : Look) → let sys = system_of fixed.now.table.now.system.now in let p = path_at sys line.now.instance in
         IsKept (sys.kind p) (kept.Basic chart.old) (look.blocks p) → IfOk result (λ stop.
-        KeptGoes sys fixed.now.form look meter.old.left line.now stop (kept.Basic chart.new) meter.new.left trail.old trail.new (R.remaining input.old) (R.remaining input.new)) }
+        KeptGoes fixed.now.table.now.system.now.library.blocks sys fixed.now.form look meter.old.left line.now stop (kept.Basic chart.new) meter.new.left trail.old trail.new (R.remaining input.old) (R.remaining input.new)) }
     ensures next { OnOk result (IsNext (system_of fixed.now.table.now.system.now) fixed.now.form line.now.key.tick trail.new.reading.line.items trail.new.reading.next) }
 {
     let Some(block) = basic_type(fixed.table.system, line.instance) else {
@@ -65,8 +66,15 @@ fn react_basic<R: BufRead>(
         return Err(trail.reading.refusal());
     }
     trail.pass(fixed, line, input)?;
+    let number = type_number(fixed.table.system, line.instance);
+    trail.marks.charts.mark_taken(number, line.event);
     let fixed = *fixed;
-    let taking = ChartTaking { fixed, block, line };
+    let taking = ChartTaking {
+        fixed,
+        block,
+        number,
+        line,
+    };
     react_chart(&taking, trail, chart, meter, input)
 }
 
@@ -82,7 +90,7 @@ fn react_event<R: BufRead>(
     requires can { CanReact (system_of fixed.now.table.now.system.now) fixed.now.form (kept.Event block.old) line.now trail.old.reading.line.items }
     ensures goes { (look : Look) (left : ℕ) → let sys = system_of fixed.now.table.now.system.now in let p = path_at sys line.now.instance in
         IsKept (sys.kind p) (kept.Event block.old) (look.blocks p) → OnOk result
-        (KeptGoes sys fixed.now.form look left line.now None (kept.Event block.new) left trail.old trail.new (R.remaining input.old) (R.remaining input.new)) }
+        (KeptGoes fixed.now.table.now.system.now.library.blocks sys fixed.now.form look left line.now None (kept.Event block.new) left trail.old trail.new (R.remaining input.old) (R.remaining input.new)) }
     ensures next { OnOk result (IsNext (system_of fixed.now.table.now.system.now) fixed.now.form line.now.key.tick trail.new.reading.line.items trail.new.reading.next) }
 {
     if !line.taken {
@@ -105,7 +113,7 @@ fn react_kept<R: BufRead>(
     requires can { CanReact (system_of fixed.now.table.now.system.now) fixed.now.form block.old line.now trail.old.reading.line.items }
     ensures goes { (look : Look) → let sys = system_of fixed.now.table.now.system.now in let p = path_at sys line.now.instance in
         IsKept (sys.kind p) block.old (look.blocks p) → IfOk result (λ stop.
-        KeptGoes sys fixed.now.form look meter.old.left line.now stop block.new meter.new.left trail.old trail.new (R.remaining input.old) (R.remaining input.new)) }
+        KeptGoes fixed.now.table.now.system.now.library.blocks sys fixed.now.form look meter.old.left line.now stop block.new meter.new.left trail.old trail.new (R.remaining input.old) (R.remaining input.new)) }
     ensures next { OnOk result (IsNext (system_of fixed.now.table.now.system.now) fixed.now.form line.now.key.tick trail.new.reading.line.items trail.new.reading.next) }
 {
     match block {
@@ -156,7 +164,7 @@ impl Walk {
         requires blocks { (look : Look) × AreKept (system_of fixed.now.table.now.system.now) self.old.blocks.items look }
         requires steps { length self.old.steps.items ≡ length (system_of fixed.now.table.now.system.now).resource_names }
         ensures goes { (look : Look) → let sys = system_of fixed.now.table.now.system.now in AreKept sys self.old.blocks.items look
-            → IfOk result (λ stop. ReactGoes sys fixed.now.form look line.now stop self.old self.new (R.remaining input.old) (R.remaining input.new)) }
+            → IfOk result (λ stop. ReactGoes fixed.now.table.now.system.now.library.blocks sys fixed.now.form look line.now stop self.old self.new (R.remaining input.old) (R.remaining input.new)) }
         ensures next { OnOk result (IsNext (system_of fixed.now.table.now.system.now) fixed.now.form line.now.key.tick self.new.trail.reading.line.items self.new.trail.reading.next) }
     {
         let Some(steps) = self.steps.get_mut(line.key.resource as usize) else {
@@ -180,7 +188,7 @@ impl Walk {
         requires is { IsTextOf (system_of fixed.now.table.now.system.now) fixed.now.form line.now self.old.trail.reading.line.items }
         requires look { (look : Look) × IsLookOf (system_of fixed.now.table.now.system.now) self.old.blocks.items self.old.steps.items look }
         ensures goes { (look : Look) → let sys = system_of fixed.now.table.now.system.now in IsLookOf sys self.old.blocks.items self.old.steps.items look
-            → IfOk result (λ stop. TurnGoes sys fixed.now.form fixed.now.limit look line.now stop self.old self.new (R.remaining input.old) (R.remaining input.new)) }
+            → IfOk result (λ stop. TurnGoes fixed.now.table.now.system.now.library.blocks sys fixed.now.form fixed.now.limit look line.now stop self.old self.new (R.remaining input.old) (R.remaining input.new)) }
         ensures next { OnOk result (IsNext (system_of fixed.now.table.now.system.now) fixed.now.form line.now.key.tick self.new.trail.reading.line.items self.new.trail.reading.next) }
     {
         fixed.table.system.facts();
@@ -223,6 +231,7 @@ impl Walk {
         out: &mut W,
     ) -> Result<(), InspectError>
         ensures finishes { OnOk result (Finishes self.old (R.remaining input.old) (W.contents out.old) (W.contents out.new)) }
+        ensures marks { self.new.trail.marks ≡ self.old.trail.marks }
         ensures fault { OnErr result (SendsPart self.old (W.contents out.old) (W.contents out.new)) }
     {
         let line = self.trail.reading.line.as_slice();
@@ -246,6 +255,9 @@ impl Walk {
         ensures whole { (only : List Name) (known : Option (List ℕ)) → let sys = system_of fixed.now.table.now.system.now in
             Starts sys fixed.now.form only self.old → Consumes known (R.remaining input.old) self.old.trail.reading.line.items
             → OnOk result (IfSome known (λ text. IsShown sys only fixed.now.limit text (W.contents out.old) (W.contents out.new))) }
+        ensures covered { (only : List Name) (known : Option (List ℕ)) → let sys = system_of fixed.now.table.now.system.now in
+            Starts sys fixed.now.form only self.old → Consumes known (R.remaining input.old) self.old.trail.reading.line.items
+            → OnOk result (IfSome known (λ text. IsCovered fixed.now.table.now.system.now only fixed.now.limit text self.old.trail.marks self.new.trail.marks)) }
         ensures fault { (only : List Name) → let sys = system_of fixed.now.table.now.system.now in
             Starts sys fixed.now.form only self.old → OnErr result (ShowsFront sys only fixed.now.limit (W.contents out.old) (W.contents out.new)) }
     {

@@ -18,3 +18,4 @@ pub mod Warning
 pub mod PlacedLines
 pub mod Inspecting
 pub mod Located
+pub mod Gleaning

@@ -29,11 +29,13 @@ use Rattle.fbsim_command.specs.Reading.{Reading, AreRead, IsUnread}
 use Rattle.fbsim_command.specs.Stops.{ReportsStop}
 use Rattle.fbsim_command.specs.Showing.{Opening, Shows}
 use Rattle.fbsim_command.specs.Comparing.{Compares}
+use Rattle.fbsim_command.specs.Covering.{ReportsCoverage}
 use Rattle.fbsim_command.specs.Drawing.{Draws}
 use Rattle.fbsim_command.specs.Expecting.{Expects}
 use Rattle.fbsim_command.specs.Inspecting.{ShowsInsides}
 use Rattle.fbsim_line.specs.declared.bench_line.Diff.{Diff}
 use Rattle.fbsim_line.specs.declared.bench_line.Expect.{Expect}
+use Rattle.fbsim_line.specs.declared.coverage_line.Coverage.{Coverage}
 use Rattle.fbsim_line.specs.declared.draw_line.Draw.{Draw}
 use Rattle.fbsim_line.specs.declared.inspect_line.Inspect.{Inspect}
 use Rattle.fbsim_command.specs.declared.failure.Failure.TheVariants.{Refused, RefusedTrace, File, Write, Memory, Line, BadOption}
@@ -213,7 +215,8 @@ abbrev pub names_of : Vec (Bor Text) → List Text
 names_of v = map (λ n. n.now) v.items
 
 -- The words are done as the call that they name: a task, a trace that is shown, a refusal that is explained, rules that are
--- held against traces, traces that are compared, what is declared, which is drawn, or a trace that is inspected. Or they name none.
+-- held against traces, traces that are compared, what is declared, which is drawn, a trace that is
+-- inspected, or traces of which is reported what they cover. Or they name none.
 abbrev pub Does : {S : Type 0} → Reading S → Opening S → (from to : S) → List Text → (old new : Held) → End → (reports : Text) → (note : Option Text) → Type 0
 Does reads opens from to words old new end reports note =
     ((c : Task) × (types : Vec (Bor Text)) × AreCall words (call.Task c types) × IsTaken words × Performs reads from to (names_of types) c old new end reports note)
@@ -223,4 +226,5 @@ Does reads opens from to words old new end reports note =
     ⊎ ((d : Diff) × AreCall words (call.Diff d) × IsTaken words × Compares opens from to d old new end × (reports ≡ []) × (note ≡ None))
     ⊎ ((d : Draw) × (types : Vec (Bor Text)) × AreCall words (call.Draw d types) × IsTaken words × Draws reads from to (names_of types) d old new end × (reports ≡ []) × (note ≡ None))
     ⊎ ((x : Inspect) × (types : Vec (Bor Text)) × AreCall words (call.Inspect x types) × IsTaken words × ShowsInsides reads opens from to (names_of types) x old new end × (reports ≡ []) × (note ≡ None))
+    ⊎ ((x : Coverage) × (types : Vec (Bor Text)) × AreCall words (call.Coverage x types) × IsTaken words × ReportsCoverage reads opens from to (names_of types) x old new end × (reports ≡ []) × (note ≡ None))
     ⊎ (Explains words old new end × ReportsNoMore from to reports note)

@@ -16,4 +16,5 @@ pub mod Drawing
 pub mod WarningLines
 pub mod Inspecting
 pub mod Stops
+pub mod Covering
 pub mod Command

@@ -73,7 +73,7 @@ fn hold<S: Streams>(
 }
 
 /// The failure for a trace that is refused at this line.
-fn refused_trace(alloc: Global, name: &str, line: u64) -> Failure
+pub(crate) fn refused_trace(alloc: Global, name: &str, line: u64) -> Failure
     ensures { IsRefusedAt name.now line result }
 {
     match format!(in alloc; "refused trace {name} line {line}") {

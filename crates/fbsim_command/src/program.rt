@@ -13,6 +13,7 @@ ghost use Rattle.fbsim_command.specs.declared.statuses.Done.{Done};
 ghost use Rattle.fbsim_command.specs.declared.statuses.Done.TheVariants.{Helped};
 
 use crate::call_names::Naming;
+use crate::coverage::show_coverage;
 use crate::draw::show_graph;
 use crate::expect::{diff, expect};
 use crate::failure::Failure;
@@ -300,6 +301,9 @@ fn obey<'w, R: Threads + Wait + Sync, C: Clock + CpuClock, S: Source + Streams, 
         }
         Ok(Call::Inspect(call, types)) => {
             ended(show_insides(alloc, types.as_slice(), &call, source, out))
+        }
+        Ok(Call::Coverage(call, types)) => {
+            ended(show_coverage(alloc, types.as_slice(), &call, source, out))
         }
         Err(LineFault::Help(text)) => ended(help_to(text.as_str(), out)),
         Err(LineFault::Fault(text)) => ended(Err(Failure::Line(text))),

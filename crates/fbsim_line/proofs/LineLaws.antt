@@ -11,7 +11,7 @@ use Rattle.clap.specs.declared.error.kind.ErrorKind.TheVariants.{DisplayHelp, Di
 use Rattle.fb_types.specs.declared.run.Form.{Form}
 use Rattle.fb_types.specs.declared.run.Form.TheVariants.{One, Two}
 use Rattle.clap.specs.declared.builder.value_parser.ValueParser.{ValueParser}
-use Rattle.fbsim_line.specs.Line.{AreCall, AreNoCall, AskHelp, IsTaken, NameNoCall, IsForm, AsksDiff, AsksDraw, AsksExpect, AsksInspect, AsksWave, IsNumber, IsAction, IsTask, IsCall, IsCallOf, IsFault, IsFlag, IsText, command_name, call_name, declares_nothing, or_none, AreForms, simulator, simulator_with}
+use Rattle.fbsim_line.specs.Line.{AreCall, AreNoCall, AskHelp, IsTaken, NameNoCall, IsForm, AsksCoverage, AsksDiff, AsksDraw, AsksExpect, AsksInspect, AsksWave, IsNumber, IsAction, IsTask, IsCall, IsCallOf, IsFault, IsFlag, IsText, command_name, call_name, declares_nothing, or_none, AreForms, simulator, simulator_with}
 use Rattle.fbsim_line.proofs.FormLaws.{same_fault, same_subcommand, same_takes}
 use Rattle.fbsim_line.specs.declared.line.LineFault.{LineFault}
 use Rattle.fbsim_line.specs.declared.line.Task.{Task}
@@ -22,6 +22,7 @@ use Rattle.fbsim_line.specs.declared.line.Call.TheVariants as call
 use Rattle.fbsim_line.specs.declared.line.Wave.{Wave}
 use Rattle.fbsim_line.specs.declared.bench_line.Diff.{Diff}
 use Rattle.fbsim_line.specs.declared.bench_line.Expect.{Expect}
+use Rattle.fbsim_line.specs.declared.coverage_line.Coverage.{Coverage}
 use Rattle.fbsim_line.specs.declared.draw_line.Draw.{Draw}
 use Rattle.fbsim_line.specs.declared.inspect_line.Inspect.{Inspect}
 
@@ -116,6 +117,7 @@ no_name rows name is none (call.Expect x) named given = differs (codes "explain"
 no_name rows name is none (call.Diff d) named given = differs (codes "explain") (codes "diff") refl (sym is ∙ named)
 no_name rows name is none (call.Draw d types) named given = differs (codes "explain") (codes "draw") refl (sym is ∙ named)
 no_name rows name is none (call.Inspect x types) named given = differs (codes "explain") (codes "inspect") refl (sym is ∙ named)
+no_name rows name is none (call.Coverage x types) named given = differs (codes "explain") (codes "coverage") refl (sym is ∙ named)
 
 pub no_wave : (rows : List Row) (name : Text) → name ≡ codes "wave" → ((w : Wave) → AsksWave rows w → ⊥) → (r : Call) → name ≡ call_name r → IsCall rows r → ⊥
 no_wave rows name is none (call.Explain word) named given = differs (codes "wave") (codes "explain") refl (sym is ∙ named)
@@ -125,6 +127,7 @@ no_wave rows name is none (call.Expect x) named given = differs (codes "wave") (
 no_wave rows name is none (call.Diff d) named given = differs (codes "wave") (codes "diff") refl (sym is ∙ named)
 no_wave rows name is none (call.Draw d types) named given = differs (codes "wave") (codes "draw") refl (sym is ∙ named)
 no_wave rows name is none (call.Inspect x types) named given = differs (codes "wave") (codes "inspect") refl (sym is ∙ named)
+no_wave rows name is none (call.Coverage x types) named given = differs (codes "wave") (codes "coverage") refl (sym is ∙ named)
 
 pub no_expect : (rows : List Row) (name : Text) → name ≡ codes "expect" → ((x : Expect) → AsksExpect rows x → ⊥) → (r : Call) → name ≡ call_name r → IsCall rows r → ⊥
 no_expect rows name is none (call.Explain word) named given = differs (codes "expect") (codes "explain") refl (sym is ∙ named)
@@ -134,6 +137,7 @@ no_expect rows name is none (call.Expect x) named given = none x given
 no_expect rows name is none (call.Diff d) named given = differs (codes "expect") (codes "diff") refl (sym is ∙ named)
 no_expect rows name is none (call.Draw d types) named given = differs (codes "expect") (codes "draw") refl (sym is ∙ named)
 no_expect rows name is none (call.Inspect x types) named given = differs (codes "expect") (codes "inspect") refl (sym is ∙ named)
+no_expect rows name is none (call.Coverage x types) named given = differs (codes "expect") (codes "coverage") refl (sym is ∙ named)
 
 pub no_diff : (rows : List Row) (name : Text) → name ≡ codes "diff" → ((d : Diff) → AsksDiff rows d → ⊥) → (r : Call) → name ≡ call_name r → IsCall rows r → ⊥
 no_diff rows name is none (call.Explain word) named given = differs (codes "diff") (codes "explain") refl (sym is ∙ named)
@@ -143,6 +147,7 @@ no_diff rows name is none (call.Expect x) named given = differs (codes "diff") (
 no_diff rows name is none (call.Diff d) named given = none d given
 no_diff rows name is none (call.Draw d types) named given = differs (codes "diff") (codes "draw") refl (sym is ∙ named)
 no_diff rows name is none (call.Inspect x types) named given = differs (codes "diff") (codes "inspect") refl (sym is ∙ named)
+no_diff rows name is none (call.Coverage x types) named given = differs (codes "diff") (codes "coverage") refl (sym is ∙ named)
 
 pub no_draw : (rows : List Row) (name : Text) → name ≡ codes "draw" → ((d : Draw) → AsksDraw rows d → ⊥) → (r : Call) → name ≡ call_name r → IsCall rows r → ⊥
 no_draw rows name is none (call.Explain word) named given = differs (codes "draw") (codes "explain") refl (sym is ∙ named)
@@ -152,6 +157,7 @@ no_draw rows name is none (call.Expect x) named given = differs (codes "draw") (
 no_draw rows name is none (call.Diff d) named given = differs (codes "draw") (codes "diff") refl (sym is ∙ named)
 no_draw rows name is none (call.Draw d types) named given = none d given.0
 no_draw rows name is none (call.Inspect x types) named given = differs (codes "draw") (codes "inspect") refl (sym is ∙ named)
+no_draw rows name is none (call.Coverage x types) named given = differs (codes "draw") (codes "coverage") refl (sym is ∙ named)
 
 pub no_inspect : (rows : List Row) (name : Text) → name ≡ codes "inspect" → ((x : Inspect) → AsksInspect rows x → ⊥) → (r : Call) → name ≡ call_name r → IsCall rows r → ⊥
 no_inspect rows name is none (call.Explain word) named given = differs (codes "inspect") (codes "explain") refl (sym is ∙ named)
@@ -161,17 +167,29 @@ no_inspect rows name is none (call.Expect x) named given = differs (codes "inspe
 no_inspect rows name is none (call.Diff d) named given = differs (codes "inspect") (codes "diff") refl (sym is ∙ named)
 no_inspect rows name is none (call.Draw d types) named given = differs (codes "inspect") (codes "draw") refl (sym is ∙ named)
 no_inspect rows name is none (call.Inspect x types) named given = none x given.0
+no_inspect rows name is none (call.Coverage x types) named given = differs (codes "inspect") (codes "coverage") refl (sym is ∙ named)
+
+pub no_coverage : (rows : List Row) (name : Text) → name ≡ codes "coverage" → ((x : Coverage) → AsksCoverage rows x → ⊥) → (r : Call) → name ≡ call_name r → IsCall rows r → ⊥
+no_coverage rows name is none (call.Explain word) named given = differs (codes "coverage") (codes "explain") refl (sym is ∙ named)
+no_coverage rows name is none (call.Task c types) named given = no_task c.action name (codes "coverage") is (λ e. cc) (λ e. cc) named
+no_coverage rows name is none (call.Wave w types) named given = differs (codes "coverage") (codes "wave") refl (sym is ∙ named)
+no_coverage rows name is none (call.Expect x) named given = differs (codes "coverage") (codes "expect") refl (sym is ∙ named)
+no_coverage rows name is none (call.Diff d) named given = differs (codes "coverage") (codes "diff") refl (sym is ∙ named)
+no_coverage rows name is none (call.Draw d types) named given = differs (codes "coverage") (codes "draw") refl (sym is ∙ named)
+no_coverage rows name is none (call.Inspect x types) named given = differs (codes "coverage") (codes "inspect") refl (sym is ∙ named)
+no_coverage rows name is none (call.Coverage x types) named given = none x given.0
 
 pub no_other_call :
     (rows : List Row) (name : Text) → (name ≡ codes "explain" → ⊥) → (name ≡ codes "wave" → ⊥) → (name ≡ codes "expect" → ⊥) → (name ≡ codes "diff" → ⊥) → (name ≡ codes "draw" → ⊥)
-    → (name ≡ codes "inspect" → ⊥) → ((c : Task) → name ≡ command_name c.action → IsTask rows c → ⊥) → (r : Call) → name ≡ call_name r → IsCall rows r → ⊥
-no_other_call rows name no_explain no_wave no_expect no_diff no_draw no_inspect none (call.Explain word) named given = no_explain named
-no_other_call rows name no_explain no_wave no_expect no_diff no_draw no_inspect none (call.Task c types) named given = none c named given.0
-no_other_call rows name no_explain no_wave no_expect no_diff no_draw no_inspect none (call.Wave w types) named given = no_wave named
-no_other_call rows name no_explain no_wave no_expect no_diff no_draw no_inspect none (call.Expect x) named given = no_expect named
-no_other_call rows name no_explain no_wave no_expect no_diff no_draw no_inspect none (call.Diff d) named given = no_diff named
-no_other_call rows name no_explain no_wave no_expect no_diff no_draw no_inspect none (call.Draw d types) named given = no_draw named
-no_other_call rows name no_explain no_wave no_expect no_diff no_draw no_inspect none (call.Inspect x types) named given = no_inspect named
+    → (name ≡ codes "inspect" → ⊥) → (name ≡ codes "coverage" → ⊥) → ((c : Task) → name ≡ command_name c.action → IsTask rows c → ⊥) → (r : Call) → name ≡ call_name r → IsCall rows r → ⊥
+no_other_call rows name no_explain no_wave no_expect no_diff no_draw no_inspect no_coverage none (call.Explain word) named given = no_explain named
+no_other_call rows name no_explain no_wave no_expect no_diff no_draw no_inspect no_coverage none (call.Task c types) named given = none c named given.0
+no_other_call rows name no_explain no_wave no_expect no_diff no_draw no_inspect no_coverage none (call.Wave w types) named given = no_wave named
+no_other_call rows name no_explain no_wave no_expect no_diff no_draw no_inspect no_coverage none (call.Expect x) named given = no_expect named
+no_other_call rows name no_explain no_wave no_expect no_diff no_draw no_inspect no_coverage none (call.Diff d) named given = no_diff named
+no_other_call rows name no_explain no_wave no_expect no_diff no_draw no_inspect no_coverage none (call.Draw d types) named given = no_draw named
+no_other_call rows name no_explain no_wave no_expect no_diff no_draw no_inspect no_coverage none (call.Inspect x types) named given = no_inspect named
+no_other_call rows name no_explain no_wave no_expect no_diff no_draw no_inspect no_coverage none (call.Coverage x types) named given = no_coverage named
 
 -- ---- Rules and traces
 
@@ -234,6 +252,15 @@ no_inspected_trace rows none x is = let given = is.trace in absurd cc
 
 pub no_limit : (rows : List Row) → ((n : ℕ) → IsNumber rows (codes "steps") n → ⊥) → (x : Inspect) → AsksInspect rows x → ⊥
 no_limit rows none x is = none x.steps is.steps
+
+pub no_covered : (rows : List Row) → first_of (codes "DECL") rows ≡ None → (x : Coverage) → AsksCoverage rows x → ⊥
+no_covered rows none x is = let given = is.declaration in absurd cc
+
+pub no_covered_traces : (rows : List Row) → all_of (codes "TRACE") rows ≡ None → (x : Coverage) → AsksCoverage rows x → ⊥
+no_covered_traces rows none x is = let given = is.traces in absurd cc
+
+pub no_covered_limit : (rows : List Row) → ((n : ℕ) → IsNumber rows (codes "steps") n → ⊥) → (x : Coverage) → AsksCoverage rows x → ⊥
+no_covered_limit rows none x is = none x.steps is.steps
 
 -- ---- The words, by what the parser says of them
 

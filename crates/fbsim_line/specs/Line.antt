@@ -12,6 +12,7 @@ use Rattle.fb_types.specs.declared.run.Form.{Form}
 use Rattle.fb_types.specs.declared.run.Form.TheVariants.{One, Two}
 use Rattle.fbsim_line.specs.declared.bench_line.Diff.{Diff}
 use Rattle.fbsim_line.specs.declared.bench_line.Expect.{Expect}
+use Rattle.fbsim_line.specs.declared.coverage_line.Coverage.{Coverage}
 use Rattle.fbsim_line.specs.declared.draw_line.Draw.{Draw}
 use Rattle.fbsim_line.specs.declared.inspect_line.Inspect.{Inspect}
 use Rattle.fbsim_line.specs.declared.line.Action.{Action}
@@ -145,13 +146,20 @@ inspect =
     (repeated (codes "only")))
     (record (limited (codes "steps") (up_to 10000000)) { defaults = codes "10000" ∷ [] })
 
+-- a command with the names of a declaration, of its deployment and of traces, and the limit of the runs
+abbrev pub coverage : App
+coverage =
+    with_rule (with_rule (deployed (codes "coverage"))
+    (several (codes "TRACE")))
+    (record (limited (codes "steps") (up_to 10000000)) { defaults = codes "10000" ∷ [] })
+
 -- a command with the name of a refusal
 abbrev pub explain : App
 explain = begun (codes "explain") (codes "NAME")
 
 -- the program's command, with this parser for the form of the trace
 abbrev pub simulator_with : ValueParser → App
-simulator_with values = with_subcommand (with_subcommand (with_subcommand (with_subcommand (with_subcommand (with_subcommand (with_subcommand (with_subcommand
+simulator_with values = with_subcommand (with_subcommand (with_subcommand (with_subcommand (with_subcommand (with_subcommand (with_subcommand (with_subcommand (with_subcommand
     (record { top = record (new_app (codes "fbsim")).top { has_version = true; subcommand_required = true }; subs = [] })
     (with_run_options values (files (codes "run"))).top)
     check.top)
@@ -160,6 +168,7 @@ simulator_with values = with_subcommand (with_subcommand (with_subcommand (with_
     diff.top)
     draw.top)
     inspect.top)
+    coverage.top)
     explain.top
 
 abbrev pub simulator : App
@@ -179,6 +188,7 @@ call_name (call.Expect x) = codes "expect"
 call_name (call.Diff d) = codes "diff"
 call_name (call.Draw d types) = codes "draw"
 call_name (call.Inspect x types) = codes "inspect"
+call_name (call.Coverage x types) = codes "coverage"
 
 -- the option has one text, a decimal numeral that may begin with a plus, and this is its number
 pub record IsNumber (rows : List Row) (id : Text) (n : ℕ) : Type 0 where
@@ -263,6 +273,13 @@ pub record AsksDraw (rows : List Row) (d : Draw) : Type 0 where
   pub deploy : first_of (codes "deploy") rows ≡ option_map (λ n. n.now) d.deploy
   pub block_type : first_of (codes "type") rows ≡ option_map (λ n. n.now) d.block_type
 
+-- it must be reported what these traces cover
+pub record AsksCoverage (rows : List Row) (x : Coverage) : Type 0 where
+  pub declaration : first_of (codes "DECL") rows ≡ Some x.declaration.now
+  pub deploy : first_of (codes "deploy") rows ≡ option_map (λ n. n.now) x.deploy
+  pub traces : all_of (codes "TRACE") rows ≡ Some (map (λ t. t.now) x.traces.items)
+  pub steps : IsNumber rows (codes "steps") x.steps
+
 -- this trace must be inspected
 pub record AsksInspect (rows : List Row) (x : Inspect) : Type 0 where
   pub declaration : first_of (codes "DECL") rows ≡ Some x.declaration.now
@@ -279,6 +296,7 @@ IsCall rows (call.Expect x) = AsksExpect rows x
 IsCall rows (call.Diff d) = AsksDiff rows d
 IsCall rows (call.Draw d types) = AsksDraw rows d × AreTypes rows types.items
 IsCall rows (call.Inspect x types) = AsksInspect rows x × AreTypes rows types.items
+IsCall rows (call.Coverage x types) = AsksCoverage rows x × AreTypes rows types.items
 
 -- a command's name and its rows ask for this
 pub record IsCallOf (found : Option (Text × List Row)) (r : Call) : Type 0 where

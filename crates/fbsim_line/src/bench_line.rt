@@ -78,7 +78,7 @@ const FIRST_HELP: &str = "The file with the first trace; `-` is standard input, 
 const SECOND_HELP: &str = "The file with the second trace.";
 
 /// The arguments that are the names of the traces.
-fn traces<'a>(alloc: Global) -> Arg<'a>
+pub(crate) fn traces<'a>(alloc: Global) -> Arg<'a>
     ensures rule { rule_of result ≡ spec.several (codes "TRACE") }
     ensures local { result.global ≡ false }
 {

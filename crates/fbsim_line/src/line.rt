@@ -14,6 +14,7 @@ ghost use Rattle.clap.specs.declared.builder.command.Command.{Command as Cmd};
 ghost use Rattle.clap.specs.declared.builder.command.Command.TheViews.{out-Command as fields_of};
 
 use crate::bench_line::{Diff, Expect, diff_command, diff_of, expect_command, expect_of};
+use crate::coverage_line::{Coverage, coverage_command, coverage_of};
 use crate::draw_line::{Draw, draw_command, draw_of};
 use crate::inspect_line::{Inspect, inspect_command, inspect_of};
 use clap::builder::ValueParser;
@@ -40,6 +41,8 @@ pub enum Call<'a> {
     Draw(Draw<'a>, Vec<&'a str>),
     /// Shows what happens inside the blocks of a trace.
     Inspect(Inspect<'a>, Vec<&'a str>),
+    /// Reports what traces cover.
+    Coverage(Coverage<'a>, Vec<&'a str>),
 }
 
 /// A trace to be shown as waveforms, and what it is a trace of.
@@ -416,6 +419,7 @@ fn simulator<'a>(alloc: Global, forms: ValueParser<'a>) -> Result<Command<'a>, A
     let command = with_subcommand(command, diff_command(alloc));
     let command = with_subcommand(command, draw_command(alloc));
     let command = with_subcommand(command, inspect_command(alloc));
+    let command = with_subcommand(command, coverage_command(alloc));
     with_subcommand(command, explain(alloc))
 }
 
@@ -577,6 +581,7 @@ fn call_of<'a>(
         "diff" => Ok(diff_of(found)),
         "draw" => draw_of(alloc, found),
         "inspect" => inspect_of(alloc, found),
+        "coverage" => coverage_of(alloc, found),
         _ => task_call(alloc, name, found),
     }
 }

@@ -1,6 +1,6 @@
 # Completion for fbsim in fish.
 
-set -l commands run check wave expect diff draw inspect explain help
+set -l commands run check wave expect diff draw inspect coverage explain help
 set -l refusals E01 E02 E03 E04 E05 E10 E11 E12 E13 E14 E15 E16 E20 E21 E22 E23 E24 E25 E26 E27 E28 E29 E30 E40 E41 E42 E43 E44 E45 L01 L02 L03 L04 L05 L06 L07 L08 L09 L10 L11 L12 L13 steps divide range "'file fault'"
 
 complete -c fbsim -n "not __fish_seen_subcommand_from $commands" -f
@@ -11,18 +11,19 @@ complete -c fbsim -n "not __fish_seen_subcommand_from $commands" -a expect -d "C
 complete -c fbsim -n "not __fish_seen_subcommand_from $commands" -a diff -d "Show where two traces first differ"
 complete -c fbsim -n "not __fish_seen_subcommand_from $commands" -a draw -d "Draw the application or a type"
 complete -c fbsim -n "not __fish_seen_subcommand_from $commands" -a inspect -d "Show what happens inside the blocks of a trace"
+complete -c fbsim -n "not __fish_seen_subcommand_from $commands" -a coverage -d "Report what traces leave out"
 complete -c fbsim -n "not __fish_seen_subcommand_from $commands" -a explain -d "Explain a refusal or a stop"
 complete -c fbsim -n "not __fish_seen_subcommand_from $commands" -a help -d "Print help"
 complete -c fbsim -s h -l help -d "Print help"
 complete -c fbsim -n "not __fish_seen_subcommand_from $commands" -s V -l version -d "Print the version"
 
-complete -c fbsim -n "__fish_seen_subcommand_from run check wave expect draw inspect" -l types -r -F -d "File with block types"
-complete -c fbsim -n "__fish_seen_subcommand_from run check wave expect draw inspect" -l deploy -r -F -d "Deployment in TOML"
+complete -c fbsim -n "__fish_seen_subcommand_from run check wave expect draw inspect coverage" -l types -r -F -d "File with block types"
+complete -c fbsim -n "__fish_seen_subcommand_from run check wave expect draw inspect coverage" -l deploy -r -F -d "Deployment in TOML"
 complete -c fbsim -n "__fish_seen_subcommand_from run check" -l stim -r -F -d "Stimuli in CSV"
 complete -c fbsim -n "__fish_seen_subcommand_from run check wave expect" -l why -d "Print the location of a refusal"
 complete -c fbsim -n "__fish_seen_subcommand_from check" -l lint -d "Report warnings about what is accepted"
 complete -c fbsim -n "__fish_seen_subcommand_from run" -l horizon -x -d "Tick at which the run ends"
-complete -c fbsim -n "__fish_seen_subcommand_from run inspect" -l steps -x -d "Most steps of a resource in one tick"
+complete -c fbsim -n "__fish_seen_subcommand_from run inspect coverage" -l steps -x -d "Most steps of a resource in one tick"
 complete -c fbsim -n "__fish_seen_subcommand_from run" -l workers -x -d "Number of threads"
 complete -c fbsim -n "__fish_seen_subcommand_from run" -l serial -d "Run on one agenda and one thread"
 complete -c fbsim -n "__fish_seen_subcommand_from run" -l progress -d "Report each hundredth of the horizon"
@@ -33,4 +34,4 @@ complete -c fbsim -n "__fish_seen_subcommand_from wave expect" -l cut -d "Accept
 complete -c fbsim -n "__fish_seen_subcommand_from draw" -l type -x -d "Name of a declared type"
 complete -c fbsim -n "__fish_seen_subcommand_from inspect" -l only -x -d "Path of an instance that is shown"
 complete -c fbsim -n "__fish_seen_subcommand_from explain" -f -a "$refusals"
-complete -c fbsim -n "__fish_seen_subcommand_from help" -f -a "run check wave expect diff draw inspect explain"
+complete -c fbsim -n "__fish_seen_subcommand_from help" -f -a "run check wave expect diff draw inspect coverage explain"

@@ -26,22 +26,23 @@ const HELP: &str =
     "Simulates IEC 61499-1 control applications in virtual time; one tick is a millisecond of it.\n\n\
     Usage: fbsim <COMMAND>\n\n\
     Commands:\n\
-    \x20 run      Runs an application and writes its trace to standard output.\n\
-    \x20 check    Prints `accepted` if a run would accept these files, otherwise the first fault.\n\
-    \x20 wave     Converts a trace to a value change dump, which waveform viewers read.\n\
-    \x20 expect   Checks rules against traces, and reports in the Test Anything Protocol.\n\
-    \x20 diff     Prints the first line in which two traces differ, or nothing if they are the same bytes.\n\
-    \x20 draw     Writes the application or a type to standard output as a graph that graphviz draws.\n\
-    \x20 inspect  Writes a trace to standard output with what happens inside the blocks between its lines.\n\
-    \x20 explain  Prints what a refusal or the reason of a stop means, two examples, and what to look at.\n\
-    \x20 help     Print this message or the help of the given subcommand(s)\n\n\
+    \x20 run       Runs an application and writes its trace to standard output.\n\
+    \x20 check     Prints `accepted` if a run would accept these files, otherwise the first fault.\n\
+    \x20 wave      Converts a trace to a value change dump, which waveform viewers read.\n\
+    \x20 expect    Checks rules against traces, and reports in the Test Anything Protocol.\n\
+    \x20 diff      Prints the first line in which two traces differ, or nothing if they are the same bytes.\n\
+    \x20 draw      Writes the application or a type to standard output as a graph that graphviz draws.\n\
+    \x20 inspect   Writes a trace to standard output with what happens inside the blocks between its lines.\n\
+    \x20 coverage  Reports the states, transitions, algorithms and events that traces do not cover.\n\
+    \x20 explain   Prints what a refusal or the reason of a stop means, two examples, and what to look at.\n\
+    \x20 help      Print this message or the help of the given subcommand(s)\n\n\
     Options:\n\
     \x20 -h, --help     Print help\n\
     \x20 -V, --version  Print version\n\n\
     Example: fbsim run cell.iec --deploy cell.toml --stim cell.csv --horizon 1000\n";
 
 const NO_COMMAND: &str = "error: 'fbsim' requires a subcommand but one was not provided\n\
-    \x20 [subcommands: run, check, wave, expect, diff, draw, inspect, explain, help]\n\n\
+    \x20 [subcommands: run, check, wave, expect, diff, draw, inspect, coverage, explain, help]\n\n\
     Usage: fbsim <COMMAND>\n\nFor more information, try '--help'.\n";
 
 const NO_HORIZON: &str = "error: the following required arguments were not provided:\n\

@@ -1,4 +1,4 @@
-use Rattle.std.proofs.Common.{◌≡◌, ◌++◌, ℕ, List, None, Ok, Option, Some, refl, ap, subst, ◌∙◌}
+use Rattle.std.proofs.Common.{◌≡◌, ◌<◌, ◌++◌, ℕ, length, List, None, Ok, Option, Some, refl, ap, subst, ◌∙◌}
 use Rattle.std.specs.Prelude.{IfNone, IfSome, option_map}
 use Rattle.fb_types.specs.Charts.{Position, actions_of, trial_at}
 use Rattle.fb_types.specs.Names.{Name}
@@ -8,13 +8,16 @@ use Rattle.fb_st.specs.Frames.{values_of}
 use Rattle.fb_ecc.specs.Indexes.{state_at}
 use Rattle.fb_ecc.specs.Steps.{IsFirst, trial_by}
 use Rattle.fb_ecc.specs.Trials.{transition_at}
-use Rattle.fb_inspect.specs.Chains.{Acting}
+use Rattle.fb_inspect.specs.Chains.{Acting, Clears_by}
 use Rattle.fb_inspect.specs.Charting.{ChartGoes, place}
+use Rattle.fb_inspect.specs.Markings.{PieceMarks}
 use Rattle.fb_inspect.specs.Moves.{shown_text}
 use Rattle.fb_inspect.specs.Notes.{lost_if}
 use Rattle.fb_inspect.specs.declared.blocks.Chart.{Chart}
 use Rattle.fb_inspect.specs.declared.trail.Trail.{Trail}
 use Rattle.fb_inspect.proofs.Charted.{link_failed, link_rested, link_stopped, link_went}
+use Rattle.fb_inspect.proofs.Marked.{cleared_at}
+use Rattle.fb_inspect.proofs.Moving.{aside}
 use Rattle.fb_inspect.proofs.Placed.{entered_at, lost_any, moved_at}
 use Rattle.fb_inspect.proofs.charts.link.Goals as goal
 
@@ -45,7 +48,7 @@ returns-in_ok-note_lost-in-Ok-None-clause-linked g c =
     let stays = subst (λ (o : Option ℕ). IfNone o (now.state ≡ was.state)) c.in-Ok-None.field-0-is c.in-Ok-None.ensures.stays in
     let tried = subst (λ (o : Option ℕ). trial_at t (option_map f c.args.present) p ≡ trial_by t (Ok o) c.clear.new.meter.left) c.in-Ok-None.field-0-is c.in-Ok-None.ensures.trial in
     let at = moved_at t was.state now.state was.frame now.frame c.args.meter.now.left c.clear.new.meter.left stays c.in-Ok-None.ensures.frame in
-    link_rested x (option_map f c.args.present) c.clear.new.meter.left p (place t cleared c.clear.new.meter.left) trail noted (g.R.Read.remaining c.args.input.now) tried at refl refl refl
+    link_rested x (option_map f c.args.present) c.clear.new.meter.left p (place t cleared c.clear.new.meter.left) trail noted (g.R.Read.remaining c.args.input.now) tried at refl (aside trail noted refl refl) refl refl
     (c.in_ok-note_lost-in-Ok-None.ensures
     ∙ ap (λ (n : Name). old ++ shown_text trail.is_shown (lost_if c.args.present n)) (c.state_name-state.ensures ∙ ap (state_at t) stays)
     ∙ ap (λ (z : List ℕ). old ++ shown_text trail.is_shown z) (lost_any c.args.present f (state_at t was.state)))
@@ -60,7 +63,7 @@ returns-in-Some-clause-linked g c =
     let present = option_map (event_at t.ports.event_inputs) c.args.present in
     let p : Position = place t c.args.chart.now c.args.meter.now.left in
     let cleared : Chart = record (c.args.chart.now) { state = now } in
-    let noted : Trail = record trail { page = record (trail.page) { text = c.note_cleared.new.text } } in
+    let noted : Trail = record trail { page = record (trail.page) { text = c.note_cleared.new.text }; marks = record (trail.marks) { charts = c.mark_cleared.new.self } } in
     let y = transition_at t c.in-Ok-Some.index in
     let m : Position = place t cleared c.clear.new.meter.left in
     let q : Position = place t c.perform_all.new.chart c.perform_all.new.meter.left in
@@ -69,8 +72,11 @@ returns-in-Some-clause-linked g c =
     let tried = subst (λ (o : Option ℕ). trial_at t present p ≡ trial_by t (Ok o) c.clear.new.meter.left) c.in-Ok-Some.field-0-is c.in-Ok-Some.ensures.trial in
     let first = subst (λ (o : Option ℕ). IfSome o (IsFirst t (state_at t was.state) present (values_of was.frame))) c.in-Ok-Some.field-0-is c.in-Ok-Some.ensures.first in
     let entered = subst (λ (o : Option ℕ). IfSome o (λ k. state_at t now.state ≡ (transition_at t k).to)) c.in-Ok-Some.field-0-is c.in-Ok-Some.ensures.entered in
+    let within = subst (λ (o : Option ℕ). IfSome o (λ k. k < length t.transitions)) c.in-Ok-Some.field-0-is c.in-Ok-Some.ensures.within in
+    let mark : PieceMarks t x.number x.line.now.event (Clears_by y) trail.marks.charts noted.marks.charts =
+    (c.in-Ok-Some.index, now.state, cleared_at t c.in-Ok-Some.index within, entered, c.mark_cleared.ensures) in
     let at = entered_at t was.state now.state was.frame now.frame c.args.meter.now.left c.clear.new.meter.left y.to entered c.in-Ok-Some.ensures.frame in
-    link_stopped x present y y.to c.clear.new.meter.left c.in-Some.reason p m q trail noted c.perform_all.new.trail left after tried first refl refl c.in_ok-note_cleared-in-Ok-Some.ensures at
+    link_stopped x present y y.to c.clear.new.meter.left c.in-Some.reason p m q trail noted c.perform_all.new.trail left after tried first (aside trail noted refl refl) mark refl c.in_ok-note_cleared-in-Ok-Some.ensures at
     (subst (λ (n : Name). ChartGoes x (Acting t (actions_of t n)) m (Some c.in-Some.reason) q noted c.perform_all.new.trail left after) entered
     (subst (λ (o : Option Reason). ChartGoes x (Acting t (actions_of t (state_at t now.state))) m o q noted c.perform_all.new.trail left after) c.in-Some.is
     c.in_ok-reason-in-Ok-Some.ensures.shown))
@@ -85,7 +91,7 @@ returns-in-None-clause-linked g c =
     let present = option_map (event_at t.ports.event_inputs) c.args.present in
     let p : Position = place t c.args.chart.now c.args.meter.now.left in
     let cleared : Chart = record (c.args.chart.now) { state = now } in
-    let noted : Trail = record trail { page = record (trail.page) { text = c.note_cleared.new.text } } in
+    let noted : Trail = record trail { page = record (trail.page) { text = c.note_cleared.new.text }; marks = record (trail.marks) { charts = c.mark_cleared.new.self } } in
     let y = transition_at t c.in-Ok-Some.index in
     let m : Position = place t cleared c.clear.new.meter.left in
     let q : Position = place t c.perform_all.new.chart c.perform_all.new.meter.left in
@@ -94,8 +100,11 @@ returns-in-None-clause-linked g c =
     let tried = subst (λ (o : Option ℕ). trial_at t present p ≡ trial_by t (Ok o) c.clear.new.meter.left) c.in-Ok-Some.field-0-is c.in-Ok-Some.ensures.trial in
     let first = subst (λ (o : Option ℕ). IfSome o (IsFirst t (state_at t was.state) present (values_of was.frame))) c.in-Ok-Some.field-0-is c.in-Ok-Some.ensures.first in
     let entered = subst (λ (o : Option ℕ). IfSome o (λ k. state_at t now.state ≡ (transition_at t k).to)) c.in-Ok-Some.field-0-is c.in-Ok-Some.ensures.entered in
+    let within = subst (λ (o : Option ℕ). IfSome o (λ k. k < length t.transitions)) c.in-Ok-Some.field-0-is c.in-Ok-Some.ensures.within in
+    let mark : PieceMarks t x.number x.line.now.event (Clears_by y) trail.marks.charts noted.marks.charts =
+    (c.in-Ok-Some.index, now.state, cleared_at t c.in-Ok-Some.index within, entered, c.mark_cleared.ensures) in
     let at = entered_at t was.state now.state was.frame now.frame c.args.meter.now.left c.clear.new.meter.left y.to entered c.in-Ok-Some.ensures.frame in
-    link_went x present y y.to c.clear.new.meter.left p m q trail noted c.perform_all.new.trail left after tried first refl refl c.in_ok-note_cleared-in-Ok-Some.ensures at refl
+    link_went x present y y.to c.clear.new.meter.left p m q trail noted c.perform_all.new.trail left after tried first (aside trail noted refl refl) mark refl c.in_ok-note_cleared-in-Ok-Some.ensures at refl
     (subst (λ (n : Name). ChartGoes x (Acting t (actions_of t n)) m None q noted c.perform_all.new.trail left after) entered
     (subst (λ (o : Option Reason). ChartGoes x (Acting t (actions_of t (state_at t now.state))) m o q noted c.perform_all.new.trail left after) c.in-None.is
     c.in_ok-reason-in-Ok-Some.ensures.shown))

@@ -8,7 +8,10 @@ use Rattle.fb_ecc.specs.Indexes.{index}
 use Rattle.fb_inspect.specs.Charting.{place}
 use Rattle.fb_inspect.specs.Moves.{shown_text}
 use Rattle.fb_inspect.specs.Notes.{ran_by_action}
+use Rattle.fb_inspect.specs.Markings.{with_ran_by}
+use Rattle.fb_inspect.specs.declared.trail.Trail.{Trail}
 use Rattle.fb_inspect.proofs.Charted.{act_goes}
+use Rattle.fb_inspect.proofs.Moving.{aside}
 use Rattle.fb_inspect.proofs.charts.perform.Goals as goal
 
 pub note_ran-requires : goal.note_ran-requires
@@ -32,4 +35,8 @@ returns-clause-shown g c = λ a at.
     let noted = c.in_ok-note_ran.ensures before (λ some. c.in_ok-keep_before.ensures some ∙ ap (λ (ns : List Name). map before ns) c.as_slice-variables.ensures.value)
     ∙ ap (λ (n : Option Name). c.args.trail.now.page.text.items ++ shown_text c.args.trail.now.is_shown (ran_by_action n left before after own)) (c.algorithm_of-algorithm.ensures a at)
     ∙ ap (λ (ns : List Name). c.args.trail.now.page.text.items ++ shown_text c.args.trail.now.is_shown (ran_by_action a.algorithm left before after ns)) c.requires.chart.own in
-    act_goes x t a p q c.acted.new.emits _ c.args.trail.now _ _ _ _ c.requires.taking.kind refl refl acts refl refl noted c.in_ok-emit_all.ensures.goes
+    let trail : Trail = c.args.trail.now in
+    let marked : Trail = record trail { page = record (trail.page) { text = c.note_ran.new.text }; marks = record (trail.marks) { charts = c.mark_algorithm.new.marks } } in
+    act_goes x t a p q c.acted.new.emits _ trail marked _ _ _ c.requires.taking.kind refl refl acts (aside trail marked refl refl)
+    (c.mark_algorithm.ensures ∙ ap (λ (n : Option Name). with_ran_by t x.number n left trail.marks.charts) (c.algorithm_of-algorithm.ensures a at))
+    c.in_ok-emit_all.ensures.charts refl noted c.in_ok-emit_all.ensures.goes

@@ -9,6 +9,7 @@ use Rattle.fb_inspect.specs.Chains.{ShowsChain}
 use Rattle.fb_inspect.specs.Charting.{ChartGoes, place}
 use Rattle.fb_inspect.specs.declared.trail.Trail.{Trail}
 use Rattle.fb_inspect.proofs.Charted.{begun_at, reaction_goes}
+use Rattle.fb_inspect.proofs.Moving.{aside}
 use Rattle.fb_inspect.proofs.charts.react_chart.Goals as goal
 
 pub returns-clause-shown : goal.returns-clause-shown
@@ -28,5 +29,5 @@ returns-clause-shown g c =
     let noted : Trail = record new { page = record (new.page) { text = c.note_stop.new.text } } in
     let before = g.R.Read.remaining c.args.input.now in
     let after = g.R.Read.remaining c.follow.new.input in
-    reaction_goes x e p q c.in_ok-end.end c.args.trail.now new noted before after refl refl c.in_ok-note_stop.ensures
+    reaction_goes x e p q c.in_ok-end.end c.args.trail.now new noted before after (aside new noted refl refl) refl refl c.in_ok-note_stop.ensures
     (subst (λ (m : Position). ChartGoes x (ShowsChain t (Some e)) m c.in_ok-end.end q c.args.trail.now new before after) at c.in_ok-end.ensures.shown)

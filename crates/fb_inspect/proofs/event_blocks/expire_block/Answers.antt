@@ -1,6 +1,7 @@
 use Rattle.std.proofs.Common.{refl}
 use Rattle.fb_types.specs.Headline.{system_of}
 use Rattle.fb_event.specs.Seen.{seen_memory}
+use Rattle.fb_inspect.proofs.Moving.{aside}
 use Rattle.fb_inspect.proofs.Timed.{timer_goes}
 use Rattle.fb_inspect.proofs.event_blocks.expire_block.Goals as goal
 
@@ -11,4 +12,4 @@ returns-clause-turned g c = λ s kept.
     (c.in_ok-expire_to.ensures c.if-not-branch.false)
     (record { memory_is = c.seen_of-before.ensures.memory; due_is = c.seen_of-before.ensures.due })
     (record { memory_is = c.seen_of-after.ensures.memory; due_is = c.seen_of-after.ensures.due })
-    c.in_ok-pass.ensures.goes refl refl c.in_ok-note_change.ensures
+    c.in_ok-pass.ensures.goes (aside _ _ refl refl) refl c.in_ok-note_change.ensures

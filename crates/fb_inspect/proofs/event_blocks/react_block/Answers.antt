@@ -6,6 +6,7 @@ use Rattle.fb_event.specs.Seen.{seen_memory}
 use Rattle.fb_wave.proofs.Handing.{on_ok}
 use Rattle.fb_inspect.specs.Timing.{HasReacted, inputs_after}
 use Rattle.fb_inspect.specs.declared.trail.Trail.{Trail}
+use Rattle.fb_inspect.proofs.Moving.{aside}
 use Rattle.fb_inspect.proofs.Timed.{block_goes, fits_after}
 use Rattle.fb_inspect.proofs.event_blocks.react_block.Goals as goal
 
@@ -33,4 +34,4 @@ returns-clause-turned g c = λ s kept.
     (g.R.Read.remaining c.args.input.now) (g.R.Read.remaining c.emit_all.new.input) has
     (record { memory_is = before.ensures.memory; due_is = before.ensures.due })
     (record { memory_is = after.ensures.memory; due_is = after.ensures.due })
-    refl refl c.in_ok-note_change.ensures goes)
+    (aside trail noted refl refl) refl c.in_ok-note_change.ensures goes)

@@ -1,15 +1,10 @@
-use Rattle.std.proofs.Common.{◌≡◌, Option, Some, subst}
+use Rattle.std.proofs.Common.{subst}
 use Rattle.std.specs.Prelude.{IfSome, OnErr, OnOk}
 use Rattle.fb_types.specs.Headline.{Inputs, system_of}
-use Rattle.fb_wave.specs.Tables.{IsTable}
-use Rattle.fb_wave.specs.declared.table.PortTable.{PortTable}
 use Rattle.fb_inspect.specs.Inspections.{IsShown, ShowsFront}
 use Rattle.fb_inspect.proofs.Gone.{front_none}
-use Rattle.fb_inspect.proofs.Placed.{err_any}
+use Rattle.fb_inspect.proofs.Placed.{err_any, of_table}
 use Rattle.fb_inspect.proofs.insides.inspect.Goals as goal
-
-of_table : (o : Option PortTable) (t : PortTable) (s : Inputs) → o ≡ Some t → IfSome o (λ t. IsTable t × (t.system.now ≡ s)) → t.system.now ≡ s
-of_table o t s is are = (subst (λ (o : Option PortTable). IfSome o (λ t. IsTable t × (t.system.now ≡ s))) is are).1
 
 pub returns-then-not-have_paths-clause-fault : goal.returns-then-not-have_paths-clause-fault
 returns-then-not-have_paths-clause-fault g c =

@@ -22,14 +22,14 @@ pub go-requires-clause-starts : goal.go-requires-clause-starts
 go-requires-clause-starts g c =
     let sys = system_of c.args.table.now.system.now in (
       c.args.inspection.only.now,
-      starts_of sys _ c.args.inspection.only.now c.in_ok-reading.reading c.in_ok-walk.walk c.in_ok-walk.ensures c.in_ok-reading.ensures.next,
+      starts_of sys _ c.args.inspection.only.now _ c.in_ok-reading.reading c.in_ok-walk.walk c.in_ok-walk.ensures c.in_ok-reading.ensures.next,
     )
 
 pub returns-clause-whole : goal.returns-clause-whole
 returns-clause-whole g c =
     let sys = system_of c.args.table.now.system.now in
     let only = c.args.inspection.only.now in
-    let starts = starts_of sys _ only c.in_ok-reading.reading c.in_ok-walk.walk c.in_ok-walk.ensures c.in_ok-reading.ensures.next in
+    let starts = starts_of sys _ only _ c.in_ok-reading.reading c.in_ok-walk.walk c.in_ok-walk.ensures c.in_ok-reading.ensures.next in
     c.go.ensures.whole only (g.R.Read.remaining c.args.input.now) starts
     (subst (Consumes (g.R.Read.remaining c.args.input.now) (g.R.Read.remaining c.next_line.new.input))
     (sym (ap (λ (r : Reading). r.line.items) c.in_ok-walk.ensures.reading_is ∙ c.in_ok-reading.ensures.line)) c.in-Ok.ensures.read)
@@ -38,4 +38,4 @@ pub returns-clause-fault : goal.returns-clause-fault
 returns-clause-fault g c =
     let sys = system_of c.args.table.now.system.now in
     let only = c.args.inspection.only.now in
-    c.go.ensures.fault only (starts_of sys _ only c.in_ok-reading.reading c.in_ok-walk.walk c.in_ok-walk.ensures c.in_ok-reading.ensures.next)
+    c.go.ensures.fault only (starts_of sys _ only _ c.in_ok-reading.reading c.in_ok-walk.walk c.in_ok-walk.ensures c.in_ok-reading.ensures.next)

@@ -22,6 +22,6 @@ returns-in_ok-pass-in-Composite-clause-goes g c = λ look kept.
     let left = c.args.meter.now.left in
     let before = g.R.Read.remaining c.args.input.now in
     let after = g.R.Read.remaining c.pass.new.input in
-    subst (λ (r : Remembered). KeptGoes sys form look left l None r left c.args.trail.now c.pass.new.self before after) (sym c.in-Composite.is)
-    (composite_goes sys form look left l c.args.trail.now c.pass.new.self before after
+    subst (λ (r : Remembered). KeptGoes c.args.fixed.now.table.now.system.now.library.blocks sys form look left l None r left c.args.trail.now c.pass.new.self before after) (sym c.in-Composite.is)
+    (composite_goes c.args.fixed.now.table.now.system.now.library.blocks sys form look left l c.args.trail.now c.pass.new.self before after c.in_ok-pass-in-Composite.ensures.charts
     (subst (λ (r : Remembered). IsKept (sys.kind p) r (look.blocks p)) c.in-Composite.is kept) c.in_ok-pass-in-Composite.ensures.goes)

@@ -5,6 +5,7 @@ use Rattle.fbsim_line.specs.declared.line.LineFault.{LineFault}
 use Rattle.fbsim_line.specs.declared.line.Call.{Call}
 use Rattle.fbsim_command.specs.Command.{Does, Performs}
 use Rattle.fbsim_command.specs.Drawing.{Draws}
+use Rattle.fbsim_command.specs.Covering.{ReportsCoverage}
 use Rattle.fbsim_command.specs.Inspecting.{ShowsInsides}
 use Rattle.fbsim_command.specs.Showing.{Shows}
 use Rattle.fbsim_command.specs.Outcomes.{End}
@@ -79,6 +80,18 @@ returns-in-Ok-Inspect g c =
     (λ (end : End) (reports : Text) (note : Option Text). Does g.S.Source.gives g.S.Streams.opens c.args.source.now c.show_insides.new.source words old new end reports note)
     (inr (inr (inr (inr (inr (inr (inl (c.in-Ok-Inspect.call, c.in-Ok-Inspect.types, asked, c.in-Ok-Inspect.ensures.taken, shown, refl, refl))))))))
 
+pub returns-in-Ok-Coverage : goal.returns-in-Ok-Coverage
+returns-in-Ok-Coverage g c =
+    let words = map (λ (w : Bor (List ℕ)). w.now) c.args.words.now in
+    let old = g.W.Write.contents c.args.out.now in
+    let new = g.W.Write.contents c.show_coverage.new.out in
+    let asked = subst (λ (r : Call). AreCall words r) c.in-Ok-Coverage.field-0-is c.in-Ok-Coverage.ensures.call in
+    let shown = subst (λ (ns : List (Bor Text)). ReportsCoverage g.S.Source.gives g.S.Streams.opens c.args.source.now c.show_coverage.new.source (map (λ (n : Bor Text). n.now) ns) c.in-Ok-Coverage.call old new c.show_coverage.result)
+    c.as_slice-in-Ok-Coverage.ensures.value c.show_coverage.ensures in
+    ended_so c.ended-in-Ok-Coverage.result c.show_coverage.result c.ended-in-Ok-Coverage.ensures (g.E.Write.contents c.args.err.now)
+    (λ (end : End) (reports : Text) (note : Option Text). Does g.S.Source.gives g.S.Streams.opens c.args.source.now c.show_coverage.new.source words old new end reports note)
+    (inr (inr (inr (inr (inr (inr (inr (inl (c.in-Ok-Coverage.call, c.in-Ok-Coverage.types, asked, c.in-Ok-Coverage.ensures.taken, shown, refl, refl)))))))))
+
 pub returns-in-Err-Help : goal.returns-in-Err-Help
 returns-in-Err-Help g c =
     let words = map (λ (w : Bor (List ℕ)). w.now) c.args.words.now in
@@ -88,7 +101,7 @@ returns-in-Err-Help g c =
     let help : IsHelp c.in-Err-Help.field-0 = subst (λ (x : LineFault). IsHelp x) (sym c.in-Err-Help.field-0-is) tt in
     ended_so c.ended-in-Err-Help.result c.help_to.result c.ended-in-Err-Help.ensures (g.E.Write.contents c.args.err.now)
     (λ (end : End) (reports : Text) (note : Option Text). Does g.S.Source.gives g.S.Streams.opens source source words old new end reports note)
-    (inr (inr (inr (inr (inr (inr (inr (helped words old new c.as_str.result.now (c.in-Err-Help.ensures.help help) c.help_to.result c.help_to.ensures.whole c.help_to.ensures.part, (refl, refl, refl)))))))))
+    (inr (inr (inr (inr (inr (inr (inr (inr (helped words old new c.as_str.result.now (c.in-Err-Help.ensures.help help) c.help_to.result c.help_to.ensures.whole c.help_to.ensures.part, (refl, refl, refl))))))))))
 
 pub returns-in-Err-Fault : goal.returns-in-Err-Fault
 returns-in-Err-Fault g c =
@@ -98,7 +111,7 @@ returns-in-Err-Fault g c =
     let fault : IsFault c.in-Err-Fault.field-0 = subst (λ (x : LineFault). IsFault x) (sym c.in-Err-Fault.field-0-is) tt in
     ended_so c.ended-in-Err-Fault.result (Err (Line _)) c.ended-in-Err-Fault.ensures (g.E.Write.contents c.args.err.now)
     (λ (end : End) (reports : Text) (note : Option Text). Does g.S.Source.gives g.S.Streams.opens source source words old old end reports note)
-    (inr (inr (inr (inr (inr (inr (inr ((c.in-Err-Fault.ensures.none fault, refl), (refl, refl, refl)))))))))
+    (inr (inr (inr (inr (inr (inr (inr (inr ((c.in-Err-Fault.ensures.none fault, refl), (refl, refl, refl))))))))))
 
 pub returns-in-Err-Memory : goal.returns-in-Err-Memory
 returns-in-Err-Memory g c =
@@ -107,4 +120,4 @@ returns-in-Err-Memory g c =
     let old = g.W.Write.contents c.args.out.now in
     ended_so c.ended-in-Err-Memory.result (Err Memory) c.ended-in-Err-Memory.ensures (g.E.Write.contents c.args.err.now)
     (λ (end : End) (reports : Text) (note : Option Text). Does g.S.Source.gives g.S.Streams.opens source source words old old end reports note)
-    (inr (inr (inr (inr (inr (inr (inr (refl, (refl, refl, refl)))))))))
+    (inr (inr (inr (inr (inr (inr (inr (inr (refl, (refl, refl, refl))))))))))

@@ -2,7 +2,7 @@ use Rattle.std.proofs.Common.{rules, ◌≡◌, ◌∙◌, sym, subst, codes}
 use Rattle.std.specs.Prelude.{IfSome}
 use Rattle.clap.specs.Words.{Text, found_of, rows_of}
 use Rattle.fbsim_line.specs.Line.{call_name}
-use Rattle.fbsim_line.proofs.LineLaws.{no_diff, no_draw, no_expect, no_inspect, no_name, no_other_call, no_wave, ok_some, ok_none, when_none}
+use Rattle.fbsim_line.proofs.LineLaws.{no_coverage, no_diff, no_draw, no_expect, no_inspect, no_name, no_other_call, no_wave, ok_some, ok_none, when_none}
 use Rattle.fbsim_line.proofs.line.call_of.Goals as goal
 
 pub returns-in-explain-clause-name : goal.returns-in-explain-clause-name
@@ -45,6 +45,16 @@ returns-in-draw-clause-none c =
     let named : c.args.name.now ≡ codes "draw" = search rules in
     ok_none c.draw_of.result _ _ (no_draw (rows_of (found_of c.args.found.now)) c.args.name.now named) c.draw_of.ensures.none
 
+pub returns-in-coverage-clause-name : goal.returns-in-coverage-clause-name
+returns-in-coverage-clause-name c =
+    let named : c.args.name.now ≡ codes "coverage" = search rules in
+    ok_some c.coverage_of.result _ _ (λ r is. named ∙ is) c.coverage_of.ensures.name
+
+pub returns-in-coverage-clause-none : goal.returns-in-coverage-clause-none
+returns-in-coverage-clause-none c =
+    let named : c.args.name.now ≡ codes "coverage" = search rules in
+    ok_none c.coverage_of.result _ _ (no_coverage (rows_of (found_of c.args.found.now)) c.args.name.now named) c.coverage_of.ensures.none
+
 pub returns-in-inspect-clause-name : goal.returns-in-inspect-clause-name
 returns-in-inspect-clause-name c =
     let named : c.args.name.now ≡ codes "inspect" = search rules in
@@ -69,5 +79,5 @@ pub returns-in_default-clause-none : goal.returns-in_default-clause-none
 returns-in_default-clause-none c =
     ok_none c.task_call.result _ _
     (no_other_call (rows_of (found_of c.args.found.now)) c.args.name.now c.in_default.not-explain c.in_default.not-wave c.in_default.not-expect c.in_default.not-diff
-    c.in_default.not-draw c.in_default.not-inspect)
+    c.in_default.not-draw c.in_default.not-inspect c.in_default.not-coverage)
     c.task_call.ensures.none

@@ -18,4 +18,5 @@ returns c =
     let compares = joined_on _ _ _ _ _ c.with_subcommand-command-5.ensures holds (stands_well _ _ c.diff_command.ensures.app c.diff_command.ensures.globals) in
     let draws = joined_on _ _ _ _ _ c.with_subcommand-command-6.ensures compares (stands_well _ _ c.draw_command.ensures.app c.draw_command.ensures.globals) in
     let inspects = joined_on _ _ _ _ _ c.with_subcommand-command-7.ensures draws (stands_well _ _ c.inspect_command.ensures.app c.inspect_command.ensures.globals) in
-    joined_on _ _ _ _ _ c.with_subcommand.ensures inspects (stands_well _ _ c.explain.ensures.app c.explain.ensures.globals)
+    let covers = joined_on _ _ _ _ _ c.with_subcommand-command-8.ensures inspects (stands_well _ _ c.coverage_command.ensures.app c.coverage_command.ensures.globals) in
+    joined_on _ _ _ _ _ c.with_subcommand.ensures covers (stands_well _ _ c.explain.ensures.app c.explain.ensures.globals)

@@ -6,7 +6,7 @@ use Rattle.fb_types.specs.declared.key.Key.{Key}
 use Rattle.fb_wave.proofs.Handing.{on_ok}
 use Rattle.fb_inspect.specs.Moves.{Goes, shown_text}
 use Rattle.fb_inspect.specs.declared.trail.Trail.{Trail}
-use Rattle.fb_inspect.proofs.Moving.{goes_same}
+use Rattle.fb_inspect.proofs.Moving.{aside, goes_same}
 use Rattle.fb_inspect.proofs.trail.Trail.emit.Goals as goal
 
 pub returns-clause-goes : goal.returns-clause-goes
@@ -25,6 +25,6 @@ returns-clause-goes g c =
     (λ goes. (
       l,
       is,
-      goes_same sys form c.args.line.now.key.tick (l ∷ []) bytes cut old new left after refl refl refl
+      goes_same sys form c.args.line.now.key.tick (l ∷ []) bytes cut old new left after (aside old cut refl refl) refl refl
           (subst (λ (k : Key). Goes sys form k.tick (l ∷ []) bytes cut new left after) is.key goes),
     ))

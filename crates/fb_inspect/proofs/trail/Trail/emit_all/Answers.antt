@@ -7,6 +7,7 @@ use Rattle.fb_inspect.proofs.trail.Trail.emit_all.Goals as goal
 pub loop-emission-init : goal.loop-emission-init
 loop-emission-init g c = record {
   next = c.requires.next;
+  charts = refl;
   came = ([], refl, emits_none (system_of c.args.fixed.now.table.now.system.now) c.args.fixed.now.form c.args.line.now c.args.self.now (g.R.Read.remaining c.args.input.now));
 }
 
@@ -18,6 +19,7 @@ loop-emission-preserved g c =
     let one = c.in_ok-emit.ensures.goes in
     record {
       next = c.in_ok-emit.ensures.next;
+      charts = c.in_ok-emit.ensures.charts ∙ inv.charts;
       came = (
         es ++ e ∷ [],
         inv.came.1 ∙ ap (λ (xs : List run.Emission). es ++ xs) c.in-Some.ensures ∙ sym (append_assoc es (e ∷ []) c.pop_first.new.self),

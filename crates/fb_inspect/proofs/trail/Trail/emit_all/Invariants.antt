@@ -9,6 +9,7 @@ use Rattle.fb_inspect.proofs.trail.Trail.emit_all.Given as goal
 abbrev pub invariant-loop-emission : goal.invariant-loop-emission
 invariant-loop-emission g l = record {
   next : IsNext (system_of l.fixed.table.now.system.now) l.fixed.form l.line.key.tick l.self.reading.line.items l.self.reading.next;
+  charts : l.self.marks.charts ≡ l.fn.self.marks.charts;
   came : (es : List run.Emission) × (l.fn.emits ≡ es ++ l.emits)
       × EmitsGo (system_of l.fixed.table.now.system.now) l.fixed.form l.line es l.fn.self l.self (g.R.Read.remaining l.fn.input) (g.R.Read.remaining l.input);
 }

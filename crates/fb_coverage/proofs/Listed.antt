@@ -1,0 +1,80 @@
+-- Texts, rows and counts that grow by one element of a list after another.
+use Rattle.std.proofs.Common.{◌≡◌, ◌<◌, ◌≤◌, ◌+◌, ℕ, Bool, List, [], ◌∷◌, ◌++◌, drop, get_or, length, map, take, zero, suc, None, refl, sym, ◌∙◌, ap, append_assoc, append-nil}
+use Rattle.std.specs.Prelude.{OnOk, Result, Ok, Err, if◌then◌else◌, is_ok, slice_get, slice_set, unwrap_or}
+use Rattle.std.proofs.lemmas.List.{at_drop_all, at_drop_more, map-append, take_all, take_more}
+use Rattle.std.proofs.lemmas.Option.{get_or_from_slice_get, unwrap_or-slice_get}
+use Rattle.fb_types.proofs.ByIndex.{element_at}
+use Rattle.fb_coverage.specs.Reports.{listed}
+use Rattle.fb_coverage.specs.Shares.{with_row, with_rows}
+use Rattle.fb_coverage.specs.declared.share.Share.{Share}
+
+-- ---- Texts
+
+-- one element of a list adds its text
+pub listed_next :
+    {A : Type 0} (f : ℕ → A → List ℕ) (xs : List A) (i : ℕ) (x : A) (old new all : List ℕ) → i < length xs → x ≡ get_or xs i x → new ≡ old ++ f i x
+    → old ++ listed f i (drop i xs) ≡ all → new ++ listed f (i + 1) (drop (i + 1) xs) ≡ all
+listed_next {A} f xs i x old new all within is added before =
+    let rest : List ℕ = listed f (i + 1) (drop (i + 1) xs) in
+    let here : listed f i (drop i xs) ≡ f i x ++ rest =
+    at_drop_more (λ (ys : List A). listed f i ys) xs i x within ∙ ap (λ (y : A). listed f i (y ∷ drop (i + 1) xs)) (sym is) in
+    ap (λ (ys : List ℕ). ys ++ rest) added ∙ append_assoc old (f i x) rest ∙ ap (λ (ys : List ℕ). old ++ ys) (sym here) ∙ before
+
+-- no element is left
+pub listed_done :
+    {A : Type 0} (f : ℕ → A → List ℕ) (xs : List A) (i : ℕ) (new all : List ℕ) → length xs ≤ i → new ++ listed f i (drop i xs) ≡ all → new ≡ all
+listed_done {A} f xs i new all past before =
+    sym (append-nil new) ∙ ap (λ (ys : List ℕ). new ++ ys) (sym (at_drop_all (λ (ys : List A). listed f i ys) xs i past)) ∙ before
+
+-- ---- Elements by their numbers
+
+-- the element at a number, which is within
+pub here_is : {A : Type 0} (xs : List A) (i : ℕ) (d : A) → i < length xs → unwrap_or (slice_get xs i) d ≡ get_or xs i (unwrap_or (slice_get xs i) d)
+here_is {A} xs i d within =
+    let one = element_at xs i within in
+    let same : unwrap_or (slice_get xs i) d ≡ one.0 = ap (λ o. unwrap_or o d) one.1 in
+    same ∙ sym (get_or_from_slice_get xs i one.0 (unwrap_or (slice_get xs i) d) one.1)
+
+pub mapped_more :
+    {A B : Type 0} (f : A → B) (xs : List A) (i : ℕ) (d : A) (old new : List B) → i < length xs → old ≡ map f (take i xs) → new ≡ old ++ f (unwrap_or (slice_get xs i) d) ∷ []
+    → new ≡ map f (take (i + 1) xs)
+mapped_more {A} {B} f xs i d old new within before added =
+    added ∙ ap (λ (ys : List B). ys ++ f (unwrap_or (slice_get xs i) d) ∷ []) before
+    ∙ ap (λ (y : A). map f (take i xs) ++ f y ∷ []) (unwrap_or-slice_get xs i d)
+    ∙ sym (map-append f (take i xs) (get_or xs i d ∷ []))
+    ∙ ap (map f) (sym (take_more xs i d within))
+
+pub mapped_all : {A B : Type 0} (f : A → B) (xs : List A) (i : ℕ) (new : List B) → length xs ≤ i → new ≡ map f (take i xs) → new ≡ map f xs
+mapped_all f xs i new past before = before ∙ ap (map f) (take_all i xs past)
+
+-- nothing is written past the end
+pub set_none : {A : Type 0} (xs : List A) (i : ℕ) (v : A) → slice_get xs i ≡ None → slice_set xs i v ≡ xs
+set_none [] i v none = refl
+set_none (x ∷ xs) zero v none = absurd (cc)
+set_none {A} (x ∷ xs) (suc i) v none = ap (λ (ys : List A). x ∷ ys) (set_none xs i v none)
+
+-- ---- Counts
+
+pub rows_next :
+    (rows : List (List Bool)) (i : ℕ) (r : List Bool) (old new all : Share) → i < length rows → r ≡ get_or rows i r → new ≡ with_row old r → with_rows old (drop i rows) ≡ all
+    → with_rows new (drop (i + 1) rows) ≡ all
+rows_next rows i r old new all within is counted before =
+    let rest : List (List Bool) = drop (i + 1) rows in
+    ap (λ (s : Share). with_rows s rest) counted
+    ∙ sym (at_drop_more (λ (ys : List (List Bool)). with_rows old ys) rows i r within ∙ ap (λ (y : List Bool). with_rows old (y ∷ rest)) (sym is)) ∙ before
+
+pub rows_done : (rows : List (List Bool)) (i : ℕ) (new all : Share) → length rows ≤ i → with_rows new (drop i rows) ≡ all → new ≡ all
+rows_done rows i new all past before = sym (at_drop_all (λ (ys : List (List Bool)). with_rows new ys) rows i past) ∙ before
+
+-- ---- What the last of six calls adds
+
+pub put_six :
+    {A E : Type 0} (r : Result A E) (old a b c d e z one two three four five new : List ℕ) → one ≡ old ++ a → two ≡ one ++ b → three ≡ two ++ c → four ≡ three ++ d
+    → five ≡ four ++ e → new ≡ (if is_ok r then five ++ z else five) → OnOk r (new ≡ old ++ (a ++ b ++ c ++ d ++ e ++ z))
+put_six (Ok x) old a b c d e z one two three four five new first second third fourth fifth put =
+    let ab : two ≡ old ++ (a ++ b) = second ∙ ap (λ (l : List ℕ). l ++ b) first ∙ append_assoc old a b in
+    let abc : three ≡ old ++ (a ++ b ++ c) = third ∙ ap (λ (l : List ℕ). l ++ c) ab ∙ append_assoc old (a ++ b) c in
+    let abcd : four ≡ old ++ (a ++ b ++ c ++ d) = fourth ∙ ap (λ (l : List ℕ). l ++ d) abc ∙ append_assoc old (a ++ b ++ c) d in
+    let abcde : five ≡ old ++ (a ++ b ++ c ++ d ++ e) = fifth ∙ ap (λ (l : List ℕ). l ++ e) abcd ∙ append_assoc old (a ++ b ++ c ++ d) e in
+    put ∙ ap (λ (l : List ℕ). l ++ z) abcde ∙ append_assoc old (a ++ b ++ c ++ d ++ e) z
+put_six (Err x) old a b c d e z one two three four five new first second third fourth fifth put = tt

@@ -1,0 +1,8 @@
+use Rattle.std.proofs.Common.{◌≡◌, ◌++◌, drop}
+use Rattle.fb_coverage.specs.Reports as spec
+use Rattle.fb_coverage.specs.Reports.{listed}
+use Rattle.fb_coverage.proofs.block_report.put_states.Given as goal
+
+-- with what the rest adds, all is there
+abbrev pub invariant-loop-index : goal.invariant-loop-index
+invariant-loop-index l = l.text.items ++ listed (spec.state_line l.flags) l.index (drop l.index l.states) ≡ l.fn.text.items ++ listed (spec.state_line l.flags) 0 l.states

@@ -1,0 +1,8 @@
+use Rattle.std.proofs.Common.{◌≡◌, map, take}
+use Rattle.fb_types.specs.Headline.{system_of}
+use Rattle.fb_coverage.specs.Openings.{part_row}
+use Rattle.fb_coverage.proofs.opening.part_table.Given as goal
+
+-- the rows of the first types
+abbrev pub invariant-loop-block : goal.invariant-loop-block
+invariant-loop-block l = l.table.rows ≡ map (part_row (system_of l.system) l.part) (take l.block-index l.system.library.blocks)

@@ -1,0 +1,5 @@
+pub mod Tables
+pub mod Sets
+pub mod Openings
+pub mod Shares
+pub mod Reports

@@ -1,0 +1,87 @@
+//! The parts of types and of instances that have marks.
+
+ghost use Rattle.std.specs.Prelude.{◌≡◌, ◌<◌, IsTrue, length, slice_get, option_map};
+ghost use Rattle.fb_types.specs.Headline.{system_of};
+ghost use Rattle.fb_types.specs.Numbers.{path_at};
+ghost use Rattle.fb_coverage.specs.Openings as spec;
+
+use fb_check_names::TypeNumber;
+use fb_system::System;
+use fb_types::{BasicType, BlockType, EventPort, Name, Ports};
+
+/// A kind of parts of a basic type.
+#[derive(Clone, Copy)]
+pub(crate) enum Part {
+    States,
+    Transitions,
+    Algorithms,
+    /// Event inputs.
+    Events,
+}
+
+/// A side of the event ports of an instance.
+#[derive(Clone, Copy)]
+pub(crate) enum Side {
+    Inputs,
+    Outputs,
+}
+
+/// The number of parts of a basic type.
+pub(crate) fn part_count(part: Part, basic: &BasicType) -> usize
+    ensures { result ≡ spec.part_count part basic.now }
+{
+    match part {
+        Part::States => basic.states.len(),
+        Part::Transitions => basic.transitions.len(),
+        Part::Algorithms => basic.algorithms.len(),
+        Part::Events => basic.ports.event_inputs.len(),
+    }
+}
+
+/// The event ports of a side.
+pub(crate) fn events_of(side: Side, ports: &Ports) -> &[EventPort]
+    ensures { result.now ≡ spec.events_of side ports.now }
+{
+    match side {
+        Side::Inputs => ports.event_inputs.as_slice(),
+        Side::Outputs => ports.event_outputs.as_slice(),
+    }
+}
+
+/// The basic type of an instance, if it is a basic block.
+pub(crate) fn basic_of(system: &System, instance: u32) -> Option<&BasicType>
+    requires { instance < length (system_of system.now).paths }
+    ensures { option_map (λ b. b.now) result ≡ spec.basic_of ((system_of system.now).kind (path_at (system_of system.now) instance)) }
+{
+    match system.kind(instance) {
+        TypeNumber::Event(_) => None,
+        TypeNumber::Declared(index) => match system.library().blocks.get(index) {
+            Some(BlockType::Basic(basic)) => Some(basic),
+            _ => None,
+        },
+    }
+}
+
+/// Whether an instance is a basic block of the type with this name.
+fn has_type(system: &System, instance: u32, name: &Name) -> bool
+    requires { instance < length (system_of system.now).paths }
+    ensures { result ≡ spec.has_type name.now ((system_of system.now).kind (path_at (system_of system.now) instance)) }
+{
+    match basic_of(system, instance) {
+        Some(basic) => basic.name.is(name),
+        None => false,
+    }
+}
+
+/// Whether an instance has the basic type with this name.
+pub(crate) fn is_used(system: &System, name: &Name) -> bool
+    ensures { result ≡ spec.is_used (system_of system.now) name.now }
+{
+    system.facts();
+    for instance in 0..system.count() {
+        if has_type(system, instance as u32, name) {
+            return true;
+        }
+    }
+    false
+}

@@ -1,0 +1,71 @@
+-- What is marked as covered while a trace is gone through.
+use Rattle.std.specs.Prelude.{◌≡◌, ℕ, zero, suc, List, [], ◌∷◌, length, slice_get, unwrap_or, Option, Some, None}
+use Rattle.std.specs.List.{position}
+use Rattle.fb_types.specs.Blocks.{Kind, Basic, Event, Composite}
+use Rattle.fb_types.specs.Names.{Name, same_name}
+use Rattle.fb_types.specs.Numbers.{event_at}
+use Rattle.fb_types.specs.Systems.{System}
+use Rattle.fb_types.specs.declared.library.BasicType.{BasicType}
+use Rattle.fb_types.specs.declared.library.BlockType.{BlockType}
+use Rattle.fb_types.specs.declared.library.BlockType.TheVariants as block
+use Rattle.fb_types.specs.declared.run.Line.{Line}
+use Rattle.fb_ecc.specs.Indexes.{state_at}
+use Rattle.fb_coverage.specs.Sets.{with_cleared, with_port, with_ran, with_taken}
+use Rattle.fb_coverage.specs.declared.marks.ChartMarks.{ChartMarks}
+use Rattle.fb_coverage.specs.declared.marks.PortMarks.{PortMarks}
+use Rattle.fb_inspect.specs.Chains.{Piece, Clears_by, Is_lost, Ran, Stops_by, Has, Emits}
+use Rattle.fb_inspect.specs.Looks.{Turn}
+
+-- ---- Ports
+
+-- the ports of lines
+abbrev pub lines_marked : List Line → PortMarks → PortMarks
+lines_marked [] m = m
+lines_marked (l ∷ ls) m = lines_marked ls (with_port l.instance l.taken l.event m)
+
+-- ---- Charts
+
+-- the index of an algorithm, or the number of them where none has this name
+abbrev pub algorithm_number : BasicType → Name → ℕ
+algorithm_number t a = unwrap_or (position (λ g. same_name g.name a) t.algorithms) (length t.algorithms)
+
+-- the algorithm of an action, which may have none, and of which no more is done where no step is left
+abbrev pub with_ran_by : BasicType → (number : ℕ) → Option Name → (left : ℕ) → ChartMarks → ChartMarks
+with_ran_by t i None left m = m
+with_ran_by t i (Some a) zero m = m
+with_ran_by t i (Some a) (suc left) m = with_ran i (algorithm_number t a) m
+
+-- A piece of what a block of the type does, which has this number, after it took the event at this index. A transition is
+-- marked by its index: of several that are alike the first clears.
+abbrev pub PieceMarks : BasicType → (number event : ℕ) → Piece → ChartMarks → ChartMarks → Type 0
+PieceMarks t i e (Clears_by y) m n = (k : ℕ) × (s : ℕ) × (slice_get t.transitions k ≡ Some y) × (state_at t s ≡ y.to) × (n ≡ with_cleared i k s e m)
+PieceMarks t i e (Is_lost s) m n = n ≡ m
+PieceMarks t i e (Ran a before after) m n = n ≡ with_ran i (algorithm_number t a) m
+PieceMarks t i e (Stops_by r) m n = n ≡ m
+PieceMarks t i e (Has memory due) m n = n ≡ m
+PieceMarks t i e (Emits emission) m n = n ≡ m
+
+abbrev pub PiecesMark : BasicType → (number event : ℕ) → List Piece → ChartMarks → ChartMarks → Type 0
+PiecesMark t i e [] m n = n ≡ m
+PiecesMark t i e (p ∷ ps) m n = (o : ChartMarks) × PieceMarks t i e p m o × PiecesMark t i e ps o n
+
+-- a basic block of a declared type took an event
+pub record ChartMarked (blocks : List BlockType) (t : BasicType) (x : Turn) (m n : ChartMarks) : Type 0 where
+  pub number : ℕ
+  pub event : ℕ
+  pub type_is : slice_get blocks number ≡ Some (block.Basic t)
+  pub event_is : x.first.event ≡ event_at t.ports.event_inputs event
+  pub pieces : PiecesMark t number event x.pieces (with_taken number event m) n
+
+abbrev pub TurnMarksAt : List BlockType → Option Kind → Turn → ChartMarks → ChartMarks → Type 0
+TurnMarksAt blocks None x m n = n ≡ m
+TurnMarksAt blocks (Some (Basic t)) x m n = ChartMarked blocks t x m n
+TurnMarksAt blocks (Some (Event k)) x m n = n ≡ m
+TurnMarksAt blocks (Some (Composite t)) x m n = n ≡ m
+
+abbrev pub TurnMarks : List BlockType → System → Turn → ChartMarks → ChartMarks → Type 0
+TurnMarks blocks sys x m n = TurnMarksAt blocks (sys.kind x.first.at) x m n
+
+abbrev pub TurnsMark : List BlockType → System → List Turn → ChartMarks → ChartMarks → Type 0
+TurnsMark blocks sys [] m n = n ≡ m
+TurnsMark blocks sys (x ∷ xs) m n = (o : ChartMarks) × TurnMarks blocks sys x m o × TurnsMark blocks sys xs o n

@@ -1,0 +1,32 @@
+use Rattle.std.proofs.Common.{Bor, List, [], length, refl}
+use Rattle.clap.specs.Words.{Text}
+use Rattle.fbsim_command.specs.Covering.{AreStopped}
+use Rattle.fbsim_command.specs.declared.failure.Failure.TheVariants.{Memory}
+use Rattle.fbsim_command.proofs.Gleaning.{gone-all, gone-more-of, stops-at-of}
+use Rattle.fbsim_command.proofs.Holding.{passed-on}
+use Rattle.fbsim_command.proofs.coverage.cover_all.Goals as goal
+
+pub returns-in_err-marks-clause-stopped : goal.returns-in_err-marks-clause-stopped
+returns-in_err-marks-clause-stopped g c =
+    passed-on c.from_residual.result Memory (AreStopped g.S.Streams.opens c.args.system.now c.args.coverage.now c.args.source.now c.args.source.now) c.from_residual.ensures.1 tt
+
+pub loop-name-init : goal.loop-name-init
+loop-name-init g c = (refl, c.in_ok-marks.ensures)
+
+pub loop-name-preserved : goal.loop-name-preserved
+loop-name-preserved g c =
+    gone-more-of g.S.Streams.opens c.args.system.now c.args.coverage.now c.deref-name-items.result.now c.loop-name.name-index _ c.args.source.now c.loop-name.source c.cover_one.new.source
+    c.loop-name.marks _ c.deref-name-items.ensures.value c.loop-name-test.true c.loop-name.invariant c.in_ok-marks-2.ensures.covered
+
+pub returns-in_err-marks-2-clause-stopped : goal.returns-in_err-marks-2-clause-stopped
+returns-in_err-marks-2-clause-stopped g c =
+    let none : Bor Text = record { ref_ptr = (0, 0); now = [] } in
+    passed-on c.from_residual-in_err-marks-2.result _ (AreStopped g.S.Streams.opens c.args.system.now c.args.coverage.now c.args.source.now c.cover_one.new.source)
+    c.from_residual-in_err-marks-2.ensures.1
+    (stops-at-of g.S.Streams.opens c.args.system.now c.args.coverage.now c.deref-name-items.result.now c.loop-name.name-index none c.args.source.now c.loop-name.source c.cover_one.new.source
+    c.loop-name.marks _ c.deref-name-items.ensures.value c.loop-name-test.true c.loop-name.invariant c.in_err-marks-2.ensures.stopped)
+
+pub returns-clause-covered : goal.returns-clause-covered
+returns-clause-covered g c =
+    gone-all g.S.Streams.opens c.args.system.now c.args.coverage.now c.deref-name-items.result.now c.loop-name.name-index c.args.source.now c.loop-name.source c.loop-name.marks
+    c.deref-name-items.ensures.value c.loop-name-test.false c.loop-name.invariant

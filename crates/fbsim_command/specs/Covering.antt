@@ -1,0 +1,174 @@
+-- What a call that reports what traces cover does (docs/FORMATS.md, "What traces cover"; this project's own).
+use Rattle.std.specs.Prelude.{◌≡◌, ◌⊎◌, ℕ, Bool, true, false, nat_lt, List, [], ◌∷◌, ◌++◌, length, map, Option, None, IfSome, Ok, Err, string_bytes}
+use Rattle.std.specs.Io.KnownBytes.{Appends}
+use Rattle.clap.specs.Words.{Text}
+use Rattle.fb_types.specs.Headline.{Inputs, system_of}
+use Rattle.fb_coverage.specs.Openings.{opening_marks}
+use Rattle.fb_coverage.specs.Reports.{report_text}
+use Rattle.fb_coverage.specs.declared.marks.Marks.{Marks}
+use Rattle.fb_inspect.specs.Covering.{Covers}
+use Rattle.fb_sim.specs.Given.{Given}
+use Rattle.fb_sim.specs.Serial.{Declares}
+use Rattle.fbsim_command.specs.Expecting.{IsNoTrace}
+use Rattle.fbsim_command.specs.Failures.{IsPartWritten, failure_of_source, refused_trace}
+use Rattle.fbsim_command.specs.Outcomes.{End, Held, IsRefused}
+use Rattle.fbsim_command.specs.OwnLines.{EndsIn}
+use Rattle.fbsim_command.specs.Reading.{Reading, AreRead, IsUnread}
+use Rattle.fbsim_command.specs.Showing.{Opening}
+use Rattle.fbsim_line.specs.declared.coverage_line.Coverage.{Coverage}
+use Rattle.fbsim_command.specs.declared.failure.Failure.{Failure}
+use Rattle.fbsim_command.specs.declared.failure.Failure.TheVariants.{Refused, RefusedTrace, File, Write, Memory, Line, BadOption}
+use Rattle.fbsim_command.specs.declared.failure.RefusalLine.{RefusalLine}
+use Rattle.fbsim_command.specs.declared.failure.RefusalLine.TheVariants.{Trace}
+use Rattle.fbsim_line.specs.declared.line.Action.TheVariants.{Check}
+use Rattle.fbsim_line.specs.declared.line.Task.{Task}
+use Rattle.fbsim_command.specs.declared.sources.SourceFault.{SourceFault}
+use Rattle.fbsim_command.specs.declared.statuses.Done.TheVariants.{Helped, Explained, Accepted, Shown, Ended, Stopped, Met, Unmet, Same, Different}
+use Rattle.fbsim_command.specs.declared.texts.Part.{Part}
+
+-- the call that checks what traces are of
+abbrev pub files_of : Coverage → Task
+files_of x = record { action = Check false; declaration = x.declaration; deploy = x.deploy; stimuli = None; why = false }
+
+abbrev pub names_of : Coverage → List Text
+names_of x = map (λ t. t.now) x.traces.items
+
+-- there are several traces, so that a refusal names one
+abbrev pub are_several : Coverage → Bool
+are_several x = nat_lt 1 (length x.traces.items)
+
+-- ---- Traces
+
+-- A trace is opened and gone through, and what it covers is marked next to what others covered.
+pub record GoesThrough {S : Type 0} (opens : Opening S) (i : Inputs) (steps : ℕ) (name : Text) (from to : S) (old new : Marks) : Type 0 where
+  pub trace : Held
+  pub opened : opens from name (Ok trace) to
+  pub covers : IfSome trace (λ text. Covers i steps text old new)
+
+-- the same of traces, one after the other
+abbrev pub GoThrough : {S : Type 0} → Opening S → Inputs → (steps : ℕ) → List Text → (from to : S) → (old new : Marks) → Type 0
+GoThrough opens i steps [] from to old new = (to ≡ from) × (new ≡ old)
+GoThrough {S} opens i steps (name ∷ names) from to old new =
+    (between : S) × (m : Marks) × GoesThrough opens i steps name from between old m × GoThrough opens i steps names between to m new
+
+abbrev pub first_marks : Inputs → Marks
+first_marks i = opening_marks i.library.blocks (system_of i)
+
+-- All traces are gone through, and this is marked.
+abbrev pub AreGoneThrough : {S : Type 0} → Opening S → Inputs → Coverage → (from to : S) → Marks → Type 0
+AreGoneThrough opens i x from to marks = GoThrough opens i x.steps (names_of x) from to (first_marks i) marks
+
+-- The inputs are accepted, all traces are gone through, and this is the report of what they cover.
+pub record IsReport {S : Type 0} (opens : Opening S) (given : Given) (x : Coverage) (from to : S) (text : Text) : Type 0 where
+  pub inputs : Inputs
+  pub declared : Declares given inputs
+  pub marks : Marks
+  pub gone : AreGoneThrough opens inputs x from to marks
+  pub is : text ≡ report_text inputs.library.blocks (system_of inputs) marks
+
+-- ---- Traces that are not gone through
+
+-- what is reported of a trace that is refused at a line
+abbrev pub RefusesAt : (is_named : Bool) → (name : Text) → (line : ℕ) → Failure → Type 0
+RefusesAt true name line (RefusedTrace text) = string_bytes text ≡ refused_trace name line
+RefusesAt true name line Memory = Unit {0}
+RefusesAt true name line _ = ⊥
+RefusesAt false name line (Refused refusal) = refusal ≡ Trace line
+RefusesAt false name line _ = ⊥
+
+-- A trace is opened, and refused.
+pub record RefusesOne {S : Type 0} (opens : Opening S) (is_named : Bool) (name : Text) (from to : S) (failure : Failure) : Type 0 where
+  pub trace : Held
+  pub opened : opens from name (Ok trace) to
+  pub line : ℕ
+  pub reported : RefusesAt is_named name line failure
+
+-- a trace is not gone through, by the failure
+abbrev pub IsStopped : {S : Type 0} → Opening S → (is_named : Bool) → (name : Text) → (from to : S) → Failure → Type 0
+IsStopped opens is_named name from to (Refused refusal) = RefusesOne opens is_named name from to (Refused refusal)
+IsStopped opens is_named name from to (RefusedTrace text) = RefusesOne opens is_named name from to (RefusedTrace text)
+IsStopped opens is_named name from to File = IsNoTrace opens from to name
+IsStopped opens is_named name from to Memory = Unit {0}
+IsStopped opens is_named name from to (Write n) = ⊥
+IsStopped opens is_named name from to (Line message) = ⊥
+IsStopped opens is_named name from to BadOption = ⊥
+
+-- Those before a trace are gone through, and it is not.
+pub record StopsAt {S : Type 0} (opens : Opening S) (i : Inputs) (x : Coverage) (from to : S) (failure : Failure) : Type 0 where
+  pub before : List Text
+  pub name : Text
+  pub following : List Text
+  pub parts : names_of x ≡ before ++ name ∷ following
+  pub between : S
+  pub marks : Marks
+  pub gone : GoThrough opens i x.steps before from between (first_marks i) marks
+  pub stopped : IsStopped opens (are_several x) name between to failure
+
+-- one of the traces is not, by the failure
+abbrev pub AreStopped : {S : Type 0} → Opening S → Inputs → Coverage → (from to : S) → Failure → Type 0
+AreStopped opens i x from to (Refused refusal) = StopsAt opens i x from to (Refused refusal)
+AreStopped opens i x from to (RefusedTrace text) = StopsAt opens i x from to (RefusedTrace text)
+AreStopped opens i x from to File = StopsAt opens i x from to File
+AreStopped opens i x from to Memory = Unit {0}
+AreStopped opens i x from to (Write n) = ⊥
+AreStopped opens i x from to (Line message) = ⊥
+AreStopped opens i x from to BadOption = ⊥
+
+-- the inputs are accepted, and one of the traces is not gone through
+abbrev pub MayStop : {S : Type 0} → Opening S → Given → Coverage → (from to : S) → Failure → Type 0
+MayStop opens given x from to failure = (i : Inputs) × Declares given i × AreStopped opens i x from to failure
+
+-- nothing is reported: the inputs are refused, as a check refuses them, or a trace is not gone through, or memory ran out
+abbrev pub IsUnreported : {S : Type 0} → Opening S → Given → Coverage → (from to : S) → Failure → Type 0
+IsUnreported opens given x from to (Refused refusal) = (IsRefused given refusal × (to ≡ from)) ⊎ MayStop opens given x from to (Refused refusal)
+IsUnreported opens given x from to (RefusedTrace text) = MayStop opens given x from to (RefusedTrace text)
+IsUnreported opens given x from to File = MayStop opens given x from to File
+IsUnreported opens given x from to Memory = Unit {0}
+IsUnreported opens given x from to (Write n) = ⊥
+IsUnreported opens given x from to (Line message) = ⊥
+IsUnreported opens given x from to BadOption = ⊥
+
+-- ---- What is written
+
+abbrev pub WritesReport : {S : Type 0} → Opening S → Given → Coverage → (from to : S) → (old new : Held) → End → Type 0
+WritesReport opens given x from to old new (Ok Shown) = (text : Text) × IsReport opens given x from to text × Appends old new text
+WritesReport opens given x from to old new (Ok Helped) = ⊥
+WritesReport opens given x from to old new (Ok Explained) = ⊥
+WritesReport opens given x from to old new (Ok Accepted) = ⊥
+WritesReport opens given x from to old new (Ok Ended) = ⊥
+WritesReport opens given x from to old new (Ok Stopped) = ⊥
+WritesReport opens given x from to old new (Ok Met) = ⊥
+WritesReport opens given x from to old new (Ok Unmet) = ⊥
+WritesReport opens given x from to old new (Ok Same) = ⊥
+WritesReport opens given x from to old new (Ok Different) = ⊥
+WritesReport opens given x from to old new (Err (Write n)) = (text : Text) × IsReport opens given x from to text × IsPartWritten old new text n
+WritesReport opens given x from to old new (Err (Refused refusal)) = IsUnreported opens given x from to (Refused refusal) × (new ≡ old)
+WritesReport opens given x from to old new (Err (RefusedTrace text)) = IsUnreported opens given x from to (RefusedTrace text) × (new ≡ old)
+WritesReport opens given x from to old new (Err File) = IsUnreported opens given x from to File × (new ≡ old)
+WritesReport opens given x from to old new (Err Memory) = new ≡ old
+WritesReport opens given x from to old new (Err (Line message)) = ⊥
+WritesReport opens given x from to old new (Err BadOption) = ⊥
+
+-- ---- What is read
+
+-- All is read that traces are of, and what they cover is reported. A syntax fault is one of the file that has it.
+pub record IsReadAndReported {S : Type 0} (reads : Reading S) (opens : Opening S) (from to : S) (types : List Text) (x : Coverage) (old new : Held) (end : End) : Type 0 where
+  pub lines : List ℕ
+  pub given : Given
+  pub between : S
+  pub read : AreRead reads types (files_of x) from between lines given
+  pub inner : End
+  pub done : WritesReport opens given x between to old new inner
+  pub ends : EndsIn types x.declaration.now lines inner end
+
+-- A file is not read.
+pub record IsNotRead {S : Type 0} (reads : Reading S) (from to : S) (types : List Text) (x : Coverage) (old new : Held) (end : End) : Type 0 where
+  pub part : Part
+  pub fault : SourceFault
+  pub unread : IsUnread reads types (files_of x) from to part fault
+  pub failed : end ≡ Err (failure_of_source fault)
+  pub same : new ≡ old
+
+abbrev pub ReportsCoverage : {S : Type 0} → Reading S → Opening S → (from to : S) → (types : List Text) → Coverage → (old new : Held) → End → Type 0
+ReportsCoverage reads opens from to types x old new end =
+    IsReadAndReported reads opens from to types x old new end ⊎ IsNotRead reads from to types x old new end
