@@ -12,8 +12,8 @@ FUNCTION = re.compile(r"^(\s*)(?:pub(?:\([a-z]+\))? )?(?:const )?fn (\w+)")
 BLOCK = re.compile(r"(impl|(?:pub(?:\([a-z]+\))? )?trait)\b")
 TYPE = re.compile(r"^(?:pub(?:\([a-z]+\))? )?(?:struct|enum) (\w+)", re.M)
 CYCLE = re.compile(r"\s*#\[cycle\((\w+)\)\]$")
-# A path's last word, and the first type that its brackets hold.
-PATH = re.compile(r"(?:\w+::)*(\w+)(?:<(?:\w+::)*(\w+))?")
+# A path's last word, and the path of the first type that its brackets hold.
+PATH = re.compile(r"(?:\w+::)*(\w+)(?:<((?:\w+::)*\w+))?")
 
 
 class Function:
@@ -80,7 +80,8 @@ def impl_of(head):
         return "", "any"
     if not of_trait:
         return of_type[1], "own"
-    return of_type[1] + of_trait[1] + (of_trait[2] or ""), "any" if is_generic else "trait"
+    held = "".join(it[0].upper() + it[1:] for it in (of_trait[2] or "").split("::") if it)
+    return of_type[1] + of_trait[1] + held, "any" if is_generic else "trait"
 
 
 def first_line(lines, at):

@@ -9,8 +9,8 @@ This shows what no proof says: out of memory is answered wherever it occurs, and
 nothing. It also shows that no request comes after the first byte of a round, or of what a run on one agenda writes at once: if the
 lines of each round are known and memory runs out, the output ends where a round ends.
 
-./gate runs this when it has run the program, for the runs in RUNS with --serial, one worker and two. Without ./gate and without words
-it uses the program that ./simulate built. A test that the kit built is a program too: its name is the word. Its status for out of
+./gate runs this when it has run the program, for the runs in RUNS with --serial, one worker and two, and for the calls in COMMANDS with
+the traces of TRACED. Without ./gate and without words it uses the program that ./simulate built. A test that the kit built is a program too: its name is the word. Its status for out of
 memory is 101 if it answers that as a failure, or if it ends itself and says so (GAVE_UP), which an assertion that fails does not.
 ./gate runs this for the tests in TESTS, for single calls; by hand:
 
@@ -32,7 +32,7 @@ from program import Room, side_by_side
 
 HERE = os.path.dirname(os.path.realpath(__file__))
 PROGRAM = "fbsim"
-WANT_OF_MEMORY = 4
+OUT_OF_MEMORY = 4
 # The status of a test that answers a failure.
 FAILED_TEST = 101
 # The output of a test that ends itself because a call ran out of memory, and that of the kit. An assertion that fails has another one.
@@ -140,6 +140,10 @@ def cycle():
 
 RUNS = [delayed(), stopped(), composite(), ring(), relay(), cycle()]
 
+# The calls that read a trace, and the runs whose traces they read: one with long lines, one with a stop.
+COMMANDS = ["wave", "inspect", "coverage"]
+TRACED = [relay(), stopped()]
+
 
 def ends_of(rounds):
     """The number of bytes that are written before the first round, and after each round. The last line, which ends the run, is left out."""
@@ -203,16 +207,36 @@ def try_run(program, it, way):
     name, expected = f"{PROGRAM}, {it.name}, {' '.join(way)}", "".join(it.rounds).encode()
     ends = ends_of(it.rounds) if it.is_known_by_rounds else None
     with Room(program, {name: text.encode() for name, text in it.texts.items()}) as room:
-        refusals = Refusals(room, ["run", "d.iec", *it.words, *way], WANT_OF_MEMORY, ends)
+        refusals = Refusals(room, ["run", "d.iec", *it.words, *way], OUT_OF_MEMORY, ends)
         status, output, _ = refusals.run(0)
         if (status, output) != (it.status, expected):
             return tell(name, [f"with memory: status {status}, {output[:300]!r}"], 0)
         return tell(name, *refusals.faults(status, output))
 
 
+def words_of(command, it):
+    """The arguments of a call that reads the trace of a run: its declaration, its deployment, and its limit of steps where there is one."""
+    options = dict(zip(it.words[::2], it.words[1::2]))
+    kept = ["--deploy"] if command == "wave" else ["--deploy", "--steps"]
+    return [command, "d.iec", *(word for name in kept if name in options for word in (name, options[name])), "trace"]
+
+
+def try_command(program, command, it):
+    """Refuses each request of a call that reads the trace of this run. With all memory the call must succeed."""
+    name = f"{PROGRAM}, {command} of {it.name}"
+    texts = {**it.texts, "trace": "".join(it.rounds)}
+    with Room(program, {name: text.encode() for name, text in texts.items()}) as room:
+        refusals = Refusals(room, words_of(command, it), OUT_OF_MEMORY)
+        status, output, _ = refusals.run(0)
+        if status:
+            return tell(name, [f"with memory: status {status}, {output[:300]!r}"], 0)
+        return tell(name, *refusals.faults(status, output))
+
+
 def try_all(program):
-    """Does this for all of RUNS in each way, and returns whether there were no faults."""
-    return all([try_run(program, it, way) for it in RUNS for way in WAYS])
+    """Does this for all of RUNS in each way and for all COMMANDS, and returns whether there were no faults."""
+    runs = [try_run(program, it, way) for it in RUNS for way in WAYS]
+    return all(runs + [try_command(program, command, it) for command in COMMANDS for it in TRACED])
 
 
 def try_alone(program, words, memory):
@@ -229,7 +253,7 @@ def try_tests(crate, program):
 
 
 def main(words):
-    memory = WANT_OF_MEMORY
+    memory = OUT_OF_MEMORY
     if words[:1] == ["--memory"] and len(words) > 2 and words[1].isdigit():
         memory, words = int(words[1]), words[2:]
     if words and words[0].startswith("-"):

@@ -1,6 +1,6 @@
-//! Tests of the parts that the program is made of: blocks and shared data by themselves, resources that run by
-//! themselves, lines, and the text of traces, as far as the program does not show them. They are apart from the crates
-//! that they test, so that a check of the tests does not prove those once more.
+//! Tests of the parts of the program that the program does not show: blocks and shared data by themselves, resources that
+//! run by themselves, lines, and the text of traces. They are a crate of their own, so that a check of the tests does not
+//! prove the tested crates once more.
 #![tactic(auto)]
 
 #[cfg(test)]

@@ -1,7 +1,8 @@
-//! What no run of the program shows of the parts that it is made of: blocks, agendas and the data that all crates share, each by
-//! itself; resources that run by themselves, lines and inputs that no run has, worked out by hand. Each test ends the process where
-//! memory runs out. What holds a system or resources is dropped by `fb_window`, and what holds other things is forgotten: whoever
-//! drops it, or only could, proves how each of its parts is dropped.
+//! Tests of what no run of the program shows: blocks, agendas and shared data by themselves; resources that run by themselves;
+//! lines and inputs that no run has. Expected values were worked out by hand.
+//!
+//! Each test ends the process if memory runs out. `fb_window` frees what holds a system or resources, and a test forgets other
+//! values: code that drops a value proves once more how each of its parts is dropped.
 
 mod agendas;
 mod belonging;
@@ -15,6 +16,7 @@ mod limits;
 mod messages;
 mod narrow;
 mod numbers;
+mod readers;
 mod rules;
 mod seats;
 mod shared;

@@ -8,6 +8,7 @@ pub mod Placing
 pub mod Showing
 pub mod Severed
 pub mod Current
+pub mod Unread
 pub mod Declaring
 pub mod Listing
 pub mod Noting

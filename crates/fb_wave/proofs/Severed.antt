@@ -16,6 +16,7 @@ use Rattle.fb_trace.specs.declared.last.Outcome.{Outcome}
 use Rattle.fb_wave.specs.Copying.{IsAfter, IsCopied, IsCutFinished, IsCutShort, IsCutUnfinished, RefusesEnd, RefusesLine}
 use Rattle.fb_wave.specs.CutOff.{BlamesShown, FailsShown, HasTrace, IsCutWave, IsNoCut, IsShown, IsWhole, cut_text, has_no_feed, is_cut, is_unended, is_unended_by}
 use Rattle.fb_wave.specs.Dumps.{last_tick}
+use Rattle.fb_wave.specs.Faults.{IsReadFault}
 use Rattle.fb_wave.specs.Lines.{IsLast, IsLineOf}
 use Rattle.fb_wave.specs.Named.{HasNames}
 use Rattle.fb_wave.specs.Refusals.{Blames}
@@ -52,8 +53,11 @@ blames_in cut.Allowed sys text e blames whole = (blames, whole refl)
 pub blames_memory : (c : Cut) (sys : System) (text : Option (List ℕ)) → BlamesShown c sys text Memory
 blames_memory c sys text = blames_in c sys text Memory tt (λ same. tt)
 
-pub blames_read : (c : Cut) (sys : System) (text : Option (List ℕ)) → BlamesShown c sys text Read
-blames_read c sys text = blames_in c sys text Read tt (λ same. tt)
+-- a reader that fails blames no line
+pub read_blames : (c : Cut) (sys : System) (text : Option (List ℕ)) (e : WaveError) → IsReadFault e → BlamesShown c sys text e
+read_blames c sys text Memory fault = blames_memory c sys text
+read_blames c sys text Read fault = blames_in c sys text Read tt (λ same. tt)
+read_blames c sys text e fault = absurd fault
 
 pub blames_names : (c : Cut) (sys : System) (text : Option (List ℕ)) → ¬ (HasNames sys) → BlamesShown c sys text Names
 blames_names c sys text none = blames_in c sys text Names none (λ same. tt)

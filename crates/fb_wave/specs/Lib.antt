@@ -18,3 +18,4 @@ pub mod Nested
 pub mod Copying
 pub mod CutOff
 pub mod CurrentLines
+pub mod Faults

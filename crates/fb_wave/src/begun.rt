@@ -1,4 +1,4 @@
-//! What signals begin with: no event, and the initial values of variables.
+//! The initial state of signals: no event, and the initial values of variables.
 
 ghost use Rattle.std.specs.Prelude.{◌≡◌, ◌<◌, ◌+◌, ◌^◌, ◌++◌, OnOk, length, map};
 ghost use Rattle.fb_types.specs.Blocks.{variable_names};
@@ -16,14 +16,14 @@ use fb_system::System;
 use fb_types::{EventPort, Ports, Value, Variable};
 use std::alloc::{AllocError, Global};
 
-/// Puts that a port has had no event.
+/// Writes that a port has had no event.
 pub(crate) fn put_event(text: &mut Vec<u8>, signal: usize) -> Result<(), AllocError>
     ensures { OnOk result (text.new.items ≡ text.old.items ++ spec.event_begun signal) }
 {
     put_line(text, b"b0 n", signal as u64)
 }
 
-/// Puts the value of a variable, if lines carry it.
+/// Writes the initial value of a variable, if lines carry it.
 fn put_carried(
     text: &mut Vec<u8>,
     events: &[EventPort],
@@ -40,7 +40,7 @@ fn put_carried(
     put_value(text, signal, value)
 }
 
-/// Puts the values of the variables that lines carry, the first variable with this number.
+/// Writes the initial values of the variables that lines carry. The first variable has this number.
 fn put_values(
     text: &mut Vec<u8>,
     events: &[EventPort],
@@ -61,7 +61,7 @@ fn put_values(
     Ok(())
 }
 
-/// Puts what the signals of an interface begin with, where its variables have these values. The first signal has this
+/// Writes the initial state of the signals of an interface whose variables have these values. The first signal has this
 /// number.
 fn put_ports(
     text: &mut Vec<u8>,
@@ -94,7 +94,7 @@ fn put_ports(
     )
 }
 
-/// Puts what the signals of an instance begin with. The first of them has this number.
+/// Writes the initial state of the signals of an instance. The first of them has this number.
 pub(crate) fn put_instance(
     alloc: Global,
     text: &mut Vec<u8>,

@@ -9,8 +9,8 @@ use crate::levels::{Level, Levels};
 use fb_types::Value;
 use std::alloc::AllocError;
 
-/// A number in 64 bits, one below 0 as its complement to 2^64.
-fn in_bits(number: i128) -> u64
+/// The low 64 bits of a number: one below 0 has its complement to 2^64.
+pub fn in_bits(number: i128) -> u64
     ensures { result ≡ in_bits (Value.Whole number) }
 {
     if number < 0 {
@@ -20,7 +20,7 @@ fn in_bits(number: i128) -> u64
     }
 }
 
-/// A number of a signal that the dump calls by a letter and its number.
+/// Appends a number that a signal shows. The dump calls the signal by a letter and its number.
 fn put_bits(text: &mut Vec<u8>, bits: u64, letter: &[u8], signal: usize) -> Result<(), AllocError>
     ensures { OnOk result (text.new.items ≡ text.old.items ++ number_changed bits (letter.now ++ decimal signal)) }
 {
@@ -30,7 +30,7 @@ fn put_bits(text: &mut Vec<u8>, bits: u64, letter: &[u8], signal: usize) -> Resu
     put_line(text, letter, signal as u64)
 }
 
-/// Puts the value of a variable.
+/// Appends the value of a variable.
 pub(crate) fn put_value(text: &mut Vec<u8>, signal: usize, value: Value) -> Result<(), AllocError>
     ensures { OnOk result (text.new.items ≡ text.old.items ++ value_changed signal value) }
 {
@@ -50,7 +50,7 @@ fn put_event(text: &mut Vec<u8>, signal: usize, count: u64) -> Result<(), AllocE
     put_bits(text, count, b"n", signal)
 }
 
-/// Puts what a signal shows after a text.
+/// Appends what a signal shows.
 fn put_change(text: &mut Vec<u8>, signal: usize, shown: Level) -> Result<(), AllocError>
     ensures { OnOk result (text.new.items ≡ text.old.items ++ changed signal shown) }
 {
@@ -60,8 +60,8 @@ fn put_change(text: &mut Vec<u8>, signal: usize, shown: Level) -> Result<(), All
     }
 }
 
-/// Puts a time after a text, unless it is reported already.
-pub(crate) fn put_time(text: &mut Vec<u8>, shown: u64, tick: u64) -> Result<(), AllocError>
+/// Appends a time, in ticks (milliseconds), unless it is the one that is shown already.
+pub fn put_time(text: &mut Vec<u8>, shown: u64, tick: u64) -> Result<(), AllocError>
     ensures { OnOk result (text.new.items ≡ text.old.items ++ time_text shown tick) }
 {
     if tick == shown {
@@ -70,8 +70,8 @@ pub(crate) fn put_time(text: &mut Vec<u8>, shown: u64, tick: u64) -> Result<(), 
     put_line(text, b"#", tick)
 }
 
-/// Puts the changes of a tick after a text, and goes on to the next tick.
-pub(crate) fn put_changes(text: &mut Vec<u8>, levels: &mut Levels) -> Result<(), AllocError>
+/// Appends the changes of a tick, and unmarks its signals for the next tick.
+pub fn put_changes(text: &mut Vec<u8>, levels: &mut Levels) -> Result<(), AllocError>
     requires { All (λ s. s < length levels.old.cells.items) levels.old.marked.items }
     ensures counted { length levels.new.cells.items ≡ length levels.old.cells.items }
     ensures none { OnOk result (levels.new.marked.items ≡ []) }

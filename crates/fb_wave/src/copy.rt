@@ -10,6 +10,7 @@ ghost use Rattle.fb_wave.specs.Writing.{HasShown, IsDump};
 ghost use Rattle.fb_wave.specs.Copying.{IsAfter, IsCutFinished, IsCutUnfinished, IsFinished, IsFirstLine, IsNoWriteFault, IsRefusedAt, IsTaken, IsUnfinished, RefusesEnd, RefusesLine};
 ghost use Rattle.fb_wave.specs.CutOff.{BlamesShown, FailsShown, IsShown};
 ghost use Rattle.fb_wave.specs.CurrentLines.{IsRefusedLine};
+ghost use Rattle.fb_wave.specs.Faults.{IsReadFault};
 ghost use Rattle.fb_wave.specs.Named as named;
 ghost use Rattle.fb_wave.specs.Named.{HasNames};
 ghost use Rattle.fb_wave.specs.Words.{is_word};
@@ -29,18 +30,19 @@ use fb_types::Form;
 use std::alloc::Global;
 use std::io::{BufRead, Write};
 
-/// Reads the next line into a buffer, with its line feed. It is empty where there is none.
+/// Reads the next line into a buffer, with its line feed. At the end of the text the buffer is empty.
+///
+/// # Errors
+/// `Memory` if the buffer can't grow, and `Read` if the reader fails otherwise.
 pub fn next_line<R: BufRead>(input: &mut R, line: &mut Vec<u8>) -> Result<(), WaveError>
     ensures read { OnOk result (Consumes (R.remaining input.old) (R.remaining input.new) line.new.items) }
     ensures line { OnOk result (IsFirstLine line.new.items (R.remaining input.old)) }
     ensures end { OnOk result (line.new.items ≡ [] → IsAtEnd (R.remaining input.old)) }
-    ensures fault { IfErr result (λ e. e ≡ WaveError.Read) }
+    ensures fault { IfErr result IsReadFault }
 {
     line.clear();
-    match input.read_until(b'\n', line) {
-        Ok(_) => Ok(()),
-        Err(_) => Err(WaveError::Read),
-    }
+    input.read_until(b'\n', line)?;
+    Ok(())
 }
 
 /// The form of a line by what comes after its first word.
@@ -65,7 +67,7 @@ pub fn form_of(line: &[u8]) -> Form
     }
 }
 
-/// Whether a trace whose last line is of a tick can end so.
+/// Whether this end can come after a line of this tick.
 pub fn can_end(tick: u64, end: Outcome) -> bool
     ensures { IsTrue result ↔ IsAfter tick end }
 {
@@ -75,18 +77,21 @@ pub fn can_end(tick: u64, end: Outcome) -> bool
     }
 }
 
-/// Whether nothing is left to read.
+/// Whether the text is at its end. Otherwise this reads a line.
+///
+/// # Errors
+/// As those of `next_line`.
 pub fn is_over<R: BufRead>(input: &mut R, line: &mut Vec<u8>) -> Result<bool, WaveError>
     ensures over { IfOk result (λ over. IsTrue over → IsAtEnd (R.remaining input.old)) }
     ensures more { IfOk result (λ over. over ≡ false → IfSome (R.remaining input.old) (λ rest. 0 < length rest)) }
     ensures line { OnOk result (IsFirstLine line.new.items (R.remaining input.old)) }
-    ensures fault { IfErr result (λ e. e ≡ WaveError.Read) }
+    ensures fault { IfErr result IsReadFault }
 {
     next_line(input, line)?;
     Ok(line.is_empty())
 }
 
-/// A dump, as far as a trace was read.
+/// The dump of the part of a trace that was read.
 #[derive(Drop)]
 pub(crate) struct Progress {
     pub(crate) dump: Dump,
@@ -97,7 +102,7 @@ pub(crate) struct Progress {
 }
 
 impl Progress {
-    /// Shows the line of that number, where a trace can go on with it.
+    /// Shows the line with this number, if a trace can go on with it.
     fn take(
         &mut self,
         alloc: Global,
@@ -125,7 +130,7 @@ impl Progress {
         Ok(())
     }
 
-    /// Shows the end, and writes all that waits, where nothing is left to read. This end is in a line of that number.
+    /// Shows the end and writes all that waits, if the text is at its end. The line of the end has this number.
     fn finish<R: BufRead, W: Write>(
         &mut self,
         system: &System,
@@ -165,7 +170,7 @@ impl Progress {
         self.page.flush(out)
     }
 
-    /// Reads a trace, and writes its dump. The line that was read last is lent, so that it is there after a refusal.
+    /// Reads a trace and writes its dump. The caller lends the buffer for lines, so that it has the line of a refusal.
     pub(crate) fn copy<R: BufRead, W: Write>(
         &mut self,
         alloc: Global,

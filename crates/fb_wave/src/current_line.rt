@@ -1,4 +1,4 @@
-//! The line of a trace that is read.
+//! The line of a trace that was read last.
 
 use fb_types::Form;
 use std::alloc::Global;
@@ -6,7 +6,7 @@ use std::alloc::Global;
 /// The line of a trace that was read last, and what was known before it. After a refusal it is the refused line.
 #[derive(Drop)]
 pub struct CurrentLine {
-    /// The line with its line feed, if it has one. It is empty where the text has ended.
+    /// The line with its line feed, if it has one. It is empty at the end of the text.
     pub text: Vec<u8>,
     /// The form of the lines of the trace.
     pub form: Form,

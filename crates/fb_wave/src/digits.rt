@@ -30,8 +30,8 @@ fn write_digits(base: u64, number: u64, indexes: &mut [u8; MOST_DIGITS]) -> usiz
     start
 }
 
-/// Puts the decimal digits of a number after a text.
-pub(crate) fn put_decimal(text: &mut Vec<u8>, number: u64) -> Result<(), AllocError>
+/// Appends the decimal digits of a number.
+pub fn put_decimal(text: &mut Vec<u8>, number: u64) -> Result<(), AllocError>
     ensures { OnOk result (text.new.items ≡ text.old.items ++ decimal number) }
 {
     let mut indexes = [0; MOST_DIGITS];
@@ -39,8 +39,8 @@ pub(crate) fn put_decimal(text: &mut Vec<u8>, number: u64) -> Result<(), AllocEr
     text.extend_from_slice(&indexes[start..])
 }
 
-/// Puts the binary digits of a number after a text.
-pub(crate) fn put_binary(text: &mut Vec<u8>, number: u64) -> Result<(), AllocError>
+/// Appends the binary digits of a number.
+pub fn put_binary(text: &mut Vec<u8>, number: u64) -> Result<(), AllocError>
     ensures { OnOk result (text.new.items ≡ text.old.items ++ binary number) }
 {
     let mut indexes = [0; MOST_DIGITS];
@@ -48,8 +48,8 @@ pub(crate) fn put_binary(text: &mut Vec<u8>, number: u64) -> Result<(), AllocErr
     text.extend_from_slice(&indexes[start..])
 }
 
-/// Puts a line after a text: a front, and the decimal digits of a number.
-pub(crate) fn put_line(text: &mut Vec<u8>, front: &[u8], number: u64) -> Result<(), AllocError>
+/// Appends a line: a front, and the decimal digits of a number.
+pub fn put_line(text: &mut Vec<u8>, front: &[u8], number: u64) -> Result<(), AllocError>
     ensures { OnOk result (text.new.items ≡ text.old.items ++ line (front.now ++ decimal number)) }
 {
     text.extend_from_slice(front)?;

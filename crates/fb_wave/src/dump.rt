@@ -21,10 +21,10 @@ use fb_trace::Outcome;
 use fb_types::{Line, Reason, Value};
 use std::alloc::{AllocError, Global};
 
-/// A dump, as far as lines of a trace were written. It keeps a cell for each signal.
+/// The dump of the lines of a trace so far. It keeps a cell for each signal.
 #[derive(Drop)]
 pub(crate) struct Dump {
-    /// The number of the first signal of each instance, and after them how many signals there are.
+    /// The number of the first signal of each instance, and after them the count of signals.
     firsts: Vec<usize>,
     levels: Levels,
     /// The tick of the last line, or 0 before the first.
@@ -41,8 +41,13 @@ fn reason_text(reason: Reason) -> &'static [u8]
     }
 }
 
-/// Puts the time of an end after a text, and why a resource stopped.
-fn put_end(text: &mut Vec<u8>, system: &System, shown: u64, end: Outcome) -> Result<(), AllocError>
+/// Appends the time of an end, and why a resource stopped.
+pub fn put_end(
+    text: &mut Vec<u8>,
+    system: &System,
+    shown: u64,
+    end: Outcome,
+) -> Result<(), AllocError>
     requires { EndsIn (system_of system.now) end }
     ensures { OnOk result (text.new.items ≡ text.old.items ++ end_text (system_of system.now) shown (ending_of end)) }
 {
@@ -56,7 +61,7 @@ fn put_end(text: &mut Vec<u8>, system: &System, shown: u64, end: Outcome) -> Res
     }
 }
 
-/// Puts a comment that a resource stopped.
+/// Appends a comment that a resource stopped.
 fn put_stop(text: &mut Vec<u8>, resource: &[u8], reason: Reason) -> Result<(), AllocError>
     ensures { OnOk result (text.new.items ≡ text.old.items ++ stop_comment resource.now reason) }
 {
@@ -69,17 +74,17 @@ fn put_stop(text: &mut Vec<u8>, resource: &[u8], reason: Reason) -> Result<(), A
 
 /// The signals of a line.
 #[derive(Clone, Copy)]
-struct Marks<'a> {
-    /// That of its event.
-    event: usize,
-    /// That of the first variable among which those of the line are.
-    first: usize,
-    /// The indexes of the line's variables among those.
-    indexes: &'a [u32],
+pub struct Marks<'a> {
+    /// The signal of its event.
+    pub event: usize,
+    /// The signal of the first input variable of the instance, or of the first output variable.
+    pub first: usize,
+    /// The indexes of the line's variables among these.
+    pub indexes: &'a [u32],
 }
 
 /// The signals of a line, by the numbers of the first signals of instances.
-fn marks_of<'a>(firsts: &[usize], system: &'a System, line: &Line) -> Marks<'a>
+pub fn marks_of<'a>(firsts: &[usize], system: &'a System, line: &Line) -> Marks<'a>
     requires firsts { AreFirsts (system_of system.now) firsts.now }
     requires line { BelongsTo (system_of system.now) line.now }
     ensures { AreMarks (system_of system.now) line.now result }
@@ -103,7 +108,7 @@ fn marks_of<'a>(firsts: &[usize], system: &'a System, line: &Line) -> Marks<'a>
     }
 }
 
-/// Goes on to a tick: puts what changed in the one before after a text, unless it is the same.
+/// Goes on to a tick: appends what changed in the tick before, unless it is the same.
 fn turn(levels: &mut Levels, shown: u64, tick: u64, text: &mut Vec<u8>) -> Result<(), AllocError>
     requires { All (λ s. s < length levels.old.cells.items) levels.old.marked.items }
     ensures counted { length levels.new.cells.items ≡ length levels.old.cells.items }
@@ -118,7 +123,7 @@ fn turn(levels: &mut Levels, shown: u64, tick: u64, text: &mut Vec<u8>) -> Resul
     put_time(text, shown, tick)
 }
 
-/// The variables at some indexes have these values, each as a signal whose number is that of the first and its index.
+/// Notes values of the variables at some indexes. The signal of a variable is the first one plus its index.
 fn show_values(
     levels: &mut Levels,
     first: usize,
@@ -139,8 +144,8 @@ fn show_values(
     Ok(())
 }
 
-/// Notes an event, and values at some indexes after the first variable.
-fn show(
+/// Notes an event, and values of the variables at some indexes.
+pub fn show(
     levels: &mut Levels,
     event: usize,
     first: usize,
@@ -161,7 +166,7 @@ fn show(
 }
 
 impl Dump {
-    /// Begins a dump of a trace of the system: puts its head after a text.
+    /// Begins a dump of a trace of the system: appends its head.
     pub(crate) fn begin(
         alloc: Global,
         system: &System,
@@ -180,7 +185,7 @@ impl Dump {
         })
     }
 
-    /// Shows a line of the trace: puts what changed before its tick after a text, where it is the first of its tick.
+    /// Shows a line of the trace. If it is the first of its tick, this appends what changed in the tick before.
     pub(crate) fn take(
         &mut self,
         system: &System,
@@ -207,7 +212,7 @@ impl Dump {
         )
     }
 
-    /// Puts what changed in the last tick, and that the trace is cut off, after a text.
+    /// Appends what changed in the last tick, and that the trace is cut off.
     pub(crate) fn cut_off(&mut self, text: &mut Vec<u8>) -> Result<(), AllocError>
         requires { All (λ s. s < length self.old.levels.cells.items) self.old.levels.marked.items }
         ensures { (sys : Flat) (ls : List Line) (sent : List ℕ) → HasShown sys ls (sent ++ text.old.items) self.old
@@ -217,7 +222,7 @@ impl Dump {
         text.extend_from_slice(b"$comment cut $end\n")
     }
 
-    /// Puts what changed in the last tick, and the end, after a text.
+    /// Appends what changed in the last tick, and the end.
     pub(crate) fn end(
         &mut self,
         system: &System,

@@ -21,9 +21,9 @@ fn add_ports(levels: &mut Levels, ports: &Ports) -> Result<(), AllocError>
     levels.add(ports.outputs.len())
 }
 
-/// Adds the signals of all instances where there are none yet. The answer is the number of the first signal of each
-/// instance, and after them how many signals there are.
-pub(crate) fn firsts_of(
+/// Adds the signals of all instances to none. The answer is the number of the first signal of each instance, and after them
+/// the count of signals.
+pub fn firsts_of(
     alloc: Global,
     system: &System,
     levels: &mut Levels,

@@ -1,4 +1,4 @@
-//! The head of a dump: scopes, signals, and what these begin with.
+//! The head of a dump: scopes, signals and their initial state.
 
 ghost use Rattle.std.specs.Prelude.{◌≡◌, ◌<◌, ◌≤◌, ◌+◌, ◌-◌, ◌^◌, ◌++◌, IfOk, OnOk, drop, length};
 ghost use Rattle.fb_types.specs.Headline.{system_of};
@@ -21,7 +21,7 @@ fn rest_from(text: &[u8], count: usize) -> &[u8]
     &text[count..]
 }
 
-/// The name of an instance among those next to it.
+/// The last part of the path of an instance: its name in its network.
 pub(crate) fn own_name(system: &System, instance: u32) -> &[u8]
     requires { instance < length (system_of system.now).paths }
     ensures { result.now ≡ spec.own_name (path_at (system_of system.now) instance) }
@@ -34,8 +34,9 @@ pub(crate) fn own_name(system: &System, instance: u32) -> &[u8]
     }
 }
 
-/// Puts the scope of an instance, where the given number of scopes of instances are open, and returns how many are open then.
-fn put_instance(
+/// Appends the scope of an instance after `depth` scopes of instances that are open. Returns the count of open ones
+/// afterwards.
+pub fn put_instance(
     text: &mut Vec<u8>,
     system: &System,
     first: usize,
@@ -58,7 +59,7 @@ fn put_instance(
     Ok(height)
 }
 
-/// Puts the scopes of the instances of a resource.
+/// Appends the scopes of the instances of a resource.
 fn put_instances(
     text: &mut Vec<u8>,
     system: &System,
@@ -80,8 +81,8 @@ fn put_instances(
     put_closed(text, depth)
 }
 
-/// Puts what the signals of all instances begin with.
-fn put_begun(
+/// Appends the initial state of the signals of all instances.
+pub fn put_begun(
     alloc: Global,
     text: &mut Vec<u8>,
     system: &System,
@@ -98,7 +99,7 @@ fn put_begun(
     Ok(())
 }
 
-/// Puts the scopes of all resources.
+/// Appends the scopes of all resources.
 fn put_resources(text: &mut Vec<u8>, system: &System, firsts: &[usize]) -> Result<(), AllocError>
     requires { AreFirsts (system_of system.now) firsts.now }
     ensures { OnOk result (text.new.items ≡ text.old.items
@@ -112,7 +113,7 @@ fn put_resources(text: &mut Vec<u8>, system: &System, firsts: &[usize]) -> Resul
     Ok(())
 }
 
-/// Puts the head of a dump: the time scale, the scopes of the resources, the first time and what signals begin with.
+/// Appends the head of a dump: the time scale, the scopes of the resources, the first time and the initial state.
 pub(crate) fn put_head(
     alloc: Global,
     text: &mut Vec<u8>,

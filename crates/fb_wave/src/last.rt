@@ -77,7 +77,7 @@ pub fn read_last(system: &System, text: &[u8]) -> Option<Outcome>
     ensures last { IfSome result (IsLast (system_of system.now) text.now) }
     ensures none { HasNames (system_of system.now) → IfNone result (IsNoLast (system_of system.now) text.now) }
 {
-    // With a number begins the line of an event.
+    // A line that begins with a number is the line of an event.
     if let Some(b'0'..=b'9') = text.first() {
         return None;
     }

@@ -1,4 +1,4 @@
-//! What signals show, as far as a trace was read.
+//! What signals show after the lines that were read.
 
 ghost use Rattle.std.specs.Prelude.{◌≡◌, ◌<◌, ℕ, ◌+◌, ◌^◌, List, ◌++◌, [], ◌∷◌, All, OnOk, length};
 ghost use Rattle.fb_wave.specs.Levels as spec;
@@ -9,8 +9,8 @@ use std::alloc::{AllocError, Global};
 
 /// What a signal shows.
 #[derive(Clone, Copy)]
-pub(crate) enum Level {
-    /// How many events a port had, in 64 bits.
+pub enum Level {
+    /// The count of events of a port, in 64 bits.
     Count(u64),
     /// The last value of a variable.
     Last(Value),
@@ -18,20 +18,20 @@ pub(crate) enum Level {
 
 /// A signal.
 #[derive(Clone, Copy)]
-pub(crate) struct Cell {
+pub struct Cell {
     /// What it shows.
-    pub(crate) shown: Level,
-    /// Set where a line of this tick has it.
-    pub(crate) is_marked: bool,
+    pub shown: Level,
+    /// Set if a line of this tick has it.
+    pub is_marked: bool,
 }
 
-/// All signals, and those of the lines of this tick, in the order in which each came first.
+/// All signals. Those of the lines of this tick are marked, in the order in which each came first.
 #[derive(Drop)]
-pub(crate) struct Levels {
+pub struct Levels {
     /// Each signal at the index of its number.
-    pub(crate) cells: Vec<Cell>,
-    /// The numbers of those of the lines of this tick.
-    pub(crate) marked: Vec<usize>,
+    pub cells: Vec<Cell>,
+    /// The numbers of the marked ones.
+    pub marked: Vec<usize>,
 }
 
 /// What is shown after one more event.
@@ -46,7 +46,7 @@ fn after_event(shown: Level) -> Level
 
 impl Levels {
     /// No signals.
-    pub(crate) fn new(alloc: Global) -> Levels
+    pub fn new(alloc: Global) -> Levels
         ensures { AreLevels 0 [] [] [] result }
     {
         Levels {
@@ -55,16 +55,16 @@ impl Levels {
         }
     }
 
-    /// How many signals there are.
-    pub(crate) fn count(&self) -> usize
+    /// The count of signals.
+    pub fn count(&self) -> usize
         ensures counted { result ≡ length self.now.cells.items }
         ensures fits { result < 2 ^ 64 }
     {
         self.cells.len()
     }
 
-    /// Adds a number of signals that no line has yet.
-    pub(crate) fn add(&mut self, count: usize) -> Result<(), AllocError>
+    /// Adds this count of signals that no line has yet.
+    pub fn add(&mut self, count: usize) -> Result<(), AllocError>
         ensures { (n : ℕ) → AreLevels n [] [] [] self.old → OnOk result (AreLevels (n + count) [] [] [] self.new) }
     {
         let mut left = count;
@@ -95,8 +95,8 @@ impl Levels {
         Ok(())
     }
 
-    /// A port had an event.
-    pub(crate) fn fire(&mut self, signal: usize) -> Result<(), AllocError>
+    /// Counts an event of a port.
+    pub fn fire(&mut self, signal: usize) -> Result<(), AllocError>
         requires signal { signal < length self.old.cells.items }
         requires within { All (λ s. s < length self.old.cells.items) self.old.marked.items }
         ensures counted { length self.new.cells.items ≡ length self.old.cells.items }
@@ -109,8 +109,8 @@ impl Levels {
         self.mark(signal)
     }
 
-    /// A variable got a value.
-    pub(crate) fn show(&mut self, signal: usize, value: Value) -> Result<(), AllocError>
+    /// Gives a variable its last value.
+    pub fn show(&mut self, signal: usize, value: Value) -> Result<(), AllocError>
         requires signal { signal < length self.old.cells.items }
         requires within { All (λ s. s < length self.old.cells.items) self.old.marked.items }
         ensures counted { length self.new.cells.items ≡ length self.old.cells.items }

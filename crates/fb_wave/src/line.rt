@@ -25,7 +25,7 @@ pub struct Parts {
     pub b: u128,
 }
 
-/// The class in 8 bits, where it has no more.
+/// The class, if it is below 256.
 fn class_of(number: u128) -> Option<u8>
     ensures { MatchOption result (2 ^ 8 ≤ number) (λ class. class ≡ number) }
 {
@@ -36,7 +36,7 @@ fn class_of(number: u128) -> Option<u8>
     }
 }
 
-/// What a line begins with in a form, and what comes after it.
+/// The beginning of a line in this form, and what comes after it.
 pub fn parts_of(form: Form, text: &[u8]) -> Option<(Parts, &[u8])>
     ensures head { MatchOption result (HasNoHead form text.now) (λ p. IsHead form text.now p.0 p.1.now) }
     ensures range { IfSome result (λ p. AreInRange p.0) }
@@ -85,7 +85,7 @@ fn port_values(
     }
 }
 
-/// The line of the system that a text is in a form, with its line feed.
+/// Reads a line of the system in this form from a text with its line feed. `None` if it is no line of the system.
 pub fn read_line(
     alloc: Global,
     table: &PortTable,

@@ -15,7 +15,7 @@ fn grown(number: u128, byte: u8) -> Option<u128>
     number.checked_mul(10)?.checked_add(u128::from(byte - b'0'))
 }
 
-/// The number whose decimal digits these are, below 2^128. There are no zeros before others.
+/// The number whose decimal digits these are, below 2^128, without leading zeros.
 pub(crate) fn natural(text: &[u8]) -> Option<u128>
     ensures { MatchOption result (IsNoNumber (2 ^ 128) text.now) (λ n. text.now ≡ decimal n) }
 {
@@ -29,7 +29,7 @@ pub(crate) fn natural(text: &[u8]) -> Option<u128>
     if text.is_empty() { None } else { Some(value) }
 }
 
-/// The number in 64 bits, where it has no more.
+/// The number, if it is below 2^64.
 pub(crate) fn narrow(number: u128) -> Option<u64>
     ensures { MatchOption result (IsWide number) (λ n. n ≡ number) }
 {
@@ -40,7 +40,7 @@ pub(crate) fn narrow(number: u128) -> Option<u64>
     }
 }
 
-/// The number below 2^64 that a text is.
+/// Reads a number below 2^64.
 pub(crate) fn magnitude(text: &[u8]) -> Option<u64>
     ensures { MatchOption result (IsNoNumber (2 ^ 64) text.now) (λ n. text.now ≡ decimal n) }
 {

@@ -10,10 +10,10 @@ use fb_trace::write_front;
 use std::alloc::Global;
 use std::io::Write;
 
-/// This many bytes wait before some are written, to make few writes of many.
+/// Bytes wait up to this count, so that there are few writes.
 const MANY: usize = 65_536;
 
-/// Whole lines that wait to be written, and how many bytes were written before them, up to the greatest `u128`.
+/// Whole lines that wait to be written, and the count of bytes written before them, up to the greatest `u128`.
 #[derive(Drop)]
 pub(crate) struct DumpPage {
     pub(crate) text: Vec<u8>,
@@ -48,7 +48,7 @@ impl DumpPage {
         Ok(())
     }
 
-    /// Writes all that waits, where it is much.
+    /// Writes all that waits, if it is at least `MANY` bytes.
     pub(crate) fn flush_much<W: Write>(&mut self, out: &mut W) -> Result<(), WaveError>
         ensures whole { OnOk result (IsFlushed (W.contents out.old) (W.contents out.new) self.old self.new) }
         ensures part { IfErr result (IsCutShort (W.contents out.old) (W.contents out.new) self.old) }

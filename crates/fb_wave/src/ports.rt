@@ -18,11 +18,11 @@ pub struct Port {
     pub instance: u32,
     /// The index of the event among the event inputs, or outputs.
     pub event: u32,
-    /// Set where it is an event input.
+    /// Set if it is an event input.
     pub taken: bool,
 }
 
-/// Lines have room for the numbers of this many events of one interface.
+/// The most events of one interface that lines can number.
 const MOST_EVENTS: usize = 1 << 32;
 
 /// Adds the event inputs of an instance, or its event outputs, of the given count.
@@ -77,7 +77,7 @@ fn events_of(ports: &Ports, taken: bool) -> &[EventPort]
     }
 }
 
-/// The name of one of these.
+/// The name of one of these events.
 fn event_name(ports: &Ports, taken: bool, event: u32) -> &[u8]
     requires { event < length (spec.events ports.now taken) }
     ensures { result.now ≡ event_at (spec.events ports.now taken) event }
@@ -95,15 +95,14 @@ pub fn holder_of(system: &System, port: Port) -> u32
     system.resource(port.instance) as u32
 }
 
-/// What is between the resource and the path of a line: the sign of an event that was taken, or of one that was
-/// emitted.
+/// The text between the resource and the path of a line: the sign of an event that is taken, or of one that is emitted.
 fn sign(taken: bool) -> &'static [u8]
     ensures { result.now ≡ (if taken then codes " > " else codes " < ") }
 {
     if taken { b" > " } else { b" < " }
 }
 
-/// What a line of a port has between its tick and its values: `RESOURCE > PATH.EVENT`, or with `<`.
+/// The text of a line between its tick and its values: `RESOURCE > PATH.EVENT`, or with `<`.
 pub fn port_text(alloc: Global, system: &System, port: Port) -> Result<Name, AllocError>
     requires { IsPortOf (system_of system.now) port }
     ensures { IfOk result (λ n. n ≡ spec.port_text (system_of system.now) port) }

@@ -6,7 +6,7 @@ ghost use Rattle.fb_wave.specs.Scopes as spec;
 use std::alloc::AllocError;
 
 /// Opens a scope with a name.
-pub(crate) fn put_opened(text: &mut Vec<u8>, name: &[u8]) -> Result<(), AllocError>
+pub fn put_opened(text: &mut Vec<u8>, name: &[u8]) -> Result<(), AllocError>
     ensures { OnOk result (text.new.items ≡ text.old.items ++ spec.opened name.now) }
 {
     text.extend_from_slice(b"$scope module ")?;
@@ -15,7 +15,7 @@ pub(crate) fn put_opened(text: &mut Vec<u8>, name: &[u8]) -> Result<(), AllocErr
 }
 
 /// Closes the given number of scopes.
-pub(crate) fn put_closed(text: &mut Vec<u8>, count: usize) -> Result<(), AllocError>
+pub fn put_closed(text: &mut Vec<u8>, count: usize) -> Result<(), AllocError>
     ensures { OnOk result (text.new.items ≡ text.old.items ++ spec.closed count) }
 {
     let mut left = count;

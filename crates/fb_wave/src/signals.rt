@@ -49,7 +49,7 @@ fn put_events(
     Ok(())
 }
 
-/// Whether lines carry a variable: where it is WITH one of the events.
+/// Whether lines carry a variable: whether it is WITH one of the events.
 pub(crate) fn is_carried(events: &[EventPort], variable: &Variable) -> bool
     ensures { result ≡ spec.is_carried events.now variable.now }
 {
@@ -104,7 +104,7 @@ fn put_variables(
     Ok(())
 }
 
-/// Puts the events of an interface, its inputs and then its outputs. The first signal has this number.
+/// Appends the events of an interface, its inputs and then its outputs. The first signal has this number.
 pub(crate) fn put_port_events(
     text: &mut Vec<u8>,
     part: HeadPart,

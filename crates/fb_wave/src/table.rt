@@ -1,4 +1,4 @@
-//! The ports of a system by what lines have of them.
+//! Finds the ports of a system by their text in lines.
 
 ghost use Rattle.std.specs.Prelude.{◌≡◌, ◌≤◌, ℕ, List, ◌++◌, All, Contains, IfNone, IfOk, IfSome, MatchOption, Some, slice_get, length, map};
 ghost use Rattle.fb_types.specs.Headline.{system_of};
@@ -17,7 +17,7 @@ use fb_system::System;
 use fb_types::Name;
 use std::alloc::{AllocError, Global};
 
-/// The ports of a system, and the indexes of their texts among those of all.
+/// The ports of a system, found by their texts.
 #[derive(Drop)]
 pub struct PortTable<'a> {
     /// The system.
@@ -27,8 +27,8 @@ pub struct PortTable<'a> {
     indexes: Indexes<'a>,
 }
 
-/// Where the port of a line is looked for first: at the port that came last after that of the line before. A guess
-/// that is wrong costs time alone, so nothing is promised of it.
+/// A guess of the port of the next line: the port that came last after the port of this line. A wrong guess only costs
+/// time, so no contract speaks of it.
 #[derive(Drop)]
 pub struct Guess {
     /// For each port the index of the one that came last after it.
@@ -47,7 +47,7 @@ impl Guess {
         Ok(Guess { next, last: 0 })
     }
 
-    /// The index to look at.
+    /// The index of the guessed port.
     fn index(&self) -> usize {
         match self.next.get(self.last) {
             Some(index) => *index,
@@ -55,7 +55,7 @@ impl Guess {
         }
     }
 
-    /// Keeps that a line of the port at this index was read.
+    /// Notes that the port at this index came next.
     fn mark(&mut self, index: usize) {
         if let Some(next) = self.next.get_mut(self.last) {
             *next = index;
@@ -96,7 +96,7 @@ fn names_of(alloc: Global, texts: &[Name]) -> Result<Vec<&Name>, AllocError>
     Ok(names)
 }
 
-/// How long the text of a port is that a text begins with: it ends where its third word ends.
+/// The length of the port's text at the beginning of a text: up to the end of its third word.
 fn port_len(text: &[u8]) -> Option<usize>
     ensures three { MatchOption result (HasNoThree text.now) (HasThree text.now) }
     ensures within { IfSome result (λ n. n ≤ length text.now) }
@@ -108,7 +108,7 @@ fn port_len(text: &[u8]) -> Option<usize>
 }
 
 impl<'a> PortTable<'a> {
-    /// A table of ports, of which these are the texts, or `None` where two are written alike.
+    /// The table of ports with these texts, or `None` if two texts are the same.
     pub fn of(
         alloc: Global,
         system: &'a System,
@@ -150,7 +150,7 @@ impl<'a> PortTable<'a> {
         Some((*port, rest))
     }
 
-    /// The port with whose text a text begins, and what comes after it. Its index is guessed, and looked up where the
+    /// The port whose text is the beginning of a text, and what comes after it. Its index is guessed, and looked up if the
     /// guess is wrong.
     pub fn find<'b>(&self, guess: &mut Guess, text: &'b [u8]) -> Option<(Port, &'b [u8])>
         requires { IsTable self.now }

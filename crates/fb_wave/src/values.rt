@@ -10,7 +10,7 @@ use crate::words::{after_front, cut};
 use fb_types::{Ty, Value, Values, Variable};
 use std::alloc::{AllocError, Global};
 
-/// The number below 0 of which a text has the digits after the sign.
+/// The number below 0 whose digits after the sign are this text.
 fn below_zero(digits: &[u8]) -> Option<i128>
     ensures { MatchOption result (HasNoDigits digits.now) (λ z. IsTextOfWhole z (codes "-" ++ digits.now)) }
 {
@@ -20,7 +20,7 @@ fn below_zero(digits: &[u8]) -> Option<i128>
     }
 }
 
-/// The number below 2^64 in magnitude that a text is, with a sign if it is below 0.
+/// Reads a number below 2^64 in magnitude, with a sign if it is below 0.
 fn whole(text: &[u8]) -> Option<i128>
     ensures { MatchOption result (IsNoWhole text.now) (λ z. IsTextOfWhole z text.now) }
 {
@@ -30,7 +30,7 @@ fn whole(text: &[u8]) -> Option<i128>
     }
 }
 
-/// The truth value that a text is.
+/// Reads a truth value.
 fn truth(text: &[u8]) -> Option<bool>
     ensures { MatchOption result (IsNoTruth text.now) (λ b. text.now ≡ value_text (Value.Bool b)) }
 {
@@ -43,7 +43,7 @@ fn truth(text: &[u8]) -> Option<bool>
     None
 }
 
-/// The value that a text is, whole numbers below 2^64 in magnitude.
+/// Reads a truth value, or a whole number below 2^64 in magnitude.
 fn value_in(text: &[u8]) -> Option<Value>
     ensures { MatchOption result (IsNone text.now) (λ v. IsTextOfValue v text.now) }
 {
@@ -53,7 +53,7 @@ fn value_in(text: &[u8]) -> Option<Value>
     }
 }
 
-/// The value of a type that a text is.
+/// Reads a value of this type.
 pub fn value_of(ty: Ty, text: &[u8]) -> Option<Value>
     ensures { MatchOption result (IsNoValue ty text.now) (λ v. (fits ty v ≡ true) × (text.now ≡ value_text v)) }
 {

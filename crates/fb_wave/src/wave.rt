@@ -22,14 +22,14 @@ use std::io::{BufRead, Write};
 
 /// Reads a trace of the system, in either form, and writes its value change dump.
 ///
-/// A time of the dump is a tick, in milliseconds. In a tick each signal changes once, at most: an event port fires
-/// where it had an event, and the count next to it has 64 bits; a variable takes its last value. All memory is that of
-/// the signals, of a line, and of a page.
+/// A time of the dump is a tick, in milliseconds. In a tick each signal changes once at most. An event port fires if it
+/// had an event, and the count next to it has 64 bits. A variable takes its last value. The memory is that of the signals,
+/// a line and a page.
 ///
 /// # Errors
 /// `Refused` with the number of the first line that no trace of the system has after the lines before it. So no trace is
-/// refused. What was written then is the beginning of a dump and ends at a line. The same holds where the reader fails or
-/// memory runs out. Where the writer fails it got as many bytes as the error says, but not all.
+/// refused. What was written then is the beginning of a dump and ends at a line. The same holds if the reader fails (`Read`)
+/// or memory runs out (`Memory`). If the writer fails (`Write`), it got as many bytes as the error says, but not all.
 ///
 /// # Example
 ///
@@ -58,10 +58,10 @@ pub fn write_wave<R: BufRead, W: Write>(
     write_wave_with(alloc, system, Cut::Refused, &mut current, input, out)
 }
 
-/// The same of a trace that may be cut off: end without a last line, or within a line, which then does not count. Its dump
-/// ends in a comment that says so.
+/// As `write_wave`, for a trace that may be cut off: it ends without a last line, or within a line, which then does not
+/// count. Its dump ends in a comment that says so.
 ///
-/// The line that was read last is lent, so that after a refusal it shows which line was refused.
+/// The caller lends the buffer for lines, so that it has the refused line after a refusal.
 ///
 /// # Errors
 /// As those of `write_wave`, but no trace is refused because it is cut off.

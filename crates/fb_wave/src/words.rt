@@ -19,7 +19,7 @@ pub fn is_digit(byte: u8) -> bool
     byte.is_ascii_digit()
 }
 
-/// The bytes before the first that ends a word, and the rest from that one on.
+/// Splits a text before the first byte that ends a word.
 pub fn cut(text: &[u8]) -> Option<(&[u8], &[u8])>
     ensures { MatchOption result (spec.is_word text.now ≡ true) (λ p. IsCut text.now p.0.now p.1.now) }
 {
@@ -31,7 +31,7 @@ pub fn cut(text: &[u8]) -> Option<(&[u8], &[u8])>
     None
 }
 
-/// What comes after a front.
+/// What comes after a front, or `None` if the text does not begin with it.
 pub fn after_front<'a>(text: &'a [u8], front: &[u8]) -> Option<&'a [u8]>
     ensures { MatchOption result ((rest : List ℕ) → text.now ≡ front.now ++ rest → ⊥) (λ rest. text.now ≡ front.now ++ rest.now) }
 {

@@ -8,17 +8,17 @@ use fb_wave::Port;
 pub enum LineFault<'a> {
     /// A last line comes before it.
     AfterEnd,
-    /// The text ends, and no last line was there.
+    /// The text ends without a last line.
     Missing,
     /// It does not end in a line feed.
     Unended,
     /// It is this end, which may not come after the tick of the line before.
     Early(Outcome),
-    /// It begins as a last line does, and is none of the system.
+    /// It begins like a last line, and is no last line of the system.
     NoEnd,
-    /// It has no class and parts of a key where form two has them.
+    /// It lacks the class and the parts of a key, which a line of form two has.
     Key,
-    /// It has no tick, a number of 64 bits, where a line has one.
+    /// It has no number of 64 bits in the place of the tick.
     Tick,
     /// It has this tick, in milliseconds, which is below that of the line before.
     Falls(u64),
@@ -45,7 +45,7 @@ pub enum PortFault<'a> {
         taken: bool,
         name: &'a [u8],
     },
-    /// The instance of this port is in another resource than the line has.
+    /// The instance of this port is in another resource than the one in the line.
     Elsewhere(Port),
     /// Something is wrong with the values of this port.
     Values(Port, ValueFault<'a>),
@@ -56,9 +56,9 @@ pub enum PortFault<'a> {
 pub enum ValueFault<'a> {
     /// No variable of this name is WITH the event.
     Variable(&'a [u8]),
-    /// The input of this index, or the output, has no value where it has to come.
+    /// The input with this index, or the output, has no value in its place.
     Missing(u32),
-    /// This is no value of the input of this index, or the output.
+    /// This is no value of the input with this index, or of the output.
     Value(u32, &'a [u8]),
     /// This comes after the last value, and is not the end of the line alone.
     More(&'a [u8]),

@@ -14,7 +14,7 @@ use fb_wave::truncation::is_unended;
 use fb_wave::words::after_front;
 use fb_wave::{CurrentLine, can_end};
 
-/// Whether a line begins as a last line does.
+/// Whether a line begins like a last line.
 fn is_like_end(text: &[u8]) -> bool {
     after_front(text, b"end ").is_some() || after_front(text, b"stop ").is_some()
 }
@@ -39,8 +39,7 @@ fn event_line_fault<'a>(system: &System, current: &'a CurrentLine) -> Option<Lin
     }
 }
 
-/// What is wrong with the line that was read last: what comes first in it. Where there is nothing, a trace can go on with
-/// the line.
+/// The first thing that is wrong in the line that was read last. If there is nothing, a trace can go on with the line.
 pub fn fault_of<'a>(system: &System, current: &'a CurrentLine) -> Option<LineFault<'a>>
     ensures { MatchOption result (CanGoOn (system_of system.now) current.now) (Applies (system_of system.now) current.now) }
 {

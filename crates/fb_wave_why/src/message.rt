@@ -84,7 +84,7 @@ fn push_port_fault(text: &mut LineText, system: &System, fault: PortFault<'_>) {
     }
 }
 
-/// What is said of an instance that has no such event.
+/// Adds that an instance has no such event.
 fn no_event_words(taken: bool) -> &'static str {
     if taken {
         " has no event input "

@@ -1,4 +1,4 @@
-//! Instances, events and signs by what lines have of them.
+//! Finds instances, events and signs by their texts in lines.
 
 ghost use Rattle.std.specs.Prelude.{◌≡◌, ◌<◌, IfNone, IfSome, MatchOption, length};
 ghost use Rattle.fb_types.specs.Headline.{system_of};
@@ -10,7 +10,7 @@ ghost use Rattle.fb_wave_why.specs.Faults.{IsNoEvent, IsNoInstance, IsNoSign, si
 use fb_system::System;
 use fb_types::{EventPort, Ports};
 
-/// Lines have room for the numbers of this many events of one interface.
+/// The most events of one interface that lines can number.
 const MOST_EVENTS: usize = 1 << 32;
 
 /// The number of the instance with a path.
@@ -53,7 +53,7 @@ pub(crate) fn event_of(events: &[EventPort], name: &[u8]) -> Option<u32>
     None
 }
 
-/// Whether an event is taken that has this sign.
+/// Whether an event with this sign is taken (`>`) or emitted (`<`). `None` for another sign.
 pub(crate) fn taken_of(sign: &[u8]) -> Option<bool>
     ensures { MatchOption result (IsNoSign sign.now) (λ taken. sign.now ≡ sign_text taken) }
 {

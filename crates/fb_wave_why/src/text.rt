@@ -5,7 +5,7 @@ use std::alloc::{AllocError, Global};
 /// The most bytes of a part of a line that are shown.
 const MOST_SHOWN: usize = 60;
 
-/// How a byte is shown: one that is not a printable ASCII character as a question mark.
+/// The byte as it is shown: a question mark for all but printable ASCII characters.
 fn shown(byte: u8) -> u8 {
     match byte {
         b' '..=b'~' => byte,
@@ -13,12 +13,12 @@ fn shown(byte: u8) -> u8 {
     }
 }
 
-/// A growing text. If memory runs out for a part, it stops growing and ends in an error, so code that appends needs no
+/// A growing text. If memory runs out for a part, it stops growing, and `into_string` reports it. So code that appends needs no
 /// check.
 #[derive(Drop)]
 pub(crate) struct LineText {
     all: String,
-    /// `Ok` as long as there was memory for everything.
+    /// `Ok` while there was memory for everything.
     written: Result<(), AllocError>,
 }
 

@@ -29,7 +29,7 @@ fn is_known(variables: &[Variable], indexes: &[u32], name: &[u8]) -> bool
     false
 }
 
-/// What is wrong with a text that does not begin with the value of the variable at a place among some indexes.
+/// What is wrong with a text that does not begin with the value of the variable at this position in a list of indexes.
 fn unbound_fault<'a>(
     variables: &[Variable],
     indexes: &[u32],

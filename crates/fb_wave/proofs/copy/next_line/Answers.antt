@@ -3,11 +3,11 @@ use Rattle.std.specs.Io.{appended_bytes}
 use Rattle.std.specs.Io.KnownBytes.{Consumes}
 use Rattle.fb_wave.proofs.copy.next_line.Goals as goal
 
-pub returns-in-Ok-clause-read : goal.returns-in-Ok-clause-read
-returns-in-Ok-clause-read g c =
+pub returns-clause-read : goal.returns-clause-read
+returns-clause-read g c =
     subst (λ (l : List ℕ). Consumes (g.R.Read.remaining c.args.input.now) (g.R.Read.remaining c.read_until.new.self) (appended_bytes l c.read_until.new.buf.items)) c.clear.ensures.items
-    c.in-Ok.ensures.none_lost
+    c.in_ok-read_until.ensures.none_lost
 
-pub returns-in-Ok-clause-end : goal.returns-in-Ok-clause-end
-returns-in-Ok-clause-end g c none =
-    c.in-Ok.ensures.end (omega (arith, c.in-Ok.ensures.ok, ap length none, c.read_until.new.buf.ok.0))
+pub returns-clause-end : goal.returns-clause-end
+returns-clause-end g c none =
+    c.in_ok-read_until.ensures.end (omega (arith, c.in_ok-read_until.ensures.ok, ap length none, c.read_until.new.buf.ok.0))

@@ -1,15 +1,16 @@
 use Rattle.std.proofs.Common.{◌≡◌, ◌∙◌, ℕ, true, false, List, refl, subst, sym}
 use Rattle.fb_types.specs.Headline.{system_of}
 use Rattle.fb_wave.specs.Lines.{IsLast, IsNoLast}
-use Rattle.fb_wave.specs.Copying.{IsNoWriteFault, IsTaken, RefusesLine}
+use Rattle.fb_wave.specs.Copying.{IsTaken, RefusesLine}
 use Rattle.fb_wave.specs.CutOff.{BlamesShown, FailsShown, is_cut, is_unended}
 use Rattle.fb_wave.proofs.Copied.{copied_all, copied_none, copied_one, fails_front, fails_taken, fails_unfinished, front_copied, front_flushed, front_none}
 use Rattle.fb_wave.proofs.Blaming.{end_blamed, line_blamed, some_resource}
 use Rattle.fb_wave.proofs.Forming.{ShowsForm, form_shown}
 use Rattle.fb_wave.proofs.Handing.{on_fault, on_ok, on_passed}
-use Rattle.fb_wave.proofs.Severed.{blames_in, blames_read, cut_blames, cut_fails, cut_shown, end_no_cut, fails_in, line_no_cut, shown_in, uncut_line, write_blames}
+use Rattle.fb_wave.proofs.Severed.{blames_in, cut_blames, cut_fails, cut_shown, end_no_cut, fails_in, line_no_cut, read_blames, shown_in, uncut_line, write_blames}
 use Rattle.fb_wave.specs.CurrentLines.{IsRefusedLine}
 use Rattle.fb_wave.proofs.Current.{cut_current, end_current, line_current, write_current}
+use Rattle.fb_wave.proofs.Unread.{read_current, read_writes_none}
 use Rattle.fb_wave.proofs.copy.Progress.copy.Goals as goal
 
 pub loop-number-init : goal.loop-number-init
@@ -56,7 +57,7 @@ returns-in-Some-clause-whole g c =
 pub returns-in_err-next_line-clause-part : goal.returns-in_err-next_line-clause-part
 returns-in_err-next_line-clause-part g c =
     on_passed _ _ (FailsShown c.args.cut (system_of c.args.table.now.system.now) _ _) c.from_residual.ensures.1
-    (fails_in c.args.cut _ _ _ _ (fails_front _ _ _ _ (subst IsNoWriteFault (sym c.in_err-next_line.ensures.fault) tt) (front_none _ _)))
+    (fails_in c.args.cut _ _ _ _ (fails_front _ _ _ _ (read_writes_none _ c.in_err-next_line.ensures.fault) (front_none _ _)))
 
 pub returns-in-Some-clause-part : goal.returns-in-Some-clause-part
 returns-in-Some-clause-part g c =
@@ -81,7 +82,7 @@ returns-in_err-next_line-2-clause-part g c =
     let sys = system_of c.args.table.now.system.now in
     on_passed _ _ (FailsShown c.args.cut sys (g.W.Write.contents c.args.out.now) (g.W.Write.contents c.flush_much.new.out)) c.from_residual-in_err-next_line-2.ensures.1
     (fails_in c.args.cut sys _ _ _
-    (fails_front _ _ _ _ (subst IsNoWriteFault (sym c.in_err-next_line-2.ensures.fault) tt)
+    (fails_front _ _ _ _ (read_writes_none _ c.in_err-next_line-2.ensures.fault)
     (front_flushed sys _ _ _ _ _ _ _ _ _ _ _ c.loop-number.invariant.copied
     (subst (λ (l : List ℕ). IsTaken sys c.form_of-form.result l c.loop-number.self c.take.new.self) c.as_slice-in-loop-number-3.ensures.value c.in_ok-take.ensures.taken)
     c.in_ok-flush_much.ensures.whole)))
@@ -122,13 +123,13 @@ pub returns-in_err-next_line-clause-refused : goal.returns-in_err-next_line-clau
 returns-in_err-next_line-clause-refused g c names =
     let sys = system_of c.args.table.now.system.now in
     let input = g.R.Read.remaining c.args.input.now in
-    on_passed _ _ (BlamesShown c.args.cut sys input) c.from_residual.ensures.1 (subst (BlamesShown c.args.cut sys input) (sym c.in_err-next_line.ensures.fault) (blames_read c.args.cut sys input))
+    on_passed _ _ (BlamesShown c.args.cut sys input) c.from_residual.ensures.1 (read_blames c.args.cut sys input _ c.in_err-next_line.ensures.fault)
 
 pub returns-in_err-next_line-2-clause-refused : goal.returns-in_err-next_line-2-clause-refused
 returns-in_err-next_line-2-clause-refused g c names =
     let sys = system_of c.args.table.now.system.now in
     let input = g.R.Read.remaining c.args.input.now in
-    on_passed _ _ (BlamesShown c.args.cut sys input) c.from_residual-in_err-next_line-2.ensures.1 (subst (BlamesShown c.args.cut sys input) (sym c.in_err-next_line-2.ensures.fault) (blames_read c.args.cut sys input))
+    on_passed _ _ (BlamesShown c.args.cut sys input) c.from_residual-in_err-next_line-2.ensures.1 (read_blames c.args.cut sys input _ c.in_err-next_line-2.ensures.fault)
 
 pub returns-in_err-flush_much-clause-refused : goal.returns-in_err-flush_much-clause-refused
 returns-in_err-flush_much-clause-refused g c names =
@@ -188,13 +189,13 @@ pub returns-in_err-next_line-clause-current : goal.returns-in_err-next_line-clau
 returns-in_err-next_line-clause-current g c names =
     let sys = system_of c.args.table.now.system.now in
     let input = g.R.Read.remaining c.args.input.now in
-    on_passed _ _ (IsRefusedLine sys input _) c.from_residual.ensures.1 (subst (IsRefusedLine sys input _) (sym c.in_err-next_line.ensures.fault) tt)
+    on_passed _ _ (IsRefusedLine sys input _) c.from_residual.ensures.1 (read_current sys input _ _ c.in_err-next_line.ensures.fault)
 
 pub returns-in_err-next_line-2-clause-current : goal.returns-in_err-next_line-2-clause-current
 returns-in_err-next_line-2-clause-current g c names =
     let sys = system_of c.args.table.now.system.now in
     let input = g.R.Read.remaining c.args.input.now in
-    on_passed _ _ (IsRefusedLine sys input _) c.from_residual-in_err-next_line-2.ensures.1 (subst (IsRefusedLine sys input _) (sym c.in_err-next_line-2.ensures.fault) tt)
+    on_passed _ _ (IsRefusedLine sys input _) c.from_residual-in_err-next_line-2.ensures.1 (read_current sys input _ _ c.in_err-next_line-2.ensures.fault)
 
 pub returns-in_err-flush_much-clause-current : goal.returns-in_err-flush_much-clause-current
 returns-in_err-flush_much-clause-current g c names =

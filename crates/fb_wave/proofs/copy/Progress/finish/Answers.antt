@@ -1,8 +1,8 @@
-use Rattle.std.proofs.Common.{refl, subst, sym}
+use Rattle.std.proofs.Common.{refl}
 use Rattle.fb_types.specs.Headline.{system_of}
-use Rattle.fb_wave.specs.Copying.{IsUnfinished}
 use Rattle.fb_wave.proofs.Copied.{unfinished_part}
 use Rattle.fb_wave.proofs.Handing.{on_fault, on_ok, on_passed}
+use Rattle.fb_wave.proofs.Unread.{read_end, read_refused_at, read_unfinished}
 use Rattle.fb_wave.proofs.copy.Progress.finish.Goals as goal
 
 pub returns-clause-whole : goal.returns-clause-whole
@@ -22,8 +22,13 @@ returns-in_err-end-clause-part g c = on_passed _ _ _ c.from_residual.ensures.1 r
 
 pub returns-in_err-is_over-clause-part : goal.returns-in_err-is_over-clause-part
 returns-in_err-is_over-clause-part g c =
-    let old = g.W.Write.contents c.args.out.now in
-    on_passed _ _ _ c.from_residual-in_err-is_over.ensures.1 (subst (IsUnfinished (system_of c.args.system.now) c.args.self.now old old) (sym c.in_err-is_over.ensures.fault) refl)
+    on_passed _ _ _ c.from_residual-in_err-is_over.ensures.1 (read_unfinished (system_of c.args.system.now) c.args.self.now (g.W.Write.contents c.args.out.now) _ c.in_err-is_over.ensures.fault)
+
+pub returns-in_err-is_over-clause-refused : goal.returns-in_err-is_over-clause-refused
+returns-in_err-is_over-clause-refused g c = on_passed _ _ _ c.from_residual-in_err-is_over.ensures.1 (read_end c.args.end _ _ _ _ c.in_err-is_over.ensures.fault)
+
+pub returns-in_err-is_over-clause-current : goal.returns-in_err-is_over-clause-current
+returns-in_err-is_over-clause-current g c = on_passed _ _ _ c.from_residual-in_err-is_over.ensures.1 (read_refused_at c.args.end _ _ _ _ _ _ c.in_err-is_over.ensures.fault)
 
 pub returns-clause-part : goal.returns-clause-part
 returns-clause-part g c =
