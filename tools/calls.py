@@ -261,7 +261,7 @@ HELP_OF_EXPECT = (
 HELP_OF_DIFF = ("first trace", "second trace", "Example: fbsim diff ")
 HELP_OF_DRAW = ("DECL", "declaration of the types", "--types", "once for each file", "--deploy", "in TOML", "--type", "type to draw", "network of a composite", "Example: fbsim draw ")
 HELP_OF_INSPECT = (
-    "DECL", "declaration of the types", "TRACE", "file with the trace", "--types", "--deploy", "in TOML", "--only", "path of an instance", "--steps", "limit of steps of the run", "Example: fbsim inspect ",
+    "DECL", "declaration of the types", "TRACE", "file with the trace", "--types", "--deploy", "in TOML", "--only", "path of an instance", "--steps", "limit of steps of the run", "--cut", "--why", "Example: fbsim inspect ",
 )
 # Of the blocks of CYCLE, S starts once, and C is started and never stopped. A trace to 0 has no tick of the cycle.
 COVERED_TO_8 = b"""\
@@ -274,7 +274,7 @@ states 0 of 0, transitions 0 of 0, algorithms 0 of 0, events 0 of 0, ports 3 of 
 """
 COVERED_TO_0 = COVERED_TO_8.replace(b"never taken\n", b"never taken\n  event EO was never emitted\n").replace(b"3 of 6", b"2 of 6")
 HELP_OF_COVERAGE = (
-    "DECL", "declaration of the types", "TRACE", "files with the traces", "--types", "--deploy", "in TOML", "--steps", "limit of steps of the runs", "Example: fbsim coverage ",
+    "DECL", "declaration of the types", "TRACE", "files with the traces", "--types", "--deploy", "in TOML", "--steps", "limit of steps of the runs", "--cut", "--why", "Example: fbsim coverage ",
 )
 HELP_OF_EXPLAIN = ("NAME", "name of the refusal", "E01 to E45", "L01 to L13", "steps, divide or range", "Example: fbsim explain E21")
 HELP_OF_ALL = (
@@ -720,7 +720,11 @@ CALLS += [
     of("inspect cycle -", 2, err=b"refused trace line 3\n", given=TO_8.replace(b"3 MAIN <", b"4 MAIN <")),
     of("inspect ring - --steps 3", 0, out=STOPPED, given=STOPPED),
     of("inspect ring -", 2, err=b"refused trace line 6\n", given=STOPPED),
-    of("inspect ring - --steps 2", 2, err=b"refused trace line 4\n", given=STOPPED),
+    of("inspect ring - --steps 2", 2, err=b"refused trace line 6\n", given=STOPPED),
+    of("inspect cycle - --cut", 0, out=INSIDE_TO_8[:INSIDE_TO_8.index(b"  due 6")] + b"  cut\n", given=TO_8[:TO_8.index(b"6 MAIN") + 4]),
+    of("inspect cycle - --cut --why", 0, out=INSIDE_TO_8, given=TO_8),
+    of("inspect cycle - --why", 2, err=b"refused trace line 1\ntrace: line 1: the trace has no last line\n", given=b""),
+    of("inspect cycle nowhere --why", 3, err=b"file fault\ntrace nowhere: no file of this name can be read\n"),
     of("inspect twice trace", 2, err=b"refused E20\n"),
     of("inspect cycle nowhere", 3, err=b"file fault\n"),
     of("inspect cycle --deploy nowhere trace", 3, err=b"file fault\n"),
@@ -737,7 +741,9 @@ CALLS += [
     of("coverage cycle no_trace", 2, err=b"refused trace line 1\n"),
     of("coverage cycle trace no_trace nowhere", 2, err=b"refused trace no_trace line 1\n"),
     of("coverage cycle trace -", 2, err=b"refused trace - line 3\n", given=TO_8.replace(b"3 MAIN <", b"4 MAIN <")),
-    of("coverage ring - --steps 2", 2, err=b"refused trace line 4\n", given=STOPPED),
+    of("coverage ring - --steps 2", 2, err=b"refused trace line 6\n", given=STOPPED),
+    of("coverage cycle - --cut", 0, out=COVERED_TO_0 + b"traces cut 1 of 1\n", given=TO_8[:TO_8.index(b"6 MAIN") + 4]),
+    of("coverage cycle trace - --why", 2, err=b"refused trace - line 1\ntrace -: line 1: the trace has no last line\n", given=b""),
     of("coverage twice trace", 2, err=b"refused E20\n"),
     of("coverage cycle nowhere no_trace", 3, err=b"file fault\n"),
     of("coverage cycle --deploy nowhere trace", 3, err=b"file fault\n"),

@@ -4,7 +4,8 @@
 The second simulator of tools/interpreter.py runs each example and each random system of tools/drawn.py once more, and notes what each
 block does as docs/FORMATS.md says: transitions, algorithms with what they change, lost events, and what event blocks remember. The
 program is given the trace alone. Both texts are to be the same, and without the lines that begin with two spaces they are the trace.
-Of traces in which one emission was changed or left out, the program is to refuse the first line that shows it."""
+Of traces in which one emission was changed or left out, the program is to refuse the first line that shows it. Of traces that are cut
+off, with `--cut`, the text is to be the same up to the last event, and then the lines that are there."""
 
 import glob
 import os
@@ -20,6 +21,8 @@ from program import Room, side_by_side
 
 PROGRAM = f"{TOP}/crates/fbsim/out/fbsim"
 PORT = re.compile(r" ([<>]) ([\w.]+)\.\w+")
+EVENT = re.compile(r"(?:\d+ \d+ \d+ )?(\d+) \w+ ([<>]) ([\w.]+)\.\w+")
+CUTS = 7
 NEVER = re.compile(r"(  transition \w+ -> \w+ by )(.*) never cleared\n")
 CLEARED = re.compile(r"(  \w+ -> \w+ by )(.*)\n")
 SHOWN = 10
@@ -209,19 +212,54 @@ def spoiled(system, trace):
             return
 
 
+def is_own(first, line):
+    """Whether a line is one of an emission of the block of another line, in its tick."""
+    (tick, _, path), (other_tick, sign, other_path) = (EVENT.match(it).groups() for it in (first, line))
+    return sign == "<" and (tick, path) == (other_tick, other_path)
+
+
+def cut_text(wanted, front):
+    """What `inspect --cut` writes of the front of a trace."""
+    whole = front[: front.rfind("\n") + 1].splitlines(keepends=True)
+    first = next((at for at, it in enumerate(whole) if all(is_own(it, other) for other in whole[at + 1 :])), len(whole))
+    kept, lines = [], 0
+    for line in wanted.splitlines(keepends=True):
+        if not line.startswith("  "):
+            if lines == first:
+                break
+            lines += 1
+        kept.append(line)
+    return "".join([*kept, *whole[first:], "  cut\n"])
+
+
+def cut_faults(room, place, words, wanted, trace):
+    """What is wrong with the texts of a trace that is cut off at some bytes."""
+    for turn in range(CUTS):
+        front = trace[: min(len(trace) * turn // CUTS + turn % 3, len(trace) - 1)]
+        ran = room.call([*words, "--cut", "-"], front.encode())
+        found = with_conditions(ran.stdout.decode())
+        if ran.returncode or ran.stderr or found != cut_text(wanted, front):
+            yield f"{place}, {len(front)} bytes: status {ran.returncode} {ran.stderr.decode().strip()}: {found[-200:]!r}"
+        ran = room.call(["coverage", *words[1:], "--cut", "-"], front.encode())
+        if ran.returncode or ran.stderr or not ran.stdout.endswith(b"\ntraces cut 1 of 1\n"):
+            yield f"{place}, {len(front)} bytes: coverage: status {ran.returncode} {ran.stderr.decode().strip()}"
+
+
 def faults_of(room, number, case):
     """What is wrong with the texts of a case."""
     name, declaration, plan, stimuli, horizon, steps = case
     wrong = []
     for form in (1, 2):
         system = Noted(declaration, tomllib.loads(plan) if plan else None, interpreter.stimuli_in(stimuli), steps)
-        wanted = system.run(horizon, form=form)
+        wanted = with_notes = system.run(horizon, form=form)
         trace = without_notes(wanted)
         files = {"iec": declaration, "trace": trace} | ({"toml": plan} if plan else {})
         for ending, text in files.items():
             with open(f"{room.folder}/{number}.{ending}", "w", encoding="utf-8") as it:
                 it.write(text)
-        words = ["inspect", f"{number}.iec", *(["--deploy", f"{number}.toml"] if plan else []), "--steps", str(steps)]
+        words = ["inspect", f"{number}.iec", *(["--deploy", f"{number}.toml"] if plan else [])]
+        # (a trace that does not stop for its steps needs no limit)
+        words += ["--steps", str(steps)] if re.search(r"^stop .* steps$", trace, re.M) else []
         ran = room.call([*words, f"{number}.trace"])
         found = with_conditions(ran.stdout.decode())
         if ran.returncode or ran.stderr or found != wanted:
@@ -234,6 +272,7 @@ def faults_of(room, number, case):
             pairs = zip(found.splitlines() + ["(none)"], wanted.splitlines() + ["(none)"])
             part = next((f"{a!r} and not {b!r}" for a, b in pairs if a != b), "")
             wrong.append(f"{name}, form {form}: coverage: status {ran.returncode} {ran.stderr.decode().strip()}: {part}")
+        wrong += cut_faults(room, f"{name}, form {form}", words, with_notes, trace)
         for text, line in spoiled(system, trace):
             ran = room.call([*words, "-"], text.encode())
             if (ran.returncode, ran.stderr) != (2, f"refused trace line {line}\n".encode()):

@@ -8,6 +8,10 @@ pub mod Sampled
 pub mod Timed
 pub mod Walked
 pub mod Gone
+pub mod Severing
+pub mod Gathered
+pub mod Stepped
+pub mod Ended
 pub mod Opened
 pub mod Within
 pub mod Actions

@@ -349,7 +349,7 @@ apart_paths sys j k numbered here there differ =
     (λ same. differ (sym (numbered j here) ∙ ap sys.number (same_path_is (path_at sys j) (path_at sys k) same) ∙ numbered k there))
 
 -- a number is another one, or not
-one_or_other : (j k : ℕ) (P : Type 0) → (j ≡ k → P) → (j ≢ k → P) → P
+pub one_or_other : (j k : ℕ) (P : Type 0) → (j ≡ k → P) → (j ≢ k → P) → P
 one_or_other j k P same other =
     elim (j == k) as (λ (b : Bool). (j == k) ≡ b → P) [
       | true ↦ λ e. same (grind (arith, nat_tests))

@@ -3,8 +3,12 @@ use Rattle.std.specs.Prelude.{◌≡◌, ℕ, List}
 use Rattle.fb_types.specs.Headline.{Inputs, system_of}
 use Rattle.fb_types.specs.Names.{Name}
 use Rattle.fb_coverage.specs.declared.marks.Marks.{Marks}
-use Rattle.fb_inspect.specs.Inspections.{IsInspected}
+use Rattle.fb_wave.specs.declared.truncation.Cut.{Cut}
+use Rattle.fb_wave.specs.declared.truncation.Cut.TheVariants as cut
+use Rattle.fb_inspect.specs.Inspections.{IsCutInspected, IsInspected}
 use Rattle.fb_inspect.specs.Markings.{TurnsMark, lines_marked}
+use Rattle.fb_inspect.specs.declared.walk.Extent.{Extent}
+use Rattle.fb_inspect.specs.declared.walk.Extent.TheVariants.{Whole, CutOff}
 
 -- The text is a trace that is gone through, showing these instances or none, and what its takings cover is marked.
 pub record IsCovered (i : Inputs) (only : List Name) (steps : ℕ) (text : List ℕ) (old new : Marks) : Type 0 where
@@ -13,7 +17,19 @@ pub record IsCovered (i : Inputs) (only : List Name) (steps : ℕ) (text : List 
   pub charts : TurnsMark i.library.blocks (system_of i) inspected.turns old.charts new.charts
   pub ports : new.ports ≡ lines_marked inspected.lines old.ports
 
+-- .. and it is cut off
+pub record IsCutCovered (i : Inputs) (only : List Name) (text : List ℕ) (old new : Marks) : Type 0 where
+  pub bytes : List ℕ
+  pub inspected : IsCutInspected (system_of i) only text bytes
+  pub charts : TurnsMark i.library.blocks (system_of i) inspected.turns old.charts new.charts
+  pub ports : new.ports ≡ lines_marked inspected.lines old.ports
+
+-- .. where a trace may be cut off or not
+abbrev pub IsCoveredBy : Cut → Inputs → (only : List Name) → (steps : ℕ) → (text : List ℕ) → (old new : Marks) → Extent → Type 0
+IsCoveredBy may i only steps text old new Whole = IsCovered i only steps text old new
+IsCoveredBy may i only steps text old new CutOff = (may ≡ cut.Allowed) × IsCutCovered i only text old new
+
 -- .. whatever is shown of it
-pub record Covers (i : Inputs) (steps : ℕ) (text : List ℕ) (old new : Marks) : Type 0 where
+pub record Covers (may : Cut) (i : Inputs) (steps : ℕ) (text : List ℕ) (old new : Marks) (extent : Extent) : Type 0 where
   pub only : List Name
-  pub covered : IsCovered i only steps text old new
+  pub covered : IsCoveredBy may i only steps text old new extent

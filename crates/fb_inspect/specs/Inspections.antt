@@ -1,18 +1,23 @@
 -- A trace that is gone through: takings one after another, each from what the blocks remember.
-use Rattle.std.specs.Prelude.{◌≡◌, ◌⊎◌, ℕ, nat_eq, List, [], ◌∷◌, ◌++◌, map, Bool, true, false, ◌&&◌, if◌then◌else◌, Option, Some, None}
+use Rattle.std.specs.Prelude.{◌≡◌, ◌≤◌, ◌⊎◌, ℕ, ◌+◌, ◌-◌, nat_eq, List, [], ◌∷◌, ◌++◌, map, All, Bool, true, false, ◌&&◌, if◌then◌else◌, Option, Some, None, codes}
 use Rattle.std.specs.List.{list_any}
 use Rattle.std.specs.Io.KnownBytes.{Appends}
 use Rattle.fb_types.specs.Names.{Name, Path}
-use Rattle.fb_types.specs.Numbers.{line_of}
+use Rattle.fb_types.specs.Numbers.{line_of, path_at}
 use Rattle.fb_types.specs.Simulation.{Ending, AtHorizon, AtStop}
 use Rattle.fb_types.specs.States.{Line}
 use Rattle.fb_types.specs.Systems.{System}
-use Rattle.fb_types.specs.Text.{last_line, path_text}
+use Rattle.fb_types.specs.Takes.{with_at}
+use Rattle.fb_types.specs.Text.{last_line, lines_text, path_text}
 use Rattle.fb_types.specs.declared.run.Form.{Form}
 use Rattle.fb_types.specs.declared.run.Line as run
 use Rattle.fb_types.specs.declared.value.Reason.{Reason}
 use Rattle.fb_types.specs.declared.value.Reason.TheVariants.{Steps, Divide, Range}
+use Rattle.fb_wave.specs.CutOff.{IsCutTrace}
+use Rattle.fb_wave.specs.Lines.{IsLineOf}
 use Rattle.fb_wave.specs.Waves.{IsTraceOf}
+use Rattle.fb_wave.specs.declared.truncation.Cut.{Cut}
+use Rattle.fb_wave.specs.declared.truncation.Cut.TheVariants as cut
 use Rattle.fb_inspect.specs.Looks.{Look, Turn, Turns, left_at, opening_look, turn_lines, turn_text}
 
 -- nothing is taken after a stop
@@ -56,21 +61,66 @@ all_text form sys only (x ∷ xs) = (if is_kept only x.first.at then turn_text f
 
 -- ---- How a trace ends
 
+-- no taking stopped its resource
+abbrev pub NoneStops : List Turn → Type 0
+NoneStops [] = Unit {0}
+NoneStops (x ∷ xs) = (x.stop ≡ None) × NoneStops xs
+
 -- how the last taking ends, and the resource and the tick that it is of
 abbrev pub stop_of : List Turn → Option Ending
 stop_of [] = None
 stop_of (x ∷ []) = elim x.stop [ None ↦ None | Some r ↦ Some (AtStop x.first.key.tick x.first.key.resource r) ]
 stop_of (x ∷ y ∷ xs) = stop_of (y ∷ xs)
 
--- Where no taking stopped its resource, a trace ends at a horizon, or where no step is left for the next event.
-abbrev pub MayEnd : (limit : ℕ) → Look → Ending → Type 0
-MayEnd limit look (AtHorizon h) = Unit {0}
-MayEnd limit look (AtStop tick r Steps) = left_at limit tick (look.steps r) ≡ 0
-MayEnd limit look (AtStop tick r Divide) = ⊥
-MayEnd limit look (AtStop tick r Range) = ⊥
+-- the greatest limit of steps of a resource in a tick that a run may have
+abbrev pub most : ℕ
+most = 10000000
 
-abbrev pub EndsWith : (limit : ℕ) → List Turn → Look → Ending → Type 0
-EndsWith limit xs look end = elim (stop_of xs) [ Some stop ↦ end ≡ stop | None ↦ MayEnd limit look end ]
+-- A resource used no more than these steps in a tick, of the greatest limit.
+abbrev pub KeepsLimit : (steps tick resource : ℕ) → Look → Type 0
+KeepsLimit steps t r look = most ≤ left_at most t (look.steps r) + steps
+
+-- .. and has in this tick what is left of them
+abbrev pub limited : (steps tick resource : ℕ) → Look → Look
+limited steps t r look =
+    record look { steps = with_at r (record { tick = Some t; left = (left_at most t (look.steps r) + steps) - most }) look.steps }
+
+-- at most one taking, and that is of this resource in this tick
+abbrev pub IsOneOf : (tick resource : ℕ) → List Turn → Type 0
+IsOneOf t r [] = Unit {0}
+IsOneOf t r (x ∷ []) = (x.first.key.tick ≡ t) × (x.first.key.resource ≡ r)
+IsOneOf t r (x ∷ y ∷ xs) = ⊥
+
+-- Each resource has the greatest limit, but in the last taking, if that is of this resource in this tick, it has what is left there of these steps.
+pub record AreLimited (sys : System) (steps tick resource : ℕ) (xs : List Turn) : Type 0 where
+  pub before : List Turn
+  pub last : List Turn
+  pub parts : xs ≡ before ++ last
+  pub chain : AreTurns sys most (opening_look sys) before
+  pub goes_on : NoneStops before
+  pub one : IsOneOf tick resource last
+  pub within : KeepsLimit steps tick resource (last_look (opening_look sys) before)
+  pub judged : AreTurns sys steps (limited steps tick resource (last_look (opening_look sys) before)) last
+
+-- no step is left, in that taking or after it
+abbrev pub RunsOut : (steps tick resource : ℕ) → Look → List Turn → Type 0
+RunsOut steps t r look [] = left_at steps t (look.steps r) ≡ 0
+RunsOut steps t r look (x ∷ xs) = (x.stop ≡ Some Steps) ⊎ ((x.stop ≡ None) × (left_at steps t (x.after.steps r) ≡ 0))
+
+pub record EndsBySteps (sys : System) (steps tick resource : ℕ) (xs : List Turn) : Type 0 where
+  pub limited_so : AreLimited sys steps tick resource xs
+  pub runs_out : RunsOut steps tick resource (limited steps tick resource (last_look (opening_look sys) limited_so.before)) limited_so.last
+
+-- the last taking stopped its resource
+abbrev pub EndsByStop : System → List Turn → Ending → Type 0
+EndsByStop sys xs end = AreTurns sys most (opening_look sys) xs × (stop_of xs ≡ Some end)
+
+-- A trace that stops for its steps stops where these are used up in a tick. Another one may use up to the greatest limit.
+abbrev pub EndsSo : System → (steps : ℕ) → List Turn → Ending → Type 0
+EndsSo sys steps xs (AtHorizon h) = AreTurns sys most (opening_look sys) xs × NoneStops xs
+EndsSo sys steps xs (AtStop t r Steps) = EndsBySteps sys steps t r xs
+EndsSo sys steps xs (AtStop t r Divide) = EndsByStop sys xs (AtStop t r Divide)
+EndsSo sys steps xs (AtStop t r Range) = EndsByStop sys xs (AtStop t r Range)
 
 -- A text with what is reported between its lines, of these instances alone where there are some.
 pub record IsInspected (sys : System) (only : List Name) (steps : ℕ) (text bytes : List ℕ) : Type 0 where
@@ -80,9 +130,43 @@ pub record IsInspected (sys : System) (only : List Name) (steps : ℕ) (text byt
   pub trace : IsTraceOf sys form text lines end
   pub turns : List Turn
   pub lines_are : map (line_of sys) lines ≡ all_lines turns
-  pub chain : AreTurns sys steps (opening_look sys) turns
-  pub ends : EndsWith steps turns (last_look (opening_look sys) turns) end
+  pub ends : EndsSo sys steps turns end
   pub written : bytes ≡ all_text form sys only turns ++ last_line sys end
+
+-- ---- Traces that are cut off
+
+-- a line of an emission of the block of another line, in its tick
+pub record IsOwnLine (sys : System) (first l : run.Line) : Type 0 where
+  pub line : IsLineOf sys l
+  pub taken : l.taken ≡ false
+  pub instance : l.instance ≡ first.instance
+  pub tick : l.key.tick ≡ first.key.tick
+
+-- no line, or the line of an event with lines of emissions of its block in its tick
+abbrev pub AreOfOne : System → List run.Line → Type 0
+AreOfOne sys [] = Unit {0}
+AreOfOne sys (l ∷ ls) = All (IsOwnLine sys l) ls
+
+abbrev pub one_text : Form → System → (only : List Name) → List run.Line → List ℕ
+one_text form sys only [] = []
+one_text form sys only (l ∷ ls) = if is_kept only (path_at sys l.instance) then lines_text form sys (map (line_of sys) (l ∷ ls)) else []
+
+abbrev pub cut_note : List ℕ
+cut_note = codes "  cut\n"
+
+-- A text that is cut off, with what is reported between its lines. Nothing is reported of the event after which only lines of its own
+-- block come in its tick, since some of them may be missing.
+pub record IsCutInspected (sys : System) (only : List Name) (text bytes : List ℕ) : Type 0 where
+  pub form : Form
+  pub lines : List run.Line
+  pub untaken : List run.Line
+  pub trace : IsCutTrace sys form text (lines ++ untaken)
+  pub of_one : AreOfOne sys untaken
+  pub turns : List Turn
+  pub lines_are : map (line_of sys) lines ≡ all_lines turns
+  pub chain : AreTurns sys most (opening_look sys) turns
+  pub goes_on : NoneStops turns
+  pub written : bytes ≡ all_text form sys only turns ++ (one_text form sys only untaken ++ cut_note)
 
 -- ---- Outcomes
 
@@ -92,13 +176,34 @@ pub record IsShown (sys : System) (only : List Name) (steps : ℕ) (text : List 
   pub inspected : IsInspected sys only steps text bytes
   pub got : Appends old new bytes
 
--- A writer got the first bytes of what is shown of takings that were gone through, and of the last line if that was read.
+-- .. and it is cut off
+pub record IsCutShown (sys : System) (only : List Name) (text : List ℕ) (old new : Option (List ℕ)) : Type 0 where
+  pub bytes : List ℕ
+  pub inspected : IsCutInspected sys only text bytes
+  pub got : Appends old new bytes
+
+-- where a trace may be cut off or not
+abbrev pub IsShownBy : Cut → System → (only : List Name) → (steps : ℕ) → (text : List ℕ) → (old new : Option (List ℕ)) → Type 0
+IsShownBy cut.Refused sys only steps text old new = IsShown sys only steps text old new
+IsShownBy cut.Allowed sys only steps text old new = IsShown sys only steps text old new ⊎ IsCutShown sys only text old new
+
+-- takings that may be those of a trace, as far as they go
+abbrev pub AreTaken : System → (steps : ℕ) → List Turn → Type 0
+AreTaken sys steps xs =
+    AreTurns sys most (opening_look sys) xs ⊎ ((tick : ℕ) × (resource : ℕ) × AreLimited sys steps tick resource xs)
+
+-- what is written after the takings: the last line, or that the trace is cut off
+abbrev pub IsEndText : Form → System → (only : List Name) → List ℕ → Type 0
+IsEndText form sys only text =
+    ((end : Ending) × (text ≡ last_line sys end)) ⊎ ((ls : List run.Line) × AreOfOne sys ls × (text ≡ one_text form sys only ls ++ cut_note))
+
+-- A writer got the first bytes of what is shown of takings that were gone through, and of what is written after them if that was read.
 pub record ShowsFront (sys : System) (only : List Name) (steps : ℕ) (old new : Option (List ℕ)) : Type 0 where
   pub form : Form
   pub turns : List Turn
-  pub chain : AreTurns sys steps (opening_look sys) turns
+  pub taken : AreTaken sys steps turns
   pub last : List ℕ
-  pub ends : (last ≡ []) ⊎ ((end : Ending) × (last ≡ last_line sys end))
+  pub ends : (last ≡ []) ⊎ IsEndText form sys only last
   pub got : List ℕ
   pub rest : List ℕ
   pub parts : all_text form sys only turns ++ last ≡ got ++ rest

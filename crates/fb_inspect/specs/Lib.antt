@@ -11,3 +11,4 @@ pub mod Moves
 pub mod Charting
 pub mod Timing
 pub mod Walking
+pub mod Faults

@@ -1,9 +1,11 @@
 -- What the program keeps of the blocks of a system, and one taking of a walk through a trace (this project's own).
-use Rattle.std.specs.Prelude.{◌≡◌, ◌<◌, ◌≤◌, ◌^◌, ℕ, suc, List, [], ◌∷◌, ◌++◌, map, length, slice_get, slice_set, unwrap_or, Bool, false, Option, Some, None}
-use Rattle.std.specs.Io.KnownBytes.{Appends, Consumes, IsAtEnd}
+use Rattle.std.specs.Prelude.{◌≡◌, ◌<◌, ◌≤◌, ◌^◌, ◌⊎◌, ℕ, ◌+◌, ◌-◌, suc, List, [], ◌++◌, map, length, slice_get, slice_set, unwrap_or, All, IfSome, Bool, true, false, Option, Some, None}
+use Rattle.std.specs.Io.BufRead.{take_through}
+use Rattle.std.specs.Io.KnownBytes.{Appends, Consumes, IsAtEnd, prepend_known}
 use Rattle.fb_types.specs.Names.{Name, Path, same_path}
 use Rattle.fb_types.specs.Blocks.{Kind, Basic, Event, Composite}
 use Rattle.fb_types.specs.Numbers.{line_of, path_at}
+use Rattle.fb_types.specs.Simulation.{Ending, AtHorizon, AtStop}
 use Rattle.fb_types.specs.States.{InState}
 use Rattle.fb_types.specs.Systems.{System}
 use Rattle.fb_types.specs.Text.{lines_text}
@@ -13,27 +15,37 @@ use Rattle.fb_types.specs.declared.library.BlockType.{BlockType}
 use Rattle.fb_types.specs.declared.run.Form.{Form}
 use Rattle.fb_types.specs.declared.run.Line.{Line}
 use Rattle.fb_types.specs.declared.value.Reason.{Reason}
+use Rattle.fb_types.specs.declared.value.Reason.TheVariants.{Steps, Divide, Range}
 use Rattle.fb_st.specs.Frames.{values_of}
 use Rattle.fb_ecc.specs.Indexes.{state_at}
 use Rattle.fb_ecc.specs.Sound.{IsSound}
+use Rattle.fb_trace.specs.End.{ending_of}
+use Rattle.fb_trace.specs.declared.last.Outcome.{Outcome}
+use Rattle.fb_wave.specs.Copying.{IsAfter}
+use Rattle.fb_wave.specs.CutOff.{has_no_feed}
 use Rattle.fb_wave.specs.Dumps.{last_tick}
-use Rattle.fb_wave.specs.Lines.{IsTextOf}
+use Rattle.fb_wave.specs.Lines.{IsLast, IsTextOf}
 use Rattle.fb_wave.specs.Waves.{AreLinesOf}
 use Rattle.fb_coverage.specs.declared.marks.Marks.{Marks}
 use Rattle.fb_inspect.specs.Charting.{IsChartOf}
 use Rattle.fb_inspect.specs.Counted.{left_of}
-use Rattle.fb_inspect.specs.Inspections.{AreTurns, all_lines, all_text, is_kept, last_look}
+use Rattle.fb_inspect.specs.Inspections.{AreOfOne, AreTaken, AreTurns, EndsSo, IsOwnLine, NoneStops, all_lines, all_text, cut_note, is_kept, last_look, most, one_text}
 use Rattle.fb_inspect.specs.Lines.{IsNext}
 use Rattle.fb_inspect.specs.Looks.{Look, Seen, Turn, Turns, TurnsAt, left_at, opening_look, turn_lines, turn_text, with_left}
 use Rattle.fb_inspect.specs.Markings.{TurnMarks, TurnsMark, lines_marked}
 use Rattle.fb_inspect.specs.Moves.{Goes, shown_text}
 use Rattle.fb_inspect.specs.Timing.{IsBlockKept}
+use Rattle.fb_inspect.specs.declared.ahead.Ahead.{Ahead}
 use Rattle.fb_inspect.specs.declared.blocks.Chart.{Chart}
 use Rattle.fb_inspect.specs.declared.blocks.Remembered.{Remembered}
 use Rattle.fb_inspect.specs.declared.blocks.Remembered.TheVariants as kept
+use Rattle.fb_inspect.specs.declared.reading.Next.{Next}
+use Rattle.fb_inspect.specs.declared.reading.Next.TheVariants as next
 use Rattle.fb_inspect.specs.declared.reading.Reading.{Reading}
 use Rattle.fb_inspect.specs.declared.steps.TickSteps.{TickSteps}
 use Rattle.fb_inspect.specs.declared.trail.Trail.{Trail}
+use Rattle.fb_inspect.specs.declared.walk.Step.{Step}
+use Rattle.fb_inspect.specs.declared.walk.Step.TheVariants.{Taken, Ended, CutOff}
 use Rattle.fb_inspect.specs.declared.walk.Walk.{Walk}
 
 -- whether an instance is shown
@@ -114,6 +126,22 @@ pub record HasStepped (limit : ℕ) (key : Key) (old new : List TickSteps) : Typ
   pub tick_is : after.tick ≡ Some key.tick
   pub steps_are : new ≡ slice_set old key.resource after
 
+-- A resource has what is left of some steps, in place of what is left of the greatest limit.
+pub record HasLimited (steps : ℕ) (key : Key) (old new : List TickSteps) : Type 0 where
+  pub before : TickSteps
+  pub stood : slice_get old key.resource ≡ Some before
+  pub after : TickSteps
+  pub within : most ≤ left_at most key.tick (left_of before) + steps
+  pub left_is : left_of after ≡ record { tick = Some key.tick; left = (left_at most key.tick (left_of before) + steps) - most }
+  pub steps_are : new ≡ slice_set old key.resource after
+
+-- Where no taking stopped its resource, a trace ends at a horizon, or where the steps of a resource are used up.
+abbrev pub MayEnd : (steps : ℕ) → Look → Ending → Type 0
+MayEnd steps look (AtHorizon h) = Unit {0}
+MayEnd steps look (AtStop tick r Steps) = left_at most tick (look.steps r) + steps ≡ most
+MayEnd steps look (AtStop tick r Divide) = ⊥
+MayEnd steps look (AtStop tick r Range) = ⊥
+
 -- The instance of a line has reacted to it, and no other one.
 pub record ReactGoes (blocks : List BlockType) (sys : System) (form : Form) (look : Look) (line : Line) (stop : Option Reason) (old new : Walk) (remaining rest : Option (List ℕ)) : Type 0 where
   pub own : TickSteps
@@ -142,19 +170,13 @@ pub record TurnGoes (blocks : List BlockType) (sys : System) (form : Form) (limi
 
 -- ---- All takings so far
 
--- no taking stopped its resource
-abbrev pub NoneStops : List Turn → Type 0
-NoneStops [] = Unit {0}
-NoneStops (x ∷ xs) = (x.stop ≡ None) × NoneStops xs
-
 -- what is shown of a system: the lines of these instances
 abbrev pub ShowsOf : System → (only : List Name) → (shown : List Bool) → Type 0
 ShowsOf sys only shown = (k : ℕ) → k < length sys.paths → flag_at shown k ≡ is_kept only (path_at sys k)
 
 -- These takings were gone through, and the next line was read. A part of what is shown was sent, and a part waits.
-pub record IsGone (sys : System) (form : Form) (only : List Name) (limit : ℕ) (walk : Walk) (turns : List Turn) (input remaining old new : Option (List ℕ)) : Type 0 where
-  pub chain : AreTurns sys limit (opening_look sys) turns
-  pub look : IsLookOf sys walk.blocks.items walk.steps.items (last_look (opening_look sys) turns)
+pub record IsGone (sys : System) (form : Form) (only : List Name) (steps : ℕ) (walk : Walk) (turns : List Turn) (input remaining old new : Option (List ℕ)) : Type 0 where
+  pub taken : AreTaken sys steps turns
   pub shown : ShowsOf sys only walk.shown.items
   pub lines : List Line
   pub lines_are : map (line_of sys) lines ≡ all_lines turns
@@ -165,10 +187,12 @@ pub record IsGone (sys : System) (form : Form) (only : List Name) (limit : ℕ) 
   pub text : sent ++ walk.trail.page.text.items ≡ all_text form sys only turns
 
 -- .. and none of them stopped its resource
-pub record HasGone (sys : System) (form : Form) (only : List Name) (limit : ℕ) (walk : Walk) (input remaining old new : Option (List ℕ)) : Type 0 where
+pub record HasGone (sys : System) (form : Form) (only : List Name) (steps : ℕ) (walk : Walk) (input remaining old new : Option (List ℕ)) : Type 0 where
   pub turns : List Turn
   pub goes_on : NoneStops turns
-  pub gone : IsGone sys form only limit walk turns input remaining old new
+  pub chain : AreTurns sys most (opening_look sys) turns
+  pub look : IsLookOf sys walk.blocks.items walk.steps.items (last_look (opening_look sys) turns)
+  pub gone : IsGone sys form only steps walk turns input remaining old new
   pub next : IsNext sys form (last_tick 0 gone.lines) walk.trail.reading.line.items walk.trail.reading.next
 
 -- What takings cover was marked, next to what others covered.
@@ -177,9 +201,88 @@ pub record AreMarked (blocks : List BlockType) (sys : System) (turns : List Turn
   pub ports : last.ports ≡ lines_marked lines first.ports
 
 -- .. of all takings so far
-pub record HasCovered (blocks : List BlockType) (first : Marks) (sys : System) (form : Form) (only : List Name) (limit : ℕ) (walk : Walk) (input remaining old new : Option (List ℕ)) : Type 0 where
-  pub gone : HasGone sys form only limit walk input remaining old new
+pub record HasCovered (blocks : List BlockType) (first : Marks) (sys : System) (form : Form) (only : List Name) (steps : ℕ) (walk : Walk) (input remaining old new : Option (List ℕ)) : Type 0 where
+  pub gone : HasGone sys form only steps walk input remaining old new
   pub marked : AreMarked blocks sys gone.turns gone.gone.lines first walk.trail.marks
+
+-- A text ends in a part of a line after another text.
+pub record IsCutAfter (text front : List ℕ) : Type 0 where
+  pub part : List ℕ
+  pub unended : has_no_feed part ≡ true
+  pub is : text ≡ front ++ part
+
+-- .. and the next line is the last one
+pub record IsComplete (blocks : List BlockType) (first : Marks) (sys : System) (form : Form) (only : List Name) (steps : ℕ) (walk : Walk) (end : Outcome) (input remaining old new : Option (List ℕ)) : Type 0 where
+  pub turns : List Turn
+  pub gone : IsGone sys form only steps walk turns input remaining old new
+  pub ends : EndsSo sys steps turns (ending_of end)
+  pub last : IsLast sys walk.trail.reading.line.items end
+  pub after : IsAfter (last_tick 0 gone.lines) end
+  pub marked : AreMarked blocks sys turns gone.lines first walk.trail.marks
+
+-- .. or the trace is cut off there, or after lines that may be a part of those of an event. These were added where they are shown.
+pub record IsSevered (blocks : List BlockType) (first : Marks) (sys : System) (form : Form) (only : List Name) (walk : Walk) (input old new : Option (List ℕ)) : Type 0 where
+  pub turns : List Turn
+  pub goes_on : NoneStops turns
+  pub chain : AreTurns sys most (opening_look sys) turns
+  pub lines : List Line
+  pub lines_are : map (line_of sys) lines ≡ all_lines turns
+  pub untaken : List Line
+  pub of_one : AreOfOne sys untaken
+  pub are : AreLinesOf sys (lines ++ untaken)
+  pub rest : IfSome input (λ text. IsCutAfter text (lines_text form sys (map (line_of sys) (lines ++ untaken))))
+  pub sent : List ℕ
+  pub got : Appends old new sent
+  pub text : sent ++ walk.trail.page.text.items ≡ all_text form sys only turns ++ one_text form sys only untaken
+  pub marked : AreMarked blocks sys turns lines first walk.trail.marks
+
+-- A walk went on by one taking, or a trace is over.
+abbrev pub HasAdvanced :
+    (blocks : List BlockType) (first : Marks) (sys : System) (form : Form) (only : List Name) (steps : ℕ) (walk : Walk) (input remaining old new : Option (List ℕ)) → Step → Type 0
+HasAdvanced blocks first sys form only steps walk input remaining old new Taken = HasCovered blocks first sys form only steps walk input remaining old new
+HasAdvanced blocks first sys form only steps walk input remaining old new (Ended end) = IsComplete blocks first sys form only steps walk end input remaining old new
+HasAdvanced blocks first sys form only steps walk input remaining old new CutOff = IsSevered blocks first sys form only walk input old new
+
+-- ---- Lines that were read ahead
+
+-- what is left to go through: what was read ahead, and then what is left to read
+abbrev pub unread : Ahead → (remaining : Option (List ℕ)) → Option (List ℕ)
+unread ahead remaining = prepend_known ahead.text.items remaining
+
+-- What is left to go through is the same, whether it was read ahead or not.
+pub record IsReadOn (old new : Option (List ℕ)) : Type 0 where
+  pub after : (known : Option (List ℕ)) (bytes : List ℕ) → Consumes known old bytes → Consumes known new bytes
+  pub before : (rest : Option (List ℕ)) (bytes : List ℕ) → Consumes new rest bytes → Consumes old rest bytes
+
+-- The next line is one of an emission of the block of a line, in its tick.
+pub record IsOwnNext (n : Next) (first : Line) : Type 0 where
+  pub line : Line
+  pub is : n ≡ next.Event line
+  pub taken : line.taken ≡ false
+  pub instance : line.instance ≡ first.instance
+  pub tick : line.key.tick ≡ first.key.tick
+
+-- The lines of emissions of the block of a line, in its tick, were read ahead.
+pub record AreRows (sys : System) (form : Form) (first : Line) (text : List ℕ) (input remaining : Option (List ℕ)) : Type 0 where
+  pub rows : List Line
+  pub each : All (IsOwnLine sys first) rows
+  pub is : text ≡ lines_text form sys (map (line_of sys) rows)
+  pub read : Consumes input remaining text
+
+-- .. and then one more line
+pub record AreGathered (sys : System) (form : Form) (first : Line) (text last : List ℕ) (input remaining : Option (List ℕ)) : Type 0 where
+  pub rows : List Line
+  pub each : All (IsOwnLine sys first) rows
+  pub is : text ≡ lines_text form sys (map (line_of sys) rows)
+  pub read : Consumes input remaining (text ++ last)
+  pub alone : IfSome remaining (λ rest. input ≡ None ⊎ (last ≡ take_through 10 (last ++ rest)))
+
+-- .. and that one is cut off
+pub record AreCutOff (sys : System) (form : Form) (first : Line) (text : List ℕ) (input : Option (List ℕ)) : Type 0 where
+  pub rows : List Line
+  pub each : All (IsOwnLine sys first) rows
+  pub is : text ≡ lines_text form sys (map (line_of sys) rows)
+  pub rest : IfSome input (λ whole. IsCutAfter whole text)
 
 -- nothing was taken in any of the resources
 pub record AreUnused (n : ℕ) (steps : List TickSteps) : Type 0 where
@@ -207,6 +310,17 @@ pub record Starts (sys : System) (form : Form) (only : List Name) (walk : Walk) 
 pub record Finishes (walk : Walk) (remaining old new : Option (List ℕ)) : Type 0 where
   pub over : IsAtEnd remaining
   pub got : Appends old new (walk.trail.page.text.items ++ walk.trail.reading.line.items)
+
+-- The trace is cut off, and all that waited and the note of it was sent.
+pub record FinishesCut (walk : Walk) (old new : Option (List ℕ)) : Type 0 where
+  pub got : Appends old new (walk.trail.page.text.items ++ cut_note)
+
+-- A part of what waited and of the note was sent, or nothing.
+pub record SendsCutPart (walk : Walk) (old new : Option (List ℕ)) : Type 0 where
+  pub got : List ℕ
+  pub rest : List ℕ
+  pub parts : walk.trail.page.text.items ++ cut_note ≡ got ++ rest
+  pub appended : Appends old new got
 
 -- A part of what waited and of the last line was sent, or nothing.
 pub record SendsPart (walk : Walk) (old new : Option (List ℕ)) : Type 0 where

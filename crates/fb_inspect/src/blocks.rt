@@ -29,12 +29,12 @@ use std::alloc::{AllocError, Global};
 use std::collections::BTreeMap;
 
 /// A basic block.
-pub(crate) struct Chart {
-    pub(crate) state: BasicState,
+pub struct Chart {
+    pub state: BasicState,
     /// Its output and internal variables.
-    pub(crate) own: Vec<Reference>,
+    pub own: Vec<Reference>,
     /// The values of these before the last algorithm.
-    pub(crate) before: Vec<Value>,
+    pub before: Vec<Value>,
 }
 
 impl Drop for Chart {
@@ -63,10 +63,10 @@ pub(crate) fn keep_values(
 }
 
 /// An event block, with its inputs as they were sampled last, and the tick at which its timer goes off.
-pub(crate) struct EventBlock {
-    pub(crate) state: EventState,
-    pub(crate) inputs: Items<Value>,
-    pub(crate) due: Option<u64>,
+pub struct EventBlock {
+    pub state: EventState,
+    pub inputs: Items<Value>,
+    pub due: Option<u64>,
 }
 
 impl Drop for EventBlock {
@@ -80,7 +80,7 @@ impl Drop for EventBlock {
 }
 
 /// What an instance remembers.
-pub(crate) enum Remembered {
+pub enum Remembered {
     Basic(Chart),
     Event(EventBlock),
     Composite,
@@ -125,7 +125,7 @@ fn own_of(alloc: Global, block: &BasicType) -> Result<Vec<Reference>, AllocError
 }
 
 /// The basic type of an instance, if it has one.
-pub(crate) fn basic_type(system: &System, instance: u32) -> Option<&BasicType>
+pub fn basic_type(system: &System, instance: u32) -> Option<&BasicType>
     requires { instance < length (system_of system.now).paths }
     ensures basic { IfSome result (λ t. (system_of system.now).kind (path_at (system_of system.now) instance) ≡ Some (Basic t.now)) }
     ensures other { IfNone result ((t : BasicType) → (system_of system.now).kind (path_at (system_of system.now) instance) ≢ Some (Basic t)) }

@@ -1,42 +1,81 @@
 //! What traces cover.
 
-ghost use Rattle.std.specs.Prelude.{IfOk, IfSome};
+ghost use Rattle.std.specs.Prelude.{◌≡◌, IfOk, IfSome};
 ghost use Rattle.fb_wave.specs.Tables.{IsTable};
 ghost use Rattle.fb_inspect.specs.Covering.{Covers};
 
+use crate::ahead::Ahead;
 use crate::error::InspectError;
-use crate::insides::{begun, first_reading};
+use crate::finding::RefusedLine;
+use crate::insides::{begun, first_reading, is_severed, lend};
 use crate::trail::Fixed;
+use crate::walk::{Extent, Terms};
 use fb_coverage::Marks;
 use fb_system::System;
-use fb_types::Name;
+use fb_types::{MOST_STEPS, Name};
 use fb_wave::{PortTable, form_of, next_line, ports_of, texts_of};
 use std::alloc::{AllocError, Global};
 use std::io::{BufRead, sink};
 use std::mem;
 
-/// No instance has this path, so with it alone no instance is shown.
-fn none_shown(alloc: Global) -> Result<Vec<Name>, AllocError> {
+/// A path that no instance has: with it alone, no instance is shown.
+///
+/// # Errors
+/// When memory runs out.
+pub fn none_shown(alloc: Global) -> Result<Vec<Name>, AllocError> {
     let mut only = Vec::new(alloc);
     only.push(Name::from_slice(alloc, b".")?)?;
     Ok(only)
+}
+
+/// What traces cover up to one of them, and how much there is of that one.
+pub struct Covered {
+    /// What they cover together.
+    pub marks: Marks,
+    /// How much of the last trace there is.
+    pub extent: Extent,
+}
+
+// Drop is written by hand, so that callers need not prove it again (docs/DECISIONS.md, "Drop").
+impl Drop for Covered {
+    fn drop(self) {
+        let Covered {
+            marks: _,
+            extent: _,
+        } = self;
+    }
+}
+
+impl Covered {
+    /// What they cover together.
+    pub fn into_marks(self) -> Marks
+        ensures { result ≡ self.marks }
+    {
+        let Covered { marks, extent: _ } = self;
+        marks
+    }
 }
 
 /// Reads a trace of the system of a table, and marks what it covers next to what others covered.
 fn cover_with<R: BufRead>(
     alloc: Global,
     table: &PortTable<'_>,
-    steps: u64,
+    terms: Terms,
     marks: Marks,
+    refused: &mut RefusedLine,
     input: &mut R,
-) -> Result<Marks, InspectError>
+) -> Result<Covered, InspectError>
     requires { IsTable table.now }
-    ensures { IfOk result (λ covered. IfSome (R.remaining input.old) (λ text. Covers table.now.system.now steps text marks covered)) }
+    ensures { IfOk result (λ covered. IfSome (R.remaining input.old) (λ text. Covers terms.cut table.now.system.now terms.steps text marks covered.marks covered.extent)) }
 {
     let mut line = Vec::new(alloc);
-    let Ok(()) = next_line(input, &mut line) else {
-        return Err(InspectError::Read);
-    };
+    next_line(input, &mut line)?;
+    if is_severed(terms.cut, line.as_slice()) {
+        return Ok(Covered {
+            marks,
+            extent: Extent::CutOff,
+        });
+    }
     let form = form_of(line.as_slice());
     let reading = first_reading(alloc, table, form, line)?;
     let only = none_shown(alloc)?;
@@ -45,29 +84,35 @@ fn cover_with<R: BufRead>(
         alloc,
         table,
         form,
-        limit: steps,
+        limit: MOST_STEPS,
     };
-    walk.go(&fixed, input, &mut sink())?;
-    Ok(mem::replace(&mut walk.trail.marks, Marks::none(alloc)))
+    let mut ahead = Ahead::new(alloc, table)?;
+    let gone = walk.go(&fixed, terms, &mut ahead, input, &mut sink());
+    lend(alloc, form, &mut walk.trail, refused);
+    let extent = gone?;
+    let marks = mem::replace(&mut walk.trail.marks, Marks::none(alloc));
+    Ok(Covered { marks, extent })
 }
 
-/// Reads a trace of the system, in either form, and marks what it covers next to what others covered.
+/// Reads a trace of the system, in either form, and marks what it covers next to what others covered. Of a trace that is
+/// cut off, the event after which only lines of its own block come in its tick is not counted.
 ///
 /// # Errors
 /// As those of `inspect`. The marks are lost then.
 pub fn cover<R: BufRead>(
     alloc: Global,
     system: &System,
-    steps: u64,
+    terms: Terms,
     marks: Marks,
+    refused: &mut RefusedLine,
     input: &mut R,
-) -> Result<Marks, InspectError>
-    ensures { IfOk result (λ covered. IfSome (R.remaining input.old) (λ text. Covers system.now steps text marks covered)) }
+) -> Result<Covered, InspectError>
+    ensures { IfOk result (λ covered. IfSome (R.remaining input.old) (λ text. Covers terms.cut system.now terms.steps text marks covered.marks covered.extent)) }
 {
     let ports = ports_of(alloc, system)?;
     let texts = texts_of(alloc, system, ports.as_slice())?;
     let Some(table) = PortTable::of(alloc, system, ports.as_slice(), texts.as_slice())? else {
         return Err(InspectError::Names);
     };
-    cover_with(alloc, &table, steps, marks, input)
+    cover_with(alloc, &table, terms, marks, refused, input)
 }

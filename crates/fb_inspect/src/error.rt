@@ -1,8 +1,10 @@
 //! Why a trace is not inspected, or not as a whole.
 
 ghost use Rattle.std.specs.Prelude.{◌≡◌};
+ghost use Rattle.fb_inspect.specs.Faults.{fault_of_line};
 ghost use Rattle.fb_inspect.specs.declared.error.InspectError.TheVariants.{Memory};
 
+use fb_wave::WaveError;
 use std::alloc::AllocError;
 use thiserror::Error;
 
@@ -20,7 +22,7 @@ pub enum InspectError {
     Unknown,
     #[error("out of memory")]
     Memory,
-    /// The reader of the trace gave an error.
+    /// The reader of the trace failed, other than for memory.
     #[error("file fault")]
     Read,
     /// The writer failed when it had taken this number of bytes, up to the greatest `u128`.
@@ -33,5 +35,20 @@ impl From<AllocError> for InspectError {
 
     fn from(_error: AllocError) -> InspectError {
         InspectError::Memory
+    }
+}
+
+/// Why a line of a trace is not read.
+impl From<WaveError> for InspectError {
+    ghost from_gives = { λ fault e. e ≡ fault_of_line fault };
+
+    fn from(fault: WaveError) -> InspectError {
+        match fault {
+            WaveError::Refused(line) => InspectError::Refused(line),
+            WaveError::Names => InspectError::Names,
+            WaveError::Memory => InspectError::Memory,
+            WaveError::Read => InspectError::Read,
+            WaveError::Write(written) => InspectError::Write(written),
+        }
     }
 }

@@ -15,6 +15,7 @@ ghost use Rattle.fb_inspect.specs.Timing.{BlockGoes, HasExpired, HasReacted, IsB
 
 use crate::blocks::EventBlock;
 use crate::error::InspectError;
+use crate::finding::Finding;
 use crate::notes::put_memory;
 use crate::trail::{Fixed, Trail, is_emission};
 use fb_event::{EventMemory, expire, memory_of, react};
@@ -234,7 +235,7 @@ pub(crate) fn expire_block<R: BufRead>(
 {
     let before = seen_of(block);
     if !expire_to(fixed.alloc, block, line)? {
-        return Err(trail.reading.refusal());
+        return Err(trail.refusal(Finding::NotDue));
     }
     let after = seen_of(block);
     trail.pass(fixed, line, input)?;

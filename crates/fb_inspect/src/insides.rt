@@ -1,38 +1,43 @@
 //! What happens inside the blocks of a trace.
 
-ghost use Rattle.std.specs.Prelude.{◌≡◌, IfOk, IfSome, OnErr, OnOk, length};
+ghost use Rattle.std.specs.Prelude.{◌≡◌, IfOk, IfSome, IsTrue, OnErr, OnOk, length, true};
 ghost use Rattle.std.specs.List.{list_any};
 ghost use Rattle.fb_types.specs.Headline.{system_of};
 ghost use Rattle.fb_types.specs.Names.{Path};
 ghost use Rattle.fb_types.specs.Text.{path_text};
+ghost use Rattle.fb_wave.specs.CutOff.{is_unended};
 ghost use Rattle.fb_wave.specs.Tables.{IsTable};
 ghost use Rattle.fb_inspect.specs.Inspections as spec;
-ghost use Rattle.fb_inspect.specs.Inspections.{IsShown, ShowsFront};
+ghost use Rattle.fb_inspect.specs.Inspections.{IsShownBy, ShowsFront};
 ghost use Rattle.fb_inspect.specs.Lines.{IsNext};
 ghost use Rattle.fb_inspect.specs.Walking.{AreUnused, Begins, ShowsOf};
 
+use crate::ahead::Ahead;
 use crate::blocks::opened_all;
 use crate::error::InspectError;
+use crate::finding::{Finding, RefusedLine};
 use crate::page::Page;
 use crate::reading::{Reading, judged};
 use crate::steps::TickSteps;
 use crate::trail::{Fixed, Trail};
-use crate::walk::Walk;
+use crate::walk::{Terms, Walk};
 use fb_coverage::Marks;
 use fb_system::System;
-use fb_types::{Form, Name};
+use fb_types::{Form, MOST_STEPS, Name};
+use fb_wave::truncation::is_unended;
 use fb_wave::words::after_front;
-use fb_wave::{Guess, PortTable, form_of, next_line, ports_of, texts_of};
+use fb_wave::{CurrentLine, Cut, Guess, PortTable, form_of, next_line, ports_of, texts_of};
 use std::alloc::{AllocError, Global};
 use std::io::{BufRead, Write};
+use std::mem;
 
 /// What must be shown of a trace.
 #[derive(Clone, Copy)]
 pub struct Inspection<'a> {
     /// The paths of the instances that are shown, each with its components; all are where there is none.
     pub only: &'a [Name],
-    /// The most steps of a resource in a tick, in a run that stops for them.
-    pub steps: u64,
+    /// What the trace may be.
+    pub terms: Terms,
 }
 
 /// Whether nothing is left of a path, or a full stop and more.
@@ -123,7 +128,7 @@ pub(crate) fn steps_of(alloc: Global, system: &System) -> Result<Vec<TickSteps>,
 }
 
 /// The first line of a trace, as it was read.
-pub(crate) fn first_reading(
+pub fn first_reading(
     alloc: Global,
     table: &PortTable<'_>,
     form: Form,
@@ -140,11 +145,13 @@ pub(crate) fn first_reading(
         number: 1,
         line,
         next,
+        tick: 0,
+        after_end: false,
     })
 }
 
 /// A walk at the first line of a trace.
-pub(crate) fn begun(
+pub fn begun(
     alloc: Global,
     system: &System,
     only: &[Name],
@@ -161,6 +168,7 @@ pub(crate) fn begun(
         page: Page::new(alloc),
         is_shown: true,
         marks,
+        finding: Finding::Line,
     };
     Ok(Walk {
         blocks,
@@ -170,53 +178,87 @@ pub(crate) fn begun(
     })
 }
 
+/// Whether a trace that may be cut off ends before its first line, or in it.
+pub(crate) fn is_severed(cut: Cut, line: &[u8]) -> bool
+    ensures cut { IsTrue result → cut ≡ Cut.Allowed }
+    ensures line { IsTrue result → is_unended line.now ≡ true }
+{
+    cut == Cut::Allowed && is_unended(line)
+}
+
+/// Lends the line at which a walk has refused a trace, and why.
+pub(crate) fn lend(alloc: Global, form: Form, trail: &mut Trail, refused: &mut RefusedLine)
+    ensures { trail.new.marks ≡ trail.old.marks }
+{
+    refused.current = CurrentLine {
+        text: mem::replace(&mut trail.reading.line, Vec::new(alloc)),
+        form,
+        tick: trail.reading.tick,
+        after_end: trail.reading.after_end,
+    };
+    refused.finding = mem::replace(&mut trail.finding, Finding::Line);
+}
+
 /// Reads a trace of the system of a table, and writes it with what happens inside the blocks between its lines.
 fn inspect_with<R: BufRead, W: Write>(
     alloc: Global,
     table: &PortTable<'_>,
     inspection: Inspection<'_>,
+    refused: &mut RefusedLine,
     input: &mut R,
     out: &mut W,
 ) -> Result<(), InspectError>
     requires { IsTable table.now }
-    ensures whole { OnOk result (IfSome (R.remaining input.old) (λ text. IsShown (system_of table.now.system.now) inspection.entry.only.now inspection.entry.steps text (W.contents out.old) (W.contents out.new))) }
-    ensures fault { OnErr result (ShowsFront (system_of table.now.system.now) inspection.entry.only.now inspection.entry.steps (W.contents out.old) (W.contents out.new)) }
+    ensures whole { OnOk result (IfSome (R.remaining input.old) (λ text. IsShownBy inspection.entry.terms.cut (system_of table.now.system.now) inspection.entry.only.now inspection.entry.terms.steps text (W.contents out.old) (W.contents out.new))) }
+    ensures fault { OnErr result (ShowsFront (system_of table.now.system.now) inspection.entry.only.now inspection.entry.terms.steps (W.contents out.old) (W.contents out.new)) }
 {
     let mut line = Vec::new(alloc);
-    let Ok(()) = next_line(input, &mut line) else {
-        return Err(InspectError::Read);
-    };
+    next_line(input, &mut line)?;
+    let is_short = is_severed(inspection.terms.cut, line.as_slice());
     let form = form_of(line.as_slice());
     let reading = first_reading(alloc, table, form, line)?;
     let marks = Marks::none(alloc);
     let mut walk = begun(alloc, table.system, inspection.only, marks, reading)?;
+    if is_short {
+        return walk.finish_cut(out);
+    }
     let fixed = Fixed {
         alloc,
         table,
         form,
-        limit: inspection.steps,
+        limit: MOST_STEPS,
     };
-    walk.go(&fixed, input, out)
+    let mut ahead = Ahead::new(alloc, table)?;
+    let gone = walk.go(&fixed, inspection.terms, &mut ahead, input, out);
+    lend(alloc, form, &mut walk.trail, refused);
+    gone?;
+    Ok(())
 }
 
 /// Reads a trace of the system, in either form, and writes it with what happens inside the blocks between its lines. Each
 /// line between them begins with two spaces.
 ///
-/// All memory is that of the blocks, of a line, of a page, and of what is shown of one event that is taken.
+/// A trace that ends where a resource has used up its steps is gone through with the limit of the terms, and another one
+/// with the greatest that a run may have. One that is cut off ends in a line that says so, if the terms allow it. Before
+/// that, lines that may be only a part of what an event brings about are written as they are.
+///
+/// All memory is that of the blocks, of a line, of a page, of the lines that an event brings about, and of what is shown of
+/// it.
 ///
 /// # Errors
 /// `Refused` with the number of the first line that shows that no run has the trace: it is no line of the system, or not
-/// what the blocks emit there. Sampled values and the ticks of events are taken as they are. What was written then is the
-/// beginning of what would be written of the trace, up to an event that was taken as a whole.
+/// what the blocks emit there. That line is lent then. Sampled values and the ticks of events are taken as they are. What
+/// was written then is the beginning of what would be written of the trace, up to an event that was taken as a whole.
 pub fn inspect<R: BufRead, W: Write>(
     alloc: Global,
     system: &System,
     inspection: Inspection<'_>,
+    refused: &mut RefusedLine,
     input: &mut R,
     out: &mut W,
 ) -> Result<(), InspectError>
-    ensures whole { OnOk result (IfSome (R.remaining input.old) (λ text. IsShown (system_of system.now) inspection.entry.only.now inspection.entry.steps text (W.contents out.old) (W.contents out.new))) }
-    ensures fault { OnErr result (ShowsFront (system_of system.now) inspection.entry.only.now inspection.entry.steps (W.contents out.old) (W.contents out.new)) }
+    ensures whole { OnOk result (IfSome (R.remaining input.old) (λ text. IsShownBy inspection.entry.terms.cut (system_of system.now) inspection.entry.only.now inspection.entry.terms.steps text (W.contents out.old) (W.contents out.new))) }
+    ensures fault { OnErr result (ShowsFront (system_of system.now) inspection.entry.only.now inspection.entry.terms.steps (W.contents out.old) (W.contents out.new)) }
 {
     if !have_paths(system, inspection.only) {
         return Err(InspectError::Unknown);
@@ -226,5 +268,5 @@ pub fn inspect<R: BufRead, W: Write>(
     let Some(table) = PortTable::of(alloc, system, ports.as_slice(), texts.as_slice())? else {
         return Err(InspectError::Names);
     };
-    inspect_with(alloc, &table, inspection, input, out)
+    inspect_with(alloc, &table, inspection, refused, input, out)
 }

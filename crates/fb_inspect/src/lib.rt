@@ -5,23 +5,30 @@
 //! lines; after an error it has the first bytes of that.
 //!
 //! Read in this order: `insides`, the entry, with `error`; `walk`, which goes line by line, with `trail`, how far it has
-//! come; `reading`, the lines, and `page`, where text waits; `blocks`, what blocks remember; `steps`, the steps of a tick;
-//! then the reactions: `charts` and `event_blocks`, with `notes`, what is written of them.
+//! come; `reading`, the lines, `ahead`, lines that are read ahead, and `page`, where text waits; `finding`, why a line is
+//! refused, with `message`, its text; `blocks`, what blocks remember; `steps`, the steps of a tick; then the reactions: `charts` and `event_blocks`,
+//! with `notes`, what is written of them. `covering` goes through a trace for what it covers.
 #![tactic(auto)]
 
-mod blocks;
+pub mod ahead;
+pub mod blocks;
 mod charts;
 pub mod covering;
 pub mod error;
 mod event_blocks;
+pub mod finding;
 pub mod insides;
+pub mod message;
 mod notes;
-mod page;
-mod reading;
-mod steps;
-mod trail;
-mod walk;
+pub mod page;
+pub mod reading;
+pub mod steps;
+pub mod trail;
+pub mod walk;
 
-pub use covering::cover;
+pub use covering::{Covered, cover};
 pub use error::InspectError;
+pub use finding::{Finding, RefusedLine};
 pub use insides::{Inspection, inspect};
+pub use message::finding_message;
+pub use walk::{Extent, Terms};

@@ -5,6 +5,7 @@ ghost use Rattle.fb_types.specs.Text.{reason_text};
 ghost use Rattle.fb_types.specs.Values.{Values, same_value};
 ghost use Rattle.fb_event.specs.Seen.{seen_memory};
 ghost use Rattle.fb_st.specs.Frames.{values_of};
+ghost use Rattle.fb_inspect.specs.Inspections.{cut_note};
 ghost use Rattle.fb_inspect.specs.Notes as spec;
 
 use fb_draw::{put_all, put_condition, put_number, put_value};
@@ -187,4 +188,11 @@ pub(crate) fn put_memory(
 {
     put_memory_text(alloc, text, memory, due)?;
     text.extend_from_slice(b"\n")
+}
+
+/// That the trace is cut off.
+pub(crate) fn put_cut(text: &mut Vec<u8>) -> Result<(), AllocError>
+    ensures { OnOk result (text.new.items ≡ text.old.items ++ cut_note) }
+{
+    text.extend_from_slice(b"  cut\n")
 }

@@ -15,14 +15,14 @@ const MANY: usize = 65_536;
 
 /// Text that waits to be written, and how many bytes were written before it, up to the greatest `u128`.
 #[derive(Drop)]
-pub(crate) struct Page {
-    pub(crate) text: Vec<u8>,
+pub struct Page {
+    pub text: Vec<u8>,
     written: u128,
 }
 
 impl Page {
     /// An empty page, before which nothing was written.
-    pub(crate) fn new(alloc: Global) -> Page
+    pub fn new(alloc: Global) -> Page
         ensures empty { result.text.items ≡ [] }
         ensures none { result.written ≡ 0 }
     {
@@ -33,7 +33,7 @@ impl Page {
     }
 
     /// Writes all that waits.
-    pub(crate) fn flush<W: Write>(&mut self, out: &mut W) -> Result<(), InspectError>
+    pub fn flush<W: Write>(&mut self, out: &mut W) -> Result<(), InspectError>
         ensures whole { OnOk result (Appends (W.contents out.old) (W.contents out.new) self.old.text.items) }
         ensures empty { OnOk result (self.new.text.items ≡ []) }
         ensures counted { OnOk result (self.new.written ≡ bounded (self.old.written + length self.old.text.items)) }
@@ -49,7 +49,7 @@ impl Page {
     }
 
     /// Writes all that waits, where it is much.
-    pub(crate) fn flush_much<W: Write>(&mut self, out: &mut W) -> Result<(), InspectError>
+    pub fn flush_much<W: Write>(&mut self, out: &mut W) -> Result<(), InspectError>
         ensures whole { OnOk result (IsFlushed (W.contents out.old) (W.contents out.new) self.old self.new) }
         ensures part { IfErr result (IsCutShort (W.contents out.old) (W.contents out.new) self.old) }
     {

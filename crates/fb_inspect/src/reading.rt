@@ -15,7 +15,7 @@ use std::io::BufRead;
 
 /// What a line of a trace is.
 #[derive(Drop)]
-pub(crate) enum Next {
+pub enum Next {
     Event(Line),
     /// The last line.
     End(Outcome),
@@ -25,14 +25,18 @@ pub(crate) enum Next {
 
 /// How far a trace was read.
 #[derive(Drop)]
-pub(crate) struct Reading {
-    pub(crate) guess: Guess,
+pub struct Reading {
+    pub guess: Guess,
     /// The number of the next line, from 1.
-    pub(crate) number: u64,
+    pub number: u64,
     /// The next line, with its line feed.
-    pub(crate) line: Vec<u8>,
+    pub line: Vec<u8>,
     /// What the next line is.
-    pub(crate) next: Next,
+    pub next: Next,
+    /// The tick of the line before it, in milliseconds, or 0 before the first.
+    pub tick: u64,
+    /// Whether it comes after a last line.
+    pub after_end: bool,
 }
 
 /// What a line is that comes after one of this tick.
@@ -76,21 +80,20 @@ impl Reading {
         ensures next { OnOk result (IsNext (system_of table.now.system.now) form tick self.new.line.items self.new.next) }
         ensures read { OnOk result (Consumes (R.remaining input.old) (R.remaining input.new) self.new.line.items) }
     {
-        let Ok(()) = next_line(input, &mut self.line) else {
-            return Err(InspectError::Read);
-        };
+        next_line(input, &mut self.line)?;
         // No reader has more lines than that.
         let Some(number) = self.number.checked_add(1) else {
             return Err(InspectError::Read);
         };
         self.number = number;
+        self.tick = tick;
         let line = self.line.as_slice();
         self.next = judged(alloc, table, &mut self.guess, form, tick, line)?;
         Ok(())
     }
 
     /// The refusal of the next line.
-    pub(crate) fn refusal(&self) -> InspectError {
+    pub fn refusal(&self) -> InspectError {
         InspectError::Refused(self.number)
     }
 }

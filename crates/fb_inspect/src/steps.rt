@@ -1,17 +1,19 @@
 //! The steps of a resource in a tick.
 
-ghost use Rattle.std.specs.Prelude.{◌≡◌, suc, Some, None};
+ghost use Rattle.std.specs.Prelude.{◌≡◌, ◌≤◌, ◌+◌, ◌-◌, suc, Some, None};
 ghost use Rattle.std.specs.Bool.{OnFalse, OnTrue};
 ghost use Rattle.fb_inspect.specs.Counted.{left_of};
+ghost use Rattle.fb_inspect.specs.Inspections.{most};
 ghost use Rattle.fb_inspect.specs.Looks as spec;
 
 use fb_st::Meter;
+use fb_types::MOST_STEPS;
 
 /// The steps that a resource has left in the tick of the last event that it took.
 #[derive(Clone, Copy)]
-pub(crate) struct TickSteps {
-    pub(crate) tick: Option<u64>,
-    pub(crate) meter: Meter,
+pub struct TickSteps {
+    pub tick: Option<u64>,
+    pub meter: Meter,
 }
 
 impl TickSteps {
@@ -50,6 +52,27 @@ impl TickSteps {
         *self = TickSteps {
             tick: Some(tick),
             meter: Meter { left: left - 1 },
+        };
+        true
+    }
+
+    /// Leaves in a tick what is left of these steps, in place of what is left of the greatest limit. Where more were used
+    /// nothing changes, and the answer is `false`.
+    pub(crate) fn limit(&mut self, steps: u64, tick: u64) -> bool
+        ensures within { OnTrue result (most ≤ spec.left_at most tick (left_of self.old) + steps) }
+        ensures left { OnTrue result (left_of self.new ≡ record { tick = Some tick; left = (spec.left_at most tick (left_of self.old) + steps) - most }) }
+    {
+        let Some(all) = self.left_at(MOST_STEPS, tick).checked_add(steps) else {
+            return false;
+        };
+        if all < MOST_STEPS {
+            return false;
+        }
+        *self = TickSteps {
+            tick: Some(tick),
+            meter: Meter {
+                left: all - MOST_STEPS,
+            },
         };
         true
     }

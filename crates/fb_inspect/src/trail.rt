@@ -11,12 +11,13 @@ ghost use Rattle.fb_inspect.specs.Lines.{IsNext};
 ghost use Rattle.fb_inspect.specs.Moves.{EmitsGo, Goes, IsEmission, shown_text};
 
 use crate::error::InspectError;
+use crate::finding::Finding;
 use crate::notes::are_same;
 use crate::page::Page;
 use crate::reading::{Next, Reading};
 use fb_coverage::Marks;
 use fb_trace::Outcome;
-use fb_types::{Emission, Emits, Form, Key, Line, Reason, Value};
+use fb_types::{Emission, Emits, Form, Key, Line, Reason, Value, Values};
 use fb_wave::PortTable;
 use std::alloc::{AllocError, Global};
 use std::io::BufRead;
@@ -24,27 +25,29 @@ use std::mem;
 
 /// What stays the same while a trace is gone through.
 #[derive(Clone, Copy)]
-pub(crate) struct Fixed<'t, 's> {
-    pub(crate) alloc: Global,
-    pub(crate) table: &'t PortTable<'s>,
-    pub(crate) form: Form,
+pub struct Fixed<'t, 's> {
+    pub alloc: Global,
+    pub table: &'t PortTable<'s>,
+    pub form: Form,
     /// The most steps of a resource in a tick.
-    pub(crate) limit: u64,
+    pub limit: u64,
 }
 
 /// How far a trace was gone through.
 #[derive(Drop)]
-pub(crate) struct Trail {
-    pub(crate) reading: Reading,
-    pub(crate) page: Page,
+pub struct Trail {
+    pub reading: Reading,
+    pub page: Page,
     /// Whether the instance of the line that was taken last is shown.
-    pub(crate) is_shown: bool,
+    pub is_shown: bool,
     /// What is covered of the system.
-    pub(crate) marks: Marks,
+    pub marks: Marks,
+    /// Why the next line is refused, if it is.
+    pub finding: Finding,
 }
 
 /// Whether this is the stop of a resource at a tick, for this reason.
-pub(crate) fn is_stop(next: &Next, key: &Key, reason: Reason) -> bool
+pub fn is_stop(next: &Next, key: &Key, reason: Reason) -> bool
     ensures { IsTrue result → next.now ≡ Next.End (Outcome.Stop (record { tick = key.now.tick; resource = key.now.resource; reason = reason })) }
 {
     match next {
@@ -100,6 +103,30 @@ pub(crate) fn put_line(text: &mut Vec<u8>, line: &[u8], is_shown: bool) -> Resul
 }
 
 impl Trail {
+    /// The refusal of the next line, for what was found.
+    pub(crate) fn refusal(&mut self, finding: Finding) -> InspectError
+        ensures { self.new.marks ≡ self.old.marks }
+    {
+        self.finding = finding;
+        self.reading.refusal()
+    }
+
+    /// The refusal of the next line, where the block of a line makes this emission.
+    fn refusal_for(&mut self, alloc: Global, line: &Line, emission: &Emission) -> InspectError
+        ensures { self.new.marks ≡ self.old.marks }
+    {
+        let Ok(values) = Values::from_slice(alloc, emission.values.as_slice()) else {
+            return InspectError::Memory;
+        };
+        self.refusal(Finding::Emits {
+            instance: line.instance,
+            emission: Emission {
+                event: emission.event,
+                values,
+            },
+        })
+    }
+
     /// Goes past the next line, which is this one. It is added, if its instance is shown.
     pub(crate) fn pass<R: BufRead>(
         &mut self,
@@ -138,10 +165,10 @@ impl Trail {
     {
         let next = mem::replace(&mut self.reading.next, Next::Bad);
         let Next::Event(next) = next else {
-            return Err(self.reading.refusal());
+            return Err(self.refusal_for(fixed.alloc, line, emission));
         };
         if !is_emission(&next, line, emission) {
-            return Err(self.reading.refusal());
+            return Err(self.refusal_for(fixed.alloc, line, emission));
         }
         self.pass(fixed, &next, input)
     }

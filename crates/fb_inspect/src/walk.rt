@@ -1,46 +1,54 @@
 //! Through a trace, line by line.
 
-ghost use Rattle.std.specs.Prelude.{◌≡◌, ◌<◌, ◌≤◌, ◌^◌, ℕ, List, IfOk, IfSome, IsTrue, OnErr, OnOk, Option, None, length};
+ghost use Rattle.std.specs.Prelude.{◌≡◌, ◌<◌, ◌≤◌, ◌^◌, ◌⊎◌, ◌++◌, ℕ, ◌+◌, List, [], IfOk, IfSome, IsTrue, OnErr, OnOk, Option, Some, None, length, true, false};
 ghost use Rattle.std.specs.Bool.{OnTrue};
 ghost use Rattle.std.specs.Io.KnownBytes.{Consumes};
 ghost use Rattle.fb_types.specs.Headline.{system_of};
 ghost use Rattle.fb_types.specs.Names.{Name};
 ghost use Rattle.fb_types.specs.Numbers.{path_at};
 ghost use Rattle.fb_types.specs.Systems.{System};
+ghost use Rattle.fb_types.specs.declared.run.Line as run;
+ghost use Rattle.fb_coverage.specs.declared.marks.Marks.{Marks};
 ghost use Rattle.fb_trace.specs.End.{ending_of};
+ghost use Rattle.fb_wave.specs.Dumps.{last_tick};
 ghost use Rattle.fb_wave.specs.Lines.{IsTextOf};
 ghost use Rattle.fb_wave.specs.Tables.{IsTable};
-ghost use Rattle.fb_inspect.specs.Covering.{IsCovered};
-ghost use Rattle.fb_inspect.specs.Inspections.{IsShown, MayEnd, ShowsFront};
+ghost use Rattle.fb_inspect.specs.Covering.{IsCoveredBy};
+ghost use Rattle.fb_inspect.specs.Inspections.{IsShownBy, ShowsFront, most};
 ghost use Rattle.fb_inspect.specs.Lines.{IsNext};
 ghost use Rattle.fb_inspect.specs.Looks.{Look, left_at};
 ghost use Rattle.fb_inspect.specs.Walking as spec;
-ghost use Rattle.fb_inspect.specs.Walking.{AreKept, CanReact, Finishes, HasStepped, IsKept, IsLookOf, KeptGoes, ReactGoes, SendsPart, Starts, TurnGoes};
+ghost use Rattle.fb_inspect.specs.Moves.{shown_text};
+ghost use Rattle.fb_inspect.specs.Walking.{AreKept, CanReact, Finishes, FinishesCut, HasAdvanced, HasCovered, HasLimited, HasStepped, IsKept, IsLookOf, KeptGoes, MayEnd, ReactGoes, SendsCutPart, SendsPart, Starts, TurnGoes, unread};
 ghost use Rattle.fb_inspect.specs.declared.blocks.Remembered.TheVariants as kept;
 
+use crate::ahead::Ahead;
 use crate::blocks::{Chart, EventBlock, Remembered, basic_type, type_number};
 use crate::charts::{ChartTaking, react_chart};
 use crate::error::InspectError;
 use crate::event_blocks::{expire_block, react_block};
+use crate::finding::Finding;
+use crate::notes::put_cut;
 use crate::reading::Next;
 use crate::steps::TickSteps;
 use crate::trail::{Fixed, Trail, is_stop, put_line};
 use fb_st::Meter;
 use fb_trace::Outcome;
-use fb_types::{Key, LATEST_TICK, Line, Reason};
-use fb_wave::is_over;
+use fb_types::{Key, LATEST_TICK, Line, MOST_STEPS, Reason, StopMark};
+use fb_wave::{Cut, is_over, read_last};
+use std::alloc::AllocError;
 use std::io::{BufRead, Write};
 use std::mem;
 
 /// What the blocks of a system remember at a line, and the steps of its resources.
 #[derive(Drop)]
-pub(crate) struct Walk {
-    pub(crate) blocks: Vec<Remembered>,
+pub struct Walk {
+    pub blocks: Vec<Remembered>,
     /// For each resource the steps that it has left.
-    pub(crate) steps: Vec<TickSteps>,
-    pub(crate) trail: Trail,
+    pub steps: Vec<TickSteps>,
+    pub trail: Trail,
     /// For each instance whether it is shown.
-    pub(crate) shown: Vec<bool>,
+    pub shown: Vec<bool>,
 }
 
 /// The reaction of a basic block to the event of the next line.
@@ -63,7 +71,7 @@ fn react_basic<R: BufRead>(
         unreachable!()
     };
     if !line.taken {
-        return Err(trail.reading.refusal());
+        return Err(trail.refusal(Finding::Unmade));
     }
     trail.pass(fixed, line, input)?;
     let number = type_number(fixed.table.system, line.instance);
@@ -150,6 +158,68 @@ fn flag_at(flags: &[bool], instance: u32) -> bool
     }
 }
 
+/// How a walk goes on.
+#[derive(Clone, Copy, PartialEq, Eq)]
+pub enum Step {
+    /// An event was taken, and the trace goes on.
+    Taken,
+    /// The next line is the last one, and the trace can end so there.
+    Ended(Outcome),
+    /// The trace is cut off in the next line, or in the lines after it that were read ahead.
+    CutOff,
+}
+
+/// How much of a trace there is.
+#[derive(Clone, Copy, PartialEq, Eq)]
+pub enum Extent {
+    /// All of it.
+    Whole,
+    /// It is cut off.
+    CutOff,
+}
+
+/// What a trace may be.
+#[derive(Clone, Copy)]
+pub struct Terms {
+    /// Whether it may be cut off.
+    pub cut: Cut,
+    /// The most steps of a resource in a tick, if the trace ends where they are used up.
+    pub steps: u64,
+}
+
+/// Whether a stop is one of the resource and the tick of a key, for its steps.
+fn is_steps_of(mark: StopMark, key: &Key) -> bool {
+    mark.tick == key.tick && mark.resource == key.resource && mark.reason == Reason::Steps
+}
+
+fn is_for_steps(reason: Reason) -> bool
+    ensures { result ≡ false → reason ≡ Reason.Steps → ⊥ }
+{
+    match reason {
+        Reason::Steps => true,
+        Reason::Divide | Reason::Range => false,
+    }
+}
+
+/// What is found where a taking that ended so should have run out of steps: the reason that stopped it, or else this.
+fn found_by(stop: Option<Reason>, other: Finding) -> Finding {
+    match stop {
+        Some(reason) => Finding::Stops(reason),
+        None => other,
+    }
+}
+
+/// The stop of the resource of a key in its tick.
+fn stop_of(key: &Key, reason: Reason) -> Outcome
+    ensures { result ≡ Outcome.Stop (record { tick = key.now.tick; resource = key.now.resource; reason = reason }) }
+{
+    Outcome::Stop(StopMark {
+        tick: key.tick,
+        resource: key.resource,
+        reason,
+    })
+}
+
 impl Walk {
     /// The reaction of the instance of the next line to it. Answers the reason that stops the resource, if one does.
     fn react<R: BufRead>(
@@ -178,7 +248,10 @@ impl Walk {
     }
 
     /// Takes the event of the next line. Answers the reason that stops the resource, if one does.
-    fn take<R: BufRead>(
+    ///
+    /// # Errors
+    /// `Refused` where no run gives the next line, or one of those that the event brings about; `Read` and `Memory`.
+    pub fn take<R: BufRead>(
         &mut self,
         fixed: &Fixed<'_, '_>,
         line: &Line,
@@ -194,27 +267,37 @@ impl Walk {
         fixed.table.system.facts();
         self.trail.is_shown = flag_at(self.shown.as_slice(), line.instance);
         if line.key.tick > LATEST_TICK {
-            return Err(self.trail.reading.refusal());
+            return Err(self.trail.refusal(Finding::Late));
         }
         if !use_step(&mut self.steps, fixed.limit, &line.key) {
-            return Err(self.trail.reading.refusal());
+            return Err(self.trail.refusal(Finding::NoStep));
         }
         self.react(fixed, line, input)
     }
 
-    /// Whether a trace may end so where no reaction was stopped: at a horizon, or where a resource has no step left.
-    fn may_end(&self, limit: u64, end: Outcome) -> bool
-        ensures { (sys : System) (look : Look) → IsLookOf sys self.now.blocks.items self.now.steps.items look → IsTrue result → MayEnd limit look (ending_of end) }
+    /// Whether a trace may end so where no reaction was stopped: at a horizon, or where a resource has used up these steps.
+    pub fn may_end(&self, steps: u64, end: Outcome) -> bool
+        ensures { (sys : System) (look : Look) → IsLookOf sys self.now.blocks.items self.now.steps.items look → IsTrue result → MayEnd steps look (ending_of end) }
     {
         match end {
             Outcome::End(_) => true,
             Outcome::Stop(mark) => {
-                mark.reason == Reason::Steps && self.is_used_up(limit, mark.tick, mark.resource)
+                mark.reason == Reason::Steps && self.has_used(steps, mark.tick, mark.resource)
             }
         }
     }
 
-    /// Whether a resource has no step left in a tick.
+    /// Whether a resource has used these steps in a tick, of the greatest limit.
+    fn has_used(&self, steps: u64, tick: u64, resource: u32) -> bool
+        ensures { (sys : System) (look : Look) → IsLookOf sys self.now.blocks.items self.now.steps.items look → IsTrue result → left_at most tick (look.steps resource) + steps ≡ most }
+    {
+        match self.steps.get(resource as usize) {
+            Some(own) => own.left_at(MOST_STEPS, tick).checked_add(steps) == Some(MOST_STEPS),
+            None => false,
+        }
+    }
+
+    /// Whether a resource has no step left in a tick, of this limit.
     fn is_used_up(&self, limit: u64, tick: u64, resource: u32) -> bool
         ensures { (sys : System) (look : Look) → IsLookOf sys self.now.blocks.items self.now.steps.items look → IsTrue result → left_at limit tick (look.steps resource) ≡ 0 }
     {
@@ -224,58 +307,282 @@ impl Walk {
         }
     }
 
+    /// Leaves the resource of a key in its tick what is left of these steps, in place of what is left of the greatest limit.
+    /// Answers `false` where more were used.
+    fn limit(&mut self, steps: u64, key: &Key) -> bool
+        requires { key.now.resource < length self.old.steps.items }
+        ensures limited { IsTrue result → HasLimited steps key.now self.old.steps.items self.new.steps.items }
+        ensures blocks { self.new.blocks ≡ self.old.blocks }
+        ensures trail { self.new.trail ≡ self.old.trail }
+        ensures shown { self.new.shown ≡ self.old.shown }
+    {
+        match self.steps.get_mut(key.resource as usize) {
+            Some(own) => own.limit(steps, key.tick),
+            None => false,
+        }
+    }
+
+    /// Whether an instance is a basic block.
+    fn is_basic(&self, instance: u32) -> bool {
+        match self.blocks.get(instance as usize) {
+            Some(Remembered::Basic(_)) => true,
+            Some(Remembered::Event(_) | Remembered::Composite) | None => false,
+        }
+    }
+
+    /// Whether the taking of the event of a line may end by its steps: the line that was read ahead is that of such a stop.
+    fn is_near(&self, fixed: &Fixed<'_, '_>, ahead: &Ahead, line: &Line) -> bool {
+        if !self.is_basic(line.instance) {
+            return false;
+        }
+        match read_last(fixed.table.system, ahead.last.as_slice()) {
+            Some(Outcome::Stop(mark)) => is_steps_of(mark, &line.key),
+            Some(Outcome::End(_)) | None => false,
+        }
+    }
+
+    /// Takes the event of the next line, and goes on in what was read ahead. Answers the reason that stops the resource, if
+    /// one does.
+    fn take_ahead(
+        &mut self,
+        fixed: &Fixed<'_, '_>,
+        line: &Line,
+        ahead: &mut Ahead,
+    ) -> Result<Option<Reason>, InspectError>
+        requires table { IsTable fixed.now.table.now }
+        requires is { IsTextOf (system_of fixed.now.table.now.system.now) fixed.now.form line.now self.old.trail.reading.line.items }
+        requires look { (look : Look) × IsLookOf (system_of fixed.now.table.now.system.now) self.old.blocks.items self.old.steps.items look }
+        ensures goes { (look : Look) (remaining : Option (List ℕ)) → let sys = system_of fixed.now.table.now.system.now in IsLookOf sys self.old.blocks.items self.old.steps.items look
+            → IfOk result (λ stop. TurnGoes fixed.now.table.now.system.now.library.blocks sys fixed.now.form fixed.now.limit look line.now stop self.old self.new (unread ahead.old remaining) (unread ahead.new remaining)) }
+        ensures next { OnOk result (IsNext (system_of fixed.now.table.now.system.now) fixed.now.form line.now.key.tick self.new.trail.reading.line.items self.new.trail.reading.next) }
+    {
+        let mut rest = ahead.text.as_slice();
+        let stop = self.take(fixed, line, &mut rest)?;
+        let left = Vec::from_slice(fixed.alloc, rest)?;
+        ahead.keep(left)?;
+        Ok(stop)
+    }
+
+    /// Takes the event of the next line, whose resource has all steps of the greatest limit.
+    fn take_freely(
+        &mut self,
+        fixed: &Fixed<'_, '_>,
+        line: &Line,
+        ahead: &mut Ahead,
+    ) -> Result<Step, InspectError>
+        requires table { IsTable fixed.now.table.now }
+        requires is { IsTextOf (system_of fixed.now.table.now.system.now) fixed.now.form line.now self.old.trail.reading.line.items }
+        requires look { (look : Look) × IsLookOf (system_of fixed.now.table.now.system.now) self.old.blocks.items self.old.steps.items look }
+        requires limit { fixed.now.limit ≡ most }
+        ensures goes { (first : Marks) (only : List Name) (steps : ℕ) (known remaining old new : Option (List ℕ)) → let sys = system_of fixed.now.table.now.system.now in
+            let types = fixed.now.table.now.system.now.library.blocks in (covered : HasCovered types first sys fixed.now.form only steps self.old known (unread ahead.old remaining) old new) → last_tick 0 covered.gone.gone.lines ≤ line.now.key.tick
+            → IfOk result (HasAdvanced types first sys fixed.now.form only steps self.new known (unread ahead.new remaining) old new) }
+        ensures turned { (look : Look) (remaining : Option (List ℕ)) → let sys = system_of fixed.now.table.now.system.now in let types = fixed.now.table.now.system.now.library.blocks in
+            IsLookOf sys self.old.blocks.items self.old.steps.items look
+            → IfOk result (λ step. step ≡ Step.Taken → TurnGoes types sys fixed.now.form most look line.now None self.old self.new (unread ahead.old remaining) (unread ahead.new remaining)) }
+        ensures whole { IfOk result (λ step. step ≡ Step.CutOff → ⊥) }
+    {
+        let Some(reason) = self.take_ahead(fixed, line, ahead)? else {
+            return Ok(Step::Taken);
+        };
+        // A stop for the steps is one of the limit that the trace has, which is judged by itself.
+        if is_for_steps(reason) {
+            return Err(self.trail.refusal(Finding::Stops(reason)));
+        }
+        if !is_stop(&self.trail.reading.next, &line.key, reason) {
+            return Err(self.trail.refusal(Finding::Stops(reason)));
+        }
+        Ok(Step::Ended(stop_of(&line.key, reason)))
+    }
+
+    /// Takes the event of the next line, after which a resource must have used up these steps.
+    fn take_last(
+        &mut self,
+        fixed: &Fixed<'_, '_>,
+        steps: u64,
+        line: &Line,
+        ahead: &mut Ahead,
+    ) -> Result<Step, InspectError>
+        requires table { IsTable fixed.now.table.now }
+        requires is { IsTextOf (system_of fixed.now.table.now.system.now) fixed.now.form line.now self.old.trail.reading.line.items }
+        requires look { (look : Look) × IsLookOf (system_of fixed.now.table.now.system.now) self.old.blocks.items self.old.steps.items look }
+        ensures goes { (first : Marks) (only : List Name) (known remaining old new : Option (List ℕ)) → let sys = system_of fixed.now.table.now.system.now in
+            let types = fixed.now.table.now.system.now.library.blocks in (covered : HasCovered types first sys fixed.now.form only steps self.old known (unread ahead.old remaining) old new) → last_tick 0 covered.gone.gone.lines ≤ line.now.key.tick
+            → IfOk result (HasAdvanced types first sys fixed.now.form only steps self.new known (unread ahead.new remaining) old new) }
+        ensures ended { IfOk result (λ step. step ≡ Step.Taken → ⊥) }
+        ensures whole { IfOk result (λ step. step ≡ Step.CutOff → ⊥) }
+    {
+        fixed.table.system.facts();
+        if !self.limit(steps, &line.key) {
+            return Err(self.trail.refusal(Finding::NoStep));
+        }
+        let near = Fixed {
+            alloc: fixed.alloc,
+            table: fixed.table,
+            form: fixed.form,
+            limit: steps,
+        };
+        let stop = self.take_ahead(&near, line, ahead)?;
+        if !is_stop(&self.trail.reading.next, &line.key, Reason::Steps) {
+            return Err(self.trail.refusal(found_by(stop, Finding::Unmade)));
+        }
+        if !self.has_run_out(steps, &line.key, stop) {
+            return Err(self.trail.refusal(found_by(stop, Finding::Runs)));
+        }
+        Ok(Step::Ended(stop_of(&line.key, Reason::Steps)))
+    }
+
+    /// Whether a resource has run out of steps in a taking that ended so, or just after it.
+    fn has_run_out(&self, limit: u64, key: &Key, stop: Option<Reason>) -> bool
+        ensures { (sys : System) (look : Look) → IsLookOf sys self.now.blocks.items self.now.steps.items look → IsTrue result
+            → (stop ≡ Some Reason.Steps) ⊎ ((stop ≡ None) × (left_at limit key.now.tick (look.steps key.now.resource) ≡ 0)) }
+    {
+        match stop {
+            Some(reason) => reason == Reason::Steps,
+            None => self.is_used_up(limit, key.tick, key.resource),
+        }
+    }
+
+    /// Adds the lines of an event that is not taken, since the trace is cut off in them.
+    fn put_untaken(&mut self, line: &Line, ahead: &Ahead) -> Result<(), AllocError>
+        ensures text { OnOk result (self.new.trail.page.text.items ≡ self.old.trail.page.text.items ++ shown_text (spec.flag_at self.old.shown.items line.now.instance) (self.old.trail.reading.line.items ++ ahead.now.text.items)) }
+        ensures marks { self.new.trail.marks ≡ self.old.trail.marks }
+    {
+        let is_shown = flag_at(self.shown.as_slice(), line.instance);
+        let whole = self.trail.reading.line.as_slice();
+        put_line(&mut self.trail.page.text, whole, is_shown)?;
+        put_line(&mut self.trail.page.text, ahead.text.as_slice(), is_shown)
+    }
+
+    /// Goes on with the line of an event, which is the next one.
+    fn step_on<R: BufRead>(
+        &mut self,
+        fixed: &Fixed<'_, '_>,
+        terms: Terms,
+        line: &Line,
+        ahead: &mut Ahead,
+        input: &mut R,
+    ) -> Result<Step, InspectError>
+        requires table { IsTable fixed.now.table.now }
+        requires is { IsTextOf (system_of fixed.now.table.now.system.now) fixed.now.form line.now self.old.trail.reading.line.items }
+        requires look { (look : Look) × IsLookOf (system_of fixed.now.table.now.system.now) self.old.blocks.items self.old.steps.items look }
+        requires limit { fixed.now.limit ≡ most }
+        ensures goes { (first : Marks) (only : List Name) (known old new : Option (List ℕ)) → let sys = system_of fixed.now.table.now.system.now in
+            let types = fixed.now.table.now.system.now.library.blocks in (covered : HasCovered types first sys fixed.now.form only terms.steps self.old known (unread ahead.old (R.remaining input.old)) old new) → last_tick 0 covered.gone.gone.lines ≤ line.now.key.tick
+            → IfOk result (HasAdvanced types first sys fixed.now.form only terms.steps self.new known (unread ahead.new (R.remaining input.new)) old new) }
+        ensures turned { (look : Look) → let sys = system_of fixed.now.table.now.system.now in IsLookOf sys self.old.blocks.items self.old.steps.items look → IfOk result (λ step. step ≡ Step.Taken →
+            TurnGoes fixed.now.table.now.system.now.library.blocks sys fixed.now.form most look line.now None self.old self.new (unread ahead.old (R.remaining input.old)) (unread ahead.new (R.remaining input.new))) }
+        ensures cut { IfOk result (λ step. step ≡ Step.CutOff → terms.cut ≡ Cut.Allowed) }
+    {
+        let is_cut = ahead.look(fixed, terms.cut, line, input)?;
+        if is_cut {
+            self.put_untaken(line, ahead)?;
+            return Ok(Step::CutOff);
+        }
+        if self.is_near(fixed, ahead, line) {
+            return self.take_last(fixed, terms.steps, line, ahead);
+        }
+        self.take_freely(fixed, line, ahead)
+    }
+
+    /// Goes on by one event, or to the end of the trace. Lines are read ahead as far as that needs.
+    ///
+    /// # Errors
+    /// `Refused` where no run gives the next line or one after it; `Read` and `Memory`.
+    pub fn step<R: BufRead>(
+        &mut self,
+        fixed: &Fixed<'_, '_>,
+        terms: Terms,
+        ahead: &mut Ahead,
+        input: &mut R,
+    ) -> Result<Step, InspectError>
+        requires table { IsTable fixed.now.table.now }
+        requires look { (look : Look) × IsLookOf (system_of fixed.now.table.now.system.now) self.old.blocks.items self.old.steps.items look }
+        requires next { (tick : ℕ) × IsNext (system_of fixed.now.table.now.system.now) fixed.now.form tick self.old.trail.reading.line.items self.old.trail.reading.next }
+        requires limit { fixed.now.limit ≡ most }
+        ensures goes { (first : Marks) (only : List Name) (known old new : Option (List ℕ)) → let sys = system_of fixed.now.table.now.system.now in
+            let types = fixed.now.table.now.system.now.library.blocks in HasCovered types first sys fixed.now.form only terms.steps self.old known (unread ahead.old (R.remaining input.old)) old new
+            → IfOk result (HasAdvanced types first sys fixed.now.form only terms.steps self.new known (unread ahead.new (R.remaining input.new)) old new) }
+        ensures turned { (look : Look) → let sys = system_of fixed.now.table.now.system.now in IsLookOf sys self.old.blocks.items self.old.steps.items look → IfOk result (λ step. step ≡ Step.Taken →
+            (line : run.Line) × (Next.Event line ≡ self.old.trail.reading.next)
+            × TurnGoes fixed.now.table.now.system.now.library.blocks sys fixed.now.form most look line None self.old self.new (unread ahead.old (R.remaining input.old)) (unread ahead.new (R.remaining input.new))) }
+        ensures cut { IfOk result (λ step. step ≡ Step.CutOff → terms.cut ≡ Cut.Allowed) }
+    {
+        match mem::replace(&mut self.trail.reading.next, Next::Bad) {
+            Next::Event(line) => self.step_on(fixed, terms, &line, ahead, input),
+            Next::End(end) if self.may_end(terms.steps, end) => Ok(Step::Ended(end)),
+            Next::End(_) => Err(self.trail.refusal(Finding::Runs)),
+            Next::Bad => Err(self.trail.refusal(Finding::Line)),
+        }
+    }
+
     /// Adds the last line, which is the next one, and writes all that waits, if nothing is left after it.
     fn finish<R: BufRead, W: Write>(
         &mut self,
+        ahead: &Ahead,
         input: &mut R,
         out: &mut W,
     ) -> Result<(), InspectError>
-        ensures finishes { OnOk result (Finishes self.old (R.remaining input.old) (W.contents out.old) (W.contents out.new)) }
+        ensures finishes { OnOk result (Finishes self.old (unread ahead.now (R.remaining input.old)) (W.contents out.old) (W.contents out.new)) }
         ensures marks { self.new.trail.marks ≡ self.old.trail.marks }
         ensures fault { OnErr result (SendsPart self.old (W.contents out.old) (W.contents out.new)) }
     {
         let line = self.trail.reading.line.as_slice();
         put_line(&mut self.trail.page.text, line, true)?;
+        self.trail.reading.after_end = true;
+        if !ahead.text.is_empty() {
+            return Err(InspectError::Refused(self.trail.reading.number.saturating_add(1)));
+        }
         match is_over(input, &mut self.trail.reading.line) {
             Ok(true) => self.trail.page.flush(out),
             Ok(false) => Err(InspectError::Refused(self.trail.reading.number.saturating_add(1))),
-            Err(_) => Err(InspectError::Read),
+            Err(fault) => Err(InspectError::from(fault)),
         }
+    }
+
+    /// Adds that the trace is cut off, and writes all that waits.
+    pub(crate) fn finish_cut<W: Write>(&mut self, out: &mut W) -> Result<(), InspectError>
+        ensures finishes { OnOk result (FinishesCut self.old (W.contents out.old) (W.contents out.new)) }
+        ensures marks { self.new.trail.marks ≡ self.old.trail.marks }
+        ensures fault { OnErr result (SendsCutPart self.old (W.contents out.old) (W.contents out.new)) }
+    {
+        put_cut(&mut self.trail.page.text)?;
+        self.trail.page.flush(out)
     }
 
     /// Goes through a trace to its end.
     pub(crate) fn go<R: BufRead, W: Write>(
         &mut self,
         fixed: &Fixed<'_, '_>,
+        terms: Terms,
+        ahead: &mut Ahead,
         input: &mut R,
         out: &mut W,
-    ) -> Result<(), InspectError>
+    ) -> Result<Extent, InspectError>
         requires table { IsTable fixed.now.table.now }
         requires starts { (only : List Name) × Starts (system_of fixed.now.table.now.system.now) fixed.now.form only self.old }
+        requires limit { fixed.now.limit ≡ most }
+        requires empty { ahead.old.text.items ≡ [] }
         ensures whole { (only : List Name) (known : Option (List ℕ)) → let sys = system_of fixed.now.table.now.system.now in
             Starts sys fixed.now.form only self.old → Consumes known (R.remaining input.old) self.old.trail.reading.line.items
-            → OnOk result (IfSome known (λ text. IsShown sys only fixed.now.limit text (W.contents out.old) (W.contents out.new))) }
+            → OnOk result (IfSome known (λ text. IsShownBy terms.cut sys only terms.steps text (W.contents out.old) (W.contents out.new))) }
         ensures covered { (only : List Name) (known : Option (List ℕ)) → let sys = system_of fixed.now.table.now.system.now in
             Starts sys fixed.now.form only self.old → Consumes known (R.remaining input.old) self.old.trail.reading.line.items
-            → OnOk result (IfSome known (λ text. IsCovered fixed.now.table.now.system.now only fixed.now.limit text self.old.trail.marks self.new.trail.marks)) }
+            → IfOk result (λ extent. IfSome known (λ text. IsCoveredBy terms.cut fixed.now.table.now.system.now only terms.steps text self.old.trail.marks self.new.trail.marks extent)) }
         ensures fault { (only : List Name) → let sys = system_of fixed.now.table.now.system.now in
-            Starts sys fixed.now.form only self.old → OnErr result (ShowsFront sys only fixed.now.limit (W.contents out.old) (W.contents out.new)) }
+            Starts sys fixed.now.form only self.old → OnErr result (ShowsFront sys only terms.steps (W.contents out.old) (W.contents out.new)) }
     {
         for _ in 0..u64::MAX {
-            match mem::replace(&mut self.trail.reading.next, Next::Bad) {
-                Next::Event(line) => {
-                    if let Some(reason) = self.take(fixed, &line, input)? {
-                        if !is_stop(&self.trail.reading.next, &line.key, reason) {
-                            return Err(self.trail.reading.refusal());
-                        }
-                        return self.finish(input, out);
-                    }
-                    self.trail.page.flush_much(out)?;
+            match self.step(fixed, terms, ahead, input)? {
+                Step::Taken => self.trail.page.flush_much(out)?,
+                Step::Ended(_) => {
+                    self.finish(ahead, input, out)?;
+                    return Ok(Extent::Whole);
                 }
-                Next::End(end) if self.may_end(fixed.limit, end) => {
-                    return self.finish(input, out);
+                Step::CutOff => {
+                    self.finish_cut(out)?;
+                    return Ok(Extent::CutOff);
                 }
-                Next::End(_) | Next::Bad => return Err(self.trail.reading.refusal()),
             }
         }
         Err(InspectError::Read)

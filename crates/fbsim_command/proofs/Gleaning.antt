@@ -1,13 +1,10 @@
 -- Traces that are gone through one after the other, and how the report of what they cover ends.
-use Rattle.std.proofs.Common.{◌≡◌, ◌<◌, ◌≤◌, ◌+◌, ℕ, Bool, true, false, Bor, List, [], ◌∷◌, ◌++◌, drop, get_or, length, map, take, Option, Some, None, Result, Ok, Err, refl, sym, ◌∙◌, ap, subst, inl, inr}
+use Rattle.std.proofs.Common.{◌≡◌, ◌<◌, ◌≤◌, ◌+◌, ◌⊎◌, ℕ, Bool, true, false, Bor, List, [], ◌∷◌, ◌++◌, drop, get_or, length, map, option_map, take, Option, Some, None, Result, Ok, Err, refl, sym, ◌∙◌, ap, subst, inl, inr}
 use Rattle.std.specs.Global.{Vec}
-use Rattle.std.specs.Prelude.{IfErr, IfOk, IfSome, IsErrAnd}
+use Rattle.std.specs.Prelude.{IfErr, IfOk, IfSome, IsErrAnd, IsTrue}
 use Rattle.std.proofs.lemmas.List.{drop_more, map-append, take-append-drop, take_all, take_more}
 use Rattle.clap.specs.Words.{Text}
-use Rattle.fb_types.specs.Headline.{Inputs, system_of}
-use Rattle.fb_coverage.specs.Reports.{report_text}
-use Rattle.fb_coverage.specs.declared.marks.Marks.{Marks}
-use Rattle.fb_inspect.specs.Covering.{Covers}
+use Rattle.fb_types.specs.Headline.{Inputs}
 use Rattle.fb_read.specs.declared.error.ReadError.{ReadError}
 use Rattle.fb_read.specs.declared.error.ReadError.TheVariants as read
 use Rattle.fb_check.specs.Refusals as check
@@ -18,11 +15,18 @@ use Rattle.fb_sim.specs.declared.outcome.Refusal as sim
 use Rattle.fb_sim.specs.declared.outcome.Refusal.TheVariants as of
 use Rattle.fb_sim.specs.declared.outcome.RunError.{RunError}
 use Rattle.fb_sim.specs.declared.outcome.RunError.TheVariants as run
-use Rattle.fbsim_command.specs.Covering.{AreGoneThrough, AreStopped, GoThrough, GoesThrough, IsReport, IsStopped, IsUnreported, MayStop, RefusesAt, StopsAt, WritesReport, are_several, first_marks, names_of}
+use Rattle.fb_coverage.specs.declared.marks.Marks.{Marks}
+use Rattle.fb_inspect.specs.Covering.{Covers}
+use Rattle.fb_inspect.specs.declared.walk.Extent.{Extent}
+use Rattle.fb_wave.specs.declared.truncation.Cut.{Cut}
+use Rattle.fbsim_command.specs.Covering.{AreGoneThrough, AreStopped, GoThrough, GoesThrough, IsFirst, IsReport, IsStopped, IsUnreported, MayStop, NotesTrace, RefusesAt, StopsAt, WritesReport, are_several, counted, coverage_text, cut_of, files_of, names_of, note_front}
 use Rattle.fbsim_command.specs.Failures.{WritesPart, failure_of, failure_of_source, numbered_input}
+use Rattle.fbsim_command.specs.InsideNotes.{SaysLine}
+use Rattle.fbsim_command.specs.Notes.{NotesOf}
 use Rattle.fbsim_command.specs.Outcomes.{End, Held}
 use Rattle.fbsim_command.specs.Showing.{Opening}
 use Rattle.fbsim_line.specs.declared.coverage_line.Coverage.{Coverage}
+use Rattle.fbsim_command.specs.declared.coverage.Gleaned.{Gleaned}
 use Rattle.fbsim_command.specs.declared.failure.Failure.{Failure}
 use Rattle.fbsim_command.specs.declared.failure.Failure.TheVariants.{Refused, RefusedTrace, File, Write, Memory, Line, BadOption}
 use Rattle.fbsim_command.specs.declared.sources.SourceFault.{SourceFault}
@@ -68,35 +72,51 @@ refused-at opens is_named from to name line trace BadOption is reported = never 
     never true bad = absurd bad
     never false bad = absurd bad
 
+-- it is gone through
+pub goes-through :
+    {S : Type 0} (opens : Opening S) (i : Inputs) (x : Coverage) (name : Text) (from to : S) (trace : Held) (may : Cut) (old : Gleaned) (marks last : Marks) (extent : Extent) (k n : ℕ) (new : Gleaned)
+    → opens from name (Ok trace) to → may ≡ cut_of x → marks ≡ old.marks → k ≡ old.cut → IfSome trace (λ text. Covers may i x.steps text marks last extent) → n ≡ counted extent k
+    → new.marks ≡ last → new.cut ≡ n → GoesThrough opens i x name from to old new
+goes-through opens i x name from to trace may old marks last extent k n new opened cuts first count covers counts ends counted_is = record {
+  trace = trace;
+  opened = opened;
+  extent = extent;
+  covers =
+      subst (λ (m : Cut). IfSome trace (λ text. Covers m i x.steps text old.marks new.marks extent)) cuts
+      (subst (λ (m : Marks). IfSome trace (λ text. Covers may i x.steps text m new.marks extent)) first
+      (subst (λ (m : Marks). IfSome trace (λ text. Covers may i x.steps text marks m extent)) (sym ends) covers));
+  cuts = counted_is ∙ counts ∙ ap (counted extent) count;
+}
+
 -- ---- All traces
 
 through-more :
-    {S : Type 0} (opens : Opening S) (i : Inputs) (steps : ℕ) (names : List Text) (name : Text) (from mid to : S) (old m new : Marks) → GoThrough opens i steps names from mid old m
-    → GoesThrough opens i steps name mid to m new → GoThrough opens i steps (names ++ name ∷ []) from to old new
-through-more {S} opens i steps [] name from mid to old m new gone one = (
+    {S : Type 0} (opens : Opening S) (i : Inputs) (x : Coverage) (names : List Text) (name : Text) (from mid to : S) (old m new : Gleaned) → GoThrough opens i x names from mid old m
+    → GoesThrough opens i x name mid to m new → GoThrough opens i x (names ++ name ∷ []) from to old new
+through-more {S} opens i x [] name from mid to old m new gone one = (
   to,
   new,
-  subst (λ (s : S). GoesThrough opens i steps name s to old new) gone.0 (subst (λ (k : Marks). GoesThrough opens i steps name mid to k new) gone.1 one),
+  subst (λ (s : S). GoesThrough opens i x name s to old new) gone.0 (subst (λ (k : Gleaned). GoesThrough opens i x name mid to k new) gone.1 one),
   (refl, refl),
 )
-through-more opens i steps (n ∷ names) name from mid to old m new gone one = (gone.0, gone.1, gone.2, through-more opens i steps names name gone.0 mid to gone.1 m new gone.3 one)
+through-more opens i x (n ∷ names) name from mid to old m new gone one = (gone.0, gone.1, gone.2, through-more opens i x names name gone.0 mid to gone.1 m new gone.3 one)
 
-module _ {S : Type 0} (opens : Opening S) (i : Inputs) (x : Coverage) where
+module _ {S : Type 0} (opens : Opening S) (i : Inputs) (x : Coverage) (first : Gleaned) (is_first : IsFirst i first) where
   abbrev own : List (Bor Text)
   own = x.traces.items
 
   -- one more trace
   pub gone-more :
-      (k : ℕ) (d : Bor Text) (from mid to : S) (m new : Marks) → k < length own → GoThrough opens i x.steps (map now (take k own)) from mid (first_marks i) m
-      → GoesThrough opens i x.steps (get_or own k d).now mid to m new → GoThrough opens i x.steps (map now (take (k + 1) own)) from to (first_marks i) new
+      (k : ℕ) (d : Bor Text) (from mid to : S) (m new : Gleaned) → k < length own → GoThrough opens i x (map now (take k own)) from mid first m
+      → GoesThrough opens i x (get_or own k d).now mid to m new → GoThrough opens i x (map now (take (k + 1) own)) from to first new
   gone-more k d from mid to m new within gone one =
-      subst (λ (names : List Text). GoThrough opens i x.steps names from to (first_marks i) new)
+      subst (λ (names : List Text). GoThrough opens i x names from to first new)
       (sym (ap (map now) (take_more own k d within) ∙ map-append now (take k own) (get_or own k d ∷ [])))
-      (through-more opens i x.steps (map now (take k own)) (get_or own k d).now from mid to (first_marks i) m new gone one)
+      (through-more opens i x (map now (take k own)) (get_or own k d).now from mid to first m new gone one)
 
   -- a trace that is not gone through
   pub stops-at :
-      (k : ℕ) (d : Bor Text) (from mid to : S) (m : Marks) (f : Failure) → k < length own → GoThrough opens i x.steps (map now (take k own)) from mid (first_marks i) m
+      (k : ℕ) (d : Bor Text) (from mid to : S) (m : Gleaned) (f : Failure) → k < length own → GoThrough opens i x (map now (take k own)) from mid first m
       → IsStopped opens (are_several x) (get_or own k d).now mid to f → AreStopped opens i x from to f
   stops-at k d from mid to m f within gone is = by f is
     where
@@ -109,7 +129,9 @@ module _ {S : Type 0} (opens : Opening S) (i : Inputs) (x : Coverage) where
             sym (ap (map now) (take-append-drop k own)) ∙ map-append now (take k own) (drop k own)
             ∙ ap (λ (zs : List Text). map now (take k own) ++ zs) (ap (map now) (drop_more own k d within));
         between = mid;
-        marks = m;
+        first = first;
+        is_first = is_first;
+        gleaned = m;
         gone = gone;
         stopped = stopped;
       }
@@ -125,26 +147,29 @@ module _ {S : Type 0} (opens : Opening S) (i : Inputs) (x : Coverage) where
 
   -- the same of a list that is these traces
   pub gone-more-of :
-      (us : List (Bor Text)) (k : ℕ) (d : Bor Text) (from mid to : S) (m new : Marks) → us ≡ own → k < length us → GoThrough opens i x.steps (map now (take k own)) from mid (first_marks i) m
-      → GoesThrough opens i x.steps (get_or us k d).now mid to m new → GoThrough opens i x.steps (map now (take (k + 1) own)) from to (first_marks i) new
+      (us : List (Bor Text)) (k : ℕ) (d : Bor Text) (from mid to : S) (m new : Gleaned) → us ≡ own → k < length us → GoThrough opens i x (map now (take k own)) from mid first m
+      → GoesThrough opens i x (get_or us k d).now mid to m new → GoThrough opens i x (map now (take (k + 1) own)) from to first new
   gone-more-of us k d from mid to m new same within gone one =
       gone-more k d from mid to m new (subst (λ (vs : List (Bor Text)). k < length vs) same within) gone
-      (subst (λ (vs : List (Bor Text)). GoesThrough opens i x.steps (get_or vs k d).now mid to m new) same one)
+      (subst (λ (vs : List (Bor Text)). GoesThrough opens i x (get_or vs k d).now mid to m new) same one)
 
   pub stops-at-of :
-      (us : List (Bor Text)) (k : ℕ) (d : Bor Text) (from mid to : S) (m : Marks) (f : Failure) → us ≡ own → k < length us
-      → GoThrough opens i x.steps (map now (take k own)) from mid (first_marks i) m → IsStopped opens (are_several x) (get_or us k d).now mid to f → AreStopped opens i x from to f
+      (us : List (Bor Text)) (k : ℕ) (d : Bor Text) (from mid to : S) (m : Gleaned) (f : Failure) → us ≡ own → k < length us
+      → GoThrough opens i x (map now (take k own)) from mid first m → IsStopped opens (are_several x) (get_or us k d).now mid to f → AreStopped opens i x from to f
   stops-at-of us k d from mid to m f same within gone is =
       stops-at k d from mid to m f (subst (λ (vs : List (Bor Text)). k < length vs) same within) gone
       (subst (λ (vs : List (Bor Text)). IsStopped opens (are_several x) (get_or vs k d).now mid to f) same is)
 
   -- after the last
   pub gone-all :
-      (us : List (Bor Text)) (k : ℕ) (from to : S) (m : Marks) → us ≡ own → length us ≤ k → GoThrough opens i x.steps (map now (take k own)) from to (first_marks i) m
+      (us : List (Bor Text)) (k : ℕ) (from to : S) (m : Gleaned) → us ≡ own → length us ≤ k → GoThrough opens i x (map now (take k own)) from to first m
       → AreGoneThrough opens i x from to m
-  gone-all us k from to m same past gone =
-      subst (λ (vs : List (Bor Text)). GoThrough opens i x.steps (map now vs) from to (first_marks i) m)
-      (take_all k own (subst (λ (vs : List (Bor Text)). length vs ≤ k) same past)) gone
+  gone-all us k from to m same past gone = (
+    first,
+    is_first,
+    subst (λ (vs : List (Bor Text)). GoThrough opens i x (map now vs) from to first m)
+        (take_all k own (subst (λ (vs : List (Bor Text)). length vs ≤ k) same past)) gone,
+  )
 
 -- ---- Ends
 
@@ -186,14 +211,14 @@ module _ {S : Type 0} (opens : Opening S) (given : Given) (x : Coverage) where
   may-stop i from to BadOption declared is = absurd is
 
   pub reported :
-      (i : Inputs) (from to : S) (text : Text) → Declares given i → (marks : Marks) × AreGoneThrough opens i x from to marks × (text ≡ report_text i.library.blocks (system_of i) marks)
+      (i : Inputs) (from to : S) (text : Text) → Declares given i → (g : Gleaned) × AreGoneThrough opens i x from to g × (text ≡ coverage_text i x g)
       → IsReport opens given x from to text
-  reported i from to text declared is = record { inputs = i; declared = declared; marks = is.0; gone = is.1; is = is.2 }
+  reported i from to text declared is = record { inputs = i; declared = declared; gleaned = is.0; gone = is.1; is = is.2 }
 
   -- the same of what was answered
   pub reported-all :
       (i : Inputs) (from to : S) (r : Result (Vec ℕ) Failure) → Declares given i
-      → IfOk r (λ t. (marks : Marks) × AreGoneThrough opens i x from to marks × (t.items ≡ report_text i.library.blocks (system_of i) marks)) → IfOk r (λ t. IsReport opens given x from to t.items)
+      → IfOk r (λ t. (g : Gleaned) × AreGoneThrough opens i x from to g × (t.items ≡ coverage_text i x g)) → IfOk r (λ t. IsReport opens given x from to t.items)
   reported-all i from to (Ok t) declared is = reported i from to t.items declared is
   reported-all i from to (Err f) declared is = tt
 
@@ -230,3 +255,22 @@ module _ {S : Type 0} (opens : Opening S) (given : Given) (x : Coverage) where
       by Memory part = absurd part
       by (Line message) part = absurd part
       by BadOption part = absurd part
+
+-- a note of a check, or of a line
+pub noted-trace :
+    (types : List Text) (x : Coverage) (lines : List ℕ) (given : Given) (end : End) (note line : Option Text) → NotesTrace x line
+    → NotesOf types (files_of x) lines given end note ⊎ (note ≡ line) → NotesOf types (files_of x) lines given end note ⊎ NotesTrace x note
+noted-trace types x lines given end note line of_line (inl noted) = inl noted
+noted-trace types x lines given end note line of_line (inr same) = inr (subst (NotesTrace x) (sym same) of_line)
+
+-- the failure of a file that is not read
+pub reported-failure : (failed : Failure) (fault : SourceFault) → failed ≡ failure_of_source fault → ◌≡◌ {A = End} (Err failed) (Err (failure_of_source fault))
+reported-failure failed fault is = ap (λ (f : Failure). Err f) is
+
+-- the note to a line of a trace, which is named where there are several
+pub trace-noted :
+    {S : Type 0} (bytes : S → Text) (x : Coverage) (several : Bool) (front name : Text) (line : ℕ) (note : Option S) → several ≡ are_several x → front ≡ note_front several name
+    → IfSome note (λ n. IsTrue x.why × SaysLine front line (bytes n)) → NotesTrace x (option_map bytes note)
+trace-noted bytes x several front name line None same is said = tt
+trace-noted bytes x several front name line (Some n) same is said =
+    (said.0, (name, line, subst (λ (f : Text). SaysLine f line (bytes n)) (is ∙ ap (λ (b : Bool). note_front b name) same) said.1))

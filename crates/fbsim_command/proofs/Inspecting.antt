@@ -1,6 +1,6 @@
 -- How a call that inspects a trace ends.
-use Rattle.std.proofs.Common.{◌≡◌, ℕ, List, Option, Some, None, Result, Ok, Err, inl, inr, refl, sym, ap, subst}
-use Rattle.std.specs.Prelude.{IsErrAnd, OnErr}
+use Rattle.std.proofs.Common.{◌≡◌, ◌⊎◌, ℕ, Bool, List, Option, Some, None, Result, Ok, Err, codes, decimal, option_map, ◌++◌, inl, inr, refl, sym, ap, subst, ◌∙◌}
+use Rattle.std.specs.Prelude.{IfSome, IsErrAnd, IsTrue, OnErr}
 use Rattle.fb_types.specs.Headline.{Inputs, system_of}
 use Rattle.fb_read.specs.declared.error.ReadError.{ReadError}
 use Rattle.fb_read.specs.declared.error.ReadError.TheVariants as read
@@ -17,7 +17,9 @@ use Rattle.fb_sim.specs.declared.outcome.RunError.{RunError}
 use Rattle.fb_sim.specs.declared.outcome.RunError.TheVariants as run
 use Rattle.clap.specs.Words.{Text}
 use Rattle.fbsim_command.specs.Failures.{failure_of, failure_of_inspection, failure_of_source, numbered_input}
+use Rattle.fbsim_command.specs.InsideNotes.{IsOpenNote, NotesInside, SaysLine}
 use Rattle.fbsim_command.specs.Inspecting.{Inspects, ShowsInsides, files_of, paths_of}
+use Rattle.fbsim_command.specs.Notes.{IsFileNote, Notes, NotesOf}
 use Rattle.fbsim_command.specs.Outcomes.{End, Held}
 use Rattle.fbsim_command.specs.OwnLines.{EndsIn}
 use Rattle.fbsim_command.specs.Reading.{Reading, AreRead, IsUnread}
@@ -77,13 +79,49 @@ inspects_passed given x trace old new (Err g) f is ends = subst (λ (h : Failure
 
 -- ---- What was read
 
+-- a note of a check, or of a line
+pub noted_inside :
+    (types : List Text) (x : Inspect) (lines : List ℕ) (given : Given) (end : End) (note line : Option Text) → NotesInside x.why end line
+    → NotesOf types (files_of x) lines given end note ⊎ (note ≡ line) → NotesOf types (files_of x) lines given end note ⊎ NotesInside x.why end note
+noted_inside types x lines given end note line of_line (inl noted) = inl noted
+noted_inside types x lines given end note line of_line (inr same) = inr (subst (λ (n : Option Text). NotesInside x.why end n) (sym same) of_line)
+
+-- the note has the number of the line
+pub says_line :
+    {S : Type 0} (bytes : S → Text) (why : Bool) (front : Text) (line : ℕ) (words : Text) (note : Option S) → IsTrue why
+    → IfSome note (λ n. bytes n ≡ front ++ (codes ": line " ++ (decimal line ++ (codes ": " ++ words)))) → IfSome note (λ n. IsTrue why × SaysLine front line (bytes n))
+says_line bytes why front line words None asked is = tt
+says_line bytes why front line words (Some n) asked is = (asked, record { words = words; is = is })
+
+-- what is said of a refused line
+pub line_noted_inside :
+    {U S : Type 0} (bytes : S → Text) (why : Bool) (gone : Result U InspectError) (e : InspectError) (failure : Failure) (note : Option S) → gone ≡ Err e
+    → failure ≡ failure_of_inspection e → IfSome note (λ n. IsTrue why × ((line : ℕ) × (gone ≡ Err (inspection.Refused line)) × SaysLine (codes "trace") line (bytes n)))
+    → NotesInside why (Err failure) (option_map bytes note)
+line_noted_inside bytes why gone e failure None is reported noted = tt
+line_noted_inside {U = U} bytes why gone e failure (Some n) is reported noted =
+    let line : ℕ = noted.1.0 in
+    let both : ◌≡◌ {A = Result U InspectError} (Err e) (Err (inspection.Refused line)) = sym is ∙ noted.1.1 in
+    let same : e ≡ inspection.Refused line = cc in
+    (noted.0, (line, ap (λ (f : Failure). Err f) (reported ∙ ap failure_of_inspection same), noted.1.2))
+
+-- nothing is said of a trace that is gone through
+pub none_noted_inside :
+    {U S : Type 0} (bytes : S → Text) (why : Bool) (gone : Result U InspectError) (end : End) (u : U) (note : Option S) → gone ≡ Ok u
+    → IfSome note (λ n. IsTrue why × ((line : ℕ) × (gone ≡ Err (inspection.Refused line)) × SaysLine (codes "trace") line (bytes n))) → NotesInside why end (option_map bytes note)
+none_noted_inside bytes why gone end u None is noted = tt
+none_noted_inside {U = U} bytes why gone end u (Some n) is noted =
+    let both : ◌≡◌ {A = Result U InspectError} (Ok u) (Err (inspection.Refused noted.1.0)) = sym is ∙ noted.1.1 in
+    absurd (cc)
+
 -- the trace is opened, and it is inspected
 pub read_and_inspected :
     {S : Type 0} (reads : Reading S) (opens : Opening S) (from between to : S) (types : List Text) (x : Inspect) (old new : Held) (lines : List ℕ) (given : Given) (task : Task)
-    (trace : Held) (own : Given) (inner end : End) → task ≡ files_of x → own ≡ given → AreRead reads types task from between lines given
-    → opens between x.trace.now (Ok trace) to → Inspects own x trace old new inner → EndsIn types x.declaration.now lines inner end
-    → ShowsInsides reads opens from to types x old new end
-read_and_inspected reads opens from between to types x old new lines given task trace own inner end as_task as_given was_read opened done ends =
+    (trace : Held) (own : Given) (inner end : End) (note : Option Text) → task ≡ files_of x → own ≡ given → AreRead reads types task from between lines given
+    → opens between x.trace.now (Ok trace) to → Inspects own x trace old new inner → (line : Option Text) → NotesInside x.why inner line
+    → NotesOf types task lines given inner note ⊎ (note ≡ line) → EndsIn types x.declaration.now lines inner end
+    → ShowsInsides reads opens from to types x old new end note
+read_and_inspected reads opens from between to types x old new lines given task trace own inner end note as_task as_given was_read opened done line of_line noted ends =
     inl
     (record {
       lines = lines;
@@ -94,23 +132,35 @@ read_and_inspected reads opens from between to types x old new lines given task 
       opened = opened;
       inner = inner;
       done = subst (λ (z : Given). Inspects z x trace old new inner) as_given done;
+      noted = noted_inside types x lines given inner note line of_line (subst (λ (k : Task). NotesOf types k lines given inner note ⊎ (note ≡ line)) as_task noted);
       ends = ends;
     })
 
 -- a file is not read that the trace is of
 pub not_read :
     {S : Type 0} (reads : Reading S) (opens : Opening S) (from to : S) (types : List Text) (x : Inspect) (same : Held) (task : Task) (part : Part) (fault : SourceFault) (failed : Failure)
-    → task ≡ files_of x → failed ≡ failure_of_source fault → IsUnread reads types task from to part fault → ShowsInsides reads opens from to types x same same (Err failed)
-not_read reads opens from to types x same task part fault failed as_task is unread =
+    (note : Option Text) → task ≡ files_of x → failed ≡ failure_of_source fault → IsUnread reads types task from to part fault
+    → Notes task.why (IsFileNote types task part fault) note → ShowsInsides reads opens from to types x same same (Err failed) note
+not_read reads opens from to types x same task part fault failed note as_task is unread noted =
     let reported : ◌≡◌ {A = End} (Err failed) (Err (failure_of_source fault)) = ap (λ (f : Failure). Err f) is in
-    inr (fault, inl (part, subst (λ (k : Task). IsUnread reads types k from to part fault) as_task unread), reported, refl)
+    inr (
+      fault,
+      inl
+          (record {
+            part = part;
+            unread = subst (λ (k : Task). IsUnread reads types k from to part fault) as_task unread;
+            noted = subst (λ (k : Task). Notes k.why (IsFileNote types k part fault) note) as_task noted;
+          }),
+      reported,
+      refl,
+    )
 
 -- the trace is not opened
 pub not_opened :
     {S : Type 0} (reads : Reading S) (opens : Opening S) (from between to : S) (types : List Text) (x : Inspect) (same : Held) (lines : List ℕ) (given : Given) (task : Task) (fault : SourceFault)
-    (failed : Failure) → task ≡ files_of x → failed ≡ failure_of_source fault → AreRead reads types task from between lines given → opens between x.trace.now (Err fault) to
-    → ShowsInsides reads opens from to types x same same (Err failed)
-not_opened reads opens from between to types x same lines given task fault failed as_task is was_read unread =
+    (failed : Failure) (note : Option Text) → task ≡ files_of x → failed ≡ failure_of_source fault → AreRead reads types task from between lines given
+    → opens between x.trace.now (Err fault) to → Notes x.why (IsOpenNote x.trace.now fault) note → ShowsInsides reads opens from to types x same same (Err failed) note
+not_opened reads opens from between to types x same lines given task fault failed note as_task is was_read unread noted =
     let reported : ◌≡◌ {A = End} (Err failed) (Err (failure_of_source fault)) = ap (λ (f : Failure). Err f) is in
     inr (
       fault,
@@ -121,6 +171,7 @@ not_opened reads opens from between to types x same lines given task fault faile
             between = between;
             read = subst (λ (k : Task). AreRead reads types k from between lines given) as_task was_read;
             unread = unread;
+            noted = noted;
           }),
       reported,
       refl,

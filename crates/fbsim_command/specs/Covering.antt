@@ -1,21 +1,27 @@
 -- What a call that reports what traces cover does (docs/FORMATS.md, "What traces cover"; this project's own).
-use Rattle.std.specs.Prelude.{◌≡◌, ◌⊎◌, ℕ, Bool, true, false, nat_lt, List, [], ◌∷◌, ◌++◌, length, map, Option, None, IfSome, Ok, Err, string_bytes}
+use Rattle.std.specs.Prelude.{◌≡◌, ◌⊎◌, ℕ, ◌+◌, Bool, true, false, nat_eq, nat_lt, if◌then◌else◌, List, [], ◌∷◌, ◌++◌, length, map, Option, Some, None, IfSome, IsTrue, Ok, Err, codes, decimal, string_bytes}
 use Rattle.std.specs.Io.KnownBytes.{Appends}
 use Rattle.clap.specs.Words.{Text}
 use Rattle.fb_types.specs.Headline.{Inputs, system_of}
 use Rattle.fb_coverage.specs.Openings.{opening_marks}
 use Rattle.fb_coverage.specs.Reports.{report_text}
-use Rattle.fb_coverage.specs.declared.marks.Marks.{Marks}
 use Rattle.fb_inspect.specs.Covering.{Covers}
+use Rattle.fb_inspect.specs.declared.walk.Extent.{Extent}
+use Rattle.fb_inspect.specs.declared.walk.Extent.TheVariants.{Whole, CutOff}
+use Rattle.fb_wave.specs.declared.truncation.Cut.{Cut}
+use Rattle.fb_wave.specs.declared.truncation.Cut.TheVariants as cut
 use Rattle.fb_sim.specs.Given.{Given}
 use Rattle.fb_sim.specs.Serial.{Declares}
 use Rattle.fbsim_command.specs.Expecting.{IsNoTrace}
 use Rattle.fbsim_command.specs.Failures.{IsPartWritten, failure_of_source, refused_trace}
+use Rattle.fbsim_command.specs.InsideNotes.{SaysLine}
+use Rattle.fbsim_command.specs.Notes.{IsFileNote, Notes, NotesOf}
 use Rattle.fbsim_command.specs.Outcomes.{End, Held, IsRefused}
 use Rattle.fbsim_command.specs.OwnLines.{EndsIn}
 use Rattle.fbsim_command.specs.Reading.{Reading, AreRead, IsUnread}
 use Rattle.fbsim_command.specs.Showing.{Opening}
 use Rattle.fbsim_line.specs.declared.coverage_line.Coverage.{Coverage}
+use Rattle.fbsim_command.specs.declared.coverage.Gleaned.{Gleaned}
 use Rattle.fbsim_command.specs.declared.failure.Failure.{Failure}
 use Rattle.fbsim_command.specs.declared.failure.Failure.TheVariants.{Refused, RefusedTrace, File, Write, Memory, Line, BadOption}
 use Rattle.fbsim_command.specs.declared.failure.RefusalLine.{RefusalLine}
@@ -28,7 +34,7 @@ use Rattle.fbsim_command.specs.declared.texts.Part.{Part}
 
 -- the call that checks what traces are of
 abbrev pub files_of : Coverage → Task
-files_of x = record { action = Check false; declaration = x.declaration; deploy = x.deploy; stimuli = None; why = false }
+files_of x = record { action = Check false; declaration = x.declaration; deploy = x.deploy; stimuli = None; why = x.why }
 
 abbrev pub names_of : Coverage → List Text
 names_of x = map (λ t. t.now) x.traces.items
@@ -39,32 +45,52 @@ are_several x = nat_lt 1 (length x.traces.items)
 
 -- ---- Traces
 
+-- whether traces may be cut off
+abbrev pub cut_of : Coverage → Cut
+cut_of x = if x.is_cut then cut.Allowed else cut.Refused
+
+-- one more that is cut off, or not
+abbrev pub counted : Extent → ℕ → ℕ
+counted Whole n = n
+counted CutOff n = n + 1
+
 -- A trace is opened and gone through, and what it covers is marked next to what others covered.
-pub record GoesThrough {S : Type 0} (opens : Opening S) (i : Inputs) (steps : ℕ) (name : Text) (from to : S) (old new : Marks) : Type 0 where
+pub record GoesThrough {S : Type 0} (opens : Opening S) (i : Inputs) (x : Coverage) (name : Text) (from to : S) (old new : Gleaned) : Type 0 where
   pub trace : Held
   pub opened : opens from name (Ok trace) to
-  pub covers : IfSome trace (λ text. Covers i steps text old new)
+  pub extent : Extent
+  pub covers : IfSome trace (λ text. Covers (cut_of x) i x.steps text old.marks new.marks extent)
+  pub cuts : new.cut ≡ counted extent old.cut
 
 -- the same of traces, one after the other
-abbrev pub GoThrough : {S : Type 0} → Opening S → Inputs → (steps : ℕ) → List Text → (from to : S) → (old new : Marks) → Type 0
-GoThrough opens i steps [] from to old new = (to ≡ from) × (new ≡ old)
-GoThrough {S} opens i steps (name ∷ names) from to old new =
-    (between : S) × (m : Marks) × GoesThrough opens i steps name from between old m × GoThrough opens i steps names between to m new
+abbrev pub GoThrough : {S : Type 0} → Opening S → Inputs → Coverage → List Text → (from to : S) → (old new : Gleaned) → Type 0
+GoThrough opens i x [] from to old new = (to ≡ from) × (new ≡ old)
+GoThrough {S} opens i x (name ∷ names) from to old new =
+    (between : S) × (m : Gleaned) × GoesThrough opens i x name from between old m × GoThrough opens i x names between to m new
 
-abbrev pub first_marks : Inputs → Marks
-first_marks i = opening_marks i.library.blocks (system_of i)
+-- before the first trace
+abbrev pub IsFirst : Inputs → Gleaned → Type 0
+IsFirst i g = (g.marks ≡ opening_marks i.library.blocks (system_of i)) × (g.cut ≡ 0)
 
--- All traces are gone through, and this is marked.
-abbrev pub AreGoneThrough : {S : Type 0} → Opening S → Inputs → Coverage → (from to : S) → Marks → Type 0
-AreGoneThrough opens i x from to marks = GoThrough opens i x.steps (names_of x) from to (first_marks i) marks
+-- All traces are gone through, and this is gleaned from them.
+abbrev pub AreGoneThrough : {S : Type 0} → Opening S → Inputs → Coverage → (from to : S) → Gleaned → Type 0
+AreGoneThrough opens i x from to gleaned = (first : Gleaned) × IsFirst i first × GoThrough opens i x (names_of x) from to first gleaned
+
+-- how many of the traces are cut off, where some are
+abbrev pub cut_line : (cut of : ℕ) → Text
+cut_line k n = if nat_eq k 0 then [] else codes "traces cut " ++ (decimal k ++ (codes " of " ++ (decimal n ++ codes "\n")))
+
+-- the report of what is gleaned from traces
+abbrev pub coverage_text : Inputs → Coverage → Gleaned → Text
+coverage_text i x g = report_text i.library.blocks (system_of i) g.marks ++ cut_line g.cut (length x.traces.items)
 
 -- The inputs are accepted, all traces are gone through, and this is the report of what they cover.
 pub record IsReport {S : Type 0} (opens : Opening S) (given : Given) (x : Coverage) (from to : S) (text : Text) : Type 0 where
   pub inputs : Inputs
   pub declared : Declares given inputs
-  pub marks : Marks
-  pub gone : AreGoneThrough opens inputs x from to marks
-  pub is : text ≡ report_text inputs.library.blocks (system_of inputs) marks
+  pub gleaned : Gleaned
+  pub gone : AreGoneThrough opens inputs x from to gleaned
+  pub is : text ≡ coverage_text inputs x gleaned
 
 -- ---- Traces that are not gone through
 
@@ -100,8 +126,10 @@ pub record StopsAt {S : Type 0} (opens : Opening S) (i : Inputs) (x : Coverage) 
   pub following : List Text
   pub parts : names_of x ≡ before ++ name ∷ following
   pub between : S
-  pub marks : Marks
-  pub gone : GoThrough opens i x.steps before from between (first_marks i) marks
+  pub first : Gleaned
+  pub is_first : IsFirst i first
+  pub gleaned : Gleaned
+  pub gone : GoThrough opens i x before from between first gleaned
   pub stopped : IsStopped opens (are_several x) name between to failure
 
 -- one of the traces is not, by the failure
@@ -149,26 +177,41 @@ WritesReport opens given x from to old new (Err Memory) = new ≡ old
 WritesReport opens given x from to old new (Err (Line message)) = ⊥
 WritesReport opens given x from to old new (Err BadOption) = ⊥
 
+-- ---- Notes
+
+-- how the note to a line begins, which names the trace where there are several
+abbrev pub note_front : (is_named : Bool) → (name : Text) → Text
+note_front true name = codes "trace " ++ name
+note_front false name = codes "trace"
+
+-- A note is given only where one is asked for, and then it is one to a line of a trace.
+abbrev pub NotesTrace : Coverage → Option Text → Type 0
+NotesTrace x None = Unit {0}
+NotesTrace x (Some note) = IsTrue x.why × ((name : Text) × (line : ℕ) × SaysLine (note_front (are_several x) name) line note)
+
 -- ---- What is read
 
 -- All is read that traces are of, and what they cover is reported. A syntax fault is one of the file that has it.
-pub record IsReadAndReported {S : Type 0} (reads : Reading S) (opens : Opening S) (from to : S) (types : List Text) (x : Coverage) (old new : Held) (end : End) : Type 0 where
+-- A note is that of a check, or of the line at which a trace is refused.
+pub record IsReadAndReported {S : Type 0} (reads : Reading S) (opens : Opening S) (from to : S) (types : List Text) (x : Coverage) (old new : Held) (end : End) (note : Option Text) : Type 0 where
   pub lines : List ℕ
   pub given : Given
   pub between : S
   pub read : AreRead reads types (files_of x) from between lines given
   pub inner : End
   pub done : WritesReport opens given x between to old new inner
+  pub noted : NotesOf types (files_of x) lines given inner note ⊎ NotesTrace x note
   pub ends : EndsIn types x.declaration.now lines inner end
 
 -- A file is not read.
-pub record IsNotRead {S : Type 0} (reads : Reading S) (from to : S) (types : List Text) (x : Coverage) (old new : Held) (end : End) : Type 0 where
+pub record IsNotRead {S : Type 0} (reads : Reading S) (from to : S) (types : List Text) (x : Coverage) (old new : Held) (end : End) (note : Option Text) : Type 0 where
   pub part : Part
   pub fault : SourceFault
   pub unread : IsUnread reads types (files_of x) from to part fault
   pub failed : end ≡ Err (failure_of_source fault)
+  pub noted : Notes x.why (IsFileNote types (files_of x) part fault) note
   pub same : new ≡ old
 
-abbrev pub ReportsCoverage : {S : Type 0} → Reading S → Opening S → (from to : S) → (types : List Text) → Coverage → (old new : Held) → End → Type 0
-ReportsCoverage reads opens from to types x old new end =
-    IsReadAndReported reads opens from to types x old new end ⊎ IsNotRead reads from to types x old new end
+abbrev pub ReportsCoverage : {S : Type 0} → Reading S → Opening S → (from to : S) → (types : List Text) → Coverage → (old new : Held) → End → Option Text → Type 0
+ReportsCoverage reads opens from to types x old new end note =
+    IsReadAndReported reads opens from to types x old new end note ⊎ IsNotRead reads from to types x old new end note

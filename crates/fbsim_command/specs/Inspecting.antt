@@ -1,12 +1,16 @@
 -- What a call that inspects a trace does (docs/FORMATS.md, "Inside a trace"; this project's own).
-use Rattle.std.specs.Prelude.{◌≡◌, ◌⊎◌, ℕ, List, false, map, None, IfSome, Ok, Err}
+use Rattle.std.specs.Prelude.{◌≡◌, ◌⊎◌, ℕ, List, false, if◌then◌else◌, map, Option, None, IfSome, Ok, Err}
 use Rattle.std.specs.Char.{to_ascii_uppercase}
 use Rattle.clap.specs.Words.{Text}
 use Rattle.fb_types.specs.Headline.{Inputs, system_of}
-use Rattle.fb_inspect.specs.Inspections.{IsShown, ShowsFront}
+use Rattle.fb_inspect.specs.Inspections.{IsShownBy, ShowsFront}
+use Rattle.fb_wave.specs.declared.truncation.Cut.{Cut}
+use Rattle.fb_wave.specs.declared.truncation.Cut.TheVariants as cut
 use Rattle.fb_sim.specs.Given.{Given}
 use Rattle.fb_sim.specs.Serial.{Declares}
 use Rattle.fbsim_command.specs.Failures.{failure_of_source}
+use Rattle.fbsim_command.specs.InsideNotes.{IsOpenNote, NotesInside}
+use Rattle.fbsim_command.specs.Notes.{IsFileNote, Notes, NotesOf}
 use Rattle.fbsim_command.specs.Outcomes.{End, Held, IsRefused}
 use Rattle.fbsim_command.specs.OwnLines.{EndsIn}
 use Rattle.fbsim_command.specs.Reading.{Reading, AreRead, IsUnread}
@@ -21,7 +25,11 @@ use Rattle.fbsim_command.specs.declared.texts.Part.{Part}
 
 -- the call that checks what a trace is of
 abbrev pub files_of : Inspect → Task
-files_of x = record { action = Check false; declaration = x.declaration; deploy = x.deploy; stimuli = None; why = false }
+files_of x = record { action = Check false; declaration = x.declaration; deploy = x.deploy; stimuli = None; why = x.why }
+
+-- whether the trace may be cut off
+abbrev pub cut_of : Inspect → Cut
+cut_of x = if x.is_cut then cut.Allowed else cut.Refused
 
 -- the paths of the instances that are shown, in upper case
 abbrev pub upper : Text → Text
@@ -38,7 +46,7 @@ InspectsFront given x old new = (i : Inputs) × Declares given i × ShowsFront (
 
 -- a trace of what the inputs declare is read, of which these bytes are known, and it is written with what happens inside the blocks
 abbrev pub Inspects : Given → Inspect → (trace : Held) → (old new : Held) → End → Type 0
-Inspects given x trace old new (Ok Shown) = (i : Inputs) × Declares given i × IfSome trace (λ text. IsShown (system_of i) (paths_of x) x.steps text old new)
+Inspects given x trace old new (Ok Shown) = (i : Inputs) × Declares given i × IfSome trace (λ text. IsShownBy (cut_of x) (system_of i) (paths_of x) x.steps text old new)
 Inspects given x trace old new (Ok Helped) = ⊥
 Inspects given x trace old new (Ok Explained) = ⊥
 Inspects given x trace old new (Ok Accepted) = ⊥
@@ -59,7 +67,8 @@ Inspects given x trace old new (Err (RefusedTrace text)) = ⊥
 -- ---- What is read
 
 -- All is read that the trace is of, the trace is opened, and it is inspected. A syntax fault is one of the file that has it.
-pub record IsReadAndInspected {S : Type 0} (reads : Reading S) (opens : Opening S) (from to : S) (types : List Text) (x : Inspect) (old new : Held) (end : End) : Type 0 where
+-- A note is that of a check, or of the line at which the trace is refused.
+pub record IsReadAndInspected {S : Type 0} (reads : Reading S) (opens : Opening S) (from to : S) (types : List Text) (x : Inspect) (old new : Held) (end : End) (note : Option Text) : Type 0 where
   pub lines : List ℕ
   pub given : Given
   pub between : S
@@ -68,22 +77,30 @@ pub record IsReadAndInspected {S : Type 0} (reads : Reading S) (opens : Opening 
   pub opened : opens between x.trace.now (Ok trace) to
   pub inner : End
   pub done : Inspects given x trace old new inner
+  pub noted : NotesOf types (files_of x) lines given inner note ⊎ NotesInside x.why inner note
   pub ends : EndsIn types x.declaration.now lines inner end
 
 -- All is read that the trace is of, and the trace is not opened.
-pub record IsUnopened {S : Type 0} (reads : Reading S) (opens : Opening S) (from to : S) (types : List Text) (x : Inspect) (fault : SourceFault) : Type 0 where
+pub record IsUnopened {S : Type 0} (reads : Reading S) (opens : Opening S) (from to : S) (types : List Text) (x : Inspect) (fault : SourceFault) (note : Option Text) : Type 0 where
   pub lines : List ℕ
   pub given : Given
   pub between : S
   pub read : AreRead reads types (files_of x) from between lines given
   pub unread : opens between x.trace.now (Err fault) to
+  pub noted : Notes x.why (IsOpenNote x.trace.now fault) note
+
+-- A file is not read that the trace is of.
+pub record IsUnreadFor {S : Type 0} (reads : Reading S) (from to : S) (types : List Text) (x : Inspect) (fault : SourceFault) (note : Option Text) : Type 0 where
+  pub part : Part
+  pub unread : IsUnread reads types (files_of x) from to part fault
+  pub noted : Notes x.why (IsFileNote types (files_of x) part fault) note
 
 -- this fault keeps a file from being read
-abbrev pub IsUninspected : {S : Type 0} → Reading S → Opening S → (from to : S) → (types : List Text) → Inspect → SourceFault → Type 0
-IsUninspected reads opens from to types x fault =
-    ((part : Part) × IsUnread reads types (files_of x) from to part fault) ⊎ IsUnopened reads opens from to types x fault
+abbrev pub IsUninspected : {S : Type 0} → Reading S → Opening S → (from to : S) → (types : List Text) → Inspect → SourceFault → Option Text → Type 0
+IsUninspected reads opens from to types x fault note =
+    IsUnreadFor reads from to types x fault note ⊎ IsUnopened reads opens from to types x fault note
 
-abbrev pub ShowsInsides : {S : Type 0} → Reading S → Opening S → (from to : S) → (types : List Text) → Inspect → (old new : Held) → End → Type 0
-ShowsInsides reads opens from to types x old new end =
-    IsReadAndInspected reads opens from to types x old new end
-    ⊎ ((fault : SourceFault) × IsUninspected reads opens from to types x fault × (end ≡ Err (failure_of_source fault)) × (new ≡ old))
+abbrev pub ShowsInsides : {S : Type 0} → Reading S → Opening S → (from to : S) → (types : List Text) → Inspect → (old new : Held) → End → Option Text → Type 0
+ShowsInsides reads opens from to types x old new end note =
+    IsReadAndInspected reads opens from to types x old new end note
+    ⊎ ((fault : SourceFault) × IsUninspected reads opens from to types x fault note × (end ≡ Err (failure_of_source fault)) × (new ≡ old))

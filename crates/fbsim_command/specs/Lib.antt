@@ -14,6 +14,7 @@ pub mod Expecting
 pub mod Comparing
 pub mod Drawing
 pub mod WarningLines
+pub mod InsideNotes
 pub mod Inspecting
 pub mod Stops
 pub mod Covering

@@ -1,24 +1,27 @@
 //! What traces cover.
 
-ghost use Rattle.std.specs.Prelude.{◌≡◌, IfErr, IfOk, map};
-ghost use Rattle.fb_types.specs.Headline.{system_of};
-ghost use Rattle.fb_coverage.specs.Reports.{report_text};
-ghost use Rattle.fb_coverage.specs.declared.marks.Marks.{Marks};
-ghost use Rattle.fbsim_command.specs.Covering.{AreGoneThrough, AreStopped, GoesThrough, IsReport, IsStopped, IsUnreported, RefusesAt, ReportsCoverage, WritesReport, are_several, files_of};
+ghost use Rattle.std.specs.Prelude.{◌≡◌, ◌++◌, IfErr, IfOk, IfSome, OnOk, codes, decimal, map, option_map, string_bytes};
+ghost use Rattle.fbsim_command.specs.declared.coverage.Gleaned.{Gleaned};
+ghost use Rattle.fbsim_command.specs.Covering as spec;
+ghost use Rattle.fbsim_command.specs.Covering.{AreGoneThrough, AreStopped, GoesThrough, IsFirst, IsReport, IsStopped, IsUnreported, NotesTrace, RefusesAt, ReportsCoverage, WritesReport, are_several, coverage_text, cut_line, cut_of, files_of, note_front};
 
 use crate::expect::refused_trace;
 use crate::failure::{Failure, RefusalLine};
+use crate::inside_notes::note_of_inside;
+use crate::line_notes::note_of_wave;
+use crate::notes::note_of_file;
 use crate::output::write_text;
 use crate::own_lines::end_with;
 use crate::sources::{Source, Streams};
 use crate::statuses::Done;
 use crate::texts::read_files;
 use fb_coverage::{Marks, report_of};
-use fb_inspect::{InspectError, cover};
+use fb_inspect::{Extent, InspectError, RefusedLine, Terms, cover};
 use fb_sim::{Inputs, discard, open};
 use fb_system::System;
+use fb_wave::Cut;
 use fbsim_line::{Action, Coverage, Task};
-use std::alloc::Global;
+use std::alloc::{AllocError, Global};
 use std::io::Write;
 
 /// The call that checks what traces are of.
@@ -30,7 +33,18 @@ fn files_of<'a>(coverage: &Coverage<'a>) -> Task<'a>
         declaration: coverage.declaration,
         deploy: coverage.deploy,
         stimuli: None,
-        why: false,
+        why: coverage.why,
+    }
+}
+
+/// Whether traces may be cut off.
+fn cut_of(coverage: &Coverage<'_>) -> Cut
+    ensures { result ≡ cut_of coverage.now }
+{
+    if coverage.is_cut {
+        Cut::Allowed
+    } else {
+        Cut::Refused
     }
 }
 
@@ -39,6 +53,41 @@ fn are_several(coverage: &Coverage<'_>) -> bool
     ensures { result ≡ are_several coverage.now }
 {
     coverage.traces.len() > 1
+}
+
+/// What is gleaned from traces.
+struct Gleaned {
+    /// What they cover together.
+    marks: Marks,
+    /// How many of them are cut off.
+    cut: u64,
+}
+
+// Drop is written by hand, so that callers need not prove it again (docs/DECISIONS.md, "Drop").
+impl Drop for Gleaned {
+    fn drop(self) {
+        let Gleaned { marks: _, cut: _ } = self;
+    }
+}
+
+impl Gleaned {
+    fn parts(self) -> (Marks, u64)
+        ensures marks { result.0 ≡ self.marks }
+        ensures cut { result.1 ≡ self.cut }
+    {
+        let Gleaned { marks, cut } = self;
+        (marks, cut)
+    }
+}
+
+/// Before the first trace.
+fn nothing_gleaned(alloc: Global, system: &System) -> Result<Gleaned, AllocError>
+    ensures { IfOk result (IsFirst system.now) }
+{
+    Ok(Gleaned {
+        marks: Marks::of(alloc, system)?,
+        cut: 0,
+    })
 }
 
 /// The failure for a trace that is refused at this line.
@@ -52,22 +101,82 @@ fn refusal_of(alloc: Global, is_named: bool, name: &str, line: u64) -> Failure
     }
 }
 
-/// Opens a trace, and marks what it covers next to what others covered.
+/// How the note to a line begins, which names the trace where there are several. Without memory for it there is nothing.
+fn front_of(alloc: Global, is_named: bool, name: &str) -> Option<String>
+    ensures { IfSome result (λ front. string_bytes front ≡ note_front is_named name.now) }
+{
+    if !is_named {
+        return match String::from_str(alloc, "trace") {
+            Ok(front) => Some(front),
+            Err(_) => None,
+        };
+    }
+    match format!(in alloc; "trace {name}") {
+        Ok(front) => Some(front),
+        Err(_) => None,
+    }
+}
+
+/// The note to a line at which this trace is refused, where one is asked for.
+fn note_of_refusal(
+    alloc: Global,
+    coverage: &Coverage<'_>,
+    name: &str,
+    system: &System,
+    line: u64,
+    refused: &RefusedLine,
+) -> Option<String>
+    ensures { NotesTrace coverage.now (option_map string_bytes result) }
+{
+    let front = front_of(alloc, are_several(coverage), name)?;
+    note_of_inside(alloc, coverage.why, front.as_str(), system, line, refused)
+}
+
+/// One more trace that is cut off, or not. No call names so many that they can't be counted.
+fn counted(extent: Extent, cut: u64) -> Result<u64, Failure>
+    ensures count { IfOk result (λ n. n ≡ spec.counted extent cut) }
+    ensures memory { IfErr result (λ failure. failure ≡ Failure.Memory) }
+{
+    match extent {
+        Extent::Whole => Ok(cut),
+        Extent::CutOff => match cut.checked_add(1) {
+            Some(more) => Ok(more),
+            None => Err(Failure::Memory),
+        },
+    }
+}
+
+/// Opens a trace, and gleans from it what it covers next to what others covered.
 fn cover_one<S: Streams>(
     alloc: Global,
     system: &System,
     coverage: &Coverage<'_>,
     name: &str,
-    marks: Marks,
+    gleaned: Gleaned,
+    note: &mut Option<String>,
     source: &mut S,
-) -> Result<Marks, Failure>
-    ensures covered { IfOk result (GoesThrough S.opens system.now coverage.now.steps name.now source.old source.new marks) }
+) -> Result<Gleaned, Failure>
+    ensures covered { IfOk result (GoesThrough S.opens system.now coverage.now name.now source.old source.new gleaned) }
     ensures stopped { IfErr result (IsStopped S.opens (are_several coverage.now) name.now source.old source.new) }
+    ensures noted { NotesTrace coverage.now (option_map string_bytes note.old) → NotesTrace coverage.now (option_map string_bytes note.new) }
 {
     let mut trace = source.open(alloc, name)?;
-    match cover(alloc, system, coverage.steps, marks, &mut trace) {
-        Ok(marks) => Ok(marks),
+    let mut refused = RefusedLine::new(alloc);
+    let terms = Terms {
+        cut: cut_of(coverage),
+        steps: coverage.steps,
+    };
+    let (marks, cut) = gleaned.parts();
+    match cover(alloc, system, terms, marks, &mut refused, &mut trace) {
+        Ok(covered) => {
+            let cut = counted(covered.extent, cut)?;
+            Ok(Gleaned {
+                marks: covered.into_marks(),
+                cut,
+            })
+        }
         Err(InspectError::Refused(line)) => {
+            *note = note_of_refusal(alloc, coverage, name, system, line, &refused);
             Err(refusal_of(alloc, are_several(coverage), name, line))
         }
         Err(InspectError::Read) => Err(Failure::File),
@@ -76,21 +185,55 @@ fn cover_one<S: Streams>(
     }
 }
 
-/// Goes through the traces of a system, one after another, and marks what they cover together.
+/// Goes through the traces of a system, one after another, and gleans from them what they cover together.
 fn cover_all<S: Streams>(
     alloc: Global,
     system: &System,
     coverage: &Coverage<'_>,
+    note: &mut Option<String>,
     source: &mut S,
-) -> Result<Marks, Failure>
+) -> Result<Gleaned, Failure>
     ensures covered { IfOk result (AreGoneThrough S.opens system.now coverage.now source.old source.new) }
     ensures stopped { IfErr result (AreStopped S.opens system.now coverage.now source.old source.new) }
+    ensures noted { NotesTrace coverage.now (option_map string_bytes note.old) → NotesTrace coverage.now (option_map string_bytes note.new) }
 {
-    let mut marks = Marks::of(alloc, system)?;
+    let mut gleaned = nothing_gleaned(alloc, system)?;
     for name in &coverage.traces {
-        marks = cover_one(alloc, system, coverage, name, marks, source)?;
+        gleaned = cover_one(alloc, system, coverage, name, gleaned, note, source)?;
     }
-    Ok(marks)
+    Ok(gleaned)
+}
+
+/// How many of the traces are cut off.
+fn cut_text(alloc: Global, cut: u64, traces: usize) -> Result<String, AllocError>
+    ensures { IfOk result (λ text. string_bytes text ≡ codes "traces cut " ++ (decimal cut ++ (codes " of " ++ (decimal traces ++ codes "\n")))) }
+{
+    Ok(format!(in alloc; "traces cut {cut} of {traces}\n")?)
+}
+
+/// Adds how many of the traces are cut off, where some are.
+fn put_cut(alloc: Global, text: &mut Vec<u8>, cut: u64, traces: usize) -> Result<(), AllocError>
+    ensures { OnOk result (text.new.items ≡ text.old.items ++ cut_line cut traces) }
+{
+    if cut == 0 {
+        return Ok(());
+    }
+    let line = cut_text(alloc, cut, traces)?;
+    text.extend_from_slice(line.as_bytes())
+}
+
+/// The report of what was gleaned from the traces of a system.
+fn text_of(
+    alloc: Global,
+    system: &System,
+    coverage: &Coverage<'_>,
+    gleaned: &Gleaned,
+) -> Result<Vec<u8>, AllocError>
+    ensures { IfOk result (λ text. text.items ≡ coverage_text system.now coverage.now gleaned.now) }
+{
+    let mut text = report_of(alloc, system, &gleaned.marks)?;
+    put_cut(alloc, &mut text, gleaned.cut, coverage.traces.len())?;
+    Ok(text)
 }
 
 /// The report of what the traces of a system cover.
@@ -98,14 +241,16 @@ fn report<S: Streams>(
     alloc: Global,
     system: &System,
     coverage: &Coverage<'_>,
+    note: &mut Option<String>,
     source: &mut S,
 ) -> Result<Vec<u8>, Failure>
-    ensures report { IfOk result (λ text. (marks : Marks) × AreGoneThrough S.opens system.now coverage.now source.old source.new marks
-        × (text.items ≡ report_text system.now.library.blocks (system_of system.now) marks)) }
+    ensures report { IfOk result (λ text. (gleaned : Gleaned) × AreGoneThrough S.opens system.now coverage.now source.old source.new gleaned
+        × (text.items ≡ coverage_text system.now coverage.now gleaned)) }
     ensures stopped { IfErr result (AreStopped S.opens system.now coverage.now source.old source.new) }
+    ensures noted { NotesTrace coverage.now (option_map string_bytes note.old) → NotesTrace coverage.now (option_map string_bytes note.new) }
 {
-    let marks = cover_all(alloc, system, coverage, source)?;
-    Ok(report_of(alloc, system, &marks)?)
+    let gleaned = cover_all(alloc, system, coverage, note, source)?;
+    Ok(text_of(alloc, system, coverage, &gleaned)?)
 }
 
 /// The report of what traces of what the inputs declare cover.
@@ -113,13 +258,15 @@ fn declared_report<S: Streams>(
     alloc: Global,
     inputs: &Inputs<'_>,
     coverage: &Coverage<'_>,
+    note: &mut Option<String>,
     source: &mut S,
 ) -> Result<Vec<u8>, Failure>
     ensures report { IfOk result (λ text. IsReport S.opens inputs.now coverage.now source.old source.new text.items) }
     ensures none { IfErr result (IsUnreported S.opens inputs.now coverage.now source.old source.new) }
+    ensures noted { NotesTrace coverage.now (option_map string_bytes note.old) → NotesTrace coverage.now (option_map string_bytes note.new) }
 {
     let system = open(alloc, inputs)?;
-    let text = report(alloc, &system, coverage, source);
+    let text = report(alloc, &system, coverage, note, source);
     // Dropped by one call: the end of its scope would prove the drop part by part.
     discard(system);
     text
@@ -130,30 +277,40 @@ fn write_report<S: Streams, W: Write>(
     alloc: Global,
     inputs: &Inputs<'_>,
     coverage: &Coverage<'_>,
+    note: &mut Option<String>,
     source: &mut S,
     out: &mut W,
 ) -> Result<Done, Failure>
-    ensures { WritesReport S.opens inputs.now coverage.now source.old source.new (W.contents out.old) (W.contents out.new) result }
+    ensures written { WritesReport S.opens inputs.now coverage.now source.old source.new (W.contents out.old) (W.contents out.new) result }
+    ensures noted { NotesTrace coverage.now (option_map string_bytes note.old) → NotesTrace coverage.now (option_map string_bytes note.new) }
 {
-    let text = declared_report(alloc, inputs, coverage, source)?;
+    let text = declared_report(alloc, inputs, coverage, note, source)?;
     write_text(out, text.as_slice())?;
     Ok(Done::Shown)
 }
 
-/// Reads the files of a call and its traces, and writes what they cover.
+/// Reads the files of a call and its traces, and writes what they cover. It says how that ends, and what is reported after
+/// the line of a failure.
 pub(crate) fn show_coverage<S: Source + Streams, W: Write>(
     alloc: Global,
     types: &[&str],
     coverage: &Coverage<'_>,
     source: &mut S,
     out: &mut W,
-) -> Result<Done, Failure>
-    ensures { ReportsCoverage S.gives S.opens source.old source.new (map (λ t. t.now) types.now) coverage.now (W.contents out.old) (W.contents out.new) result }
+) -> (Result<Done, Failure>, Option<String>)
+    ensures { ReportsCoverage S.gives S.opens source.old source.new (map (λ t. t.now) types.now) coverage.now (W.contents out.old) (W.contents out.new) result.0 (option_map string_bytes result.1) }
 {
-    let texts = match read_files(alloc, types, &files_of(coverage), source) {
+    let task = files_of(coverage);
+    let texts = match read_files(alloc, types, &task, source) {
         Ok(texts) => texts,
-        Err(unread) => return Err(Failure::from(unread.fault)),
+        Err(unread) => {
+            let note = note_of_file(alloc, types, &task, unread);
+            return (Err(Failure::from(unread.fault)), note);
+        }
     };
-    let end = write_report(alloc, &texts.inputs(), coverage, source, out);
-    end_with(alloc, types, coverage.declaration, &texts, end)
+    let mut line = None;
+    let end = write_report(alloc, &texts.inputs(), coverage, &mut line, source, out);
+    let note = note_of_wave(alloc, types, &task, &end, &texts, line);
+    let end = end_with(alloc, types, coverage.declaration, &texts, end);
+    (end, note)
 }

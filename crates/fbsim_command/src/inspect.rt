@@ -1,19 +1,25 @@
 //! What happens inside the blocks of a trace.
 
-ghost use Rattle.std.specs.Prelude.{◌≡◌, IfOk, IfSome, OnErr, OnOk, map};
+ghost use Rattle.std.specs.Prelude.{◌≡◌, ℕ, Err, IfOk, IfSome, IsTrue, OnErr, OnOk, codes, map, option_map, string_bytes};
 ghost use Rattle.fb_types.specs.Headline.{system_of};
-ghost use Rattle.fb_inspect.specs.Inspections.{IsShown, ShowsFront};
-ghost use Rattle.fbsim_command.specs.Inspecting.{Inspects, ShowsInsides, files_of, paths_of, upper};
+ghost use Rattle.fb_inspect.specs.Inspections.{IsShownBy, ShowsFront};
+ghost use Rattle.fb_inspect.specs.declared.error.InspectError.TheVariants as failed;
+ghost use Rattle.fbsim_command.specs.InsideNotes.{NotesInside, SaysLine};
+ghost use Rattle.fbsim_command.specs.Inspecting.{Inspects, ShowsInsides, cut_of, files_of, paths_of, upper};
 
 use crate::failure::Failure;
+use crate::inside_notes::{note_of_inside, note_of_open};
+use crate::line_notes::note_of_wave;
+use crate::notes::note_of_file;
 use crate::own_lines::end_with;
 use crate::sources::{Source, Streams};
 use crate::statuses::Done;
 use crate::texts::read_files;
-use fb_inspect::{InspectError, Inspection};
+use fb_inspect::{InspectError, Inspection, RefusedLine, Terms};
 use fb_sim::{Inputs, discard, open};
 use fb_system::System;
 use fb_types::Name;
+use fb_wave::Cut;
 use fbsim_line::{Action, Inspect, Task};
 use std::alloc::{AllocError, Global};
 use std::io::{BufRead, Write};
@@ -27,7 +33,18 @@ fn files_of<'a>(inspect: &Inspect<'a>) -> Task<'a>
         declaration: inspect.declaration,
         deploy: inspect.deploy,
         stimuli: None,
-        why: false,
+        why: inspect.why,
+    }
+}
+
+/// Whether the trace may be cut off.
+fn cut_of(inspect: &Inspect<'_>) -> Cut
+    ensures { result ≡ cut_of inspect.now }
+{
+    if inspect.is_cut {
+        Cut::Allowed
+    } else {
+        Cut::Refused
     }
 }
 
@@ -57,57 +74,97 @@ fn go<R: BufRead, W: Write>(
     alloc: Global,
     system: &System,
     inspect: &Inspect<'_>,
+    refused: &mut RefusedLine,
     trace: &mut R,
     out: &mut W,
 ) -> Result<(), InspectError>
-    ensures whole { OnOk result (IfSome (R.remaining trace.old) (λ text. IsShown (system_of system.now) (paths_of inspect.now) inspect.now.steps text (W.contents out.old) (W.contents out.new))) }
+    ensures whole { OnOk result (IfSome (R.remaining trace.old) (λ text. IsShownBy (cut_of inspect.now) (system_of system.now) (paths_of inspect.now) inspect.now.steps text (W.contents out.old) (W.contents out.new))) }
     ensures fault { OnErr result (ShowsFront (system_of system.now) (paths_of inspect.now) inspect.now.steps (W.contents out.old) (W.contents out.new)) }
 {
     let only = paths_of(alloc, inspect.only.as_slice())?;
     let inspection = Inspection {
         only: only.as_slice(),
-        steps: inspect.steps,
+        terms: Terms {
+            cut: cut_of(inspect),
+            steps: inspect.steps,
+        },
     };
-    fb_inspect::inspect(alloc, system, inspection, trace, out)
+    fb_inspect::inspect(alloc, system, inspection, refused, trace, out)
 }
 
-/// Reads a trace of what is declared, and writes it with what happens inside its blocks.
+/// What is wrong with the line at which a trace is refused, where that is asked for.
+fn note_of_gone(
+    alloc: Global,
+    inspect: &Inspect<'_>,
+    system: &System,
+    gone: &Result<(), InspectError>,
+    refused: &RefusedLine,
+) -> Option<String>
+    ensures { IfSome result (λ note. IsTrue inspect.now.why × ((line : ℕ) × (gone.now ≡ Err (failed.Refused line)) × SaysLine (codes "trace") line (string_bytes note))) }
+{
+    match gone {
+        Err(InspectError::Refused(line)) => {
+            note_of_inside(alloc, inspect.why, "trace", system, *line, refused)
+        }
+        _ => None,
+    }
+}
+
+/// Reads a trace of what is declared, and writes it with what happens inside its blocks. It says how that ends, and what is
+/// reported of the line at which the trace is refused.
 fn write_inspected<R: BufRead, W: Write>(
     alloc: Global,
     inputs: &Inputs<'_>,
     inspect: &Inspect<'_>,
     trace: &mut R,
     out: &mut W,
-) -> Result<Done, Failure>
-    ensures { Inspects inputs.now inspect.now (R.remaining trace.old) (W.contents out.old) (W.contents out.new) result }
+) -> (Result<Done, Failure>, Option<String>)
+    ensures inspected { Inspects inputs.now inspect.now (R.remaining trace.old) (W.contents out.old) (W.contents out.new) result.0 }
+    ensures noted { NotesInside inspect.now.why result.0 (option_map string_bytes result.1) }
 {
-    let system = open(alloc, inputs)?;
-    let gone = go(alloc, &system, inspect, trace, out);
+    let system = match open(alloc, inputs) {
+        Ok(system) => system,
+        Err(error) => return (Err(Failure::from(error)), None),
+    };
+    let mut refused = RefusedLine::new(alloc);
+    let gone = go(alloc, &system, inspect, &mut refused, trace, out);
+    let note = note_of_gone(alloc, inspect, &system, &gone, &refused);
     // Dropped by one call: the end of its scope would prove the drop part by part.
     discard(system);
-    gone?;
-    Ok(Done::Shown)
+    match gone {
+        Ok(()) => (Ok(Done::Shown), note),
+        Err(error) => (Err(Failure::from(error)), note),
+    }
 }
 
-/// Reads the files of a call and its trace, and writes the trace with what happens inside its blocks.
+/// Reads the files of a call and its trace, and writes the trace with what happens inside its blocks. It says how that
+/// ends, and what is reported after the line of a failure.
 pub(crate) fn show_insides<S: Source + Streams, W: Write>(
     alloc: Global,
     types: &[&str],
     inspect: &Inspect<'_>,
     source: &mut S,
     out: &mut W,
-) -> Result<Done, Failure>
-    ensures { ShowsInsides S.gives S.opens source.old source.new (map (λ t. t.now) types.now) inspect.now (W.contents out.old) (W.contents out.new) result }
+) -> (Result<Done, Failure>, Option<String>)
+    ensures { ShowsInsides S.gives S.opens source.old source.new (map (λ t. t.now) types.now) inspect.now (W.contents out.old) (W.contents out.new) result.0 (option_map string_bytes result.1) }
 {
     let task = files_of(inspect);
     let texts = match read_files(alloc, types, &task, source) {
         Ok(texts) => texts,
-        Err(unread) => return Err(Failure::from(unread.fault)),
+        Err(unread) => {
+            let note = note_of_file(alloc, types, &task, unread);
+            return (Err(Failure::from(unread.fault)), note);
+        }
     };
     let mut trace = match source.open(alloc, inspect.trace) {
         Ok(trace) => trace,
-        Err(fault) => return Err(Failure::from(fault)),
+        Err(fault) => {
+            let note = note_of_open(alloc, inspect.why, inspect.trace, fault);
+            return (Err(Failure::from(fault)), note);
+        }
     };
-    let end = write_inspected(alloc, &texts.inputs(), inspect, &mut trace, out);
-    end_with(alloc, types, inspect.declaration, &texts, end)
+    let (end, line) = write_inspected(alloc, &texts.inputs(), inspect, &mut trace, out);
+    let note = note_of_wave(alloc, types, &task, &end, &texts, line);
+    let end = end_with(alloc, types, inspect.declaration, &texts, end);
+    (end, note)
 }

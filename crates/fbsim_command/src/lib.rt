@@ -7,7 +7,7 @@
 //! Read it in this order: `sources`, where files come from; `files`, those of the machine; `program`, the call; `texts`,
 //! what is read, with `join`, a declaration in several files, and `own_lines`, how its refusals name a file and a line,
 //! which agree by `laws`; `lint`, with `call_names` and `warning_lines`, the lines of warnings; `located_stop`, where a run
-//! stops; `wave`, with `line_notes`; `draw`; `inspect`; `coverage`;
+//! stops; `wave`, with `line_notes`; `draw`; `inspect` and `coverage`, with `inside_notes`;
 //! `expect` and `known`, rules and traces; `output`; `failure`, `notes`, `rules_notes` and `statuses`, how it ends.
 #![tactic(auto)]
 
@@ -18,6 +18,7 @@ mod expect;
 pub mod failure;
 pub mod files;
 mod input_notes;
+mod inside_notes;
 mod inspect;
 mod join;
 mod known;

@@ -300,10 +300,20 @@ fn obey<'w, R: Threads + Wait + Sync, C: Clock + CpuClock, S: Source + Streams, 
             ended(show_graph(alloc, types.as_slice(), &call, source, out))
         }
         Ok(Call::Inspect(call, types)) => {
-            ended(show_insides(alloc, types.as_slice(), &call, source, out))
+            let (end, note) = show_insides(alloc, types.as_slice(), &call, source, out);
+            Answer {
+                end,
+                is_heard: true,
+                note,
+            }
         }
         Ok(Call::Coverage(call, types)) => {
-            ended(show_coverage(alloc, types.as_slice(), &call, source, out))
+            let (end, note) = show_coverage(alloc, types.as_slice(), &call, source, out);
+            Answer {
+                end,
+                is_heard: true,
+                note,
+            }
         }
         Err(LineFault::Help(text)) => ended(help_to(text.as_str(), out)),
         Err(LineFault::Fault(text)) => ended(Err(Failure::Line(text))),

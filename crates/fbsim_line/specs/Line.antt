@@ -137,21 +137,26 @@ diff = with_rule (begun (codes "diff") (codes "A")) (required (codes "B"))
 abbrev pub draw : App
 draw = with_rule (deployed (codes "draw")) (file (codes "type"))
 
--- a command with the names of a declaration, of its deployment and of its trace, of the instances that are shown, and the limit
--- of the run
+-- a command with the names of a declaration, of its deployment and of its trace, of the instances that are shown, the limit of
+-- the run, whether the trace may be cut off, and whether a refusal is reported with its place
 abbrev pub inspect : App
 inspect =
-    with_rule (with_rule (with_rule (deployed (codes "inspect"))
+    with_rule (with_rule (with_rule (with_rule (with_rule (deployed (codes "inspect"))
     (required (codes "TRACE")))
     (repeated (codes "only")))
-    (record (limited (codes "steps") (up_to 10000000)) { defaults = codes "10000" ∷ [] })
+    (record (limited (codes "steps") (up_to 10000000)) { defaults = codes "10000" ∷ [] }))
+    (flag (codes "cut")))
+    (flag (codes "why"))
 
--- a command with the names of a declaration, of its deployment and of traces, and the limit of the runs
+-- a command with the names of a declaration, of its deployment and of traces, the limit of the runs, whether traces may be cut
+-- off, and whether a refusal is reported with its place
 abbrev pub coverage : App
 coverage =
-    with_rule (with_rule (deployed (codes "coverage"))
+    with_rule (with_rule (with_rule (with_rule (deployed (codes "coverage"))
     (several (codes "TRACE")))
-    (record (limited (codes "steps") (up_to 10000000)) { defaults = codes "10000" ∷ [] })
+    (record (limited (codes "steps") (up_to 10000000)) { defaults = codes "10000" ∷ [] }))
+    (flag (codes "cut")))
+    (flag (codes "why"))
 
 -- a command with the name of a refusal
 abbrev pub explain : App
@@ -279,6 +284,8 @@ pub record AsksCoverage (rows : List Row) (x : Coverage) : Type 0 where
   pub deploy : first_of (codes "deploy") rows ≡ option_map (λ n. n.now) x.deploy
   pub traces : all_of (codes "TRACE") rows ≡ Some (map (λ t. t.now) x.traces.items)
   pub steps : IsNumber rows (codes "steps") x.steps
+  pub cut : IsFlag rows (codes "cut") x.is_cut
+  pub why : IsFlag rows (codes "why") x.why
 
 -- this trace must be inspected
 pub record AsksInspect (rows : List Row) (x : Inspect) : Type 0 where
@@ -287,6 +294,8 @@ pub record AsksInspect (rows : List Row) (x : Inspect) : Type 0 where
   pub trace : first_of (codes "TRACE") rows ≡ Some x.trace.now
   pub only : or_none (all_of (codes "only") rows) ≡ map (λ t. t.now) x.only.items
   pub steps : IsNumber rows (codes "steps") x.steps
+  pub cut : IsFlag rows (codes "cut") x.is_cut
+  pub why : IsFlag rows (codes "why") x.why
 
 abbrev pub IsCall : List Row → Call → Type 0
 IsCall rows (call.Explain name) = first_of (codes "NAME") rows ≡ Some name.now

@@ -8,7 +8,9 @@ ghost use Rattle.fbsim_line.specs.Line.{AsksCoverage, IsCall, call_name};
 ghost use Rattle.fbsim_line.specs.declared.coverage_line.Coverage.{Coverage};
 
 use crate::bench_line::traces;
-use crate::line::{Call, deployed, limited, number, types_of, up_to, with_arg};
+use crate::line::{
+    Call, WHY_HELP, deployed, flag, has_flag, limited, number, types_of, up_to, with_arg,
+};
 use clap::{ArgMatches, Command};
 use fb_types::MOST_STEPS;
 use std::alloc::{AllocError, Global};
@@ -22,8 +24,12 @@ pub struct Coverage<'a> {
     pub deploy: Option<&'a str>,
     /// The names of the files with the traces, one or more.
     pub traces: Vec<&'a str>,
-    /// The most steps of a resource in one tick, in the runs that wrote the traces.
+    /// The most steps of a resource in one tick, in runs that stop for them.
     pub steps: u64,
+    /// Whether traces may be cut off.
+    pub is_cut: bool,
+    /// Whether a refusal is reported with its place.
+    pub why: bool,
 }
 
 const ABOUT: &str =
@@ -31,7 +37,11 @@ const ABOUT: &str =
 
 const EXAMPLE: &str = "Example: fbsim coverage cell.iec --deploy cell.toml shift.trace night.trace";
 
-const STEPS_HELP: &str = "The limit of steps of the runs that wrote the traces, 1 to 10000000.";
+const STEPS_HELP: &str =
+    "The limit of steps of the runs that wrote the traces, 1 to 10000000, if they stopped for them.";
+
+const CUT_HELP: &str =
+    "Accepts traces that are cut off, without a last line or within a line; the report says how many are.";
 
 /// The command that reports what traces cover.
 pub(crate) fn coverage_command<'a>(alloc: Global) -> Result<Command<'a>, AllocError>
@@ -41,7 +51,9 @@ pub(crate) fn coverage_command<'a>(alloc: Global) -> Result<Command<'a>, AllocEr
     let command = deployed(alloc, "coverage", ABOUT, EXAMPLE);
     let command = with_arg(command, traces(alloc));
     let steps = limited(alloc, "steps", up_to(MOST_STEPS), STEPS_HELP).default_value("10000");
-    with_arg(command, steps)
+    let command = with_arg(command, steps);
+    let command = with_arg(command, flag(alloc, "cut", CUT_HELP));
+    with_arg(command, flag(alloc, "why", WHY_HELP))
 }
 
 /// The call that reports what traces cover, with what was found.
@@ -70,6 +82,8 @@ pub(crate) fn coverage_of<'a>(
         deploy,
         traces,
         steps,
+        is_cut: has_flag(found, "cut"),
+        why: has_flag(found, "why"),
     };
     Ok(Some(Call::Coverage(coverage, types)))
 }

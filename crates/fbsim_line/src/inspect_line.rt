@@ -7,7 +7,10 @@ ghost use Rattle.fbsim_line.specs.Line as spec;
 ghost use Rattle.fbsim_line.specs.Line.{AsksInspect, IsCall, call_name, or_none};
 ghost use Rattle.fbsim_line.specs.declared.inspect_line.Inspect.{Inspect};
 
-use crate::line::{Call, deployed, limited, number, repeated, required, types_of, up_to, with_arg};
+use crate::line::{
+    Call, WHY_HELP, deployed, flag, has_flag, limited, number, repeated, required, types_of, up_to,
+    with_arg,
+};
 use clap::{ArgMatches, Command};
 use fb_types::MOST_STEPS;
 use std::alloc::{AllocError, Global};
@@ -25,6 +28,10 @@ pub struct Inspect<'a> {
     pub only: Vec<&'a str>,
     /// The most steps of a resource in one tick, in a run that stops for them.
     pub steps: u64,
+    /// Whether the trace may be cut off.
+    pub is_cut: bool,
+    /// Whether a refusal is reported with its place.
+    pub why: bool,
 }
 
 const ABOUT: &str =
@@ -38,7 +45,11 @@ const TRACE_HELP: &str =
 const ONLY_HELP: &str =
     "The path of an instance: only its lines are shown, and those of its components; may be repeated.";
 
-const STEPS_HELP: &str = "The limit of steps of the run that wrote the trace, 1 to 10000000.";
+const STEPS_HELP: &str =
+    "The limit of steps of the run that wrote the trace, 1 to 10000000, if it stopped for them.";
+
+const CUT_HELP: &str =
+    "Accepts a trace that is cut off, without a last line or within a line; the output says so at its end.";
 
 /// The command that inspects a trace.
 pub(crate) fn inspect_command<'a>(alloc: Global) -> Result<Command<'a>, AllocError>
@@ -49,7 +60,9 @@ pub(crate) fn inspect_command<'a>(alloc: Global) -> Result<Command<'a>, AllocErr
     let command = with_arg(command, required(alloc, "TRACE", TRACE_HELP));
     let command = with_arg(command, repeated(alloc, "only", ONLY_HELP));
     let steps = limited(alloc, "steps", up_to(MOST_STEPS), STEPS_HELP).default_value("10000");
-    with_arg(command, steps)
+    let command = with_arg(command, steps);
+    let command = with_arg(command, flag(alloc, "cut", CUT_HELP));
+    with_arg(command, flag(alloc, "why", WHY_HELP))
 }
 
 /// The paths of the instances that are shown.
@@ -89,6 +102,8 @@ pub(crate) fn inspect_of<'a>(
         trace,
         only,
         steps,
+        is_cut: has_flag(found, "cut"),
+        why: has_flag(found, "why"),
     };
     Ok(Some(Call::Inspect(inspect, types)))
 }

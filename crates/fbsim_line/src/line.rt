@@ -186,7 +186,7 @@ const PROGRESS_HELP: &str =
 const TRACE_HELP: &str =
     "The form of the trace; in form 2 each line except the last begins with the class, a and b of its event.";
 
-const WHY_HELP: &str =
+pub(crate) const WHY_HELP: &str =
     "Prints the locations of a refusal, a file fault or a stop on further lines, if they are known.";
 
 const LINT_HELP: &str =

@@ -1,36 +1,36 @@
 use Rattle.std.proofs.Common.{subst}
 use Rattle.std.specs.Prelude.{IfSome, OnErr, OnOk}
 use Rattle.fb_types.specs.Headline.{Inputs, system_of}
-use Rattle.fb_inspect.specs.Inspections.{IsShown, ShowsFront}
-use Rattle.fb_inspect.proofs.Gone.{front_none}
+use Rattle.fb_inspect.specs.Inspections.{IsShownBy, ShowsFront}
+use Rattle.fb_inspect.proofs.Ended.{front_none}
 use Rattle.fb_inspect.proofs.Placed.{err_any, of_table}
 use Rattle.fb_inspect.proofs.insides.inspect.Goals as goal
 
 pub returns-then-not-have_paths-clause-fault : goal.returns-then-not-have_paths-clause-fault
 returns-then-not-have_paths-clause-fault g c =
-    front_none (system_of c.args.system.now) c.args.inspection.only.now c.args.inspection.steps (g.W.Write.contents c.args.out.now)
+    front_none (system_of c.args.system.now) c.args.inspection.only.now c.args.inspection.terms.steps (g.W.Write.contents c.args.out.now)
 
 pub returns-in_err-ports-clause-fault : goal.returns-in_err-ports-clause-fault
 returns-in_err-ports-clause-fault g c =
-    err_any c.from_residual.result _ (front_none (system_of c.args.system.now) c.args.inspection.only.now c.args.inspection.steps (g.W.Write.contents c.args.out.now))
+    err_any c.from_residual.result _ (front_none (system_of c.args.system.now) c.args.inspection.only.now c.args.inspection.terms.steps (g.W.Write.contents c.args.out.now))
 
 pub returns-in_err-texts-clause-fault : goal.returns-in_err-texts-clause-fault
 returns-in_err-texts-clause-fault g c =
-    err_any c.from_residual-in_err-texts.result _ (front_none (system_of c.args.system.now) c.args.inspection.only.now c.args.inspection.steps (g.W.Write.contents c.args.out.now))
+    err_any c.from_residual-in_err-texts.result _ (front_none (system_of c.args.system.now) c.args.inspection.only.now c.args.inspection.terms.steps (g.W.Write.contents c.args.out.now))
 
 pub returns-in_err-table-clause-fault : goal.returns-in_err-table-clause-fault
 returns-in_err-table-clause-fault g c =
-    err_any c.from_residual-in_err-table.result _ (front_none (system_of c.args.system.now) c.args.inspection.only.now c.args.inspection.steps (g.W.Write.contents c.args.out.now))
+    err_any c.from_residual-in_err-table.result _ (front_none (system_of c.args.system.now) c.args.inspection.only.now c.args.inspection.terms.steps (g.W.Write.contents c.args.out.now))
 
 pub returns-in_default-clause-fault : goal.returns-in_default-clause-fault
-returns-in_default-clause-fault g c = front_none (system_of c.args.system.now) c.args.inspection.only.now c.args.inspection.steps (g.W.Write.contents c.args.out.now)
+returns-in_default-clause-fault g c = front_none (system_of c.args.system.now) c.args.inspection.only.now c.args.inspection.terms.steps (g.W.Write.contents c.args.out.now)
 
 pub returns-clause-whole : goal.returns-clause-whole
 returns-clause-whole g c =
     let x = c.args.inspection in
     let old = g.W.Write.contents c.args.out.now in
     let new = g.W.Write.contents c.inspect_with.new.out in
-    subst (λ (s : Inputs). OnOk c.inspect_with.result (IfSome (g.R.Read.remaining c.args.input.now) (λ text. IsShown (system_of s) x.only.now x.steps text old new)))
+    subst (λ (s : Inputs). OnOk c.inspect_with.result (IfSome (g.R.Read.remaining c.args.input.now) (λ text. IsShownBy x.terms.cut (system_of s) x.only.now x.terms.steps text old new)))
     (of_table _ c.in-Some.table c.args.system.now c.in-Some.is c.in_ok-table.ensures.table) c.inspect_with.ensures.whole
 
 pub returns-clause-fault : goal.returns-clause-fault
@@ -38,5 +38,5 @@ returns-clause-fault g c =
     let x = c.args.inspection in
     let old = g.W.Write.contents c.args.out.now in
     let new = g.W.Write.contents c.inspect_with.new.out in
-    subst (λ (s : Inputs). OnErr c.inspect_with.result (ShowsFront (system_of s) x.only.now x.steps old new))
+    subst (λ (s : Inputs). OnErr c.inspect_with.result (ShowsFront (system_of s) x.only.now x.terms.steps old new))
     (of_table _ c.in-Some.table c.args.system.now c.in-Some.is c.in_ok-table.ensures.table) c.inspect_with.ensures.fault

@@ -1,9 +1,10 @@
-use Rattle.std.proofs.Common.{map, take}
-use Rattle.fbsim_command.specs.Covering.{GoThrough, first_marks}
+use Rattle.std.proofs.Common.{map, option_map, string_bytes, take}
+use Rattle.fbsim_command.specs.Covering.{GoThrough, NotesTrace}
 use Rattle.fbsim_command.proofs.Gleaning.{now}
 use Rattle.fbsim_command.proofs.coverage.cover_all.Given as goal
 
 -- the first traces are gone through
 abbrev pub invariant-loop-name : goal.invariant-loop-name
 invariant-loop-name g l =
-    GoThrough g.S.Streams.opens l.system l.coverage.steps (map now (take l.name-index l.coverage.traces.items)) l.fn.source l.source (first_marks l.system) l.marks
+    GoThrough g.S.Streams.opens l.system l.coverage (map now (take l.name-index l.coverage.traces.items)) l.fn.source l.source l.initial.gleaned l.gleaned
+    × (NotesTrace l.coverage (option_map string_bytes l.fn.note) → NotesTrace l.coverage (option_map string_bytes l.note))

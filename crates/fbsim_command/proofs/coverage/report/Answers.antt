@@ -3,15 +3,15 @@ use Rattle.fbsim_command.specs.declared.failure.Failure.TheVariants.{Memory}
 use Rattle.fbsim_command.proofs.Holding.{passed-on}
 use Rattle.fbsim_command.proofs.coverage.report.Goals as goal
 
-pub returns-in_err-marks-clause-stopped : goal.returns-in_err-marks-clause-stopped
-returns-in_err-marks-clause-stopped g c =
+pub returns-in_err-gleaned-clause-stopped : goal.returns-in_err-gleaned-clause-stopped
+returns-in_err-gleaned-clause-stopped g c =
     passed-on c.from_residual.result _ (AreStopped g.S.Streams.opens c.args.system.now c.args.coverage.now c.args.source.now c.cover_all.new.source) c.from_residual.ensures.1
-    c.in_err-marks.ensures.stopped
+    c.in_err-gleaned.ensures.stopped
 
-pub returns-in_err-report_of-clause-stopped : goal.returns-in_err-report_of-clause-stopped
-returns-in_err-report_of-clause-stopped g c =
-    passed-on c.from_residual-in_err-report_of.result Memory (AreStopped g.S.Streams.opens c.args.system.now c.args.coverage.now c.args.source.now c.cover_all.new.source)
-    c.from_residual-in_err-report_of.ensures.1 tt
+pub returns-in_err-text_of-clause-stopped : goal.returns-in_err-text_of-clause-stopped
+returns-in_err-text_of-clause-stopped g c =
+    passed-on c.from_residual-in_err-text_of.result Memory (AreStopped g.S.Streams.opens c.args.system.now c.args.coverage.now c.args.source.now c.cover_all.new.source)
+    c.from_residual-in_err-text_of.ensures.1 tt
 
 pub returns-clause-report : goal.returns-clause-report
-returns-clause-report g c = (c.in_ok-marks.marks, c.in_ok-marks.ensures.covered, c.in_ok-report_of.ensures)
+returns-clause-report g c = (c.in_ok-gleaned.gleaned, c.in_ok-gleaned.ensures.covered, c.in_ok-text_of.ensures)

@@ -1,24 +1,45 @@
-use Rattle.std.proofs.Common.{map, subst, inl}
+use Rattle.std.proofs.Common.{◌≡◌, ◌⊎◌, map, option_map, refl, string_bytes, subst, inl, inr}
 use Rattle.fb_sim.specs.Given.{Given}
 use Rattle.fbsim_command.specs.Covering.{WritesReport}
+use Rattle.fbsim_command.specs.Notes.{IsFileNote, Notes, NotesOf}
 use Rattle.fbsim_line.specs.declared.line.Task.{Task}
-use Rattle.fbsim_command.specs.Reading.{AreRead}
+use Rattle.fbsim_command.specs.Reading.{AreRead, IsUnread}
 use Rattle.fbsim_command.specs.Texts.{given_of, lines_of}
+use Rattle.fbsim_command.proofs.Gleaning.{noted-trace, reported-failure}
 use Rattle.fbsim_command.proofs.coverage.show_coverage.Goals as goal
+
+pub returns-in-Err : goal.returns-in-Err
+returns-in-Err g c =
+    let names = map (λ t. t.now) c.args.types.now in
+    inr (record {
+      part = c.in-Err.unread.part;
+      fault = c.in-Err.unread.fault;
+      unread = subst (λ (k : Task). IsUnread g.S.Source.gives names k c.args.source.now c.read_files.new.source c.in-Err.unread.part c.in-Err.unread.fault) c.files_of-task.ensures c.in-Err.ensures.unread;
+      failed = reported-failure _ _ c.from.ensures;
+      noted =
+          subst (λ (k : Task). Notes k.why (IsFileNote names k c.in-Err.unread.part c.in-Err.unread.fault) (option_map string_bytes c.note_of_file-note.result)) c.files_of-task.ensures
+          c.note_of_file-note.ensures;
+      same = refl;
+    })
 
 pub returns : goal.returns
 returns g c =
     let names = map (λ t. t.now) c.args.types.now in
     let first = c.read_files.new.source in
     let last = c.write_report-end.new.source in
+    let line = option_map string_bytes c.write_report-end.new.note in
     inl (record {
       lines = lines_of c.in-Ok.texts;
       given = given_of c.in-Ok.texts;
       between = first;
-      read = subst (λ (k : Task). AreRead g.S.Source.gives names k c.args.source.now first (lines_of c.in-Ok.texts) (given_of c.in-Ok.texts)) c.files_of.ensures c.in-Ok.ensures.read;
+      read = subst (λ (k : Task). AreRead g.S.Source.gives names k c.args.source.now first (lines_of c.in-Ok.texts) (given_of c.in-Ok.texts)) c.files_of-task.ensures c.in-Ok.ensures.read;
       inner = c.write_report-end.result;
       done =
           subst (λ (i : Given). WritesReport g.S.Streams.opens i c.args.coverage.now first last (g.W.Write.contents c.args.out.now) (g.W.Write.contents c.write_report-end.new.out) c.write_report-end.result)
-          c.inputs.ensures c.write_report-end.ensures;
-      ends = c.end_with.ensures;
+          c.inputs.ensures c.write_report-end.ensures.written;
+      noted = noted-trace names c.args.coverage.now (lines_of c.in-Ok.texts) (given_of c.in-Ok.texts) c.write_report-end.result (option_map string_bytes c.note_of_wave-note.result) line
+          (c.write_report-end.ensures.noted tt)
+          (subst (λ (k : Task). NotesOf names k (lines_of c.in-Ok.texts) (given_of c.in-Ok.texts) c.write_report-end.result (option_map string_bytes c.note_of_wave-note.result)
+          ⊎ (option_map string_bytes c.note_of_wave-note.result ≡ line)) c.files_of-task.ensures c.note_of_wave-note.ensures);
+      ends = c.end_with-end.ensures;
     })

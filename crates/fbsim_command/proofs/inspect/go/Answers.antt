@@ -2,9 +2,10 @@ use Rattle.std.proofs.Common.{Bor, List, map, subst, ap, ◌∙◌}
 use Rattle.std.specs.Prelude.{IfSome, OnErr, OnOk}
 use Rattle.clap.specs.Words.{Text}
 use Rattle.fb_types.specs.Headline.{system_of}
-use Rattle.fb_inspect.specs.Inspections.{IsShown, ShowsFront}
-use Rattle.fb_inspect.proofs.Gone.{front_none}
-use Rattle.fbsim_command.specs.Inspecting.{paths_of, upper}
+use Rattle.fb_inspect.specs.Inspections.{IsShownBy, ShowsFront}
+use Rattle.fb_inspect.proofs.Ended.{front_none}
+use Rattle.fb_wave.specs.declared.truncation.Cut.{Cut}
+use Rattle.fbsim_command.specs.Inspecting.{cut_of, paths_of, upper}
 use Rattle.fbsim_command.proofs.Inspecting.{on_err_any}
 use Rattle.fbsim_command.proofs.inspect.go.Goals as goal
 
@@ -20,8 +21,9 @@ returns-clause-whole g c =
     let x = c.args.inspect.now in
     let old = g.W.Write.contents c.args.out.now in
     let new = g.W.Write.contents c.inspect.new.out in
-    subst (λ (only : List Text). OnOk c.inspect.result (IfSome (g.R.Read.remaining c.args.trace.now) (λ text. IsShown (system_of c.args.system.now) only x.steps text old new)))
-    (c.as_slice-2.ensures.value ∙ c.in_ok-only.ensures ∙ ap uppers c.as_slice.ensures.value) c.inspect.ensures.whole
+    subst (λ (m : Cut). OnOk c.inspect.result (IfSome (g.R.Read.remaining c.args.trace.now) (λ text. IsShownBy m (system_of c.args.system.now) (paths_of x) x.steps text old new))) c.cut_of.ensures
+    (subst (λ (only : List Text). OnOk c.inspect.result (IfSome (g.R.Read.remaining c.args.trace.now) (λ text. IsShownBy c.cut_of.result (system_of c.args.system.now) only x.steps text old new)))
+    (c.as_slice-2.ensures.value ∙ c.in_ok-only.ensures ∙ ap uppers c.as_slice.ensures.value) c.inspect.ensures.whole)
 
 pub returns-clause-fault : goal.returns-clause-fault
 returns-clause-fault g c =

@@ -1,13 +1,45 @@
-use Rattle.fbsim_command.proofs.Inspecting.{inspects_front, inspects_none, inspects_passed}
+use Rattle.std.proofs.Common.{Err, string_bytes, subst, sym}
+use Rattle.std.specs.Prelude.{IfSome, OnErr, OnOk}
+use Rattle.fb_types.specs.Headline.{system_of}
+use Rattle.fb_inspect.specs.Inspections.{IsShownBy, ShowsFront}
+use Rattle.fbsim_command.specs.Inspecting.{Inspects, cut_of, paths_of}
+use Rattle.fbsim_command.specs.declared.failure.Failure.{Failure}
+use Rattle.fbsim_command.proofs.Inspecting.{inspects_front, inspects_none, line_noted_inside, none_noted_inside}
 use Rattle.fbsim_command.proofs.inspect.write_inspected.Goals as goal
 
-pub returns-in_err-system : goal.returns-in_err-system
-returns-in_err-system g c =
-    inspects_passed c.args.inputs.now c.args.inspect.now (g.R.Read.remaining c.args.trace.now) _ _ c.from_residual.result _ c.from_residual.ensures.1
-    (inspects_none c.args.inputs.now c.args.inspect.now (g.R.Read.remaining c.args.trace.now) _ c.in_err-system.field-0.0 c.in_err-system.ensures.refused)
+pub returns-in-Err-clause-inspected : goal.returns-in-Err-clause-inspected
+returns-in-Err-clause-inspected g c =
+    let out = g.W.Write.contents c.args.out.now in
+    let trace = g.R.Read.remaining c.args.trace.now in
+    subst (λ (f : Failure). Inspects c.args.inputs.now c.args.inspect.now trace out out (Err f)) (sym c.from.ensures)
+    (inspects_none c.args.inputs.now c.args.inspect.now trace out c.in-Err.error c.in-Err.ensures.refused)
 
-pub returns-in_err-gone : goal.returns-in_err-gone
-returns-in_err-gone g c =
-    inspects_passed c.args.inputs.now c.args.inspect.now (g.R.Read.remaining c.args.trace.now) _ _ c.from_residual-in_err-gone.result _ c.from_residual-in_err-gone.ensures.1
-    (inspects_front c.args.inputs.now c.args.inspect.now (g.R.Read.remaining c.args.trace.now) _ _ c.in_ok-system.system c.in_ok-system.ensures.system c.in_err-gone.field-0.0
-    c.in_err-gone.ensures.fault)
+pub returns-in-Ok-gone-clause-inspected : goal.returns-in-Ok-gone-clause-inspected
+returns-in-Ok-gone-clause-inspected g c =
+    let x = c.args.inspect.now in
+    let sys = system_of c.in-Ok.system in
+    let old = g.W.Write.contents c.args.out.now in
+    let new = g.W.Write.contents c.go-gone.new.out in
+    let trace = g.R.Read.remaining c.args.trace.now in
+    (c.in-Ok.system, c.in-Ok.ensures.system, subst (λ r. OnOk r (IfSome trace (λ text. IsShownBy (cut_of x) sys (paths_of x) x.steps text old new))) c.in-Ok-gone.is c.go-gone.ensures.whole)
+
+pub returns-in-Ok-gone-clause-noted : goal.returns-in-Ok-gone-clause-noted
+returns-in-Ok-gone-clause-noted g c =
+    none_noted_inside string_bytes c.args.inspect.now.why c.go-gone.result _ c.in-Ok-gone.field-0 c.note_of_gone-note.result c.in-Ok-gone.is c.note_of_gone-note.ensures
+
+pub returns-clause-inspected : goal.returns-clause-inspected
+returns-clause-inspected g c =
+    let x = c.args.inspect.now in
+    let sys = system_of c.in-Ok.system in
+    let old = g.W.Write.contents c.args.out.now in
+    let new = g.W.Write.contents c.go-gone.new.out in
+    let trace = g.R.Read.remaining c.args.trace.now in
+    let e = c.in-Err-gone.error in
+    subst (λ (f : Failure). Inspects c.args.inputs.now x trace old new (Err f)) (sym c.from-in-Err-gone.ensures)
+    (inspects_front c.args.inputs.now x trace old new c.in-Ok.system c.in-Ok.ensures.system e
+    (subst (λ r. OnErr r (ShowsFront sys (paths_of x) x.steps old new)) c.in-Err-gone.is c.go-gone.ensures.fault))
+
+pub returns-clause-noted : goal.returns-clause-noted
+returns-clause-noted g c =
+    line_noted_inside string_bytes c.args.inspect.now.why c.go-gone.result c.in-Err-gone.error c.from-in-Err-gone.result c.note_of_gone-note.result c.in-Err-gone.is
+    c.from-in-Err-gone.ensures c.note_of_gone-note.ensures

@@ -71,26 +71,18 @@ returns-in-Ok-Draw g c =
 pub returns-in-Ok-Inspect : goal.returns-in-Ok-Inspect
 returns-in-Ok-Inspect g c =
     let words = map (λ (w : Bor (List ℕ)). w.now) c.args.words.now in
-    let old = g.W.Write.contents c.args.out.now in
-    let new = g.W.Write.contents c.show_insides.new.out in
     let asked = subst (λ (r : Call). AreCall words r) c.in-Ok-Inspect.field-0-is c.in-Ok-Inspect.ensures.call in
-    let shown = subst (λ (ns : List (Bor Text)). ShowsInsides g.S.Source.gives g.S.Streams.opens c.args.source.now c.show_insides.new.source (map (λ (n : Bor Text). n.now) ns) c.in-Ok-Inspect.call old new c.show_insides.result)
-    c.as_slice-in-Ok-Inspect.ensures.value c.show_insides.ensures in
-    ended_so c.ended-in-Ok-Inspect.result c.show_insides.result c.ended-in-Ok-Inspect.ensures (g.E.Write.contents c.args.err.now)
-    (λ (end : End) (reports : Text) (note : Option Text). Does g.S.Source.gives g.S.Streams.opens c.args.source.now c.show_insides.new.source words old new end reports note)
-    (inr (inr (inr (inr (inr (inr (inl (c.in-Ok-Inspect.call, c.in-Ok-Inspect.types, asked, c.in-Ok-Inspect.ensures.taken, shown, refl, refl))))))))
+    let shown = subst (λ (ns : List (Bor Text)). ShowsInsides g.S.Source.gives g.S.Streams.opens c.args.source.now c.show_insides-end.new.source (map (λ (n : Bor Text). n.now) ns) c.in-Ok-Inspect.call
+    (g.W.Write.contents c.args.out.now) (g.W.Write.contents c.show_insides-end.new.out) c.show_insides-end.result.0 (option_map string_bytes c.show_insides-end.result.1)) c.as_slice-in-Ok-Inspect.ensures.value c.show_insides-end.ensures in
+    ([], quiet (g.E.Write.contents c.args.err.now), inr (inr (inr (inr (inr (inr (inl (c.in-Ok-Inspect.call, c.in-Ok-Inspect.types, asked, c.in-Ok-Inspect.ensures.taken, shown, refl))))))))
 
 pub returns-in-Ok-Coverage : goal.returns-in-Ok-Coverage
 returns-in-Ok-Coverage g c =
     let words = map (λ (w : Bor (List ℕ)). w.now) c.args.words.now in
-    let old = g.W.Write.contents c.args.out.now in
-    let new = g.W.Write.contents c.show_coverage.new.out in
     let asked = subst (λ (r : Call). AreCall words r) c.in-Ok-Coverage.field-0-is c.in-Ok-Coverage.ensures.call in
-    let shown = subst (λ (ns : List (Bor Text)). ReportsCoverage g.S.Source.gives g.S.Streams.opens c.args.source.now c.show_coverage.new.source (map (λ (n : Bor Text). n.now) ns) c.in-Ok-Coverage.call old new c.show_coverage.result)
-    c.as_slice-in-Ok-Coverage.ensures.value c.show_coverage.ensures in
-    ended_so c.ended-in-Ok-Coverage.result c.show_coverage.result c.ended-in-Ok-Coverage.ensures (g.E.Write.contents c.args.err.now)
-    (λ (end : End) (reports : Text) (note : Option Text). Does g.S.Source.gives g.S.Streams.opens c.args.source.now c.show_coverage.new.source words old new end reports note)
-    (inr (inr (inr (inr (inr (inr (inr (inl (c.in-Ok-Coverage.call, c.in-Ok-Coverage.types, asked, c.in-Ok-Coverage.ensures.taken, shown, refl, refl)))))))))
+    let shown = subst (λ (ns : List (Bor Text)). ReportsCoverage g.S.Source.gives g.S.Streams.opens c.args.source.now c.show_coverage-end.new.source (map (λ (n : Bor Text). n.now) ns) c.in-Ok-Coverage.call
+    (g.W.Write.contents c.args.out.now) (g.W.Write.contents c.show_coverage-end.new.out) c.show_coverage-end.result.0 (option_map string_bytes c.show_coverage-end.result.1)) c.as_slice-in-Ok-Coverage.ensures.value c.show_coverage-end.ensures in
+    ([], quiet (g.E.Write.contents c.args.err.now), inr (inr (inr (inr (inr (inr (inr (inl (c.in-Ok-Coverage.call, c.in-Ok-Coverage.types, asked, c.in-Ok-Coverage.ensures.taken, shown, refl)))))))))
 
 pub returns-in-Err-Help : goal.returns-in-Err-Help
 returns-in-Err-Help g c =

@@ -12,7 +12,9 @@ made c =
     ap rule_of c.default_value-steps.ensures ∙ ap (λ (r : Rule). record r { defaults = codes "10000" ∷ [] }) (c.limited.ensures.rule ∙ ap (spec.limited (codes "steps")) c.up_to.ensures) in
     let deployed = stands_well _ _ c.deployed-command.ensures.app c.deployed-command.ensures.globals in
     let traced = grown_on _ _ _ _ _ c.with_arg-command.ensures c.traces.ensures.local c.traces.ensures.rule deployed in
-    grown_on _ _ _ _ _ c.with_arg.ensures (ap (λ (x : Arg). x.global) c.default_value-steps.ensures ∙ c.limited.ensures.local) steps traced
+    let stepped = grown_on _ _ _ _ _ c.with_arg-command-2.ensures (ap (λ (x : Arg). x.global) c.default_value-steps.ensures ∙ c.limited.ensures.local) steps traced in
+    let cut = grown_on _ _ _ _ _ c.with_arg-command-3.ensures c.flag.ensures.local c.flag.ensures.rule stepped in
+    grown_on _ _ _ _ _ c.with_arg.ensures c.flag-2.ensures.local c.flag-2.ensures.rule cut
 
 pub returns-clause-app : goal.returns-clause-app
 returns-clause-app c = app_well _ _ (made c)

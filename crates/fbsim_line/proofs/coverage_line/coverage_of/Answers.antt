@@ -18,6 +18,8 @@ returns-clause-rows c =
             sym (raw_values-rows m (codes "TRACE")) ∙ sym c.get_strs.ensures ∙ ap texts c.in-Some-get_strs.is
             ∙ ap (λ (vs : List (Bor Text)). Some (map (λ (v : Bor Text). v.now) vs)) (sym c.in_ok-traces.ensures.items);
         steps = c.in-Some-number.ensures.number;
+        cut = c.has_flag.ensures;
+        why = c.has_flag-2.ensures;
       },
       c.in_ok-types.ensures,
     )

@@ -13,7 +13,9 @@ made c =
     let deployed = stands_well _ _ c.deployed-command.ensures.app c.deployed-command.ensures.globals in
     let traced = grown_on _ _ _ _ _ c.with_arg-command.ensures c.required.ensures.local c.required.ensures.rule deployed in
     let only = grown_on _ _ _ _ _ c.with_arg-command-2.ensures c.repeated.ensures.local c.repeated.ensures.rule traced in
-    grown_on _ _ _ _ _ c.with_arg.ensures (ap (λ (x : Arg). x.global) c.default_value-steps.ensures ∙ c.limited.ensures.local) steps only
+    let stepped = grown_on _ _ _ _ _ c.with_arg-command-3.ensures (ap (λ (x : Arg). x.global) c.default_value-steps.ensures ∙ c.limited.ensures.local) steps only in
+    let cut = grown_on _ _ _ _ _ c.with_arg-command-4.ensures c.flag.ensures.local c.flag.ensures.rule stepped in
+    grown_on _ _ _ _ _ c.with_arg.ensures c.flag-2.ensures.local c.flag-2.ensures.rule cut
 
 pub returns-clause-app : goal.returns-clause-app
 returns-clause-app c = app_well _ _ (made c)

@@ -15,6 +15,8 @@ returns-clause-rows c =
         trace = sym (first_value-rows m (codes "TRACE")) ∙ traced;
         only = c.in_ok-only.ensures;
         steps = c.in-Some-number.ensures.number;
+        cut = c.has_flag.ensures;
+        why = c.has_flag-2.ensures;
       },
       c.in_ok-types.ensures,
     )

@@ -1,0 +1,545 @@
+-- One step of a walk, by one event or to the end of the trace.
+use Rattle.std.proofs.Common.{◌≡◌, ◌<◌, ◌≤◌, ◌⊎◌, ℕ, ◌+◌, ◌-◌, ◌==◌, Bool, true, false, List, [], ◌∷◌, ◌++◌, length, map, Option, Some, None, refl, sym, ◌∙◌, ap, subst, inl, inr, append_assoc, append-nil, arith}
+use Rattle.std.specs.Prelude.{All, IfSome, if◌then◌else◌, slice_get, slice_set}
+use Rattle.std.specs.Global.{Vec}
+use Rattle.std.specs.Io.KnownBytes.{Consumes, prepend_known}
+use Rattle.std.proofs.Math.ListN.{length-set}
+use Rattle.std.proofs.lemmas.Bool.{false_from_ne_true}
+use Rattle.std.proofs.lemmas.Bool.Decides.{nat_tests}
+use Rattle.std.proofs.lemmas.List.{map-append}
+use Rattle.std.proofs.lemmas.List.Elements.{All-append, All-cons}
+use Rattle.fb_types.specs.Names.{Name}
+use Rattle.fb_types.specs.Numbers.{line_of, path_at}
+use Rattle.fb_types.specs.Simulation.{AtStop}
+use Rattle.fb_types.specs.States as model
+use Rattle.fb_types.specs.Systems.{System}
+use Rattle.fb_types.specs.Text.{line_text, lines_text}
+use Rattle.fb_types.specs.declared.key.Key.{Key}
+use Rattle.fb_types.specs.declared.library.BlockType.{BlockType}
+use Rattle.fb_types.specs.declared.run.Form.{Form}
+use Rattle.fb_types.specs.declared.run.Line.{Line}
+use Rattle.fb_types.specs.declared.run.StopMark.{StopMark}
+use Rattle.fb_types.specs.declared.value.Reason.{Reason}
+use Rattle.fb_types.specs.declared.value.Reason.TheVariants.{Steps, Divide, Range}
+use Rattle.fb_trace.specs.End.{ending_of}
+use Rattle.fb_trace.specs.declared.last.Outcome.{Outcome}
+use Rattle.fb_trace.specs.declared.last.Outcome.TheVariants.{End, Stop}
+use Rattle.fb_wave.specs.Copying.{IsAfter}
+use Rattle.fb_wave.specs.Dumps.{last_tick}
+use Rattle.fb_wave.specs.Lines.{IsLineOf, IsTextOf}
+use Rattle.fb_coverage.specs.declared.marks.Marks.{Marks}
+use Rattle.fb_net.proofs.Others.{get_set_other, get_set_same}
+use Rattle.fb_inspect.specs.Counted.{left_of}
+use Rattle.fb_inspect.specs.Inspections.{AreLimited, AreTaken, AreTurns, EndsBySteps, EndsByStop, EndsSo, KeepsLimit, all_text, is_kept, last_look, limited, most, stop_of}
+use Rattle.fb_inspect.specs.Lines.{IsNext}
+use Rattle.fb_inspect.specs.Markings.{TurnMarks}
+use Rattle.fb_inspect.specs.Looks.{Left, Look, left_at, opening_look, turn_text}
+use Rattle.fb_inspect.specs.Moves.{Goes, IsLineAt, shown_text}
+use Rattle.fb_inspect.specs.Walking.{AreCutOff, AreMarked, HasCovered, HasLimited, IsComplete, IsCutAfter, IsGone, IsLookOf, IsReadOn, IsSevered, MayEnd, TurnGoes, flag_at}
+use Rattle.fb_inspect.specs.declared.blocks.Remembered.{Remembered}
+use Rattle.fb_inspect.specs.declared.reading.Next.{Next}
+use Rattle.fb_inspect.specs.declared.reading.Next.TheVariants as next
+use Rattle.fb_inspect.specs.declared.steps.TickSteps.{TickSteps}
+use Rattle.fb_inspect.specs.declared.trail.Trail.{Trail}
+use Rattle.fb_inspect.specs.declared.walk.Walk.{Walk}
+use Rattle.fb_inspect.proofs.Gone.{chain_more, each_of, gone_more, last_is, look_more, more_marked, none_more, nothing, rise_more, shown_if, stop_by, stop_more}
+use Rattle.fb_inspect.proofs.Moving.{lines-append}
+use Rattle.fb_inspect.proofs.Walked.{one_or_other}
+
+-- ---- Limits
+
+-- the steps that are left in a tick, of the resource that has the limit in it
+left_here : (n t left : ℕ) → left_at n t (record { tick = Some t; left = left }) ≡ left
+left_here n t left =
+    let same : (t == t) ≡ true = grind (arith, nat_tests) in
+    ap (λ (b : Bool). if b then left else n) same
+
+left_with : (steps t r : ℕ) (look : Look) → (limited steps t r look).steps r ≡ record { tick = Some t; left = (left_at most t (look.steps r) + steps) - most }
+left_with steps t r look =
+    let same : (r == r) ≡ true = grind (arith, nat_tests) in
+    ap (λ (b : Bool). if b then record { tick = Some t; left = (left_at most t (look.steps r) + steps) - most } else look.steps r) same
+
+-- what a resource has left is limited
+pub look_limited :
+    (sys : System) (steps : ℕ) (key : Key) (look : Look) (blocks : List Remembered) (old new : List TickSteps) → IsLookOf sys blocks old look → HasLimited steps key old new
+    → IsLookOf sys blocks new (limited steps key.tick key.resource look)
+look_limited sys steps key look blocks old new is has = record {
+  are = record { all = is.are.all; each = is.are.each };
+  counts = ap length has.steps_are ∙ length-set old key.resource has.after ∙ is.counts;
+  lefts = λ r s at.
+      let found : slice_get (slice_set old key.resource has.after) r ≡ Some s = ap (λ (l : List TickSteps). slice_get l r) (sym has.steps_are) ∙ at in
+      one_or_other r key.resource ((limited steps key.tick key.resource look).steps r ≡ left_of s)
+      (λ same.
+      let own : s ≡ has.after =
+      same_some s has.after
+      (sym (subst (λ (i : ℕ). slice_get (slice_set old key.resource has.after) i ≡ Some s) same found) ∙ get_set_same old key.resource has.before has.after has.stood) in
+      subst (λ (i : ℕ). (limited steps key.tick key.resource look).steps i ≡ left_of s) (sym same)
+      (left_with steps key.tick key.resource look
+      ∙ ap (λ (l : Left). record { tick = Some key.tick; left = (left_at most key.tick l + steps) - most }) (is.lefts key.resource has.before has.stood)
+      ∙ sym has.left_is
+      ∙ ap left_of (sym own)))
+      (λ differ.
+      let theirs : (r == key.resource) ≡ false = false_from_ne_true (r == key.resource) (λ e. differ (grind (arith, nat_tests))) in
+      ap (λ (b : Bool). if b then record { tick = Some key.tick; left = (left_at most key.tick (look.steps key.resource) + steps) - most } else look.steps r) theirs
+      ∙ is.lefts r s (sym (get_set_other old key.resource r has.after differ) ∙ found));
+}
+  where
+    same_some : (a b : TickSteps) → Some a ≡ Some b → a ≡ b
+    same_some a b e = cc
+
+-- ---- Takings
+
+module _ (types : List BlockType) (sys : System) (form : Form) (limit : ℕ) (look : Look) (line : Line) (stop : Option Reason) where
+  -- in a text that was read ahead, before what is left to read
+  pub turn_joined :
+      (old new : Walk) (s t u v : List ℕ) (remaining : Option (List ℕ)) → TurnGoes types sys form limit look line stop old new (Some s) (Some t) → u ≡ s → v ≡ t
+      → TurnGoes types sys form limit look line stop old new (prepend_known u remaining) (prepend_known v remaining)
+  turn_joined old new s t u v remaining goes same rest = record {
+    turn = goes.turn;
+    first_is = goes.first_is;
+    stop_is = goes.stop_is;
+    turns = goes.turns;
+    look_after = goes.look_after;
+    shown_are = goes.shown_are;
+    lines = goes.lines;
+    lines_are = goes.lines_are;
+    goes = record {
+      each = goes.goes.each;
+      kept = goes.goes.kept;
+      taken = goes.goes.taken;
+      took = joined remaining;
+      read = goes.goes.read;
+      text = goes.goes.text;
+      ported = goes.goes.ported;
+    };
+    marked = goes.marked;
+  }
+    where
+      joined : (o : Option (List ℕ)) → Consumes (prepend_known u o) (prepend_known v o) goes.goes.taken
+      joined None = tt
+      joined (Some x) =
+          ap (λ (w : List ℕ). w ++ x) (same ∙ goes.goes.took ∙ ap (λ (w : List ℕ). goes.goes.taken ++ w) (sym rest)) ∙ append_assoc goes.goes.taken v x
+
+  -- from what was not read ahead yet
+  pub turn_reread :
+      (old new : Walk) (r s rest : Option (List ℕ)) → ((bytes : List ℕ) → Consumes s rest bytes → Consumes r rest bytes) → TurnGoes types sys form limit look line stop old new s rest
+      → TurnGoes types sys form limit look line stop old new r rest
+  turn_reread old new r s rest back goes = record {
+    turn = goes.turn;
+    first_is = goes.first_is;
+    stop_is = goes.stop_is;
+    turns = goes.turns;
+    look_after = goes.look_after;
+    shown_are = goes.shown_are;
+    lines = goes.lines;
+    lines_are = goes.lines_are;
+    goes = record {
+      each = goes.goes.each;
+      kept = goes.goes.kept;
+      taken = goes.goes.taken;
+      took = back goes.goes.taken goes.goes.took;
+      read = goes.goes.read;
+      text = goes.goes.text;
+      ported = goes.goes.ported;
+    };
+    marked = goes.marked;
+  }
+
+  -- whatever the next line was
+  pub turn_next :
+      (old : Walk) (bad : Next) (new : Walk) (remaining rest : Option (List ℕ))
+      → TurnGoes types sys form limit look line stop (record old { trail = record (old.trail) { reading = record (old.trail.reading) { next = bad } } }) new remaining rest
+      → TurnGoes types sys form limit look line stop old new remaining rest
+  turn_next old bad new remaining rest goes = record {
+    turn = goes.turn;
+    first_is = goes.first_is;
+    stop_is = goes.stop_is;
+    turns = goes.turns;
+    look_after = goes.look_after;
+    shown_are = goes.shown_are;
+    lines = goes.lines;
+    lines_are = goes.lines_are;
+    goes = record {
+      each = goes.goes.each;
+      kept = goes.goes.kept;
+      taken = goes.goes.taken;
+      took = goes.goes.took;
+      read = goes.goes.read;
+      text = goes.goes.text;
+      ported = goes.goes.ported;
+    };
+    marked = goes.marked;
+  }
+
+  -- from a walk with the same text, marks and instances that are shown
+  pub turn_from :
+      (old mid new : Walk) (remaining rest : Option (List ℕ)) → mid.shown ≡ old.shown → mid.trail ≡ old.trail → TurnGoes types sys form limit look line stop mid new remaining rest
+      → TurnGoes types sys form limit look line stop old new remaining rest
+  turn_from old mid new remaining rest shown trail goes = record {
+    turn = goes.turn;
+    first_is = goes.first_is;
+    stop_is = goes.stop_is;
+    turns = goes.turns;
+    look_after = goes.look_after;
+    shown_are = goes.shown_are ∙ shown;
+    lines = goes.lines;
+    lines_are = goes.lines_are;
+    goes = subst (λ (t : Trail). Goes sys form line.key.tick goes.lines (shown_text (flag_at old.shown.items line.instance) (turn_text form sys goes.turn)) (record t { is_shown = flag_at old.shown.items line.instance }) new.trail remaining rest) trail
+        (subst (λ (v : Vec Bool). Goes sys form line.key.tick goes.lines (shown_text (flag_at v.items line.instance) (turn_text form sys goes.turn)) (record (mid.trail) { is_shown = flag_at v.items line.instance }) new.trail remaining rest) shown
+        goes.goes);
+    marked = subst (λ (t : Trail). TurnMarks types sys goes.turn t.marks.charts new.trail.marks.charts) trail goes.marked;
+  }
+
+-- ---- One step on
+
+-- nothing more is known of what was read ahead than of what is left to read
+pub refilled : (o n r : Option (List ℕ)) (text taken : List ℕ) → Consumes o n text → Consumes (prepend_known text n) r taken → Consumes o r taken
+refilled None n r text taken filled took = tt
+refilled (Some x) None r text taken filled took = absurd filled
+refilled (Some x) (Some y) r text taken filled took = subst (λ (z : List ℕ). Consumes (Some z) r taken) (sym filled) took
+
+pub none_ahead : (text : List ℕ) (o : Option (List ℕ)) → text ≡ [] → prepend_known text o ≡ o
+none_ahead text None none = refl
+none_ahead text (Some x) none = ap (λ (t : List ℕ). Some (t ++ x)) none
+
+pub known_refilled : (known o n : Option (List ℕ)) (text bytes : List ℕ) → Consumes known o bytes → Consumes o n text → Consumes known (prepend_known text n) bytes
+known_refilled None o n text bytes read filled = tt
+known_refilled (Some x) None n text bytes read filled = absurd read
+known_refilled (Some x) (Some y) None text bytes read filled = absurd filled
+known_refilled (Some x) (Some y) (Some z) text bytes read filled = read ∙ ap (λ (t : List ℕ). bytes ++ t) filled
+
+-- the lines after the next one were read ahead, or some were before
+pub filled_on : (text new : List ℕ) (o n : Option (List ℕ)) → text ≡ [] → Consumes o n new → IsReadOn (prepend_known text o) (prepend_known new n)
+filled_on text new o n none filled = record {
+  after = λ known bytes read. known_refilled known o n new bytes (subst (λ (p : Option (List ℕ)). Consumes known p bytes) (none_ahead text o none) read) filled;
+  before = λ rest bytes read. subst (λ (p : Option (List ℕ)). Consumes p rest bytes) (sym (none_ahead text o none)) (refilled o n rest new bytes filled read);
+}
+
+pub same_on : (o : Option (List ℕ)) → IsReadOn o o
+same_on o = record { after = λ known bytes read. read; before = λ rest bytes read. read }
+
+module _ (types : List BlockType) (first : Marks) (sys : System) (form : Form) (only : List Name) (steps : ℕ) where
+  -- what is left to go through may be read ahead
+  pub reread_on :
+      (w : Walk) (known r s old mid : Option (List ℕ)) → ((bytes : List ℕ) → Consumes known r bytes → Consumes known s bytes)
+      → (covered : HasCovered types first sys form only steps w known r old mid) (t : ℕ) → last_tick 0 covered.gone.gone.lines ≤ t
+      → (c : HasCovered types first sys form only steps w known s old mid) × (last_tick 0 c.gone.gone.lines ≤ t)
+  reread_on w known r s old mid on covered t later =
+      let gone = covered.gone.gone in (
+        record {
+          gone = record {
+            turns = covered.gone.turns;
+            goes_on = covered.gone.goes_on;
+            chain = covered.gone.chain;
+            look = covered.gone.look;
+            gone = record {
+              taken = gone.taken;
+              shown = gone.shown;
+              lines = gone.lines;
+              lines_are = gone.lines_are;
+              are = gone.are;
+              read = on _ gone.read;
+              sent = gone.sent;
+              got = gone.got;
+              text = gone.text;
+            };
+            next = covered.gone.next;
+          };
+          marked = covered.marked;
+        },
+        later,
+      )
+
+  -- what is known of a walk does not depend on what the next line is
+  pub bad_on :
+      (w : Walk) (bad : Next) (known r old mid : Option (List ℕ)) → bad ≡ next.Bad → (covered : HasCovered types first sys form only steps w known r old mid) (t : ℕ)
+      → last_tick 0 covered.gone.gone.lines ≤ t
+      → (c : HasCovered types first sys form only steps (record w { trail = record (w.trail) { reading = record (w.trail.reading) { next = bad } } }) known r old mid)
+      × (last_tick 0 c.gone.gone.lines ≤ t)
+  bad_on w bad known r old mid is covered t later =
+      let gone = covered.gone.gone in (
+        record {
+          gone = record {
+            turns = covered.gone.turns;
+            goes_on = covered.gone.goes_on;
+            chain = covered.gone.chain;
+            look = covered.gone.look;
+            gone = record {
+              taken = gone.taken;
+              shown = gone.shown;
+              lines = gone.lines;
+              lines_are = gone.lines_are;
+              are = gone.are;
+              read = gone.read;
+              sent = gone.sent;
+              got = gone.got;
+              text = gone.text;
+            };
+            next = subst (λ (n : Next). IsNext sys form (last_tick 0 gone.lines) w.trail.reading.line.items n) (sym is) tt;
+          };
+          marked = covered.marked;
+        },
+        later,
+      )
+
+  pub complete_bad :
+      (w : Walk) (bad : Next) (end : Outcome) (known r old mid : Option (List ℕ)) → IsComplete types first sys form only steps w end known r old mid
+      → IsComplete types first sys form only steps (record w { trail = record (w.trail) { reading = record (w.trail.reading) { next = bad } } }) end known r old mid
+  complete_bad w bad end known r old mid complete =
+      let gone = complete.gone in
+      record {
+        turns = complete.turns;
+        gone = record {
+          taken = gone.taken;
+          shown = gone.shown;
+          lines = gone.lines;
+          lines_are = gone.lines_are;
+          are = gone.are;
+          read = gone.read;
+          sent = gone.sent;
+          got = gone.got;
+          text = gone.text;
+        };
+        ends = complete.ends;
+        last = complete.last;
+        after = complete.after;
+        marked = complete.marked;
+      }
+
+  module _ (w : Walk) (input remaining old mid : Option (List ℕ)) (covered : HasCovered types first sys form only steps w input remaining old mid) where
+    abbrev seen_last : Look
+    seen_last = last_look (opening_look sys) covered.gone.turns
+
+    -- the last line comes where no taking stopped its resource
+    pub ended_here :
+        (end : Outcome) → IsNext sys form (last_tick 0 covered.gone.gone.lines) w.trail.reading.line.items (next.End end) → MayEnd steps seen_last (ending_of end)
+        → IsComplete types first sys form only steps w end input remaining old mid
+    ended_here end here may = record {
+      turns = covered.gone.turns;
+      gone = covered.gone.gone;
+      ends = by end may;
+      last = here.0;
+      after = here.1;
+      marked = covered.marked;
+    }
+      where
+        out_of_steps : (t r : ℕ) → left_at most t (seen_last.steps r) + steps ≡ most → EndsBySteps sys steps t r covered.gone.turns
+        out_of_steps t r used = record {
+          limited_so = record {
+            before = covered.gone.turns;
+            last = [];
+            parts = sym (append-nil covered.gone.turns);
+            chain = covered.gone.chain;
+            goes_on = covered.gone.goes_on;
+            one = tt;
+            within = omega (arith, used);
+            judged = tt;
+          };
+          runs_out = ap (left_at steps t) (left_with steps t r seen_last) ∙ left_here steps t ((left_at most t (seen_last.steps r) + steps) - most) ∙ omega (arith, used);
+        }
+
+        by_reason : (m : StopMark) (r : Reason) → MayEnd steps seen_last (AtStop m.tick m.resource r) → EndsSo sys steps covered.gone.turns (AtStop m.tick m.resource r)
+        by_reason m Steps may = out_of_steps m.tick m.resource may
+        by_reason m Divide may = absurd may
+        by_reason m Range may = absurd may
+
+        by : (e : Outcome) → MayEnd steps seen_last (ending_of e) → EndsSo sys steps covered.gone.turns (ending_of e)
+        by (End h) may = (covered.gone.chain, covered.gone.goes_on)
+        by (Stop m) may = by_reason m m.reason may
+
+    module _ (line : Line) (later : last_tick 0 covered.gone.gone.lines ≤ line.key.tick) (is : IsTextOf sys form line w.trail.reading.line.items) where
+      within : line.instance < length sys.paths
+      within = is.line.belongs.instance
+
+      module _ (done : Walk) (stop : Option Reason) (rest : Option (List ℕ)) (goes : TurnGoes types sys form most seen_last line stop w done remaining rest)
+          (next_is : IsNext sys form line.key.tick done.trail.reading.line.items done.trail.reading.next) where
+        chained : AreTurns sys most (opening_look sys) (covered.gone.turns ++ goes.turn ∷ [])
+        chained = chain_more sys most (opening_look sys) covered.gone.turns goes.turn covered.gone.chain covered.gone.goes_on goes.turns
+
+        more : IsGone sys form only steps done (covered.gone.turns ++ goes.turn ∷ []) input rest old mid
+        more = gone_more sys form only steps types w done covered.gone.turns line stop input remaining rest old mid covered.gone.gone later within most seen_last goes (inl chained)
+
+        tick_is : last_tick 0 (covered.gone.gone.lines ++ goes.lines) ≡ line.key.tick
+        tick_is = last_is sys form only steps types w done covered.gone.turns line stop input remaining rest old mid covered.gone.gone later within most seen_last goes (inl chained)
+
+        marks_are : AreMarked types sys (covered.gone.turns ++ goes.turn ∷ []) (covered.gone.gone.lines ++ goes.lines) first done.trail.marks
+        marks_are = more_marked sys form only steps types w done covered.gone.turns line stop input remaining rest old mid covered.gone.gone later within most seen_last goes (inl chained) first covered.marked
+
+        -- one more event is taken
+        pub taken_on : stop ≡ None → HasCovered types first sys form only steps done input rest old mid
+        unfolding more gone_more
+        taken_on goes_on = record {
+          gone = record {
+            turns = covered.gone.turns ++ goes.turn ∷ [];
+            goes_on = none_more covered.gone.turns goes.turn covered.gone.goes_on (goes.stop_is ∙ goes_on);
+            chain = chained;
+            look = subst (λ (k : Look). IsLookOf sys done.blocks.items done.steps.items k) (sym (look_more (opening_look sys) covered.gone.turns goes.turn)) goes.look_after;
+            gone = more;
+            next = subst (λ (t : ℕ). IsNext sys form t done.trail.reading.line.items done.trail.reading.next) (sym tick_is) next_is;
+          };
+          marked = marks_are;
+        }
+
+        -- .. and a reason other than the steps stops its resource
+        pub stopped_on :
+            (r : Reason) → stop ≡ Some r → (r ≡ Steps → ⊥) → done.trail.reading.next ≡ next.End (Stop (record { tick = line.key.tick; resource = line.key.resource; reason = r }))
+            → IsComplete types first sys form only steps done (Stop (record { tick = line.key.tick; resource = line.key.resource; reason = r })) input rest old mid
+        unfolding more gone_more
+        stopped_on r stops other last =
+            let mark : Outcome = Stop (record { tick = line.key.tick; resource = line.key.resource; reason = r }) in
+            let here = subst (λ (n : Next). IsNext sys form line.key.tick done.trail.reading.line.items n) last next_is in
+            let it = covered.gone.turns ++ goes.turn ∷ [] in
+            let ended : stop_of it ≡ Some (AtStop line.key.tick line.key.resource r) =
+            stop_more covered.gone.turns goes.turn ∙ ap (stop_by goes.turn) (goes.stop_is ∙ stops)
+            ∙ ap (λ (k : Key). Some (AtStop k.tick k.resource r)) (ap (λ (m : model.Line). m.key) goes.first_is) in
+            record {
+              turns = it;
+              gone = more;
+              ends = by_stop r other (chained, ended);
+              last = here.0;
+              after = subst (λ (t : ℕ). IsAfter t mark) (sym tick_is) here.1;
+              marked = marks_are;
+            }
+          where
+            by_stop :
+                (r : Reason) → (r ≡ Steps → ⊥) → EndsByStop sys (covered.gone.turns ++ goes.turn ∷ []) (AtStop line.key.tick line.key.resource r)
+                → EndsSo sys steps (covered.gone.turns ++ goes.turn ∷ []) (AtStop line.key.tick line.key.resource r)
+            by_stop Steps other ends = absurd (other refl)
+            by_stop Divide other ends = ends
+            by_stop Range other ends = ends
+
+      -- one more event is taken, and its resource runs out of these steps
+      pub ran_out_on :
+          (done : Walk) (stop : Option Reason) (rest : Option (List ℕ)) (goes : TurnGoes types sys form steps (limited steps line.key.tick line.key.resource seen_last) line stop w done remaining rest)
+          → KeepsLimit steps line.key.tick line.key.resource seen_last → (stop ≡ Some Steps) ⊎ ((stop ≡ None) × (left_at steps line.key.tick (goes.turn.after.steps line.key.resource) ≡ 0))
+          → IsNext sys form line.key.tick done.trail.reading.line.items done.trail.reading.next
+          → done.trail.reading.next ≡ next.End (Stop (record { tick = line.key.tick; resource = line.key.resource; reason = Steps }))
+          → IsComplete types first sys form only steps done (Stop (record { tick = line.key.tick; resource = line.key.resource; reason = Steps })) input rest old mid
+      unfolding gone_more
+      ran_out_on done stop rest goes within_limit out next_is last =
+          let mark : Outcome = Stop (record { tick = line.key.tick; resource = line.key.resource; reason = Steps }) in
+          let here = subst (λ (n : Next). IsNext sys form line.key.tick done.trail.reading.line.items n) last next_is in
+          let key_is : goes.turn.first.key ≡ line.key = ap (λ (m : model.Line). m.key) goes.first_is in
+          let so : AreLimited sys steps line.key.tick line.key.resource (covered.gone.turns ++ goes.turn ∷ []) = record {
+            before = covered.gone.turns;
+            last = goes.turn ∷ [];
+            parts = refl;
+            chain = covered.gone.chain;
+            goes_on = covered.gone.goes_on;
+            one = (ap (λ (k : Key). k.tick) key_is, ap (λ (k : Key). k.resource) key_is);
+            within = within_limit;
+            judged = (goes.turns, nothing goes.turn.stop, tt);
+          } in
+          let taken : AreTaken sys steps (covered.gone.turns ++ goes.turn ∷ []) = inr (line.key.tick, line.key.resource, so) in
+          let look : Look = limited steps line.key.tick line.key.resource seen_last in
+          record {
+            turns = covered.gone.turns ++ goes.turn ∷ [];
+            gone = gone_more sys form only steps types w done covered.gone.turns line stop input remaining rest old mid covered.gone.gone later within steps look goes taken;
+            ends = record { limited_so = so; runs_out = out_by out };
+            last = here.0;
+            after = subst (λ (t : ℕ). IsAfter t mark)
+                (sym (last_is sys form only steps types w done covered.gone.turns line stop input remaining rest old mid covered.gone.gone later within steps look goes taken)) here.1;
+            marked = more_marked sys form only steps types w done covered.gone.turns line stop input remaining rest old mid covered.gone.gone later within steps look goes taken first covered.marked;
+          }
+        where
+          out_by :
+              (stop ≡ Some Steps) ⊎ ((stop ≡ None) × (left_at steps line.key.tick (goes.turn.after.steps line.key.resource) ≡ 0))
+              → (goes.turn.stop ≡ Some Steps) ⊎ ((goes.turn.stop ≡ None) × (left_at steps line.key.tick (goes.turn.after.steps line.key.resource) ≡ 0))
+          out_by (inl stopped) = inl (goes.stop_is ∙ stopped)
+          out_by (inr (on, used)) = inr (goes.stop_is ∙ on, used)
+
+      -- the same of what a taking does whatever the blocks remember
+      pub free_on :
+          (limit : ℕ) (done : Walk) (stop : Option Reason) (rest : Option (List ℕ)) → limit ≡ most
+          → ((look : Look) → IsLookOf sys w.blocks.items w.steps.items look → TurnGoes types sys form limit look line stop w done remaining rest)
+          → IsNext sys form line.key.tick done.trail.reading.line.items done.trail.reading.next → stop ≡ None → HasCovered types first sys form only steps done input rest old mid
+      free_on limit done stop rest same goes next_is none =
+          taken_on done stop rest (subst (λ (n : ℕ). TurnGoes types sys form n seen_last line stop w done remaining rest) same (goes seen_last covered.gone.look)) next_is none
+
+      pub free_stop :
+          (limit : ℕ) (done : Walk) (stop : Option Reason) (rest : Option (List ℕ)) → limit ≡ most
+          → ((look : Look) → IsLookOf sys w.blocks.items w.steps.items look → TurnGoes types sys form limit look line stop w done remaining rest)
+          → IsNext sys form line.key.tick done.trail.reading.line.items done.trail.reading.next → (r : Reason) → stop ≡ Some r → (r ≡ Steps → ⊥)
+          → done.trail.reading.next ≡ next.End (Stop (record { tick = line.key.tick; resource = line.key.resource; reason = r }))
+          → IsComplete types first sys form only steps done (Stop (record { tick = line.key.tick; resource = line.key.resource; reason = r })) input rest old mid
+      free_stop limit done stop rest same goes next_is r stops other last =
+          stopped_on done stop rest (subst (λ (n : ℕ). TurnGoes types sys form n seen_last line stop w done remaining rest) same (goes seen_last covered.gone.look)) next_is r stops other last
+
+      pub last_on :
+          (between done : Walk) (stop : Option Reason) (rest : Option (List ℕ)) → between.shown ≡ w.shown → between.trail ≡ w.trail → between.blocks ≡ w.blocks
+          → HasLimited steps line.key w.steps.items between.steps.items
+          → ((look : Look) → IsLookOf sys between.blocks.items between.steps.items look → TurnGoes types sys form steps look line stop between done remaining rest)
+          → ((look : Look) → IsLookOf sys done.blocks.items done.steps.items look → (stop ≡ Some Steps) ⊎ ((stop ≡ None) × (left_at steps line.key.tick (look.steps line.key.resource) ≡ 0)))
+          → IsNext sys form line.key.tick done.trail.reading.line.items done.trail.reading.next
+          → done.trail.reading.next ≡ next.End (Stop (record { tick = line.key.tick; resource = line.key.resource; reason = Steps }))
+          → IsComplete types first sys form only steps done (Stop (record { tick = line.key.tick; resource = line.key.resource; reason = Steps })) input rest old mid
+      last_on between done stop rest shown_same trail_same blocks_same has goes out next_is last =
+          let look : Look = limited steps line.key.tick line.key.resource seen_last in
+          let is_look : IsLookOf sys between.blocks.items between.steps.items look =
+          subst (λ (b : Vec Remembered). IsLookOf sys b.items between.steps.items look) (sym blocks_same)
+          (look_limited sys steps line.key seen_last w.blocks.items w.steps.items between.steps.items covered.gone.look has) in
+          let own = turn_from types sys form steps look line stop w between done remaining rest shown_same trail_same (goes look is_look) in
+          ran_out_on done stop rest own
+          (subst (λ (l : Left). most ≤ left_at most line.key.tick l + steps) (sym (covered.gone.look.lefts line.key.resource has.before has.stood)) has.within)
+          (out own.turn.after own.look_after) next_is last
+
+      -- the trace is cut off in the lines after it
+      pub severed_on :
+          (done : Walk) (text : List ℕ) → AreCutOff sys form line text remaining → done.trail.marks ≡ w.trail.marks
+          → done.trail.page.text.items ≡ w.trail.page.text.items ++ shown_text (flag_at w.shown.items line.instance) (w.trail.reading.line.items ++ text)
+          → IsSevered types first sys form only done input old mid
+      severed_on done text off marks_same put =
+          let gone = covered.gone.gone in
+          let all : List Line = line ∷ off.rows in
+          let L : List ℕ = lines_text form sys (map (line_of sys) gone.lines) in
+          let flag : Bool = flag_at w.shown.items line.instance in
+          let own : w.trail.reading.line.items ++ text ≡ lines_text form sys (map (line_of sys) all) =
+          ap (λ (t : List ℕ). t ++ text) is.is ∙ ap (λ (t : List ℕ). line_text form sys (line_of sys line) ++ t) off.is in
+          let whole : lines_text form sys (map (line_of sys) (gone.lines ++ all)) ≡ L ++ (w.trail.reading.line.items ++ text) =
+          ap (lines_text form sys) (map-append (line_of sys) gone.lines all) ∙ lines-append form sys (map (line_of sys) gone.lines) (map (line_of sys) all)
+          ∙ ap (λ (t : List ℕ). L ++ t) (sym own) in
+          record {
+            turns = covered.gone.turns;
+            goes_on = covered.gone.goes_on;
+            chain = covered.gone.chain;
+            lines = gone.lines;
+            lines_are = gone.lines_are;
+            untaken = all;
+            of_one = off.each;
+            are = record {
+              each = All-append (IsLineOf sys) gone.lines all gone.are.each (each_of sys line.key.tick all (here off));
+              rise = rise_more sys line.key.tick 0 gone.lines all gone.are.rise later (here off);
+            };
+            rest = after input remaining off gone.read whole;
+            sent = gone.sent;
+            got = gone.got;
+            text = ap (λ (t : List ℕ). gone.sent ++ t) put
+                ∙ sym (append_assoc gone.sent w.trail.page.text.items (shown_text flag (w.trail.reading.line.items ++ text)))
+                ∙ ap (λ (t : List ℕ). t ++ shown_text flag (w.trail.reading.line.items ++ text)) gone.text
+                ∙ ap (λ (t : List ℕ). all_text form sys only covered.gone.turns ++ shown_text flag t) own
+                ∙ ap (λ (t : List ℕ). all_text form sys only covered.gone.turns ++ t)
+                (shown_if (is_kept only (path_at sys line.instance)) flag (lines_text form sys (map (line_of sys) all)) (gone.shown line.instance within));
+            marked = subst (AreMarked types sys covered.gone.turns gone.lines first) (sym marks_same) covered.marked;
+          }
+        where
+          here : (off : AreCutOff sys form line text remaining) → All (IsLineAt sys line.key.tick) (line ∷ off.rows)
+          here off =
+              All-cons (IsLineAt sys line.key.tick) line off.rows (record { line = is.line; tick_is = refl })
+              (λ n d h. record { line = (off.each n d h).line; tick_is = (off.each n d h).tick })
+
+          regroup : (a b c d : List ℕ) → (a ++ b) ++ (c ++ d) ≡ (a ++ (b ++ c)) ++ d
+          regroup a b c d = append_assoc a b (c ++ d) ∙ ap (λ (u : List ℕ). a ++ u) (sym (append_assoc b c d)) ∙ sym (append_assoc a (b ++ c) d)
+
+          after :
+              (known o : Option (List ℕ)) (off : AreCutOff sys form line text o) → Consumes known o (lines_text form sys (map (line_of sys) covered.gone.gone.lines) ++ w.trail.reading.line.items)
+              → lines_text form sys (map (line_of sys) (covered.gone.gone.lines ++ (line ∷ off.rows))) ≡ lines_text form sys (map (line_of sys) covered.gone.gone.lines) ++ (w.trail.reading.line.items ++ text)
+              → IfSome known (λ t. IsCutAfter t (lines_text form sys (map (line_of sys) (covered.gone.gone.lines ++ (line ∷ off.rows)))))
+          after None o off read whole = tt
+          after (Some t) None off read whole = absurd read
+          after (Some t) (Some s) off read whole = record {
+            part = off.rest.part;
+            unended = off.rest.unended;
+            is = read ∙ ap (λ (u : List ℕ). (lines_text form sys (map (line_of sys) covered.gone.gone.lines) ++ w.trail.reading.line.items) ++ u) off.rest.is
+                ∙ regroup (lines_text form sys (map (line_of sys) covered.gone.gone.lines)) w.trail.reading.line.items text off.rest.part
+                ∙ ap (λ (u : List ℕ). u ++ off.rest.part) (sym whole);
+          }

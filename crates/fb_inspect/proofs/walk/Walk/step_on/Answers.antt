@@ -1,0 +1,61 @@
+use Rattle.std.proofs.Common.{List, ℕ, Option, subst}
+use Rattle.std.specs.Io.KnownBytes.{Consumes}
+use Rattle.fb_types.specs.Headline.{system_of}
+use Rattle.fb_inspect.specs.Inspections.{most}
+use Rattle.fb_inspect.specs.Walking.{unread}
+use Rattle.fb_inspect.proofs.Placed.{ok_then}
+use Rattle.fb_inspect.proofs.Stepped.{none_ahead, reread_on, severed_on, turn_reread}
+use Rattle.fb_inspect.proofs.walk.Walk.step_on.Goals as goal
+
+pub returns-then-is_cut-clause-goes : goal.returns-then-is_cut-clause-goes
+returns-then-is_cut-clause-goes g c = λ first only known old new covered later.
+    let fixed = c.args.fixed.now in
+    let types = fixed.table.now.system.now.library.blocks in
+    let sys = system_of fixed.table.now.system.now in
+    let o = g.R.Read.remaining c.args.input.now in
+    let off = c.in_ok-is_cut.ensures.cut c.if-is_cut.true in
+    let on : (bytes : List ℕ) → Consumes known (unread c.args.ahead.now o) bytes → Consumes known o bytes =
+    λ bytes read. subst (λ (p : Option (List ℕ)). Consumes known p bytes) (none_ahead c.args.ahead.now.text.items o off.1) read in
+    let again = reread_on types first sys fixed.form only c.args.terms.steps c.args.self.now known (unread c.args.ahead.now o) o old new on covered c.args.line.now.key.tick later in
+    severed_on types first sys fixed.form only c.args.terms.steps c.args.self.now known o old new again.0 c.args.line.now again.1 c.requires.is c.put_untaken.new.self c.look.new.self.text.items off.2
+    c.put_untaken.ensures.marks c.in_ok-put_untaken.ensures.text
+
+pub returns-then-is_near-clause-goes : goal.returns-then-is_near-clause-goes
+returns-then-is_near-clause-goes g c = λ first only known old new covered later.
+    let fixed = c.args.fixed.now in
+    let types = fixed.table.now.system.now.library.blocks in
+    let sys = system_of fixed.table.now.system.now in
+    let o = unread c.args.ahead.now (g.R.Read.remaining c.args.input.now) in
+    let n = g.R.Read.remaining c.look.new.input in
+    let again = reread_on types first sys fixed.form only c.args.terms.steps c.args.self.now known o (unread c.look.new.self n) old new
+    ((c.in_ok-is_cut.ensures.whole c.if-is_cut.false).after known) covered c.args.line.now.key.tick later in
+    c.take_last.ensures.goes first only known n old new again.0 again.1
+
+pub returns-then-is_near-clause-cut : goal.returns-then-is_near-clause-cut
+returns-then-is_near-clause-cut g c = ok_then c.take_last.result _ _ c.take_last.ensures.whole (λ step never same. absurd (never same))
+
+pub returns-clause-goes : goal.returns-clause-goes
+returns-clause-goes g c = λ first only known old new covered later.
+    let fixed = c.args.fixed.now in
+    let types = fixed.table.now.system.now.library.blocks in
+    let sys = system_of fixed.table.now.system.now in
+    let o = unread c.args.ahead.now (g.R.Read.remaining c.args.input.now) in
+    let n = g.R.Read.remaining c.look.new.input in
+    let again = reread_on types first sys fixed.form only c.args.terms.steps c.args.self.now known o (unread c.look.new.self n) old new
+    ((c.in_ok-is_cut.ensures.whole c.if-is_cut.false).after known) covered c.args.line.now.key.tick later in
+    c.take_freely.ensures.goes first only c.args.terms.steps known n old new again.0 again.1
+
+pub returns-clause-turned : goal.returns-clause-turned
+returns-clause-turned g c = λ look is.
+    let fixed = c.args.fixed.now in
+    let types = fixed.table.now.system.now.library.blocks in
+    let sys = system_of fixed.table.now.system.now in
+    let n = g.R.Read.remaining c.look.new.input in
+    let after = unread c.take_freely.new.ahead n in
+    ok_then c.take_freely.result _ _ (c.take_freely.ensures.turned look n is)
+    (λ step turned same.
+    turn_reread types sys fixed.form most look c.args.line.now _ c.args.self.now c.take_freely.new.self (unread c.args.ahead.now (g.R.Read.remaining c.args.input.now))
+    (unread c.look.new.self n) after ((c.in_ok-is_cut.ensures.whole c.if-is_cut.false).before after) (turned same))
+
+pub returns-clause-cut : goal.returns-clause-cut
+returns-clause-cut g c = ok_then c.take_freely.result _ _ c.take_freely.ensures.whole (λ step never same. absurd (never same))

@@ -1,0 +1,145 @@
+//! Lines that are read ahead.
+
+ghost use Rattle.std.specs.Prelude.{◌≡◌, [], IfOk, IsTrue, OnOk, true, false};
+ghost use Rattle.std.specs.Io.KnownBytes.{Consumes};
+ghost use Rattle.fb_types.specs.Headline.{system_of};
+ghost use Rattle.fb_wave.specs.Tables.{IsTable};
+ghost use Rattle.fb_inspect.specs.Walking.{AreCutOff, AreGathered, IsOwnNext, IsReadOn, unread};
+
+use crate::error::InspectError;
+use crate::reading::{Next, judged};
+use crate::trail::Fixed;
+use fb_types::Line;
+use fb_wave::truncation::is_unended;
+use fb_wave::{Cut, Guess, PortTable, next_line};
+use std::alloc::{AllocError, Global};
+use std::io::BufRead;
+
+/// The lines after that of an event: those of emissions of its block in its tick, and the line after them. They are read
+/// before the event is taken, since that last line decides whether the trace ends with it.
+#[derive(Drop)]
+pub struct Ahead {
+    /// The lines that were not gone through yet.
+    pub text: Vec<u8>,
+    /// The last line that was read.
+    pub last: Vec<u8>,
+    guess: Guess,
+}
+
+/// Whether a line is one of an emission of the block of another line, in its tick.
+fn is_own(next: &Next, first: &Line) -> bool
+    ensures { IsTrue result → IsOwnNext next.now first.now }
+{
+    match next {
+        Next::Event(line) => {
+            !line.taken && line.instance == first.instance && line.key.tick == first.key.tick
+        }
+        Next::End(_) | Next::Bad => false,
+    }
+}
+
+impl Ahead {
+    /// Nothing was read ahead yet.
+    ///
+    /// # Errors
+    /// When memory runs out.
+    pub fn new(alloc: Global, table: &PortTable<'_>) -> Result<Ahead, AllocError>
+        requires { IsTable table.now }
+        ensures { IfOk result (λ ahead. ahead.text.items ≡ []) }
+    {
+        Ok(Ahead {
+            text: Vec::new(alloc),
+            last: Vec::new(alloc),
+            guess: Guess::new(alloc, table)?,
+        })
+    }
+
+    /// Reads the lines after that of an event. The last of them is not added to the text.
+    fn gather<R: BufRead>(
+        &mut self,
+        fixed: &Fixed<'_, '_>,
+        first: &Line,
+        input: &mut R,
+    ) -> Result<(), InspectError>
+        requires { IsTable fixed.now.table.now }
+        ensures { OnOk result (AreGathered (system_of fixed.now.table.now.system.now) fixed.now.form first.now self.new.text.items self.new.last.items (R.remaining input.old) (R.remaining input.new)) }
+    {
+        self.text.clear();
+        for _ in 0..u64::MAX {
+            next_line(input, &mut self.last)?;
+            let line = self.last.as_slice();
+            let tick = first.key.tick;
+            let next = judged(
+                fixed.alloc,
+                fixed.table,
+                &mut self.guess,
+                fixed.form,
+                tick,
+                line,
+            )?;
+            if !is_own(&next, first) {
+                return Ok(());
+            }
+            self.text.extend_from_slice(line)?;
+        }
+        Err(InspectError::Read)
+    }
+
+    /// Reads the lines after that of an event. Answers whether the trace is cut off in them, if it may be: then the part of
+    /// a line is not added to the text.
+    fn fill<R: BufRead>(
+        &mut self,
+        fixed: &Fixed<'_, '_>,
+        cut: Cut,
+        first: &Line,
+        input: &mut R,
+    ) -> Result<bool, InspectError>
+        requires { IsTable fixed.now.table.now }
+        ensures whole { IfOk result (λ is_cut. is_cut ≡ false → Consumes (R.remaining input.old) (R.remaining input.new) self.new.text.items) }
+        ensures cut { IfOk result (λ is_cut. is_cut ≡ true → (cut ≡ Cut.Allowed) × AreCutOff (system_of fixed.now.table.now.system.now) fixed.now.form first.now self.new.text.items (R.remaining input.old)) }
+    {
+        self.gather(fixed, first, input)?;
+        if cut == Cut::Allowed && is_unended(self.last.as_slice()) {
+            return Ok(true);
+        }
+        self.text.extend_from_slice(self.last.as_slice())?;
+        Ok(false)
+    }
+
+    /// Whether all lines that were read ahead were gone through.
+    fn is_passed(&self) -> bool
+        ensures { IsTrue result → self.now.text.items ≡ [] }
+    {
+        match self.text.as_slice() {
+            [] => true,
+            [_, ..] => false,
+        }
+    }
+
+    /// Reads the lines after that of an event, where all lines that were read ahead were gone through. Answers whether the
+    /// trace is cut off in them, if it may be.
+    pub(crate) fn look<R: BufRead>(
+        &mut self,
+        fixed: &Fixed<'_, '_>,
+        cut: Cut,
+        first: &Line,
+        input: &mut R,
+    ) -> Result<bool, InspectError>
+        requires { IsTable fixed.now.table.now }
+        ensures whole { IfOk result (λ is_cut. is_cut ≡ false → IsReadOn (unread self.old (R.remaining input.old)) (unread self.new (R.remaining input.new))) }
+        ensures cut { IfOk result (λ is_cut. is_cut ≡ true → (cut ≡ Cut.Allowed) × (self.old.text.items ≡ []) × AreCutOff (system_of fixed.now.table.now.system.now) fixed.now.form first.now self.new.text.items (R.remaining input.old)) }
+    {
+        if !self.is_passed() {
+            return Ok(false);
+        }
+        self.fill(fixed, cut, first, input)
+    }
+
+    /// Keeps what was not gone through of the text: the rest.
+    pub(crate) fn keep(&mut self, rest: Vec<u8>) -> Result<(), AllocError>
+        ensures { OnOk result (self.new.text.items ≡ rest.items) }
+    {
+        self.text.clear();
+        self.text.extend_from_slice(rest.as_slice())
+    }
+}

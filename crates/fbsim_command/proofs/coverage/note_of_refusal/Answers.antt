@@ -1,0 +1,9 @@
+use Rattle.std.proofs.Common.{◌≡◌, rules, string_bytes}
+use Rattle.fbsim_command.specs.Covering.{note_front}
+use Rattle.fbsim_command.proofs.Gleaning.{trace-noted}
+use Rattle.fbsim_command.proofs.coverage.note_of_refusal.Goals as goal
+
+pub returns : goal.returns
+returns c =
+    let front : c.as_str.result.now ≡ note_front c.are_several.result c.args.name.now = search rules in
+    trace-noted string_bytes c.args.coverage.now c.are_several.result c.as_str.result.now c.args.name.now c.args.line c.note_of_inside.result c.are_several.ensures front c.note_of_inside.ensures

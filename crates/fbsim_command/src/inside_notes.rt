@@ -1,0 +1,75 @@
+//! What is reported after the refusal of a trace that is gone through: what is wrong with the line.
+
+ghost use Rattle.std.specs.Prelude.{◌≡◌, ◌++◌, IfSome, IsTrue, codes, decimal, option_map, string_bytes};
+ghost use Rattle.fbsim_command.specs.InsideNotes.{IsOpenNote, SaysLine};
+ghost use Rattle.fbsim_command.specs.Notes.{Notes};
+
+use crate::notes::note_of_name;
+use crate::sources::SourceFault;
+use fb_inspect::{RefusedLine, finding_message};
+use fb_system::System;
+use fb_wave_why::{fault_of, line_message};
+use std::alloc::Global;
+
+/// What is wrong with a line at which a trace is refused: as a line of the system, or else as one that the reactions give.
+/// It is empty where that is not known, or without memory for it.
+fn words_of(alloc: Global, system: &System, refused: &RefusedLine) -> String {
+    let words = match fault_of(system, &refused.current) {
+        Some(fault) => line_message(alloc, system, &refused.current, fault),
+        None => finding_message(alloc, system, refused),
+    };
+    match words {
+        Ok(words) => words,
+        Err(_) => String::new(alloc),
+    }
+}
+
+/// The note to the line of this number of a trace, which begins so.
+fn note_with(alloc: Global, front: &str, line: u64, words: &str) -> Option<String>
+    ensures { IfSome result (λ note. string_bytes note ≡ front.now ++ (codes ": line " ++ (decimal line ++ (codes ": " ++ words.now)))) }
+{
+    match format!(in alloc; "{front}: line {line}: {words}") {
+        Ok(note) => Some(note),
+        Err(_) => None,
+    }
+}
+
+/// The note to a line at which a trace is refused, which begins so, if that is asked for. Without memory for it, or where
+/// nothing is known, there is none.
+pub(crate) fn note_of_inside(
+    alloc: Global,
+    why: bool,
+    front: &str,
+    system: &System,
+    line: u64,
+    refused: &RefusedLine,
+) -> Option<String>
+    ensures { IfSome result (λ note. IsTrue why × SaysLine front.now line (string_bytes note)) }
+{
+    if !why {
+        return None;
+    }
+    let words = words_of(alloc, system, refused);
+    if words.is_empty() {
+        return None;
+    }
+    note_with(alloc, front, line, words.as_str())
+}
+
+/// The note to the file of a trace, which is not opened, where one is asked for.
+pub(crate) fn note_of_open(
+    alloc: Global,
+    why: bool,
+    name: &str,
+    fault: SourceFault,
+) -> Option<String>
+    ensures { Notes why (IsOpenNote name.now fault) (option_map string_bytes result) }
+{
+    if !why {
+        return None;
+    }
+    if let SourceFault::Memory = fault {
+        return None;
+    }
+    Some(note_of_name(alloc, "trace", name)?)
+}
