@@ -6,3 +6,6 @@ pub mod Stepping
 pub mod Ending
 pub mod Copying
 pub mod Locating
+pub mod Spending
+pub mod CopiedSlots
+pub mod Insides

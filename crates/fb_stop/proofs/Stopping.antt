@@ -12,6 +12,7 @@ use Rattle.fb_ecc.specs.Links.{Chain}
 use Rattle.fb_ecc.proofs.Actions.{no_next_acts}
 use Rattle.fb_ecc.proofs.Links.{fails, goes_on, stops_in}
 use Rattle.fb_stop.specs.Sites.{ChainStops, Leads, ReactionStops, StopsAfter, StopsAt, StopsThere, entered}
+use Rattle.fb_stop.specs.declared.site.Inside.{Inside}
 use Rattle.fb_stop.specs.declared.site.ReactionStop.{ReactionStop}
 use Rattle.fb_stop.specs.declared.site.Site.{Site}
 use Rattle.fb_stop.specs.declared.site.Site.TheVariants as site
@@ -60,8 +61,8 @@ acts_more t actions j a p m q at before one =
     (acts_append t (take j actions) (a ∷ []) p.left p m q None refl before one)
 
 -- an action that stops is the last one
-stops_all : (t : BasicType) (actions : List Action) (left : ℕ) (p q : Position) (r : Reason) (j : ℕ) → left ≡ p.left → StopsAt t actions left p r j q → Acts t actions left p (Some r) q
-stops_all t actions left p q r j same h =
+stops_all : (t : BasicType) (actions : List Action) (left : ℕ) (p q : Position) (r : Reason) (j : ℕ) (inside : Option Inside) → left ≡ p.left → StopsAt t actions left p r j inside q → Acts t actions left p (Some r) q
+stops_all t actions left p q r j inside same h =
     subst (λ (l : List Action). Acts t l left p (Some r) q) (sym (cut_at actions j h.action h.at))
     (acts_append t (take j actions) (h.action ∷ drop (suc j) actions) left p h.between q (Some r) same h.before
     (no_next_acts t h.action (drop (suc j) actions) h.between q h.between.left r h.stops))
@@ -95,10 +96,10 @@ chain_on t present p m q stop led (n, rest) = (suc n, enters_on t (trial_at t pr
 -- ---- A chain that stops is one of the model
 
 stops_there : (t : BasicType) (present : Option Name) (p q : Position) (r : Reason) (x : Site) → StopsThere t present p r x q → Chain t present p (Some r) q
-stops_there t present p q r (site.Transition s j) h =
+stops_there t present p q r (site.Transition s j operation) h =
     subst (λ (z : Position). Chain t present p (Some r) z) (sym h.stays) (fails t present p q.left r h.tried)
-stops_there t present p q r (site.Action s j) h =
-    stops_in t present p q (state_at t s) h.left r h.clears (stops_all t (actions_of t (state_at t s)) h.left (entered (state_at t s) h.left p) q r j refl h.here)
+stops_there t present p q r (site.Action s j inside) h =
+    stops_in t present p q (state_at t s) h.left r h.clears (stops_all t (actions_of t (state_at t s)) h.left (entered (state_at t s) h.left p) q r j inside refl h.here)
 
 -- one link, and then what is a chain
 leads_into : (t : BasicType) (present : Option Name) (p q : Position) (r : Reason) (x : Site) (n : ℕ) (y : Trial) → trial_at t present p ≡ y

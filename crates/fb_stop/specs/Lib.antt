@@ -4,3 +4,5 @@ pub mod Runs
 pub mod Found
 pub mod Copies
 pub mod Places
+pub mod Spent
+pub mod Shown

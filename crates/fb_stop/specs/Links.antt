@@ -9,6 +9,7 @@ use Rattle.fb_ecc.specs.Indexes.{state_at}
 use Rattle.fb_stop.specs.Sites.{Leads, ReactionStops, StopsAt, StopsThere}
 use Rattle.fb_stop.specs.declared.reaction.LinkEnd.{LinkEnd}
 use Rattle.fb_stop.specs.declared.reaction.LinkEnd.TheVariants.{Went, Rested, Stopped}
+use Rattle.fb_stop.specs.declared.site.Inside.{Inside}
 use Rattle.fb_stop.specs.declared.site.ReactionStop.{ReactionStop}
 use Rattle.fb_stop.specs.declared.site.Site.TheVariants as site
 
@@ -23,7 +24,8 @@ failing_index before after Range = before - after - 1
 abbrev pub HasPerformed : BasicType → (state : ℕ) → LinkEnd → Position → Position → Type 0
 HasPerformed t s Went p q = Acts t (actions_of t (state_at t s)) p.left p None q
 HasPerformed t s Rested p q = ⊥
-HasPerformed t s (Stopped x) p q = (j : ℕ) × (x.site ≡ site.Action s j) × StopsAt t (actions_of t (state_at t s)) p.left p x.reason j q
+HasPerformed t s (Stopped x) p q =
+    (j : ℕ) × (inside : Option Inside) × (x.site ≡ site.Action s j inside) × StopsAt t (actions_of t (state_at t s)) p.left p x.reason j inside q
 
 -- A link led from p to q, or the chain rests, or it stops.
 abbrev pub GoesOn : BasicType → (present : Option Name) → LinkEnd → Position → Position → Type 0

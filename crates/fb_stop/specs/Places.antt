@@ -1,5 +1,5 @@
 -- Where a stop is shown in the declaration (this project's own).
-use Rattle.std.specs.Prelude.{◌≡◌, ◌⊎◌, ℕ, [], ◌∷◌, length, take, true, Option, Some, None, slice_get}
+use Rattle.std.specs.Prelude.{◌≡◌, ℕ, length, take, true, Option, Some, None, slice_get}
 use Rattle.std.specs.List.{filter}
 use Rattle.fb_types.specs.Blocks.{Basic}
 use Rattle.fb_types.specs.Headline.{Inputs, system_of}
@@ -12,16 +12,18 @@ use Rattle.fb_types.specs.declared.library.BlockType.TheVariants as type
 use Rattle.fb_types.specs.declared.library.State.{State}
 use Rattle.fb_types.specs.declared.library.Transition.{Transition}
 use Rattle.fb_types.specs.declared.run.Target.{Target}
-use Rattle.fb_types.specs.declared.text.Stmt.{Stmt}
 use Rattle.fb_ecc.specs.Indexes.{state_at}
 use Rattle.fb_read_positions.specs.declared.position.BasicPart.{BasicPart}
 use Rattle.fb_read_positions.specs.declared.position.BasicPart.TheVariants as part
 use Rattle.fb_read_positions.specs.declared.position.Position.{Position}
 use Rattle.fb_read_positions.specs.declared.position.Position.TheVariants as position
-use Rattle.fb_read_positions.specs.declared.position.TransitionPart.TheVariants.{Condition}
+use Rattle.fb_fault.specs.declared.operation.Operation.{Operation}
+use Rattle.fb_read_positions.specs.declared.position.TransitionPart.{TransitionPart}
+use Rattle.fb_read_positions.specs.declared.position.TransitionPart.TheVariants.{Condition, Guard}
 use Rattle.fb_stop.specs.declared.found.EventSite.TheVariants.{Port}
 use Rattle.fb_stop.specs.declared.found.FoundStop.{FoundStop}
 use Rattle.fb_stop.specs.declared.found.StopSite.TheVariants.{InReaction}
+use Rattle.fb_stop.specs.declared.site.Inside.{Inside}
 use Rattle.fb_stop.specs.declared.site.Site.{Site}
 use Rattle.fb_stop.specs.declared.site.Site.TheVariants as site
 
@@ -32,30 +34,44 @@ pub record IsNth (t : BasicType) (state : Name) (nth index : ℕ) : Type 0 where
   pub leaves : same_name transition.from state ≡ true
   pub before : length (filter (λ x. same_name x.from state) (take index t.transitions)) ≡ nth
 
--- The part is the only statement of the algorithm of this name, or the algorithm.
-pub record IsAlgorithmPart (t : BasicType) (n : Name) (x : BasicPart) : Type 0 where
-  pub index : ℕ
+-- The part is the statement of the algorithm at an index, or the algorithm if no statement is said.
+abbrev pub IsShown : Option Inside → (index : ℕ) → BasicPart → Type 0
+IsShown None index x = x ≡ part.Algorithm index
+IsShown (Some i) index x = x ≡ part.Statement index i.statement
+
+-- the algorithm at the index has this name
+pub record IsAlgorithmAt (t : BasicType) (n : Name) (index : ℕ) : Type 0 where
   pub algorithm : Algorithm
   pub at : slice_get t.algorithms index ≡ Some algorithm
   pub named : same_name n algorithm.name ≡ true
-  pub is : (x ≡ part.Algorithm index) ⊎ ((s : Stmt) × (algorithm.body.statements ≡ s ∷ []) × (x ≡ part.Statement index 0))
+
+-- the part of the algorithm of this name
+pub record IsAlgorithmPart (t : BasicType) (n : Name) (inside : Option Inside) (x : BasicPart) : Type 0 where
+  pub index : ℕ
+  pub there : IsAlgorithmAt t n index
+  pub is : IsShown inside index x
 
 -- .. of the action at an index of a state, or the action, which has no algorithm
-abbrev pub IsPartOf : BasicType → (state index : ℕ) → Option Name → BasicPart → Type 0
-IsPartOf t s j None x = x ≡ part.Action s j
-IsPartOf t s j (Some n) x = IsAlgorithmPart t n x
+abbrev pub IsPartOf : BasicType → (state index : ℕ) → Option Inside → Option Name → BasicPart → Type 0
+IsPartOf t s j inside None x = x ≡ part.Action s j
+IsPartOf t s j inside (Some n) x = IsAlgorithmPart t n inside x
 
-pub record IsActionPart (t : BasicType) (s j : ℕ) (x : BasicPart) : Type 0 where
+pub record IsActionPart (t : BasicType) (s j : ℕ) (inside : Option Inside) (x : BasicPart) : Type 0 where
   pub state : State
   pub there : slice_get t.states s ≡ Some state
   pub action : Action
   pub at : slice_get state.actions j ≡ Some action
-  pub is : IsPartOf t s j action.algorithm x
+  pub is : IsPartOf t s j inside action.algorithm x
 
--- The part of a basic type is the condition of the transition of the site, or the algorithm of its action.
+-- a transition is shown at its guard if an operation of it is said, or else at its condition
+abbrev pub shown_part : Option Operation → TransitionPart
+shown_part None = Condition
+shown_part (Some x) = Guard
+
+-- The part of a basic type is the condition of the transition of the site, or the statement or the algorithm of its action.
 abbrev pub IsSitePart : BasicType → Site → BasicPart → Type 0
-IsSitePart t (site.Transition s j) x = (index : ℕ) × (x ≡ part.Transition index Condition) × IsNth t (state_at t s) j index
-IsSitePart t (site.Action s j) x = IsActionPart t s j x
+IsSitePart t (site.Transition s j operation) x = (index : ℕ) × (x ≡ part.Transition index (shown_part operation)) × IsNth t (state_at t s) j index
+IsSitePart t (site.Action s j inside) x = IsActionPart t s j inside x
 
 -- The position is that of the site in the type of the block at whose port the event arrives.
 pub record IsStopPosition (i : Inputs) (stop : FoundStop) (x : Position) : Type 0 where

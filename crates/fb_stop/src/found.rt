@@ -1,5 +1,8 @@
 //! What is found of a stop.
 
+ghost use Rattle.std.specs.Prelude.{◌≡◌};
+ghost use Rattle.fb_stop.specs.Found.{instance_of};
+
 use crate::site::Site;
 use fb_types::{Key, Reason, Target};
 
@@ -30,4 +33,14 @@ pub struct FoundStop {
     pub at: EventSite,
     pub reason: Reason,
     pub site: StopSite,
+}
+
+/// The number of the instance at which an event arrives.
+pub(crate) fn instance_of(at: EventSite) -> u32
+    ensures { result ≡ instance_of at }
+{
+    match at {
+        EventSite::Timer(instance) => instance,
+        EventSite::Port(target) => target.instance,
+    }
 }

@@ -1,20 +1,19 @@
 //! Where a stop is shown in the declaration.
 
-ghost use Rattle.std.specs.Prelude.{IfSome};
+ghost use Rattle.std.specs.Prelude.{◌≡◌, ◌<◌, IfSome, IsTrue, length};
 ghost use Rattle.fb_types.specs.Headline.{system_of};
-ghost use Rattle.fb_stop.specs.Places.{IsActionPart, IsAlgorithmPart, IsNth, IsSitePart, IsStopPosition};
-ghost use Rattle.fb_types.specs.States.{Event};
-ghost use Rattle.fb_stop.specs.Found.{ArrivesAt};
+ghost use Rattle.fb_stop.specs.Places.{IsActionPart, IsAlgorithmAt, IsAlgorithmPart, IsNth, IsShown, IsSitePart, IsStopPosition, shown_part};
 
 use crate::found::{EventSite, FoundStop, StopSite};
-use crate::site::Site;
+use crate::site::{Inside, Site};
 use fb_check_names::TypeNumber;
+use fb_fault::Operation;
 use fb_read_positions::{BasicPart, Position, TransitionPart};
 use fb_system::System;
 use fb_types::{BasicType, BlockType, Name};
 
 /// The index among all transitions of a type of the one that has an index among those that leave a state.
-pub fn transition_index(block: &BasicType, state: &Name, nth: usize) -> Option<usize>
+pub(crate) fn transition_index(block: &BasicType, state: &Name, nth: usize) -> Option<usize>
     ensures { IfSome result (IsNth block.now state.now nth) }
 {
     let mut left = nth;
@@ -29,28 +28,60 @@ pub fn transition_index(block: &BasicType, state: &Name, nth: usize) -> Option<u
     None
 }
 
-/// The part of a basic type at which an algorithm is shown: the only statement that it has, or else its name.
-fn algorithm_part(block: &BasicType, name: &Name) -> Option<BasicPart>
-    ensures { IfSome result (IsAlgorithmPart block.now name.now) }
+/// The index of the algorithm that has the name.
+fn algorithm_index(block: &BasicType, name: &Name) -> Option<usize>
+    ensures { IfSome result (IsAlgorithmAt block.now name.now) }
 {
     for (index, algorithm) in block.algorithms.as_slice().iter().enumerate() {
         if name.is(&algorithm.name) {
-            return match algorithm.body.statements.as_slice() {
-                [_only] => Some(BasicPart::Statement(index, 0)),
-                _ => Some(BasicPart::Algorithm(index)),
-            };
+            return Some(index);
         }
     }
     None
 }
 
+/// The part of a basic type at which the algorithm at an index is shown: the statement, or else its name.
+fn statement_part(index: usize, inside: Option<Inside>) -> BasicPart
+    ensures { IsShown inside index result }
+{
+    match inside {
+        Some(inside) => BasicPart::Statement(index, inside.statement),
+        None => BasicPart::Algorithm(index),
+    }
+}
+
+/// The same of the algorithm that has the name.
+fn algorithm_part(block: &BasicType, name: &Name, inside: Option<Inside>) -> Option<BasicPart>
+    ensures { IfSome result (IsAlgorithmPart block.now name.now inside) }
+{
+    match algorithm_index(block, name) {
+        Some(index) => Some(statement_part(index, inside)),
+        None => None,
+    }
+}
+
 /// The part of a basic type at which an action is shown: its algorithm, or itself if it has none.
-fn action_part(block: &BasicType, state: usize, index: usize) -> Option<BasicPart>
-    ensures { IfSome result (IsActionPart block.now state index) }
+fn action_part(
+    block: &BasicType,
+    state: usize,
+    index: usize,
+    inside: Option<Inside>,
+) -> Option<BasicPart>
+    ensures { IfSome result (IsActionPart block.now state index inside) }
 {
     match &block.states.get(state)?.actions.get(index)?.algorithm {
-        Some(name) => algorithm_part(block, name),
+        Some(name) => algorithm_part(block, name, inside),
         None => Some(BasicPart::Action(state, index)),
+    }
+}
+
+/// The part of a transition at which it is shown: its guard if an operation of it is said, or else its condition.
+fn condition_part(operation: Option<Operation>) -> TransitionPart
+    ensures { result ≡ shown_part operation }
+{
+    match operation {
+        Some(_) => TransitionPart::Guard,
+        None => TransitionPart::Condition,
     }
 }
 
@@ -59,18 +90,33 @@ fn part_of(block: &BasicType, site: Site) -> Option<BasicPart>
     ensures { IfSome result (IsSitePart block.now site) }
 {
     match site {
-        Site::Transition { state, transition } => {
+        Site::Transition {
+            state,
+            transition,
+            operation,
+        } => {
             let from = &block.states.get(state)?.name;
             let index = transition_index(block, from, transition)?;
-            Some(BasicPart::Transition(index, TransitionPart::Condition))
+            Some(BasicPart::Transition(index, condition_part(operation)))
         }
-        Site::Action { state, action } => action_part(block, state, action),
+        Site::Action {
+            state,
+            action,
+            inside,
+        } => action_part(block, state, action, inside),
     }
 }
 
+/// Whether there is an instance of this number.
+pub(crate) fn has_instance(system: &System, instance: u32) -> bool
+    ensures { IsTrue result → instance < length (system_of system.now).paths }
+{
+    (instance as usize) < system.count()
+}
+
 /// The position of the declaration at which a stop is shown. `None` if the event is not taken: then no text is to blame.
+/// `None` too if the stop is not one of the system.
 pub fn position_of(system: &System, stop: &FoundStop) -> Option<Position>
-    requires { (e : Event) × ArrivesAt (system_of system.now) e stop.now.at }
     ensures { IfSome result (IsStopPosition system.now stop.now) }
 {
     let EventSite::Port(target) = stop.at else {
@@ -79,6 +125,9 @@ pub fn position_of(system: &System, stop: &FoundStop) -> Option<Position>
     let StopSite::InReaction(site) = stop.site else {
         return None;
     };
+    if !has_instance(system, target.instance) {
+        return None;
+    }
     let TypeNumber::Declared(index) = system.kind(target.instance) else {
         return None;
     };

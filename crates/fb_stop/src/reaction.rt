@@ -7,6 +7,7 @@ ghost use Rattle.fb_ecc.specs.Indexes.{IsBlockOf, index, sampled};
 ghost use Rattle.fb_ecc.specs.Sound.{IsSound};
 ghost use Rattle.fb_stop.specs.Links.{GoesOn, HasPerformed, HasReacted, failing_index};
 
+use crate::before::{copy_of, inside_action, inside_guard};
 use crate::site::{ReactionStop, Site};
 use fb_ecc::{BasicState, act, action_count, begin, clear};
 use fb_st::Meter;
@@ -38,12 +39,17 @@ fn perform(
     ensures fewer { meter.new.left ≤ meter.old.left }
 {
     for action in 0..action_count(state) {
+        let mut before = copy_of(emits.allocator(), block, &state.frame)?;
+        let left = meter.left;
         match act(state, block, action, meter, emits) {
             Ok(()) => {}
             Err(Halt::Stop(reason)) => {
+                let at = state.state;
+                let inside = inside_action(block, at, action, &mut before, left, reason);
                 let site = Site::Action {
-                    state: state.state,
+                    state: at,
                     action,
+                    inside,
                 };
                 return Ok(LinkEnd::Stopped(ReactionStop { reason, site }));
             }
@@ -87,9 +93,12 @@ fn link(
         Ok(Some(_)) => perform(state, block, meter, emits),
         Ok(None) => Ok(LinkEnd::Rested),
         Err(reason) => {
+            let transition = failing(before, meter.left, reason) as usize;
+            let operation = inside_guard(block, from, transition, &state.frame, reason);
             let site = Site::Transition {
                 state: from,
-                transition: failing(before, meter.left, reason) as usize,
+                transition,
+                operation,
             };
             Ok(LinkEnd::Stopped(ReactionStop { reason, site }))
         }
@@ -102,7 +111,7 @@ fn link(
 ///
 /// # Errors
 /// When memory runs out.
-pub fn locate(
+pub(crate) fn locate(
     state: &mut BasicState,
     block: &BasicType,
     event: u32,

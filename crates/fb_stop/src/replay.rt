@@ -47,7 +47,7 @@ impl Drop for Replay {
 }
 
 /// Where an event arrives.
-fn site_of(system: &System, event: &Event) -> EventSite
+pub(crate) fn site_of(system: &System, event: &Event) -> EventSite
     requires { (resource : ℕ) × IsEventIn system.now resource event.now }
     ensures { ArrivesAt (system_of system.now) (event_of system.now event.now) result }
 {

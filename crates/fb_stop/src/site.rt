@@ -1,6 +1,17 @@
 //! Where the reaction of a basic block stops.
 
+use fb_fault::{Operation, Placed};
 use fb_types::Reason;
+
+/// The statement of an algorithm at which a reason comes.
+#[derive(Clone, Copy)]
+pub struct Inside {
+    /// The number of the statement. Statements are counted from 0 as they begin in the text, those inside others too. If
+    /// no step is left, this is the innermost loop around the statement, or the statement if it is in none.
+    pub statement: usize,
+    /// The operation that has no value. `None` if the count of steps ran out, or the value does not fit the variable.
+    pub operation: Option<Placed>,
+}
 
 /// What gives the reason for which a reaction stops.
 #[derive(Clone, Copy)]
@@ -11,6 +22,8 @@ pub enum Site {
         state: usize,
         /// Its index among the transitions that leave this state, in the order of the text.
         transition: usize,
+        /// The operation of its guard that has no value, as tokens of the guard. `None` if no step is left.
+        operation: Option<Operation>,
     },
     /// An action: its algorithm stops, or no step is left for it.
     Action {
@@ -18,6 +31,8 @@ pub enum Site {
         state: usize,
         /// Its index among the actions of this state.
         action: usize,
+        /// The statement of its algorithm. `None` if no step is left for the action itself.
+        inside: Option<Inside>,
     },
 }
 

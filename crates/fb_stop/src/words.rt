@@ -1,17 +1,20 @@
 //! The words of a stop.
 
-ghost use Rattle.std.specs.Prelude.{◌≡◌};
+ghost use Rattle.std.specs.Prelude.{◌≡◌, OnOk, length};
 ghost use Rattle.fb_types.specs.Headline.{system_of};
-ghost use Rattle.fb_types.specs.States.{Event};
-ghost use Rattle.fb_stop.specs.Found.{ArrivesAt, instance_of};
 
-use crate::found::{EventSite, FoundStop, StopSite};
-use crate::place::transition_index;
+use crate::found::{FoundStop, StopSite, instance_of};
+use crate::place::{has_instance, transition_index};
+use crate::shown::Shown;
 use crate::site::Site;
+use crate::spent::{most, steps_spent};
 use fb_check_names::TypeNumber;
 use fb_system::System;
-use fb_types::{BasicType, BlockType, Name, Reason, State};
+use fb_types::{BasicType, BlockType, LATEST_TICK, MOST_STEPS, Name, Reason, State};
 use std::alloc::{AllocError, Global};
+
+/// The greatest number of bytes of an operation that are shown.
+const MOST_WRITTEN: usize = 100;
 
 /// Appends words, and a name.
 fn push_named(text: &mut String, words: &str, name: &[u8]) -> Result<(), AllocError> {
@@ -68,13 +71,17 @@ fn push_action(text: &mut String, state: &State, index: usize) -> Result<(), All
 /// Appends the state, and the transition or the action.
 fn push_site(text: &mut String, block: &BasicType, site: Site) -> Result<(), AllocError> {
     match site {
-        Site::Transition { state, transition } => {
+        Site::Transition {
+            state,
+            transition,
+            ..
+        } => {
             if let Some(state) = block.states.get(state) {
                 push_named(text, ", state ", state.name.as_bytes())?;
                 push_transition(text, block, &state.name, transition)?;
             }
         }
-        Site::Action { state, action } => {
+        Site::Action { state, action, .. } => {
             if let Some(state) = block.states.get(state) {
                 push_named(text, ", state ", state.name.as_bytes())?;
                 push_action(text, state, action)?;
@@ -100,35 +107,137 @@ fn push_block(text: &mut String, block: &BlockType, site: StopSite) -> Result<()
     Ok(())
 }
 
-/// The number of the instance at which an event arrives.
-fn instance_of(at: EventSite) -> u32
-    ensures { result ≡ instance_of at }
-{
-    match at {
-        EventSite::Timer(instance) => instance,
-        EventSite::Port(target) => target.instance,
+/// Appends an instance, with its type and where in it the stop is. Nothing is appended for a number that is no instance's.
+fn push_instance(
+    text: &mut String,
+    system: &System,
+    instance: u32,
+    site: StopSite,
+) -> Result<(), AllocError> {
+    if !has_instance(system, instance) {
+        return Ok(());
+    }
+    push_named(text, ": ", system.path(instance))?;
+    if let TypeNumber::Declared(index) = system.kind(instance) {
+        if let Some(block) = system.library().blocks.get(index) {
+            push_block(text, block, site)?;
+        }
+    }
+    Ok(())
+}
+
+/// The bytes of an operation in a text.
+fn written<'a>(text: &'a [u8], shown: Option<Shown>) -> &'a [u8] {
+    match shown {
+        Some(Shown { start, end, .. }) if start <= end && end <= text.len() => &text[start..end],
+        _ => &[],
     }
 }
 
-/// The words of a stop: the block with its type, its state, the transition or the action, and the reason.
+/// What is shown for a byte of an operation.
+fn letter(byte: u8) -> char {
+    if byte.is_ascii_graphic() {
+        char::from(byte)
+    } else {
+        '?'
+    }
+}
+
+/// Appends an operation as it is written, on one line: what is between two tokens is one blank. A long one is cut off.
+fn push_written(text: &mut String, bytes: &[u8]) -> Result<(), AllocError> {
+    let mut is_apart = false;
+    for (index, byte) in bytes.iter().enumerate() {
+        if index == MOST_WRITTEN {
+            return text.push_str(" ..");
+        }
+        if byte.is_ascii_whitespace() {
+            is_apart = true;
+        } else {
+            if is_apart {
+                text.push(' ')?;
+            }
+            is_apart = false;
+            text.push(letter(*byte))?;
+        }
+    }
+    Ok(())
+}
+
+/// The words of a stop: the block with its type, its state, the transition or the action, the operation as it is written in
+/// the text, and the reason.
 ///
 /// # Errors
 /// When memory runs out.
-pub fn words_of(alloc: Global, system: &System, stop: &FoundStop) -> Result<String, AllocError>
-    requires { (e : Event) × ArrivesAt (system_of system.now) e stop.now.at }
-{
-    let instance = instance_of(stop.at);
+pub fn words_of(
+    alloc: Global,
+    system: &System,
+    stop: &FoundStop,
+    declaration: &[u8],
+    shown: Option<Shown>,
+) -> Result<String, AllocError> {
     let mut text = String::new(alloc);
-    push_named(&mut text, "stop: ", system.path(instance))?;
-    if let TypeNumber::Declared(index) = system.kind(instance) {
-        if let Some(block) = system.library().blocks.get(index) {
-            push_block(&mut text, block, stop.site)?;
-        }
-    }
+    text.push_str("stop")?;
+    push_instance(&mut text, system, instance_of(stop.at), stop.site)?;
     if let StopSite::BeforeEvent = stop.site {
         text.push_str(", before its event")?;
     }
     text.push_str(": ")?;
+    let operation = written(declaration, shown);
+    if !operation.is_empty() {
+        push_written(&mut text, operation)?;
+        text.push_str(": ")?;
+    }
     text.push_str(reason_word(stop.reason))?;
+    Ok(text)
+}
+
+/// Appends the line of the instance that used the most steps of a tick, and leaves it out from then on.
+fn push_most(
+    text: &mut String,
+    system: &System,
+    spent: &mut Vec<u64>,
+    limit: u64,
+    tick: u64,
+) -> Result<(), AllocError>
+    requires { length spent.old.items ≡ length (system_of system.now).paths }
+    ensures { OnOk result (length spent.new.items ≡ length spent.old.items) }
+{
+    system.facts();
+    let Some(index) = most(spent.as_slice()) else {
+        return Ok(());
+    };
+    let used = spent[index];
+    write!(text, "\ntick {tick}: {used} of {limit} steps by ")?;
+    push_named(text, "", system.path(index as u32))?;
+    spent[index] = 0;
+    Ok(())
+}
+
+/// Where the count of steps ran out: how they were used in that tick, a line for each of the blocks that used the most, at
+/// most three. Each line begins with a line feed. The text is empty after another stop.
+///
+/// # Errors
+/// When memory runs out, or a link has carried 2^128 messages.
+pub fn spent_words(
+    alloc: Global,
+    system: &System,
+    horizon: u64,
+    limit: u64,
+    stop: &FoundStop,
+) -> Result<String, AllocError> {
+    let mut text = String::new(alloc);
+    if horizon > LATEST_TICK || limit > MOST_STEPS {
+        return Ok(text);
+    }
+    let Reason::Steps = stop.reason else {
+        return Ok(text);
+    };
+    let (tick, resource) = (stop.key.tick, stop.key.resource);
+    let Some(mut spent) = steps_spent(alloc, system, horizon, limit, tick, resource)? else {
+        return Ok(text);
+    };
+    push_most(&mut text, system, &mut spent, limit, tick)?;
+    push_most(&mut text, system, &mut spent, limit, tick)?;
+    push_most(&mut text, system, &mut spent, limit, tick)?;
     Ok(text)
 }

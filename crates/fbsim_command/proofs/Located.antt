@@ -1,5 +1,5 @@
 -- What is reported of a run that stopped.
-use Rattle.std.proofs.Common.{◌≡◌, ◌++◌, ◌∙◌, ◌∷◌, ℕ, Bool, true, List, [], Option, String, refl, sym, ap, subst, append_assoc, append-nil, Ok, Err}
+use Rattle.std.proofs.Common.{◌≡◌, ◌++◌, ◌∙◌, ◌∷◌, ℕ, Bool, true, List, [], Option, String, refl, sym, ap, subst, append_assoc, append-nil, Ok, Err, inr}
 use Rattle.std.specs.Prelude.{IfOk, IfSome, None, Result, Some, string_bytes}
 use Rattle.std.proofs.KnownBytes.{Appends-trans}
 use Rattle.fb_types.specs.Headline.{Inputs}
@@ -11,12 +11,15 @@ use Rattle.fb_sim.specs.Reports.{Hears}
 use Rattle.fb_sim.specs.Serial.{Declares}
 use Rattle.fb_stop.specs.Found.{IsStop}
 use Rattle.fb_stop.specs.Places.{IsStopPosition}
+use Rattle.fb_stop.specs.Shown.{IsStopShown}
 use Rattle.fb_stop.specs.declared.found.FoundStop.{FoundStop}
+use Rattle.fb_stop.specs.declared.shown.Shown.{Shown}
 use Rattle.fb_why.specs.Places.{IsPlaceAt}
+use Rattle.fb_why_bytes.specs.Locations.{IsLocation, IsStretch}
 use Rattle.fb_why_bytes.specs.declared.text_locations.TextLocation.{TextLocation}
 use Rattle.fbsim_command.specs.Outcomes.{Held}
 use Rattle.fbsim_command.specs.OwnLines.{IsPlaced}
-use Rattle.fbsim_command.specs.Stops.{IsNoteOfRun, IsNoteOfStop, IsStopNote, IsStopPlace}
+use Rattle.fbsim_command.specs.Stops.{IsNoteOfRun, IsNoteOfStop, IsOperatorPlace, IsStopNote, IsStopPlace}
 
 -- one report after another, of which all was taken
 pub hears_after : (old mid new : Held) (first report : List ℕ) (heard : Bool) → Hears true old mid first → Hears heard mid new report → Hears heard old new (first ++ report)
@@ -47,8 +50,14 @@ hears_no_more old new first heard h = subst (λ (t : List ℕ). Hears heard old 
 pub placed : (text : Text) (i : Inputs) (stop : FoundStop) (p : Position) (library : Library) {E : Type 0} (r : Result (Option TextLocation) E) → IsStopPosition i stop p → library ≡ i.library
     → IfOk r (λ o. IfSome o (IsPlaceAt text library p)) → IfOk r (IsStopPlace text i stop)
 placed text i stop p library (Ok None) is same h = tt
-placed text i stop p library (Ok (Some at)) is same h = (p, is, subst (λ (l : Library). IsPlaceAt text l p at) same h)
+placed text i stop p library (Ok (Some at)) is same h = inr (p, is, subst (λ (l : Library). IsPlaceAt text l p at) same h)
 placed text i stop p library (Err e) is same h = tt
+
+-- the place of an operator
+pub operated : (text : Text) (i : Inputs) (stop : FoundStop) (x : Shown) (o : Option TextLocation) → IsStopShown text i stop x → IfSome o (IsLocation text)
+    → IfSome o (λ at. IsStretch x.operator.start x.operator.end at) → IfSome o (IsOperatorPlace text i stop)
+operated text i stop x None is located there = tt
+operated text i stop x (Some at) is located there = record { shown = x; is = is; there = there; located = located }
 
 -- the note of a place, as that of a stop
 pub noted_at : {A : Type 0} (types : List (List ℕ)) (own lines : List ℕ) (given : Given) (i : Inputs) (stop : FoundStop) (at : TextLocation) (o : Option (String A))

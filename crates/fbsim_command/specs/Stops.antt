@@ -7,8 +7,11 @@ use Rattle.fb_sim.specs.Given.{Given}
 use Rattle.fb_sim.specs.Serial.{Declares}
 use Rattle.fb_stop.specs.Found.{IsStop}
 use Rattle.fb_stop.specs.Places.{IsStopPosition}
+use Rattle.fb_stop.specs.Shown.{IsStopShown}
 use Rattle.fb_stop.specs.declared.found.FoundStop.{FoundStop}
+use Rattle.fb_stop.specs.declared.shown.Shown.{Shown}
 use Rattle.fb_why.specs.Places.{IsPlaceAt}
+use Rattle.fb_why_bytes.specs.Locations.{IsLocation, IsStretch}
 use Rattle.fb_why_bytes.specs.declared.text_locations.TextLocation.{TextLocation}
 use Rattle.fbsim_command.specs.Outcomes.{End}
 use Rattle.fbsim_command.specs.OwnLines.{IsPlaced}
@@ -17,10 +20,17 @@ use Rattle.fbsim_line.specs.declared.line.Action.TheVariants.{Check, Run}
 use Rattle.fbsim_line.specs.declared.line.Task.{Task}
 use Rattle.fbsim_command.specs.declared.statuses.Done.TheVariants.{Stopped}
 
--- The place of a stop is that of its position in the declaration.
+-- The place is that of the operator of the operation at which the simulation stops.
+pub record IsOperatorPlace (text : Text) (i : Inputs) (stop : FoundStop) (at : TextLocation) : Type 0 where
+  pub shown : Shown
+  pub is : IsStopShown text i stop shown
+  pub there : IsStretch shown.operator.start shown.operator.end at
+  pub located : IsLocation text at
+
+-- The place of a stop is that of its operator, or of its position in the declaration.
 abbrev pub IsStopPlace : Text → Inputs → FoundStop → Option TextLocation → Type 0
 IsStopPlace text i stop None = Unit {0}
-IsStopPlace text i stop (Some at) = (p : Position) × IsStopPosition i stop p × IsPlaceAt text i.library p at
+IsStopPlace text i stop (Some at) = IsOperatorPlace text i stop at ⊎ ((p : Position) × IsStopPosition i stop p × IsPlaceAt text i.library p at)
 
 -- The note names the file, the line and the column of the place, or is the words.
 abbrev pub IsNoteAtStop : (types : List (List ℕ)) → (own : List ℕ) → (lines : List ℕ) → Option TextLocation → (words note : List ℕ) → Type 0

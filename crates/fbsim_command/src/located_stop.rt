@@ -4,8 +4,8 @@ ghost use Rattle.std.specs.Prelude.{◌≡◌, ◌^◌, ◌≤◌, ◌++◌, ℕ
 ghost use Rattle.fb_types.specs.Headline.{Inputs};
 ghost use Rattle.fb_sim.specs.Reports.{Hears};
 ghost use Rattle.fb_sim.specs.Serial.{Declares};
-ghost use Rattle.fb_stop.specs.Found.{IsStop};
-ghost use Rattle.fbsim_command.specs.Stops.{AsksWhere, IsNoteOfRun, IsNoteOfStop, IsStopNote, IsStopPlace, ReportsStop};
+ghost use Rattle.fb_stop.specs.Shown.{IsStopShown};
+ghost use Rattle.fbsim_command.specs.Stops.{AsksWhere, IsNoteOfRun, IsNoteOfStop, IsOperatorPlace, IsStopNote, IsStopPlace, ReportsStop};
 ghost use Rattle.fbsim_command.specs.Texts.{given_of, lines_of};
 
 use crate::failure::Failure;
@@ -14,14 +14,30 @@ use crate::own_lines::note_at;
 use crate::statuses::Done;
 use crate::texts::Texts;
 use fb_sim::{discard, open};
-use fb_stop::{FoundStop, find_stop, position_of, words_of};
+use fb_stop::{FoundStop, Shown, find_stop, position_of, shown_of, spent_words, words_of};
 use fb_system::System;
 use fb_types::{LATEST_TICK, MOST_STEPS};
 use fb_why::place::place_at;
-use fb_why_bytes::{TextLocation, excerpt};
+use fb_why_bytes::{TextLocation, excerpt, location_at};
 use fbsim_line::{Action, Task};
 use std::alloc::{AllocError, Global};
 use std::io::Write;
+
+/// The place of the operator of an operation.
+fn operator_place(
+    declaration: &[u8],
+    system: &System,
+    stop: &FoundStop,
+    shown: Option<Shown>,
+) -> Option<TextLocation>
+    requires { IfSome shown (IsStopShown declaration.now system.now stop.now) }
+    ensures { IfSome result (IsOperatorPlace declaration.now system.now stop.now) }
+{
+    match shown {
+        Some(shown) => location_at(declaration, shown.operator.start, shown.operator.end),
+        None => None,
+    }
+}
 
 /// Where a stop is shown in the text that declares the system, if it has a place there.
 fn place_of(
@@ -29,38 +45,48 @@ fn place_of(
     declaration: &[u8],
     system: &System,
     stop: &FoundStop,
+    shown: Option<Shown>,
 ) -> Result<Option<TextLocation>, AllocError>
-    requires { (horizon : ℕ) × (steps : ℕ) × IsStop system.now horizon steps stop.now }
+    requires { IfSome shown (IsStopShown declaration.now system.now stop.now) }
     ensures { IfOk result (IsStopPlace declaration.now system.now stop.now) }
 {
+    if let Some(at) = operator_place(declaration, system, stop, shown) {
+        return Ok(Some(at));
+    }
     match position_of(system, stop) {
         Some(position) => place_at(alloc, declaration, system.library(), position),
         None => Ok(None),
     }
 }
 
-/// The note of a stop: its place, its words, and the source line with a mark.
+/// The note of a stop: its place, its words, the source line with a mark, and where the steps ran out, how they were used.
 fn note_of_found(
     alloc: Global,
     types: &[&str],
     own: &str,
     texts: &Texts,
     system: &System,
+    horizon: u64,
+    steps: u64,
     stop: &FoundStop,
 ) -> Result<Option<String>, AllocError>
-    requires { (horizon : ℕ) × (steps : ℕ) × IsStop system.now horizon steps stop.now }
     ensures { IfOk result (λ o. IfSome o (λ note. IsNoteOfStop (map (λ t. t.now) types.now) own.now (lines_of texts.now) (given_of texts.now) system.now stop.now (string_bytes note))) }
 {
     let declaration = texts.declaration.as_slice();
-    let words = words_of(alloc, system, stop)?;
-    match place_of(alloc, declaration, system, stop)? {
+    let shown = shown_of(alloc, declaration, system, stop)?;
+    let words = words_of(alloc, system, stop, declaration, shown)?;
+    let spent = spent_words(alloc, system, horizon, steps, stop)?;
+    match place_of(alloc, declaration, system, stop, shown)? {
         Some(at) => {
             let source = excerpt(alloc, declaration, at)?;
-            let matter = format!(in alloc; "{words}\n{source}")?;
+            let matter = format!(in alloc; "{words}\n{source}{spent}")?;
             let lines = texts.lines.as_slice();
             Ok(note_at(alloc, types, own, lines, at, matter.as_str()))
         }
-        None => Ok(Some(words)),
+        None => {
+            let matter = format!(in alloc; "{words}{spent}")?;
+            Ok(Some(matter))
+        }
     }
 }
 
@@ -79,7 +105,7 @@ fn note_in(
     ensures { IfOk result (λ o. IfSome o (λ note. IsNoteOfRun (map (λ t. t.now) types.now) own.now (lines_of texts.now) (given_of texts.now) system.now horizon steps (string_bytes note))) }
 {
     match find_stop(alloc, system, horizon, steps)? {
-        Some(stop) => note_of_found(alloc, types, own, texts, system, &stop),
+        Some(stop) => note_of_found(alloc, types, own, texts, system, horizon, steps, &stop),
         None => Ok(None),
     }
 }

@@ -1,11 +1,12 @@
 use Rattle.std.proofs.Common.{◌∙◌, ℕ, List, refl, sym, ap, subst}
-use Rattle.std.specs.Prelude.{option_map}
+use Rattle.std.specs.Prelude.{IfSome, option_map}
 use Rattle.fb_types.specs.Charts.{leaving}
 use Rattle.fb_types.specs.Numbers.{event_at}
 use Rattle.fb_st.specs.Frames.{values_of}
 use Rattle.fb_st.specs.declared.frame.Slot.{Slot}
 use Rattle.fb_ecc.specs.Indexes.{index, state_at}
-use Rattle.fb_stop.specs.Sites.{FailsAt}
+use Rattle.fb_types.specs.Values.{Values}
+use Rattle.fb_stop.specs.Sites.{FailsAt, FailsInGuard}
 use Rattle.fb_stop.proofs.Failing.{fails_at}
 use Rattle.fb_stop.proofs.reaction.link.Goals as goal
 
@@ -20,8 +21,9 @@ returns-in-Err-clause-link c =
     let ts = leaving block (state_at block state.state) in
     record {
       state = refl;
-      here = subst (λ (j : ℕ). FailsAt ts event (values_of state.frame) c.args.meter.now.left c.in-Err.reason j) (sym c.failing.ensures)
+      here = subst (λ (j : ℕ). FailsAt ts event (values_of state.frame) c.args.meter.now.left c.in-Err.reason j) (sym c.failing-transition.ensures)
           (fails_at event (values_of state.frame) ts c.args.meter.now.left c.in-Err.reason left c.in-Err.ensures.trial);
+      within = subst (λ (vs : Values). IfSome c.inside_guard-operation.result (FailsInGuard ts c.failing-transition.result vs c.in-Err.reason)) (ap values_of c.clear.ensures.frame) c.inside_guard-operation.ensures;
       tried = c.in-Err.ensures.trial;
       stays = ap (λ (n : ℕ). index block n new.frame left emits) c.in-Err.ensures.stopped ∙ ap (λ (f : List Slot). index block state.state f left emits) c.clear.ensures.frame;
     }

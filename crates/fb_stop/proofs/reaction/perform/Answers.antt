@@ -1,5 +1,6 @@
 use Rattle.std.proofs.Common.{◌≡◌, ◌<◌, ◌∷◌, ◌∙◌, [], ℕ, List, length, Some, Err, sym, ap, subst, arith}
-use Rattle.std.specs.Prelude.{slice_get}
+use Rattle.std.specs.Prelude.{IfSome, slice_get}
+use Rattle.fb_types.specs.Values.{Values}
 use Rattle.fb_types.specs.Charts.{Acts, Moving, Position, actions_of}
 use Rattle.fb_types.specs.declared.library.Action.{Action}
 use Rattle.fb_types.specs.declared.run.Halt.{Halt}
@@ -7,6 +8,7 @@ use Rattle.fb_types.specs.declared.run.Halt.TheVariants as halt
 use Rattle.fb_types.specs.declared.value.Reason.{Reason}
 use Rattle.fb_types.proofs.ByIndex.{element_at}
 use Rattle.fb_ecc.specs.Indexes.{Ended, index, state_at}
+use Rattle.fb_stop.specs.Sites.{StopsInBody}
 use Rattle.fb_stop.specs.declared.site.Site.TheVariants as site
 use Rattle.fb_stop.proofs.Stopping.{acts_more}
 use Rattle.fb_stop.proofs.reaction.perform.Goals as goal
@@ -26,15 +28,20 @@ returns-in-Err-Stop-clause-performed c =
     let a = element_at actions j within in
     let at = subst (λ (n : ℕ). slice_get (actions_of block (state_at block n)) j ≡ Some a.0) (sym inv.state) a.1 in
     let m = index block c.loop-action.state.state c.loop-action.state.frame c.loop-action.meter.left c.loop-action.emits in
-    let q = index block c.act.new.state.state c.act.new.state.frame c.act.new.meter.left c.act.new.emits in (
+    let q = index block c.act.new.state.state c.act.new.state.frame c.act.new.meter.left c.act.new.emits in
+    let there = subst (λ (n : ℕ). slice_get (actions_of block (state_at block n)) j ≡ Some a.0) (sym c.act.ensures.state) at in (
       j,
-      ap (λ (n : ℕ). site.Action n j) (c.act.ensures.state ∙ inv.state),
+      c.inside_action-inside.result,
+      ap (λ (n : ℕ). site.Action n j c.inside_action-inside.result) (c.act.ensures.state ∙ inv.state),
       record {
         between = m;
         before = inv.performed;
         action = a.0;
         at = a.1;
         stops = rw c.in-Err-Stop.field-0-is (stop_of _ c.in-Err-Stop.reason (Acts block (a.0 ∷ []) c.loop-action.meter.left) m q c.in-Err-Stop.field-0-is (c.in-Err-Stop.ensures.performed a.0 at));
+        within = rw c.in-Err-Stop.field-0-is
+            (subst (λ (vs : Values). IfSome c.inside_action-inside.result (StopsInBody block a.0 vs c.loop-action.meter.left c.in-Err-Stop.reason)) c.in_ok-before.ensures.values
+            (rw c.in-Err-Stop.field-0-is at (c.inside_action-inside.ensures a.0 there)));
       },
     )
 

@@ -7,11 +7,8 @@ use Rattle.fbsim_command.specs.Texts.{given_of, lines_of}
 use Rattle.fbsim_command.proofs.Located.{noted_at}
 use Rattle.fbsim_command.proofs.located_stop.note_of_found.Goals as goal
 
-pub words_of-requires : goal.words_of-requires
-words_of-requires c = (c.requires.2.event, c.requires.2.arrives)
-
-pub returns-in_ok-matter-in-Some : goal.returns-in_ok-matter-in-Some
-returns-in_ok-matter-in-Some c =
+pub returns-in-Some : goal.returns-in-Some
+returns-in-Some c =
     let texts = c.args.texts.now in
     let at = c.in-Some.at in
     noted_at (map (λ t. t.now) c.args.types.now) c.args.own.now (lines_of texts) (given_of texts) c.args.system.now c.args.stop.now at c.note_at.result
@@ -21,5 +18,5 @@ returns-in_ok-matter-in-Some c =
     c.as_slice-declaration.ensures.value
     (subst (λ (o : Option TextLocation). IsStopPlace c.as_slice-declaration.result.now c.args.system.now c.args.stop.now o) c.in-Some.is c.in_ok-at.ensures))
 
-pub returns-in-None : goal.returns-in-None
-returns-in-None c = (None, string_bytes c.in_ok-words.words, tt, refl)
+pub returns : goal.returns
+returns c = (None, string_bytes c.in_ok-matter-in-None.matter, tt, refl)

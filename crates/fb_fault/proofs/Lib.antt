@@ -1,0 +1,4 @@
+pub mod Runs
+pub mod Defined
+pub mod Operating
+pub mod Placing

@@ -1,0 +1,10 @@
+use Rattle.std.proofs.Common.{◌≡◌, ◌<◌, ◌≤◌, ℕ, Some, slice_get}
+use Rattle.std.specs.Prelude.{IfSome}
+use Rattle.fb_stop.proofs.spent.most.Given as goal
+
+abbrev pub invariant-loop-index : goal.invariant-loop-index
+invariant-loop-index l = record {
+  all : (j x : ℕ) → j < l.index → slice_get l.spent j ≡ Some x → x ≤ l.most;
+  found : IfSome l.found (λ k. slice_get l.spent k ≡ Some l.most);
+  within : IfSome l.found (λ k. k < l.index);
+}

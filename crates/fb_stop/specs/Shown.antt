@@ -1,0 +1,78 @@
+-- Where the operation of a stop is in the text of the declaration (this project's own).
+use Rattle.std.specs.Prelude.{◌≡◌, ℕ, ◌+◌, ◌-◌, List, drop, slice_get, Option, Some, None}
+use Rattle.fb_types.specs.Headline.{Inputs}
+use Rattle.fb_types.specs.declared.library.Library.{Library}
+use Rattle.fb_fault.specs.declared.operation.Operation.{Operation}
+use Rattle.fb_read.specs.Blank.{Text}
+use Rattle.fb_read.specs.Located.{AreLocated}
+use Rattle.fb_read.specs.Refusals.{IsNext}
+use Rattle.fb_read.specs.Tokens.{after_mark}
+use Rattle.fb_read.specs.declared.token.Located.{Located}
+use Rattle.fb_read.specs.declared.token.Span.{Span}
+use Rattle.fb_read_positions.specs.Places.{IsAt}
+use Rattle.fb_read_positions.specs.declared.position.Position.{Position}
+use Rattle.fb_fault.specs.declared.statement.Anchor.{Anchor}
+use Rattle.fb_fault.specs.declared.statement.Anchor.TheVariants.{Beginning, Elsif, Until}
+use Rattle.fb_fault.specs.declared.statement.Placed.{Placed}
+use Rattle.fb_stop.specs.Places.{IsStopPosition}
+use Rattle.fb_stop.specs.declared.found.FoundStop.{FoundStop}
+use Rattle.fb_stop.specs.declared.found.StopSite.{StopSite}
+use Rattle.fb_stop.specs.declared.found.StopSite.TheVariants.{BeforeEvent, InReaction}
+use Rattle.fb_stop.specs.declared.shown.Shown.{Shown}
+use Rattle.fb_stop.specs.declared.site.Inside.{Inside}
+use Rattle.fb_stop.specs.declared.site.Site.{Site}
+use Rattle.fb_stop.specs.declared.site.Site.TheVariants as site
+
+-- the token at this index begins at the offset
+abbrev pub IsTokenAt : List Located → (offset index : ℕ) → Type 0
+IsTokenAt tokens offset index = (t : Located) × (slice_get tokens index ≡ Some t) × (t.index ≡ offset)
+
+-- The bytes are those of the operator, and from the first token of the operation to its last one, counted from a token.
+pub record IsShownAmong (text : Text) (tokens : List Located) (begin : ℕ) (operation : Operation) (x : Shown) : Type 0 where
+  pub operator : IsNext (drop (begin + operation.operator) tokens) text x.operator.start x.operator.end
+  pub first_end : ℕ
+  pub first : IsNext (drop (begin + operation.first) tokens) text x.start first_end
+  pub last_start : ℕ
+  pub last : IsNext (drop (begin + (operation.end - 1)) tokens) text last_start x.end
+
+-- .. from the token at the position
+pub record IsShownIn (text : Text) (library : Library) (position : Position) (operation : Operation) (x : Shown) : Type 0 where
+  pub span : Span
+  pub at : IsAt text library position span
+  pub tokens : List Located
+  pub located : AreLocated text tokens (after_mark text)
+  pub begin : ℕ
+  pub there : IsTokenAt tokens span.start begin
+  pub shown : IsShownAmong text tokens begin operation x
+
+-- ---- Stops
+
+abbrev pub at_beginning : Anchor → Operation → Option Operation
+at_beginning Beginning x = Some x
+at_beginning (Elsif n) x = None
+at_beginning Until x = None
+
+abbrev pub counted_from_beginning : Option Placed → Option Operation
+counted_from_beginning None = None
+counted_from_beginning (Some p) = at_beginning p.anchor p.operation
+
+abbrev pub operation_inside : Option Inside → Option Operation
+operation_inside None = None
+operation_inside (Some i) = counted_from_beginning i.operation
+
+abbrev pub operation_in_site : Site → Option Operation
+operation_in_site (site.Transition s j operation) = operation
+operation_in_site (site.Action s j inside) = operation_inside inside
+
+-- the operation of a stop whose tokens are counted from its position
+abbrev pub operation_at : StopSite → Option Operation
+operation_at BeforeEvent = None
+operation_at (InReaction x) = operation_in_site x
+
+-- The bytes are those of the operation of the stop.
+pub record IsStopShown (text : Text) (i : Inputs) (stop : FoundStop) (x : Shown) : Type 0 where
+  pub position : Position
+  pub position_is : IsStopPosition i stop position
+  pub operation : Operation
+  pub operation_is : operation_at stop.site ≡ Some operation
+  pub shown : IsShownIn text i.library position operation x

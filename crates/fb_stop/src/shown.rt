@@ -1,0 +1,158 @@
+//! Where the operation of a stop is in the text of the declaration.
+
+ghost use Rattle.std.specs.Prelude.{◌≡◌, ◌≤◌, ◌<◌, ◌-◌, ◌+◌, IfOk, IfSome, drop, length, slice_get, Some};
+ghost use Rattle.fb_read.specs.Located.{AreLocated};
+ghost use Rattle.fb_read.specs.Refusals.{IsNext};
+ghost use Rattle.fb_read.specs.Tokens.{after_mark};
+ghost use Rattle.fb_read.specs.declared.token.Located.{Located as Token};
+ghost use Rattle.fb_stop.specs.Shown as spec;
+ghost use Rattle.fb_stop.specs.Shown.{IsShownAmong, IsShownIn, IsStopShown, IsTokenAt};
+
+use crate::found::{FoundStop, StopSite};
+use crate::place::position_of;
+use crate::site::Site;
+use fb_fault::{Anchor, Operation, Placed};
+use fb_read::read::span_before;
+use fb_read::token::{Located, Span};
+use fb_read_positions::{Position, discard, span_of, tokens_of};
+use fb_system::System;
+use fb_types::Library;
+use std::alloc::{AllocError, Global};
+
+/// An operation in a text, in bytes.
+#[derive(Clone, Copy)]
+pub struct Shown {
+    /// Its operator, or the name of the function.
+    pub operator: Span,
+    /// From its first token ..
+    pub start: usize,
+    /// .. to its last one.
+    pub end: usize,
+}
+
+/// The index of the token at an offset.
+fn token_at(tokens: &[Located], offset: usize) -> Option<usize>
+    ensures { IfSome result (IsTokenAt tokens.now offset) }
+{
+    for (index, token) in tokens.iter().enumerate() {
+        if token.index == offset {
+            return Some(index);
+        }
+    }
+    None
+}
+
+/// The bytes of the token at an index, if there is one.
+fn span_at(
+    alloc: Global,
+    text: &[u8],
+    tokens: &[Located],
+    begin: usize,
+    offset: usize,
+) -> Result<Option<Span>, AllocError>
+    requires { AreLocated text.now tokens.now (after_mark text.now) }
+    ensures { IfOk result (λ o. IfSome o (λ span. IsNext (drop (begin + offset) tokens.now) text.now span.start span.end)) }
+{
+    match begin.checked_add(offset) {
+        Some(index) if index < tokens.len() => {
+            let span = span_before(alloc, text, tokens, tokens.len() - index)?;
+            Ok(Some(span))
+        }
+        _ => Ok(None),
+    }
+}
+
+/// The bytes of an operation whose tokens are counted from this one.
+fn shown_from(
+    alloc: Global,
+    text: &[u8],
+    tokens: &[Located],
+    begin: usize,
+    operation: Operation,
+) -> Result<Option<Shown>, AllocError>
+    requires { AreLocated text.now tokens.now (after_mark text.now) }
+    ensures { IfOk result (λ o. IfSome o (IsShownAmong text.now tokens.now begin operation)) }
+{
+    let last = operation.end.saturating_sub(1);
+    let Some(first) = span_at(alloc, text, tokens, begin, operation.first)? else {
+        return Ok(None);
+    };
+    let Some(operator) = span_at(alloc, text, tokens, begin, operation.operator)? else {
+        return Ok(None);
+    };
+    let Some(last) = span_at(alloc, text, tokens, begin, last)? else {
+        return Ok(None);
+    };
+    Ok(Some(Shown {
+        operator,
+        start: first.start,
+        end: last.end,
+    }))
+}
+
+/// The bytes of an operation in a declaration, whose tokens are counted from the one at a position. `None` if there is no
+/// such operation.
+///
+/// # Errors
+/// When memory runs out.
+fn shown_in(
+    alloc: Global,
+    text: &[u8],
+    library: &Library,
+    position: Position,
+    operation: Operation,
+) -> Result<Option<Shown>, AllocError>
+    ensures { IfOk result (λ o. IfSome o (IsShownIn text.now library.now position operation)) }
+{
+    let Some(span) = span_of(alloc, text, library, position)? else {
+        return Ok(None);
+    };
+    let tokens = tokens_of(alloc, text)?;
+    let found = match token_at(tokens.as_slice(), span.start) {
+        Some(begin) => shown_from(alloc, text, tokens.as_slice(), begin, operation),
+        None => Ok(None),
+    };
+    discard(tokens);
+    found
+}
+
+/// The operation of a stop, whose tokens are counted from the position of the stop. Those after ELSIF or UNTIL are counted
+/// from there, and so are left out.
+fn operation_at(site: StopSite) -> Option<Operation>
+    ensures { result ≡ spec.operation_at site }
+{
+    let StopSite::InReaction(site) = site else {
+        return None;
+    };
+    match site {
+        Site::Transition { operation, .. } => operation,
+        Site::Action { inside, .. } => match inside?.operation? {
+            Placed {
+                anchor: Anchor::Beginning,
+                operation,
+            } => Some(operation),
+            _ => None,
+        },
+    }
+}
+
+/// The operation at which a simulation stops, in the text that declares the system. `None` if there is none.
+///
+/// # Errors
+/// When memory runs out.
+pub fn shown_of(
+    alloc: Global,
+    text: &[u8],
+    system: &System,
+    stop: &FoundStop,
+) -> Result<Option<Shown>, AllocError>
+    ensures { IfOk result (λ o. IfSome o (IsStopShown text.now system.now stop.now)) }
+{
+    let Some(position) = position_of(system, stop) else {
+        return Ok(None);
+    };
+    let Some(operation) = operation_at(stop.site) else {
+        return Ok(None);
+    };
+    shown_in(alloc, text, system.library(), position, operation)
+}

@@ -1,0 +1,190 @@
+//! How the steps of one tick were used, up to the stop of a simulation.
+
+ghost use Rattle.std.specs.Prelude.{◌≡◌, ◌^◌, ◌<◌, ◌≤◌, ◌==◌, ◌&&◌, ℕ, IfOk, IfSome, IsTrue, None, OnOk, Some, length, replicate, slice_get};
+ghost use Rattle.fb_types.specs.Headline.{system_of, stimuli_of};
+ghost use Rattle.fb_types.specs.Keys.{without};
+ghost use Rattle.fb_types.specs.Simulation.{opening_agenda, opening_state};
+ghost use Rattle.fb_types.specs.States.{State};
+ghost use Rattle.fb_types.specs.States as model;
+ghost use Rattle.fb_types.specs.Takes.{begun};
+ghost use Rattle.fb_net.specs.Events.{IsEventIn, IsKeyOf, event_of};
+ghost use Rattle.fb_laws.specs.Typed.{IsTypedEvent};
+ghost use Rattle.fb_resource.specs.Counts.{meter_of};
+ghost use Rattle.fb_resource.specs.declared.tick_counts.TickCounts as counted;
+ghost use Rattle.fb_sim.specs.Machines.{IsAt, IsReady};
+ghost use Rattle.fb_sim.specs.Runs.{IsSpent};
+ghost use Rattle.fb_stop.specs.Runs.{machine_of};
+ghost use Rattle.fb_stop.specs.Spent.{AreSpent, Charges, ChargesEvent, HasSpent, IsMost, is_of};
+
+use crate::found::instance_of;
+use crate::replay::site_of;
+use crate::run::Run;
+use fb_agenda::Least;
+use fb_resource::TickCounts;
+use fb_system::System;
+use fb_types::{Event, Key, Reason};
+use std::alloc::{AllocError, Global};
+
+/// A tick of a resource.
+#[derive(Clone, Copy)]
+struct Moment {
+    tick: u64,
+    resource: u32,
+}
+
+/// The steps that are left at a tick, by the counts of a resource.
+fn left_at(counts: &TickCounts, limit: u64, tick: u64) -> u64
+    ensures { result ≡ (begun limit tick (meter_of counts.now)).left }
+{
+    match counts.tick {
+        Some(at) => { if at == tick { counts.left } else { limit } }
+        None => limit,
+    }
+}
+
+/// The steps that the resource of a key has left at its tick.
+fn left_in(run: &Run, limit: u64, key: &Key) -> u64
+    requires { key.now.resource < length run.now.meters.items }
+    ensures { (m : counted.TickCounts) × (slice_get run.now.meters.items key.now.resource ≡ Some m) × (result ≡ (begun limit key.now.tick (meter_of m)).left) }
+{
+    left_at(&run.meters[key.resource as usize], limit, key.tick)
+}
+
+/// Adds steps to those of an instance.
+fn charge(spent: &mut Vec<u64>, instance: u32, used: u64)
+    requires { instance < length spent.old.items }
+    ensures { Charges instance used spent.old.items spent.new.items }
+{
+    let index = instance as usize;
+    spent[index] = spent[index].saturating_add(used);
+}
+
+/// Whether a key is one of a tick and a resource.
+fn is_there(key: &Key, moment: Moment) -> bool
+    ensures { result ≡ is_of moment key.now }
+{
+    key.tick == moment.tick && key.resource == moment.resource
+}
+
+/// Adds the steps of an event to those of the instance at which it arrives.
+fn charge_event(spent: &mut Vec<u64>, system: &System, event: &Event, used: u64)
+    requires event { (resource : ℕ) × IsEventIn system.now resource event.now }
+    requires counted { length spent.old.items ≡ length (system_of system.now).paths }
+    ensures { ChargesEvent (system_of system.now) (event_of system.now event.now) used spent.old.items spent.new.items }
+{
+    system.facts();
+    let at = site_of(system, event);
+    charge(spent, instance_of(at), used);
+}
+
+/// Takes an event that was on the agenda, and has left it, and adds its steps up if it is one of the tick and the resource.
+/// `Some` is the reason for which the resource stops.
+///
+/// # Errors
+/// When memory runs out, or a link has carried 2^128 messages.
+fn step(
+    run: &mut Run,
+    spent: &mut Vec<u64>,
+    moment: Moment,
+    system: &System,
+    limit: u64,
+    key: &Key,
+    event: &Event,
+) -> Result<Option<Reason>, AllocError>
+    requires ready { IsReady system.now limit key.now.tick (machine_of run.old) }
+    requires represents { (s : State) × (a : model.Agenda) × IsAt system.now s (without key.now a) (machine_of run.old) }
+    requires event { IsEventIn system.now key.now.resource event.now }
+    requires own { IsKeyOf key.now event.now }
+    requires typed { IsTypedEvent (system_of system.now) (event_of system.now event.now) }
+    requires named { key.now.resource < length (system_of system.now).resource_names }
+    requires early { key.now.tick ≤ 10 ^ 12 }
+    requires few { limit ≤ 10 ^ 7 }
+    requires counted { length spent.old.items ≡ length (system_of system.now).paths }
+    ensures spent { IfOk result (λ stop. (s : State) (a : model.Agenda) → IsAt system.now s (without key.now a) (machine_of run.old)
+        → HasSpent system.now limit moment s a key.now (event_of system.now event.now) stop (machine_of run.new) spent.old.items spent.new.items) }
+    ensures ready { OnOk result (IsReady system.now limit key.now.tick (machine_of run.new)) }
+    ensures less { IfOk result (λ stop. stop ≡ None → IsSpent limit key.now run.old.meters.items run.new.meters.items) }
+{
+    run.clear_lines();
+    let before = left_in(run, limit, key);
+    let stop = run.take(system, limit, key, event)?;
+    let after = left_in(run, limit, key);
+    if is_there(key, moment) {
+        charge_event(spent, system, event, before.saturating_sub(after));
+    }
+    Ok(stop)
+}
+
+/// Takes all events below the horizon, least key first, or up to the first stop. It says whether there is one.
+///
+/// # Errors
+/// When memory runs out, or a link has carried 2^128 messages.
+fn go_on(
+    run: &mut Run,
+    spent: &mut Vec<u64>,
+    moment: Moment,
+    system: &System,
+    horizon: u64,
+    limit: u64,
+) -> Result<bool, AllocError>
+    requires ready { IsReady system.now limit 0 (machine_of run.old) }
+    requires at { IsAt system.now (opening_state (system_of system.now)) (opening_agenda (system_of system.now) (stimuli_of system.now)) (machine_of run.old) }
+    requires early { horizon ≤ 10 ^ 12 }
+    requires few { limit ≤ 10 ^ 7 }
+    requires counted { length spent.old.items ≡ length (system_of system.now).paths }
+    ensures spent { IfOk result (λ stops. IsTrue stops → AreSpent system.now horizon limit moment spent.old.items spent.new.items) }
+    ensures counted { OnOk result (length spent.new.items ≡ length (system_of system.now).paths) }
+{
+    let mut least = Least::new();
+    while run.agenda.take_least_into(horizon, &mut least) {
+        let stop = step(run, spent, moment, system, limit, &least.key, &least.event)?;
+        if let Some(_) = stop {
+            return Ok(true);
+        }
+    }
+    Ok(false)
+}
+
+/// How many steps the events of each instance used in a tick of a resource, up to the stop of the simulation. `None` if it
+/// does not stop below the horizon. The simulation is run once more for that, up to the stop, and nothing is written.
+///
+/// # Errors
+/// When memory runs out, or a link has carried 2^128 messages.
+pub(crate) fn steps_spent(
+    alloc: Global,
+    system: &System,
+    horizon: u64,
+    limit: u64,
+    tick: u64,
+    resource: u32,
+) -> Result<Option<Vec<u64>>, AllocError>
+    requires early { horizon ≤ 10 ^ 12 }
+    requires few { limit ≤ 10 ^ 7 }
+    ensures spent { IfOk result (λ o. IfSome o (λ v. AreSpent system.now horizon limit (record { tick = tick; resource = resource }) (replicate (length (system_of system.now).paths) 0) v.items)) }
+    ensures counted { IfOk result (λ o. IfSome o (λ v. length v.items ≡ length (system_of system.now).paths)) }
+{
+    let moment = Moment { tick, resource };
+    let mut run = Run::open(alloc, system)?;
+    let mut spent = vec![in alloc; 0u64; system.count()]?;
+    if go_on(&mut run, &mut spent, moment, system, horizon, limit)? {
+        Ok(Some(spent))
+    } else {
+        Ok(None)
+    }
+}
+
+/// The instance that used the most steps, the first one if there are several. `None` if none used any.
+pub(crate) fn most(spent: &[u64]) -> Option<usize>
+    ensures most { IfSome result (λ k. IsMost spent.now k) }
+    ensures within { IfSome result (λ k. k < length spent.now) }
+{
+    let mut most = 0;
+    let mut found = None;
+    for index in 0..spent.len() {
+        if spent[index] > most {
+            most = spent[index];
+            found = Some(index);
+        }
+    }
+    found
+}
