@@ -252,7 +252,8 @@ HELP_OF_RUN = (
 )
 HELP_OF_CHECK = (*HELP_OF_FILES, "--lint", "Reports warnings", "Example: fbsim check ")
 HELP_OF_WAVE = (
-    "DECL", "declaration of the types", "TRACE", "file with the trace", "--types", "--deploy", "in TOML", "at most 1 MiB", "--cut", "cut off", "--why", "Prints the location", "Example: fbsim wave ",
+    "DECL", "declaration of the types", "TRACE", "file with the trace", "--types", "--deploy", "in TOML", "at most 1 MiB", "--cut", "cut off", "--states", "state of each basic block", "--steps", "limit of steps", "--why",
+    "Prints the location", "Example: fbsim wave ",
 )
 HELP_OF_EXPECT = (
     "RULES", "in TOML", "1000 rules", "TRACE", "--decl", "all names of the rules", "--types", "--deploy", "--strict", "undecided as broken", "--cut", "without a last line",
@@ -344,6 +345,13 @@ CALLS = [
     Call(["wave", "cycle", "strange_trace", "--cut"], 2, err=b"refused trace line 4\n"),
     Call(["wave", "cycle", "longer_trace", "--cut"], 2, err=b"refused trace line 3\n"),
     Call(["wave", "cycle", "cut_trace", "--cut"], 3, err=b"write fault after 0 bytes\n", to="full"),
+    Call(["wave", "cycle", "trace", "--states"], 0, out=WAVE_TO_8),
+    Call(["wave", "cycle", "-", "--states"], 0, out=WAVE_TO_8, given=KEYED_TO_8),
+    Call(["wave", "cycle", "-", "--states"], 2, err=b"refused trace line 3\n", given=TO_8.replace(b"3 MAIN <", b"4 MAIN <")),
+    Call(["wave", "cycle", "no_trace", "--states"], 2, err=b"refused trace line 1\n"),
+    Call(["wave", "cycle", "nowhere", "--states"], 3, err=b"file fault\n"),
+    Call(["wave", "cycle", "trace", "--states"], 3, err=b"write fault after 0 bytes\n", to="full"),
+    Call(["wave", "cycle", "trace", "--states", "--steps", "0"], 5, err=None),
     Call(["wave", "cycle", "strange_trace"], 2, err=b"refused trace line 4\n"),
     Call(["wave", "cycle", "no_trace"], 2, err=b"refused trace line 1\n"),
     Call(["wave", "ring", "trace"], 2, err=b"refused trace line 2\n"),

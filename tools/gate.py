@@ -12,7 +12,7 @@ Without a crate it is the whole gate. In order:
 - tests and programs
 - calls of the program: each status (tools/calls.py), the commands of docs/FIRST_APPLICATION.md (tools/first_application.py),
   ./simulate (tools/launcher.py), waveforms of the examples (tools/waves.py), graphs of declarations (tools/graphs.py), what
-  happens inside traces (tools/insides.py), texts that are no traces (tools/traces.py), the stored
+  happens inside traces (tools/insides.py), waveforms with it (tools/state_waves.py), texts that are no traces (tools/traces.py), the stored
   cases of cases/ (tools/cases.py), rings of resources (tools/rings.py), random systems (tools/drawn.py), random types
   (tools/drawn_types.py), each token at each place of a declaration (tools/expected.py), types with more events than 16 bits can number (tools/wide.py), outputs that take little and readers that
   fail (tools/narrow.py), texts that are cut or changed in one byte (tools/hostile.py), and each request for memory refused
@@ -56,6 +56,7 @@ import launcher
 import narrow
 import refuse
 import rings
+import state_waves
 import traces
 import waves
 import wide
@@ -193,6 +194,7 @@ def call_after_each_run():
         yield waves.make_all(made)
         yield graphs.make_all(made)
         yield insides.make_all(made)
+        yield state_waves.make_all(made)
         yield traces.try_all(made)
         yield cases.run_all(made)
         yield rings.try_all(made)

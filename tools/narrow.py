@@ -139,6 +139,7 @@ def of_waves():
     for step in STEPS:
         for room in (0, 1, 10, len(WAVE_TO_8) - 1, len(WAVE_TO_8)):
             yield at_room(["wave", "cycle", "trace"], WAVE_TO_8, room, step)
+            yield at_room(["wave", "cycle", "trace", "--states"], WAVE_TO_8, room, step)
     for step in (7, PAGE, LARGE):
         for room in (PAGE - 1, PAGE, PAGE + 1, len(LONG_WAVE) - 1, len(LONG_WAVE)):
             yield at_room(["wave", "cycle", "long_trace"], LONG_WAVE, room, step)

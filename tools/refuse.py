@@ -141,7 +141,7 @@ def cycle():
 RUNS = [delayed(), stopped(), composite(), ring(), relay(), cycle()]
 
 # The calls that read a trace, and the runs whose traces they read: one with long lines, one with a stop.
-COMMANDS = ["wave", "inspect", "coverage"]
+COMMANDS = ["wave", "wave --states", "inspect", "coverage"]
 TRACED = [relay(), stopped()]
 
 
@@ -218,7 +218,7 @@ def words_of(command, it):
     """The arguments of a call that reads the trace of a run: its declaration, its deployment, and its limit of steps where there is one."""
     options = dict(zip(it.words[::2], it.words[1::2]))
     kept = ["--deploy"] if command == "wave" else ["--deploy", "--steps"]
-    return [command, "d.iec", *(word for name in kept if name in options for word in (name, options[name])), "trace"]
+    return [*command.split(), "d.iec", *(word for name in kept if name in options for word in (name, options[name])), "trace"]
 
 
 def try_command(program, command, it):

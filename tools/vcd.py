@@ -1,4 +1,4 @@
-"""Reads value change dumps strictly by IEEE 1364-2005, section 18, and by nothing else."""
+"""Reads value change dumps strictly by IEEE 1364-2005, section 18, and texts, `$var string` with changes `sTEXT CODE`, as GTKWave has them."""
 
 from typing import NamedTuple
 
@@ -6,7 +6,9 @@ from typing import NamedTuple
 SCALARS = "01xXzZ"
 # Commands that come before the changes, and those that may be among them.
 HEADINGS = ("$date", "$version", "$timescale", "$comment", "$scope", "$upscope", "$var", "$enddefinitions")
-KINDS = ("event", "wire", "reg")
+KINDS = ("event", "wire", "reg", "string")
+# A signal so called may fire more than once at a time.
+LOST = ".lost"
 
 
 class Fault(Exception):
@@ -120,6 +122,8 @@ class Reader:
             raise Fault(f"{word} comes before the first time")
         if word[0] in "bB":
             bits, code = word[1:], self.next("a code")
+        elif word[0] == "s":
+            bits, code = word[1:], self.next("a code")
         elif word[0] in SCALARS:
             bits, code = word[0], word[1:]
         else:
@@ -128,9 +132,13 @@ class Reader:
             raise Fault(f"{code} is not declared")
         name = self.names[code]
         kind, size = self.dump.signals[name]
-        if not bits or len(bits) > size or bits.strip(SCALARS) or (word[0] in "bB") != (size > 1):
+        if (kind == "string") != (word[0] == "s"):
             raise Fault(f"{name} can't change to {word}")
-        if kind == "event":
+        if kind == "string":
+            self.now[name] = bits
+        elif not bits or len(bits) > size or bits.strip(SCALARS) or (word[0] in "bB") != (size > 1):
+            raise Fault(f"{name} can't change to {word}")
+        elif kind == "event":
             self.fire(name)
         else:
             self.now[name] = extended(bits.lower(), size)
@@ -140,7 +148,9 @@ class Reader:
     def fire(self, name):
         times = self.dump.fired.setdefault(name, [])
         if self.dump.end in times[-1:]:
-            raise Fault(f"{name} fires twice at {self.dump.end}")
+            if not name.endswith(LOST):
+                raise Fault(f"{name} fires twice at {self.dump.end}")
+            return
         times.append(self.dump.end)
 
     def settle(self):

@@ -80,6 +80,7 @@ opening_marks blocks sys =
         algorithms = record { rows = map (part_row sys Algorithms) blocks };
         taken = record { rows = map (part_row sys Events) blocks };
         clearing = record { rows = map (part_row sys Events) blocks };
+        lost = false;
       };
       ports = record {
         inputs = record { rows = map (port_row sys Inputs) sys.paths };

@@ -1,5 +1,5 @@
 -- How marks are set (this project's own).
-use Rattle.std.specs.Prelude.{ℕ, [], Bool, if◌then◌else◌}
+use Rattle.std.specs.Prelude.{ℕ, [], Bool, false, true, if◌then◌else◌}
 use Rattle.fb_coverage.specs.Tables.{with_flag}
 use Rattle.fb_coverage.specs.declared.marks.ChartMarks.{ChartMarks}
 use Rattle.fb_coverage.specs.declared.marks.Marks.{Marks}
@@ -13,7 +13,7 @@ no_rows = record { rows = [] }
 abbrev pub no_marks : Marks
 no_marks =
     record {
-      charts = record { states = no_rows; transitions = no_rows; algorithms = no_rows; taken = no_rows; clearing = no_rows };
+      charts = record { states = no_rows; transitions = no_rows; algorithms = no_rows; taken = no_rows; clearing = no_rows; lost = false };
       ports = record { inputs = no_rows; outputs = no_rows };
     }
 
@@ -25,6 +25,10 @@ with_taken i e m = record m { taken = with_flag m.taken i e }
 abbrev pub with_cleared : (number transition target event : ℕ) → ChartMarks → ChartMarks
 with_cleared i k s e m =
     record m { states = with_flag m.states i s; transitions = with_flag m.transitions i k; clearing = with_flag m.clearing i e }
+
+-- an event cleared no transition
+abbrev pub with_lost : ChartMarks → ChartMarks
+with_lost m = record m { lost = true }
 
 -- an algorithm of the type ran
 abbrev pub with_ran : (number algorithm : ℕ) → ChartMarks → ChartMarks

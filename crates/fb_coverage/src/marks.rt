@@ -24,6 +24,8 @@ pub struct ChartMarks {
     pub taken: Table,
     /// Event inputs at which an event cleared a transition.
     pub clearing: Table,
+    /// Set where an event cleared no transition.
+    pub lost: bool,
 }
 
 impl Drop for ChartMarks {
@@ -34,6 +36,7 @@ impl Drop for ChartMarks {
             algorithms: _,
             taken: _,
             clearing: _,
+            lost: _,
         } = self;
     }
 }
@@ -83,6 +86,7 @@ impl ChartMarks {
             algorithms: part_table(alloc, system, Part::Algorithms)?,
             taken: part_table(alloc, system, Part::Events)?,
             clearing: part_table(alloc, system, Part::Events)?,
+            lost: false,
         })
     }
 
@@ -100,6 +104,13 @@ impl ChartMarks {
         self.states.set(block_type, target);
         self.transitions.set(block_type, transition);
         self.clearing.set(block_type, event as usize);
+    }
+
+    /// An event cleared no transition.
+    pub fn mark_lost(&mut self)
+        ensures { self.new ≡ spec.with_lost self.old }
+    {
+        self.lost = true;
     }
 
     /// An algorithm of a declared type ran.
@@ -135,6 +146,7 @@ impl Marks {
                 algorithms: Table::new(alloc),
                 taken: Table::new(alloc),
                 clearing: Table::new(alloc),
+                lost: false,
             },
             ports: PortMarks {
                 inputs: Table::new(alloc),

@@ -29,7 +29,7 @@ use Rattle.fb_ecc.proofs.Trials.{cut_at}
 use Rattle.fb_inspect.specs.Chains.{Piece, Showing, Clears_by, Acting, ShowsActs, ShowsChain, ShowsReaction, rest_pieces, stop_pieces}
 use Rattle.fb_inspect.specs.Charting.{ChartGoes, StepGoes, sys_of}
 use Rattle.fb_inspect.specs.Looks.{emission_line, pieces_text, ran_by}
-use Rattle.fb_inspect.specs.Markings.{PieceMarks, PiecesMark, with_ran_by}
+use Rattle.fb_inspect.specs.Markings.{PieceMarks, PiecesMark, with_lost_if, with_ran_by}
 use Rattle.fb_inspect.specs.Moves.{EmitsGo, Goes, IsAside, shown_text}
 use Rattle.fb_inspect.specs.Notes.{cleared_note, lost_if, lost_note, own_variables, ran_by_action, stop_note, stopped_note}
 use Rattle.fb_inspect.specs.declared.charts.ChartTaking.{ChartTaking}
@@ -297,7 +297,7 @@ module _ (x : ChartTaking) (present : Option Name) where
   -- no transition cleared
   pub link_rested :
       (left : ℕ) (p m : Position) (b c : Trail) (l : Option (List ℕ)) → trial_at own_type present p ≡ NoneClears left → m ≡ record p { left = left } → p.emitted ≡ []
-      → IsAside b c → c.marks.charts ≡ b.marks.charts → c.reading.line.items ≡ b.reading.line.items
+      → IsAside b c → c.marks.charts ≡ with_lost_if present b.marks.charts → c.reading.line.items ≡ b.reading.line.items
       → c.page.text.items ≡ b.page.text.items ++ shown_text b.is_shown (lost_if present p.state)
       → ChartGoes x (ShowsChain own_type present) p None m b c l l
   link_rested left p m b c l tried at none aside_is charts_are line noted = record {

@@ -13,7 +13,7 @@ use Rattle.fb_coverage.specs.Sets.{with_ran}
 use Rattle.fb_coverage.specs.declared.marks.ChartMarks.{ChartMarks}
 use Rattle.fb_ecc.specs.Trials.{nowhere, transition_at}
 use Rattle.fb_inspect.specs.Chains.{Piece, rest_pieces, stop_pieces}
-use Rattle.fb_inspect.specs.Markings.{PiecesMark, algorithm_number, with_ran_by}
+use Rattle.fb_inspect.specs.Markings.{PiecesMark, algorithm_number, with_lost_if, with_ran_by}
 use Rattle.fb_inspect.proofs.Showing.{emits_pieces, ran_pieces}
 
 -- the transition at an index
@@ -38,7 +38,7 @@ module _ (t : BasicType) (i e : ℕ) where
   emits_mark (f ∷ fs) m = (m, refl, emits_mark fs m)
 
   pub rest_marks :
-      (left : ℕ) (present : Option Name) (state : Name) (m n : ChartMarks) → n ≡ m → PiecesMark t i e (rest_pieces (NoneClears left) present state) m n
+      (left : ℕ) (present : Option Name) (state : Name) (m n : ChartMarks) → n ≡ with_lost_if present m → PiecesMark t i e (rest_pieces (NoneClears left) present state) m n
   rest_marks left None state m n same = same
   rest_marks left (Some f) state m n same = (n, same, refl)
 

@@ -15,7 +15,8 @@ use Rattle.fb_wave.specs.Lines.{IsLineOf, IsTextOf}
 use Rattle.fb_coverage.specs.Sets.{with_port}
 use Rattle.fb_coverage.specs.declared.marks.PortMarks.{PortMarks}
 use Rattle.fb_inspect.specs.Markings.{lines_marked}
-use Rattle.fb_inspect.specs.Moves.{Goes, IsAside, IsLineAt, shown_text}
+use Rattle.fb_inspect.specs.Moves.{Goes, HavePassed, IsAside, IsLineAt, lines_kept, shown_text}
+use Rattle.fb_inspect.specs.declared.trail.PassedLines.{PassedLines}
 use Rattle.fb_inspect.specs.declared.trail.Trail.{Trail}
 
 -- the text of lines, and of others after them
@@ -38,11 +39,35 @@ marked-append [] ks m = refl
 marked-append (l ∷ ls) ks m = marked-append ls ks (with_port l.instance l.taken l.event m)
 
 -- nothing but the text differs, if that
-pub aside : (old new : Trail) → new.is_shown ≡ old.is_shown → new.marks.ports ≡ old.marks.ports → IsAside old new
-aside old new kept ported = record { kept = kept; ported = ported }
+pub aside : (old new : Trail) → new.is_shown ≡ old.is_shown → new.marks.ports ≡ old.marks.ports → new.passed ≡ old.passed → IsAside old new
+aside old new kept ported passed = record { kept = kept; ported = ported; passed = passed }
 
 pub aside_none : (t : Trail) → IsAside t t
-aside_none t = record { kept = refl; ported = refl }
+aside_none t = record { kept = refl; ported = refl; passed = refl }
+
+-- no line was passed, and some one after another
+passed_none : (b : Bool) (ls : List Line) → ls ≡ lines_kept b ls []
+passed_none true ls = sym (append-nil ls)
+passed_none false ls = refl
+
+pub none_passed : (old new : PassedLines) → new ≡ old → HavePassed [] old new
+none_passed old new same = record {
+  same = ap (λ (p : PassedLines). p.are_kept) same;
+  lines = ap (λ (p : PassedLines). p.lines.items) same ∙ passed_none old.are_kept old.lines.items;
+}
+
+passed_then : (b : Bool) (old ls ks : List Line) → lines_kept b (lines_kept b old ls) ks ≡ lines_kept b old (ls ++ ks)
+passed_then true old ls ks = append_assoc old ls ks
+passed_then false old ls ks = refl
+
+then_passed : (ls ks : List Line) (a b c : PassedLines) → HavePassed ls a b → HavePassed ks b c → HavePassed (ls ++ ks) a c
+then_passed ls ks a b c first second = record {
+  same = second.same ∙ first.same;
+  lines = second.lines
+      ∙ ap (λ (v : Bool). lines_kept v b.lines.items ks) first.same
+      ∙ ap (λ (v : List Line). lines_kept a.are_kept v ks) first.lines
+      ∙ passed_then a.are_kept a.lines.items ls ks;
+}
 
 module _ (sys : System) (form : Form) (tick : ℕ) where
   -- text is added, and no line is read
@@ -57,6 +82,7 @@ module _ (sys : System) (form : Form) (tick : ℕ) where
     read = append-nil old.reading.line.items ∙ sym line;
     text = text;
     ported = aside.ported;
+    passed = none_passed old.passed new.passed aside.passed;
   }
 
   pub goes_then :
@@ -78,6 +104,7 @@ module _ (sys : System) (form : Form) (tick : ℕ) where
             ∙ ap (λ (x : List ℕ). x ++ c.reading.line.items) (sym (ap (lines_text form sys) (map-append (line_of sys) ls ks) ∙ lines-append form sys (map (line_of sys) ls) (map (line_of sys) ks)));
         text = second.text ∙ ap (λ (x : List ℕ). x ++ cs) first.text ∙ append_assoc a.page.text.items bs cs;
         ported = second.ported ∙ ap (lines_marked ks) first.ported ∙ sym (marked-append ls ks a.marks.ports);
+        passed = then_passed ls ks a.passed b.passed c.passed first.passed second.passed;
       }
 
   -- the same text by another name
@@ -89,9 +116,9 @@ module _ (sys : System) (form : Form) (tick : ℕ) where
 pub goes_pass :
     (sys : System) (form : Form) (line : Line) (a c : Trail) (l m : Option (List ℕ)) → IsTextOf sys form line a.reading.line.items
     → c.page.text.items ≡ a.page.text.items ++ shown_text a.is_shown a.reading.line.items → c.is_shown ≡ a.is_shown
-    → c.marks.ports ≡ with_port line.instance line.taken line.event a.marks.ports → Consumes l m c.reading.line.items
+    → c.marks.ports ≡ with_port line.instance line.taken line.event a.marks.ports → HavePassed (line ∷ []) a.passed c.passed → Consumes l m c.reading.line.items
     → Goes sys form line.key.tick (line ∷ []) (shown_text a.is_shown (line_text form sys (line_of sys line))) a c l m
-goes_pass sys form line a c l m is put shown ported took = record {
+goes_pass sys form line a c l m is put shown ported passed took = record {
   each = All-one sys line is.line;
   kept = shown;
   taken = c.reading.line.items;
@@ -99,6 +126,7 @@ goes_pass sys form line a c l m is put shown ported took = record {
   read = ap (λ (x : List ℕ). x ++ c.reading.line.items) (is.is ∙ sym (append-nil (line_text form sys (line_of sys line))));
   text = put ∙ ap (λ (x : List ℕ). a.page.text.items ++ shown_text a.is_shown x) is.is;
   ported = ported;
+  passed = passed;
 }
   where
     All-one : (sys : System) (line : Line) → IsLineOf sys line → All (IsLineAt sys line.key.tick) (line ∷ [])
@@ -116,4 +144,5 @@ goes_same sys form tick ls bytes a b c l m aside line text goes = record {
   read = ap (λ (x : List ℕ). x ++ goes.taken) (sym line) ∙ goes.read;
   text = goes.text ∙ ap (λ (x : List ℕ). x ++ bytes) text;
   ported = goes.ported ∙ ap (lines_marked ls) aside.ported;
+  passed = subst (λ (p : PassedLines). HavePassed ls p c.passed) aside.passed goes.passed;
 }

@@ -11,6 +11,8 @@ use Rattle.fb_st.specs.declared.frame.Slot.{Slot}
 use Rattle.fb_ecc.specs.Indexes.{index, state_at}
 use Rattle.fb_wave.specs.Tables.{IsTable}
 use Rattle.fb_wave.specs.declared.table.PortTable.{PortTable}
+use Rattle.fb_coverage.specs.declared.marks.ChartMarks.{ChartMarks}
+use Rattle.fb_inspect.specs.Markings.{with_lost_if}
 use Rattle.fb_inspect.specs.Notes.{lost_if}
 
 -- steps were used
@@ -28,6 +30,10 @@ entered_at t i j f g left k target entered frame =
 pub lost_any : {A B : Type 0} (o : Option A) (f : A → B) (s : Name) → lost_if o s ≡ lost_if (option_map f o) s
 lost_any None f s = refl
 lost_any (Some x) f s = refl
+
+pub marks_any : {A B : Type 0} (o : Option A) (f : A → B) (m : ChartMarks) → with_lost_if o m ≡ with_lost_if (option_map f o) m
+marks_any None f m = refl
+marks_any (Some x) f m = refl
 
 -- something more holds of what a call answers
 pub ok_then : {A E : Type 0} (r : Result A E) (P Q : A → Type 0) → IfOk r P → ((x : A) → P x → Q x) → IfOk r Q

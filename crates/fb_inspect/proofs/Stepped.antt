@@ -111,6 +111,7 @@ module _ (types : List BlockType) (sys : System) (form : Form) (limit : ℕ) (lo
       read = goes.goes.read;
       text = goes.goes.text;
       ported = goes.goes.ported;
+      passed = goes.goes.passed;
     };
     marked = goes.marked;
   }
@@ -141,6 +142,7 @@ module _ (types : List BlockType) (sys : System) (form : Form) (limit : ℕ) (lo
       read = goes.goes.read;
       text = goes.goes.text;
       ported = goes.goes.ported;
+      passed = goes.goes.passed;
     };
     marked = goes.marked;
   }
@@ -167,6 +169,7 @@ module _ (types : List BlockType) (sys : System) (form : Form) (limit : ℕ) (lo
       read = goes.goes.read;
       text = goes.goes.text;
       ported = goes.goes.ported;
+      passed = goes.goes.passed;
     };
     marked = goes.marked;
   }

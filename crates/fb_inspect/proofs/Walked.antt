@@ -234,7 +234,7 @@ module _ (x : ChartTaking) (look : Look) (c d : Chart) (left steps : ℕ) (stop 
         lines_are = ap (λ (ls : List model.Line). line_of (sys_of x) line ∷ ls) goes.are;
         goes = turn_goes (sys_of x) x.fixed.form line a y z goes.lines goes.pieces l k j passed
             (goes_same (sys_of x) x.fixed.form line.key.tick goes.lines (shown_text y.is_shown (pieces_text x.fixed.form (sys_of x) (line_of (sys_of x) line) goes.pieces)) marked_trail y z k j
-            (aside y marked_trail refl refl) refl refl goes.goes);
+            (aside y marked_trail refl refl refl) refl refl goes.goes);
         marked = subst (λ (o : Option Kind). TurnMarksAt x.fixed.table.now.system.now.library.blocks o it a.marks.charts z.marks.charts) (sym taking.kind) marked;
       }
 
@@ -446,10 +446,10 @@ module _ (types : List BlockType) (sys : System) (form : Form) (limit : ℕ) (lo
   pub turn_taken :
       (line : Line) (stop : Option Reason) (old mid new : Walk) (remaining rest : Option (List ℕ)) → line.instance < length sys.paths
       → IsLookOf sys old.blocks.items old.steps.items look → line.key.tick ≤ 10 ^ 12 → HasStepped limit line.key old.steps.items mid.steps.items
-      → mid.blocks.items ≡ old.blocks.items → mid.shown ≡ old.shown → mid.trail.marks ≡ old.trail.marks → mid.trail.is_shown ≡ flag_at old.shown.items line.instance
+      → mid.blocks.items ≡ old.blocks.items → mid.shown ≡ old.shown → mid.trail.marks ≡ old.trail.marks → mid.trail.passed ≡ old.trail.passed → mid.trail.is_shown ≡ flag_at old.shown.items line.instance
       → mid.trail.reading.line.items ≡ old.trail.reading.line.items → mid.trail.page.text.items ≡ old.trail.page.text.items
       → ReactGoes types sys form look line stop mid new remaining rest → TurnGoes types sys form limit look line stop old new remaining rest
-  turn_taken line stop old mid new remaining rest within look_is early stepped blocks_same shown_same marks_same flag line_same text_same goes =
+  turn_taken line stop old mid new remaining rest within look_is early stepped blocks_same shown_same marks_same passed_same flag line_same text_same goes =
       let x = goes.goes.turn in
       let mine : goes.own ≡ stepped.after =
       own_is sys limit line.key look x.after old.steps.items mid.steps.items new.steps.items stepped goes.own goes.stood goes.left goes.steps_are goes.goes.steps_are in
@@ -472,7 +472,7 @@ module _ (types : List BlockType) (sys : System) (form : Form) (limit : ℕ) (lo
         lines_are = goes.goes.lines_are;
         goes = goes_same sys form line.key.tick goes.goes.lines (shown_text (flag_at old.shown.items line.instance) (turn_text form sys x)) mid.trail
             (record (old.trail) { is_shown = flag_at old.shown.items line.instance }) new.trail remaining rest
-            (aside (record (old.trail) { is_shown = flag_at old.shown.items line.instance }) mid.trail flag (ap (λ (m : Marks). m.ports) marks_same)) line_same text_same
+            (aside (record (old.trail) { is_shown = flag_at old.shown.items line.instance }) mid.trail flag (ap (λ (m : Marks). m.ports) marks_same) passed_same) line_same text_same
             (goes_as sys form line.key.tick mid.trail new.trail goes.goes.lines _ _ remaining rest (ap (λ (b : Bool). shown_text b (turn_text form sys x)) flag) goes.goes.goes);
         marked = subst (λ (m : Marks). TurnMarks types sys x m.charts new.trail.marks.charts) marks_same goes.goes.marked;
       }

@@ -10,7 +10,7 @@ use Rattle.fb_types.specs.declared.library.BlockType.{BlockType}
 use Rattle.fb_types.specs.declared.library.BlockType.TheVariants as block
 use Rattle.fb_types.specs.declared.run.Line.{Line}
 use Rattle.fb_ecc.specs.Indexes.{state_at}
-use Rattle.fb_coverage.specs.Sets.{with_cleared, with_port, with_ran, with_taken}
+use Rattle.fb_coverage.specs.Sets.{with_cleared, with_lost, with_port, with_ran, with_taken}
 use Rattle.fb_coverage.specs.declared.marks.ChartMarks.{ChartMarks}
 use Rattle.fb_coverage.specs.declared.marks.PortMarks.{PortMarks}
 use Rattle.fb_inspect.specs.Chains.{Piece, Clears_by, Is_lost, Ran, Stops_by, Has, Emits}
@@ -35,11 +35,16 @@ with_ran_by t i None left m = m
 with_ran_by t i (Some a) zero m = m
 with_ran_by t i (Some a) (suc left) m = with_ran i (algorithm_number t a) m
 
+-- the end of a chain: an event is lost where one was present
+abbrev pub with_lost_if : {A : Type 0} → (present : Option A) → ChartMarks → ChartMarks
+with_lost_if None m = m
+with_lost_if (Some e) m = with_lost m
+
 -- A piece of what a block of the type does, which has this number, after it took the event at this index. A transition is
 -- marked by its index: of several that are alike the first clears.
 abbrev pub PieceMarks : BasicType → (number event : ℕ) → Piece → ChartMarks → ChartMarks → Type 0
 PieceMarks t i e (Clears_by y) m n = (k : ℕ) × (s : ℕ) × (slice_get t.transitions k ≡ Some y) × (state_at t s ≡ y.to) × (n ≡ with_cleared i k s e m)
-PieceMarks t i e (Is_lost s) m n = n ≡ m
+PieceMarks t i e (Is_lost s) m n = n ≡ with_lost m
 PieceMarks t i e (Ran a before after) m n = n ≡ with_ran i (algorithm_number t a) m
 PieceMarks t i e (Stops_by r) m n = n ≡ m
 PieceMarks t i e (Has memory due) m n = n ≡ m

@@ -1,5 +1,5 @@
 -- How a trace is gone through, line by line: lines are read, and text is added for them (this project's own).
-use Rattle.std.specs.Prelude.{◌≡◌, ℕ, List, [], ◌∷◌, ◌++◌, map, All, Bool, false, if◌then◌else◌, Option}
+use Rattle.std.specs.Prelude.{◌≡◌, ℕ, List, [], ◌∷◌, ◌++◌, map, All, Bool, false, true, if◌then◌else◌, Option}
 use Rattle.std.specs.Io.KnownBytes.{Consumes}
 use Rattle.fb_types.specs.Numbers.{line_of}
 use Rattle.fb_types.specs.Systems.{System}
@@ -9,12 +9,23 @@ use Rattle.fb_types.specs.declared.run.Form.{Form}
 use Rattle.fb_types.specs.declared.run.Line.{Line}
 use Rattle.fb_wave.specs.Lines.{IsLineOf}
 use Rattle.fb_inspect.specs.Markings.{lines_marked}
+use Rattle.fb_inspect.specs.declared.trail.PassedLines.{PassedLines}
 use Rattle.fb_inspect.specs.declared.trail.Trail.{Trail}
 
 -- a line of the system, of a tick
 pub record IsLineAt (sys : System) (tick : ℕ) (l : Line) : Type 0 where
   pub line : IsLineOf sys l
   pub tick_is : l.key.tick ≡ tick
+
+-- lines after others, if lines are kept
+abbrev pub lines_kept : (are_kept : Bool) → (old ls : List Line) → List Line
+lines_kept true old ls = old ++ ls
+lines_kept false old ls = old
+
+-- These lines were passed.
+pub record HavePassed (ls : List Line) (old new : PassedLines) : Type 0 where
+  pub same : new.are_kept ≡ old.are_kept
+  pub lines : new.lines.items ≡ lines_kept old.are_kept old.lines.items ls
 
 -- These lines, all of one tick, were read, their ports were marked, and this text was added for them.
 pub record Goes (sys : System) (form : Form) (tick : ℕ) (ls : List Line) (bytes : List ℕ) (old new : Trail) (left after : Option (List ℕ)) : Type 0 where
@@ -25,11 +36,13 @@ pub record Goes (sys : System) (form : Form) (tick : ℕ) (ls : List Line) (byte
   pub read : old.reading.line.items ++ taken ≡ lines_text form sys (map (line_of sys) ls) ++ new.reading.line.items
   pub text : new.page.text.items ≡ old.page.text.items ++ bytes
   pub ported : new.marks.ports ≡ lines_marked ls old.marks.ports
+  pub passed : HavePassed ls old.passed new.passed
 
 -- Text is added or marks of charts are set, and nothing else changes.
 pub record IsAside (old new : Trail) : Type 0 where
   pub kept : new.is_shown ≡ old.is_shown
   pub ported : new.marks.ports ≡ old.marks.ports
+  pub passed : new.passed ≡ old.passed
 
 -- what is written of a text of an instance that is shown, or not
 abbrev pub shown_text : Bool → List ℕ → List ℕ

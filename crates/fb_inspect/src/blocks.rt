@@ -48,7 +48,7 @@ impl Drop for Chart {
 }
 
 /// Puts the values of variables in the place of others.
-pub(crate) fn keep_values(
+pub fn keep_values(
     before: &mut Vec<Value>,
     variables: &[Reference],
     frame: &Frame,

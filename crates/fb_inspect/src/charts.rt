@@ -262,6 +262,15 @@ fn note_lost(
     put_lost(text, state)
 }
 
+/// Marks that an event cleared no transition, if one was present.
+fn mark_lost(marks: &mut ChartMarks, present: Option<usize>)
+    ensures { marks.new ≡ marking.with_lost_if present marks.old }
+{
+    if present.is_some() {
+        marks.mark_lost();
+    }
+}
+
 /// Notes the transition at an index, which cleared.
 fn note_cleared(
     alloc: Global,
@@ -315,6 +324,7 @@ fn link<R: BufRead>(
             let state = state_name(taking.block, chart.state.state);
             let is_shown = trail.is_shown;
             note_lost(&mut trail.page.text, is_shown, state, present)?;
+            mark_lost(&mut trail.marks.charts, present);
             Ok(Linked::Rested)
         }
         Ok(Some(index)) => {

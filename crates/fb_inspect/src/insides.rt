@@ -19,7 +19,7 @@ use crate::finding::{Finding, RefusedLine};
 use crate::page::Page;
 use crate::reading::{Reading, judged};
 use crate::steps::TickSteps;
-use crate::trail::{Fixed, Trail};
+use crate::trail::{Fixed, PassedLines, Trail};
 use crate::walk::{Terms, Walk};
 use fb_coverage::Marks;
 use fb_system::System;
@@ -169,6 +169,7 @@ pub fn begun(
         is_shown: true,
         marks,
         finding: Finding::Line,
+        passed: PassedLines::none(alloc),
     };
     Ok(Walk {
         blocks,

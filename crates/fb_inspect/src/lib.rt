@@ -19,7 +19,7 @@ mod event_blocks;
 pub mod finding;
 pub mod insides;
 pub mod message;
-mod notes;
+pub mod notes;
 pub mod page;
 pub mod reading;
 pub mod steps;

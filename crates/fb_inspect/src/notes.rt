@@ -44,7 +44,7 @@ pub(crate) fn put_lost(text: &mut Vec<u8>, state: &[u8]) -> Result<(), AllocErro
 }
 
 /// Whether two values are the same.
-pub(crate) fn are_same(left: Value, right: Value) -> bool
+pub fn are_same(left: Value, right: Value) -> bool
     ensures value { result ≡ same_value left right }
     ensures same { IsTrue result → left ≡ right }
 {

@@ -28,7 +28,7 @@ impl TickSteps {
     }
 
     /// The number of steps that are left in a tick, of this limit.
-    pub(crate) fn left_at(&self, limit: u64, tick: u64) -> u64
+    pub fn left_at(&self, limit: u64, tick: u64) -> u64
         ensures { result ≡ spec.left_at limit tick (left_of self.now) }
     {
         if self.tick == Some(tick) {

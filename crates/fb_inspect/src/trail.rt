@@ -8,7 +8,7 @@ ghost use Rattle.fb_types.specs.declared.run.Line as run;
 ghost use Rattle.fb_wave.specs.Lines.{IsTextOf};
 ghost use Rattle.fb_wave.specs.Tables.{IsTable};
 ghost use Rattle.fb_inspect.specs.Lines.{IsNext};
-ghost use Rattle.fb_inspect.specs.Moves.{EmitsGo, Goes, IsEmission, shown_text};
+ghost use Rattle.fb_inspect.specs.Moves.{EmitsGo, Goes, HavePassed, IsEmission, shown_text};
 
 use crate::error::InspectError;
 use crate::finding::Finding;
@@ -33,6 +33,15 @@ pub struct Fixed<'t, 's> {
     pub limit: u64,
 }
 
+/// Copies of the lines that were passed, where they are kept.
+#[derive(Drop)]
+pub struct PassedLines {
+    /// The copies, in the order of the trace.
+    pub lines: Vec<Line>,
+    /// Whether the next lines are kept.
+    pub are_kept: bool,
+}
+
 /// How far a trace was gone through.
 #[derive(Drop)]
 pub struct Trail {
@@ -44,6 +53,34 @@ pub struct Trail {
     pub marks: Marks,
     /// Why the next line is refused, if it is.
     pub finding: Finding,
+    /// The lines that were passed.
+    pub passed: PassedLines,
+}
+
+impl PassedLines {
+    /// No lines are kept.
+    pub(crate) fn none(alloc: Global) -> PassedLines {
+        PassedLines {
+            lines: Vec::new(alloc),
+            are_kept: false,
+        }
+    }
+
+    /// A line was passed.
+    fn pass(&mut self, alloc: Global, line: &Line) -> Result<(), AllocError>
+        ensures { OnOk result (HavePassed (line.now ∷ []) self.old self.new) }
+    {
+        if self.are_kept {
+            self.lines.push(Line {
+                key: line.key,
+                taken: line.taken,
+                instance: line.instance,
+                event: line.event,
+                values: Values::from_slice(alloc, line.values.as_slice())?,
+            })?;
+        }
+        Ok(())
+    }
 }
 
 /// Whether this is the stop of a resource at a tick, for this reason.
@@ -143,6 +180,7 @@ impl Trail {
     {
         let whole = self.reading.line.as_slice();
         put_line(&mut self.page.text, whole, self.is_shown)?;
+        self.passed.pass(fixed.alloc, line)?;
         self.marks.ports.mark(line.instance, line.taken, line.event);
         self.reading
             .advance(fixed.alloc, fixed.table, fixed.form, line.key.tick, input)

@@ -16,6 +16,7 @@ mod Noting
 mod Reporting
 pub mod Warning
 pub mod PlacedLines
+pub mod StateDumped
 pub mod Inspecting
 pub mod Located
 pub mod Gleaning

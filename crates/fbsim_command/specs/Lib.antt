@@ -8,6 +8,7 @@ pub mod InputNotes
 pub mod Outcomes
 pub mod OwnLines
 pub mod LineNotes
+pub mod StateDumping
 pub mod Showing
 pub mod Known
 pub mod Expecting

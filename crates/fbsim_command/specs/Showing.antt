@@ -1,5 +1,5 @@
 -- What a call for the waveforms of a trace does (this project's own).
-use Rattle.std.specs.Prelude.{◌≡◌, ◌⊎◌, ℕ, false, List, None, Option, Result, Ok, Err, IfSome, if◌then◌else◌, codes}
+use Rattle.std.specs.Prelude.{◌≡◌, ◌⊎◌, ℕ, Bool, true, false, List, None, Option, Result, Ok, Err, IfSome, if◌then◌else◌, codes}
 use Rattle.clap.specs.Words.{Text}
 use Rattle.fb_types.specs.Headline.{Inputs, system_of}
 use Rattle.fb_sim.specs.Given.{Given}
@@ -18,6 +18,7 @@ use Rattle.fbsim_command.specs.Notes.{IsFileNote, IsNoteOfName, Notes, NotesOf}
 use Rattle.fbsim_command.specs.Outcomes.{End, Held, IsRefused}
 use Rattle.fbsim_command.specs.OwnLines.{EndsIn}
 use Rattle.fbsim_command.specs.Reading.{Reading, AreRead, IsUnread}
+use Rattle.fbsim_command.specs.StateDumping.{DumpsStates}
 use Rattle.fbsim_command.specs.declared.failure.Failure.TheVariants.{Refused, RefusedTrace, File, Write, Memory, Line, BadOption}
 use Rattle.fbsim_command.specs.declared.failure.RefusalLine.{RefusalLine}
 use Rattle.fbsim_command.specs.declared.failure.RefusalLine.TheVariants.{Trace}
@@ -79,6 +80,11 @@ Dumps may given trace old new (Err (Line message)) = ⊥
 Dumps may given trace old new (Err BadOption) = ⊥
 Dumps may given trace old new (Err (RefusedTrace text)) = ⊥
 
+-- .. with the inside of basic blocks, or without
+abbrev pub DumpsAs : (has_states : Bool) → (steps : ℕ) → Cut → Given → (trace : Held) → (old new : Held) → End → Type 0
+DumpsAs true steps may given trace old new end = DumpsStates given steps trace old new end
+DumpsAs false steps may given trace old new end = Dumps may given trace old new end
+
 -- ---- What is read
 
 -- The note of a trace that can't be opened.
@@ -96,7 +102,7 @@ pub record IsReadAndShown {S : Type 0} (reads : Reading S) (opens : Opening S) (
   pub trace : Held
   pub opened : opens between w.trace.now (Ok trace) to
   pub inner : End
-  pub done : Dumps (cut_of w) given trace old new inner
+  pub done : DumpsAs w.has_states w.steps (cut_of w) given trace old new inner
   pub noted : NotesOf types (files_of w) lines given inner note ⊎ NotesLine w.why given trace inner note
   pub ends : EndsIn types w.declaration.now lines inner end
 

@@ -7,7 +7,7 @@
 //! Read it in this order: `sources`, where files come from; `files`, those of the machine; `program`, the call; `texts`,
 //! what is read, with `join`, a declaration in several files, and `own_lines`, how its refusals name a file and a line,
 //! which agree by `laws`; `lint`, with `call_names` and `warning_lines`, the lines of warnings; `located_stop`, where a run
-//! stops; `wave`, with `line_notes`; `draw`; `inspect` and `coverage`, with `inside_notes`;
+//! stops; `wave`, with `state_dump` and `line_notes`; `draw`; `inspect` and `coverage`, with `inside_notes`;
 //! `expect` and `known`, rules and traces; `output`; `failure`, `notes`, `rules_notes` and `statuses`, how it ends.
 #![tactic(auto)]
 
@@ -32,6 +32,7 @@ mod own_lines;
 pub mod program;
 mod rules_notes;
 pub mod sources;
+mod state_dump;
 pub mod statuses;
 mod texts;
 pub mod warning_lines;

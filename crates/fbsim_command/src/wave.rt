@@ -3,13 +3,14 @@
 ghost use Rattle.std.specs.Prelude.{◌≡◌, map, option_map, string_bytes};
 ghost use Rattle.fbsim_command.specs.LineNotes.{NotesLine};
 ghost use Rattle.fbsim_command.specs.Notes.{Notes};
-ghost use Rattle.fbsim_command.specs.Showing.{Dumps, IsTraceFileNote, Shows, cut_of, files_of};
+ghost use Rattle.fbsim_command.specs.Showing.{Dumps, DumpsAs, IsTraceFileNote, Shows, cut_of, files_of};
 
 use crate::failure::Failure;
 use crate::line_notes::{note_of_trace_line, note_of_wave};
 use crate::notes::{note_of_file, note_of_name};
 use crate::own_lines::end_with;
 use crate::sources::{Source, SourceFault, Streams};
+use crate::state_dump::dump_states;
 use crate::statuses::Done;
 use crate::texts::read_files;
 use fb_sim::{Inputs, discard, open};
@@ -44,7 +45,7 @@ fn cut_of(wave: &Wave<'_>) -> Cut
 
 /// Reads a trace of what is declared, and writes its waveforms. It says how that ends, and what is reported of the line
 /// at which the trace is refused.
-fn dump<R: BufRead, W: Write>(
+fn dump_ports<R: BufRead, W: Write>(
     alloc: Global,
     wave: &Wave<'_>,
     inputs: &Inputs<'_>,
@@ -67,6 +68,23 @@ fn dump<R: BufRead, W: Write>(
         Ok(()) => (Ok(Done::Shown), note),
         Err(error) => (Err(Failure::from(error)), note),
     }
+}
+
+/// The same, with the inside of basic blocks where that is asked for. Then nothing is reported of the line.
+fn dump<R: BufRead, W: Write>(
+    alloc: Global,
+    wave: &Wave<'_>,
+    inputs: &Inputs<'_>,
+    trace: &mut R,
+    out: &mut W,
+) -> (Result<Done, Failure>, Option<String>)
+    ensures dumped { DumpsAs wave.now.has_states wave.now.steps (cut_of wave.now) inputs.now (R.remaining trace.old) (W.contents out.old) (W.contents out.new) result.0 }
+    ensures noted { NotesLine wave.now.why inputs.now (R.remaining trace.old) result.0 (option_map string_bytes result.1) }
+{
+    if wave.has_states {
+        return (dump_states(alloc, wave.steps, inputs, trace, out), None);
+    }
+    dump_ports(alloc, wave, inputs, trace, out)
 }
 
 /// The note to the file of the trace, which is not opened, where one is asked for.

@@ -244,6 +244,9 @@ no_trace rows none w is = let given = is.trace in absurd cc
 pub no_drawing : (rows : List Row) → first_of (codes "DECL") rows ≡ None → (d : Draw) → AsksDraw rows d → ⊥
 no_drawing rows none d is = let given = is.declaration in absurd cc
 
+pub no_wave_limit : (rows : List Row) → ((n : ℕ) → IsNumber rows (codes "steps") n → ⊥) → (w : Wave) → AsksWave rows w → ⊥
+no_wave_limit rows none w is = none w.steps is.steps
+
 pub no_inspected : (rows : List Row) → first_of (codes "DECL") rows ≡ None → (x : Inspect) → AsksInspect rows x → ⊥
 no_inspected rows none x is = let given = is.declaration in absurd cc
 

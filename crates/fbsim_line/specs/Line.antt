@@ -107,13 +107,15 @@ with_run_options values a = with_rule (with_rule (with_rule (with_numbers a)
     (flag (codes "progress")))
     (record (limited (codes "trace") values) { defaults = word_of One ∷ [] })
 
--- a command with the names of a declaration, of its deployment and of its trace, whether that may be cut off, and whether a
--- refusal is reported with its place
+-- a command with the names of a declaration, of its deployment and of its trace, whether that may be cut off, whether the inside of
+-- basic blocks is shown, with the limit of the run, and whether a refusal is reported with its place
 abbrev pub wave : App
 wave =
-    with_rule (with_rule (with_rule (deployed (codes "wave"))
+    with_rule (with_rule (with_rule (with_rule (with_rule (deployed (codes "wave"))
     (required (codes "TRACE")))
     (flag (codes "cut")))
+    (flag (codes "states")))
+    (record (limited (codes "steps") (up_to 10000000)) { defaults = codes "10000" ∷ [] }))
     (flag (codes "why"))
 
 -- a command with the names of rules and of traces, of a declaration with its files of block types and its deployment, and how
@@ -246,6 +248,8 @@ pub record AsksWave (rows : List Row) (w : Wave) : Type 0 where
   pub deploy : first_of (codes "deploy") rows ≡ option_map (λ n. n.now) w.deploy
   pub trace : first_of (codes "TRACE") rows ≡ Some w.trace.now
   pub cut : IsFlag rows (codes "cut") w.is_cut
+  pub states : IsFlag rows (codes "states") w.has_states
+  pub steps : IsNumber rows (codes "steps") w.steps
   pub why : IsFlag rows (codes "why") w.why
 
 -- a deployment or block types are named, and no declaration

@@ -56,6 +56,10 @@ pub struct Wave<'a> {
     pub trace: &'a str,
     /// Whether the trace may be cut off.
     pub is_cut: bool,
+    /// Whether the waveforms have the inside of basic blocks.
+    pub has_states: bool,
+    /// The most steps of a resource in one tick, in a run that stops for them.
+    pub steps: u64,
     /// Whether a refusal is reported with its place, where that is known.
     pub why: bool,
 }
@@ -143,6 +147,12 @@ const CHECK_EXAMPLE: &str =
 const WAVE_ABOUT: &str = "Converts a trace to a value change dump, which waveform viewers read.";
 
 const WAVE_EXAMPLE: &str = "Example: fbsim wave cell.iec --deploy cell.toml cell.trace";
+
+const STATES_HELP: &str =
+    "Adds the state of each basic block, its internal variables and the events that it lost.";
+
+const WAVE_STEPS_HELP: &str =
+    "With --states: the limit of steps of the run that wrote the trace, 1 to 10000000.";
 
 const EXPLAIN_ABOUT: &str =
     "Prints what a refusal or the reason of a stop means, two examples, and what to look at.";
@@ -363,6 +373,9 @@ fn wave_command<'a>(alloc: Global) -> Result<Command<'a>, AllocError>
     let command = deployed(alloc, "wave", WAVE_ABOUT, WAVE_EXAMPLE);
     let command = with_arg(command, required(alloc, "TRACE", TRACE_FILE_HELP));
     let command = with_arg(command, flag(alloc, "cut", CUT_TRACE_HELP));
+    let command = with_arg(command, flag(alloc, "states", STATES_HELP));
+    let steps = limited(alloc, "steps", up_to(MOST_STEPS), WAVE_STEPS_HELP).default_value("10000");
+    let command = with_arg(command, steps);
     with_arg(command, flag(alloc, "why", WHY_HELP))
 }
 
@@ -545,12 +558,17 @@ fn wave_of<'a>(alloc: Global, found: &ArgMatches<'a>) -> Result<Option<Call<'a>>
     let Some(trace) = found.get_str("TRACE") else {
         return Ok(None);
     };
+    let Some(steps) = number(found, "steps") else {
+        return Ok(None);
+    };
     let types = types_of(alloc, found)?;
     let wave = Wave {
         declaration,
         deploy,
         trace,
         is_cut: has_flag(found, "cut"),
+        has_states: has_flag(found, "states"),
+        steps,
         why: has_flag(found, "why"),
     };
     Ok(Some(Call::Wave(wave, types)))

@@ -18,7 +18,7 @@ use Rattle.fb_inspect.specs.declared.trail.Trail.{Trail}
 use Rattle.fb_inspect.proofs.Charted.{link_failed, link_rested, link_stopped, link_went}
 use Rattle.fb_inspect.proofs.Marked.{cleared_at}
 use Rattle.fb_inspect.proofs.Moving.{aside}
-use Rattle.fb_inspect.proofs.Placed.{entered_at, lost_any, moved_at}
+use Rattle.fb_inspect.proofs.Placed.{entered_at, lost_any, marks_any, moved_at}
 use Rattle.fb_inspect.proofs.charts.link.Goals as goal
 
 pub returns-in-Err-clause-linked : goal.returns-in-Err-clause-linked
@@ -44,11 +44,12 @@ returns-in_ok-note_lost-in-Ok-None-clause-linked g c =
     let f = event_at t.ports.event_inputs in
     let p : Position = place t c.args.chart.now c.args.meter.now.left in
     let cleared : Chart = record (c.args.chart.now) { state = now } in
-    let noted : Trail = record trail { page = record (trail.page) { text = c.note_lost.new.text } } in
+    let noted : Trail = record trail { page = record (trail.page) { text = c.note_lost.new.text }; marks = record (trail.marks) { charts = c.mark_lost.new.marks } } in
     let stays = subst (λ (o : Option ℕ). IfNone o (now.state ≡ was.state)) c.in-Ok-None.field-0-is c.in-Ok-None.ensures.stays in
     let tried = subst (λ (o : Option ℕ). trial_at t (option_map f c.args.present) p ≡ trial_by t (Ok o) c.clear.new.meter.left) c.in-Ok-None.field-0-is c.in-Ok-None.ensures.trial in
     let at = moved_at t was.state now.state was.frame now.frame c.args.meter.now.left c.clear.new.meter.left stays c.in-Ok-None.ensures.frame in
-    link_rested x (option_map f c.args.present) c.clear.new.meter.left p (place t cleared c.clear.new.meter.left) trail noted (g.R.Read.remaining c.args.input.now) tried at refl (aside trail noted refl refl) refl refl
+    link_rested x (option_map f c.args.present) c.clear.new.meter.left p (place t cleared c.clear.new.meter.left) trail noted (g.R.Read.remaining c.args.input.now) tried at refl (aside trail noted refl refl refl)
+    (c.mark_lost.ensures ∙ marks_any c.args.present f trail.marks.charts) refl
     (c.in_ok-note_lost-in-Ok-None.ensures
     ∙ ap (λ (n : Name). old ++ shown_text trail.is_shown (lost_if c.args.present n)) (c.state_name-state.ensures ∙ ap (state_at t) stays)
     ∙ ap (λ (z : List ℕ). old ++ shown_text trail.is_shown z) (lost_any c.args.present f (state_at t was.state)))
@@ -76,7 +77,7 @@ returns-in-Some-clause-linked g c =
     let mark : PieceMarks t x.number x.line.now.event (Clears_by y) trail.marks.charts noted.marks.charts =
     (c.in-Ok-Some.index, now.state, cleared_at t c.in-Ok-Some.index within, entered, c.mark_cleared.ensures) in
     let at = entered_at t was.state now.state was.frame now.frame c.args.meter.now.left c.clear.new.meter.left y.to entered c.in-Ok-Some.ensures.frame in
-    link_stopped x present y y.to c.clear.new.meter.left c.in-Some.reason p m q trail noted c.perform_all.new.trail left after tried first (aside trail noted refl refl) mark refl c.in_ok-note_cleared-in-Ok-Some.ensures at
+    link_stopped x present y y.to c.clear.new.meter.left c.in-Some.reason p m q trail noted c.perform_all.new.trail left after tried first (aside trail noted refl refl refl) mark refl c.in_ok-note_cleared-in-Ok-Some.ensures at
     (subst (λ (n : Name). ChartGoes x (Acting t (actions_of t n)) m (Some c.in-Some.reason) q noted c.perform_all.new.trail left after) entered
     (subst (λ (o : Option Reason). ChartGoes x (Acting t (actions_of t (state_at t now.state))) m o q noted c.perform_all.new.trail left after) c.in-Some.is
     c.in_ok-reason-in-Ok-Some.ensures.shown))
@@ -104,7 +105,7 @@ returns-in-None-clause-linked g c =
     let mark : PieceMarks t x.number x.line.now.event (Clears_by y) trail.marks.charts noted.marks.charts =
     (c.in-Ok-Some.index, now.state, cleared_at t c.in-Ok-Some.index within, entered, c.mark_cleared.ensures) in
     let at = entered_at t was.state now.state was.frame now.frame c.args.meter.now.left c.clear.new.meter.left y.to entered c.in-Ok-Some.ensures.frame in
-    link_went x present y y.to c.clear.new.meter.left p m q trail noted c.perform_all.new.trail left after tried first (aside trail noted refl refl) mark refl c.in_ok-note_cleared-in-Ok-Some.ensures at refl
+    link_went x present y y.to c.clear.new.meter.left p m q trail noted c.perform_all.new.trail left after tried first (aside trail noted refl refl refl) mark refl c.in_ok-note_cleared-in-Ok-Some.ensures at refl
     (subst (λ (n : Name). ChartGoes x (Acting t (actions_of t n)) m None q noted c.perform_all.new.trail left after) entered
     (subst (λ (o : Option Reason). ChartGoes x (Acting t (actions_of t (state_at t now.state))) m o q noted c.perform_all.new.trail left after) c.in-None.is
     c.in_ok-reason-in-Ok-Some.ensures.shown))

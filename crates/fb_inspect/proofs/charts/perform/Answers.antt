@@ -37,6 +37,6 @@ returns-clause-shown g c = λ a at.
     ∙ ap (λ (ns : List Name). c.args.trail.now.page.text.items ++ shown_text c.args.trail.now.is_shown (ran_by_action a.algorithm left before after ns)) c.requires.chart.own in
     let trail : Trail = c.args.trail.now in
     let marked : Trail = record trail { page = record (trail.page) { text = c.note_ran.new.text }; marks = record (trail.marks) { charts = c.mark_algorithm.new.marks } } in
-    act_goes x t a p q c.acted.new.emits _ trail marked _ _ _ c.requires.taking.kind refl refl acts (aside trail marked refl refl)
+    act_goes x t a p q c.acted.new.emits _ trail marked _ _ _ c.requires.taking.kind refl refl acts (aside trail marked refl refl refl)
     (c.mark_algorithm.ensures ∙ ap (λ (n : Option Name). with_ran_by t x.number n left trail.marks.charts) (c.algorithm_of-algorithm.ensures a at))
     c.in_ok-emit_all.ensures.charts refl noted c.in_ok-emit_all.ensures.goes

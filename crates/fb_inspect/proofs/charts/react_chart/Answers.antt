@@ -29,5 +29,5 @@ returns-clause-shown g c =
     let noted : Trail = record new { page = record (new.page) { text = c.note_stop.new.text } } in
     let before = g.R.Read.remaining c.args.input.now in
     let after = g.R.Read.remaining c.follow.new.input in
-    reaction_goes x e p q c.in_ok-end.end c.args.trail.now new noted before after (aside new noted refl refl) refl refl c.in_ok-note_stop.ensures
+    reaction_goes x e p q c.in_ok-end.end c.args.trail.now new noted before after (aside new noted refl refl refl) refl refl c.in_ok-note_stop.ensures
     (subst (λ (m : Position). ChartGoes x (ShowsChain t (Some e)) m c.in_ok-end.end q c.args.trail.now new before after) at c.in_ok-end.ensures.shown)

@@ -12,4 +12,4 @@ returns-clause-turned g c = λ s kept.
     (c.in_ok-expire_to.ensures c.if-not-branch.false)
     (record { memory_is = c.seen_of-before.ensures.memory; due_is = c.seen_of-before.ensures.due })
     (record { memory_is = c.seen_of-after.ensures.memory; due_is = c.seen_of-after.ensures.due })
-    c.in_ok-pass.ensures.goes (aside _ _ refl refl) refl c.in_ok-note_change.ensures
+    c.in_ok-pass.ensures.goes (aside _ _ refl refl refl) refl c.in_ok-note_change.ensures

@@ -34,4 +34,4 @@ returns-clause-turned g c = λ s kept.
     (g.R.Read.remaining c.args.input.now) (g.R.Read.remaining c.emit_all.new.input) has
     (record { memory_is = before.ensures.memory; due_is = before.ensures.due })
     (record { memory_is = after.ensures.memory; due_is = after.ensures.due })
-    (aside trail noted refl refl) refl c.in_ok-note_change.ensures goes)
+    (aside trail noted refl refl refl) refl c.in_ok-note_change.ensures goes)

@@ -1,7 +1,7 @@
 use Rattle.std.proofs.Common.{rules, ◌≡◌, sym, ◌∙◌, codes, Some, None}
 use Rattle.clap.specs.Words.{found_of, first_value, rows_of}
 use Rattle.clap.proofs.WalkLemmas.{first_value-rows}
-use Rattle.fbsim_line.proofs.LineLaws.{no_source, no_trace}
+use Rattle.fbsim_line.proofs.LineLaws.{no_source, no_trace, no_wave_limit}
 use Rattle.fbsim_line.proofs.line.wave_of.Goals as goal
 
 pub returns-clause-rows : goal.returns-clause-rows
@@ -14,7 +14,9 @@ returns-clause-rows c =
         deploy = sym (first_value-rows m (codes "deploy")) ∙ sym c.get_str-deploy.ensures;
         trace = sym (first_value-rows m (codes "TRACE")) ∙ traced;
         cut = c.has_flag.ensures;
-        why = c.has_flag-2.ensures;
+        states = c.has_flag-2.ensures;
+        steps = c.in-Some-number.ensures.number;
+        why = c.has_flag-3.ensures;
       },
       c.in_ok-types.ensures,
     )
@@ -30,3 +32,6 @@ returns-in_default-get_str-clause-none c =
     let m = found_of c.args.found.now in
     let none : first_value m (codes "TRACE") ≡ None = search rules in
     no_trace (rows_of m) (sym (first_value-rows m (codes "TRACE")) ∙ none)
+
+pub returns-in_default-number-clause-none : goal.returns-in_default-number-clause-none
+returns-in_default-number-clause-none c = no_wave_limit (rows_of (found_of c.args.found.now)) c.in_default-number.ensures.none

@@ -25,6 +25,6 @@ returns-clause-goes g c =
     (λ goes. (
       l,
       is,
-      goes_same sys form c.args.line.now.key.tick (l ∷ []) bytes cut old new left after (aside old cut refl refl) refl refl
+      goes_same sys form c.args.line.now.key.tick (l ∷ []) bytes cut old new left after (aside old cut refl refl refl) refl refl
           (subst (λ (k : Key). Goes sys form k.tick (l ∷ []) bytes cut new left after) is.key goes),
     ))

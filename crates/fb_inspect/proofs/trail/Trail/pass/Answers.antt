@@ -11,4 +11,4 @@ returns-clause-goes g c =
     on_ok c.advance.result _ _ c.advance.ensures.read
     (λ read.
     goes_pass (system_of c.args.fixed.now.table.now.system.now) c.args.fixed.now.form c.args.line.now a _ _ _ c.requires.line
-    (c.in_ok-put_line.ensures ∙ ap (λ (l : List ℕ). a.page.text.items ++ shown_text a.is_shown l) c.as_slice-whole.ensures.value) refl c.mark.ensures read)
+    (c.in_ok-put_line.ensures ∙ ap (λ (l : List ℕ). a.page.text.items ++ shown_text a.is_shown l) c.as_slice-whole.ensures.value) refl c.mark.ensures c.in_ok-pass.ensures read)

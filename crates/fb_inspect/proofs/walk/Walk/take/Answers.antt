@@ -15,4 +15,4 @@ returns-clause-goes g c = λ look is.
     (λ stop goes.
     turn_taken c.args.fixed.now.table.now.system.now.library.blocks (system_of c.args.fixed.now.table.now.system.now) c.args.fixed.now.form c.args.fixed.now.limit look c.facts.ensures.numbered l stop old mid c.react.new.self
     (g.R.Read.remaining c.args.input.now) (g.R.Read.remaining c.react.new.input) c.requires.is.line.belongs.instance is c.if-line-gt-LATEST_TICK.false
-    c.if-not-use_step.ensures refl refl refl (c.flag_at-self.ensures ∙ ap (λ (fs : List Bool). flag_at fs l.instance) c.as_slice.ensures.value) refl refl goes)
+    c.if-not-use_step.ensures refl refl refl refl (c.flag_at-self.ensures ∙ ap (λ (fs : List Bool). flag_at fs l.instance) c.as_slice.ensures.value) refl refl goes)

@@ -1,0 +1,6 @@
+pub mod Without
+pub mod Changing
+pub mod Heading
+pub mod Growing
+pub mod Waved
+pub mod Ending

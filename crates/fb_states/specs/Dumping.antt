@@ -1,0 +1,52 @@
+-- How a dump with the inside of basic blocks grows taking by taking (this project's own).
+use Rattle.std.specs.Prelude.{◌≡◌, ◌<◌, ℕ, List, [], ◌∷◌, ◌++◌, true, All, length}
+use Rattle.fb_types.specs.Systems.{System}
+use Rattle.fb_types.specs.declared.run.Line.{Line}
+use Rattle.fb_wave.specs.Dumps.{last_tick}
+use Rattle.fb_wave.specs.Levels.{AreLevels}
+use Rattle.fb_wave.specs.LineSignals.{fires_of, has_signal, touches_of}
+use Rattle.fb_wave.specs.Signals.{sizes_of}
+use Rattle.fb_wave.specs.Writing.{AreFirsts, AreFit}
+use Rattle.fb_inspect.specs.Inspections.{last_look}
+use Rattle.fb_inspect.specs.Looks.{opening_look}
+use Rattle.fb_states.specs.Heads.{state_head}
+use Rattle.fb_states.specs.Inner.{turn_changes}
+use Rattle.fb_states.specs.StateDumps.{Taken, lines_of, takings_text, tick_of, turns_of}
+use Rattle.fb_states.specs.declared.port_dump.PortDump.{PortDump}
+
+-- The numbers are those of the system.
+pub record IsPortDump (sys : System) (x : PortDump) : Type 0 where
+  pub firsts_are : AreFirsts sys x.firsts.items
+  pub fit : AreFit sys x.levels
+
+-- Takings were written: the text so far is that of their dump, but for what the last tick changes at ports. Whatever takings come, it
+-- grows to the dump of all.
+pub record Shows (sys : System) (xs : List Taken) (shown : List ℕ) (x : PortDump) : Type 0 where
+  pub before : List Line
+  pub now : List Line
+  pub parts : lines_of xs ≡ before ++ now
+  pub tick : x.tick ≡ last_tick 0 (lines_of xs)
+  pub levels : AreLevels (sizes_of sys sys.paths) (fires_of sys (lines_of xs)) (has_signal sys (lines_of xs)) (touches_of sys now) x.levels
+  pub text :
+      (rest : List Taken)
+      → shown ++ takings_text true sys x.tick before now (last_look (opening_look sys) (turns_of xs)) rest
+      ≡ state_head true sys ++ takings_text true sys 0 [] [] (opening_look sys) (xs ++ rest)
+
+-- The same where the next taking is one of this tick.
+pub record IsTurned (sys : System) (xs : List Taken) (shown : List ℕ) (next : ℕ) (x : PortDump) : Type 0 where
+  pub before : List Line
+  pub now : List Line
+  pub parts : lines_of xs ≡ before ++ now
+  pub tick : x.tick ≡ next
+  pub levels : AreLevels (sizes_of sys sys.paths) (fires_of sys (lines_of xs)) (has_signal sys (lines_of xs)) (touches_of sys now) x.levels
+  pub text :
+      (y : Taken) (rest : List Taken) → tick_of y ≡ next
+      → shown ++ (turn_changes sys (last_look (opening_look sys) (turns_of xs)) y.turn ++ takings_text true sys next before (now ++ y.lines) y.turn.after rest)
+      ≡ state_head true sys ++ takings_text true sys 0 [] [] (opening_look sys) (xs ++ y ∷ rest)
+
+-- Lines of the tick were shown.
+pub record ShowsLines (sys : System) (ls : List Line) (old new : PortDump) : Type 0 where
+  pub tick : new.tick ≡ old.tick
+  pub levels :
+      (all now : List Line) → AreLevels (sizes_of sys sys.paths) (fires_of sys all) (has_signal sys all) (touches_of sys now) old.levels
+      → AreLevels (sizes_of sys sys.paths) (fires_of sys (all ++ ls)) (has_signal sys (all ++ ls)) (touches_of sys (now ++ ls)) new.levels

@@ -1,0 +1,9 @@
+pub mod Inner
+pub mod Heads
+pub mod StateDumps
+pub mod Saved
+pub mod Ends
+pub mod Dumping
+pub mod StateWaves
+pub mod Waving
+pub mod Laws

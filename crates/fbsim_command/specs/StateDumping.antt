@@ -1,0 +1,33 @@
+-- What a call for the waveforms of a trace with the inside of basic blocks does (docs/FORMATS.md, "Waveforms"; this project's own).
+use Rattle.std.specs.Prelude.{◌≡◌, ◌⊎◌, ℕ, IfSome, Ok, Err}
+use Rattle.fb_types.specs.Headline.{Inputs, system_of}
+use Rattle.fb_sim.specs.Given.{Given}
+use Rattle.fb_sim.specs.Serial.{Declares}
+use Rattle.fb_states.specs.StateWaves.{IsStateWave, WritesFront}
+use Rattle.fbsim_command.specs.Outcomes.{End, Held, IsRefused}
+use Rattle.fbsim_command.specs.declared.failure.Failure.TheVariants.{Refused, RefusedTrace, File, Write, Memory, Line, BadOption}
+use Rattle.fbsim_command.specs.declared.statuses.Done.TheVariants.{Helped, Explained, Accepted, Shown, Ended, Stopped, Met, Unmet, Same, Different}
+
+-- The inputs are accepted, and the writer got the first bytes of the dump of takings of their system.
+abbrev pub StatesFront : Given → (steps : ℕ) → (old new : Held) → Type 0
+StatesFront given steps old new = (i : Inputs) × Declares given i × WritesFront (system_of i) steps old new
+
+-- a trace of what the inputs declare is read, of which these bytes are known, and its dump is written with the inside of basic blocks
+abbrev pub DumpsStates : Given → (steps : ℕ) → (trace : Held) → (old new : Held) → End → Type 0
+DumpsStates given steps trace old new (Ok Shown) = (i : Inputs) × Declares given i × IfSome trace (λ text. IsStateWave (system_of i) steps text old new)
+DumpsStates given steps trace old new (Ok Helped) = ⊥
+DumpsStates given steps trace old new (Ok Explained) = ⊥
+DumpsStates given steps trace old new (Ok Accepted) = ⊥
+DumpsStates given steps trace old new (Ok Ended) = ⊥
+DumpsStates given steps trace old new (Ok Stopped) = ⊥
+DumpsStates given steps trace old new (Ok Met) = ⊥
+DumpsStates given steps trace old new (Ok Unmet) = ⊥
+DumpsStates given steps trace old new (Ok Same) = ⊥
+DumpsStates given steps trace old new (Ok Different) = ⊥
+DumpsStates given steps trace old new (Err (Refused refusal)) = (IsRefused given refusal × (new ≡ old)) ⊎ StatesFront given steps old new
+DumpsStates given steps trace old new (Err File) = StatesFront given steps old new
+DumpsStates given steps trace old new (Err (Write n)) = StatesFront given steps old new
+DumpsStates given steps trace old new (Err Memory) = (new ≡ old) ⊎ StatesFront given steps old new
+DumpsStates given steps trace old new (Err (Line message)) = ⊥
+DumpsStates given steps trace old new (Err BadOption) = ⊥
+DumpsStates given steps trace old new (Err (RefusedTrace text)) = ⊥

@@ -1,0 +1,152 @@
+#!/usr/bin/env python3
+"""tools/state_waves.py [PROGRAM]: the dumps that `wave --states` makes, beside an interpreter of its own.
+
+The second simulator of tools/interpreter.py runs each example and each random system of tools/drawn.py once more, and notes what each
+taking changes inside a basic block: its state, its internal variables, and whether it lost the event. The program is given the trace
+alone. What its dump has of the inside of blocks is to be that, to the byte, at these times and in this order, and the declarations of
+it are to be in the scopes of the blocks. Without these lines the dump is to be the one that `wave` makes. Of traces in which one
+emission was changed or left out, the program is to refuse the first line that shows it. Where GTKWave's own reader is on this machine,
+it must find the same states and values in the dump as tools/vcd.py."""
+
+import os
+import re
+import sys
+import tomllib
+
+import insides
+import interpreter
+import vcd
+import waves
+from kit import TOP
+from program import Room, side_by_side
+
+PROGRAM = f"{TOP}/crates/fbsim/out/fbsim"
+DECLARED = re.compile(r"\$var (string 1 s\d+ state|event 1 l\d+ lost|(reg 64|wire 1) i\d+_\d+ \w+) \$end")
+CHANGED = re.compile(r"s\w+ s\d+|1l\d+|[01]i\d+_\d+|b[01]+ i\d+_\d+")
+SHOWN = 10
+
+
+def value_line(code, value):
+    return f"{int(value)}{code}" if isinstance(value, bool) else f"b{value % 2**waves.BITS:b} {code}"
+
+
+def inside_of(block):
+    """The lines of the state and the internal variables of a block, as they are now."""
+    values = [value_line(f"i{block.number}_{at}", block.values[it]) for at, it in enumerate(block.type.inner)]
+    return [f"s{block.state} s{block.number}", *values]
+
+
+def declared_of(block):
+    """The declarations of the inside of a block."""
+    kinds = ["wire 1" if isinstance(start, bool) else "reg 64" for _, start in block.type.inner.values()]
+    names = [f"{kind} i{block.number}_{at} {name}" for at, (kind, name) in enumerate(zip(kinds, block.type.inner))]
+    return [f"$var {it} $end" for it in (f"string 1 s{block.number} state", *names, f"event 1 l{block.number} lost")]
+
+
+class Stated(insides.Noted):
+    """The simulation, with what its takings change inside of blocks, each line with its tick."""
+
+    def __init__(self, *given):
+        super().__init__(*given)
+        charts = [it for it in self.blocks if it.type.chart]
+        self.changes = [(0, line) for it in charts for line in inside_of(it)]
+        self.declared = {f"{self.resources[it.home][0]}.{it.path}": declared_of(it) for it in charts}
+        self.has_lost = False
+
+    def note(self, text):
+        self.has_lost |= text.startswith("lost in ")
+
+    def run_chart(self, block, present):
+        before, self.has_lost = inside_of(block), False
+        try:
+            super().run_chart(block, present)
+        finally:
+            self.changes += [(self.tick, line) for line, old in zip(inside_of(block), before) if line != old]
+            self.changes += [(self.tick, f"1l{block.number}")] * self.has_lost
+
+
+class Parts:
+    """What a dump has of the inside of blocks, and the lines that it has without it."""
+
+    def __init__(self, text):
+        self.others, self.changes, self.declared, scopes, now = [], [], {}, [], None
+        for line in text.splitlines():
+            if DECLARED.fullmatch(line):
+                self.declared.setdefault(".".join(scopes), []).append(line)
+                continue
+            if CHANGED.fullmatch(line):
+                self.changes.append((now, line))
+                continue
+            self.others.append(line)
+            if line.startswith("$scope"):
+                scopes.append(line.split(" ")[2])
+            elif line.startswith("$upscope"):
+                scopes.pop()
+            elif line.startswith("#"):
+                now = int(line[1:])
+
+
+def first_difference(found, wanted):
+    pairs = zip([*found, "(none)"], [*wanted, "(none)"])
+    return next((f"{a!r} and not {b!r}" for a, b in pairs if a != b), "the lengths differ")
+
+
+def faults_by_gtkwave(dump):
+    """The signals that GTKWave's reader finds otherwise."""
+    try:
+        own, other = vcd.read(dump), vcd.read(waves.by_gtkwave(dump.encode()))
+    except vcd.Fault as fault:
+        return [f"by GTKWave: {fault}"]
+    return [f"by GTKWave: {it} has {other.values.get(it)}" for it in own.values if other.values.get(it) != own.values[it]]
+
+
+def faults_of_dump(system, dump, plain):
+    """What is wrong with a dump of the simulation's trace, of which `wave` makes the plain one."""
+    found = Parts(dump)
+    if found.others != plain.splitlines():
+        yield f"without the inside of blocks: {first_difference(found.others, plain.splitlines())}"
+    if found.changes != system.changes:
+        yield first_difference(found.changes, system.changes)
+    if found.declared != system.declared:
+        yield first_difference(sorted(found.declared.items()), sorted(system.declared.items()))
+
+
+def faults_of(room, number, case, with_gtkwave):
+    """What is wrong with the dumps of a case."""
+    name, declaration, plan, stimuli, horizon, steps = case
+    wrong = []
+    for form in (1, 2):
+        system = Stated(declaration, tomllib.loads(plan) if plan else None, interpreter.stimuli_in(stimuli), steps)
+        trace = system.run(horizon, form=form)
+        files = {"iec": declaration, "trace": trace} | ({"toml": plan} if plan else {})
+        for ending, text in files.items():
+            with open(f"{room.folder}/w{number}.{ending}", "w", encoding="utf-8") as it:
+                it.write(text)
+        words = ["wave", f"w{number}.iec", *(["--deploy", f"w{number}.toml"] if plan else [])]
+        stated = [*words, "--states", "--steps", str(steps)]
+        dump, plain = room.call([*stated, f"w{number}.trace"]), room.call([*words, f"w{number}.trace"])
+        if dump.returncode or dump.stderr:
+            wrong.append(f"{name}, form {form}: status {dump.returncode} {dump.stderr.decode().strip()}")
+            continue
+        wrong += [f"{name}, form {form}: {it}" for it in faults_of_dump(system, dump.stdout.decode(), plain.stdout.decode())]
+        if with_gtkwave:
+            wrong += [f"{name}, form {form}: {it}" for it in faults_by_gtkwave(dump.stdout.decode())]
+        for text, line in insides.spoiled(system, trace):
+            ran = room.call([*stated, "-"], text.encode())
+            if (ran.returncode, ran.stderr) != (2, f"refused trace line {line}\n".encode()):
+                wrong.append(f"{name}, form {form}: a spoiled line {line}: status {ran.returncode} {ran.stderr.decode().strip()}")
+    return wrong
+
+
+def make_all(program):
+    """Returns whether each dump is as it is to be."""
+    cases, with_gtkwave = [*insides.examples(), *insides.systems()], waves.have_readers()
+    with Room(program) as room:
+        wrong = [it for found in side_by_side(lambda it: faults_of(room, *it, with_gtkwave), [*enumerate(cases)]) for it in found]
+    print("\n".join(wrong[:SHOWN]), end="\n" * bool(wrong))
+    print(f"state_waves: {len(wrong)} faults in the dumps of {len(cases)} systems", flush=True)
+    return not wrong
+
+
+if __name__ == "__main__":
+    sys.exit(not make_all(sys.argv[1] if sys.argv[1:] else PROGRAM))
