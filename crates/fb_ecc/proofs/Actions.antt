@@ -1,5 +1,5 @@
 -- Actions, put together from their parts.
-use Rattle.std.proofs.Common.{◌≡◌, ℕ, ℤ, zero, suc, ◌+◌, ◌<◌, ◌≤◌, true, false, cond, List, [], ◌∷◌, ◌++◌, length, get_or, drop, map, Option, Some, None, Result, Ok, Err, OnOk, OnErr, refl, sym, ◌∙◌, ap, subst, arith, add-one}
+use Rattle.std.proofs.Common.{◌≡◌, ℕ, zero, suc, ◌+◌, ◌<◌, ◌≤◌, true, false, cond, List, [], ◌∷◌, ◌++◌, length, get_or, drop, map, Option, Some, None, Result, Ok, Err, OnOk, OnErr, refl, sym, ◌∙◌, ap, subst, arith, add-one}
 use Rattle.std.proofs.Math.Path.{fun_ext}
 use Rattle.std.specs.Prelude.{option_map, option_and_then, slice_get, unwrap_or}
 use Rattle.std.specs.List.{All}
@@ -23,8 +23,6 @@ use Rattle.fb_types.specs.declared.run.Halt.{Halt}
 use Rattle.fb_types.specs.declared.run.Halt.TheVariants as halt
 use Rattle.fb_types.specs.declared.value.Reason.{Reason}
 use Rattle.fb_types.specs.declared.value.Ty.{Ty}
-use Rattle.fb_types.specs.declared.value.Value.{Value}
-use Rattle.fb_types.specs.declared.value.Value.TheVariants as value
 use Rattle.fb_types.specs.declared.value.Ty.TheVariants.{Bool as Boolean}
 use Rattle.fb_types.proofs.NameLaws.{same_from_same_name}
 use Rattle.fb_st.specs.Frames.{Declared, types_in, values_of}
@@ -35,9 +33,11 @@ use Rattle.fb_st.specs.declared.meter.Flow.{Flow}
 use Rattle.fb_st.specs.declared.meter.Flow.TheVariants as flow
 use Rattle.fb_ecc.specs.Actions.{AreActions, IsAction, IsAlgorithm, IsOutput, with_slots}
 use Rattle.fb_ecc.specs.declared.chart.Act.{Act}
-use Rattle.fb_ecc.specs.Numbered.{number_in, names_with_each}
+use Rattle.fb_ecc.specs.Located.{AreAt, slots_with, slots_with_each}
+use Rattle.fb_ecc.specs.Numbered.{number_in}
 use Rattle.fb_ecc.specs.Indexes.{index, Ended, IsWellFormed}
 use Rattle.fb_ecc.specs.Sound.{declared_as, declared_by}
+use Rattle.fb_ecc.proofs.Located.{outputs_at}
 use Rattle.fb_ecc.proofs.Trials.{IsFirst, stands, number_is}
 
 -- ---- An action, and what follows
@@ -104,12 +104,13 @@ pub record Output (t : BasicType) (k : ℕ) (name : Option Name) : Type 0 where
   pub is : name ≡ Some event
   pub within : k < length t.ports.event_outputs
   pub named : event_at t.ports.event_outputs k ≡ event
-  pub shown : slice_get (names_with_each t.ports.event_outputs t.ports.outputs) k ≡ Some (outputs_with t.ports event)
+  pub shown : slice_get (slots_with_each t.ports.event_outputs t.ports.outputs (length t.ports.inputs)) k ≡ Some (slots_with t.ports.event_outputs t.ports.outputs (length t.ports.inputs) event)
 
 pub output_here : (t : BasicType) (k : ℕ) (name : Option Name) → IsOutput t (Some k) name → Output t k name
 output_here t k None o = absurd (let e = o.is in cc)
 output_here t k (Some n) o =
     let events : List EventPort = t.ports.event_outputs in
+    let first : ℕ = length t.ports.inputs in
     let s = stands (λ p. p.name) events n o.known in
     let numbered : Some k ≡ Some (number_in (λ p. p.name) events n) = o.is in
     let here : k ≡ s.index = same_Some k (number_in (λ p. p.name) events n) numbered ∙ number_is (λ p. p.name) events n s in
@@ -119,10 +120,10 @@ output_here t k (Some n) o =
       is = refl;
       within = subst (λ i. i < length events) (sym here) (slice_get_within events s.index s.element s.at);
       named = ap (event_at events) here ∙ event_is events n s;
-      shown = ap (slice_get (names_with_each events t.ports.outputs)) here
-          ∙ slice_get-map (λ (e : EventPort). outputs_with t.ports e.name) events s.index
-          ∙ ap (option_map (λ (e : EventPort). outputs_with t.ports e.name)) s.at
-          ∙ ap (λ (m : Name). Some (outputs_with t.ports m)) names;
+      shown = ap (slice_get (slots_with_each events t.ports.outputs first)) here
+          ∙ slice_get-map (λ (e : EventPort). slots_with events t.ports.outputs first e.name) events s.index
+          ∙ ap (option_map (λ (e : EventPort). slots_with events t.ports.outputs first e.name)) s.at
+          ∙ ap (λ (m : Name). Some (slots_with events t.ports.outputs first m)) names;
     }
 
 -- no output event
@@ -130,20 +131,25 @@ pub emitted_none : (t : BasicType) (name : Option Name) (p : Position) → IsOut
 emitted_none t None p o = refl
 emitted_none t (Some n) p o = absurd (let e = o.is in cc)
 
--- the variables WITH an output event, where they are read
+-- the slots of the variables WITH an output event, where they are read
 pub shown_here :
-    (t : BasicType) (k : ℕ) (name : Option Name) (o : Output t k name) (shown : List (List Name)) (read d : List Name)
-    → shown ≡ names_with_each t.ports.event_outputs t.ports.outputs → k < length shown → read ≡ get_or shown k d → read ≡ outputs_with t.ports o.event
-shown_here t k name o shown read d all within is =
-    is
-    ∙ same_Some (get_or shown k d) (outputs_with t.ports o.event)
-    (sym (subst (λ (l : List (List Name)). slice_get l k ≡ Some (get_or shown k d)) all (slice_get-get_or shown k d within)) ∙ o.shown)
+    (t : BasicType) (k : ℕ) (name : Option Name) (o : Output t k name) (shown : List (List ℕ)) (read d : List ℕ) (ds : List Declared)
+    → shown ≡ slots_with_each t.ports.event_outputs t.ports.outputs (length t.ports.inputs) → k < length shown → read ≡ get_or shown k d → ds ≡ declared_by t
+    → AreAt ds (outputs_with t.ports o.event) read
+shown_here t k name o shown read d ds all within is declared =
+    let slots : List ℕ = slots_with t.ports.event_outputs t.ports.outputs (length t.ports.inputs) o.event in
+    let here : read ≡ slots =
+    is ∙ same_Some (get_or shown k d) slots (sym (subst (λ (l : List (List ℕ)). slice_get l k ≡ Some (get_or shown k d)) all (slice_get-get_or shown k d within)) ∙ o.shown) in
+    subst (λ (l : List Declared). AreAt l (outputs_with t.ports o.event) read) (sym declared)
+    (subst (λ (l : List ℕ). AreAt (declared_by t) (outputs_with t.ports o.event) l) (sym here) (outputs_at t o.event))
 
 pub shown_within :
-    (t : BasicType) (k : ℕ) (name : Option Name) (o : Output t k name) (shown : List (List Name)) → shown ≡ names_with_each t.ports.event_outputs t.ports.outputs → k < length shown
+    (t : BasicType) (k : ℕ) (name : Option Name) (o : Output t k name) (shown : List (List ℕ))
+    → shown ≡ slots_with_each t.ports.event_outputs t.ports.outputs (length t.ports.inputs) → k < length shown
 shown_within t k name o shown all =
-    subst (λ (l : List (List Name)). k < length l) (sym all)
-    (slice_get_within (names_with_each t.ports.event_outputs t.ports.outputs) k (outputs_with t.ports o.event) o.shown)
+    let first : ℕ = length t.ports.inputs in
+    subst (λ (l : List (List ℕ)). k < length l) (sym all)
+    (slice_get_within (slots_with_each t.ports.event_outputs t.ports.outputs first) k (slots_with t.ports.event_outputs t.ports.outputs first o.event) o.shown)
 
 emission_meant :
     (t : BasicType) (k : ℕ) (name : Option Name) (o : Output t k name) (vars : Values) (read : List Name) → read ≡ outputs_with t.ports o.event
@@ -174,12 +180,6 @@ fit_some t k name o vars old new read is grown all =
     length-map read vars ∙ ap length is ∙ ap (λ (n : Name). length (outputs_with t.ports n)) (sym o.named) in
     let P : List run.Emission → Type 0 = λ l. All (IsWellFormed t) l in
     subst P (sym grown) (All-push (IsWellFormed t) old (record { event = k; values = map vars read }) all (o.within, counted))
-
--- what one variable alone holds
-pub shown_alone : (vars : Values) (ns : List Name) (n : Name) (z : ℤ) → length ns ≡ 1 → n ≡ get_or ns 0 n → vars n ≡ value.Whole z → map vars ns ≡ value.Whole z ∷ []
-shown_alone vars [] n z one is holds = absurd (omega arith)
-shown_alone vars (m ∷ []) n z one is holds = ap (λ (v : Value). v ∷ []) (sym (ap vars is) ∙ holds)
-shown_alone vars (m ∷ k ∷ ns) n z one is holds = absurd (omega arith)
 
 -- what the index of an algorithm says
 pub record Named (t : BasicType) (k : ℕ) (name : Option Name) : Type 0 where

@@ -2,7 +2,7 @@
 use Rattle.std.proofs.Common.{◌≡◌, ℕ, suc, ◌+◌, ◌<◌, Bool, true, false, cond, ◌&&◌, ◌||◌, List, [], ◌∷◌, ◌++◌, length, map, Option, Some, None, Bor, Contains, refl, sym, ◌∙◌, ap, subst, arith, inl, inr}
 use Rattle.std.specs.Prelude.{position, option_map, unwrap_or, is_some}
 use Rattle.std.specs.BTreeMap.{BTreeMap, insert_entry}
-use Rattle.std.specs.List.{filter, list_any}
+use Rattle.std.specs.List.{list_any}
 use Rattle.std.specs.Ordering.{match_ordering, nat_cmp}
 use Rattle.std.specs.declared.cmp.Ordering.TheVariants.{Less, Equal, Greater}
 use Rattle.std.proofs.lemmas.Bool.{true≢false, false_from_ne_true}
@@ -19,6 +19,8 @@ use Rattle.fb_types.proofs.Positions.{is_some-position, position-cons, position-
 use Rattle.fb_st.proofs.Indexes.{position-later}
 use Rattle.fb_ecc.specs.Numbered.{number_in}
 use Rattle.fb_ecc.specs.Indexed.{entry_of, picked}
+use Rattle.fb_ecc.specs.Located.{slots_among}
+use Rattle.fb_ecc.proofs.Located.{slots_same}
 
 -- ---- Numbers
 
@@ -167,29 +169,7 @@ picks_none all sofar old m indexes index nowhere shown =
     ∙ picked_apart (among sofar) (among (sofar ++ m ∷ [])) all m 0 (among_more sofar m)
     (λ c. true≢false (sym (any_from_contains m all c) ∙ sym (is_some-position (same_name m) all) ∙ ap is_some (sym (index.index m) ∙ nowhere)))
 
-names_of_picked : (p : Name → Bool) (ns : List Name) (k : ℕ) → map (λ e. e.1) (picked p ns k) ≡ filter p ns
-names_of_picked p [] k = refl
-names_of_picked p (n ∷ ns) k =
-    let rest = names_of_picked p ns (suc k) in
-    elim (p n) as (λ b. map (λ e. e.1) (cond b ((k, n) ∷ picked p ns (suc k)) (picked p ns (suc k))) ≡ cond b (n ∷ filter p ns) (filter p ns)) [
-      | true ↦ ap (λ (l : List Name). n ∷ l) rest
-      | false ↦ rest
-    ]
-
-names_read : (es : List (ℕ × Bor Name)) → map (λ e. e.1.now) es ≡ map (λ e. e.1) (map entry_of es)
-names_read [] = refl
-names_read (e ∷ es) = ap (λ (l : List Name). e.1.now ∷ l) (names_read es)
-
-pub picked_names :
-    (p : Name → Bool) (all : List Name) (es : List (ℕ × Bor Name)) → map entry_of es ≡ picked p all 0 → map (λ e. e.1.now) es ≡ filter p all
-picked_names p all es are = names_read es ∙ ap (map (λ e. e.1)) are ∙ names_of_picked p all 0
-
 -- ---- Lists of events
-
-pub filter_same : (f g : Name → Bool) (ns : List Name) → ((n : Name) → f n ≡ g n) → filter f ns ≡ filter g ns
-filter_same f g [] same = refl
-filter_same f g (n ∷ ns) same =
-    ap (λ (l : List Name). cond (f n) (n ∷ l) l) (filter_same f g ns same) ∙ ap (λ b. cond b (n ∷ filter g ns) (filter g ns)) (same n)
 
 abbrev pub goes_with : List EventPort → Name → Name → Bool
 goes_with events e v = list_any (λ p. same_name p.name e && among p.with v) events
@@ -234,8 +214,8 @@ map_same {A} f g (x ∷ xs) same =
     ap (λ (l : List A). f x ∷ l) (map_same f g xs (λ y c. same y (Contains-there x xs y c))) ∙ ap (λ y. y ∷ map g xs) (same x (Contains-here x xs))
 
 pub own_lists :
-    (events : List EventPort) (ns : List Name) → ¬ (Twice (event_names events))
-    → map (λ e. filter (among e.with) ns) events ≡ map (λ e. filter (goes_with events e.name) ns) events
-own_lists events ns once =
-    map_same (λ e. filter (among e.with) ns) (λ e. filter (goes_with events e.name) ns) events
-    (λ e c. filter_same (among e.with) (goes_with events e.name) ns (λ v. sym (own_list events e v once c)))
+    (events : List EventPort) (ns : List Name) (first : ℕ) → ¬ (Twice (event_names events))
+    → map (λ e. slots_among (among e.with) ns first) events ≡ map (λ e. slots_among (goes_with events e.name) ns first) events
+own_lists events ns first once =
+    map_same (λ e. slots_among (among e.with) ns first) (λ e. slots_among (goes_with events e.name) ns first) events
+    (λ e c. slots_same (among e.with) (goes_with events e.name) ns first (λ v. sym (own_list events e v once c)))

@@ -3,6 +3,7 @@ pub mod Actions
 pub mod Charts
 pub mod Indexing
 pub mod Links
+pub mod Located
 pub mod Soundness
 pub mod Stepwise
 pub mod Trials

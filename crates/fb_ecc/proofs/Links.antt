@@ -1,39 +1,41 @@
 -- Chains of states, put together from their links, and what the rows of a chart say.
-use Rattle.std.proofs.Common.{◌≡◌, ℕ, zero, suc, ◌+◌, ◌<◌, ◌≤◌, Bool, true, false, cond, ◌&&◌, ◌||◌, List, [], ◌∷◌, ◌++◌, length, get_or, drop, map, Option, Some, None, Err, Bor, ◌⊎◌, inl, inr, refl, sym, ◌∙◌, ap, subst, arith}
+use Rattle.std.proofs.Common.{◌≡◌, ℕ, zero, suc, ◌+◌, ◌<◌, ◌≤◌, Bool, true, false, cond, List, [], ◌∷◌, length, get_or, drop, map, Option, Some, None, Result, Ok, Err, Bor, ◌⊎◌, inl, inr, refl, sym, ◌∙◌, ap, subst, arith}
 use Rattle.std.specs.Prelude.{option_map, option_and_then, slice_get, IfSome, MatchOption}
-use Rattle.std.specs.List.{filter, list_all, list_any, HoldsAt}
+use Rattle.std.specs.List.{filter, list_all, HoldsAt}
 use Rattle.std.proofs.lemmas.Bool.{true≢false}
 use Rattle.std.proofs.lemmas.List.{length-map}
 use Rattle.std.proofs.lemmas.Option.{slice_get-map, slice_get_within, slice_get-get_or, slice_get_read, slice_get_past, get_or_from_slice_get, same_Some}
 use Rattle.fb_types.specs.Names.{Name, same_name, with_value}
-use Rattle.fb_types.specs.Blocks.{named, among, variable_names, variables_of, inputs_with, Bound}
+use Rattle.fb_types.specs.Blocks.{named, among, variable_names, inputs_with, Bound}
 use Rattle.fb_types.specs.Numbers.{event_at, pair_up}
 use Rattle.fb_types.specs.Reactions.{with_values}
-use Rattle.fb_types.proofs.NameLaws.{same_name-itself}
 use Rattle.fb_types.specs.declared.library.Variable.{Variable}
 use Rattle.fb_types.specs.declared.run.Halt.{Halt}
 use Rattle.fb_types.specs.declared.run.Halt.TheVariants as halt
 use Rattle.fb_types.specs.declared.value.Value.{Value}
 use Rattle.fb_types.specs.Values.{Values}
-use Rattle.fb_types.specs.Charts.{Position, Moving, Acts, Links, Trial, Clears, NoneClears, Fails, Rests, Enters, trial_at, trial_of, leaving, actions_of, ChartReacts}
+use Rattle.fb_types.specs.Charts.{Position, Moving, Acts, Links, Trial, Clears, NoneClears, Fails, Rests, Enters, trial_at, trial_of, is_true, leaving, actions_of, ChartReacts}
 use Rattle.fb_types.specs.declared.library.Action.{Action}
 use Rattle.fb_types.specs.declared.library.BasicType.{BasicType}
 use Rattle.fb_types.specs.declared.library.EventPort.{EventPort}
 use Rattle.fb_types.specs.declared.library.State.{State}
 use Rattle.fb_types.specs.declared.library.Transition.{Transition}
 use Rattle.fb_types.specs.declared.value.Reason.{Reason}
-use Rattle.fb_st.specs.Frames.{Declared, is_declared}
+use Rattle.fb_st.specs.Frames.{Declared}
 use Rattle.fb_st.proofs.Indexes.{named_at_index}
 use Rattle.fb_ecc.specs.Actions.{AreActions}
 use Rattle.fb_ecc.specs.Links.{Chain, Linked}
-use Rattle.fb_ecc.specs.Numbered.{exits_at, exit_of, exits_from, act_of, row_of, names_with_each, chart_of}
+use Rattle.fb_ecc.specs.Located.{AreAt, slots_with, slots_with_each}
+use Rattle.fb_ecc.specs.Numbered.{exits_at, exit_of, exits_from, act_of, row_of, chart_of}
 use Rattle.fb_ecc.specs.Indexes.{IsStateOf, state_at, Ended}
 use Rattle.fb_ecc.specs.Sound.{Each, IsSound, action_known, actions_known, declared_as, declared_by}
-use Rattle.fb_ecc.specs.Trials.{transitions_at, IsExit}
+use Rattle.fb_ecc.specs.Steps.{clearing_exit, clearing_index, first_or}
+use Rattle.fb_ecc.specs.Trials.{transition_at, transitions_at, IsExit}
 use Rattle.fb_ecc.specs.declared.chart.Exit.{Exit}
 use Rattle.fb_ecc.specs.declared.chart.ChartState.{ChartState}
 use Rattle.fb_types.proofs.ByIndex.{element_at}
 use Rattle.fb_ecc.specs.declared.chart.Chart.{Chart}
+use Rattle.fb_ecc.proofs.Located.{inputs_at}
 use Rattle.fb_ecc.proofs.Trials.{transition_here, state_here, list_all-at, and_left, and_right, cut_at, event_here}
 
 -- ---- Links
@@ -78,6 +80,34 @@ leaving_from t n k (x ∷ xs) h =
       | true ↦ ap (λ (y : Transition). y ∷ transitions_at t (exits_from t n (suc k) xs)) (transition_here t k x next.0) ∙ ap (λ ys. x ∷ ys) rest
       | false ↦ rest
     ]
+
+first_or-index :
+    (r : Result Bool Reason) (f e : Exit) (k : ℕ) (later : Option Exit) (last : Option ℕ) → f.transition ≡ k → (later ≡ Some e → last ≡ Some e.transition)
+    → first_or r f later ≡ Some e → first_or r k last ≡ Some e.transition
+first_or-index (Ok true) f e k later last is rest h =
+    let same : f ≡ e = same_Some f e h in
+    ap (λ (i : ℕ). Some i) (sym is ∙ ap (λ (x : Exit). x.transition) same)
+first_or-index (Ok false) f e k later last is rest h = rest h
+first_or-index (Err r) f e k later last is rest h = absurd (cc)
+
+-- the first true exit is that of the first true transition
+clearing_from :
+    (t : BasicType) (n : Name) (present : Option Name) (vars : Values) (e : Exit) (k : ℕ) (xs : List Transition) → drop k t.transitions ≡ xs
+    → clearing_exit t (exits_from t n k xs) present vars ≡ Some e → clearing_index n k xs present vars ≡ Some e.transition
+clearing_from t n present vars e k [] h is = absurd (cc)
+clearing_from t n present vars e k (x ∷ xs) h is =
+    let next = drop_next t.transitions xs k x h in
+    let es : List Exit = exits_from t n (suc k) xs in
+    let later : Option ℕ = clearing_index n (suc k) xs present vars in
+    let rest : clearing_exit t es present vars ≡ Some e → later ≡ Some e.transition = clearing_from t n present vars e (suc k) xs next.1 in
+    let here : is_true (transition_at t k).condition present vars ≡ is_true x.condition present vars =
+    ap (λ (y : Transition). is_true y.condition present vars) (transition_here t k x next.0) in
+    let f : Exit = exit_of t k x in
+    elim (same_name x.from n) as (λ b. clearing_exit t (cond b (f ∷ es) es) present vars ≡ Some e → cond b (first_or (is_true x.condition present vars) k later) later ≡ Some e.transition) [
+      | true ↦ λ one. first_or-index (is_true x.condition present vars) f e k (clearing_exit t es present vars) later refl rest
+          (subst (λ (r : Result Bool Reason). first_or r f (clearing_exit t es present vars) ≡ Some e) here one)
+      | false ↦ rest
+    ] is
 
 first :
     (t : BasicType) (n : Name) (k : ℕ) (x : Transition) (rest : List Exit) → slice_get t.transitions k ≡ Some x → Each (IsExit t) rest
@@ -145,6 +175,8 @@ row_is t rows i d sound all within =
 -- what the transitions say that leave the state at an index
 pub record HasExits (t : BasicType) (i : ℕ) (exits : List Exit) : Type 0 where
   pub leaving_is : transitions_at t exits ≡ leaving t (state_at t i)
+  pub clearing_is :
+      (present : Option Name) (vars : Values) (e : Exit) → clearing_exit t exits present vars ≡ Some e → clearing_index (state_at t i) 0 t.transitions present vars ≡ Some e.transition
   pub each : Each (IsExit t) exits
 
 abbrev exits_or : Option ChartState → List Exit
@@ -164,6 +196,9 @@ exits_of_state t i sound (inl none) =
     let transitions : t.transitions ≡ [] = no_transitions (map (λ (s : State). s.name) t.states) t.transitions names sound.sources in
     record {
       leaving_is = ap (transitions_at t) exits ∙ sym (ap (filter (λ (x : Transition). same_name x.from (state_at t i))) transitions);
+      clearing_is = λ present vars e is.
+          let nothing : None ≡ Some e = ap (λ (l : List Exit). clearing_exit t l present vars) (sym exits) ∙ is in
+          absurd (cc);
       each = subst (λ (l : List Exit). Each (IsExit t) l) (sym exits) (λ k e at. absurd (cc));
     }
 exits_of_state t i sound (inr within) =
@@ -173,6 +208,10 @@ exits_of_state t i sound (inr within) =
     ap exits_or (slice_get-map (row_of t) t.states i ∙ ap (option_map (row_of t)) s.1) in
     record {
       leaving_is = ap (transitions_at t) exits ∙ row.leaving_is;
+      clearing_is = λ present vars e is.
+          clearing_from t (state_at t i) present vars e 0 t.transitions refl
+          (ap (λ (n : Name). clearing_exit t (exits_from t n 0 t.transitions) present vars) (state_here t i s.0 s.1)
+          ∙ ap (λ (l : List Exit). clearing_exit t l present vars) (sym exits) ∙ is);
       each = subst (λ (l : List Exit). Each (IsExit t) l) (sym exits) row.exits;
     }
 
@@ -254,59 +293,27 @@ samples_none ns vs i vars none =
     ∙ ap (λ (bs : List Bound). with_values bs vars) (pair_up-nil (drop (i + 1) ns) ∙ sym (pair_up-nil (drop i ns)))
     ∙ sym (ap (λ (l : List Value). with_values (pair_up (drop i ns) l) vars) (nothing_left vs i past))
 
--- each variable WITH an event is one of the block
-each_first : {A : Type 0} (P : A → Type 0) (y : A) (xs : List A) → P y → Each P xs → Each P (y ∷ xs)
-each_first {A} P y xs here each zero x at = let same : y ≡ x = cc in subst (λ (z : A). P z) same here
-each_first P y xs here each (suc i) x at = each i x at
-
-filter-contains : {A : Type 0} (f : A → Bool) (P : A → Type 0) (xs : List A) → Each P xs → Each P (filter f xs)
-filter-contains f P [] each = λ i x at. absurd (cc)
-filter-contains {A} f P (y ∷ ys) each =
-    let rest : Each P ys = λ j z at. each (suc j) z at in
-    let later = filter-contains f P ys rest in
-    elim (f y) as (λ b. Each P (cond b (y ∷ filter f ys) (filter f ys))) [
-      | true ↦ λ i x at. each_first P y (filter f ys) (each 0 y refl) later i x at
-      | false ↦ later
-    ]
-
-or_right : (a b : Bool) → b ≡ true → (a || b) ≡ true
-or_right true b h = refl
-or_right false b h = h
-
-among-each : (vs xs ys : List Variable) → Each (λ n. among (variable_names (vs ++ xs ++ ys)) n ≡ true) (variable_names vs)
-among-each [] xs ys i n at = absurd (cc)
-among-each (v ∷ vs) xs ys zero n at =
-    let same : v.name ≡ n = cc in
-    subst (λ (m : Name). (same_name m v.name || among (variable_names (vs ++ xs ++ ys)) m) ≡ true) same (rw (same_name-itself v.name) refl)
-among-each (v ∷ vs) xs ys (suc i) n at = or_right (same_name n v.name) (among (variable_names (vs ++ xs ++ ys)) n) (among-each vs xs ys i n at)
-
 pub names_declared : (vs : List Variable) → map (λ (d : Declared). d.0) (map declared_as vs) ≡ variable_names vs
 names_declared [] = refl
 names_declared (v ∷ vs) = ap (λ ns. v.name ∷ ns) (names_declared vs)
 
-pub declared_each :
-    (t : BasicType) (ds : List Declared) (e : Name) (read : List Name) → ds ≡ declared_by t → read ≡ inputs_with t.ports e → Each (λ n. is_declared ds n ≡ true) read
-declared_each t ds e read declared is =
-    let names : map (λ (d : Declared). d.0) ds ≡ variable_names (variables_of t) = ap (map (λ (d : Declared). d.0)) declared ∙ names_declared (variables_of t) in
-    let all : Each (λ n. among (variable_names (variables_of t)) n ≡ true) (inputs_with t.ports e) =
-    filter-contains (λ v. list_any (λ p. same_name p.name e && among p.with v) t.ports.event_inputs) (λ n. among (variable_names (variables_of t)) n ≡ true)
-    (variable_names t.ports.inputs) (among-each t.ports.inputs t.ports.outputs t.internals) in
-    let P : List Name → Type 0 = λ ns. Each (λ n. among ns n ≡ true) read in
-    subst P (sym names) (subst (λ (l : List Name). Each (λ n. among (variable_names (variables_of t)) n ≡ true) l) (sym is) all)
-
--- the variables WITH the event at an index
+-- the variables WITH the event at an index are at its slots
 pub variables_here :
-    (t : BasicType) (chart : Chart) (all : List (List Name)) (e : ℕ) (read d : List Name) → chart ≡ chart_of t → all ≡ chart.sampled → e < length t.ports.event_inputs
-    → read ≡ get_or all e d → read ≡ inputs_with t.ports (event_at t.ports.event_inputs e)
-variables_here t chart all e read d is shown within here =
+    (t : BasicType) (ds : List Declared) (chart : Chart) (all : List (List ℕ)) (e : ℕ) (read d : List ℕ) → ds ≡ declared_by t → chart ≡ chart_of t → all ≡ chart.sampled → e < length t.ports.event_inputs
+    → read ≡ get_or all e d → AreAt ds (inputs_with t.ports (event_at t.ports.event_inputs e)) read
+variables_here t ds chart all e read d declared is shown within here =
     let events : List EventPort = t.ports.event_inputs in
     let p = element_at events e within in
-    let names : all ≡ names_with_each events t.ports.inputs = shown ∙ ap (λ (c : Chart). c.sampled) is in
-    let at : slice_get all e ≡ Some (inputs_with t.ports p.0.name) =
-    ap (λ (l : List (List Name)). slice_get l e) names ∙ slice_get-map (λ (q : EventPort). inputs_with t.ports q.name) events e
-    ∙ ap (option_map (λ (q : EventPort). inputs_with t.ports q.name)) p.1 in
-    here ∙ get_or_from_slice_get all e (inputs_with t.ports p.0.name) d at
-    ∙ ap (inputs_with t.ports) (sym (event_here events e p.0 p.1))
+    let with_event : Name → List ℕ = slots_with events t.ports.inputs 0 in
+    let name : Name = event_at events e in
+    let names : all ≡ slots_with_each events t.ports.inputs 0 = shown ∙ ap (λ (c : Chart). c.sampled) is in
+    let at : slice_get all e ≡ Some (with_event p.0.name) =
+    ap (λ (l : List (List ℕ)). slice_get l e) names ∙ slice_get-map (λ (q : EventPort). with_event q.name) events e
+    ∙ ap (option_map (λ (q : EventPort). with_event q.name)) p.1 in
+    let slots : read ≡ with_event name =
+    here ∙ get_or_from_slice_get all e (with_event p.0.name) d at ∙ ap with_event (sym (event_here events e p.0 p.1)) in
+    subst (λ (l : List Declared). AreAt l (inputs_with t.ports name) read) (sym declared)
+    (subst (λ (l : List ℕ). AreAt (declared_by t) (inputs_with t.ports name) l) (sym slots) (inputs_at t name))
 
 pub value_here :
     (vs : List Value) (i : ℕ) (o : Option (Bor Value)) (b : Bor Value) → IfSome o (λ x. x.now ≡ get_or vs i x.now)

@@ -1,5 +1,5 @@
 -- Transitions that are tried one after another, and the actions of a state one by one.
-use Rattle.std.proofs.Common.{◌≡◌, ℕ, zero, suc, ◌+◌, ◌<◌, Bool, List, [], ◌∷◌, length, get_or, drop, map, Option, Some, None, Result, refl, sym, ◌∙◌, ap, subst, arith, ◌⊎◌, inl, inr}
+use Rattle.std.proofs.Common.{◌≡◌, ℕ, zero, suc, ◌+◌, ◌<◌, Bool, List, [], ◌∷◌, length, get_or, drop, map, Option, Some, None, Result, refl, sym, ◌∙◌, ap, subst, arith, inl, inr}
 use Rattle.std.specs.Prelude.{slice_get}
 use Rattle.std.proofs.lemmas.List.{length-map}
 use Rattle.std.proofs.lemmas.Option.{slice_get_within, slice_get-get_or, get_or_from_slice_get}
@@ -15,7 +15,7 @@ use Rattle.fb_ecc.specs.Actions.{AreActions, IsAction}
 use Rattle.fb_ecc.specs.Indexes.{IsStateOf, state_at}
 use Rattle.fb_ecc.specs.Numbered.{chart_of, row_of}
 use Rattle.fb_ecc.specs.Sound.{IsSound}
-use Rattle.fb_ecc.specs.Steps.{acts_at, first_by, first_true}
+use Rattle.fb_ecc.specs.Steps.{acts_at, clearing_exit, first_by, first_or, first_true}
 use Rattle.fb_ecc.specs.Trials.{transition_at, transitions_at}
 use Rattle.fb_ecc.specs.declared.chart.Act.{Act}
 use Rattle.fb_ecc.specs.declared.chart.Chart.{Chart}
@@ -36,6 +36,15 @@ pub first_tried :
 first_tried t present vars exits i e r at is =
     ap (λ (l : List Exit). first_true (transitions_at t l) present vars) (rest_at exits i e at)
     ∙ ap (λ (b : Result Bool Reason). first_by b (transition_at t e.transition) (first_true (transitions_at t (drop (i + 1) exits)) present vars)) is
+
+-- .. and the exit that has it
+pub clearing_tried :
+    (t : BasicType) (present : Option Name) (vars : Values) (exits : List Exit) (i : ℕ) (e : Exit) (r : Result Bool Reason) → slice_get exits i ≡ Some e
+    → is_true (transition_at t e.transition).condition present vars ≡ r
+    → clearing_exit t (drop i exits) present vars ≡ first_or r e (clearing_exit t (drop (i + 1) exits) present vars)
+clearing_tried t present vars exits i e r at is =
+    ap (λ (l : List Exit). clearing_exit t l present vars) (rest_at exits i e at)
+    ∙ ap (λ (b : Result Bool Reason). first_or b e (clearing_exit t (drop (i + 1) exits) present vars)) is
 
 -- ---- Actions
 

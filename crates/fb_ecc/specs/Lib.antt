@@ -1,6 +1,7 @@
 pub mod Actions
 pub mod Indexed
 pub mod Links
+pub mod Located
 pub mod Numbered
 pub mod Opened
 pub mod Indexes

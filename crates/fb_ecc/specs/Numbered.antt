@@ -1,13 +1,11 @@
 -- A chart with indexes in place of names (IEC 61499-1, 5.2; that names represent indexes is this project's profile).
 use Rattle.std.specs.Prelude.{ℕ, suc, List, [], ◌∷◌, map, length, position, option_map, unwrap_or, slice_get, is_some, Some, None, if◌then◌else◌}
 use Rattle.fb_types.specs.Names.{Name, same_name}
-use Rattle.fb_types.specs.Blocks.{variables_with}
 use Rattle.fb_types.specs.declared.library.Action.{Action}
 use Rattle.fb_types.specs.declared.library.BasicType.{BasicType}
-use Rattle.fb_types.specs.declared.library.EventPort.{EventPort}
 use Rattle.fb_types.specs.declared.library.State.{State}
 use Rattle.fb_types.specs.declared.library.Transition.{Transition}
-use Rattle.fb_types.specs.declared.library.Variable.{Variable}
+use Rattle.fb_ecc.specs.Located.{slots_with_each}
 use Rattle.fb_ecc.specs.declared.chart.Exit.{Exit}
 use Rattle.fb_ecc.specs.declared.chart.Act.{Act}
 use Rattle.fb_ecc.specs.declared.chart.ChartState.{ChartState}
@@ -47,14 +45,10 @@ row_of t s = record { exits = exits_from t s.name 0 t.transitions; acts = map (a
 abbrev pub exits_at : List ChartState → ℕ → List Exit
 exits_at rows i = elim (slice_get rows i) [ None ↦ [] | Some r ↦ r.exits ]
 
--- the variables WITH each event
-abbrev pub names_with_each : List EventPort → List Variable → List (List Name)
-names_with_each events variables = map (λ e. variables_with events variables e.name) events
-
 abbrev pub chart_of : BasicType → Chart
 chart_of t =
     record {
       rows = map (row_of t) t.states;
-      sampled = names_with_each t.ports.event_inputs t.ports.inputs;
-      shown = names_with_each t.ports.event_outputs t.ports.outputs;
+      sampled = slots_with_each t.ports.event_inputs t.ports.inputs 0;
+      shown = slots_with_each t.ports.event_outputs t.ports.outputs (length t.ports.inputs);
     }

@@ -1,6 +1,6 @@
 -- The steps of a chain of states, one after another: the transition that clears, and the actions of the state that it enters.
-use Rattle.std.specs.Prelude.{◌≡◌, ℕ, List, [], ◌∷◌, Bool, true, false, Option, Some, None, Result, Ok, Err, slice_get}
-use Rattle.fb_types.specs.Names.{Name}
+use Rattle.std.specs.Prelude.{◌≡◌, ℕ, suc, List, [], ◌∷◌, Bool, true, false, if◌then◌else◌, Option, Some, None, Result, Ok, Err, slice_get}
+use Rattle.fb_types.specs.Names.{Name, same_name}
 use Rattle.fb_types.specs.Charts.{Trial, Clears, NoneClears, Fails, is_true, leaving}
 use Rattle.fb_types.specs.Values.{Values}
 use Rattle.fb_types.specs.declared.library.BasicType.{BasicType}
@@ -36,6 +36,25 @@ trial_at_exit t (Err r) left = Fails r left
 -- The transition at this index is the first true one of those that leave a state.
 abbrev pub IsFirst : BasicType → (state : Name) → (present : Option Name) → Values → (transition : ℕ) → Type 0
 IsFirst t s present vars k = first_true (leaving t s) present vars ≡ Some (transition_at t k)
+
+-- what is first, by the result of trying it
+abbrev pub first_or : {A : Type 0} → Result Bool Reason → A → (later : Option A) → Option A
+first_or (Ok true) x later = Some x
+first_or (Ok false) x later = later
+first_or (Err r) x later = None
+
+-- the first true exit
+abbrev pub clearing_exit : BasicType → List Exit → (present : Option Name) → Values → Option Exit
+clearing_exit t [] present vars = None
+clearing_exit t (e ∷ es) present vars =
+    first_or (is_true (transition_at t e.transition).condition present vars) e (clearing_exit t es present vars)
+
+-- the index of the first true transition of those that leave a state, where the first of the list is at that index
+abbrev pub clearing_index : (state : Name) → (index : ℕ) → List Transition → (present : Option Name) → Values → Option ℕ
+clearing_index s k [] present vars = None
+clearing_index s k (x ∷ xs) present vars =
+    let later = clearing_index s (suc k) xs present vars in
+    if same_name x.from s then first_or (is_true x.condition present vars) k later else later
 
 -- ---- Actions
 

@@ -1,12 +1,12 @@
 //! The actions of a state.
 
-ghost use Rattle.std.specs.Prelude.{◌≡◌, ◌≤◌, ◌++◌, ◌∷◌, [], All, IfOk, OnErr, OnOk, map, ℕ, List, Option, None};
+ghost use Rattle.std.specs.Prelude.{◌≡◌, ◌≤◌, ◌++◌, ◌∷◌, [], All, IfOk, OnErr, OnOk, length, map, ℕ, List, Option, None};
 ghost use Rattle.fb_types.specs.Names.{Name};
 ghost use Rattle.fb_types.specs.Charts.{Acts, Halts, Performs, Position, emitting};
 ghost use Rattle.fb_types.specs.declared.library.Action.{Action};
 ghost use Rattle.fb_st.specs.Frames.{declared_in, values_of};
 ghost use Rattle.fb_ecc.specs.Actions.{AreActions, IsAction, IsAlgorithm, IsOutput, Stopped, with_slots};
-ghost use Rattle.fb_ecc.specs.Numbered.{names_with_each};
+ghost use Rattle.fb_ecc.specs.Located.{AreAt, slots_with_each};
 ghost use Rattle.fb_ecc.specs.Indexes.{Ended, IsWellFormed, index};
 ghost use Rattle.fb_ecc.specs.Programs.{IsProgramOf};
 ghost use Rattle.fb_ecc.specs.Sound.{Each, IsSound, declared_by};
@@ -14,45 +14,37 @@ ghost use Rattle.fb_ecc.specs.Sound.{Each, IsSound, declared_by};
 use crate::chart::Act;
 use crate::program::Program;
 use fb_st::{Frame, Meter, exec_compiled};
-use fb_types::{BasicType, Emission, Emits, Halt, Items, Reason, Reference, Values};
+use fb_types::{BasicType, Emission, Emits, Halt, Items, Reason, Values};
 use std::alloc::{AllocError, Global};
 
-/// What the variables hold, in their order. Mostly there is one variable, and then there is no call.
-#[inline(always)]
-fn shown(alloc: Global, variables: &[Reference], frame: &Frame) -> Result<Values, AllocError>
-    ensures { IfOk result (λ values. values ≡ map (values_of frame.now) variables.now) }
-{
-    match variables {
-        [variable] => Values::from_slice(alloc, &[frame.value(variable)]),
-        _ => shown_values(alloc, variables, frame),
-    }
-}
-
-/// The same as `shown`, for any variables.
+/// What the variables of slots hold, in their order.
 #[inline(never)]
-fn shown_values(alloc: Global, variables: &[Reference], frame: &Frame) -> Result<Values, AllocError>
-    ensures { IfOk result (λ values. values ≡ map (values_of frame.now) variables.now) }
+fn shown_values(alloc: Global, slots: &[usize], frame: &Frame) -> Result<Values, AllocError>
+    ensures { IfOk result (λ values. (names : List Name) → AreAt (declared_in frame.now) names slots.now → values ≡ map (values_of frame.now) names) }
 {
     let mut values = Values::new(alloc);
-    for variable in variables {
-        values.push(frame.value(variable))?;
+    for slot in slots {
+        values.push(frame.value_at(*slot))?;
     }
     Ok(values)
 }
 
-/// Emits the output event at an index with what the variables hold.
+/// Emits the output event at an index with what the variables of slots hold. Mostly there is one variable, and then there is
+/// no list of values.
 #[inline(always)]
 fn emit_with(
     event: u32,
-    variables: &[Reference],
+    slots: &[usize],
     frame: &Frame,
     emits: &mut Emits,
 ) -> Result<(), AllocError>
-    ensures ok { OnOk result (emits.new ≡ emits.old ++ record { event = event; values = map (values_of frame.now) variables.now } ∷ []) }
+    ensures ok { OnOk result ((names : List Name) → AreAt (declared_in frame.now) names slots.now → emits.new ≡ emits.old ++ record { event = event; values = map (values_of frame.now) names } ∷ []) }
     ensures err { OnErr result (emits.new ≡ emits.old) }
 {
-    let alloc = emits.allocator();
-    let values = shown(alloc, variables, frame)?;
+    if let [slot] = slots {
+        return emits.push_one(event, frame.value_at(*slot));
+    }
+    let values = shown_values(emits.allocator(), slots, frame)?;
     emits.push(Emission { event, values })
 }
 
@@ -61,12 +53,13 @@ fn emit_with(
 fn emit(
     block: &BasicType,
     event: Option<usize>,
-    shown: &[Items<Reference>],
+    shown: &[Items<usize>],
     frame: &Frame,
     emits: &mut Emits,
 ) -> Result<(), AllocError>
     requires sound { IsSound block.now }
-    requires shown { shown.now ≡ names_with_each block.now.ports.event_outputs block.now.ports.outputs }
+    requires declared { declared_in frame.now ≡ declared_by block.now }
+    requires shown { shown.now ≡ slots_with_each block.now.ports.event_outputs block.now.ports.outputs (length block.now.ports.inputs) }
     requires event { (name : Option Name) × IsOutput block.now event name }
     ensures emitted { (name : Option Name) (state left : ℕ) → IsOutput block.now event name →
         OnOk result (index block.now state frame.now left emits.new ≡ emitting block.now name (index block.now state frame.now left emits.old)) }
@@ -117,7 +110,7 @@ pub(crate) fn perform(
     block: &BasicType,
     program: &Program,
     act: Act,
-    shown: &[Items<Reference>],
+    shown: &[Items<usize>],
     frame: &mut Frame,
     meter: &mut Meter,
     emits: &mut Emits,
@@ -125,7 +118,7 @@ pub(crate) fn perform(
     requires sound { IsSound block.now }
     requires program { IsProgramOf block.now program.now }
     requires declared { declared_in frame.old ≡ declared_by block.now }
-    requires shown { shown.now ≡ names_with_each block.now.ports.event_outputs block.now.ports.outputs }
+    requires shown { shown.now ≡ slots_with_each block.now.ports.event_outputs block.now.ports.outputs (length block.now.ports.inputs) }
     requires act { (a : Action) × IsAction block.now act a }
     ensures performed { (a : Action) (state : ℕ) → IsAction block.now act a →
         Ended result (Acts block.now (a ∷ []) meter.old.left) (index block.now state frame.old meter.old.left emits.old) (index block.now state frame.new meter.new.left emits.new) }
@@ -145,7 +138,7 @@ pub(crate) fn perform_all(
     block: &BasicType,
     program: &Program,
     acts: &[Act],
-    shown: &[Items<Reference>],
+    shown: &[Items<usize>],
     frame: &mut Frame,
     meter: &mut Meter,
     emits: &mut Emits,
@@ -153,7 +146,7 @@ pub(crate) fn perform_all(
     requires sound { IsSound block.now }
     requires program { IsProgramOf block.now program.now }
     requires declared { declared_in frame.old ≡ declared_by block.now }
-    requires shown { shown.now ≡ names_with_each block.now.ports.event_outputs block.now.ports.outputs }
+    requires shown { shown.now ≡ slots_with_each block.now.ports.event_outputs block.now.ports.outputs (length block.now.ports.inputs) }
     requires acts { (actions : List Action) × AreActions block.now acts.now actions }
     ensures performed { (actions : List Action) (state : ℕ) → AreActions block.now acts.now actions →
         Ended result (Acts block.now actions meter.old.left) (index block.now state frame.old meter.old.left emits.old) (index block.now state frame.new meter.new.left emits.new) }

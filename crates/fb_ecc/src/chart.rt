@@ -1,20 +1,20 @@
 //! The chart of a basic type, with indexes in place of names. It is made once for a type, so that no name of
 //! a state, an algorithm or an event is compared during a reaction.
 
-ghost use Rattle.std.specs.Prelude.{◌≡◌, ◌++◌, ◌∷◌, [], List, IfOk, OnOk, map};
-ghost use Rattle.std.specs.List.{filter};
+ghost use Rattle.std.specs.Prelude.{◌≡◌, ◌<◌, ◌+◌, ◌^◌, ◌++◌, ◌∷◌, [], List, IfOk, OnOk, length, map};
 ghost use Rattle.fb_types.specs.Names.{Name};
 ghost use Rattle.fb_types.specs.Blocks.{among, event_names, variable_names};
 ghost use Rattle.fb_types.specs.Repeated.{Twice};
 ghost use Rattle.fb_types.specs.declared.library.Variable.{Variable};
 ghost use Rattle.fb_check_names.specs.Indexes.{IsIndex};
 ghost use Rattle.fb_ecc.specs.Indexed.{AreNumbers, entry_of, picked, row_within};
-ghost use Rattle.fb_ecc.specs.Numbered.{exit_of, act_of, row_of, names_with_each, chart_of};
+ghost use Rattle.fb_ecc.specs.Located.{slots_among, slots_with_each};
+ghost use Rattle.fb_ecc.specs.Numbered.{exit_of, act_of, row_of, chart_of};
 ghost use Rattle.fb_ecc.specs.Opened.{IsOfDeclaration};
 
 use crate::numbers::{Numbers, number, optional_number};
 use fb_check_names::{Indexes, index_of};
-use fb_types::{Action, BasicType, EventPort, Items, Name, Reference, Transition};
+use fb_types::{Action, BasicType, EventPort, Items, Name, Transition};
 use std::alloc::{AllocError, Global};
 use std::collections::BTreeMap;
 
@@ -45,12 +45,12 @@ pub struct ChartState {
     pub acts: Items<Act>,
 }
 
-/// A chart: its states, and the variables WITH each event input and each event output.
+/// A chart: its states, and the slots of the variables WITH each event input and each event output.
 #[derive(Drop)]
 pub struct Chart {
     pub rows: Items<ChartState>,
-    pub sampled: Items<Items<Reference>>,
-    pub shown: Items<Items<Reference>>,
+    pub sampled: Items<Items<usize>>,
+    pub shown: Items<Items<usize>>,
 }
 
 fn numbered_transition(
@@ -173,41 +173,39 @@ fn in_order<'a>(
     found.into_iter().collect(alloc)
 }
 
-/// The variables WITH an event, in the order of the declaration. The first of the variables is expected at that
-/// index among all variables of the block. Names of none of them are skipped; an accepted type has none.
-fn names_with(
+/// The slots of the variables WITH an event, in the order of the declaration. The first of the variables has that slot.
+/// Names of none of them are skipped; an accepted type has none.
+fn slots_with(
     alloc: Global,
     with: &[Name],
     variables: &Indexes,
     first: usize,
-) -> Result<Items<Reference>, AllocError>
-    ensures { IfOk result (λ names. (all : List Name) → IsIndex all variables.now → names ≡ filter (among with.now) all) }
+) -> Result<Items<usize>, AllocError>
+    ensures { IfOk result (λ slots. (all : List Name) → IsIndex all variables.now → first + length all < 2 ^ 64 → slots ≡ slots_among (among with.now) all first) }
 {
     let found = found_among(alloc, with, variables)?;
     let entries = in_order(alloc, found)?;
-    let mut names = Items::new(alloc);
+    let mut slots = Items::new(alloc);
     for entry in entries.as_slice() {
-        let (index, name) = *entry;
-        let name = Reference::new(name.try_clone(alloc)?);
-        name.expect_at(first.saturating_add(index));
-        names.push(name)?;
+        let (index, _) = *entry;
+        slots.push(first.saturating_add(index))?;
     }
-    Ok(names)
+    Ok(slots)
 }
 
-/// The variables WITH each event. Events differ by their names, so each has those of its own list.
-fn all_names_with(
+/// The slots of the variables WITH each event. Events differ by their names, so each has those of its own list.
+fn all_slots_with(
     alloc: Global,
     events: &[EventPort],
     variables: &Indexes,
     first: usize,
-) -> Result<Items<Items<Reference>>, AllocError>
+) -> Result<Items<Items<usize>>, AllocError>
     requires { ¬ (Twice (event_names events.now)) }
-    ensures { IfOk result (λ all. (list : List Variable) → IsIndex (variable_names list) variables.now → all ≡ names_with_each events.now list) }
+    ensures { IfOk result (λ all. (list : List Variable) → IsIndex (variable_names list) variables.now → first + length list < 2 ^ 64 → all ≡ slots_with_each events.now list first) }
 {
     let mut all = Items::new(alloc);
     for event in events {
-        all.push(names_with(alloc, event.with.as_slice(), variables, first)?)?;
+        all.push(slots_with(alloc, event.with.as_slice(), variables, first)?)?;
     }
     Ok(all)
 }
@@ -225,11 +223,14 @@ impl Chart {
         let ports = &block.ports;
         let inputs = ports.event_inputs.as_slice();
         let outputs = ports.event_outputs.as_slice();
+        // A type has fewer than 2^32 of each, so that a slot is a number of 64 bits.
+        ports.inputs.count();
+        ports.outputs.count();
         let first_output = ports.inputs.len();
         Ok(Chart {
             rows: rows(alloc, block, &numbers)?,
-            sampled: all_names_with(alloc, inputs, &numbers.inputs, 0)?,
-            shown: all_names_with(alloc, outputs, &numbers.outputs, first_output)?,
+            sampled: all_slots_with(alloc, inputs, &numbers.inputs, 0)?,
+            shown: all_slots_with(alloc, outputs, &numbers.outputs, first_output)?,
         })
     }
 }

@@ -1,12 +1,12 @@
 //! The reactions of basic blocks by their execution control charts (IEC 61499-1, 5.2).
 //!
 //! Guarantees to callers: `reaction::react` goes through the chain of states of the definitions: variables, emissions,
-//! steps, and the reason to stop; `state::BasicState::open` opens a block of a type of an accepted declaration, with the
+//! steps, and the reason to stop. `state::BasicState::open` opens a block of a type of an accepted declaration, with the
 //! one chart and program that all blocks of the type share.
 //!
-//! Read in this order: `state`, what a block is between reactions; `chart`, how it is made by `numbers`; `program`, its
-//! algorithms and guards as they run; `shared`, how the blocks of its type share both; `reaction`; `trial` and `action`;
-//! `steps`, the same chain step by step.
+//! Read in this order: `state`, a block between reactions; `chart` and `numbers`, its chart by indexes; `program`, its
+//! algorithms and guards as they run; `shared`, how the blocks of its type share both. Then `reaction`, `trial` and
+//! `action`; `steps`, the same chain step by step.
 #![tactic(auto)]
 
 mod action;

@@ -1,29 +1,46 @@
 //! The reaction of a basic block to an event.
 
-ghost use Rattle.std.specs.Prelude.{◌≡◌, ◌<◌, ◌≤◌, All, IfSome, OnOk, IfOk, Some, length, option_map, true};
+ghost use Rattle.std.specs.Prelude.{◌≡◌, ◌<◌, ◌≤◌, List, All, IfSome, OnOk, IfOk, Some, length, option_map, true};
 ghost use Rattle.fb_types.specs.Charts.{Acts, ChartReacts, Position, actions_of};
+ghost use Rattle.fb_types.specs.Names.{Name};
 ghost use Rattle.fb_types.specs.Numbers.{event_at, pair_up};
 ghost use Rattle.fb_types.specs.Reactions.{with_values};
-ghost use Rattle.fb_st.specs.Frames.{declared_in, is_declared, values_of};
+ghost use Rattle.fb_st.specs.Frames.{declared_in, values_of};
 ghost use Rattle.fb_ecc.specs.Links.{Linked};
+ghost use Rattle.fb_ecc.specs.Located.{AreAt};
 ghost use Rattle.fb_ecc.specs.Indexes.{Ended, IsBlockOf, IsWellFormed, index, sampled, state_at};
-ghost use Rattle.fb_ecc.specs.Sound.{Each, IsSound};
+ghost use Rattle.fb_ecc.specs.Sound.{IsSound};
 
 use crate::action::perform_all;
 use crate::state::BasicState;
 use crate::trial::cleared;
 use fb_st::{Frame, Meter};
-use fb_types::{BasicType, Emits, Halt, Reference, Value};
+use fb_types::{BasicType, Emits, Halt, Value};
 
-/// Gives the variables WITH an event the values that were sampled.
-pub(crate) fn sample(variables: &[Reference], values: &[Value], frame: &mut Frame)
-    requires { Each (λ n. is_declared (declared_in frame.old) n ≡ true) variables.now }
-    ensures sampled { values_of frame.new ≡ with_values (pair_up variables.now values.now) (values_of frame.old) }
+/// Gives the variables of slots the values that were sampled. Mostly there is one variable, and then there is no call.
+#[inline(always)]
+pub(crate) fn sample(slots: &[usize], values: &[Value], frame: &mut Frame)
+    ensures sampled { (names : List Name) → AreAt (declared_in frame.old) names slots.now → values_of frame.new ≡ with_values (pair_up names values.now) (values_of frame.old) }
     ensures declared { declared_in frame.new ≡ declared_in frame.old }
 {
-    for (index, variable) in variables.iter().enumerate() {
+    if let [slot] = slots {
+        if let Some(value) = values.first() {
+            frame.put_at(*slot, *value);
+            return;
+        }
+    }
+    sample_all(slots, values, frame);
+}
+
+/// The same as `sample`, for any variables.
+#[inline(never)]
+fn sample_all(slots: &[usize], values: &[Value], frame: &mut Frame)
+    ensures sampled { (names : List Name) → AreAt (declared_in frame.old) names slots.now → values_of frame.new ≡ with_values (pair_up names values.now) (values_of frame.old) }
+    ensures declared { declared_in frame.new ≡ declared_in frame.old }
+{
+    for (index, slot) in slots.iter().enumerate() {
         if let Some(value) = values.get(index) {
-            frame.put(variable, *value);
+            frame.put_at(*slot, *value);
         }
     }
 }
@@ -114,8 +131,8 @@ pub fn react(
     ensures well_formed { let IsFit = IsWellFormed block.now in All IsFit emits.old → All IsFit emits.new }
 {
     let event = event as usize;
-    let variables = state.chart.sampled()[event].as_slice();
-    sample(variables, values, &mut state.frame);
+    let slots = state.chart.sampled()[event].as_slice();
+    sample(slots, values, &mut state.frame);
     let mut present = Some(event);
     while link(state, block, present, meter, emits)? {
         present = None;

@@ -7,7 +7,7 @@ ghost use Rattle.fb_ecc.specs.Programs.{IsSharedOf};
 
 use crate::chart::{Chart, ChartState, Exit};
 use crate::program::Program;
-use fb_types::{BasicType, Items, Reference};
+use fb_types::{BasicType, Items};
 use std::alloc::{AllocError, Global};
 use std::marker::Model;
 use std::sync::Arc;
@@ -87,15 +87,15 @@ impl SharedChart {
         self.shared.chart.rows.as_slice()
     }
 
-    /// The variables WITH each event input.
-    pub(crate) fn sampled(&self) -> &[Items<Reference>]
+    /// The slots of the variables WITH each event input.
+    pub(crate) fn sampled(&self) -> &[Items<usize>]
         ensures { result.now ≡ self.now.chart.sampled }
     {
         self.shared.chart.sampled.as_slice()
     }
 
-    /// The variables WITH each event output.
-    pub(crate) fn shown(&self) -> &[Items<Reference>]
+    /// The slots of the variables WITH each event output.
+    pub(crate) fn shown(&self) -> &[Items<usize>]
         ensures { result.now ≡ self.now.chart.shown }
     {
         self.shared.chart.shown.as_slice()

@@ -9,7 +9,7 @@ ghost use Rattle.fb_st.specs.Frames.{declared_in, values_of};
 ghost use Rattle.fb_ecc.specs.Indexes.{Ended, IsBlockOf, IsWellFormed, index as index_of, sampled, state_at};
 ghost use Rattle.fb_ecc.specs.Programs.{IsProgramOf};
 ghost use Rattle.fb_ecc.specs.Sound.{Each, IsSound, declared_by};
-ghost use Rattle.fb_ecc.specs.Steps.{IsFirst, acts_at, first_true, trial_at_exit, trial_by};
+ghost use Rattle.fb_ecc.specs.Steps.{IsFirst, acts_at, clearing_exit, clearing_index, first_true, trial_at_exit, trial_by};
 ghost use Rattle.fb_ecc.specs.Trials.{IsExit, transition_at, transitions_at};
 
 use crate::action::perform;
@@ -30,8 +30,8 @@ pub fn begin(state: &mut BasicState, block: &BasicType, event: u32, values: &[Va
     ensures block { IsBlockOf block.now state.new }
     ensures state { state.new.state ≡ state.old.state }
 {
-    let variables = state.chart.sampled()[event as usize].as_slice();
-    sample(variables, values, &mut state.frame);
+    let slots = state.chart.sampled()[event as usize].as_slice();
+    sample(slots, values, &mut state.frame);
 }
 
 /// The first exit whose condition is true. Each one that is tried costs a step.
@@ -53,6 +53,8 @@ fn first_exit(
         ≡ trial_at_exit block.now result meter.new.left }
     ensures first { let event = option_map (event_at block.now.ports.event_inputs) present in
         IfOk result (λ o. IfSome o (λ e. first_true (transitions_at block.now exits.now) event (values_of frame.now) ≡ Some (transition_at block.now e.transition))) }
+    ensures clearing { let event = option_map (event_at block.now.ports.event_inputs) present in
+        IfOk result (λ o. IfSome o (λ e. clearing_exit block.now exits.now event (values_of frame.now) ≡ Some e)) }
     ensures exit { IfOk result (λ o. IfSome o (IsExit block.now)) }
     ensures fewer { meter.new.left ≤ meter.old.left }
     ensures less { IfOk result (λ o. OnSome o (meter.new.left < meter.old.left)) }
@@ -86,6 +88,8 @@ pub fn clear(
         ≡ trial_by block.now result meter.new.left }
     ensures first { let event = option_map (event_at block.now.ports.event_inputs) present in
         IfOk result (λ o. IfSome o (IsFirst block.now (state_at block.now state.old.state) event (values_of state.old.frame))) }
+    ensures index { let event = option_map (event_at block.now.ports.event_inputs) present in
+        IfOk result (λ o. IfSome o (λ k. clearing_index (state_at block.now state.old.state) 0 block.now.transitions event (values_of state.old.frame) ≡ Some k)) }
     ensures within { IfOk result (λ o. IfSome o (λ k. k < length block.now.transitions)) }
     ensures entered { IfOk result (λ o. IfSome o (λ k. state_at block.now state.new.state ≡ (transition_at block.now k).to)) }
     ensures stays { IfOk result (λ o. IfNone o (state.new.state ≡ state.old.state)) }

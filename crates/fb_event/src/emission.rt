@@ -71,8 +71,7 @@ fn emit_bare(block: KindState, event: u32, emits: &mut Emits) -> Result<(), Allo
     ensures ok { OnOk result (emits.new ≡ emits.old ++ emission_at block event ∷ []) }
     ensures err { OnErr result (emits.new ≡ emits.old) }
 {
-    let values = Values::new(emits.allocator());
-    emits.push(Emission { event, values })
+    emits.push_bare(event)
 }
 
 fn emit(block: KindState, event: u32, emits: &mut Emits) -> Result<(), AllocError>

@@ -21,7 +21,7 @@ use Rattle.fb_st.specs.declared.compiled.CompiledStmt.TheVariants as variants
 use Rattle.fb_st.specs.declared.compiled.CompiledChoice.{CompiledChoice, out-CompiledChoice, fold_out-CompiledChoice}
 use Rattle.fb_st.specs.declared.compiled.CompiledBranch.{CompiledBranch, out-CompiledBranch, fold_out-CompiledBranch}
 use Rattle.fb_st.specs.Compiled.{number_said, truth_said, truth_at, fits_truth, fits_number}
-use Rattle.fb_st.specs.Fitting.{spot, values_at, name_at, all_right, code_said, codes_said, arm_said, arms_said, fork_said, forks_said, expr_of_number, expr_of_truth, value_of_word, kinds_truth, kinds_number, right_truth, right_number, is_long_type, is_within_type, count_right, code_right, codes_right, arm_right, forks_right}
+use Rattle.fb_st.specs.Fitting.{spot, values_at, name_at, all_right, code_said, codes_said, arm_said, arms_said, fork_said, forks_said, expr_of_number, expr_of_truth, value_of_word, kinds_truth, kinds_number, right_truth, right_number, is_long_type, is_within_type, count_right, code_right, codes_right, arm_right, arms_right, forks_right}
 use Rattle.fb_st.proofs.Comes.{both_true, condition_comes}
 use Rattle.fb_st.proofs.Runs.{Leads, cut_at, written}
 use Rattle.fb_st.proofs.Words.{word_written}
@@ -173,6 +173,15 @@ arm_parts ds c right =
 
 pub long_right : (ds : List Declared) (i : ℕ) (e : NumberExpr) → code_right ds (variants.AssignLong i e) ≡ (is_long_type (slice_get ds i) && right_number ds (number_said e))
 long_right ds i e = rw (← variants.rolls-AssignLong i e) (rw fold-roll-CompiledStmt refl)
+
+pub within_right : (ds : List Declared) (i : ℕ) (least most : ℤ) (e : NumberExpr)
+    → code_right ds (variants.AssignWithin i least most e) ≡ (is_within_type least most (slice_get ds i) && right_number ds (number_said e))
+within_right ds i least most e = rw (← variants.rolls-AssignWithin i least most e) (rw fold-roll-CompiledStmt refl)
+
+pub if_right : (ds : List Declared) (cs : List CompiledChoice) (others : List CompiledStmt) → code_right ds (variants.If cs others) ≡ true → (arms_right ds cs ≡ true) × (codes_right ds others ≡ true)
+if_right ds cs others right =
+    let says : code_right ds (variants.If cs others) ≡ (arms_right ds cs && codes_right ds others) = rw (← variants.rolls-If cs others) (rw fold-roll-CompiledStmt refl) in
+    both_true (arms_right ds cs) (codes_right ds others) (sym says ∙ right)
 
 pub for_right : (ds : List Declared) (k : CountExpr) (body : List CompiledStmt) → code_right ds (variants.For k body) ≡ true → (count_right ds k ≡ true) × (codes_right ds body ≡ true)
 for_right ds k body right =

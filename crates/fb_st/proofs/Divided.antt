@@ -1,5 +1,5 @@
 -- What a division leaves.
-use Rattle.std.proofs.Common.{◌≡◌, zero, ◌^◌, Bool, true, false, ◌&&◌, Ok, refl, sym, ◌∙◌, ap, arith}
+use Rattle.std.proofs.Common.{◌≡◌, ◌^◌, Bool, true, false, ◌&&◌, Ok, refl, sym, ◌∙◌, ap, arith}
 use Rattle.std.specs.Prelude.{ℤ, pos, neg_ℤ, int_le, int_lt, int_div, int_rem, ◌+ℤ◌, ◌-ℤ◌, ◌*ℤ◌}
 use Rattle.std.proofs.lemmas.Int.{ints, quot-rem}
 use mir.Syntax.{w128}

@@ -6,7 +6,6 @@ use Rattle.std.proofs.lemmas.Bool.{false≢true, true≢false}
 use Rattle.fb_types.specs.Names.{Name, same_name}
 use Rattle.fb_types.specs.Repeated.{Twice}
 use Rattle.fb_types.specs.Bodies.{End, Running}
-use Rattle.fb_types.specs.declared.value.Ty.{Ty}
 use Rattle.fb_types.specs.declared.value.Value.{Value}
 use Rattle.fb_st.specs.Compiled.{word_at}
 use Rattle.fb_st.specs.Flows.{point}

@@ -1,10 +1,10 @@
 -- What the variables hold, by the index of a name, and after a write there.
-use Rattle.std.proofs.Common.{◌≡◌, ℕ, zero, suc, ◌<◌, length, get_or, ◌||◌, Bool, true, false, cond, List, [], ◌∷◌, set, map, Option, Some, None, refl, sym, ◌∙◌, ap, subst, arith}
+use Rattle.std.proofs.Common.{◌≡◌, ℕ, zero, suc, ◌<◌, ◌≤◌, length, get_or, ◌||◌, Bool, true, false, cond, List, [], ◌∷◌, set, map, Option, Some, None, refl, sym, ◌∙◌, ap, subst, arith}
 use Rattle.std.proofs.Math.Path.{fun_ext}
-use Rattle.std.specs.Prelude.{slice_get, option_map, option_and_then}
+use Rattle.std.specs.Prelude.{slice_get, option_map, option_and_then, MatchOption}
 use Rattle.std.proofs.lemmas.Bool.{true≢false}
 use Rattle.std.proofs.lemmas.List.Quantifiers.{position-Some}
-use Rattle.std.proofs.lemmas.Option.{slice_get_read}
+use Rattle.std.proofs.lemmas.Option.{slice_get-map, slice_get_past, slice_get_read}
 use Rattle.fb_types.specs.Names.{Name, same_name, with_value}
 use Rattle.fb_types.specs.Blocks.{named}
 use Rattle.fb_types.specs.Repeated.{Twice}
@@ -12,7 +12,7 @@ use Rattle.fb_types.specs.Flat.{zero_value}
 use Rattle.fb_types.specs.declared.value.Value.{Value}
 use Rattle.fb_types.specs.declared.value.Ty.{Ty}
 use Rattle.fb_types.specs.declared.value.Ty.TheVariants.{Bool as Boolean}
-use Rattle.fb_types.proofs.NameLaws.{same_from_same_name, same_name-flip}
+use Rattle.fb_types.proofs.NameLaws.{same_from_same_name, same_name-flip, same_name-itself}
 use Rattle.fb_st.specs.declared.frame.Slot.{Slot}
 use Rattle.fb_types.proofs.Positions.{position-first}
 use Rattle.fb_st.specs.Frames.{values_of, names_of, index_of, Declared, declared_in, types_in, is_declared}
@@ -149,3 +149,40 @@ set_names (t ∷ slots) (suc i) s v at = ap (λ ns. t.name ∷ ns) (set_names sl
 pub names_declared : (slots : List Slot) → map (λ d. d.0) (declared_in slots) ≡ names_of slots
 names_declared [] = refl
 names_declared (s ∷ slots) = ap (λ ns. s.name ∷ ns) (names_declared slots)
+
+-- ---- By a slot
+
+own_index : (slots : List Slot) (i : ℕ) (s : Slot) → ¬ (Twice (names_of slots)) → slice_get slots i ≡ Some s → index_of s.name slots ≡ Some i
+own_index slots i s once at = index_of_once (λ (t : Slot). t.name) s.name slots i s once at (same_name-itself s.name)
+
+declared_at : (slots : List Slot) (i : ℕ) (s : Slot) → slice_get slots i ≡ Some s → slice_get (declared_in slots) i ≡ Some (s.name, s.ty)
+declared_at slots i s at = slice_get-map (λ (t : Slot). (t.name, t.ty)) slots i ∙ ap (option_map (λ (t : Slot). (t.name, t.ty))) at
+
+undeclared_at : (slots : List Slot) (i : ℕ) → length slots ≤ i → slice_get (declared_in slots) i ≡ None
+undeclared_at slots i past = slice_get-map (λ (t : Slot). (t.name, t.ty)) slots i ∙ ap (option_map (λ (t : Slot). (t.name, t.ty))) (slice_get_past slots i past)
+
+pub read_at :
+    (slots : List Slot) (i : ℕ) (r : Value) → ¬ (Twice (names_of slots)) → i < length slots → ((s : Slot) → slice_get slots i ≡ Some s → r ≡ s.value)
+    → MatchOption (slice_get (declared_in slots) i) (r ≡ zero_value) (λ d. r ≡ values_of slots d.0)
+read_at slots i r once within reads =
+    let s = slot_there slots i within in
+    let P : Option Declared → Type 0 = λ o. MatchOption o (r ≡ zero_value) (λ d. r ≡ values_of slots d.0) in
+    subst P (sym (declared_at slots i s.0 s.1)) (reads s.0 s.1 ∙ value_here slots s.0.name i s.0 (own_index slots i s.0 once s.1) s.1)
+
+pub read_past : (slots : List Slot) (i : ℕ) (r : Value) → length slots ≤ i → r ≡ zero_value → MatchOption (slice_get (declared_in slots) i) (r ≡ zero_value) (λ d. r ≡ values_of slots d.0)
+read_past slots i r past is =
+    let P : Option Declared → Type 0 = λ o. MatchOption o (r ≡ zero_value) (λ d. r ≡ values_of slots d.0) in
+    subst P (sym (undeclared_at slots i past)) is
+
+pub write_at :
+    (slots new : List Slot) (i : ℕ) (v : Value) → ¬ (Twice (names_of slots)) → i < length slots → ((s : Slot) → slice_get slots i ≡ Some s → new ≡ set slots i (record s { value = v }))
+    → MatchOption (slice_get (declared_in slots) i) (new ≡ slots) (λ d. values_of new ≡ with_value d.0 v (values_of slots))
+write_at slots new i v once within writes =
+    let s = slot_there slots i within in
+    let P : Option Declared → Type 0 = λ o. MatchOption o (new ≡ slots) (λ d. values_of new ≡ with_value d.0 v (values_of slots)) in
+    subst P (sym (declared_at slots i s.0 s.1)) (ap values_of (writes s.0 s.1) ∙ written slots s.0.name i s.0 v (own_index slots i s.0 once s.1) s.1)
+
+pub write_past : (slots : List Slot) (i : ℕ) (v : Value) → length slots ≤ i → MatchOption (slice_get (declared_in slots) i) (slots ≡ slots) (λ d. values_of slots ≡ with_value d.0 v (values_of slots))
+write_past slots i v past =
+    let P : Option Declared → Type 0 = λ o. MatchOption o (slots ≡ slots) (λ d. values_of slots ≡ with_value d.0 v (values_of slots)) in
+    subst P (sym (undeclared_at slots i past)) refl

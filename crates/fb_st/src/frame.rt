@@ -1,7 +1,8 @@
 //! Variables with their types and values, each with a name of its own.
 
-ghost use Rattle.std.specs.Prelude.{◌≡◌, ◌≤◌, true, false, None, IfSome, IfErr, OnOk};
+ghost use Rattle.std.specs.Prelude.{◌≡◌, ◌≤◌, true, false, None, slice_get, IfSome, IfErr, MatchOption, OnOk};
 ghost use Rattle.fb_types.specs.Bodies.{RunsAll};
+ghost use Rattle.fb_types.specs.Flat.{zero_value};
 ghost use Rattle.fb_types.specs.Names.{with_value};
 ghost use Rattle.fb_types.specs.Repeated.{Twice};
 ghost use Rattle.fb_types.specs.Values.{fits, truth_of, whole};
@@ -130,6 +131,30 @@ impl Frame {
         match self.slots.index(variable) {
             Some(index) => self.slots.set(index, value),
             None => unreachable!(),
+        }
+    }
+
+    /// The value of the variable of a slot. A slot without a variable counts as 0.
+    #[inline(always)]
+    pub fn value_at(&self, slot: usize) -> Value
+        ensures { MatchOption (slice_get (declared_in self.now) slot) (result ≡ zero_value) (λ d. result ≡ values_of self.now d.0) }
+    {
+        if self.slots.has_index(slot) {
+            self.slots.value(slot)
+        } else {
+            Value::Whole(0)
+        }
+    }
+
+    /// Gives the variable of a slot a value and does not check its type, as when a value is sampled. A slot without a variable
+    /// is skipped.
+    #[inline(always)]
+    pub fn put_at(&mut self, slot: usize, value: Value)
+        ensures value { MatchOption (slice_get (declared_in self.old) slot) (self.new ≡ self.old) (λ d. values_of self.new ≡ with_value d.0 value (values_of self.old)) }
+        ensures declared { declared_in self.new ≡ declared_in self.old }
+    {
+        if self.slots.has_index(slot) {
+            self.slots.set(slot, value);
         }
     }
 

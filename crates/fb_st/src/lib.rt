@@ -1,12 +1,12 @@
 //! Structured Text (IEC 61131-3, 7.3): values of expressions and runs of statements.
 //!
-//! Guarantees to callers: `evaluation::eval` gives the value of an expression, or the reason for which it has none;
-//! `execution::exec` runs an algorithm as the definitions say, steps counted; `algorithm::exec_compiled` runs it in the form
-//! into which `compile_body` puts it once for each type, and says the same; a `frame::Frame` keeps variables within their types.
+//! Guarantees to callers: `evaluation::eval` gives the value of an expression, or the reason for which it has none.
+//! `execution::exec` runs an algorithm as the definitions say, steps counted. `algorithm::exec_compiled` does the same with
+//! the form that `compile_body` makes once for each type. A `frame::Frame` keeps variables within their types.
 //!
-//! Read in this order: `frame` and `slot_list`, the variables; `evaluation` with `operator`, `fault` and `function`; `meter`, the
-//! steps; `execution` with `assign`; `known`. Then `layout` and `compiled`; `scope`, `compile_expr` and `compile_stmt`; `short`,
-//! the common way of expressions whose numbers fit 64 bits, and `exact`; `running`; `algorithm`.
+//! Read in this order: `frame` and `slot_list`, the variables; `evaluation` with `operator`, `fault` and `function`;
+//! `meter`, the steps; `execution` with `assign`; `known`. Then `layout` and `compiled`; `scope`, `compile_expr` and
+//! `compile_stmt`; `short`, for numbers that fit 64 bits, and `exact`, for all; `running`; `algorithm`.
 #![tactic(auto)]
 
 pub mod algorithm;

@@ -101,7 +101,6 @@ pub(crate) fn is_true(condition: &TruthExpr, words: &[i64]) -> Result<bool, Reas
 
 /// An assignment of a truth value, once its step is begun.
 #[inline(never)]
-#[tactic(auto, using(crate::proofs::Assigning::truth_slot_within))]
 fn assign_truth(
     slot: usize,
     expr: &TruthExpr,
@@ -141,7 +140,7 @@ fn has_label(labels: &[Label], number: i128) -> bool
 /// Runs statements in order.
 #[cycle(running)]
 #[inline(never)]
-pub(crate) fn run_all(
+fn run_all(
     statements: &[CompiledStmt],
     layout: &Layout,
     words: &mut [i64],
@@ -203,10 +202,63 @@ fn assign(
     assign_long(slot, expr, layout, words)
 }
 
-/// Runs the statements of a condition or a label. A single assignment, which many are, needs no call.
+/// An assignment to a variable whose type holds the numbers from the least to the most, and of 64 bits no others.
+#[inline(always)]
+fn assign_short(
+    slot: usize,
+    least: i64,
+    most: i64,
+    expr: &NumberExpr,
+    layout: &Layout,
+    words: &mut [i64],
+    meter: &mut Meter,
+) -> Result<Flow, Reason>
+    requires fit { length words.old ≡ length layout.now }
+    requires once { ¬ (Twice (map (λ d. d.0) layout.now)) }
+    requires right { (is_within_type least most (slice_get layout.now slot) && right_number layout.now (number_said expr.now)) ≡ true }
+    ensures run { Runs (types_in layout.now) (Assign (name_at layout.now slot) (expr_of_number layout.now (number_said expr.now))) (spot layout.now words.old meter.old) (end_of result) (spot layout.now words.new meter.new) }
+    ensures length { length words.new ≡ length words.old }
+    ensures fewer { meter.new.left ≤ meter.old.left }
+{
+    meter.step()?;
+    assign_within(slot, least, most, expr, layout, words)
+}
+
+/// Runs the statements of a condition. A single assignment, which many are, needs no call.
 #[cycle(running)]
 #[inline(always)]
 fn run_body(
+    statements: &[CompiledStmt],
+    layout: &Layout,
+    words: &mut [i64],
+    meter: &mut Meter,
+) -> Result<Flow, Reason>
+    requires fit { length words.old ≡ length layout.now }
+    requires once { ¬ (Twice (map (λ d. d.0) layout.now)) }
+    requires right { codes_right layout.now statements.now ≡ true }
+    ensures run { RunsAll (types_in layout.now) (codes_said layout.now statements.now) (spot layout.now words.old meter.old) (end_of result) (spot layout.now words.new meter.new) }
+    ensures length { length words.new ≡ length words.old }
+    ensures fewer { meter.new.left ≤ meter.old.left }
+{
+    if let [statement] = statements {
+        match statement {
+            CompiledStmt::AssignLong(slot, expr) => {
+                return assign(*slot, expr, layout, words, meter);
+            }
+            CompiledStmt::AssignWithin(slot, least, most, expr) => {
+                return assign_short(*slot, *least, *most, expr, layout, words, meter);
+            }
+            _ => {}
+        }
+    }
+    run_all(statements, layout, words, meter)
+}
+
+/// Runs the statements of a label. It looks only for a single assignment to a variable of 64 bits, since CASE gets slower
+/// with both.
+#[cycle(running)]
+#[inline(always)]
+fn run_labelled(
     statements: &[CompiledStmt],
     layout: &Layout,
     words: &mut [i64],
@@ -305,6 +357,50 @@ fn run_choice(
     run_body(others, layout, words, meter)
 }
 
+/// Runs IF.
+#[inline(always)]
+fn run_if(
+    choices: &[CompiledChoice],
+    others: &[CompiledStmt],
+    layout: &Layout,
+    words: &mut [i64],
+    meter: &mut Meter,
+) -> Result<Flow, Reason>
+    requires fit { length words.old ≡ length layout.now }
+    requires once { ¬ (Twice (map (λ d. d.0) layout.now)) }
+    requires right { arms_right layout.now choices.now ≡ true }
+    requires others_right { codes_right layout.now others.now ≡ true }
+    ensures run { Runs (types_in layout.now) (If (arms_said layout.now choices.now) (codes_said layout.now others.now)) (spot layout.now words.old meter.old) (end_of result) (spot layout.now words.new meter.new) }
+    ensures length { length words.new ≡ length words.old }
+    ensures fewer { meter.new.left ≤ meter.old.left }
+{
+    meter.step()?;
+    run_choice(choices, others, layout, words, meter)
+}
+
+/// Runs the statements of an algorithm. A single IF, which many are, needs one call less.
+#[inline(always)]
+pub(crate) fn run_algorithm(
+    statements: &[CompiledStmt],
+    layout: &Layout,
+    words: &mut [i64],
+    meter: &mut Meter,
+) -> Result<Flow, Reason>
+    requires fit { length words.old ≡ length layout.now }
+    requires once { ¬ (Twice (map (λ d. d.0) layout.now)) }
+    requires right { codes_right layout.now statements.now ≡ true }
+    ensures run { RunsAll (types_in layout.now) (codes_said layout.now statements.now) (spot layout.now words.old meter.old) (end_of result) (spot layout.now words.new meter.new) }
+    ensures length { length words.new ≡ length words.old }
+    ensures fewer { meter.new.left ≤ meter.old.left }
+{
+    if let [statement] = statements {
+        if let CompiledStmt::If(choices, others) = statement {
+            return run_if(choices.as_slice(), others.as_slice(), layout, words, meter);
+        }
+    }
+    run_all(statements, layout, words, meter)
+}
+
 /// Runs the statements of the first label that fits, or those of ELSE.
 #[cycle(running)]
 #[inline(never)]
@@ -326,10 +422,10 @@ fn run_branch(
 {
     for branch in branches {
         if has_label(branch.labels.as_slice(), number) {
-            return run_body(branch.body.as_slice(), layout, words, meter);
+            return run_labelled(branch.body.as_slice(), layout, words, meter);
         }
     }
-    run_body(others, layout, words, meter)
+    run_labelled(others, layout, words, meter)
 }
 
 /// A turn of WHILE or REPEAT, which costs a step before its body.

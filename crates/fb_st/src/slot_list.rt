@@ -1,6 +1,7 @@
 //! The variables of a block, each kept as a word of 64 bits.
 
 ghost use Rattle.std.specs.Prelude.{◌≡◌, ◌<◌, ◌≤◌, ◌++◌, ◌∷◌, [], length, slice_get, slice_set, unwrap_or, Some, None, MatchOption, OnOk, OnErr, IfSome, true, false, ◌&&◌, position};
+ghost use Rattle.std.specs.Bool.{OnFalse, OnTrue};
 ghost use Rattle.std.specs.List.{list_any};
 ghost use Rattle.fb_types.specs.Bodies.{RunsAll};
 ghost use Rattle.fb_types.specs.Names.{same_name};
@@ -16,7 +17,7 @@ use crate::exact;
 use crate::frame::Slot;
 use crate::layout::{self, Layout};
 use crate::meter::{Flow, Meter};
-use crate::running::{is_true, run_all};
+use crate::running::{is_true, run_algorithm};
 use fb_types::{Name, Reason, Reference, Ty, Value};
 use std::alloc::{AllocError, Global};
 use std::marker::Model;
@@ -209,6 +210,15 @@ impl SlotList {
         index
     }
 
+    /// Whether there is a variable at an index.
+    #[inline(always)]
+    pub(crate) fn has_index(&self, index: usize) -> bool
+        ensures there { OnTrue result (index < length self.now) }
+        ensures past { OnFalse result (length self.now ≤ index) }
+    {
+        index < self.kept.len()
+    }
+
     /// The value of the variable at an index.
     #[inline(always)]
     pub(crate) fn value(&self, index: usize) -> Value
@@ -277,7 +287,8 @@ impl SlotList {
         if !self.is_plain {
             return None;
         }
-        Some(run_all(codes, layout, self.words.as_mut_slice(), meter))
+        let words = self.words.as_mut_slice();
+        Some(run_algorithm(codes, layout, words, meter))
     }
 
     /// Whether a compiled condition is true. `None` as for `run`.

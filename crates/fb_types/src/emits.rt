@@ -1,8 +1,10 @@
 //! The emissions of a reaction.
 
-ghost use Rattle.std.specs.Prelude.{◌≡◌, ◌≢◌, ◌↔◌, [], ◌∷◌, ◌++◌, IsTrue, MatchOption, OnErr, OnOk};
+ghost use Rattle.std.specs.Prelude.{◌≡◌, ◌≢◌, ◌↔◌, [], ◌∷◌, ◌++◌, IsTrue, IfNone, IfSome, MatchOption, OnErr, OnOk};
 
+use crate::few::Few;
 use crate::run::Emission;
+use crate::value::Value;
 use std::alloc::{AllocError, Global};
 use std::collections::VecDeque;
 use std::marker::Model;
@@ -79,6 +81,40 @@ impl Emits {
         self.push_other(emission)
     }
 
+    /// Adds an emission without values at the end. The first one takes no memory.
+    ///
+    /// # Errors
+    /// As `push`.
+    #[inline(always)]
+    pub fn push_bare(&mut self, event: u32) -> Result<(), AllocError>
+        ensures ok { OnOk result (self.new ≡ self.old ++ record { event = event; values = [] } ∷ []) }
+        ensures err { OnErr result (self.new ≡ self.old) }
+    {
+        let values = Few::new(self.allocator());
+        if self.first.is_none() {
+            self.first = Some(Emission { event, values });
+            return Ok(());
+        }
+        self.push_other(Emission { event, values })
+    }
+
+    /// Adds an emission with one value at the end. The first one takes no memory.
+    ///
+    /// # Errors
+    /// As `push`.
+    #[inline(always)]
+    pub fn push_one(&mut self, event: u32, value: Value) -> Result<(), AllocError>
+        ensures ok { OnOk result (self.new ≡ self.old ++ record { event = event; values = value ∷ [] } ∷ []) }
+        ensures err { OnErr result (self.new ≡ self.old) }
+    {
+        let values = Few::one(self.allocator(), value);
+        if self.first.is_none() {
+            self.first = Some(Emission { event, values });
+            return Ok(());
+        }
+        self.push_other(Emission { event, values })
+    }
+
     /// Adds an emission after the first. It is apart so that a reaction with one emission does not pay for it.
     #[inline(never)]
     fn push_other(&mut self, emission: Emission) -> Result<(), AllocError>
@@ -100,6 +136,23 @@ impl Emits {
             self.first = self.others.pop_front();
         }
         Some(first)
+    }
+
+    /// Removes the only emission, if it is the only one and has no values, and returns its event. Otherwise the list stays
+    /// as it is.
+    #[inline(always)]
+    pub fn pop_bare(&mut self) -> Option<u32>
+        ensures alone { IfSome result (λ event. self.old ≡ record { event = event; values = [] } ∷ []) }
+        ensures none_left { IfSome result (λ event. self.new ≡ []) }
+        ensures same { IfNone result (self.new ≡ self.old) }
+    {
+        let first = self.first.as_ref()?;
+        if !first.values.is_nothing() || !self.others.is_empty() {
+            return None;
+        }
+        let event = first.event;
+        self.first = None;
+        Some(event)
     }
 
     /// Drops all emissions and keeps their memory.

@@ -58,9 +58,27 @@ impl<T> Few<T> {
         }
     }
 
+    /// The list of one element, which takes no memory.
+    pub fn one(alloc: Global, item: T) -> Few<T>
+        ensures { result ≡ item ∷ [] }
+    {
+        Few {
+            held: Held::One(item),
+            alloc,
+        }
+    }
+
     /// The allocator of the list.
     pub fn allocator(&self) -> Global {
         self.alloc
+    }
+
+    /// Whether the list is empty and has no memory. It takes fewer steps than `is_empty`.
+    #[inline(always)]
+    pub(crate) fn is_nothing(&self) -> bool
+        ensures { IsTrue result → self.now ≡ [] }
+    {
+        matches!(self.held, Held::Nothing)
     }
 
     /// Whether there is no element.

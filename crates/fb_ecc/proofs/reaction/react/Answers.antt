@@ -1,36 +1,28 @@
-use Rattle.std.proofs.Common.{◌≡◌, Bool, List, Option, None, Result, Ok, Err, ◌∙◌, ap, subst, arith}
+use Rattle.std.proofs.Common.{◌≡◌, Bool, Option, None, Result, Ok, Err, ◌∙◌, ap, subst, arith}
 use Rattle.std.specs.Prelude.{option_map}
 use Rattle.std.proofs.lemmas.Result.{err_from_is_err_and}
 use Rattle.fb_types.specs.Names.{Name}
 use Rattle.fb_types.specs.Charts.{ChartReacts, Position}
-use Rattle.fb_types.specs.Numbers.{event_at, pair_up}
-use Rattle.fb_types.specs.Reactions.{with_values}
+use Rattle.fb_types.specs.Numbers.{event_at}
 use Rattle.fb_types.specs.Values.{Values}
 use Rattle.fb_types.specs.declared.run.Halt.{Halt}
 use Rattle.fb_st.specs.Frames.{values_of, declared_in}
 use Rattle.fb_ecc.specs.Links.{Linked}
 use Rattle.fb_ecc.specs.Indexes.{Ended, index, sampled}
-use Rattle.fb_ecc.proofs.Links.{variables_here, declared_each, reacted_early}
+use Rattle.fb_ecc.proofs.Links.{variables_here, reacted_early}
 use Rattle.fb_ecc.proofs.reaction.react.Goals as goal
-
-pub sample-requires : goal.sample-requires
-sample-requires c =
-    let name : Name = event_at c.args.block.now.ports.event_inputs c.args.event in
-    let is = variables_here c.args.block.now c.args.state.now.chart.chart c.sampled.result.now c.args.event c.as_slice-variables.result.now c.index-sampled-event.result c.requires.block.chart.chart
-    c.sampled.ensures c.requires.event (c.as_slice-variables.ensures ∙ c.index-sampled-event.is) in
-    declared_each c.args.block.now (declared_in c.args.state.now.frame) name c.as_slice-variables.result.now c.requires.block.declared is
 
 pub returns-in_err-link-clause-reacted : goal.returns-in_err-link-clause-reacted
 returns-in_err-link-clause-reacted c =
     let name : Name = event_at c.args.block.now.ports.event_inputs c.args.event in
-    let is = variables_here c.args.block.now c.args.state.now.chart.chart c.sampled.result.now c.args.event c.as_slice-variables.result.now c.index-sampled-event.result c.requires.block.chart.chart
-    c.sampled.ensures c.requires.event (c.as_slice-variables.ensures ∙ c.index-sampled-event.is) in
+    let are = variables_here c.args.block.now (declared_in c.args.state.now.frame) c.args.state.now.chart.chart c.sampled.result.now c.args.event c.as_slice-slots.result.now c.index-sampled-event.result c.requires.block.declared c.requires.block.chart.chart
+    c.sampled.ensures c.requires.event (c.as_slice-slots.ensures ∙ c.index-sampled-event.is) in
     let event : Option Name = option_map (event_at c.args.block.now.ports.event_inputs) c.loop-present.present in
     let p : Position = index c.args.block.now c.args.state.now.state c.sample.new.frame c.args.meter.now.left c.args.emits.now in
     let m : Position = index c.args.block.now c.loop-present.state.state c.loop-present.state.frame c.loop-present.meter.left c.loop-present.emits in
     let q : Position = index c.args.block.now c.link.new.state.state c.link.new.state.frame c.link.new.meter.left c.link.new.emits in
     let begun : values_of c.sample.new.frame ≡ sampled c.args.block.now c.args.event c.args.values.now (values_of c.args.state.now.frame) =
-    c.sample.ensures.sampled ∙ ap (λ (l : List Name). with_values (pair_up l c.args.values.now) (values_of c.args.state.now.frame)) is in
+    c.sample.ensures.sampled _ are in
     let linked = subst (λ (r : Result Bool Halt). Linked c.args.block.now r event m q) c.in_err-link.was c.link.ensures.linked in
     let x = err_from_is_err_and c.from_residual.result c.from_residual.ensures.1 in
     rw (x.1, x.2)
@@ -58,14 +50,14 @@ loop-present-preserved c =
 pub returns-clause-reacted : goal.returns-clause-reacted
 returns-clause-reacted c =
     let name : Name = event_at c.args.block.now.ports.event_inputs c.args.event in
-    let is = variables_here c.args.block.now c.args.state.now.chart.chart c.sampled.result.now c.args.event c.as_slice-variables.result.now c.index-sampled-event.result c.requires.block.chart.chart
-    c.sampled.ensures c.requires.event (c.as_slice-variables.ensures ∙ c.index-sampled-event.is) in
+    let are = variables_here c.args.block.now (declared_in c.args.state.now.frame) c.args.state.now.chart.chart c.sampled.result.now c.args.event c.as_slice-slots.result.now c.index-sampled-event.result c.requires.block.declared c.requires.block.chart.chart
+    c.sampled.ensures c.requires.event (c.as_slice-slots.ensures ∙ c.index-sampled-event.is) in
     let event : Option Name = option_map (event_at c.args.block.now.ports.event_inputs) c.loop-present.present in
     let p : Position = index c.args.block.now c.args.state.now.state c.sample.new.frame c.args.meter.now.left c.args.emits.now in
     let m : Position = index c.args.block.now c.loop-present.state.state c.loop-present.state.frame c.loop-present.meter.left c.loop-present.emits in
     let q : Position = index c.args.block.now c.link.new.state.state c.link.new.state.frame c.link.new.meter.left c.link.new.emits in
     let begun : values_of c.sample.new.frame ≡ sampled c.args.block.now c.args.event c.args.values.now (values_of c.args.state.now.frame) =
-    c.sample.ensures.sampled ∙ ap (λ (l : List Name). with_values (pair_up l c.args.values.now) (values_of c.args.state.now.frame)) is in
+    c.sample.ensures.sampled _ are in
     let rested = c.in_ok-link.was ∙ ap (λ (b : Bool). Ok b) c.if-branch.false in
     let linked = subst (λ (r : Result Bool Halt). Linked c.args.block.now r event m q) rested c.link.ensures.linked in
     subst (λ (v : Values). ChartReacts c.args.block.now name (record p { vars = v }) None q) begun (c.loop-present.invariant.linked None q linked)

@@ -1,27 +1,19 @@
-use Rattle.std.proofs.Common.{length, refl, ◌∙◌}
-use Rattle.std.proofs.lemmas.Option.{slice_get_read}
+use Rattle.std.proofs.Common.{◌≡◌, List, Some, length, sym, ◌∙◌, ap, arith}
+use Rattle.std.specs.Prelude.{slice_get}
 use Rattle.fb_types.specs.Names.{Name}
-use Rattle.fb_st.specs.Frames.{values_of}
-use Rattle.fb_ecc.proofs.Links.{samples_one, samples_none, value_here, value_past}
+use Rattle.fb_types.specs.Numbers.{pair_up}
+use Rattle.fb_types.specs.Reactions.{with_values}
+use Rattle.fb_types.specs.declared.value.Value.{Value}
+use Rattle.fb_st.specs.Frames.{declared_in, values_of}
+use Rattle.fb_ecc.proofs.Located.{alone, alone_value, written_there}
 use Rattle.fb_ecc.proofs.reaction.sample.Goals as goal
-use Rattle.fb_ecc.proofs.reaction.sample.Goals.{in-Some, in_default}
 
-pub loop-index-preserved : goal.loop-index-preserved
-loop-index-preserved c =
-    let n : Name = c.index-variables-index.result in
-    let here = slice_get_read c.args.variables.now (length c.args.variables.now) c.loop-index.index n refl c.loop-index-test.true c.index-variables-index.is in
-    elim c.match-get.branch [
-      | in-Some w ↦
-          let there = value_here c.args.values.now c.loop-index.index c.get.result w.in-Some.value c.get.ensures.lookup.1 c.get.ensures.lookup.3 w.in-Some.is in
-          rw w.frame-is (record {
-            sampled = samples_one c.args.variables.now c.args.values.now c.loop-index.index n w.in-Some.value.now (values_of c.loop-index.frame) (values_of w.put.new.self) here there w.put.ensures.value
-                ∙ c.loop-index.invariant.sampled;
-            declared = w.put.ensures.declared ∙ c.loop-index.invariant.declared;
-          })
-      | in_default w ↦
-          rw w.frame-is (record {
-            sampled = samples_none c.args.variables.now c.args.values.now c.loop-index.index (values_of c.loop-index.frame) (value_past c.args.values.now c.loop-index.index c.get.result c.get.ensures.lookup.3 w.in_default.is)
-                ∙ c.loop-index.invariant.sampled;
-            declared = c.loop-index.invariant.declared;
-          })
-    ]
+pub returns-in-Some-clause-sampled : goal.returns-in-Some-clause-sampled
+returns-in-Some-clause-sampled c = λ names are.
+    let vars = values_of c.args.frame.now in
+    let one : length c.args.slots.now ≡ 1 = omega (arith, c.in-len1.len_at_least, c.in-len1.len_below) in
+    let v : Value = c.in-Some.value.now in
+    let there : slice_get c.args.values.now 0 ≡ Some v = sym c.in-Some.ensures.value in
+    let at = alone (declared_in c.args.frame.now) names c.args.slots.now are one in
+    let wrote = written_there _ at.0 v vars (values_of c.put_at.new.self) c.args.frame.now c.put_at.new.self c.put_at.ensures.value at.1 in
+    wrote ∙ sym (ap (λ (ns : List Name). with_values (pair_up ns c.args.values.now) vars) at.2 ∙ alone_value at.0.0 c.args.values.now v vars there)

@@ -1,4 +1,4 @@
-use Rattle.std.proofs.Common.{◌≡◌, ◌<◌, ℕ, List, length, Option, Some, Ok, inr, sym, ◌∙◌, ap, subst}
+use Rattle.std.proofs.Common.{◌≡◌, List, Option, Some, Ok, inr, sym, ◌∙◌, ap, subst}
 use Rattle.std.specs.Prelude.{option_map, IfSome}
 use Rattle.std.proofs.lemmas.Option.{slice_get_within}
 use Rattle.std.proofs.lemmas.Result.{err_from_is_err_and}
@@ -9,7 +9,7 @@ use Rattle.fb_types.specs.Values.{Values}
 use Rattle.fb_types.specs.declared.library.Transition.{Transition}
 use Rattle.fb_st.specs.Frames.{values_of}
 use Rattle.fb_ecc.specs.Programs.{IsProgramOf}
-use Rattle.fb_ecc.specs.Steps.{first_true, trial_at_exit}
+use Rattle.fb_ecc.specs.Steps.{clearing_exit, first_true, trial_at_exit}
 use Rattle.fb_ecc.specs.Trials.{IsExit, transition_at, transitions_at}
 use Rattle.fb_ecc.specs.declared.chart.Exit.{Exit}
 use Rattle.fb_ecc.specs.declared.program.Program.{Program}
@@ -41,6 +41,14 @@ returns-in-Some-clause-first c =
     ap (λ (l : List Transition). first_true l event vars) (sym has.leaving_is)
     ∙ subst (λ (o : Option Exit). IfSome o (λ e. first_true (transitions_at c.args.block.now c.leaving-exits.result.now) event vars ≡ Some (transition_at c.args.block.now e.transition)))
     c.in-Some.is c.in_ok-exit.ensures.first
+
+pub returns-in-Some-clause-index : goal.returns-in-Some-clause-index
+returns-in-Some-clause-index c =
+    let has = exits_read c.args.block.now c.args.state.now.chart.chart c.args.state.now.state c.leaving-exits.result.now c.requires.sound c.requires.block.chart.chart c.requires.block.state c.leaving-exits.ensures in
+    let event : Option Name = option_map (event_at c.args.block.now.ports.event_inputs) c.args.present in
+    let vars : Values = values_of c.args.state.now.frame in
+    has.clearing_is event vars c.in-Some.exit
+    (subst (λ (o : Option Exit). IfSome o (λ e. clearing_exit c.args.block.now c.leaving-exits.result.now event vars ≡ Some e)) c.in-Some.is c.in_ok-exit.ensures.clearing)
 
 pub returns-in-Some-clause-within : goal.returns-in-Some-clause-within
 returns-in-Some-clause-within c =

@@ -8,7 +8,7 @@ use Rattle.fb_types.specs.Values.{Values}
 use Rattle.fb_st.specs.Frames.{values_of}
 use Rattle.fb_ecc.specs.declared.chart.Exit.{Exit}
 use Rattle.fb_ecc.proofs.Trials.{tried, not_tried, condition_meant, exit_here}
-use Rattle.fb_ecc.proofs.Stepwise.{first_tried}
+use Rattle.fb_ecc.proofs.Stepwise.{clearing_tried, first_tried}
 use Rattle.fb_ecc.proofs.steps.first_exit.Goals as goal
 
 abbrev unread : Exit
@@ -70,6 +70,19 @@ returns-then-branch-clause-first c =
     let holds = c.in_ok-is_true.was ∙ ap (λ (b : Bool). Ok b) c.if-branch.true in
     c.loop-exit.invariant.first ∙ first_tried c.args.block.now event vars exits i f (Ok true) at (condition ∙ holds)
 
+pub returns-then-branch-clause-clearing : goal.returns-then-branch-clause-clearing
+returns-then-branch-clause-clearing c =
+    let exits : List Exit = c.args.exits.now in
+    let i : ℕ = c.loop-exit.exit-index in
+    let f : Exit = get_or exits i unread in
+    let event : Option Name = option_map (event_at c.args.block.now.ports.event_inputs) c.args.present in
+    let vars : Values = values_of c.args.frame.now in
+    let at = slice_get-get_or exits i unread c.loop-exit-test.true in
+    let is = exit_here c.args.block.now exits i unread c.requires.exits c.loop-exit-test.true in
+    let condition = condition_meant c.args.block.now f c.args.present vars c.requires.sound is c.requires.present ∙ sym c.is_true.ensures in
+    let holds = c.in_ok-is_true.was ∙ ap (λ (b : Bool). Ok b) c.if-branch.true in
+    c.loop-exit.invariant.clearing ∙ clearing_tried c.args.block.now event vars exits i f (Ok true) at (condition ∙ holds)
+
 pub returns-then-branch-clause-exit : goal.returns-then-branch-clause-exit
 returns-then-branch-clause-exit c = exit_here c.args.block.now c.args.exits.now c.loop-exit.exit-index unread c.requires.exits c.loop-exit-test.true
 
@@ -88,5 +101,6 @@ loop-exit-preserved c =
       run = c.loop-exit.invariant.run
           ∙ tried c.args.block.now event vars exits i f c.loop-exit.meter.left c.step.new.self.left (Ok false) at c.in_ok-step.ensures.ok (condition ∙ shown);
       first = c.loop-exit.invariant.first ∙ first_tried c.args.block.now event vars exits i f (Ok false) at (condition ∙ shown);
+      clearing = c.loop-exit.invariant.clearing ∙ clearing_tried c.args.block.now event vars exits i f (Ok false) at (condition ∙ shown);
       fewer = let a = c.in_ok-step.ensures.ok in let b = c.loop-exit.invariant.fewer in omega arith;
     }

@@ -3,7 +3,7 @@ use Rattle.std.specs.Prelude.{option_map}
 use Rattle.fb_types.specs.Charts.{trial_of}
 use Rattle.fb_types.specs.Numbers.{event_at}
 use Rattle.fb_st.specs.Frames.{values_of}
-use Rattle.fb_ecc.specs.Steps.{first_true}
+use Rattle.fb_ecc.specs.Steps.{clearing_exit, first_true}
 use Rattle.fb_ecc.specs.Trials.{transitions_at}
 use Rattle.fb_ecc.proofs.steps.first_exit.Given as goal
 
@@ -15,5 +15,7 @@ invariant-loop-exit l = record {
       ≡ trial_of (transitions_at l.block (drop l.exit-index l.exits)) event (values_of l.frame) l.meter.left;
   first : let event = option_map (event_at l.block.ports.event_inputs) l.present in
       first_true (transitions_at l.block l.exits) event (values_of l.frame) ≡ first_true (transitions_at l.block (drop l.exit-index l.exits)) event (values_of l.frame);
+  clearing : let event = option_map (event_at l.block.ports.event_inputs) l.present in
+      clearing_exit l.block l.exits event (values_of l.frame) ≡ clearing_exit l.block (drop l.exit-index l.exits) event (values_of l.frame);
   fewer : l.meter.left ≤ l.initial.meter.left;
 }
