@@ -4,14 +4,16 @@
 //! definitions. After `Tree::take`, blocks, held copies, lines, what goes out, timer, steps and the reason to stop are
 //! those of the definitions, at a leaf or at a composite, also where the resource stops (`HasTaken`).
 //!
-//! Read in this order: `block`, the recursive type, and `shell`, what connections and stimuli set of an instance; `resource`, the
-//! ways to the blocks and the seats of the shells, what is asked and changed; `laws`, what the change of one block leaves as it
-//! was; `building`, how they are made before the first event, with `opening_charts`, `opening_blocks`, `opening_trees`,
-//! `opening_roots`, `opening_shells`, `opening_seats` and `opening_copies`. Then the taking: `arrival` and `tree`; `taking`,
-//! what its steps share; `take`, by what the event is; `arrive`, by its result; `samples`, what an event samples and
-//! what composites show from inside; `bring`, slots and held copies that are set; `event_blocks` and `basic_blocks`, the
-//! reactions of leaves; `outbox` and `emit`, emissions with their lines, local events and messages. What goes out has no
-//! keys.
+//! Read in this order:
+//!
+//! - the data: `block`, the recursive type; `shell`, what connections and stimuli set of an instance; `resource`, the ways to
+//!   the blocks and the seats of the shells, with what is read and changed; `laws`, what a change of one block leaves as it was;
+//! - before the first event: `building`, with `opening_charts`, `opening_blocks`, `opening_trees`, `opening_roots`,
+//!   `opening_shells`, `opening_seats` and `opening_copies`;
+//! - one event: `arrival` and `tree`; `taking`, what the steps share; `take`, by the kind of event; `arrive`, where it
+//!   arrives; `samples`, what an event samples and what composites show from inside; `bring`, slots and held copies that are
+//!   set; `event_blocks` and `basic_blocks`, the reactions of leaves; `outbox` and `emit`, emissions with their lines, local
+//!   events and messages. What goes out has no keys.
 #![tactic(auto)]
 
 pub mod arrival;

@@ -8,6 +8,7 @@ mod agendas;
 mod belonging;
 mod bodies;
 mod chain;
+mod emissions;
 mod examples;
 mod expressions;
 mod inputs;

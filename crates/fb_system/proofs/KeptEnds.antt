@@ -1,17 +1,20 @@
--- Rows with the ends of connections: what is read from them.
+-- Rows of event ports and of sources: what is read from them.
 use Rattle.std.proofs.Common.{◌≡◌, ℕ, true, ◌&&◌, List, Option, Some, Bor, sym, subst}
 use Rattle.std.specs.Prelude.{slice_get, IfSome}
 use lib.Dec.{eqb}
 use mathlib.Core.Bool.{beq}
 use Rattle.std.proofs.lemmas.Bool.{and_parts, eqb-true}
 use Rattle.std.proofs.lemmas.Option.{get_or_from_slice_get, slice_get_within}
+use Rattle.fb_types.specs.Headline.{Inputs, system_of}
 use Rattle.fb_types.specs.Systems.{System}
 use Rattle.fb_types.specs.declared.run.InstanceVariable.{InstanceVariable}
 use Rattle.fb_types.specs.declared.run.Target.{Target}
 use Rattle.fb_system.proofs.KeptHeads.{same_truth}
-use Rattle.fb_system.specs.Ends.{AreSources, AreTargets, ComesFrom, LeadsTo}
+use Rattle.fb_system.specs.Ends.{AreSources, ComesFrom, LeadsTo}
+use Rattle.fb_system.specs.PortRows.{ArePortRows, IsPortRow}
+use Rattle.fb_system.specs.declared.ends.PortRowAt.{PortRowAt}
 use Rattle.fb_system.specs.declared.ends.SourceRow.{SourceRow}
-use Rattle.fb_system.specs.declared.ends.TargetRow.{TargetRow}
+use Rattle.fb_system.specs.declared.port_row.PortRow.{PortRow}
 
 -- what is compared of two ports
 pub same_ports : (x y : Target) → true ≡ (eqb x.instance y.instance && (eqb x.event y.event && beq x.is_output y.is_output)) → x ≡ y
@@ -33,13 +36,13 @@ same_variables x y h =
     let output = same_truth x.is_output y.is_output b.1 in
     λ j. record { instance = instance j; variable = variable j; is_output = output j }
 
-pub target_there :
-    (sys : System) (rows : List TargetRow) (i : ℕ) (r : TargetRow) (x : Target) → AreTargets sys rows → slice_get rows i ≡ Some r → r.from ≡ x
-    → LeadsTo sys x 0 r.first
-target_there sys rows i r x all there same =
-    let row : LeadsTo sys r.from 0 r.first =
-    subst (λ (s : TargetRow). LeadsTo sys s.from 0 s.first) (get_or_from_slice_get rows i r r there) (all i r (slice_get_within rows i r there)) in
-    subst (λ (y : Target). LeadsTo sys y 0 r.first) same row
+pub row_there :
+    (i : Inputs) (rows : List PortRowAt) (n : ℕ) (r : PortRowAt) (x : Target) → ArePortRows i rows → slice_get rows n ≡ Some r → r.at ≡ x
+    → IsPortRow i x r.row
+row_there i rows n r x all there same =
+    let row : IsPortRow i r.at r.row =
+    subst (λ (s : PortRowAt). IsPortRow i s.at s.row) (get_or_from_slice_get rows n r r there) (all n r (slice_get_within rows n r there)) in
+    subst (λ (y : Target). IsPortRow i y r.row) same row
 
 pub source_there :
     (sys : System) (rows : List SourceRow) (i : ℕ) (r : SourceRow) (x : InstanceVariable) → AreSources sys rows → slice_get rows i ≡ Some r → r.to ≡ x
@@ -50,12 +53,14 @@ source_there sys rows i r x all there same =
     subst (λ (y : InstanceVariable). ComesFrom sys y r.source) same row
 
 -- a row that was found
-pub target_read :
-    (sys : System) (from : Target) (index : ℕ) (o : Option (Bor TargetRow)) (r : Bor TargetRow) → o ≡ Some r
-    → IfSome o (λ (r : Bor TargetRow). LeadsTo sys from 0 r.now.first) → index ≡ 0 → LeadsTo sys from index r.now.first
-target_read sys from index o r is all none =
-    let there : LeadsTo sys from 0 r.now.first = subst (λ (o : Option (Bor TargetRow)). IfSome o (λ (r : Bor TargetRow). LeadsTo sys from 0 r.now.first)) is all in
-    subst (λ (n : ℕ). LeadsTo sys from n r.now.first) (sym none) there
+pub row_read :
+    (i : Inputs) (at : Target) (o : Option (Bor PortRowAt)) (r : Bor PortRowAt) → o ≡ Some r → IfSome o (λ (r : Bor PortRowAt). IsPortRow i at r.now.row)
+    → IsPortRow i at r.now.row
+row_read i at o r is all = subst (λ (o : Option (Bor PortRowAt)). IfSome o (λ (r : Bor PortRowAt). IsPortRow i at r.now.row)) is all
+
+-- .. and where the first connection leads, by its index
+pub first_read : (i : Inputs) (from : Target) (index : ℕ) (r : PortRow) → IsPortRow i from r → index ≡ 0 → LeadsTo (system_of i) from index r.first
+first_read i from index r is none = subst (λ (n : ℕ). LeadsTo (system_of i) from n r.first) (sym none) is.first
 
 pub source_read :
     (sys : System) (to : InstanceVariable) (o : Option (Bor SourceRow)) (r : Bor SourceRow) → o ≡ Some r → IfSome o (λ (r : Bor SourceRow). ComesFrom sys to r.now.source)

@@ -1,12 +1,13 @@
 -- The rows that a system keeps: how contracts see them, and what a system is made of.
-use Rattle.std.proofs.Common.{◌≡◌, List, [], refl, sym, ◌∙◌, ap, subst}
+use Rattle.std.proofs.Common.{◌≡◌, List, refl, sym, ◌∙◌, ap, subst}
 use Rattle.std.proofs.lemmas.List.Elements.{All-nil}
 use Rattle.fb_types.specs.Headline.{Inputs, system_of}
-use Rattle.fb_system.specs.Ends.{AreSources, AreTargets, ComesFrom, LeadsTo}
+use Rattle.fb_system.specs.Ends.{AreSources, ComesFrom}
+use Rattle.fb_system.specs.PortRows.{ArePortRows, IsPortRow}
 use Rattle.fb_system.specs.Heads.{AreHeads, IsRowOfHead}
 use Rattle.fb_system.specs.Systems.{HaveRows, inputs_of, IsBare, IsKept, AreTables}
+use Rattle.fb_system.specs.declared.ends.PortRowAt.{PortRowAt}
 use Rattle.fb_system.specs.declared.ends.SourceRow.{SourceRow}
-use Rattle.fb_system.specs.declared.ends.TargetRow.{TargetRow}
 use Rattle.fb_system.specs.declared.heads.Head.{Head}
 use Rattle.fb_system.specs.declared.kept.Kept.{Kept}
 use Rattle.fb_system.specs.declared.whole.Whole.{Whole}
@@ -16,13 +17,13 @@ use Rattle.fb_system.specs.declared.whole.Whole.{Whole}
 pub rows_kept : (h : Kept) (v w : Whole) (i : Inputs) → h ≡ v.kept → v ≡ w → inputs_of w ≡ i → HaveRows w → IsKept i h
 rows_kept h v w i e f s is =
     subst (λ (i : Inputs). IsKept i h) s
-    (subst (λ (h : Kept). IsKept (inputs_of w) h) (sym (e ∙ ap (λ (w : Whole). w.kept) f)) (record { heads = is.heads; targets = is.targets; sources = is.sources }))
+    (subst (λ (h : Kept). IsKept (inputs_of w) h) (sym (e ∙ ap (λ (w : Whole). w.kept) f)) (record { heads = is.heads; ports = is.ports; sources = is.sources }))
 
 pub heads_seen : (v w : Whole) (i : Inputs) → v ≡ w → inputs_of w ≡ i → HaveRows w → AreHeads (system_of i) v.kept.heads.rows
 heads_seen v w i e s is = (rows_kept v.kept v w i refl e s is).heads
 
-pub targets_seen : (v w : Whole) (i : Inputs) → v ≡ w → inputs_of w ≡ i → HaveRows w → AreTargets (system_of i) v.kept.ends.targets
-targets_seen v w i e s is = (rows_kept v.kept v w i refl e s is).targets
+pub ports_seen : (v w : Whole) (i : Inputs) → v ≡ w → inputs_of w ≡ i → HaveRows w → ArePortRows i v.kept.ends.ports
+ports_seen v w i e s is = (rows_kept v.kept v w i refl e s is).ports
 
 pub sources_seen : (v w : Whole) (i : Inputs) → v ≡ w → inputs_of w ≡ i → HaveRows w → AreSources (system_of i) v.kept.ends.sources
 sources_seen v w i e s is = (rows_kept v.kept v w i refl e s is).sources
@@ -37,18 +38,19 @@ with_rows u v w h i e f s is rows =
     record {
       tables = record { accepted = is.accepted; links = is.links; event_blocks = is.event_blocks; interfaces = is.interfaces; rows = is.rows; homes = is.homes };
       heads = all.heads;
-      targets = all.targets;
+      ports = all.ports;
       sources = all.sources;
     })
 
 -- a system without rows
 pub without_rows : (v w : Whole) → v ≡ w → IsBare w.kept → AreTables w → HaveRows v
 without_rows v w e bare is =
-    let sys = system_of (inputs_of w) in
+    let i = inputs_of w in
+    let sys = system_of i in
     subst (λ (x : Whole). HaveRows x) (sym e)
     (record {
       tables = is;
       heads = subst (λ (rows : List Head). AreHeads sys rows) (sym bare.heads) (All-nil (IsRowOfHead sys));
-      targets = subst (λ (rows : List TargetRow). AreTargets sys rows) (sym bare.targets) (All-nil (λ (r : TargetRow). LeadsTo sys r.from 0 r.first));
+      ports = subst (λ (rows : List PortRowAt). ArePortRows i rows) (sym bare.ports) (All-nil (λ (r : PortRowAt). IsPortRow i r.at r.row));
       sources = subst (λ (rows : List SourceRow). AreSources sys rows) (sym bare.sources) (All-nil (λ (r : SourceRow). ComesFrom sys r.to r.source));
     })

@@ -33,3 +33,4 @@ pub mod Initial
 pub mod KeptHeads
 pub mod KeptEnds
 pub mod KeptRows
+pub mod PortTables

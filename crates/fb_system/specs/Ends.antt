@@ -7,7 +7,6 @@ use Rattle.fb_types.specs.declared.run.Target.{Target}
 use Rattle.fb_system.specs.declared.next_target.NextTarget.{NextTarget}
 use Rattle.fb_system.specs.Ports.{IsSource, IsTarget, variable_of}
 use Rattle.fb_system.specs.declared.ends.SourceRow.{SourceRow}
-use Rattle.fb_system.specs.declared.ends.TargetRow.{TargetRow}
 
 -- Where the event connection with an index among those from a port leads, if there is one.
 pub record LeadsTo (sys : System) (from : Target) (index : ℕ) (o : Option NextTarget) : Type 0 where
@@ -19,9 +18,6 @@ pub record LeadsTo (sys : System) (from : Target) (index : ℕ) (o : Option Next
 pub record ComesFrom (sys : System) (to : InstanceVariable) (o : Option InstanceVariable) : Type 0 where
   pub comes : option_map (variable_of sys) o ≡ sys.source (variable_of sys to)
   pub within : IfSome o (IsSource sys)
-
-abbrev pub AreTargets : System → List TargetRow → Type 0
-AreTargets sys rows = All (λ (r : TargetRow). LeadsTo sys r.from 0 r.first) rows
 
 abbrev pub AreSources : System → List SourceRow → Type 0
 AreSources sys rows = All (λ (r : SourceRow). ComesFrom sys r.to r.source) rows

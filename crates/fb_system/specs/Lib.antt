@@ -16,3 +16,4 @@ pub mod Begins
 pub mod Rows
 pub mod Heads
 pub mod Ends
+pub mod PortRows

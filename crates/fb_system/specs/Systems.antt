@@ -6,7 +6,8 @@ use Rattle.fb_check_names.specs.Numbers.{IsResolved}
 use Rattle.fb_system.specs.Tables.{AreInterfaces}
 use Rattle.fb_system.specs.Linking.{AreHomes, IsLinked, holders_of}
 use Rattle.fb_system.specs.Rows.{AreRows}
-use Rattle.fb_system.specs.Ends.{AreSources, AreTargets}
+use Rattle.fb_system.specs.Ends.{AreSources}
+use Rattle.fb_system.specs.PortRows.{ArePortRows}
 use Rattle.fb_system.specs.Heads.{AreHeads}
 use Rattle.fb_system.specs.declared.given.Given.{Given}
 use Rattle.fb_system.specs.declared.kept.Kept.{Kept}
@@ -32,21 +33,21 @@ pub record AreTables (w : Whole) : Type 0 where
   pub rows : AreRows w.netlist w.stimuli w.rows
   pub homes : AreHomes w.netlist w.deploy w.homes
 
--- .. and the rows that are kept among them: heads of lines, and ends of connections
+-- .. and the rows that are kept among them: heads of lines, event ports, and sources of variables
 pub record HaveRows (w : Whole) : Type 0 where
   pub tables : AreTables w
   pub heads : AreHeads (system_of (inputs_of w)) w.kept.heads.rows
-  pub targets : AreTargets (system_of (inputs_of w)) w.kept.ends.targets
+  pub ports : ArePortRows (inputs_of w) w.kept.ends.ports
   pub sources : AreSources (system_of (inputs_of w)) w.kept.ends.sources
 
 -- No rows are kept.
 pub record IsBare (k : Kept) : Type 0 where
   pub heads : k.heads.rows ≡ []
-  pub targets : k.ends.targets ≡ []
+  pub ports : k.ends.ports ≡ []
   pub sources : k.ends.sources ≡ []
 
 -- Rows that may be kept in a system of these inputs.
 pub record IsKept (i : Inputs) (k : Kept) : Type 0 where
   pub heads : AreHeads (system_of i) k.heads.rows
-  pub targets : AreTargets (system_of i) k.ends.targets
+  pub ports : ArePortRows i k.ends.ports
   pub sources : AreSources (system_of i) k.ends.sources

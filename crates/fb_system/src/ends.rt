@@ -1,23 +1,25 @@
-//! Where connections lead to and come from, in rows that are found by the indices of ports.
+//! Event ports and the sources of variables, in rows that are found by the indices of ports.
 
 ghost use Rattle.std.specs.Prelude.{◌≡◌, [], IfSome};
 ghost use Rattle.fb_types.specs.Systems.{System};
-ghost use Rattle.fb_system.specs.Ends.{AreSources, AreTargets, ComesFrom, LeadsTo};
+ghost use Rattle.fb_types.specs.Headline.{Inputs};
+ghost use Rattle.fb_system.specs.Ends.{AreSources, ComesFrom};
+ghost use Rattle.fb_system.specs.PortRows.{ArePortRows, IsPortRow};
 
-use crate::next_target::NextTarget;
+use crate::port_row::PortRow;
 use fb_types::{InstanceVariable, Items, Target};
 use std::alloc::Global;
 
-/// The most rows that are kept of each kind. They take 1 MB.
+/// The most rows that are kept of each kind. They take 2 MB.
 pub(crate) const MOST_ENDS: usize = 16384;
 
-/// Where the first event connection from a port leads.
+/// The row of an event port.
 #[derive(Clone, Copy)]
-pub(crate) struct TargetRow {
-    /// The port from which the connections lead.
-    pub from: Target,
-    /// `None` if the port has no connection.
-    pub first: Option<NextTarget>,
+pub(crate) struct PortRowAt {
+    /// The port.
+    pub at: Target,
+    /// What is kept of it.
+    pub row: PortRow,
 }
 
 /// What a variable is connected to.
@@ -42,11 +44,11 @@ pub(crate) struct FirstRows {
     pub outputs: u32,
 }
 
-/// The ends of the connections of a system.
+/// The event ports and the ends of the connections of a system.
 #[derive(Drop)]
 pub(crate) struct Ends {
-    /// The rows of event connections.
-    pub targets: Items<TargetRow>,
+    /// The rows of event ports.
+    pub ports: Items<PortRowAt>,
     /// The rows of data connections.
     pub sources: Items<SourceRow>,
     /// For each instance, the first of its rows.
@@ -56,29 +58,29 @@ pub(crate) struct Ends {
 impl Ends {
     /// A table without rows.
     pub(crate) fn new(alloc: Global) -> Ends
-        ensures targets { result.targets ≡ [] }
+        ensures ports { result.ports ≡ [] }
         ensures sources { result.sources ≡ [] }
     {
         Ends {
-            targets: Items::new(alloc),
+            ports: Items::new(alloc),
             sources: Items::new(alloc),
             firsts: Items::new(alloc),
         }
     }
 
-    /// Where the first connection from a port leads, if its row is kept.
+    /// The row of an event port, if it is kept.
     #[inline(always)]
-    pub(crate) fn target(&self, from: Target) -> Option<&TargetRow>
-        ensures { (sys : System) → AreTargets sys self.now.targets → IfSome result (λ r. LeadsTo sys from 0 r.now.first) }
+    pub(crate) fn port(&self, at: Target) -> Option<&PortRowAt>
+        ensures { (i : Inputs) → ArePortRows i self.now.ports → IfSome result (λ r. IsPortRow i at r.now.row) }
     {
-        let firsts = self.firsts.get(from.instance as usize)?;
-        let first = if from.is_output {
+        let firsts = self.firsts.get(at.instance as usize)?;
+        let first = if at.is_output {
             firsts.event_outputs
         } else {
             firsts.event_inputs
         };
-        let row = self.targets.get(first as usize + from.event as usize)?;
-        if row.from == from { Some(row) } else { None }
+        let row = self.ports.get(first as usize + at.event as usize)?;
+        if row.at == at { Some(row) } else { None }
     }
 
     /// What a variable is connected to, if its row is kept.

@@ -1,17 +1,17 @@
-//! Makes the ends of the connections of a system.
+//! Makes the rows of the event ports and of the sources of a system.
 
 ghost use Rattle.std.specs.Prelude.{◌<◌, ◌≤◌, length, if◌then◌else◌, IfOk, OnOk};
 ghost use Rattle.fb_types.specs.Headline.{system_of};
 ghost use Rattle.fb_types.specs.Numbers.{path_at, ports_at};
-ghost use Rattle.fb_system.specs.Ends.{AreSources, AreTargets};
+ghost use Rattle.fb_system.specs.Ends.{AreSources};
+ghost use Rattle.fb_system.specs.PortRows.{ArePortRows};
 
-use crate::ends::{Ends, FirstRows, MOST_ENDS, SourceRow, TargetRow};
+use crate::ends::{Ends, FirstRows, MOST_ENDS, PortRowAt, SourceRow};
 use crate::system::System;
 use fb_types::{InstanceVariable, Items, Target};
 use std::alloc::{AllocError, Global};
 
-/// The number of event outputs, or of event inputs, of an instance that have rows. Event inputs connect to what is
-/// inside, so only those of a composite have rows.
+/// The number of event outputs, or of event inputs, of an instance.
 fn count_events(system: &System, instance: u32, are_outputs: bool) -> u32
     requires { instance < length (system_of system.now).paths }
     ensures { let its = ports_at (system_of system.now) (path_at (system_of system.now) instance) in
@@ -20,8 +20,6 @@ fn count_events(system: &System, instance: u32, are_outputs: bool) -> u32
     let ports = system.ports(instance);
     if are_outputs {
         ports.event_outputs.count()
-    } else if system.components(instance).is_empty() {
-        0
     } else {
         ports.event_inputs.count()
     }
@@ -45,27 +43,27 @@ fn count_variables(system: &System, instance: u32, are_outputs: bool) -> u32
 }
 
 /// Adds the rows of the event outputs, or of the event inputs, of an instance, as long as there is room.
-fn add_targets(
-    rows: &mut Items<TargetRow>,
+fn add_ports(
+    rows: &mut Items<PortRowAt>,
     system: &System,
     instance: u32,
     is_output: bool,
 ) -> Result<(), AllocError>
     requires instance { instance < length (system_of system.now).paths }
-    requires rows { AreTargets (system_of system.now) rows.old }
-    ensures { OnOk result (AreTargets (system_of system.now) rows.new) }
+    requires rows { ArePortRows system.now rows.old }
+    ensures { OnOk result (ArePortRows system.now rows.new) }
 {
     for event in 0..count_events(system, instance, is_output) {
         if rows.len() >= MOST_ENDS {
             return Ok(());
         }
-        let from = Target {
+        let at = Target {
             instance,
             event,
             is_output,
         };
-        let first = system.reached(from, 0);
-        rows.push(TargetRow { from, first })?;
+        let row = system.port_by_tables(at);
+        rows.push(PortRowAt { at, row })?;
     }
     Ok(())
 }
@@ -104,15 +102,15 @@ fn row_after(rows: usize) -> u32 {
 /// Adds the rows of an instance.
 fn add_instance(ends: &mut Ends, system: &System, instance: u32) -> Result<(), AllocError>
     requires instance { instance < length (system_of system.now).paths }
-    requires targets { AreTargets (system_of system.now) ends.old.targets }
+    requires ports { ArePortRows system.now ends.old.ports }
     requires sources { AreSources (system_of system.now) ends.old.sources }
-    ensures targets { OnOk result (AreTargets (system_of system.now) ends.new.targets) }
+    ensures ports { OnOk result (ArePortRows system.now ends.new.ports) }
     ensures sources { OnOk result (AreSources (system_of system.now) ends.new.sources) }
 {
-    let event_inputs = row_after(ends.targets.len());
-    add_targets(&mut ends.targets, system, instance, false)?;
-    let event_outputs = row_after(ends.targets.len());
-    add_targets(&mut ends.targets, system, instance, true)?;
+    let event_inputs = row_after(ends.ports.len());
+    add_ports(&mut ends.ports, system, instance, false)?;
+    let event_outputs = row_after(ends.ports.len());
+    add_ports(&mut ends.ports, system, instance, true)?;
     let inputs = row_after(ends.sources.len());
     add_sources(&mut ends.sources, system, instance, false)?;
     let outputs = row_after(ends.sources.len());
@@ -125,9 +123,9 @@ fn add_instance(ends: &mut Ends, system: &System, instance: u32) -> Result<(), A
     })
 }
 
-/// The ends of the connections of a system, as many as there is room for.
+/// The rows of a system, as many as there is room for.
 pub(crate) fn ends_of(alloc: Global, system: &System) -> Result<Ends, AllocError>
-    ensures targets { IfOk result (λ e. AreTargets (system_of system.now) e.targets) }
+    ensures ports { IfOk result (λ e. ArePortRows system.now e.ports) }
     ensures sources { IfOk result (λ e. AreSources (system_of system.now) e.sources) }
 {
     system.facts();

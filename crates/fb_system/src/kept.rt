@@ -14,7 +14,7 @@ use std::alloc::{AllocError, Global};
 pub(crate) struct Kept {
     /// The heads of its lines.
     pub heads: Heads,
-    /// The ends of its connections.
+    /// Its event ports and the ends of its connections.
     pub ends: Ends,
 }
 
@@ -29,7 +29,7 @@ impl Kept {
     /// No rows.
     pub(crate) fn new(alloc: Global) -> Kept
         ensures heads { result.heads.rows ≡ [] }
-        ensures targets { result.ends.targets ≡ [] }
+        ensures ports { result.ends.ports ≡ [] }
         ensures sources { result.ends.sources ≡ [] }
     {
         Kept {

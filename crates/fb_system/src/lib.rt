@@ -9,7 +9,8 @@
 //! `connection_table`; `netlist`, the lookups in both, and `reached`, where a connection leads; `tables` and `declared`, how
 //! a lookup works; `making`. Then `links`, resources and links; `homes`, the resources of all instances; `interfaces`
 //! with `with_indexes` and `event_block_with_indexes`, the variables WITH each event; `kept`, rows for lookups in one step:
-//! `heads` with `heads_of`, the heads of lines, and `ends` with `ends_of`, where connections lead to and come from;
+//! `heads` with `heads_of`, the heads of lines, and `ends` with `ends_of`, event ports (`port_row`, which `port_tables` makes) and
+//! where variables come from;
 //! `initial_values`; `rows`, the stimuli by number. The check fills them: `given`. `with_all` passes owned values around
 //! calls that may fail, so that each is dropped at one point.
 #![tactic(auto)]
@@ -31,6 +32,8 @@ pub mod links;
 mod making;
 pub mod netlist;
 pub mod next_target;
+pub mod port_row;
+mod port_tables;
 pub mod rows;
 pub mod stimulus;
 pub mod system;
@@ -48,6 +51,7 @@ pub use layout::{InstanceRow, Layout};
 pub use links::Links;
 pub use netlist::Netlist;
 pub use next_target::NextTarget;
+pub use port_row::{PortKind, PortRow, With};
 pub use rows::{SlotValue, StimulusRow};
 pub use stimulus::StimulusAt;
 pub use system::System;

@@ -16,6 +16,7 @@ ghost use Rattle.fb_system.specs.Ends.{ComesFrom, LeadsTo};
 ghost use Rattle.fb_system.specs.Heads.{IsHead};
 ghost use Rattle.fb_system.specs.Linking.{AreHomes, IsLinked};
 ghost use Rattle.fb_system.specs.Ports.{IsPort, IsSource, IsTarget, IsVariable, variable_of};
+ghost use Rattle.fb_system.specs.PortRows.{IsPortRow};
 ghost use Rattle.fb_system.specs.Systems.{inputs_of, IsBare, IsGiven, IsKept, AreTables};
 
 use crate::given::Given;
@@ -26,6 +27,7 @@ use crate::kept::{Kept, kept_of};
 use crate::links::Links;
 use crate::netlist::Netlist;
 use crate::next_target::NextTarget;
+use crate::port_row::PortRow;
 use crate::stimulus::StimulusAt;
 use crate::types::{ports_of_type, with_indexes_of_type};
 use crate::whole::{Whole, row_at};
@@ -65,6 +67,7 @@ impl Model for System {
 
     ghost coded = { Prim.hlevel (codes, expr.the_row.coded, stmt.the_row.coded) };
 
+    ghost use Rattle.fb_system.specs.PortRows.{IsPortRow};
     ghost use Rattle.fb_system.specs.Systems.{inputs_of, HaveRows};
 
     ghost view = { λ s. inputs_of (arc_value s.whole) };
@@ -261,11 +264,24 @@ impl System {
     {
         // Usually a port has one connection, and its row is kept.
         if index == 0 {
-            if let Some(row) = self.whole.kept.ends.target(from) {
-                return row.first;
+            if let Some(row) = self.whole.kept.ends.port(from) {
+                return row.row.first;
             }
         }
         self.reached_by_tables(from, index)
+    }
+
+    /// What has an event port, the variables WITH its event, and where its first connection leads: what is looked up of
+    /// most events, in one step.
+    #[inline(always)]
+    pub fn port(&self, at: Target) -> PortRow
+        requires { IsPort (system_of self.now) at }
+        ensures { IsPortRow self.now at result }
+    {
+        match self.whole.kept.ends.port(at) {
+            Some(kept) => kept.row,
+            None => self.port_by_tables(at),
+        }
     }
 
     /// Where a connection leads, by its network.

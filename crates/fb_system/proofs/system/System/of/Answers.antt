@@ -24,7 +24,7 @@ of_tables-requires-clause-stands c =
     (λ j. (all.given j).0) (c.from_vec.ensures ∙ (λ j. (all.given j).1.items)) (λ j. (all.given j).2) (λ j. (all.given j).3)
 
 pub of_tables-requires-clause-bare : goal.of_tables-requires-clause-bare
-of_tables-requires-clause-bare c = record { heads = c.new-2.ensures.heads; targets = c.new-2.ensures.targets; sources = c.new-2.ensures.sources }
+of_tables-requires-clause-bare c = record { heads = c.new-2.ensures.heads; ports = c.new-2.ensures.ports; sources = c.new-2.ensures.sources }
 
 pub returns : goal.returns
 returns c =

@@ -1,0 +1,42 @@
+//! Emissions without values, which leave their list as a number where they are alone in it.
+
+use fb_types::{Emits, Value};
+use std::mem::forget;
+use std::process::Abort;
+
+#[test]
+fn the_only_emission_without_values_is_its_event(rt: HostRuntime) {
+    let mut emits = Emits::new(rt.alloc());
+    assert!(rt; emits.pop_bare().is_none());
+    emits.push_bare(7).expect(&rt, "memory");
+    assert!(rt; emits.pop_bare() == Some(7));
+    assert!(rt; emits.is_empty());
+}
+
+#[test]
+fn the_first_of_two_emissions_stays(rt: HostRuntime) {
+    let mut emits = Emits::new(rt.alloc());
+    emits.push_bare(7).expect(&rt, "memory");
+    emits.push_bare(8).expect(&rt, "memory");
+    assert!(rt; emits.pop_bare().is_none());
+    let Some(first) = emits.pop_first() else {
+        panic!(rt; "two emissions");
+    };
+    assert!(rt; first.event == 7 && first.values.is_empty());
+    forget(first);
+    assert!(rt; emits.pop_bare() == Some(8));
+}
+
+#[test]
+fn an_emission_with_a_value_stays(rt: HostRuntime) {
+    let mut emits = Emits::new(rt.alloc());
+    emits.push_one(3, Value::Whole(5)).expect(&rt, "memory");
+    assert!(rt; emits.pop_bare().is_none());
+    let Some(only) = emits.pop_first() else {
+        panic!(rt; "one emission");
+    };
+    assert!(rt; only.event == 3);
+    assert!(rt; only.values.as_slice().first().copied() == Some(Value::Whole(5)));
+    forget(only);
+    assert!(rt; emits.is_empty());
+}

@@ -1,0 +1,37 @@
+//! What is kept of an event port.
+
+use crate::next_target::NextTarget;
+use fb_types::{EventKind, InstanceVariable};
+
+/// What the type of an instance is.
+#[derive(Clone, Copy)]
+pub enum PortKind {
+    /// An event block of this kind.
+    Event(EventKind),
+    /// A basic block, whose type has this index among the block types of the declaration.
+    Basic(usize),
+    /// A composite.
+    Composite,
+}
+
+/// The variables WITH an event.
+#[derive(Clone, Copy)]
+pub enum With {
+    /// No variable.
+    Nothing,
+    /// One variable, by its index, and what it is connected to, if anything.
+    One(u32, Option<InstanceVariable>),
+    /// More than one variable.
+    Several,
+}
+
+/// An event port: what has it, the variables WITH its event, and where its first connection leads.
+#[derive(Clone, Copy)]
+pub struct PortRow {
+    /// What the type of its instance is.
+    pub kind: PortKind,
+    /// The variables WITH its event: data inputs at an event input, data outputs at an event output.
+    pub with: With,
+    /// Where its first connection leads, or `None` if it has no connection.
+    pub first: Option<NextTarget>,
+}

@@ -1,0 +1,73 @@
+//! Rows of event ports, as the tables of a system give them.
+
+ghost use Rattle.std.specs.Prelude.{◌≡◌};
+ghost use Rattle.fb_types.specs.Headline.{system_of};
+ghost use Rattle.fb_system.specs.IndexLists.{AreIndexes};
+ghost use Rattle.fb_system.specs.Ports.{IsPort};
+ghost use Rattle.fb_system.specs.PortRows.{IsOfKind, IsPortRow, IsWith, port_names, port_variables};
+
+use crate::port_row::{PortKind, PortRow, With};
+use crate::system::System;
+use fb_check_names::TypeNumber;
+use fb_types::{BlockType, InstanceVariable, Target};
+
+impl System {
+    /// What has an event port, the variables WITH its event, and where its first connection leads.
+    #[inline(never)]
+    pub(crate) fn port_by_tables(&self, at: Target) -> PortRow
+        requires { IsPort (system_of self.now) at }
+        ensures { IsPortRow self.now at result }
+    {
+        PortRow {
+            kind: self.port_kind(at),
+            with: self.port_with(at),
+            first: self.reached(at, 0),
+        }
+    }
+
+    /// What the type of the instance is that has a port.
+    fn port_kind(&self, at: Target) -> PortKind
+        requires { IsPort (system_of self.now) at }
+        ensures { IsOfKind self.now at.instance result }
+    {
+        match self.kind(at.instance) {
+            TypeNumber::Event(kind) => PortKind::Event(kind),
+            TypeNumber::Declared(index) => match self.library().blocks.get(index) {
+                Some(BlockType::Basic(_)) => PortKind::Basic(index),
+                Some(BlockType::Composite(_)) => PortKind::Composite,
+                None => unreachable!(),
+            },
+        }
+    }
+
+    /// The indices of the variables WITH the event of a port.
+    fn indexes_with(&self, at: Target) -> &[u32]
+        requires { IsPort (system_of self.now) at }
+        ensures { AreIndexes (port_variables (system_of self.now) at) (port_names (system_of self.now) at) result.now }
+    {
+        if at.is_output {
+            self.outputs_with(at.instance, at.event)
+        } else {
+            self.inputs_with(at.instance, at.event)
+        }
+    }
+
+    /// The variables WITH the event of a port.
+    fn port_with(&self, at: Target) -> With
+        requires { IsPort (system_of self.now) at }
+        ensures { IsWith (system_of self.now) at result }
+    {
+        match self.indexes_with(at) {
+            [] => With::Nothing,
+            [variable] => {
+                let to = InstanceVariable {
+                    instance: at.instance,
+                    variable: *variable,
+                    is_output: at.is_output,
+                };
+                With::One(*variable, self.source(to))
+            }
+            _ => With::Several,
+        }
+    }
+}
