@@ -1,6 +1,6 @@
 -- The events of an agenda: the queue of the running tick and all others.
 use Rattle.std.proofs.Common.{◌≡◌, ◌≢◌, Bool, true, false, cond, ◌<◌, ◌≤◌, zero, suc, min, List, [], ◌∷◌, ◌++◌, length, get_or, arith, refl, sym, ap, subst, ◌∙◌, Option, Some, None, Result, Ok, Err, ◌⊎◌, inl, inr}
-use Rattle.std.specs.Prelude.{IsSome, IfSome, IfNone, OnOk, OnErr, is_some, option_map, option_to_list, ℕ}
+use Rattle.std.specs.Prelude.{IsSome, IfSome, IfNone, OnOk, OnErr, is_some, option_to_list, ℕ}
 use Rattle.std.specs.Bool.{OnFalse, OnTrue}
 use Rattle.std.specs.List.Sorted.{IsStrictlySortedBy}
 use Rattle.std.specs.Map.{keys_of, lookup}
@@ -12,12 +12,10 @@ use Rattle.std.specs.declared.cmp.Ordering.TheVariants.{Less, Equal, Greater}
 use Rattle.fb_types.specs.Keys.{Precedes, key_cmp, or_else, same_key}
 use Rattle.fb_types.specs.declared.key.Key.{Key}
 use Rattle.fb_types.proofs.KeyLaws.{earlier_precedes, key_cmp_total, same_key_is, same_key_from, same_key_itself}
-use Rattle.fb_agenda.specs.Agendas.{Contents, waiting, AreRising, AreApart, IsFirst, IsFirstTick, IsLeast, IsNext, IsQueue, event_of}
+use Rattle.fb_agenda.specs.Agendas.{Contents, waiting, AreRising, AreApart, IsFirst, IsFirstTick, IsLeast, IsNext, IsQueue}
 use Rattle.fb_agenda.specs.Calendars.{BeginsAt, Leads, Sets}
 use Rattle.fb_types.specs.declared.run.Event.{Event}
-use Rattle.fb_types.specs.declared.run.Target.{Target}
-use Rattle.fb_agenda.specs.Indexes.{taken, took}
-use Rattle.fb_agenda.specs.declared.next.Next.{Next}
+use Rattle.fb_agenda.specs.Indexes.{taken}
 use Rattle.fb_agenda.specs.declared.least.Least.{Least}
 use Rattle.fb_agenda.proofs.Orders.{less_from, not_none, absent, all_later, precedes, without_first}
 use Rattle.fb_types.proofs.Lookups.{or_else_none, or_else_nones}
@@ -337,10 +335,6 @@ when_taken P false l p = tt
 pub when_not_taken : (P : Type 0) (b : Bool) (l : Least) → IfNone (taken b l) P → OnFalse b P
 when_not_taken P true l p = tt
 when_not_taken P false l p = p
-
--- what was taken of the running tick
-pub when_took : (P : Key × Event → Type 0) (o : Option (Key × Target)) (n : Next) (l : Least) → took n l ≡ option_map event_of o → IfSome (option_map event_of o) P → IfSome (took n l) P
-when_took P o n l is p = subst (λ (x : Option (Key × Event)). IfSome x P) (sym is) p
 
 -- ---- Putting
 

@@ -95,14 +95,14 @@ pub put_rises : (es new : List (Key × Event)) (k : Key) (v : Event) → AreRisi
 put_rises es new k v rising is = subst (λ l. AreRising l) (sym is) (rise_after k v es rising)
 
 module _ (few many : List (Key × Event)) where
-  few_is_first : Leads few many → (k : Key) → IsFirst few k → IsFirst (few ++ many) k
+  pub few_is_first : Leads few many → (k : Key) → IsFirst few k → IsFirst (few ++ many) k
   few_is_first leads k first = record {
     there = subst (λ o. IsSome o) (sym (lookup_both k few many)) (first_some (lookup (same_key k) few) (lookup (same_key k) many) first.there);
     none_before = λ j before.
         lookup_both j few many ∙ ap (λ o. or_else o (lookup (same_key j) many)) (first.none_before j before) ∙ leads.none_before k first j before;
   }
 
-  many_is_first : Leads many few → (k : Key) → IsFirst many k → IsFirst (few ++ many) k
+  pub many_is_first : Leads many few → (k : Key) → IsFirst many k → IsFirst (few ++ many) k
   many_is_first leads k first = record {
     there = subst (λ o. IsSome o) (sym (lookup_both k few many)) (either_some (lookup (same_key k) few) (lookup (same_key k) many) first.there);
     none_before = λ j before.
@@ -118,13 +118,9 @@ module _ (few many : List (Key × Event)) where
   many_first leads (Some k) first = many_is_first leads k.now first
 
   -- if the map is empty
-  pub tick_of_few : many ≡ [] → (o : Option ℕ) → IfSome o (IsFirstTick few) → IfSome o (IsFirstTick (few ++ many))
-  tick_of_few empty None first = tt
-  tick_of_few empty (Some t) first = subst (λ es. IsFirstTick es t) (sym (ap (λ es. few ++ es) empty ∙ append-nil few)) first
-
-  pub none_of_few : many ≡ [] → (o : Option ℕ) → IfNone o (few ≡ []) → IfNone o (few ++ many ≡ [])
-  none_of_few empty None none = ap (λ es. es ++ many) none ∙ empty
-  none_of_few empty (Some t) none = tt
+  pub none_both : {X : Type 0} → many ≡ [] → (o : Option X) → IfNone o (few ≡ []) → IfNone o (few ++ many ≡ [])
+  none_both empty None none = ap (λ es. es ++ many) none ∙ empty
+  none_both empty (Some x) none = tt
 
   pub begins_both : many ≡ [] → (t : ℕ) (o : Option (Key × Event)) → IfNone o (BeginsAt t few) → IfNone o (BeginsAt t (few ++ many))
   begins_both empty t None begins = subst (λ es. BeginsAt t es) (sym (ap (λ es. few ++ es) empty ∙ append-nil few)) begins
@@ -133,7 +129,7 @@ module _ (few many : List (Key × Event)) where
   -- ---- Changes of one of the two
 
   module _ (split : AreSplit few many) where
-    few_none : (j : Key) → IsSome (lookup (same_key j) many) → lookup (same_key j) few ≡ None
+    pub few_none : (j : Key) → IsSome (lookup (same_key j) many) → lookup (same_key j) few ≡ None
     few_none j there = go (lookup (same_key j) few) (split.apart j)
       where
         go : (o : Option Event) → (IsSome o → lookup (same_key j) many ≡ None) → o ≡ None
@@ -182,7 +178,7 @@ module _ (few many : List (Key × Event)) where
       front f items =
           subst (λ es. IsFirst es f.0) (sym items) (first_is (f ∷ rest) f.0 f (subst (λ es. AreRising es) items split.rising) (omega arith) refl)
 
-      front_sets : (f : Key × Event) → few ≡ f ∷ rest → Sets f.0 None few rest
+      pub front_sets : (f : Key × Event) → few ≡ f ∷ rest → Sets f.0 None few rest
       front_sets f items j =
           without_first f rest (subst (λ es. AreRising es) items split.rising) j ∙ ap (λ es. cond (same_key f.0 j) None (lookup (same_key j) es)) (sym items)
 

@@ -4,4 +4,6 @@ pub mod Timers
 pub mod Placing
 pub mod Moments
 pub mod Calendars
+pub mod Timing
+pub mod Keeping
 pub mod Queueing

@@ -69,6 +69,11 @@ pub surely : {A E P : Type 0} (r : Result A E) (o : Option Event) → IsSome o �
 surely (Ok x) o there none p = p
 surely (Err x) o there none p = absurd (not_none o there none)
 
+-- what holds of a failure on a condition that is met
+pub absent_where : {A E : Type 0} (P Q : Type 0) (r : Result A E) → P → OnErr r (P → Q) → OnErr r Q
+absent_where P Q (Ok x) p f = tt
+absent_where P Q (Err x) p f = f p
+
 -- one more message is under its key
 pub filled_more : (es : List (Key × Event)) (k : Key) (v : Event) (old mid new : List (Key × Event))
     → ((j : Key) → lookup (same_key j) mid ≡ or_else (found j es) (lookup (same_key j) old)) → Sets k (Some v) mid new

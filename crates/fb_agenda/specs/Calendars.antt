@@ -1,5 +1,5 @@
 -- What a calendar contains, and how it changes (this project's profile).
-use Rattle.std.specs.Prelude.{◌≡◌, ◌≢◌, ◌<◌, ◌≤◌, ℕ, List, [], ◌++◌, Option, None, IsSome, if◌then◌else◌, length, slice_index_or}
+use Rattle.std.specs.Prelude.{◌≡◌, ◌≢◌, ◌<◌, ◌≤◌, ℕ, Bool, false, List, [], ◌++◌, Option, None, IsSome, if◌then◌else◌, length, slice_index_or}
 use Rattle.std.specs.Map.{lookup}
 use Rattle.std.specs.declared.cmp.Ordering.TheVariants.{Greater, Less}
 use Rattle.fb_types.specs.Keys.{Precedes, key_cmp, same_key}
@@ -38,7 +38,10 @@ pub record IsBetween (es : List (Key × Event)) (k : Key) (i : ℕ) : Type 0 whe
 abbrev pub BeginsAt : ℕ → List (Key × Event) → Type 0
 BeginsAt t es = es ≢ [] → (k : Key) × (t ≤ k.tick) × IsFirst es k
 
--- The keys of the row rise, no key of the row is in the map, and none is before this moment.
-pub record AreKept (few many : List (Key × Event)) (moment : Moment) : Type 0 where
-  pub split : AreSplit few many
-  pub quiet : IsQuiet moment (few ++ many)
+-- The keys of the timers rise, none of them is among the others, and all of them are keys of timers. If the others are not
+-- marked as containing the key of a timer, they contain none. No event is before this moment.
+pub record AreKept (timers others : List (Key × Event)) (has_timer : Bool) (moment : Moment) : Type 0 where
+  pub split : AreSplit timers others
+  pub only : (j : Key) → j.class ≢ 1 → lookup (same_key j) timers ≡ None
+  pub marked : has_timer ≡ false → (j : Key) → j.class ≡ 1 → lookup (same_key j) others ≡ None
+  pub quiet : IsQuiet moment (timers ++ others)

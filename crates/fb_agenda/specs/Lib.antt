@@ -4,3 +4,4 @@ pub mod Calendars
 pub mod Inside
 pub mod Indexes
 pub mod Moments
+pub mod Timing

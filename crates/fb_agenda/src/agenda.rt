@@ -9,14 +9,13 @@ ghost use Rattle.fb_types.specs.declared.run.Event.TheVariants.{Local, Timer};
 ghost use Rattle.fb_agenda.specs.Agendas.{waiting, AreRising, IsNext, IsTimed, IsInResource, local_events, timer_set};
 ghost use Rattle.fb_agenda.specs.Arrivals.{AreNew, arrivals_at};
 ghost use Rattle.fb_agenda.specs.Calendars.{BeginsAt, Leads, Sets};
-ghost use Rattle.fb_agenda.specs.Indexes.{taken, took};
+ghost use Rattle.fb_agenda.specs.Indexes.{taken};
 
 use crate::arrivals;
 use crate::calendar::Calendar;
 use crate::later::Later;
 use crate::least::Least;
 use crate::moment::Moment;
-use crate::next::Next;
 use crate::queue::{self, Queue};
 use fb_types::{Event, Key, Message, Target, TimerAsk};
 use std::alloc::{AllocError, Global};
@@ -81,7 +80,7 @@ fn is_now_less(now: &Queue, later: &Calendar) -> bool
     let Some(other) = later.first() else {
         return true;
     };
-    first < *other
+    first < other
 }
 
 /// Takes the first event of the calendar, if its tick is below the horizon, and moves it into the slot. Returns whether
@@ -95,7 +94,7 @@ fn pop_later(later: &mut Calendar, horizon: u64, index: &mut Least) -> bool
     ensures none { IfNone (taken result index.new) (BeginsAt horizon later.old) }
     ensures kept { IfNone (taken result index.new) (later.new ≡ later.old) }
 {
-    index.hold(later.pop_below(horizon))
+    later.pop_into(horizon, index)
 }
 
 impl Agenda {
@@ -232,31 +231,6 @@ impl Agenda {
         }
     }
 
-    /// Takes the event with the least key, if its tick is below the horizon (in milliseconds). A local event of the running
-    /// tick is returned; any other event moves into the slot.
-    #[inline(always)]
-    pub fn take_next(&mut self, horizon: u64, index: &mut Least) -> Next
-        ensures found { IfSome (took result index.new) (λ r. waiting self.old r.0 ≡ Some r.1) }
-        ensures below { IfSome (took result index.new) (λ r. r.0.tick < horizon) }
-        ensures least { IfSome (took result index.new) (λ r. (j : Key) → Precedes j r.0 → waiting self.old j ≡ None) }
-        ensures left { IfSome (took result index.new) (λ r. (j : Key) → waiting self.new j ≡ (if same_key r.0 j then None else waiting self.old j)) }
-        ensures due { self.new.due ≡ self.old.due }
-        ensures none { IfNone (took result index.new) ((j : Key) → j.tick < horizon → waiting self.old j ≡ None) }
-        ensures kept { IfNone (took result index.new) (self.new ≡ self.old) }
-    {
-        if is_now_first(&self.now, &mut self.later.events) {
-            return match queue::pop_below(&mut self.now, horizon) {
-                Some((key, target)) => Next::Running(key, target),
-                None => Next::Nothing,
-            };
-        }
-        if pop_later(&mut self.later.events, horizon, index) {
-            Next::Other
-        } else {
-            Next::Nothing
-        }
-    }
-
     /// The tick of the next event in milliseconds, if any event waits.
     pub fn next(&self) -> Option<u64>
         ensures some { IfSome result (IsNext self.entry.now) }
@@ -310,9 +284,7 @@ impl Agenda {
         ensures due { self.new.due ≡ self.old.due }
     {
         let due = self.later.due[instance as usize];
-        self.later
-            .events
-            .remove(&Key::timer(due, resource, instance));
+        self.later.events.clear_timer(due, resource, instance);
     }
 
     fn start_timer(&mut self, resource: u32, instance: u32, tick: u64) -> Result<(), AllocError>
@@ -321,8 +293,7 @@ impl Agenda {
         ensures due { OnOk result (self.new.due ≡ slice_set self.old.due instance tick) }
         ensures counted { length self.new.due ≡ length self.old.due }
     {
-        let key = Key::timer(tick, resource, instance);
-        self.later.events.insert(key, Event::Timer(instance))?;
+        self.later.events.set_timer(tick, resource, instance)?;
         self.later.due[instance as usize] = tick;
         Ok(())
     }

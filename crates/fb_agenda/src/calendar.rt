@@ -1,37 +1,36 @@
-//! The events outside the queue of the running tick: stimuli, timers and messages.
-//!
-//! Their keys come in any order, mostly rising, and there are usually few of them. A `BTreeMap` puts and finds an event
-//! in logarithmic time, at some hundreds of instructions, and fills half of its memory where keys come in rising order.
-//! So a few events are kept in a sorted row, and also any number of events that come one after the other, as stimuli do.
-//! Only events that belong before the end of a full row go to the map, and those that come while it has any.
+//! The events outside the queue of the running tick: timers, and in a store all others.
 
-ghost use Rattle.std.specs.Prelude.{◌≡◌, ◌<◌, List, [], IfSome, IfNone, OnOk, OnErr, Some, None};
+ghost use Rattle.std.specs.Prelude.{◌≡◌, ◌≢◌, ◌<◌, [], IfSome, IfNone, OnOk, OnErr, Some, None};
 ghost use Rattle.std.specs.Bool.{OnFalse, OnTrue};
 ghost use Rattle.std.specs.Map.{lookup};
-ghost use Rattle.fb_types.specs.Keys.{Precedes, same_key};
+ghost use Rattle.fb_types.specs.Keys.{Precedes, same_key, timer_key};
 ghost use Rattle.fb_types.specs.declared.key.Key as keys;
+ghost use Rattle.fb_types.specs.declared.run.Event.TheVariants.{Timer};
 ghost use Rattle.fb_agenda.specs.Agendas.{AreRising, IsFirst, IsFirstTick};
 ghost use Rattle.fb_agenda.specs.Calendars.{BeginsAt, Leads, Sets};
+ghost use Rattle.fb_agenda.specs.Indexes.{taken};
 ghost use Rattle.fb_agenda.specs.Moments.{IsPast};
 
+use crate::least::Least;
 use crate::moment::Moment;
-use crate::rising;
+use crate::store::Store;
+use crate::timer_row::Timers;
 use fb_types::{Event, Key};
 use std::alloc::{AllocError, Global};
-use std::collections::{BTreeMap, VecDeque};
 use std::marker::Model;
 
-/// The number of events up to which an event goes to any index of the row: up to here, an insertion in the row costs no
-/// more than one in the map.
-const FEW: usize = 256;
+/// The class of the keys of timers.
+const TIMER: u8 = 1;
 
 /// Events under their keys, at most one under each. Contracts see them as a list.
 #[derive(Drop)]
 pub(crate) struct Calendar {
-    /// Events in the order of their keys.
-    few: VecDeque<(Key, Event)>,
-    /// The events that did not go to the row.
-    many: BTreeMap<Key, Event>,
+    /// The timers.
+    timers: Timers,
+    /// All other events.
+    others: Store,
+    /// Whether the key of a timer may be among the others. In a run none ever is, so they are not searched for it.
+    has_timer: bool,
     /// No event waits before this moment.
     quiet: Moment,
 }
@@ -44,41 +43,25 @@ impl Model for Calendar {
 
     ghost Value = { List (Key × Event) };
 
-    ghost view = { λ c. c.few.items ++ c.many.entries };
+    ghost view = { λ c. c.timers ++ c.others };
 
-    ghost invariant = { λ c. AreKept c.few.items c.many.entries c.quiet };
+    ghost invariant = { λ c. AreKept c.timers c.others c.has_timer c.quiet };
 }
 
-/// The first key of a map.
-fn first_of(events: &BTreeMap<Key, Event>) -> Option<&Key>
-    ensures some { IfSome result (λ k. IsFirst events.now.entries k.now) }
-    ensures none { IfNone result (events.now.entries ≡ []) }
+/// Whether a timer waits, and no other event comes before the first one.
+#[inline(always)]
+fn is_timer_first(timers: &Timers, others: &Store) -> bool
+    requires { AreRising timers.now }
+    ensures timers { OnTrue result (Leads timers.now others.now) }
+    ensures others { OnFalse result (Leads others.now timers.now) }
 {
-    let (key, _) = events.first_key_value()?;
-    Some(key)
-}
-
-/// Whether no event of the map comes before all events of the row.
-fn is_few_first(few: &VecDeque<(Key, Event)>, many: &BTreeMap<Key, Event>) -> bool
-    requires { AreRising few.now.items }
-    ensures few { OnTrue result (Leads few.now.items many.now.entries) }
-    ensures many { OnFalse result (Leads many.now.entries few.now.items) }
-{
-    let Some(later) = first_of(many) else {
+    let Some(first) = timers.first() else {
+        return false;
+    };
+    let Some(other) = others.first() else {
         return true;
     };
-    match rising::first(few) {
-        Some(first) => *first < *later,
-        None => false,
-    }
-}
-
-/// Whether an event goes to the row while the map is empty: one after all others does, however long the row is.
-#[inline(always)]
-fn fits_in(few: &VecDeque<(Key, Event)>, key: &Key) -> bool
-    requires { AreRising few.now.items }
-{
-    few.len() < FEW || rising::is_past(few, key)
+    first < *other
 }
 
 impl Calendar {
@@ -87,8 +70,9 @@ impl Calendar {
         ensures { result ≡ [] }
     {
         Calendar {
-            few: VecDeque::new(alloc),
-            many: BTreeMap::new(alloc),
+            timers: Timers::new(alloc),
+            others: Store::new(alloc),
+            has_timer: false,
             quiet: Moment {
                 tick: 0,
                 resource: 0,
@@ -100,62 +84,91 @@ impl Calendar {
     ///
     /// # Errors
     ///
-    /// When memory runs out. The events are then as they were, and the key is not among them.
+    /// When memory runs out. The events are then as they were, and the key is not among them unless it is a timer's.
     #[inline(always)]
     pub(crate) fn insert(&mut self, key: Key, event: Event) -> Result<(), AllocError>
         ensures put { OnOk result (Sets key (Some event) self.old self.new) }
-        ensures absent { OnErr result (lookup (same_key key) self.old ≡ None) }
+        ensures absent { OnErr result (key.class ≢ 1 → lookup (same_key key) self.old ≡ None) }
+        ensures err { OnErr result (self.new ≡ self.old) }
+    {
+        if key.class == TIMER {
+            return self.insert_aside(key, event);
+        }
+        self.quiet = self.quiet.earlier(Moment::of(&key));
+        self.others.insert(key, event)
+    }
+
+    /// The same as `insert`, for the key of a timer. The event goes to the others, since it can be any.
+    ///
+    /// # Errors
+    ///
+    /// When memory runs out. The events are then as they were.
+    #[inline(never)]
+    fn insert_aside(&mut self, key: Key, event: Event) -> Result<(), AllocError>
+        ensures put { OnOk result (Sets key (Some event) self.old self.new) }
         ensures err { OnErr result (self.new ≡ self.old) }
     {
         self.quiet = self.quiet.earlier(Moment::of(&key));
-        if self.many.is_empty() && fits_in(&self.few, &key) {
-            return rising::insert(&mut self.few, key, event);
-        }
-        if let Some(index) = rising::index_of(&self.few, &key) {
-            self.few[index] = (key, event);
-            return Ok(());
-        }
-        self.many.insert(key, event)?;
+        self.others.insert(key, event)?;
+        self.has_timer = true;
+        self.timers.remove(&key);
         Ok(())
     }
 
-    /// Removes the event under a key, if one waits there, and returns it.
-    pub(crate) fn remove(&mut self, key: &Key) -> Option<Event>
-        ensures { Sets key.now None self.old self.new }
+    /// Puts a timer under its key. It replaces an event that waits there.
+    ///
+    /// # Errors
+    ///
+    /// When memory runs out. The events are then as they were.
+    #[inline(always)]
+    pub(crate) fn set_timer(
+        &mut self,
+        tick: u64,
+        resource: u32,
+        instance: u32,
+    ) -> Result<(), AllocError>
+        ensures put { OnOk result (Sets (timer_key tick resource instance) (Some (Timer instance)) self.old self.new) }
+        ensures err { OnErr result (self.new ≡ self.old) }
     {
-        let Some(index) = rising::index_of(&self.few, key) else {
-            return self.many.remove(key);
-        };
-        let (_, event) = self.few.remove(index)?;
-        Some(event)
+        self.quiet = self.quiet.earlier(Moment { tick, resource });
+        self.timers.set(tick, resource, instance)?;
+        if self.has_timer {
+            self.others.clear(&Key::timer(tick, resource, instance));
+        }
+        Ok(())
     }
 
-    /// Removes the event with the first key, and returns it.
-    #[inline(never)]
-    pub(crate) fn pop_first(&mut self) -> Option<(Key, Event)>
-        ensures value { IfSome result (λ r. lookup (same_key r.0) self.old ≡ Some r.1) }
-        ensures none_before { IfSome result (λ r. (j : keys.Key) → Precedes j r.0 → lookup (same_key j) self.old ≡ None) }
-        ensures left { IfSome result (λ r. Sets r.0 None self.old self.new) }
-        ensures none { IfNone result (self.old ≡ []) }
-        ensures kept { IfNone result (self.new ≡ self.old) }
+    /// Removes the event under the key of a timer, if one waits there.
+    #[inline(always)]
+    pub(crate) fn clear_timer(&mut self, tick: u64, resource: u32, instance: u32)
+        ensures { Sets (timer_key tick resource instance) None self.old self.new }
     {
-        if is_few_first(&self.few, &self.many) {
-            self.few.pop_front()
-        } else {
-            self.many.pop_first()
+        let key = Key::timer(tick, resource, instance);
+        self.timers.remove(&key);
+        if self.has_timer {
+            self.others.clear(&key);
         }
+    }
+
+    /// Removes the event under a key, if one waits there.
+    pub(crate) fn remove(&mut self, key: &Key)
+        ensures { Sets key.now None self.old self.new }
+    {
+        self.timers.remove(key);
+        self.others.clear(key);
     }
 
     /// The first key.
-    pub(crate) fn first(&self) -> Option<&Key>
-        ensures some { IfSome result (λ k. IsFirst self.now k.now) }
+    #[inline(always)]
+    pub(crate) fn first(&self) -> Option<Key>
+        ensures some { IfSome result (IsFirst self.now) }
         ensures none { IfNone result (self.now ≡ []) }
     {
-        if is_few_first(&self.few, &self.many) {
-            rising::first(&self.few)
-        } else {
-            first_of(&self.many)
+        if is_timer_first(&self.timers, &self.others) {
+            return self.timers.first();
         }
+        let first = self.others.first()?;
+        Some(*first)
     }
 
     /// The tick of the first key.
@@ -163,9 +176,6 @@ impl Calendar {
         ensures some { IfSome result (IsFirstTick self.now) }
         ensures none { IfNone result (self.now ≡ []) }
     {
-        if self.many.is_empty() {
-            return rising::first_tick(&self.few);
-        }
         let first = self.first()?;
         Some(first.tick)
     }
@@ -188,28 +198,26 @@ impl Calendar {
         let Some(first) = self.first() else {
             return true;
         };
-        let first = Moment::of(first);
+        let first = Moment::of(&first);
         self.quiet = first;
         moment.is_before(first)
     }
 
-    /// Removes the event with the first key, if its tick is below the horizon, and returns it.
+    /// Takes the event with the first key, if its tick is below the horizon, and moves it into the slot. Returns whether it
+    /// did.
     #[inline(always)]
-    pub(crate) fn pop_below(&mut self, horizon: u64) -> Option<(Key, Event)>
-        ensures value { IfSome result (λ r. lookup (same_key r.0) self.old ≡ Some r.1) }
-        ensures none_before { IfSome result (λ r. (j : keys.Key) → Precedes j r.0 → lookup (same_key j) self.old ≡ None) }
-        ensures left { IfSome result (λ r. Sets r.0 None self.old self.new) }
-        ensures below { IfSome result (λ r. r.0.tick < horizon) }
-        ensures none { IfNone result (BeginsAt horizon self.old) }
-        ensures kept { IfNone result (self.new ≡ self.old) }
+    pub(crate) fn pop_into(&mut self, horizon: u64, index: &mut Least) -> bool
+        ensures value { IfSome (taken result index.new) (λ r. lookup (same_key r.0) self.old ≡ Some r.1) }
+        ensures none_before { IfSome (taken result index.new) (λ r. (j : keys.Key) → Precedes j r.0 → lookup (same_key j) self.old ≡ None) }
+        ensures left { IfSome (taken result index.new) (λ r. Sets r.0 None self.old self.new) }
+        ensures below { IfSome (taken result index.new) (λ r. r.0.tick < horizon) }
+        ensures none { IfNone (taken result index.new) (BeginsAt horizon self.old) }
+        ensures kept { IfNone (taken result index.new) (self.new ≡ self.old) }
     {
-        // Usually all of them are in the row.
-        if self.many.is_empty() {
-            return rising::pop_below(&mut self.few, horizon);
+        if is_timer_first(&self.timers, &self.others) {
+            self.timers.pop_into(horizon, index)
+        } else {
+            index.hold(self.others.pop_below(horizon))
         }
-        if self.first_tick()? >= horizon {
-            return None;
-        }
-        self.pop_first()
     }
 }

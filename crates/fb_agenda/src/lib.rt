@@ -4,7 +4,7 @@
 //! all or none, and none if memory runs out.
 //!
 //! Read in this order: `agenda`; `queue`, the local events of the running tick; `later` and `calendar`, all other events,
-//! with `moment`; `rising`, rows sorted by key; `arrivals`, messages; `least` and `next`, what is taken.
+//! with `moment`; `timer_row`; `store` and `rising`, the others of these; `arrivals`, messages; `least`, what is taken.
 #![tactic(auto)]
 
 pub mod agenda;
@@ -13,10 +13,10 @@ mod calendar;
 mod later;
 pub mod least;
 mod moment;
-pub mod next;
 mod queue;
 mod rising;
+mod store;
+mod timer_row;
 
 pub use agenda::Agenda;
 pub use least::Least;
-pub use next::Next;

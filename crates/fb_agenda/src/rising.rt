@@ -7,7 +7,7 @@ ghost use Rattle.std.specs.List.{AllByRecursion};
 ghost use Rattle.std.specs.Map.{keys_of, lookup};
 ghost use Rattle.std.specs.BTreeMap.{insert_entry};
 ghost use Rattle.fb_types.specs.Keys.{Precedes, key_cmp, same_key};
-ghost use Rattle.fb_agenda.specs.Agendas.{AreRising, IsFirst, IsFirstTick};
+ghost use Rattle.fb_agenda.specs.Agendas.{AreRising, IsFirst};
 ghost use Rattle.fb_agenda.specs.Calendars.{BeginsAt, IsBetween, IsIndexOf};
 
 use fb_types::{Event, Key};
@@ -59,16 +59,6 @@ pub(crate) fn first(events: &VecDeque<(Key, Event)>) -> Option<&Key>
 {
     let (key, _) = events.front()?;
     Some(key)
-}
-
-/// The tick of the first key.
-pub(crate) fn first_tick(events: &VecDeque<(Key, Event)>) -> Option<u64>
-    requires { AreRising events.now.items }
-    ensures some { IfSome result (IsFirstTick events.now.items) }
-    ensures none { IfNone result (events.now.items ≡ []) }
-{
-    let (first, _) = events.front()?;
-    Some(first.tick)
 }
 
 /// The index of a key, if the list has it.

@@ -1,10 +1,15 @@
-use Rattle.fb_agenda.proofs.Calendars.{few_first, many_first}
+use Rattle.fb_agenda.proofs.Calendars.{many_is_first}
+use Rattle.fb_agenda.proofs.Keeping.{first_timer, none_first, none_other}
 use Rattle.fb_agenda.proofs.calendar.Calendar.first.Goals as goal
 
-pub returns-then-is_few_first-clause-some : goal.returns-then-is_few_first-clause-some
-returns-then-is_few_first-clause-some c =
-    rw (← c.self.view_is) (few_first c.self.inside.few.items c.self.inside.many.entries c.if-is_few_first.ensures.few c.first.result c.first.ensures.some)
+pub returns-then-is_timer_first-clause-some : goal.returns-then-is_timer_first-clause-some
+returns-then-is_timer_first-clause-some c =
+    rw (← c.self.view_is) (first_timer c.self.inside.timers c.self.inside.others c.if-is_timer_first.ensures.timers c.first.result c.first.ensures.some)
 
-pub returns-else-is_few_first-clause-some : goal.returns-else-is_few_first-clause-some
-returns-else-is_few_first-clause-some c =
-    rw (← c.self.view_is) (many_first c.self.inside.few.items c.self.inside.many.entries c.if-is_few_first.ensures.many c.first_of.result c.first_of.ensures.some)
+pub returns-then-is_timer_first-clause-none : goal.returns-then-is_timer_first-clause-none
+returns-then-is_timer_first-clause-none c =
+    rw (← c.self.view_is) (none_first c.self.inside.timers c.self.inside.others c.if-is_timer_first.ensures.timers c.first.result c.first.ensures.none)
+
+pub returns-clause-some : goal.returns-clause-some
+returns-clause-some c =
+    rw (← c.self.view_is) (many_is_first c.self.inside.timers c.self.inside.others c.if-is_timer_first.ensures.others c.in_ok-first.first.now c.in_ok-first.ensures.some)

@@ -1,93 +1,23 @@
-use Rattle.std.proofs.Common.{◌≡◌, ◌∙◌, Some, None, ap, ◌++◌}
-use Rattle.std.specs.Prelude.{slice_set}
-use Rattle.std.specs.Map.{lookup}
-use Rattle.std.proofs.lemmas.List.{nil_from_length}
-use Rattle.fb_types.specs.Keys.{or_else, same_key}
-use Rattle.fb_agenda.proofs.Calendars.{alone, err_known, few_sets, few_split, kept_both, lookup_both, many_sets, many_split, over_is, put_absent, put_both, put_rises, put_sets, put_split}
-use Rattle.fb_agenda.proofs.Moments.{quiet_put, quiet_result}
+use Rattle.std.proofs.Common.{arith}
+use Rattle.fb_agenda.proofs.Calendars.{err_known}
+use Rattle.fb_agenda.proofs.Keeping.{absent_other, put_kept, put_other}
 use Rattle.fb_agenda.proofs.calendar.Calendar.insert.Goals as goal
 
--- ---- The map is empty
+pub returns-then-key-eq-TIMER-clause-absent : goal.returns-then-key-eq-TIMER-clause-absent
+returns-then-key-eq-TIMER-clause-absent c = err_known c.insert_aside.result (λ other. absurd (other (omega (arith, c.if-key-eq-TIMER.true))))
 
 pub invariant_of-self : goal.invariant_of-self
 invariant_of-self c =
-    let few = c.self.inside.few.items in
-    let many = c.self.inside.many.entries in
-    let none : lookup (same_key c.args.key) many ≡ None = ap (lookup (same_key c.args.key)) (nil_from_length many (c.is_empty.ensures.0 c.if-is_empty.true)) in
-    let r = c.insert.result in
-    let new = c.insert.new.events.items in
-    record {
-      split = put_split few many c.self.invariant.split c.args.key c.args.event r new none c.insert.ensures.ok c.insert.ensures.err;
-      quiet = quiet_result c.self.inside.quiet c.earlier-self-inside.result c.of.result c.args.key c.args.event (few ++ many) (new ++ many) c.self.invariant.quiet c.earlier-self-inside.ensures.first c.earlier-self-inside.ensures.second c.of.ensures.tick c.of.ensures.resource r
-          (put_both few many c.self.invariant.split c.args.key c.args.event r new none c.insert.ensures.ok) (kept_both few new many r c.insert.ensures.err);
-    }
-
-pub returns-then-fits_in-clause-put : goal.returns-then-fits_in-clause-put
-returns-then-fits_in-clause-put c =
-    let few = c.self.inside.few.items in
-    let many = c.self.inside.many.entries in
-    let none : lookup (same_key c.args.key) many ≡ None = ap (lookup (same_key c.args.key)) (nil_from_length many (c.is_empty.ensures.0 c.if-is_empty.true)) in
-    rw (← c.self.view_is) (put_both few many c.self.invariant.split c.args.key c.args.event c.insert.result c.insert.new.events.items none c.insert.ensures.ok)
-
-pub returns-then-fits_in-clause-absent : goal.returns-then-fits_in-clause-absent
-returns-then-fits_in-clause-absent c =
-    let few = c.self.inside.few.items in
-    let many = c.self.inside.many.entries in
-    let none : lookup (same_key c.args.key) many ≡ None = ap (lookup (same_key c.args.key)) (nil_from_length many (c.is_empty.ensures.0 c.if-is_empty.true)) in
-    rw (← c.self.view_is) (put_absent few many c.self.invariant.split c.args.key c.args.event c.insert.result c.insert.new.events.items none c.insert.ensures.absent)
-
--- ---- The key is in the row
-
-pub invariant_of-self-in-Some : goal.invariant_of-self-in-Some
-invariant_of-self-in-Some c =
-    let few = c.self.inside.few.items in
-    let many = c.self.inside.many.entries in
-    let k = c.args.key in
-    let e = c.args.event in
-    let i = c.in-Some.index in
-    let new = slice_set few i (k, e) in
-    let is = over_is few k e i c.self.invariant.split.rising c.in-Some.ensures.there in
-    let sets = put_sets few new k e is in
-    let none = alone few many c.self.invariant.split k i c.in-Some.ensures.there in
-    record {
-      split = few_split few many c.self.invariant.split k (Some e) new sets (put_rises few new k e c.self.invariant.split.rising is) none;
-      quiet = quiet_put c.self.inside.quiet c.earlier-self-inside.result c.of.result k (Some e) (few ++ many) (new ++ many) c.self.invariant.quiet c.earlier-self-inside.ensures.first c.earlier-self-inside.ensures.second c.of.ensures.tick c.of.ensures.resource (few_sets few many c.self.invariant.split k (Some e) new sets none);
-    }
-
-pub returns-in-Some-clause-put : goal.returns-in-Some-clause-put
-returns-in-Some-clause-put c =
-    let few = c.self.inside.few.items in
-    let many = c.self.inside.many.entries in
-    let k = c.args.key in
-    let e = c.args.event in
-    let i = c.in-Some.index in
-    let new = slice_set few i (k, e) in
-    let is = over_is few k e i c.self.invariant.split.rising c.in-Some.ensures.there in
-    rw (← c.self.view_is) (few_sets few many c.self.invariant.split k (Some e) new (put_sets few new k e is) (alone few many c.self.invariant.split k i c.in-Some.ensures.there))
-
--- ---- The key is not in the row
-
-pub returns-in_err-insert-clause-absent : goal.returns-in_err-insert-clause-absent
-returns-in_err-insert-clause-absent c =
-    let few = c.self.inside.few.items in
-    let many = c.self.inside.many.entries in
-    let k = c.args.key in
-    err_known c.from_residual.result
-    (rw (← c.self.view_is) (lookup_both k few many ∙ ap (λ o. or_else o (lookup (same_key k) many)) c.in_default.ensures.absent ∙ c.in_err-insert.ensures.absent))
-
-pub invariant_of-self-2 : goal.invariant_of-self-2
-invariant_of-self-2 c =
-    let few = c.self.inside.few.items in
-    let many = c.self.inside.many.entries in
-    let new = c.insert-2.new.self.entries in
-    let sets = c.in_ok-insert.ensures.updates.0 in
-    record {
-      split = many_split few many c.self.invariant.split c.args.key (Some c.args.event) new sets c.in_default.ensures.absent;
-      quiet = quiet_put c.self.inside.quiet c.earlier-self-inside.result c.of.result c.args.key (Some c.args.event) (few ++ many) (few ++ new) c.self.invariant.quiet c.earlier-self-inside.ensures.first c.earlier-self-inside.ensures.second c.of.ensures.tick c.of.ensures.resource
-          (many_sets few many c.self.invariant.split c.args.key (Some c.args.event) new sets c.in_default.ensures.absent);
-    }
+    let i = c.self.inside in
+    put_kept i.timers i.others i.has_timer i.quiet c.self.invariant c.args.key c.args.event c.insert.new.self c.earlier-self-inside.result c.of.result (λ timer. omega (arith, timer, c.if-key-eq-TIMER.false))
+    c.earlier-self-inside.ensures.first c.earlier-self-inside.ensures.second c.of.ensures.tick c.of.ensures.resource c.insert.result c.insert.ensures.put c.insert.ensures.err
 
 pub returns-clause-put : goal.returns-clause-put
 returns-clause-put c =
-    rw (← c.self.view_is)
-    (many_sets c.self.inside.few.items c.self.inside.many.entries c.self.invariant.split c.args.key (Some c.args.event) c.insert-2.new.self.entries c.in_ok-insert.ensures.updates.0 c.in_default.ensures.absent)
+    let i = c.self.inside in
+    rw (← c.self.view_is) (put_other i.timers i.others i.has_timer i.quiet c.self.invariant c.args.key c.args.event c.insert.new.self (λ timer. omega (arith, timer, c.if-key-eq-TIMER.false)) c.insert.result c.insert.ensures.put)
+
+pub returns-clause-absent : goal.returns-clause-absent
+returns-clause-absent c =
+    let i = c.self.inside in
+    rw (← c.self.view_is) (absent_other i.timers i.others i.has_timer i.quiet c.self.invariant c.args.key (λ timer. omega (arith, timer, c.if-key-eq-TIMER.false)) c.insert.result c.insert.ensures.absent)

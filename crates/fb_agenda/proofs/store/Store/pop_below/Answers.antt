@@ -1,8 +1,7 @@
-use Rattle.std.proofs.Common.{◌++◌, arith}
+use Rattle.std.proofs.Common.{refl, arith}
 use Rattle.std.proofs.lemmas.List.{nil_from_length}
 use Rattle.fb_agenda.proofs.Calendars.{begins_both, below_first, front_before, front_kept, front_left, front_split, front_value, leads_none}
-use Rattle.fb_agenda.proofs.Moments.{quiet_popped}
-use Rattle.fb_agenda.proofs.calendar.Calendar.pop_below.Goals as goal
+use Rattle.fb_agenda.proofs.store.Store.pop_below.Goals as goal
 
 -- ---- The map is empty
 
@@ -14,31 +13,28 @@ invariant_of-self c =
     let rest = c.pop_below.new.events.items in
     let o = c.pop_below.result in
     let items = c.pop_below.ensures.items in
-    record {
-      split = front_split few many c.self.invariant.split leads rest o items;
-      quiet = quiet_popped c.self.inside.quiet (few ++ many) (rest ++ many) c.self.invariant.quiet o (front_left few many c.self.invariant.split leads rest o items) (front_kept few rest many o items);
-    }
+    front_split few many c.self.invariant leads rest o items
 
 pub returns-then-is_empty-clause-value : goal.returns-then-is_empty-clause-value
 returns-then-is_empty-clause-value c =
     let few = c.self.inside.few.items in
     let many = c.self.inside.many.entries in
     let leads = leads_none few many (nil_from_length many (c.is_empty.ensures.0 c.if-is_empty.true)) in
-    rw (← c.self.view_is) (front_value few many c.self.invariant.split leads c.pop_below.new.events.items c.pop_below.result c.pop_below.ensures.items)
+    rw (← c.self.view_is) (front_value few many c.self.invariant leads c.pop_below.new.events.items c.pop_below.result c.pop_below.ensures.items)
 
 pub returns-then-is_empty-clause-none_before : goal.returns-then-is_empty-clause-none_before
 returns-then-is_empty-clause-none_before c =
     let few = c.self.inside.few.items in
     let many = c.self.inside.many.entries in
     let leads = leads_none few many (nil_from_length many (c.is_empty.ensures.0 c.if-is_empty.true)) in
-    rw (← c.self.view_is) (front_before few many c.self.invariant.split leads c.pop_below.new.events.items c.pop_below.result c.pop_below.ensures.items)
+    rw (← c.self.view_is) (front_before few many c.self.invariant leads c.pop_below.new.events.items c.pop_below.result c.pop_below.ensures.items)
 
 pub returns-then-is_empty-clause-left : goal.returns-then-is_empty-clause-left
 returns-then-is_empty-clause-left c =
     let few = c.self.inside.few.items in
     let many = c.self.inside.many.entries in
     let leads = leads_none few many (nil_from_length many (c.is_empty.ensures.0 c.if-is_empty.true)) in
-    rw (← c.self.view_is) (front_left few many c.self.invariant.split leads c.pop_below.new.events.items c.pop_below.result c.pop_below.ensures.items)
+    rw (← c.self.view_is) (front_left few many c.self.invariant leads c.pop_below.new.events.items c.pop_below.result c.pop_below.ensures.items)
 
 pub returns-then-is_empty-clause-none : goal.returns-then-is_empty-clause-none
 returns-then-is_empty-clause-none c =
@@ -56,4 +52,5 @@ returns-then-is_empty-clause-kept c =
 
 pub returns-clause-below : goal.returns-clause-below
 returns-clause-below c =
-    below_first c.args.self.now c.in_ok-first_tick.field-0 c.args.horizon c.in_ok-first_tick.ensures.some (omega (arith, c.if-branch-horizon.false)) c.pop_first.result c.pop_first.ensures.value c.pop_first.ensures.none_before
+    let k = c.in_ok-first.first.now in
+    below_first c.args.self.now k.tick c.args.horizon (k, refl, c.in_ok-first.ensures.some) (omega (arith, c.if-first-horizon.false)) c.pop_first.result c.pop_first.ensures.value c.pop_first.ensures.none_before

@@ -1,7 +1,7 @@
 use Rattle.std.proofs.Common.{sym, ◌∙◌}
 use Rattle.fb_agenda.proofs.Calendars.{leads_less, leads_not_less, when_false, when_true}
 use Rattle.fb_agenda.proofs.Orders.{less_is}
-use Rattle.fb_agenda.proofs.calendar.is_few_first.Goals as goal
+use Rattle.fb_agenda.proofs.store.is_few_first.Goals as goal
 
 pub returns-in-Some-first-clause-few : goal.returns-in-Some-first-clause-few
 returns-in-Some-first-clause-few c =

@@ -1,7 +1,6 @@
 use Rattle.std.proofs.Common.{◌++◌}
 use Rattle.fb_agenda.proofs.Calendars.{front_before, front_kept, front_left, front_split, front_value, many_kept, popped_before, popped_left, popped_split, popped_value}
-use Rattle.fb_agenda.proofs.Moments.{quiet_popped}
-use Rattle.fb_agenda.proofs.calendar.Calendar.pop_first.Goals as goal
+use Rattle.fb_agenda.proofs.store.Store.pop_first.Goals as goal
 
 pub invariant_of-self : goal.invariant_of-self
 invariant_of-self c =
@@ -10,28 +9,25 @@ invariant_of-self c =
     let leads = c.if-is_few_first.ensures.few in
     let rest = c.pop_front.new.self.items in
     let o = c.pop_front.result in
-    record {
-      split = front_split few many c.self.invariant.split leads rest o c.pop_front.ensures.items;
-      quiet = quiet_popped c.self.inside.quiet (few ++ many) (rest ++ many) c.self.invariant.quiet o (front_left few many c.self.invariant.split leads rest o c.pop_front.ensures.items) (front_kept few rest many o c.pop_front.ensures.items);
-    }
+    front_split few many c.self.invariant leads rest o c.pop_front.ensures.items
 
 pub returns-then-is_few_first-clause-value : goal.returns-then-is_few_first-clause-value
 returns-then-is_few_first-clause-value c =
     let few = c.self.inside.few.items in
     let many = c.self.inside.many.entries in
-    rw (← c.self.view_is) (front_value few many c.self.invariant.split c.if-is_few_first.ensures.few c.pop_front.new.self.items c.pop_front.result c.pop_front.ensures.items)
+    rw (← c.self.view_is) (front_value few many c.self.invariant c.if-is_few_first.ensures.few c.pop_front.new.self.items c.pop_front.result c.pop_front.ensures.items)
 
 pub returns-then-is_few_first-clause-none_before : goal.returns-then-is_few_first-clause-none_before
 returns-then-is_few_first-clause-none_before c =
     let few = c.self.inside.few.items in
     let many = c.self.inside.many.entries in
-    rw (← c.self.view_is) (front_before few many c.self.invariant.split c.if-is_few_first.ensures.few c.pop_front.new.self.items c.pop_front.result c.pop_front.ensures.items)
+    rw (← c.self.view_is) (front_before few many c.self.invariant c.if-is_few_first.ensures.few c.pop_front.new.self.items c.pop_front.result c.pop_front.ensures.items)
 
 pub returns-then-is_few_first-clause-left : goal.returns-then-is_few_first-clause-left
 returns-then-is_few_first-clause-left c =
     let few = c.self.inside.few.items in
     let many = c.self.inside.many.entries in
-    rw (← c.self.view_is) (front_left few many c.self.invariant.split c.if-is_few_first.ensures.few c.pop_front.new.self.items c.pop_front.result c.pop_front.ensures.items)
+    rw (← c.self.view_is) (front_left few many c.self.invariant c.if-is_few_first.ensures.few c.pop_front.new.self.items c.pop_front.result c.pop_front.ensures.items)
 
 pub invariant_of-self-else-is_few_first : goal.invariant_of-self-else-is_few_first
 invariant_of-self-else-is_few_first c =
@@ -40,25 +36,22 @@ invariant_of-self-else-is_few_first c =
     let new = c.pop_first.new.self.entries in
     let o = c.pop_first.result in
     let updates = c.pop_first.ensures.updates in
-    record {
-      split = popped_split few many c.self.invariant.split new (λ p u. u.0) o c.pop_first.ensures.value updates c.pop_first.ensures.unchanged;
-      quiet = quiet_popped c.self.inside.quiet (few ++ many) (few ++ new) c.self.invariant.quiet o (popped_left few many c.self.invariant.split new (λ p u. u.0) o c.pop_first.ensures.value updates) (many_kept few many new o c.pop_first.ensures.unchanged);
-    }
+    popped_split few many c.self.invariant new (λ p u. u.0) o c.pop_first.ensures.value updates c.pop_first.ensures.unchanged
 
 pub returns-else-is_few_first-clause-value : goal.returns-else-is_few_first-clause-value
 returns-else-is_few_first-clause-value c =
     let few = c.self.inside.few.items in
     let many = c.self.inside.many.entries in
-    rw (← c.self.view_is) (popped_value few many c.self.invariant.split c.if-is_few_first.ensures.many c.pop_first.result c.pop_first.ensures.value)
+    rw (← c.self.view_is) (popped_value few many c.self.invariant c.if-is_few_first.ensures.many c.pop_first.result c.pop_first.ensures.value)
 
 pub returns-else-is_few_first-clause-none_before : goal.returns-else-is_few_first-clause-none_before
 returns-else-is_few_first-clause-none_before c =
     let few = c.self.inside.few.items in
     let many = c.self.inside.many.entries in
-    rw (← c.self.view_is) (popped_before few many c.self.invariant.split c.if-is_few_first.ensures.many c.pop_first.result c.pop_first.ensures.value c.pop_first.ensures.least)
+    rw (← c.self.view_is) (popped_before few many c.self.invariant c.if-is_few_first.ensures.many c.pop_first.result c.pop_first.ensures.value c.pop_first.ensures.least)
 
 pub returns-else-is_few_first-clause-left : goal.returns-else-is_few_first-clause-left
 returns-else-is_few_first-clause-left c =
     let few = c.self.inside.few.items in
     let many = c.self.inside.many.entries in
-    rw (← c.self.view_is) (popped_left few many c.self.invariant.split c.pop_first.new.self.entries (λ p u. u.0) c.pop_first.result c.pop_first.ensures.value c.pop_first.ensures.updates)
+    rw (← c.self.view_is) (popped_left few many c.self.invariant c.pop_first.new.self.entries (λ p u. u.0) c.pop_first.result c.pop_first.ensures.value c.pop_first.ensures.updates)

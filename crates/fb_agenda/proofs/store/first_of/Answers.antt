@@ -3,7 +3,7 @@ use Rattle.std.specs.Prelude.{is_some}
 use Rattle.fb_types.specs.Keys.{key_cmp}
 use Rattle.fb_types.proofs.KeyLaws.{before_least}
 use Rattle.std.specs.BTreeMap as tree
-use Rattle.fb_agenda.proofs.calendar.first_of.Goals as goal
+use Rattle.fb_agenda.proofs.store.first_of.Goals as goal
 
 pub returns-clause-some : goal.returns-clause-some
 returns-clause-some c =

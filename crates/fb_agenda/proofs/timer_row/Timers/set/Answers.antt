@@ -1,0 +1,13 @@
+use Rattle.std.proofs.Common.{[], ◌∷◌, ◌++◌, ap, subst, ◌∙◌}
+use Rattle.fb_types.specs.declared.key.Key.{Key}
+use Rattle.fb_agenda.specs.declared.timer_row.Timed.{Timed}
+use Rattle.fb_agenda.proofs.Orders.{AllBefore}
+use Rattle.fb_agenda.proofs.Timing.{timer_pushed}
+use Rattle.fb_agenda.proofs.timer_row.Timers.set.Goals as goal
+
+pub returns-then-is_past-clause-ok : goal.returns-then-is_past-clause-ok
+returns-then-is_past-clause-ok c =
+    let t : Timed = record { tick = c.args.tick; resource = c.args.resource; instance = c.args.instance } in
+    let is = c.push_back_reserved.ensures.items ∙ ap (λ ts. ts ++ t ∷ []) c.in_ok-make_room.ensures.items in
+    timer_pushed c.self.inside.row.items c.push_back_reserved.new.self.items t c.args.self.now c.self.view_is is
+    (subst (λ (k : Key). AllBefore k c.args.self.now) c.key.ensures c.if-is_past.ensures)
