@@ -1,11 +1,10 @@
 -- What the directory says of a stimulus is whether it is good.
-use Rattle.std.proofs.Common.{◌≡◌, ℕ, ◌<◌, length, get_or, Bool, true, false, not, ◌&&◌, cond, List, [], ◌∷◌, map, Option, Some, None, Contains, Bor, refl, sym, ◌∙◌, ap, subst, inl, inr}
+use Rattle.std.proofs.Common.{◌≡◌, ℕ, Bool, true, false, not, ◌&&◌, cond, List, [], ◌∷◌, map, Option, Some, None, Contains, Bor, refl, sym, ◌∙◌, ap, subst, inl, inr}
 use Rattle.std.specs.Prelude.{◌↔◌, IsTrue, MatchOption, option_map, option_and_then, is_some, position, slice_get}
 use Rattle.std.specs.Bool.{Decides}
 use Rattle.std.specs.BTreeMap.{BTreeMap}
 use Rattle.std.specs.List.{list_all, filter}
 use Rattle.std.proofs.lemmas.Bool.{true≢false}
-use Rattle.std.proofs.lemmas.List.Elements.{Contains-get_or}
 use Rattle.fb_types.specs.Names.{Name, same_name}
 use Rattle.fb_types.specs.Values.{fits}
 use Rattle.fb_types.specs.Blocks.{Kind, named, ports_of, event_names, variable_names, is_event_input, inputs_with}
@@ -24,8 +23,12 @@ use Rattle.fb_types.proofs.Positions.{is_some-position, named-position, position
 use Rattle.fb_types.proofs.Elements.{Contains-nil, Contains-cons_cases, Contains-here, Contains-there, Contains-map, map-Contains}
 use Rattle.fb_types.proofs.NameLaws.{same_from_same_name}
 use Rattle.fb_check_names.specs.Indexes.{IsIndex, index_in}
-use Rattle.fb_check.specs.Directory.{first_of, input_in, input_of, lists, leads_to, ports_at, ports_at_index, is_settable, can_set, AreTaken, CanTake, IsInputs, IsFound, IsDirectory}
-use Rattle.fb_system.specs.declared.rows.StimulusRow.{StimulusRow}
+use Rattle.fb_types.proofs.ByIndex.{element_of_index}
+use Rattle.fb_check.specs.declared.location.StimulusFault.{StimulusFault}
+use Rattle.fb_check.specs.declared.location.StimulusFault.TheVariants as fault
+use Rattle.fb_check.specs.declared.location.StimulusLocation.{StimulusLocation}
+use Rattle.fb_check.specs.Stimuli.{Fits, HasNoEvent, IsBad, IsBadAt, IsUnfit}
+use Rattle.fb_check.specs.Directory.{first_of, input_in, input_of, lists, leads_to, ports_at, ports_at_index, is_settable, can_set, CanTake, IsInputs, IsFound, IsDirectory}
 use Rattle.fb_check.specs.declared.directory_making.Input.{Input}
 use Rattle.fb_check.specs.declared.directory_making.TypeInputs.{TypeInputs}
 use Rattle.fb_check.specs.declared.directory.Directory.{Directory}
@@ -127,18 +130,12 @@ not-true : (b : Bool) → not b ≡ true → b ≡ false
 not-true true h = absurd (true≢false (sym h))
 not-true false h = refl
 
-record Known (lib : Library) : Type 0 where
+pub record Known (lib : Library) : Type 0 where
   pub plan : Plan
   pub once : ¬ (NameTwice lib plan)
   pub known : ¬ (NameUnknown lib plan)
 
--- what the three conditions on a setting say
-record Settable (lib : Library) (p : Ports) (s : Stimulus) (v : Setting) : Type 0 where
-  pub with_event : Contains (inputs_with p s.event) v.variable
-  pub unconnected : source_of lib (port s.instance v.variable) ≡ None
-  pub held : is_held p v ≡ true
-
-settable_from : (lib : Library) (k : Kind) (s : Stimulus) (v : Setting) → Known lib → kind_of_stimulus lib s ≡ Some k → can_set lib (ports_of k) s v ≡ true → Settable lib (ports_of k) s v
+settable_from : (lib : Library) (k : Kind) (s : Stimulus) (v : Setting) → Known lib → kind_of_stimulus lib s ≡ Some k → can_set lib (ports_of k) s v ≡ true → Fits lib s k v
 settable_from lib k s v known of h =
     let p = ports_of k in
     let with = lists p.event_inputs s.event v.variable in
@@ -154,7 +151,7 @@ settable_from lib k s v known of h =
       held = held;
     }
 
-can_set_from : (lib : Library) (k : Kind) (s : Stimulus) (v : Setting) → Known lib → kind_of_stimulus lib s ≡ Some k → Settable lib (ports_of k) s v → can_set lib (ports_of k) s v ≡ true
+can_set_from : (lib : Library) (k : Kind) (s : Stimulus) (v : Setting) → Known lib → kind_of_stimulus lib s ≡ Some k → Fits lib s k v → can_set lib (ports_of k) s v ≡ true
 can_set_from lib k s v known of is =
     let p = ports_of k in
     let input = input_of_held p v is.held in
@@ -183,18 +180,35 @@ IsFoundAt lib s k o = (position (same_name s.instance) (instance_names lib.appli
 pub found_at : (lib : Library) (s : Stimulus) (k : ℕ) (o : Option TypeInputs) → IsFoundAt lib s k o → IsFound (ports_at lib s.instance) o
 found_at lib s k o h = let P : Option Ports → Type 0 = λ p. IsFound p o in subst P (sym (ports_placed lib s.instance k h.0)) h.1
 
-pub no_instance : (lib : Library) (s : Stimulus) → IsFound (ports_at lib s.instance) None → ¬ (CanTake lib s)
-no_instance lib s found take =
-    let P : Option Ports → Type 0 = λ o. IsFound o None in
-    let f : ⊥ = subst P take.of_ports found in f
+pub kind_of_ports : (o : Option Kind) (p : Ports) → option_map ports_of o ≡ Some p → (k : Kind) × (o ≡ Some k) × (ports_of k ≡ p)
+kind_of_ports None p h = absurd (cc)
+kind_of_ports (Some k) p h = (k, refl, (let e : ports_of k ≡ p = cc in e))
 
-pub no_event : (lib : Library) (s : Stimulus) (x : TypeInputs) → IsFound (ports_at lib s.instance) (Some x) → is_some (index_in x.events s.event) ≡ false → ¬ (CanTake lib s)
-no_event lib s x found absent take =
-    let is = inputs_of_ports (ports_at lib s.instance) x take.ports found take.of_ports in
-    absurd (true≢false (sym (is_event-is take.ports x s.event is ∙ take.is_event) ∙ absent))
+-- there is no such instance
+pub no_instance : (lib : Library) (s : Stimulus) → IsFound (ports_at lib s.instance) None → HasNoEvent lib s
+no_instance lib s found =
+    elim (kind_of_stimulus lib s) as (λ o. kind_of_stimulus lib s ≡ o → IsFound (option_map ports_of o) None → HasNoEvent lib s) [
+      | None ↦ λ e _. inl e
+      | Some k ↦ λ _ f. absurd f
+    ] refl found
 
-pub set_twice : (lib : Library) (s : Stimulus) → Twice (set_names s) → ¬ (CanTake lib s)
-set_twice lib s twice take = take.once twice
+-- it has no such event input
+pub no_event : (lib : Library) (s : Stimulus) (x : TypeInputs) → IsFound (ports_at lib s.instance) (Some x) → is_some (index_in x.events s.event) ≡ false → HasNoEvent lib s
+no_event lib s x found absent =
+    let its = the_ports (ports_at lib s.instance) x found in
+    let kind = kind_of_ports (kind_of_stimulus lib s) its.0 its.1 in
+    inr (kind.0, kind.1, ap (λ (p : Ports). is_event_input p s.event) kind.2 ∙ sym (is_event-is its.0 x s.event its.2) ∙ absent)
+
+-- the setting can't be made
+pub unfit : (lib : Library) (d : Directory) (x : TypeInputs) (s : Stimulus) (v : Setting) → Known lib → IsDirectory lib d → IsFound (ports_at lib s.instance) (Some x) → is_settable d x s v ≡ false → IsUnfit lib s v
+unfit lib d x s v known directory found fails =
+    let its = the_ports (ports_at lib s.instance) x found in
+    let kind = kind_of_ports (kind_of_stimulus lib s) its.0 its.1 in (
+      kind.0,
+      kind.1,
+      λ fits.
+          true≢false (sym (can_set_from lib kind.0 s v known kind.1 fits) ∙ ap (λ (p : Ports). can_set lib p s v) kind.2 ∙ sym (settable-is lib d its.0 x s v directory its.2) ∙ fails),
+    )
 
 pub all-is : {A : Type 0} (p q : A → Bool) (xs : List A) → ((x : A) → p x ≡ q x) → list_all p xs ≡ list_all q xs
 all-is p q [] same = refl
@@ -220,16 +234,12 @@ can_take lib d x s directory found event distinct = (
 
 -- ---- The definition
 
-pub kind_of_ports : (o : Option Kind) (p : Ports) → option_map ports_of o ≡ Some p → (k : Kind) × (o ≡ Some k) × (ports_of k ≡ p)
-kind_of_ports None p h = absurd (cc)
-kind_of_ports (Some k) p h = (k, refl, (let e : ports_of k ≡ p = cc in e))
-
-good_from : (lib : Library) (s : Stimulus) → Known lib → CanTake lib s → IsGood lib s
+pub good_from : (lib : Library) (s : Stimulus) → Known lib → CanTake lib s → IsGood lib s
 good_from lib s known take =
     let at = kind_of_ports (kind_of_stimulus lib s) take.ports take.of_ports in
     let k = at.0 in
     let all : list_all (can_set lib (ports_of k) s) s.settings ≡ true = subst (λ (p : Ports). list_all (can_set lib p s) s.settings ≡ true) (sym at.2) take.each in
-    let each : (v : Setting) → Contains s.settings v → Settable lib (ports_of k) s v =
+    let each : (v : Setting) → Contains s.settings v → Fits lib s k v =
     λ v c. settable_from lib k s v known at.1 (each_from_all (can_set lib (ports_of k) s) s.settings all v c) in
     record {
       kind = k;
@@ -263,13 +273,27 @@ take_from lib s known good =
           }));
     }
 
--- a stimulus that can't be taken is bad
-pub bad_at :
-    (lib : Library) (plan : Plan) (ss : List Stimulus) (i : ℕ) (s : Stimulus) → ¬ (NameTwice lib plan) → ¬ (NameUnknown lib plan) → i < length ss → s ≡ get_or ss i s
-    → ¬ (CanTake lib s) → BadStimulus lib ss
-bad_at lib plan ss i s once known h e not =
-    let names : Known lib = record { plan = plan; once = once; known = known } in
-    (s, subst (λ (t : Stimulus). Contains ss t) (sym e) (Contains-get_or ss i s h), λ good. not (take_from lib s names good))
+-- what is wrong makes a stimulus bad
+not_good : (lib : Library) (s : Stimulus) (f : StimulusFault) → IsBad lib s f → ¬ (IsGood lib s)
+not_good lib s fault.Event (inl none) good = absurd (let no = sym none ∙ good.of_kind in cc)
+not_good lib s fault.Event (inr w) good =
+    let both : Some w.0 ≡ Some good.kind = sym w.1 ∙ good.of_kind in
+    let same : w.0 ≡ good.kind = cc in
+    true≢false (sym good.is_event ∙ ap (λ (k : Kind). is_event_input (ports_of k) s.event) (sym same) ∙ w.2)
+not_good lib s (fault.Setting k) w good =
+    let both : Some w.2.0 ≡ Some good.kind = sym w.2.1 ∙ good.of_kind in
+    let same : w.2.0 ≡ good.kind = cc in
+    let there = element_of_index s.settings k w.0 w.1 in
+    let n = Contains-map (λ (v : Setting). v.variable) s.settings w.0 there in
+    w.2.2 (subst (λ (k : Kind). Fits lib s k w.0) (sym same) (record {
+      with_event = good.with_event w.0.variable n;
+      unconnected = good.unconnected w.0.variable n;
+      held = each_from_all (is_held (ports_of good.kind)) s.settings good.held w.0 there;
+    }))
+not_good lib s fault.Twice t good = good.once t
+
+pub bad_applies : (lib : Library) (ss : List Stimulus) (p : StimulusLocation) → IsBadAt lib ss p → BadStimulus lib ss
+bad_applies lib ss p h = (h.0, element_of_index ss p.row h.0 h.1, not_good lib h.0 p.fault h.2)
 
 -- none is bad if each can be taken
 pub none_bad : (lib : Library) (plan : Plan) (ss : List Stimulus) → ¬ (NameTwice lib plan) → ¬ (NameUnknown lib plan) → ¬ (HasRefused lib ss) → ¬ (BadStimulus lib ss)
@@ -282,8 +306,3 @@ none_exactly None true E P apart is h = (λ _. h, λ _. refl)
 none_exactly None false E P apart is h = absurd (true≢false (sym is))
 none_exactly (Some x) true E P apart is h = absurd (true≢false is)
 none_exactly (Some x) false E P apart is h = (λ t. absurd (true≢false (sym t)), λ f. absurd (apart x h f))
-
-pub bad_is :
-    (lib : Library) (ss : List Stimulus) (o : Option (List StimulusRow)) (b : Bool) → is_some o ≡ not b → MatchOption o (BadStimulus lib ss) (AreTaken lib ss)
-    → (IsTrue b ↔ BadStimulus lib ss)
-bad_is lib ss o b is h = none_exactly o b (BadStimulus lib ss) (AreTaken lib ss) (λ rows taken. taken.good) is h

@@ -1,16 +1,17 @@
 -- Stimuli by number, one after another.
-use Rattle.std.proofs.Common.{◌≡◌, ℕ, ◌<◌, ◌≤◌, ◌+◌, Bool, true, false, not, ◌&&◌, List, [], ◌∷◌, ◌++◌, length, get_or, Option, Some, None, refl, sym, ◌∙◌, ap, subst, length-append, arith}
-use Rattle.std.specs.Prelude.{if◌then◌else◌, is_some, option_and_then, option_map, position, slice_get, unwrap_or}
+use Rattle.std.proofs.Common.{◌≡◌, ℕ, ◌<◌, ◌≤◌, ◌+◌, Bool, true, false, not, ◌&&◌, List, [], ◌∷◌, ◌++◌, length, get_or, map, take, Contains, Option, Some, None, Result, Ok, Err, refl, sym, ◌∙◌, ap, subst, ⊎_elim, length-append, arith}
+use Rattle.std.specs.Prelude.{All, if◌then◌else◌, is_some, option_and_then, option_map, position, slice_get, unwrap_or}
 use Rattle.std.specs.List.{list_all}
-use Rattle.std.proofs.lemmas.Bool.{true≢false}
-use Rattle.std.proofs.lemmas.List.Elements.{All-nil, All-cons}
+use Rattle.std.proofs.lemmas.Bool.{cases_lt}
+use Rattle.std.proofs.lemmas.List.{map-append}
+use Rattle.std.proofs.lemmas.List.Elements.{All-append, All-cons, All-nil, Contains-append_left, Contains-append_right}
 use Rattle.std.proofs.lemmas.Option.{slice_get-map, slice_get_read, slice_get_within, same_Some}
 use Rattle.fb_types.specs.Names.{Name, same_name}
 use Rattle.fb_types.specs.Values.{fits}
 use Rattle.fb_types.specs.Blocks.{event_names, variable_names}
 use Rattle.fb_types.specs.Flat.{instance_in, kind_of_instance}
 use Rattle.fb_types.specs.Repeated.{Twice}
-use Rattle.fb_types.specs.Accepted.{kind_of_stimulus, set_names}
+use Rattle.fb_types.specs.Accepted.{IsGood, kind_of_stimulus, set_names}
 use Rattle.fb_types.specs.Unknown.{event_ins, data_ins}
 use Rattle.fb_types.specs.declared.value.Value.{Value}
 use Rattle.fb_types.specs.declared.deploy.Setting.{Setting}
@@ -24,15 +25,21 @@ use Rattle.fb_check_names.proofs.Each.{each_parts, is_some-each}
 use Rattle.fb_types.proofs.Positions.{named-position, position_is}
 use Rattle.fb_check_names.specs.Numbers.{each_or_none, index_of}
 use Rattle.fb_types.proofs.ByIndex.{slice_get-push}
+use Rattle.fb_types.proofs.Elements.{Contains-here}
 use Rattle.fb_check_names.specs.Indexes.{index_in}
 use Rattle.fb_system.specs.declared.rows.SlotValue.{SlotValue}
 use Rattle.fb_system.specs.declared.rows.StimulusRow.{StimulusRow}
 use Rattle.fb_system.specs.Rows.{IsSet, AreSets, IsRow, AreRows, AreRowsUpTo}
-use Rattle.fb_check.specs.Directory.{CanTake, IsDirectory, IsInputs, IsTaken, has_pair, held_slot, holds, input_in, input_of, is_settable, ports_at, slot_of}
+use Rattle.fb_check.specs.Directory.{IsDirectory, IsFound, IsInputs, IsTaken, has_pair, held_slot, holds, input_in, input_of, is_settable, ports_at, slot_of}
 use Rattle.fb_check.specs.declared.directory_making.Input.{Input}
 use Rattle.fb_check.specs.declared.directory_making.TypeInputs.{TypeInputs}
 use Rattle.fb_check.specs.declared.directory.Directory.{Directory}
-use Rattle.fb_check.proofs.Good.{IsFoundAt, all-is, can_take, first_index, found_at, kind_of_ports, the_ports}
+use Rattle.fb_check.specs.Stimuli.{AreAllBad, AreAllBadUpTo, IsAdded, IsBadAt, IsRowOr, IsUnfit}
+use Rattle.fb_check.specs.declared.location.StimulusFault.{StimulusFault}
+use Rattle.fb_check.specs.declared.location.StimulusLocation.{StimulusLocation}
+use Rattle.fb_findings.proofs.Listing.{none_right}
+use Rattle.fb_check.proofs.Good.{IsFoundAt, Known, all-is, can_take, first_index, found_at, good_from, kind_of_ports, the_ports, unfit}
+use Rattle.fb_check.proofs.Refused.{HasRefused, refused_more}
 
 -- ---- Slots
 
@@ -156,13 +163,11 @@ taken_is lib d s x row k e directory placed event distinct slots tick instance e
       };
     }
 
--- a stimulus of which a slot can't be set
-pub slots_none :
-    (lib : Library) (d : Directory) (s : Stimulus) (x : TypeInputs) (k e : ℕ) → IsDirectory lib d → IsFoundAt lib s k (Some x) → index_in x.events s.event ≡ Some e
-    → ¬ (Twice (set_names s)) → each_or_none (slot_of d x s) s.settings ≡ None → ¬ (CanTake lib s)
-slots_none lib d s x k e directory placed event distinct slots takes =
-    let all = (can_take lib d x s directory (found_at lib s k (Some x) placed) (ap is_some event) distinct).1 takes in
-    true≢false (sym all ∙ sym (slots_some d x s) ∙ ap is_some slots)
+-- a setting without a slot
+pub slot_none :
+    (lib : Library) (d : Directory) (x : TypeInputs) (s : Stimulus) (v : Setting) → Known lib → IsDirectory lib d → IsFound (ports_at lib s.instance) (Some x) → slot_of d x s v ≡ None
+    → IsUnfit lib s v
+slot_none lib d x s v known directory found none = unfit lib d x s v known directory found (sym (slot_some d x s v) ∙ ap is_some none)
 
 -- ---- Rows
 
@@ -187,3 +192,56 @@ pub rows_all :
     (lib : Library) (ss : List Stimulus) (n : ℕ) (rows : List StimulusRow) → n ≤ length ss → length ss ≤ n → AreRowsUpTo n lib ss rows → AreRows lib ss rows
 rows_all lib ss n rows within all is =
     let e : n ≡ length ss = omega (arith, within, all) in subst (λ (m : ℕ). AreRowsUpTo m lib ss rows) e is
+
+-- ---- What is added for a stimulus
+
+abbrev row_at : StimulusLocation → ℕ
+row_at p = p.row
+
+pub added_bad :
+    (lib : Library) (ss : List Stimulus) (k : ℕ) (s : Stimulus) (made : Result StimulusRow StimulusFault) (rows more : List StimulusRow) (old new : List StimulusLocation)
+    → slice_get ss k ≡ Some s → IsRowOr lib s made → IsAdded k made rows more old new → All (IsBadAt lib ss) old → All (IsBadAt lib ss) new
+added_bad lib ss k s (Ok x) rows more old new at is added each = subst (λ (ps : List StimulusLocation). All (IsBadAt lib ss) ps) (sym added.1) each
+added_bad lib ss k s (Err f) rows more old new at is added each =
+    let P : StimulusLocation → Type 0 = IsBadAt lib ss in
+    let here : StimulusLocation = record { row = k; fault = f } in
+    subst (λ (ps : List StimulusLocation). All P ps) (sym added.1) (All-append P old (here ∷ []) each (All-cons P here [] (s, at, is) (All-nil P)))
+
+pub added_all :
+    (lib : Library) (ss : List Stimulus) (n : ℕ) (s : Stimulus) (made : Result StimulusRow StimulusFault) (rows more : List StimulusRow) (old new : List StimulusLocation)
+    → Known lib → slice_get ss n ≡ Some s → IsRowOr lib s made → IsAdded n made rows more old new → AreAllBadUpTo n lib ss old → AreAllBadUpTo (n + 1) lib ss new
+added_all lib ss n s (Ok x) rows more old new known at is added all = λ k t below found bad.
+    subst (λ (ps : List StimulusLocation). Contains (map row_at ps) k) (sym added.1)
+    (⊎_elim (λ (l : k < n). all k t l found bad)
+    (λ (h : n ≤ k).
+    let same : n ≡ k = omega arith in
+    let there : Some s ≡ Some t = sym at ∙ ap (slice_get ss) same ∙ found in
+    absurd (bad (subst (λ (u : Stimulus). IsGood lib u) (same_Some s t there) (good_from lib s known is.takes))))
+    (cases_lt k n))
+added_all lib ss n s (Err f) rows more old new known at is added all = λ k t below found bad.
+    let here : StimulusLocation = record { row = n; fault = f } in
+    subst (λ (ps : List StimulusLocation). Contains (map row_at ps) k) (sym added.1)
+    (subst (λ (ks : List ℕ). Contains ks k) (sym (map-append row_at old (here ∷ [])))
+    (⊎_elim (λ (l : k < n). Contains-append_left (map row_at old) (n ∷ []) k (all k t l found bad))
+    (λ (h : n ≤ k).
+    let same : n ≡ k = omega arith in
+    Contains-append_right (map row_at old) (n ∷ []) k (subst (λ (j : ℕ). Contains (n ∷ []) j) same (Contains-here n [])))
+    (cases_lt k n)))
+
+pub all_of : (lib : Library) (ss : List Stimulus) (n : ℕ) (found : List StimulusLocation) → length ss ≤ n → AreAllBadUpTo n lib ss found → AreAllBad lib ss found
+all_of lib ss n found end all = λ k t below at bad. all k t (omega (arith, end, below)) at bad
+
+-- the rows so far, of stimuli of which none is refused
+abbrev pub AreGoodUpTo : ℕ → Library → List Stimulus → List StimulusRow → Type 0
+AreGoodUpTo n lib ss rows = (¬ (HasRefused lib (take n ss))) × AreRowsUpTo n lib ss rows
+
+pub added_rows :
+    (lib : Library) (ss : List Stimulus) (n : ℕ) (s : Stimulus) (made : Result StimulusRow StimulusFault) (rows more : List StimulusRow) (old new : List StimulusLocation)
+    → n < length ss → s ≡ get_or ss n s → IsRowOr lib s made → IsAdded n made rows more old new → (old ≡ [] → AreGoodUpTo n lib ss rows) → new ≡ [] → AreGoodUpTo (n + 1) lib ss more
+added_rows lib ss n s (Ok x) rows more old new within at is added before none =
+    let so_far = before (sym added.1 ∙ none) in (
+      refused_more lib ss n s within at so_far.0 is.takes,
+      rows_more lib ss n s rows more x within at so_far.1 is.row added.0,
+    )
+added_rows lib ss n s (Err f) rows more old new within at is added before none =
+    absurd (let no = none_right old (record { row = n; fault = f } ∷ []) (sym added.1 ∙ none) in cc)

@@ -1,7 +1,8 @@
 -- The numbers of the refusals, one after another.
-use Rattle.std.proofs.Common.{◌≡◌, ℕ, ◌+◌, ◌<◌, ◌≤◌, Bool, true, false, nat_eq, List, refl, sym, ap, ◌∙◌, subst, inl, inr, ⊎_elim, arith}
+use Rattle.std.proofs.Common.{◌≡◌, ◌≢◌, ℕ, ◌+◌, ◌<◌, ◌≤◌, Bool, true, false, nat_eq, List, [], length, refl, sym, ap, ◌∙◌, subst, inl, inr, ⊎_elim, arith}
 use Rattle.std.specs.Prelude.{◌↔◌, IsTrue}
-use Rattle.std.proofs.lemmas.Bool.{cases_lt, true≢false}
+use Rattle.std.proofs.lemmas.Bool.{cases_lt, eqb-true, true≢false}
+use Rattle.std.proofs.lemmas.List.{nil_from_length}
 use Rattle.fb_types.specs.Accepted.{Applies, IsLeastFault, IsAccepted, BadStimulus, OverLimit}
 use Rattle.fb_types.specs.Repeated.{NameTwice}
 use Rattle.fb_types.specs.Unknown.{NameUnknown}
@@ -37,6 +38,13 @@ unlike m n same other e _ = true≢false (sym same ∙ ap (nat_eq m) e ∙ other
 -- what a test that fails says
 pub not_so : (b : Bool) (P : Type 0) → IsTrue b ↔ P → b ≡ false → ¬ P
 not_so b P says f p = true≢false (sym (says.1 p) ∙ f)
+
+-- what it says of locations that their list is empty
+pub no_location : {A : Type 0} (xs : List A) (n : ℕ) (b : Bool) → n ≡ length xs → b ≡ nat_eq n 0 → b ≡ true → xs ≡ []
+no_location xs n b counted is h = nil_from_length xs (sym counted ∙ eqb-true n 0 (sym is ∙ h))
+
+pub some_location : {A : Type 0} (xs : List A) (n : ℕ) (b : Bool) → n ≡ length xs → b ≡ nat_eq n 0 → b ≡ false → xs ≢ []
+some_location xs n b counted is h none = true≢false (sym (ap (λ m. nat_eq m 0) (counted ∙ ap length none)) ∙ sym is ∙ h)
 
 pub first : (lib : Library) (plan : Plan) (stimuli : List Stimulus) → Passes 20 lib plan stimuli
 first lib plan stimuli n h a = applies_cases n lib plan stimuli a

@@ -2,3 +2,4 @@ pub mod Refusals
 pub mod Faults
 pub mod Verdicts
 pub mod Directory
+pub mod Stimuli

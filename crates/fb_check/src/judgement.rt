@@ -1,79 +1,82 @@
 //! The checks in the order of their numbers.
 
-ghost use Rattle.std.specs.Prelude.{◌≡◌, IfOk, IfErr};
+ghost use Rattle.std.specs.Prelude.{◌≡◌, IfOk, IfErr, MatchOption};
 ghost use Rattle.fb_check_names.specs.Catalog.{IsCatalog};
 ghost use Rattle.fb_check_names.specs.Numbers.{IsResolved};
 ghost use Rattle.fb_system.specs.Linking.{holders_of};
 ghost use Rattle.fb_system.specs.Rows.{AreRows};
-ghost use Rattle.fb_check.specs.Refusals.{IsRightly, inputs_in};
+ghost use Rattle.fb_check.specs.Refusals.{IsRefusal, IsRightly, IsStop, inputs_in};
 ghost use Rattle.fb_check.specs.Verdicts.{AreAccepted, HasPassed};
 
 use crate::case::{Case, Judged};
 use crate::error::CheckError;
 use crate::fault::Fault;
+use crate::location::Limit;
 use crate::mapping_checks::judge_mapping;
 use crate::network_checks::judge_networks;
+use crate::refusal::{Refusal, Stop};
 use crate::stimuli::stimulus_rows;
 use fb_check_names::{Catalog, Resolved, catalog_of, resolve};
 use fb_check_networks::has_too_many_instances;
 use fb_check_types::are_parts_known;
 use fb_system::StimulusRow;
 use fb_types::{Items, MOST_STIMULI};
-use std::alloc::Global;
+use std::alloc::{AllocError, Global};
 
 /// E20: the indices of all names, if none is given twice.
-fn catalog<'a>(alloc: Global, case: &Case<'a>) -> Result<Catalog<'a>, CheckError>
+fn catalog<'a>(alloc: Global, case: &Case<'a>) -> Result<Catalog<'a>, Stop>
     ensures ok { IfOk result (IsCatalog case.now.library.now case.now.plan.now) }
-    ensures refused { IfErr result (IsRightly (inputs_in case.now)) }
+    ensures refused { IfErr result (IsStop (inputs_in case.now)) }
 {
     match catalog_of(alloc, case.library, case.plan)? {
         Some(catalog) => Ok(catalog),
-        None => Err(CheckError::Refused(Fault::NameTwice)),
+        None => Err(Stop::Refused(Refusal::Unlisted(Fault::NameTwice))),
     }
 }
 
 /// E21: the numbers of all names, if each is known.
-fn numbers(alloc: Global, case: &Case, catalog: &Catalog) -> Result<Resolved, CheckError>
+fn numbers(alloc: Global, case: &Case, catalog: &Catalog) -> Result<Resolved, Stop>
     requires { IsCatalog case.now.library.now case.now.plan.now catalog.now }
     ensures ok { IfOk result (IsResolved case.now.library.now case.now.plan.now) }
-    ensures refused { IfErr result (IsRightly (inputs_in case.now)) }
+    ensures refused { IfErr result (IsStop (inputs_in case.now)) }
 {
     if !are_parts_known(case.library, catalog) {
-        return Err(CheckError::Refused(Fault::NameUnknown));
+        return Err(Stop::Refused(Refusal::Unlisted(Fault::NameUnknown)));
     }
     match resolve(alloc, case.library, case.plan, catalog)? {
         Some(resolved) => Ok(resolved),
-        None => Err(CheckError::Refused(Fault::NameUnknown)),
+        None => Err(Stop::Refused(Refusal::Unlisted(Fault::NameUnknown))),
     }
 }
 
 /// E29: the stimuli by number, if each fits.
-fn judge_stimuli(
-    alloc: Global,
-    case: &Case,
-    catalog: &Catalog,
-) -> Result<Items<StimulusRow>, CheckError>
+fn judge_stimuli(alloc: Global, case: &Case, catalog: &Catalog) -> Result<Items<StimulusRow>, Stop>
     requires catalog { IsCatalog case.now.library.now case.now.plan.now catalog.now }
     requires passed { HasPassed 29 case.now }
     ensures rows { IfOk result (AreRows case.now.library.now case.now.stimuli.now) }
     ensures ok { IfOk result (λ _. HasPassed 30 case.now) }
-    ensures refused { IfErr result (IsRightly (inputs_in case.now)) }
+    ensures refused { IfErr result (IsStop (inputs_in case.now)) }
 {
-    match stimulus_rows(alloc, case.library, catalog, case.stimuli)? {
-        Some(rows) => Ok(rows),
-        None => Err(CheckError::Refused(Fault::BadStimulus)),
+    let mut found = Vec::new(alloc);
+    let rows = stimulus_rows(alloc, &mut found, case.library, catalog, case.stimuli)?;
+    if !found.is_empty() {
+        return Err(Stop::Refused(Refusal::BadStimulus(found)));
     }
+    Ok(rows)
 }
 
 /// E30: whether the inputs keep the limits.
-fn judge_limits(alloc: Global, case: &Case, resolved: &Resolved) -> Result<(), CheckError>
+fn judge_limits(alloc: Global, case: &Case, resolved: &Resolved) -> Result<(), Stop>
     requires resolved { IsResolved case.now.library.now case.now.plan.now resolved.now }
     requires passed { HasPassed 30 case.now }
     ensures ok { IfOk result (λ _. AreAccepted case.now) }
-    ensures refused { IfErr result (IsRightly (inputs_in case.now)) }
+    ensures refused { IfErr result (IsStop (inputs_in case.now)) }
 {
-    if case.stimuli.len() > MOST_STIMULI || has_too_many_instances(alloc, resolved)? {
-        return Err(CheckError::Refused(Fault::OverLimit));
+    if case.stimuli.len() > MOST_STIMULI {
+        return Err(Stop::Refused(Refusal::OverLimit(Limit::Stimuli)));
+    }
+    if has_too_many_instances(alloc, resolved)? {
+        return Err(Stop::Refused(Refusal::OverLimit(Limit::Instances)));
     }
     Ok(())
 }
@@ -85,19 +88,39 @@ fn judge_by_numbers(
     case: &Case,
     catalog: &Catalog,
     resolved: &Resolved,
-) -> Result<(Items<usize>, Items<StimulusRow>), CheckError>
+) -> Result<(Items<usize>, Items<StimulusRow>), Stop>
     requires catalog { IsCatalog case.now.library.now case.now.plan.now catalog.now }
     requires resolved { IsResolved case.now.library.now case.now.plan.now resolved.now }
     ensures accepted { IfOk result (λ _. AreAccepted case.now) }
     ensures holders { IfOk result (λ made. made.0 ≡ holders_of case.now.library.now case.now.plan.now) }
     ensures rows { IfOk result (λ made. AreRows case.now.library.now case.now.stimuli.now made.1) }
-    ensures refused { IfErr result (IsRightly (inputs_in case.now)) }
+    ensures refused { IfErr result (IsStop (inputs_in case.now)) }
 {
     judge_networks(alloc, case, catalog, resolved)?;
     let holders = judge_mapping(alloc, case, resolved)?;
     let rows = judge_stimuli(alloc, case, catalog)?;
     judge_limits(alloc, case, resolved)?;
     Ok((holders, rows))
+}
+
+/// What the check makes of inputs that are accepted, or why it stops.
+fn try_judge<'a>(alloc: Global, case: &Case<'a>) -> Result<Judged<'a>, Stop>
+    ensures accepted { IfOk result (λ _. AreAccepted case.now) }
+    ensures catalog { IfOk result (λ j. IsCatalog case.now.library.now case.now.plan.now j.catalog) }
+    ensures numbers { IfOk result (λ j. IsResolved case.now.library.now case.now.plan.now j.numbers) }
+    ensures holders { IfOk result (λ j. j.holders ≡ holders_of case.now.library.now case.now.plan.now) }
+    ensures rows { IfOk result (λ j. AreRows case.now.library.now case.now.stimuli.now j.rows) }
+    ensures refused { IfErr result (IsStop (inputs_in case.now)) }
+{
+    let catalog = catalog(alloc, case)?;
+    let numbers = numbers(alloc, case, &catalog)?;
+    let (holders, rows) = judge_by_numbers(alloc, case, &catalog, &numbers)?;
+    Ok(Judged {
+        catalog,
+        numbers,
+        holders,
+        rows,
+    })
 }
 
 /// What the check makes of inputs that are accepted. The errors are those of `judge`.
@@ -109,15 +132,10 @@ pub fn judged<'a>(alloc: Global, case: &Case<'a>) -> Result<Judged<'a>, CheckErr
     ensures rows { IfOk result (λ j. AreRows case.now.library.now case.now.stimuli.now j.rows) }
     ensures refused { IfErr result (IsRightly (inputs_in case.now)) }
 {
-    let catalog = catalog(alloc, case)?;
-    let numbers = numbers(alloc, case, &catalog)?;
-    let (holders, rows) = judge_by_numbers(alloc, case, &catalog, &numbers)?;
-    Ok(Judged {
-        catalog,
-        numbers,
-        holders,
-        rows,
-    })
+    match try_judge(alloc, case) {
+        Ok(judged) => Ok(judged),
+        Err(stop) => Err(stop.error()),
+    }
 }
 
 /// Checks whether the inputs are accepted.
@@ -131,4 +149,19 @@ pub fn judge(alloc: Global, case: &Case) -> Result<(), CheckError>
 {
     judged(alloc, case)?;
     Ok(())
+}
+
+/// Why the inputs are refused, with all locations at which the least number applies. `None` if they are accepted.
+///
+/// # Errors
+///
+/// When memory runs out.
+pub fn why_refused(alloc: Global, case: &Case) -> Result<Option<Refusal>, AllocError>
+    ensures { IfOk result (λ o. MatchOption o (AreAccepted case.now) (IsRefusal (inputs_in case.now))) }
+{
+    match try_judge(alloc, case) {
+        Ok(_) => Ok(None),
+        Err(Stop::Refused(refusal)) => Ok(Some(refusal)),
+        Err(Stop::Memory) => Err(AllocError),
+    }
 }

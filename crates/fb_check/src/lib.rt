@@ -2,10 +2,11 @@
 //!
 //! Guarantees to callers: `judgement::judge` accepts if none of E20 to E30 applies, and otherwise returns the least that
 //! does. `judgement::judged` returns what the check made on the way: indices and numbers of names, the resources that
-//! hold instances, and the stimuli by number. `acceptance::accept` returns a system exactly for inputs that are accepted,
-//! and otherwise the least number that applies.
+//! hold instances, and the stimuli by number. `judgement::why_refused` returns why inputs are refused, with all locations at
+//! which the least number applies. `acceptance::accept` returns a system exactly for inputs that are accepted, and otherwise
+//! the least number that applies.
 //!
-//! Read in this order: `case`, `fault` and `error`; `judgement`, the checks in the order of their numbers;
+//! Read in this order: `case`, `fault`, `error`, `location` and `refusal`; `judgement`, the checks in the order of their numbers;
 //! `network_checks` (E22 to E25) and `mapping_checks` (E26 to E28); `stimuli` (E29) with `directory` and
 //! `directory_making`, what stimuli may name. Then `acceptance`.
 #![tactic(auto)]
@@ -17,8 +18,10 @@ mod directory_making;
 pub mod error;
 pub mod fault;
 pub mod judgement;
+pub mod location;
 mod mapping_checks;
 mod network_checks;
+pub mod refusal;
 pub mod stimuli;
 
 pub use acceptance::accept;
@@ -26,5 +29,7 @@ pub use case::{Case, Judged};
 pub use error::CheckError;
 pub use fault::Fault;
 pub use fb_system::System;
-pub use judgement::{judge, judged};
-pub use stimuli::{has_bad_stimulus, stimulus_rows};
+pub use judgement::{judge, judged, why_refused};
+pub use location::{Limit, StimulusFault, StimulusLocation};
+pub use refusal::Refusal;
+pub use stimuli::stimulus_rows;

@@ -4,39 +4,41 @@ ghost use Rattle.std.specs.Prelude.{◌≡◌, IfOk, IfErr};
 ghost use Rattle.fb_check_networks.specs.Mapping.{IsMapping};
 ghost use Rattle.fb_check_names.specs.Numbers.{IsResolved};
 ghost use Rattle.fb_system.specs.Linking.{holders_of};
-ghost use Rattle.fb_check.specs.Refusals.{IsRightly, inputs_in};
+ghost use Rattle.fb_check.specs.Refusals.{IsStop, inputs_in};
 ghost use Rattle.fb_check.specs.Verdicts.{HasPassed};
 
 use crate::case::Case;
-use crate::error::CheckError;
-use crate::fault::Fault;
+use crate::refusal::{Refusal, Stop};
 use fb_check_names::Resolved;
-use fb_check_networks::{Mapping, holders_of, lacks_event, lacks_link, mapping_of};
+use fb_check_networks::{Mapping, holders_of, mapping_of, unlinked_locations, unserved_locations};
 use fb_types::Items;
 use std::alloc::Global;
 
 /// E26: each instance is mapped once.
-fn mapping<'a>(alloc: Global, case: &Case<'a>) -> Result<Mapping<'a>, CheckError>
+fn mapping<'a>(alloc: Global, case: &Case<'a>) -> Result<Mapping<'a>, Stop>
     requires passed { HasPassed 26 case.now }
     ensures ok { IfOk result (IsMapping case.now.library.now case.now.plan.now) }
     ensures passed { IfOk result (λ _. HasPassed 27 case.now) }
-    ensures refused { IfErr result (IsRightly (inputs_in case.now)) }
+    ensures refused { IfErr result (IsStop (inputs_in case.now)) }
 {
-    match mapping_of(alloc, case.library, case.plan)? {
-        Some(mapping) => Ok(mapping),
-        None => Err(CheckError::Refused(Fault::NotMapped)),
+    let mut found = Vec::new(alloc);
+    let mapping = mapping_of(alloc, &mut found, case.library, case.plan)?;
+    if !found.is_empty() {
+        return Err(Stop::Refused(Refusal::NotMapped(found)));
     }
+    Ok(mapping)
 }
 
 /// E27: a link for each connection between two resources.
-fn judge_links(alloc: Global, case: &Case, mapping: &Mapping) -> Result<(), CheckError>
+fn judge_links(alloc: Global, case: &Case, mapping: &Mapping) -> Result<(), Stop>
     requires mapping { IsMapping case.now.library.now case.now.plan.now mapping.now }
     requires passed { HasPassed 27 case.now }
     ensures ok { IfOk result (λ _. HasPassed 28 case.now) }
-    ensures refused { IfErr result (IsRightly (inputs_in case.now)) }
+    ensures refused { IfErr result (IsStop (inputs_in case.now)) }
 {
-    if lacks_link(alloc, case.library, case.plan, mapping)? {
-        return Err(CheckError::Refused(Fault::NoLink));
+    let found = unlinked_locations(alloc, case.library, case.plan, mapping)?;
+    if !found.is_empty() {
+        return Err(Stop::Refused(Refusal::NoLink(found)));
     }
     Ok(())
 }
@@ -47,30 +49,27 @@ fn judge_events(
     case: &Case,
     mapping: &Mapping,
     resolved: &Resolved,
-) -> Result<(), CheckError>
+) -> Result<(), Stop>
     requires mapping { IsMapping case.now.library.now case.now.plan.now mapping.now }
     requires resolved { IsResolved case.now.library.now case.now.plan.now resolved.now }
     requires passed { HasPassed 28 case.now }
     ensures ok { IfOk result (λ _. HasPassed 29 case.now) }
-    ensures refused { IfErr result (IsRightly (inputs_in case.now)) }
+    ensures refused { IfErr result (IsStop (inputs_in case.now)) }
 {
-    if lacks_event(alloc, case.library, case.plan, mapping, resolved)? {
-        return Err(CheckError::Refused(Fault::NoEvent));
+    let found = unserved_locations(alloc, case.library, case.plan, mapping, resolved)?;
+    if !found.is_empty() {
+        return Err(Stop::Refused(Refusal::NoEvent(found)));
     }
     Ok(())
 }
 
 /// The checks from E26 to E28. Returns, for each instance of the application, the resource that holds it.
-pub fn judge_mapping(
-    alloc: Global,
-    case: &Case,
-    resolved: &Resolved,
-) -> Result<Items<usize>, CheckError>
+pub fn judge_mapping(alloc: Global, case: &Case, resolved: &Resolved) -> Result<Items<usize>, Stop>
     requires resolved { IsResolved case.now.library.now case.now.plan.now resolved.now }
     requires passed { HasPassed 26 case.now }
     ensures holders { IfOk result (λ h. h ≡ holders_of case.now.library.now case.now.plan.now) }
     ensures ok { IfOk result (λ _. HasPassed 29 case.now) }
-    ensures refused { IfErr result (IsRightly (inputs_in case.now)) }
+    ensures refused { IfErr result (IsStop (inputs_in case.now)) }
 {
     let mapping = mapping(alloc, case)?;
     judge_links(alloc, case, &mapping)?;

@@ -3,67 +3,71 @@
 ghost use Rattle.std.specs.Prelude.{IfOk, IfErr};
 ghost use Rattle.fb_check_names.specs.Catalog.{IsCatalog};
 ghost use Rattle.fb_check_names.specs.Numbers.{IsResolved};
-ghost use Rattle.fb_check.specs.Refusals.{IsRightly, inputs_in};
+ghost use Rattle.fb_check.specs.Refusals.{IsStop, inputs_in};
 ghost use Rattle.fb_check.specs.Verdicts.{HasPassed};
 
 use crate::case::Case;
-use crate::error::CheckError;
 use crate::fault::Fault;
+use crate::refusal::{Refusal, Stop};
 use fb_check_names::{Catalog, Resolved};
-use fb_check_networks::{has_two_sources, has_wrong_parameter, is_too_high, leads_out_of_range};
+use fb_check_networks::{
+    has_wrong_parameter, joined_locations, misjoin_locations, too_high_location,
+};
 use fb_check_types::has_wrong_part;
 use std::alloc::Global;
 
 /// E22: expressions, statements and values of the right kind.
-fn judge_kinds(case: &Case, catalog: &Catalog, resolved: &Resolved) -> Result<(), CheckError>
+fn judge_kinds(case: &Case, catalog: &Catalog, resolved: &Resolved) -> Result<(), Stop>
     requires catalog { IsCatalog case.now.library.now case.now.plan.now catalog.now }
     requires resolved { IsResolved case.now.library.now case.now.plan.now resolved.now }
     requires passed { HasPassed 22 case.now }
     ensures ok { IfOk result (λ _. HasPassed 23 case.now) }
-    ensures refused { IfErr result (IsRightly (inputs_in case.now)) }
+    ensures refused { IfErr result (IsStop (inputs_in case.now)) }
 {
     if has_wrong_part(case.library, catalog) || has_wrong_parameter(case.library, resolved) {
-        return Err(CheckError::Refused(Fault::KindWrong));
+        return Err(Stop::Refused(Refusal::Unlisted(Fault::KindWrong)));
     }
     Ok(())
 }
 
 /// E23: data connections to types that contain all values.
-fn judge_ranges(case: &Case, resolved: &Resolved) -> Result<(), CheckError>
+fn judge_ranges(alloc: Global, case: &Case, resolved: &Resolved) -> Result<(), Stop>
     requires resolved { IsResolved case.now.library.now case.now.plan.now resolved.now }
     requires passed { HasPassed 23 case.now }
     ensures ok { IfOk result (λ _. HasPassed 24 case.now) }
-    ensures refused { IfErr result (IsRightly (inputs_in case.now)) }
+    ensures refused { IfErr result (IsStop (inputs_in case.now)) }
 {
-    if leads_out_of_range(case.library, resolved) {
-        return Err(CheckError::Refused(Fault::OutOfRange));
+    let found = misjoin_locations(alloc, case.library, resolved)?;
+    if !found.is_empty() {
+        return Err(Stop::Refused(Refusal::OutOfRange(found)));
     }
     Ok(())
 }
 
 /// E24: one source for each port.
-fn judge_sources(alloc: Global, case: &Case) -> Result<(), CheckError>
+fn judge_sources(alloc: Global, case: &Case) -> Result<(), Stop>
     requires passed { HasPassed 24 case.now }
     ensures ok { IfOk result (λ _. HasPassed 25 case.now) }
-    ensures refused { IfErr result (IsRightly (inputs_in case.now)) }
+    ensures refused { IfErr result (IsStop (inputs_in case.now)) }
 {
-    if has_two_sources(alloc, case.library)? {
-        return Err(CheckError::Refused(Fault::TwoSources));
+    let found = joined_locations(alloc, case.library)?;
+    if !found.is_empty() {
+        return Err(Stop::Refused(Refusal::TwoSources(found)));
     }
     Ok(())
 }
 
 /// E25: composites of a height up to 16.
-fn judge_heights(alloc: Global, case: &Case, resolved: &Resolved) -> Result<(), CheckError>
+fn judge_heights(alloc: Global, case: &Case, resolved: &Resolved) -> Result<(), Stop>
     requires resolved { IsResolved case.now.library.now case.now.plan.now resolved.now }
     requires passed { HasPassed 25 case.now }
     ensures ok { IfOk result (λ _. HasPassed 26 case.now) }
-    ensures refused { IfErr result (IsRightly (inputs_in case.now)) }
+    ensures refused { IfErr result (IsStop (inputs_in case.now)) }
 {
-    if is_too_high(alloc, resolved)? {
-        return Err(CheckError::Refused(Fault::TooHigh));
+    match too_high_location(alloc, resolved)? {
+        Some(location) => Err(Stop::Refused(Refusal::TooHigh(location))),
+        None => Ok(()),
     }
-    Ok(())
 }
 
 /// The checks from E22 to E25.
@@ -72,14 +76,14 @@ pub fn judge_networks(
     case: &Case,
     catalog: &Catalog,
     resolved: &Resolved,
-) -> Result<(), CheckError>
+) -> Result<(), Stop>
     requires catalog { IsCatalog case.now.library.now case.now.plan.now catalog.now }
     requires resolved { IsResolved case.now.library.now case.now.plan.now resolved.now }
     ensures ok { IfOk result (λ _. HasPassed 26 case.now) }
-    ensures refused { IfErr result (IsRightly (inputs_in case.now)) }
+    ensures refused { IfErr result (IsStop (inputs_in case.now)) }
 {
     judge_kinds(case, catalog, resolved)?;
-    judge_ranges(case, resolved)?;
+    judge_ranges(alloc, case, resolved)?;
     judge_sources(alloc, case)?;
     judge_heights(alloc, case, resolved)
 }

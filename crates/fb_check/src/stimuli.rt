@@ -1,19 +1,20 @@
 //! The stimuli by number, if the application can take them (E29).
 
-ghost use Rattle.std.specs.Prelude.{◌≡◌, ◌<◌, ◌↔◌, ◌++◌, length, map, IfOk, IsTrue, MatchOption, OnSome};
+ghost use Rattle.std.specs.Prelude.{◌≡◌, ◌<◌, ◌↔◌, ◌++◌, [], All, length, map, IfOk, IsTrue, OnSome};
 ghost use Rattle.std.specs.Option.{option_copied};
-ghost use Rattle.fb_types.specs.Accepted.{BadStimulus, set_names};
+ghost use Rattle.fb_types.specs.Accepted.{set_names};
 ghost use Rattle.fb_types.specs.EventPorts.{ArePortsOfKinds};
 ghost use Rattle.fb_types.specs.Repeated.{Twice};
 ghost use Rattle.fb_types.specs.Unknown.{NameUnknown};
 ghost use Rattle.fb_types.specs.declared.deploy.Plan.{Plan};
 ghost use Rattle.fb_check_names.specs.Catalog.{IsCatalog};
-ghost use Rattle.fb_check_names.specs.Numbers.{each_or_none};
 ghost use Rattle.fb_check_names.specs.Indexes.{names_in, index_in};
-ghost use Rattle.fb_check.specs.Directory.{IsDirectory, IsFound, CanTake, IsTaken, AreTaken, held_slot, input_in, ports_at_index, slot_of};
+ghost use Rattle.fb_check.specs.Directory.{IsDirectory, IsFound, AreTaken, held_slot, input_in, ports_at_index, slot_of};
+ghost use Rattle.fb_check.specs.Stimuli.{AreAllBad, AreSlotsOr, IsAdded, IsBadAt, IsRowOr};
 
 use crate::directory::{Directory, directory_of, inputs_named};
 use crate::directory_making::TypeInputs;
+use crate::location::{StimulusFault, StimulusLocation};
 use fb_check_names::{Catalog, index_of, indexes_of};
 use fb_system::{SlotValue, StimulusRow};
 use fb_types::{Items, Library, Name, Ports, Setting, Stimulus, Value, all_ports};
@@ -92,131 +93,150 @@ fn slot_of<'a>(
     }
 }
 
-/// The slots that a stimulus sets, in the order of its settings, or `None` if one can't be set.
+/// The slots that a stimulus sets, in the order of its settings, or the index of one that can't be set.
 fn slots_of<'a>(
     alloc: Global,
     directory: &Directory<'a>,
     inputs: &TypeInputs<'a>,
     stimulus: &'a Stimulus,
-) -> Result<Option<Items<SlotValue>>, AllocError>
-    ensures { IfOk result (λ o. o ≡ each_or_none (slot_of directory.now inputs.now stimulus.now) stimulus.now.settings) }
+) -> Result<Result<Items<SlotValue>, usize>, AllocError>
+    ensures { IfOk result (AreSlotsOr (slot_of directory.now inputs.now stimulus.now) stimulus.now.settings) }
 {
+    let settings = stimulus.settings.as_slice();
     let mut slots = Items::new(alloc);
-    for setting in stimulus.settings.as_slice() {
+    for (location, setting) in settings.iter().enumerate() {
         match slot_of(directory, inputs, stimulus, setting) {
             Some(slot) => slots.push(slot)?,
-            None => return Ok(None),
+            None => return Ok(Err(location)),
         }
     }
-    Ok(Some(slots))
+    Ok(Ok(slots))
 }
 
-/// A stimulus by number, or `None` if the application can't take it.
+/// A stimulus by number, or what is wrong with it.
 fn row_of<'a>(
     alloc: Global,
     library: &Library,
     catalog: &Catalog,
     directory: &Directory<'a>,
     stimulus: &'a Stimulus,
-) -> Result<Option<StimulusRow>, AllocError>
-    requires catalog { (plan : Plan) × IsCatalog library.now plan catalog.now }
+) -> Result<Result<StimulusRow, StimulusFault>, AllocError>
+    requires names { (plan : Plan) × IsCatalog library.now plan catalog.now × ¬ (NameUnknown library.now plan) }
     requires directory { IsDirectory library.now directory.now }
-    ensures { IfOk result (λ o. MatchOption o (¬ (CanTake library.now stimulus.now)) (IsTaken library.now stimulus.now)) }
+    ensures { IfOk result (IsRowOr library.now stimulus.now) }
 {
     let Some(index) = index_of(&catalog.instances, stimulus.instance.as_bytes()) else {
-        return Ok(None);
+        return Ok(Err(StimulusFault::Event));
     };
     let Some(inputs) = inputs_at(library, catalog, directory, index) else {
-        return Ok(None);
+        return Ok(Err(StimulusFault::Event));
     };
     let Some(event) = event_index(inputs, stimulus.event.as_bytes()) else {
-        return Ok(None);
+        return Ok(Err(StimulusFault::Event));
+    };
+    let sets = match slots_of(alloc, directory, inputs, stimulus)? {
+        Ok(sets) => sets,
+        Err(setting) => return Ok(Err(StimulusFault::Setting(setting))),
     };
     if has_setting_twice(alloc, stimulus)? {
-        return Ok(None);
+        return Ok(Err(StimulusFault::Twice));
     }
     library.application.network.instances.count();
-    let instance = index as u32;
-    let tick = stimulus.tick;
-    match slots_of(alloc, directory, inputs, stimulus)? {
-        Some(sets) => Ok(Some(StimulusRow {
-            tick,
-            instance,
-            event,
-            sets,
-        })),
-        None => Ok(None),
-    }
+    Ok(Ok(StimulusRow {
+        tick: stimulus.tick,
+        instance: index as u32,
+        event,
+        sets,
+    }))
 }
 
-/// The stimuli by number, each at its row, from what they may name; or `None` if one can't be taken.
+/// Adds what was made of the stimulus at a row.
+fn push_row(
+    rows: &mut Items<StimulusRow>,
+    found: &mut Vec<StimulusLocation>,
+    row: usize,
+    made: Result<StimulusRow, StimulusFault>,
+) -> Result<(), AllocError>
+    ensures { IfOk result (λ _. IsAdded row made rows.old rows.new found.old.items found.new.items) }
+{
+    match made {
+        Ok(taken) => rows.push(taken)?,
+        Err(fault) => found.push(StimulusLocation { row, fault })?,
+    }
+    Ok(())
+}
+
+/// The stimuli by number, each at its row, from what they may name. Adds all that can't be taken.
 fn rows_by<'a>(
     alloc: Global,
+    found: &mut Vec<StimulusLocation>,
     library: &Library,
     catalog: &Catalog,
     directory: &Directory<'a>,
     stimuli: &'a [Stimulus],
-) -> Result<Option<Items<StimulusRow>>, AllocError>
+) -> Result<Items<StimulusRow>, AllocError>
+    requires empty { found.old.items ≡ [] }
     requires names { (plan : Plan) × IsCatalog library.now plan catalog.now × ¬ (NameUnknown library.now plan) }
     requires directory { IsDirectory library.now directory.now }
-    ensures { IfOk result (λ o. MatchOption o (BadStimulus library.now stimuli.now) (AreTaken library.now stimuli.now)) }
+    ensures each { IfOk result (λ _. All (IsBadAt library.now stimuli.now) found.new.items) }
+    ensures all { IfOk result (λ _. AreAllBad library.now stimuli.now found.new.items) }
+    ensures rows { IfOk result (λ rows. found.new.items ≡ [] → AreTaken library.now stimuli.now rows) }
 {
     let mut rows = Items::new(alloc);
-    for stimulus in stimuli {
-        match row_of(alloc, library, catalog, directory, stimulus)? {
-            Some(row) => rows.push(row)?,
-            None => return Ok(None),
-        }
+    for (row, stimulus) in stimuli.iter().enumerate() {
+        let made = row_of(alloc, library, catalog, directory, stimulus)?;
+        push_row(&mut rows, found, row, made)?;
     }
-    Ok(Some(rows))
+    Ok(rows)
 }
 
 /// The stimuli by number, each at its row, from the interfaces of the event blocks.
 fn rows_in(
     alloc: Global,
+    found: &mut Vec<StimulusLocation>,
     library: &Library,
     catalog: &Catalog,
     interfaces: &[Ports],
     stimuli: &[Stimulus],
-) -> Result<Option<Items<StimulusRow>>, AllocError>
+) -> Result<Items<StimulusRow>, AllocError>
+    requires empty { found.old.items ≡ [] }
     requires names { (plan : Plan) × IsCatalog library.now plan catalog.now × ¬ (NameUnknown library.now plan) }
     requires interfaces { ArePortsOfKinds interfaces.now }
-    ensures { IfOk result (λ o. MatchOption o (BadStimulus library.now stimuli.now) (AreTaken library.now stimuli.now)) }
+    ensures each { IfOk result (λ _. All (IsBadAt library.now stimuli.now) found.new.items) }
+    ensures all { IfOk result (λ _. AreAllBad library.now stimuli.now found.new.items) }
+    ensures rows { IfOk result (λ rows. found.new.items ≡ [] → AreTaken library.now stimuli.now rows) }
 {
     let directory = directory_of(alloc, library, interfaces)?;
-    rows_by(alloc, library, catalog, &directory, stimuli)
+    rows_by(alloc, found, library, catalog, &directory, stimuli)
 }
 
-/// The stimuli by number, each at its row, in near linear time. The result is `None` if one names no event input of an
-/// instance of the application, or sets a variable that is not WITH the event, is connected, is set twice, or can't
-/// contain the value (E29).
+/// The stimuli by number, each at its row, in near linear time. Adds all that name no event input of an instance of the
+/// application, or set a variable that is not WITH the event, is connected, is set twice, or can't contain the value
+/// (E29).
 ///
 /// # Errors
 ///
 /// When memory runs out.
 pub fn stimulus_rows(
     alloc: Global,
+    found: &mut Vec<StimulusLocation>,
     library: &Library,
     catalog: &Catalog,
     stimuli: &[Stimulus],
-) -> Result<Option<Items<StimulusRow>>, AllocError>
-    requires { (plan : Plan) × IsCatalog library.now plan catalog.now × ¬ (NameUnknown library.now plan) }
-    ensures { IfOk result (λ o. MatchOption o (BadStimulus library.now stimuli.now) (AreTaken library.now stimuli.now)) }
+) -> Result<Items<StimulusRow>, AllocError>
+    requires empty { found.old.items ≡ [] }
+    requires names { (plan : Plan) × IsCatalog library.now plan catalog.now × ¬ (NameUnknown library.now plan) }
+    ensures each { IfOk result (λ _. All (IsBadAt library.now stimuli.now) found.new.items) }
+    ensures all { IfOk result (λ _. AreAllBad library.now stimuli.now found.new.items) }
+    ensures rows { IfOk result (λ rows. found.new.items ≡ [] → AreTaken library.now stimuli.now rows) }
 {
     let interfaces = all_ports(alloc)?;
-    rows_in(alloc, library, catalog, interfaces.as_slice(), stimuli)
-}
-
-/// Whether one of the stimuli can't be taken (E29).
-pub fn has_bad_stimulus(
-    alloc: Global,
-    library: &Library,
-    catalog: &Catalog,
-    stimuli: &[Stimulus],
-) -> Result<bool, AllocError>
-    requires { (plan : Plan) × IsCatalog library.now plan catalog.now × ¬ (NameUnknown library.now plan) }
-    ensures { IfOk result (λ b. IsTrue b ↔ BadStimulus library.now stimuli.now) }
-{
-    let rows = stimulus_rows(alloc, library, catalog, stimuli)?;
-    Ok(rows.is_none())
+    rows_in(
+        alloc,
+        found,
+        library,
+        catalog,
+        interfaces.as_slice(),
+        stimuli,
+    )
 }

@@ -1,8 +1,8 @@
 -- E23 by number: a data connection to a type that does not contain all values of the source type.
 use Rattle.std.proofs.Common.{◌≡◌, ℕ, Bool, true, false, not, List, [], ◌∷◌, ◌++◌, Option, Some, None, Contains, refl, sym, ◌∙◌, ap, subst, cond, inl, inr}
-use Rattle.std.specs.Prelude.{slice_get, option_map, option_and_then, position, flat_map, ◌↔◌, IsTrue}
-use Rattle.std.specs.Bool.{Decides}
-use Rattle.std.proofs.lemmas.Bool.{true≢false, false_from_ne_true}
+use Rattle.std.specs.Prelude.{All, slice_get, option_map, option_and_then, position, flat_map}
+use Rattle.std.specs.List.{list_all}
+use Rattle.std.proofs.lemmas.Bool.{true≢false}
 use Rattle.fb_types.specs.Names.{Name, same_name}
 use Rattle.fb_types.specs.Blocks.{Kind, named, ports_of, variable_names, type_at}
 use Rattle.fb_types.specs.Flat.{kind_of_instance, instance_in}
@@ -10,6 +10,8 @@ use Rattle.fb_types.specs.Joined.{OutOfRange, IsWithin, type_among, type_at_end}
 use Rattle.fb_types.specs.Repeated.{OwnedNetwork, NameTwice, networks, networks_in, instance_names}
 use Rattle.fb_types.specs.declared.value.Ty.{Ty}
 use Rattle.fb_types.specs.declared.library.Library.{Library}
+use Rattle.fb_types.specs.declared.library.BlockType.{BlockType}
+use Rattle.fb_types.specs.declared.library.BlockType.TheVariants as block
 use Rattle.fb_types.specs.declared.library.CompositeType.{CompositeType}
 use Rattle.fb_types.specs.declared.library.Connection.{Connection}
 use Rattle.fb_types.specs.declared.library.Instance.{Instance}
@@ -28,13 +30,22 @@ use Rattle.fb_check_names.specs.Numbers.{IsNetwork, IsResolved, index_of, type_n
 use Rattle.fb_check_networks.specs.Ranges.{is_within}
 use Rattle.fb_check_networks.specs.Variables.{source_type, target_type}
 use Rattle.fb_types.proofs.Options.{and_then_parts, map_parts}
-use Rattle.fb_check_names.proofs.Each.{each_at, each_from}
-use Rattle.fb_types.proofs.ByIndex.{element_of_index, index_of_element}
-use Rattle.fb_check_networks.specs.Networks.{boundary, network_passes}
-use Rattle.fb_check_networks.specs.Joins.{is_out, leads_out, leads_out_in}
-use Rattle.fb_check_networks.proofs.Lists.{any_at, any_from}
+use Rattle.fb_check_names.proofs.Each as numbered
+use Rattle.fb_types.proofs.ByIndex.{element_of_index}
+use Rattle.fb_types.proofs.ListTests.{passes_at}
+use Rattle.fb_findings.specs.Listed.{each_at, unless}
+use Rattle.fb_findings.specs.Sites.{inside_of, network_at}
+use Rattle.fb_findings.specs.declared.location.Misjoin.{Misjoin}
+use Rattle.fb_findings.specs.declared.location.Site.{Site}
+use Rattle.fb_findings.specs.declared.location.Site.TheVariants.{Application, Inside}
+use Rattle.fb_findings.proofs.Listing.{alike, all_each, all_unless, none_each, none_unless}
+use Rattle.fb_findings.proofs.Networks.{all_in_networks, none_in_networks, site_network}
+use Rattle.fb_check_networks.specs.Networks.{boundary}
+use Rattle.fb_check_networks.specs.Joins.{is_out}
+use Rattle.fb_check_networks.specs.Misjoins.{IsMisjoinedAt, is_joined, misjoin_at, misjoins_all, misjoins_in, out_at, out_at_index, out_in, out_inside}
 use Rattle.fb_check_networks.proofs.Naming.{IsApart, type_by_number, composite_at, kind_apart, composite_apart}
-use Rattle.fb_check_networks.proofs.Placing.{network_decides}
+use Rattle.fb_check_networks.proofs.Numbered.{numbered_list}
+use Rattle.fb_check_networks.proofs.Placing.{application_in, inside_in}
 use Rattle.fb_check_networks.proofs.Ranged.{within-Decides}
 
 -- ---- The variable with a name
@@ -127,7 +138,7 @@ component_end lib n x component around e c w is finds h =
     let ends : end_at (Some i.0) (variable_names (component (ports_of k.0))) e ≡ Some w =
     ap (λ (p : Ports). end_at (Some i.0) (variable_names (component p)) e) k.2 ∙ p.2 in
     let at = map_parts (λ (j : ℕ). record { component = Some i.0; port = j }) (index_of (variable_names (component (ports_of k.0))) e.port) w ends in
-    let t = each_at (λ (i : Instance). type_number lib i.block_type) n.1.instances x.types i.0 inst.0 is.types inst.1 in
+    let t = numbered.each_at (λ (i : Instance). type_number lib i.block_type) n.1.instances x.types i.0 inst.0 is.types inst.1 in
     let kind : kind_of_number lib t.0 ≡ Some k.0 = sym (type_by_number lib inst.0.block_type t.0 t.2) ∙ inst.2 in
     let found : instance_in n.1 c ≡ slice_get n.1.instances i.0 =
     named-position (λ (i : Instance). i.name) c n.1.instances ∙ ap (option_and_then (slice_get n.1.instances)) i.1 in
@@ -200,58 +211,105 @@ wire_types lib plan n x c w once there is h =
           (λ t k kind e j. inputs_among (ports_of k) e j) (λ t around e j. outputs_among t.ports e j (around_apart lib plan n t once there around)) ends.1,
     )
 
-abbrev IsOut : Option Ty → Option Ty → Type 0
-IsOut o p = (s : Ty) × (t : Ty) × (o ≡ Some s) × (p ≡ Some t) × ¬ (IsWithin s t)
+not_not : (b : Bool) → not (not b) ≡ b
+not_not true = refl
+not_not false = refl
 
-true_of_not : (b : Bool) → b ≡ false → not b ≡ true
-true_of_not b h = ap not h
+within : (o p : Option Ty) (s t : Ty) → not (is_out o p) ≡ true → o ≡ Some s → p ≡ Some t → IsWithin s t
+within o p s t h from to =
+    (within-Decides s t).0 (sym (not_not (is_within s t)) ∙ (λ i. not (is_out (sym from i) (sym to i))) ∙ h)
 
-not_true : (b : Bool) → not b ≡ true → b ≡ true → ⊥
-not_true true h g = true≢false (sym h)
-not_true false h g = true≢false (sym g)
+record Out (o p : Option Ty) : Type 0 where
+  source : Ty
+  target : Ty
+  from : o ≡ Some source
+  to : p ≡ Some target
+  out : ¬ (IsWithin source target)
 
-out-Decides : (o p : Option Ty) → Decides (is_out o p) (IsOut o p)
-out-Decides None p = (λ h. absurd (true≢false (sym h)), λ w. absurd (let e = w.2 in cc))
-out-Decides (Some s) None = (λ h. absurd (true≢false (sym h)), λ w. absurd (let e = w.3 in cc))
-out-Decides (Some s) (Some t) =
-    let d = within-Decides s t in (
-      λ h. (s, t, refl, refl, λ w. not_true (is_within s t) h (d.1 w)),
-      λ w.
-          let first : s ≡ w.0 = let e = w.2 in cc in
-          let second : t ≡ w.1 = let e = w.3 in cc in
-          let P : Ty → Ty → Type 0 = λ s t. ¬ (IsWithin s t) in
-          let apart : ¬ (IsWithin s t) = subst (λ (x : Ty). P x t) (sym first) (subst (λ (y : Ty). P w.0 y) (sym second) w.4) in
-          true_of_not (is_within s t) (false_from_ne_true (is_within s t) (λ e. apart (d.0 e))),
-    )
+out_types : (o p : Option Ty) → not (is_out o p) ≡ false → Out o p
+out_types (Some s) (Some t) h = record {
+  source = s;
+  target = t;
+  from = refl;
+  to = refl;
+  out = λ w. true≢false (sym ((within-Decides s t).1 w) ∙ (sym (not_not (is_within s t)) ∙ h));
+}
+out_types (Some s) None h = absurd (true≢false h)
+out_types None p h = absurd (true≢false h)
 
-abbrev IsOutIn : Library → OwnedNetwork → Type 0
-IsOutIn lib n = (c : Connection) × Contains n.1.data_connections c × IsOut (type_at_end lib n c.from) (type_at_end lib n c.to)
+misjoined_at :
+    (lib : Library) (s : Site) (n : OwnedNetwork) (k : ℕ) (c : Connection) → network_at lib s ≡ Some n → slice_get n.1.data_connections k ≡ Some c → is_joined lib n c ≡ false
+    → IsMisjoinedAt lib (record { site = s; connection = k })
+misjoined_at lib s n k c is found fails =
+    let ends = out_types (type_at_end lib n c.from) (type_at_end lib n c.to) fails in
+    record {
+      network = n;
+      at_index = c;
+      source = ends.source;
+      target = ends.target;
+      network_is = is;
+      found = found;
+      from = ends.from;
+      to = ends.to;
+      out = ends.out;
+    }
 
-network_by_number :
-    (lib : Library) (plan : Plan) (n : OwnedNetwork) (x : NetworkNumbers) → ¬ (NameTwice lib plan) → Contains (networks lib) n → IsNetwork lib n x
-    → Decides (leads_out_in lib n x) (IsOutIn lib n)
-network_by_number lib plan n x once there is = (
-  λ h.
-      let at = any_at (leads_out lib (boundary n) x.types) x.data_wires h in
-      let c = each_from (data_wire lib n) n.1.data_connections x.data_wires at.0 at.1 is.data_wires at.2 in
-      let types = wire_types lib plan n x c.0 at.1 once there is c.2 in
-      let same = ap (λ (o : Option Ty). is_out o (target_type lib (boundary n) x.types at.1.to)) types.0 ∙ ap (is_out (type_at_end lib n c.0.from)) types.1 in
-      (c.0, element_of_index n.1.data_connections at.0 c.0 c.1, (out-Decides (type_at_end lib n c.0.from) (type_at_end lib n c.0.to)).0 (sym same ∙ at.3)),
-  λ w.
-      let at = index_of_element n.1.data_connections w.0 w.1 in
-      let wire = each_at (data_wire lib n) n.1.data_connections x.data_wires at.0 w.0 is.data_wires at.1 in
-      let types = wire_types lib plan n x w.0 wire.0 once there is wire.2 in
-      let same = ap (λ (o : Option Ty). is_out o (target_type lib (boundary n) x.types wire.0.to)) types.0 ∙ ap (is_out (type_at_end lib n w.0.from)) types.1 in
-      any_from (leads_out lib (boundary n) x.types) x.data_wires at.0 wire.0 wire.1
-      (same ∙ (out-Decides (type_at_end lib n w.0.from) (type_at_end lib n w.0.to)).1 w.2),
+-- ---- By number
+
+network_is :
+    (lib : Library) (plan : Plan) (s : Site) (n : OwnedNetwork) (x : NetworkNumbers) → ¬ (NameTwice lib plan) → Contains (networks lib) n → IsNetwork lib n x
+    → out_in lib s (boundary n) x ≡ misjoins_in lib s n
+network_is lib plan s n x once there is =
+    numbered_list (data_wire lib n) (out_at lib s (boundary n) x.types) (misjoin_at lib s n) n.1.data_connections x.data_wires is.data_wires (λ k c w h.
+    let types = wire_types lib plan n x c w once there is h in
+    let at : Misjoin = record { site = s; connection = k } in
+    λ i. unless (not (is_out (types.0 i) (types.1 i))) at)
+
+inside_is :
+    (lib : Library) (plan : Plan) (r : Resolved) → ¬ (NameTwice lib plan) → IsResolved lib plan r → (b : ℕ) (t : BlockType) → slice_get lib.blocks b ≡ Some t
+    → out_at_index lib r.blocks b t ≡ inside_of (misjoins_in lib) b t
+inside_is lib plan r once is b (block.Basic t) at =
+    ap (λ (o : Option (Option NetworkNumbers)). elim o as (λ _. List Misjoin) [ None ↦ [] | Some q ↦ out_inside lib b (block.Basic t) q ]) (is.basics b t at)
+inside_is lib plan r once is b (block.Composite t) at =
+    let c = is.composites b t at in
+    let n : OwnedNetwork = (Some t, t.network) in
+    ap (λ (o : Option (Option NetworkNumbers)). elim o as (λ _. List Misjoin) [ None ↦ [] | Some q ↦ out_inside lib b (block.Composite t) q ]) c.1
+    ∙ network_is lib plan (Inside b) n c.0 once (inside_in lib b t at) c.2
+
+-- those that were found by number are all
+pub misjoins_are :
+    (lib : Library) (plan : Plan) (r : Resolved) → ¬ (NameTwice lib plan) → IsResolved lib plan r
+    → each_at (out_at_index lib r.blocks) lib.blocks ++ out_in lib Application None r.application ≡ misjoins_all lib
+misjoins_are lib plan r once is =
+    let top : OwnedNetwork = (None, lib.application.network) in
+    let inside = alike (out_at_index lib r.blocks) (inside_of (misjoins_in lib)) lib.blocks (inside_is lib plan r once is) in
+    let here = network_is lib plan Application top r.application once (application_in lib) is.application in
+    λ i. inside i ++ here i
+
+-- ---- All data connections
+
+pub each_misjoin : (lib : Library) → All (IsMisjoinedAt lib) (misjoins_all lib)
+each_misjoin lib =
+    all_in_networks (IsMisjoinedAt lib) (misjoins_in lib) lib (λ s n at.
+    all_each (IsMisjoinedAt lib) (misjoin_at lib s n) n.1.data_connections
+    (λ k c found. all_unless (IsMisjoinedAt lib) (is_joined lib n c) (record { site = s; connection = k }) (misjoined_at lib s n k c at found)))
+
+pub none_misjoin : (lib : Library) → misjoins_all lib ≡ [] → ¬ (OutOfRange lib)
+none_misjoin lib h w =
+    let all : OwnedNetwork → Type 0 = λ n. list_all (is_joined lib n) n.1.data_connections ≡ true in
+    let joined = none_in_networks (misjoins_in lib) all lib (λ s n e.
+    none_each (misjoin_at lib s n) (is_joined lib n) n.1.data_connections (λ k c f. none_unless (is_joined lib n c) (record { site = s; connection = k }) f) e) h w.0 w.4 in
+    w.8 (within (type_at_end lib w.0 w.1.from) (type_at_end lib w.0 w.1.to) w.2 w.3 (passes_at (is_joined lib w.0) w.0.1.data_connections w.1 joined w.5) w.6 w.7)
+
+pub misjoin_applies : (lib : Library) (p : Misjoin) → IsMisjoinedAt lib p → OutOfRange lib
+misjoin_applies lib p m = (
+  m.network,
+  m.at_index,
+  m.source,
+  m.target,
+  site_network lib p.site m.network m.network_is,
+  element_of_index m.network.1.data_connections p.connection m.at_index m.found,
+  m.from,
+  m.to,
+  m.out,
 )
-
--- the result of the test
-pub ranges_answer :
-    (lib : Library) (plan : Plan) (r : Resolved) (b : Bool) → b ≡ network_passes (leads_out_in lib) lib r → IsResolved lib plan r → ¬ (NameTwice lib plan)
-    → IsTrue b ↔ OutOfRange lib
-ranges_answer lib plan r b e is once =
-    let d = network_decides lib plan r (leads_out_in lib) (IsOutIn lib) is (λ n x there net. network_by_number lib plan n x once there net) in (
-      λ h. let w = d.0 (sym e ∙ h) in (w.0, w.2.0, w.2.2.0, w.2.2.1, w.1, w.2.1, w.2.2.2, w.2.2.3, w.2.2.4),
-      λ w. e ∙ d.1 (w.0, w.4, (w.1, w.5, (w.2, w.3, w.6, w.7, w.8))),
-    )

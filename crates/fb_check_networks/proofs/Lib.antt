@@ -1,5 +1,7 @@
 pub mod Counted
 pub mod Marked
+pub mod Circles
+pub mod Numbered
 pub mod Joined
 pub mod Ranged
 pub mod Targets
@@ -15,5 +17,5 @@ pub mod Unlinked
 pub mod Sets
 pub mod Elements
 pub mod Mapped
-pub mod Listing
+pub mod Owners
 pub mod Looking

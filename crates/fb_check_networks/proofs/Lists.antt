@@ -1,8 +1,10 @@
 -- Lists by their indices: tests of elements and of pairs, the results for each element, and where names are.
-use Rattle.std.proofs.Common.{◌≡◌, ℕ, zero, suc, Bool, true, false, ◌||◌, List, [], ◌∷◌, length, Some, None, refl, sym, ◌∙◌, ap, inl, inr, arith}
-use Rattle.std.specs.Prelude.{slice_get}
+use Rattle.std.proofs.Common.{◌≡◌, ℕ, zero, suc, ◌+◌, ◌<◌, Bool, true, false, ◌||◌, List, [], ◌∷◌, ◌++◌, get_or, length, take, Some, None, refl, sym, ◌∙◌, ap, inl, inr, arith}
+use Rattle.std.specs.Prelude.{flat_map, slice_get}
 use Rattle.std.specs.List.{list_any, zip}
 use Rattle.std.proofs.lemmas.Bool.{true≢false}
+use Rattle.std.proofs.lemmas.List.{append-nil, take_more}
+use Rattle.std.proofs.lemmas.List.Concat.{flat_map-append}
 use Rattle.std.proofs.lemmas.Option.{slice_get_cases, slice_get_past}
 
 -- ---- Tests
@@ -56,3 +58,14 @@ past_both xs ys k same h =
       | inl w ↦ absurd (let e = sym h ∙ w.2 in cc)
       | inr w ↦ slice_get_past xs k (omega (arith, w.0))
     ]
+
+-- ---- Lists of elements, one after another
+
+-- the lists of the elements so far, with that of one more
+pub flat_more :
+    {A B : Type 0} (f : A → List B) (xs : List A) (i : ℕ) (x : A) → i < length xs → x ≡ get_or xs i x
+    → flat_map f (take (i + 1) xs) ≡ flat_map f (take i xs) ++ f x
+flat_more {A} {B} f xs i x within is =
+    let so_far = flat_map f (take i xs) in
+    ap (flat_map f) (take_more xs i x within) ∙ flat_map-append f (take i xs) (get_or xs i x ∷ []) ∙ ap (λ (y : A). so_far ++ (f y ++ [])) (sym is)
+    ∙ ap (λ (ys : List B). so_far ++ ys) (append-nil (f x))

@@ -1,11 +1,11 @@
 -- Instances of the application that are mapped, and names that are mapped twice.
-use Rattle.std.proofs.Common.{◌≡◌, ◌||◌, ℕ, Bool, true, false, cond, List, [], ◌∷◌, ◌++◌, map, None, Contains, Bor, refl, sym, ◌∙◌, ap, subst, inl, inr}
-use Rattle.std.specs.Prelude.{position, is_some, flat_map, unwrap_or}
-use Rattle.std.specs.List.{list_all, list_any}
-use Rattle.std.specs.BTreeMap as tree
+use Rattle.std.proofs.Common.{◌≡◌, ℕ, true, false, cond, List, [], ◌∷◌, ◌++◌, map, None, Contains, refl, sym, ◌∙◌, ap, subst, inl, inr}
+use Rattle.std.specs.Prelude.{All, position, flat_map, unwrap_or}
+use Rattle.std.specs.List.{list_all}
 use Rattle.std.proofs.lemmas.Bool.{true≢false}
-use Rattle.std.proofs.lemmas.List.Elements.{Contains-append_left, Contains-append_right}
-use Rattle.std.proofs.lemmas.List.Folds.{list_any-append}
+use Rattle.std.proofs.lemmas.List.{append-nil}
+use Rattle.std.proofs.lemmas.List.Elements.{All-append, All-contains, All-map, All-weaker, Contains-append_left, Contains-append_right}
+use Rattle.std.proofs.lemmas.List.Sums.{AllPass-from_list_all}
 use Rattle.fb_types.specs.Names.{Name, same_name}
 use Rattle.fb_types.specs.Blocks.{among}
 use Rattle.fb_types.specs.Flat.{resource_names_of}
@@ -15,14 +15,52 @@ use Rattle.fb_types.specs.declared.library.Library.{Library}
 use Rattle.fb_types.specs.declared.library.Instance.{Instance}
 use Rattle.fb_types.specs.declared.deploy.Plan.{Plan}
 use Rattle.fb_types.specs.declared.deploy.ResourceEntry.{ResourceEntry}
-use Rattle.fb_check_names.specs.Indexes.{index_in}
-use Rattle.fb_types.proofs.ListTests.{fails_at, passes_at}
-use Rattle.fb_types.proofs.Positions.{is_some-position}
-use Rattle.fb_types.proofs.NameLaws.{contains_from_any, any_from_contains}
+use Rattle.fb_types.proofs.ByIndex.{element_of_index}
+use Rattle.fb_types.proofs.NameLaws.{contains_from_any, any_from_contains, same_name-Decides}
 use Rattle.fb_types.proofs.Elements.{Contains-here, Contains-map}
-use Rattle.fb_check_names.proofs.Seen.{name_cmp}
-use Rattle.fb_check_networks.specs.Mapping.{IsListing, IsMapping}
-use Rattle.fb_check_networks.specs.declared.mapping.Mapping.TheVariants.{All, Listed}
+use Rattle.fb_findings.specs.Listed.{each_at}
+use Rattle.fb_findings.specs.Repeats.{IsPair, repeats}
+use Rattle.fb_findings.specs.declared.location.Unmapped.{Unmapped}
+use Rattle.fb_findings.specs.declared.location.Unmapped.TheVariants.{Again, Unlisted}
+use Rattle.fb_findings.proofs.Listing.{all_each, all_unless, none_each, none_left, none_right, none_said, none_unless}
+use Rattle.fb_findings.proofs.Repeating.{each_pair, none_mapped, once_of, pair_twice}
+use Rattle.fb_check_networks.specs.Applies.{UnmappedApplies}
+use Rattle.fb_check_networks.specs.Mapping.{ArePlaces, IsMapping, owned, owners_in}
+use Rattle.fb_check_networks.specs.Unmapped.{IsUnmappedAmong, IsUnmappedAt, unlisted_at, unmapped_all, unmapped_among}
+use Rattle.fb_check_networks.specs.declared.mapping.Listed.{Listed}
+use Rattle.fb_check_networks.specs.declared.mapping.Mapping.TheVariants as mapping
+use Rattle.fb_check_networks.proofs.Owners.{first_owner}
+
+-- ---- What is listed
+
+pub each_unmapped : (lib : Library) (plan : Plan) → All (IsUnmappedAt lib plan) (unmapped_all lib plan)
+each_unmapped lib plan =
+    let ns : List Name = mapped lib plan in
+    let is : List Instance = lib.application.network.instances in
+    let P : Unmapped → Type 0 = IsUnmappedAmong ns is in
+    All-append P (each_at (unlisted_at ns) is) (map (λ r. Again r) (repeats same_name ns))
+    (all_each P (unlisted_at ns) is
+    (λ k i at. all_unless P (among ns i.name) (Unlisted k)
+    (λ fails. record { instance = i; at_index = at; unlisted = λ c. true≢false (sym (any_from_contains i.name ns c) ∙ fails) })))
+    (All-map P (λ r. Again r) (repeats same_name ns)
+    (All-weaker (IsPair ns) (λ r. P (Again r)) (λ r p. p) (repeats same_name ns) (each_pair same_name same_name-Decides ns)))
+
+pub none_unmapped : (lib : Library) (plan : Plan) → unmapped_all lib plan ≡ [] → ¬ (NotMapped lib plan)
+none_unmapped lib plan h =
+    let ns : List Name = mapped lib plan in
+    let is : List Instance = lib.application.network.instances in
+    let unlisted = each_at (unlisted_at ns) is in
+    let again : List Unmapped = map (λ r. Again r) (repeats same_name ns) in
+    let all : list_all (λ i. among ns i.name) is ≡ true =
+    none_each (unlisted_at ns) (λ (i : Instance). among ns i.name) is (λ k i e. none_unless (among ns i.name) (Unlisted k) e) (none_left unlisted again h) in
+    let listed : (i : Instance) → Contains is i → Contains ns i.name =
+    λ i c. contains_from_any i.name ns (All-contains (λ (y : Instance). among ns y.name ≡ true) is i (AllPass-from_list_all (λ (y : Instance). among ns y.name) is all) c) in
+    let once : ¬ (Twice ns) = once_of same_name same_name-Decides ns (none_mapped (λ r. Again r) (repeats same_name ns) (none_right unlisted again h)) in
+    λ n. elim n [ inl w ↦ w.2 (listed w.0 w.1) | inr t ↦ once t ]
+
+pub unmapped_applies : UnmappedApplies
+unmapped_applies lib plan (Unlisted k) h = inl (h.instance, element_of_index lib.application.network.instances k h.instance h.at_index, h.unlisted)
+unmapped_applies lib plan (Again r) h = inr (pair_twice (mapped lib plan) r h)
 
 -- ---- One resource holds all
 
@@ -44,7 +82,7 @@ instances_once lib plan once t =
       t,
     ))
 
-pub all_mapped : (lib : Library) (plan : Plan) → plan.holds_all ≡ true → ¬ (NameTwice lib plan) → IsMapping lib plan All
+pub all_mapped : (lib : Library) (plan : Plan) → plan.holds_all ≡ true → ¬ (NameTwice lib plan) → IsMapping lib plan mapping.All
 all_mapped lib plan h once =
     let all : mapped lib plan ≡ instance_names lib.application.network = ap (λ b. cond b (instance_names lib.application.network) (flat_map (λ r. r.instances) plan.resources)) h in
     record {
@@ -56,59 +94,39 @@ all_mapped lib plan h once =
       holds = record { holder = λ n. sym (ap (λ b. cond b 0 (unwrap_or (position (λ r. among r.instances n) plan.resources) 0)) h) };
     }
 
+-- then nothing is listed
+pub none_of_all :
+    (lib : Library) (plan : Plan) (found : List Unmapped) → plan.holds_all ≡ true → ¬ (NameTwice lib plan) → found ≡ found ++ unmapped_all lib plan
+none_of_all lib plan found h once =
+    let none : unmapped_all lib plan ≡ [] = none_said (IsUnmappedAt lib plan) (unmapped_all lib plan) (λ p at. (all_mapped lib plan h once).each (unmapped_applies lib plan p at)) (each_unmapped lib plan) in
+    sym (append-nil found) ∙ ap (λ (ps : List Unmapped). found ++ ps) (sym none)
+
 -- ---- Resources list what they hold
-
-any_listed : (rs : List ResourceEntry) (n : Name) → list_any (λ r. among r.instances n) rs ≡ list_any (same_name n) (flat_map (λ r. r.instances) rs)
-any_listed [] n = refl
-any_listed (r ∷ rs) n =
-    ap (λ b. among r.instances n || b) (any_listed rs n) ∙ sym (list_any-append (same_name n) r.instances (flat_map (λ r. r.instances) rs))
-
--- the map has a name exactly if a resource lists it
-found_is : (rs : List ResourceEntry) (m : tree.BTreeMap (Bor Name) ℕ) (n : Name) → IsListing rs m → is_some (index_in m n) ≡ list_any (same_name n) (flat_map (λ r. r.instances) rs)
-found_is rs m n listing = ap is_some (listing.index n) ∙ is_some-position (λ r. among r.instances n) rs ∙ any_listed rs n
 
 listed_all : (lib : Library) (plan : Plan) → plan.holds_all ≡ false → mapped lib plan ≡ flat_map (λ r. r.instances) plan.resources
 listed_all lib plan h = ap (λ b. cond b (instance_names lib.application.network) (flat_map (λ r. r.instances) plan.resources)) h
 
--- whether the map has the name of an instance
-abbrev pub is_listed : tree.BTreeMap (Bor Name) ℕ → Instance → Bool
-is_listed m i = is_some (index_in m i.name)
-
 pub all_listed :
-    (lib : Library) (plan : Plan) (m : tree.BTreeMap (Bor Name) ℕ) → plan.holds_all ≡ false → IsListing plan.resources m
-    → list_all (is_listed m) lib.application.network.instances ≡ true → IsMapping lib plan (Listed m)
-all_listed lib plan m h listing all = record {
-  each = λ n.
-      elim n [
-        | inl i ↦ i.2 (let P : List Name → Type 0 = λ ns. Contains ns i.0.name in
-            subst P (sym (listed_all lib plan h)) (contains_from_any i.0.name (flat_map (λ r. r.instances) plan.resources) (sym (found_is plan.resources m i.0.name listing) ∙ passes_at (is_listed m) lib.application.network.instances i.0 all i.1)))
-        | inr t ↦ listing.once (let P : List Name → Type 0 = λ ns. Twice ns in subst P (listed_all lib plan h) t)
-      ];
-  holds = record {
-    holder = λ n.
-        ap (λ o. unwrap_or o 0) (listing.index n)
-        ∙ sym (ap (λ b. cond b 0 (unwrap_or (position (λ r. among r.instances n) plan.resources) 0)) h);
-  };
-}
+    (lib : Library) (plan : Plan) (l : Listed) (rs : List ResourceEntry) → rs ≡ plan.resources → plan.holds_all ≡ false → ArePlaces (flat_map (λ r. r.instances) rs) l.places
+    → l.owners.items ≡ each_at owners_in rs → unmapped_all lib plan ≡ [] → IsMapping lib plan (mapping.Listed l)
+all_listed lib plan l rs same h places owners none =
+    let each : ¬ (NotMapped lib plan) = none_unmapped lib plan none in
+    let names : flat_map (λ (r : ResourceEntry). r.instances) rs ≡ mapped lib plan = ap (flat_map (λ (r : ResourceEntry). r.instances)) same ∙ sym (listed_all lib plan h) in
+    let once : ¬ (Twice (flat_map (λ (r : ResourceEntry). r.instances) rs)) = λ t. each (inr (subst (λ (ns : List Name). Twice ns) names t)) in
+    record {
+      each = each;
+      holds = record {
+        holder = λ n.
+            (λ i. unwrap_or (owned (owners i) (places n i)) 0)
+            ∙ ap (λ o. unwrap_or o 0) (first_owner rs n once)
+            ∙ ap (λ (rs : List ResourceEntry). unwrap_or (position (λ r. among r.instances n) rs) 0) same
+            ∙ sym (ap (λ b. cond b 0 (unwrap_or (position (λ r. among r.instances n) plan.resources) 0)) h);
+      };
+    }
 
-pub twice_listed : (lib : Library) (plan : Plan) → plan.holds_all ≡ false → Twice (flat_map (λ r. r.instances) plan.resources) → NotMapped lib plan
-twice_listed lib plan h t = inr (let P : List Name → Type 0 = λ ns. Twice ns in subst P (sym (listed_all lib plan h)) t)
-
-pub not_listed :
-    (lib : Library) (plan : Plan) (m : tree.BTreeMap (Bor Name) ℕ) → plan.holds_all ≡ false → IsListing plan.resources m
-    → list_all (is_listed m) lib.application.network.instances ≡ false → NotMapped lib plan
-not_listed lib plan m h listing some =
-    let lacks = fails_at (is_listed m) lib.application.network.instances some in
-    let i = lacks.0 in
-    inl (
-      i,
-      lacks.1,
-      λ there.
-          true≢false (sym (any_from_contains i.name (flat_map (λ r. r.instances) plan.resources) (let P : List Name → Type 0 = λ ns. Contains ns i.name in subst P (listed_all lib plan h) there))
-          ∙ sym (found_is plan.resources m i.name listing) ∙ lacks.2),
-    )
-
--- the entry of the map for the name of an instance
-pub listed_found :
-    (m : tree.BTreeMap (Bor Name) ℕ) (i : Instance) (q : Bor Name) (b c : Bool) → q.now ≡ i.name → b ≡ is_some (tree.get name_cmp m q) → b ≡ c → is_listed m i ≡ c
-listed_found m i q b c g found there = ap (λ n. is_some (index_in m n)) (sym g) ∙ sym found ∙ there
+pub found_among :
+    (lib : Library) (plan : Plan) (ns : List Name) (is : List Instance) → plan.holds_all ≡ false → ns ≡ flat_map (λ r. r.instances) plan.resources → is ≡ lib.application.network.instances
+    → unmapped_among ns is ≡ unmapped_all lib plan
+found_among lib plan ns is h names same =
+    let all : ns ≡ mapped lib plan = names ∙ sym (listed_all lib plan h) in
+    λ i. unmapped_among (all i) (same i)

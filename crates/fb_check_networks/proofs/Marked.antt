@@ -1,10 +1,11 @@
 -- E25 by number: what is marked after a number of rounds leads that number of steps down.
 use Rattle.std.proofs.Common.{◌≡◌, ℕ, zero, suc, ◌+◌, Bool, true, false, List, map, Option, Some, None, Contains, refl, sym, ◌∙◌, ap, subst, inl, inr, arith}
-use Rattle.std.specs.Prelude.{slice_get, option_map, unwrap_or, is_some, ◌↔◌, IsTrue}
+use Rattle.std.specs.Prelude.{All, slice_get, option_map, unwrap_or, is_some}
 use Rattle.std.specs.Bool.{Decides}
-use Rattle.std.specs.List.{list_any}
 use Rattle.std.proofs.lemmas.Bool.{true≢false}
 use Rattle.std.proofs.lemmas.Option.{slice_get-map}
+use Rattle.std.proofs.lemmas.List.Elements.{All-contains}
+use Rattle.fb_types.proofs.Positions.{is_some-position}
 use Rattle.fb_types.specs.Blocks.{Kind, Composite}
 use Rattle.fb_types.specs.Flat.{kind_of}
 use Rattle.fb_types.specs.Joined.{Holds, Descends, TooHigh}
@@ -19,7 +20,7 @@ use Rattle.fb_check_names.specs.declared.numbers.TypeNumber.TheVariants as numbe
 use Rattle.fb_check_names.specs.declared.numbers.NetworkNumbers.{NetworkNumbers}
 use Rattle.fb_check_names.specs.declared.numbers.Resolved.{Resolved}
 use Rattle.fb_check_names.specs.Numbers.{IsNetwork, IsResolved, type_number, kind_of_number}
-use Rattle.fb_check_networks.specs.Heights.{is_marked, holds_marked, marks_after}
+use Rattle.fb_check_networks.specs.Heights.{HoldsNone, holds_marked, is_marked, marks_after}
 use Rattle.fb_check_names.proofs.Each.{each_at, each_from}
 use Rattle.fb_types.proofs.ByIndex.{element_of_index, index_of_element}
 use Rattle.fb_check_networks.proofs.Lists.{any_at, any_from, past_both}
@@ -28,11 +29,11 @@ use Rattle.fb_check_networks.proofs.Naming.{type_by_number}
 -- ---- Marks
 
 -- Some composite type is this number of steps below.
-abbrev Leads : Library → ℕ → CompositeType → Type 0
+abbrev pub Leads : Library → ℕ → CompositeType → Type 0
 Leads lib steps t = (u : CompositeType) × Descends lib steps t u
 
 -- A composite type is marked exactly if this number of steps leads down from it, and no other type is.
-abbrev MarkOf : Library → ℕ → Option BlockType → Bool → Type 0
+abbrev pub MarkOf : Library → ℕ → Option BlockType → Bool → Type 0
 MarkOf lib steps None b = b ≡ false
 MarkOf lib steps (Some (block.Basic t)) b = b ≡ false
 MarkOf lib steps (Some (block.Composite t)) b = Decides b (Leads lib steps t)
@@ -42,7 +43,7 @@ pub record AreMarks (lib : Library) (steps : ℕ) (marks : List Bool) : Type 0 w
 
 -- ---- Marked types
 
-abbrev LeadsFrom : Library → ℕ → Option Kind → Type 0
+abbrev pub LeadsFrom : Library → ℕ → Option Kind → Type 0
 LeadsFrom lib steps o = (m : CompositeType) × (o ≡ Some (Composite m)) × Leads lib steps m
 
 leads_from_mark : (lib : Library) (steps : ℕ) (o : Option BlockType) (b : Bool) → MarkOf lib steps o b → b ≡ true → LeadsFrom lib steps (option_map kind_of o)
@@ -57,7 +58,7 @@ mark_from_leads lib steps (Some (block.Composite t)) b is w =
     let same : t ≡ w.0 = let e = w.1 in cc in
     is.1 (subst (λ (m : CompositeType). Leads lib steps m) (sym same) w.2)
 
-leads_from_marked :
+pub leads_from_marked :
     (lib : Library) (steps : ℕ) (marks : List Bool) (t : TypeNumber) → AreMarks lib steps marks → is_marked marks t ≡ true
     → LeadsFrom lib steps (kind_of_number lib t)
 leads_from_marked lib steps marks (number.Event k) are h = absurd (true≢false (sym h))
@@ -79,7 +80,7 @@ holds-Decides :
     → IsNetwork lib (Some t, t.network) x → Decides (holds_marked marks (Some x)) (Leads lib (suc steps) t)
 holds-Decides lib steps marks t x are is = (
   λ h.
-      let at = any_at (is_marked marks) x.types h in
+      let at = any_at (is_marked marks) x.types (sym (is_some-position (is_marked marks) x.types) ∙ h) in
       let i = each_from (λ (i : Instance). type_number lib i.block_type) t.network.instances x.types at.0 at.1 is.types at.2 in
       let w = leads_from_marked lib steps marks at.1 are at.3 in
       (w.2.0, (w.0, (i.0, element_of_index t.network.instances at.0 i.0 i.1, type_by_number lib i.0.block_type at.1 i.2 ∙ w.1), w.2.1)),
@@ -88,7 +89,8 @@ holds-Decides lib steps marks t x are is = (
       let held = d.1 in
       let at = index_of_element t.network.instances held.0 held.1 in
       let n = each_at (λ (i : Instance). type_number lib i.block_type) t.network.instances x.types at.0 held.0 is.types at.1 in
-      any_from (is_marked marks) x.types at.0 n.0 n.1
+      is_some-position (is_marked marks) x.types
+      ∙ any_from (is_marked marks) x.types at.0 n.0 n.1
       (marked_from_leads lib steps marks n.0 are (d.0, sym (type_by_number lib held.0.block_type n.0 n.2) ∙ held.2, (w.0, d.2))),
 )
 
@@ -119,7 +121,7 @@ marks_of lib plan r steps f is none some = record {
         let P : Option (Option NetworkNumbers) → Type 0 = λ p. Decides (unwrap_or (option_map f p) false) (Leads lib steps t) in
         subst P (sym c.1) (some t c.0 c.2)
 
-marks_right : (lib : Library) (plan : Plan) (r : Resolved) (n : ℕ) → IsResolved lib plan r → AreMarks lib n (marks_after n r.blocks)
+pub marks_right : (lib : Library) (plan : Plan) (r : Resolved) (n : ℕ) → IsResolved lib plan r → AreMarks lib n (marks_after n r.blocks)
 marks_right lib plan r zero is = marks_of lib plan r zero is_some is refl (λ t x _. (λ _. (t, refl), λ _. refl))
 marks_right lib plan r (suc n) is =
     let before = marks_right lib plan r n is in
@@ -139,7 +141,7 @@ marks_done xs n m marks h e = h ∙ ap (λ n. marks_after n xs) e
 -- ---- Types that contain themselves
 
 -- from a type that leads to one that contains itself, any number of steps leads down
-around :
+pub around :
     (lib : Library) (n : ℕ) (t : CompositeType) → Descends lib (suc n) t t → (steps left : ℕ) (m : CompositeType) → Descends lib left m t → Leads lib steps m
 around lib n t cycle zero left m d = (m, refl)
 around lib n t cycle (suc steps) (suc left) m d = let r = around lib n t cycle steps left d.0 d.2 in (r.0, (d.0, d.1, r.1))
@@ -149,44 +151,17 @@ around lib n t cycle (suc steps) zero m d =
 
 -- ---- The result
 
-some_mark : (lib : Library) (n : ℕ) (marks : List Bool) (t : CompositeType) → AreMarks lib n marks → Contains lib.blocks (block.Composite t) → Leads lib n t → list_any (λ b. b) marks ≡ true
-some_mark lib n marks t are there w =
-    let at = index_of_element lib.blocks (block.Composite t) there in
-    let P : Option BlockType → Type 0 = λ o. MarkOf lib n o (unwrap_or (slice_get marks at.0) false) in
-    let d = subst P at.1 (are.each at.0) in
-    any_from (λ b. b) marks at.0 true (is_there (slice_get marks at.0) (d.1 w)) refl
-  where
-    is_there : (o : Option Bool) → unwrap_or o false ≡ true → o ≡ Some true
-    is_there None h = absurd (true≢false (sym h))
-    is_there (Some b) h = ap (λ b. Some b) h
-
-abbrev Chain : Library → ℕ → Type 0
-Chain lib n = (t : CompositeType) × Contains lib.blocks (block.Composite t) × Leads lib n t
-
-chain_of : (lib : Library) (n : ℕ) (marks : List Bool) → AreMarks lib n marks → list_any (λ b. b) marks ≡ true → Chain lib n
-chain_of lib n marks are h =
-    let at = any_at (λ b. b) marks h in
-    let marked : unwrap_or (slice_get marks at.0) false ≡ true = ap (λ o. unwrap_or o false) at.2 ∙ at.3 in
-    from_block lib n (slice_get lib.blocks at.0) (unwrap_or (slice_get marks at.0) false) (λ b e. element_of_index lib.blocks at.0 b e) (are.each at.0) marked
-  where
-    from_block :
-        (lib : Library) (n : ℕ) (o : Option BlockType) (b : Bool) → ((t : BlockType) → o ≡ Some t → Contains lib.blocks t) → MarkOf lib n o b → b ≡ true → Chain lib n
-    from_block lib n None b there is h = absurd (true≢false (sym h ∙ is))
-    from_block lib n (Some (block.Basic t)) b there is h = absurd (true≢false (sym h ∙ is))
-    from_block lib n (Some (block.Composite t)) b there is h = (t, there (block.Composite t) refl, is.0 h)
-
--- the result of the marks after 16 rounds
-pub heights_answer :
-    (lib : Library) (plan : Plan) (r : Resolved) (xs : List (Option NetworkNumbers)) (marks seen : List Bool) (b : Bool) → xs ≡ r.blocks
-    → marks ≡ marks_after 16 xs → seen ≡ marks → b ≡ list_any (λ b. b) seen → IsResolved lib plan r → IsTrue b ↔ TooHigh lib
-heights_answer lib plan r xs marks seen b blocks after same says is =
-    let marks_are : seen ≡ marks_after 16 r.blocks = same ∙ after ∙ ap (marks_after 16) blocks in
-    let are : AreMarks lib 16 seen = subst (λ (ms : List Bool). AreMarks lib 16 ms) (sym marks_are) (marks_right lib plan r 16 is) in (
-      λ h. let w = chain_of lib 16 seen are (sym says ∙ h) in (w.0, w.2.0, w.1, inr w.2.1),
-      λ w.
-          says
-          ∙ (elim w.3 as (λ _. list_any (λ b. b) seen ≡ true) [
-            | inl cycle ↦ some_mark lib 16 seen w.0 are w.2 (around lib cycle.0 w.0 cycle.1 16 zero w.0 refl)
-            | inr chain ↦ some_mark lib 16 seen w.0 are w.2 (w.1, chain)
-          ]),
-    )
+-- if no type holds one that is marked after 15 rounds, none is too high
+pub none_high :
+    (lib : Library) (plan : Plan) (r : Resolved) (marks : List Bool) → IsResolved lib plan r → AreMarks lib 15 marks → All (HoldsNone marks) r.blocks → ¬ (TooHigh lib)
+none_high lib plan r marks is are none w =
+    let leads : Leads lib 16 w.0 =
+    elim w.3 as (λ _. Leads lib 16 w.0) [
+      | inl cycle ↦ around lib cycle.0 w.0 cycle.1 16 zero w.0 refl
+      | inr chain ↦ (w.1, chain)
+    ] in
+    let at = index_of_element lib.blocks (block.Composite w.0) w.2 in
+    let c = is.composites at.0 w.0 at.1 in
+    let held : holds_marked marks (Some c.0) ≡ true = (holds-Decides lib 15 marks w.0 c.0 are c.2).1 leads in
+    let not_held : HoldsNone marks (Some c.0) = All-contains (HoldsNone marks) r.blocks (Some c.0) none (element_of_index r.blocks at.0 (Some c.0) c.1) in
+    true≢false (sym held ∙ ap is_some not_held)

@@ -1,11 +1,12 @@
 -- Connections between two resources, and the links for them.
-use Rattle.std.proofs.Common.{◌≡◌, ◌≢◌, ◌⊎◌, ◌&&◌, ℕ, Bool, true, false, not, List, [], ◌∷◌, map, Some, None, Contains, Bor, refl, sym, ◌∙◌, ap, subst, inl, inr}
-use Rattle.std.specs.Prelude.{◌↔◌, IsTrue, is_some}
-use Rattle.std.specs.List.{list_any}
+use Rattle.std.proofs.Common.{◌≡◌, ◌≢◌, ◌&&◌, ◌||◌, ℕ, Bool, true, false, List, [], ◌∷◌, ◌++◌, map, Some, None, Contains, Bor, refl, sym, ◌∙◌, ap, subst, inl, inr, arith}
+use Rattle.std.specs.Prelude.{All, is_some, nat_eq, slice_get}
+use Rattle.std.specs.List.{list_all, list_any}
 use Rattle.std.specs.Bool.{Decides}
 use Rattle.std.specs.BTreeSet as set
 use Rattle.std.proofs.lemmas.Bool.{true≢false, false_from_ne_true}
-use Rattle.std.proofs.lemmas.List.Elements.{Contains-append_left, Contains-append_right, Contains-append_cases}
+use Rattle.std.proofs.lemmas.Bool.Decides.{nat_tests}
+use Rattle.std.proofs.lemmas.List.Elements.{All-append, Contains-append_left, Contains-append_right, Contains-append_cases}
 use Rattle.fb_types.specs.Names.{Name, Port, same_name}
 use Rattle.fb_types.specs.Flat.{port_in, resource_of, link_between, name_of_resource}
 use Rattle.fb_types.specs.Mapped.{NoLink, IsCut, event_pairs_of, data_pairs_of}
@@ -14,12 +15,21 @@ use Rattle.fb_types.specs.declared.library.Connection.{Connection}
 use Rattle.fb_types.specs.declared.library.PortName.{PortName}
 use Rattle.fb_types.specs.declared.deploy.Plan.{Plan}
 use Rattle.fb_types.specs.declared.deploy.Link.{Link}
+use Rattle.fb_types.proofs.ByIndex.{element_of_index}
+use Rattle.fb_types.proofs.ListTests.{passes_at}
 use Rattle.fb_types.proofs.Positions.{is_some-position}
 use Rattle.fb_types.proofs.NameLaws.{same_name-Decides, same_from_same_name}
-use Rattle.fb_check_networks.specs.Mapping.{IsHolding, resource_in, holder_in}
 use Rattle.fb_types.proofs.Options.{none_from_is_some}
 use Rattle.fb_types.proofs.Elements.{Contains-map, map-Contains}
-use Rattle.fb_check_networks.specs.Links.{AreWays, IsUnlinked, HasUnlinked, pair_of, names_of_link}
+use Rattle.fb_findings.specs.Listed.{each_at}
+use Rattle.fb_findings.specs.Sites.{connections_of}
+use Rattle.fb_findings.specs.declared.location.FlowKind.{FlowKind}
+use Rattle.fb_findings.specs.declared.location.FlowKind.TheVariants.{Data, Events}
+use Rattle.fb_findings.specs.declared.location.Unlinked.{Unlinked}
+use Rattle.fb_findings.proofs.Listing.{all_each, all_unless, none_each, none_left, none_right, none_unless}
+use Rattle.fb_findings.proofs.Repeating.{same_Decides}
+use Rattle.fb_check_networks.specs.Mapping.{IsHolding, resource_in, holder_in}
+use Rattle.fb_check_networks.specs.Links.{AreWays, IsUnlinkedAt, are_linked, is_joining, is_linked, names_of_link, pair_of, unlinked_all, unlinked_at}
 use Rattle.fb_check_networks.specs.declared.mapping.Mapping.{Mapping}
 use Rattle.fb_check_networks.proofs.Elements.{any-Decides}
 use Rattle.fb_check_networks.proofs.Sets.{Has, Pair, pair_cmp, pair_view}
@@ -54,24 +64,6 @@ link_found :
 link_found links from to =
     any-Decides names_of_link (λ l. same_name l.from from && same_name l.to to) (names from to) links (λ l. pair-Decides l.from l.to from to)
 
-abbrev link_pairs : Plan → List (Name × Name)
-link_pairs plan = map names_of_link plan.links
-
-abbrev is_link : Plan → ℕ → ℕ → Link → Bool
-is_link plan r s l = same_name l.from (name_of_resource plan r) && same_name l.to (name_of_resource plan s)
-
-link_absent : (plan : Plan) (r s : ℕ) → ¬ (Contains (link_pairs plan) (names (name_of_resource plan r) (name_of_resource plan s))) → link_between plan r s ≡ None
-link_absent plan r s absent =
-    none_from_is_some (link_between plan r s)
-    (is_some-position (is_link plan r s) plan.links
-    ∙ false_from_ne_true (list_any (is_link plan r s) plan.links) (λ h. absent ((link_found plan.links (name_of_resource plan r) (name_of_resource plan s)).0 h)))
-
-link_lacks : (plan : Plan) (r s : ℕ) → link_between plan r s ≡ None → ¬ (Contains (link_pairs plan) (names (name_of_resource plan r) (name_of_resource plan s)))
-link_lacks plan r s none there =
-    true≢false
-    (sym ((link_found plan.links (name_of_resource plan r) (name_of_resource plan s)).1 there)
-    ∙ sym (is_some-position (is_link plan r s) plan.links) ∙ ap is_some none)
-
 pub ways_from : (links : List Link) (ways : set.BTreeSet Pair) → Has pair_cmp pair_view (Contains (map names_of_link links)) ways → AreWays links ways
 ways_from links ways has = record { has = λ from to. has (record { ref_ptr = (0, 0); now = from }, record { ref_ptr = (0, 0); now = to }) }
 
@@ -100,82 +92,102 @@ tried_names plan m c ways r s from to found t =
     t.receiver ∙ ap (name_of_resource plan) (sends_is plan m c.to s t.holds t.receives) in
     λ i. (p i, q i)
 
-pub unlinked_from :
-    (plan : Plan) (m : Mapping) (c : Connection) (ways : set.BTreeSet Pair) (r s : ℕ) (from to : Bor Name) (found : Bool) → IsTried plan m c ways r s from to found
-    → r ≢ s → found ≡ false → IsUnlinked plan c
-unlinked_from plan m c ways r s from to found t apart absent = (
-  λ same. apart (sends_is plan m c.from r t.holds t.sends ∙ same ∙ sym (sends_is plan m c.to s t.holds t.receives)),
-  link_absent plan (resource_of plan (pair_of c).0.at) (resource_of plan (pair_of c).1.at) (λ there.
-      let P : Name × Name → Type 0 = λ x. Contains (link_pairs plan) x in
-      true≢false (sym ((t.ways_are.has from.now to.now).1 (subst P (sym (tried_names plan m c ways r s from to found t)) there)) ∙ sym t.found_is ∙ absent)),
-)
+-- the result for a connection whose ends one resource holds
+pub linked_same : (plan : Plan) (m : Mapping) (c : Connection) (r s : ℕ) → IsHolding plan m → r ≡ resource_in m c.from → s ≡ resource_in m c.to → r ≡ s → true ≡ is_linked plan c
+linked_same plan m c r s holds sends receives same =
+    let from = resource_of plan (pair_of c).0.at in
+    let to = resource_of plan (pair_of c).1.at in
+    let one : from ≡ to = sym (sends_is plan m c.from r holds sends) ∙ same ∙ sends_is plan m c.to s holds receives in
+    let equal : nat_eq from to ≡ true = grind (arith, nat_tests, one) in
+    sym (ap (λ b. b || list_any (is_joining (name_of_resource plan from) (name_of_resource plan to)) plan.links) equal)
 
-pub unlinked_cut :
+-- the result for a connection whose ends are in two resources
+pub linked_is :
     (plan : Plan) (m : Mapping) (c : Connection) (ways : set.BTreeSet Pair) (r s : ℕ) (from to : Bor Name) (found : Bool) → IsTried plan m c ways r s from to found
-    → IsUnlinked plan c → found ≡ false
-unlinked_cut plan m c ways r s from to found t un =
-    false_from_ne_true found (λ h.
-    let P : Name × Name → Type 0 = λ x. Contains (link_pairs plan) x in
-    link_lacks plan (resource_of plan (pair_of c).0.at) (resource_of plan (pair_of c).1.at) un.1
-    (subst P (tried_names plan m c ways r s from to found t) ((t.ways_are.has from.now to.now).0 (sym t.found_is ∙ h))))
-
-pub unlinked_apart :
-    (plan : Plan) (m : Mapping) (c : Connection) (r s : ℕ) → IsHolding plan m → r ≡ resource_in m c.from → s ≡ resource_in m c.to → IsUnlinked plan c → r ≢ s
-unlinked_apart plan m c r s holds sends receives un same =
-    un.0 (sym (sends_is plan m c.from r holds sends) ∙ same ∙ sends_is plan m c.to s holds receives)
+    → r ≢ s → found ≡ is_linked plan c
+linked_is plan m c ways r s from to found t apart =
+    let sender = resource_of plan (pair_of c).0.at in
+    let receiver = resource_of plan (pair_of c).1.at in
+    let joining : Name × Name → Bool = λ x. list_any (is_joining x.0 x.1) plan.links in
+    let differ : nat_eq sender receiver ≡ false =
+    false_from_ne_true (nat_eq sender receiver) (λ h.
+    let one : sender ≡ receiver = grind (arith, nat_tests, h) in
+    apart (sends_is plan m c.from r t.holds t.sends ∙ one ∙ sym (sends_is plan m c.to s t.holds t.receives))) in
+    t.found_is
+    ∙ same_Decides (set.contains pair_cmp ways (from, to)) (joining (names from.now to.now)) (Contains (map names_of_link plan.links) (names from.now to.now))
+    (t.ways_are.has from.now to.now) (link_found plan.links from.now to.now)
+    ∙ ap joining (tried_names plan m c ways r s from to found t)
+    ∙ sym (ap (λ b. b || joining (names (name_of_resource plan sender) (name_of_resource plan receiver))) differ)
 
 -- ---- All connections
 
-pub no_link_events : (lib : Library) (plan : Plan) → HasUnlinked plan lib.application.network.event_connections → NoLink lib plan
-no_link_events lib plan un =
-    (pair_of un.0, Contains-append_left (event_pairs_of lib) (data_pairs_of lib) (pair_of un.0) (Contains-map pair_of lib.application.network.event_connections un.0 un.1), un.2.0, un.2.1)
+-- two resources apart, with no link
+apart : (plan : Plan) (r s : ℕ) → are_linked plan r s ≡ false → (r ≢ s) × (link_between plan r s ≡ None)
+apart plan r s h =
+    let joining = is_joining (name_of_resource plan r) (name_of_resource plan s) in
+    elim (nat_eq r s) as (λ b. nat_eq r s ≡ b → (b || list_any joining plan.links) ≡ false → (r ≢ s) × (link_between plan r s ≡ None)) [
+      | true ↦ λ e g. absurd (true≢false g)
+      | false ↦ λ e g. (
+        λ same. true≢false (sym (let at : nat_eq r s ≡ true = grind (arith, nat_tests, same) in at) ∙ e),
+        none_from_is_some (link_between plan r s) (is_some-position joining plan.links ∙ g),
+      )
+    ] refl h
 
-pub no_link_data : (lib : Library) (plan : Plan) → HasUnlinked plan lib.application.network.data_connections → NoLink lib plan
-no_link_data lib plan un =
-    (pair_of un.0, Contains-append_right (event_pairs_of lib) (data_pairs_of lib) (pair_of un.0) (Contains-map pair_of lib.application.network.data_connections un.0 un.1), un.2.0, un.2.1)
+-- and these are not linked
+not_linked : (plan : Plan) (r s : ℕ) → r ≢ s → link_between plan r s ≡ None → are_linked plan r s ≡ true → ⊥
+not_linked plan r s cut none h =
+    let joining = is_joining (name_of_resource plan r) (name_of_resource plan s) in
+    elim (nat_eq r s) as (λ b. nat_eq r s ≡ b → (b || list_any joining plan.links) ≡ true → ⊥) [
+      | true ↦ λ e g. cut (let at : r ≡ s = grind (arith, nat_tests, e) in at)
+      | false ↦ λ e g. true≢false (sym g ∙ sym (is_some-position joining plan.links) ∙ ap is_some none)
+    ] refl h
 
-unlinked_among : (plan : Plan) (cs : List Connection) (x : Port × Port) → Contains (map pair_of cs) x → IsCut plan x
-    → link_between plan (resource_of plan x.0.at) (resource_of plan x.1.at) ≡ None → HasUnlinked plan cs
-unlinked_among plan cs x c cut none =
-    let P : Port × Port → Type 0 = λ x. IsCut plan x × (link_between plan (resource_of plan x.0.at) (resource_of plan x.1.at) ≡ None) in
-    let d = map-Contains pair_of cs x c in
-    (d.0, d.1, subst P (sym d.2) (cut, none))
+each_of_flow :
+    (lib : Library) (plan : Plan) (f : FlowKind) (cs : List Connection) → connections_of f lib.application.network ≡ cs → All (IsUnlinkedAt lib plan) (each_at (unlinked_at plan f) cs)
+each_of_flow lib plan f cs all =
+    all_each (IsUnlinkedAt lib plan) (unlinked_at plan f) cs
+    (λ k c at. all_unless (IsUnlinkedAt lib plan) (is_linked plan c) (record { flow = f; connection = k }) (λ e.
+    let a = apart plan (resource_of plan (pair_of c).0.at) (resource_of plan (pair_of c).1.at) e in
+    record { at_index = c; found = ap (λ (cs : List Connection). slice_get cs k) all ∙ at; cut = a.0; none = a.1 }))
 
-pub no_link_cases : (lib : Library) (plan : Plan) → NoLink lib plan
-    → HasUnlinked plan lib.application.network.event_connections ⊎ HasUnlinked plan lib.application.network.data_connections
-no_link_cases lib plan n =
-    elim (Contains-append_cases (event_pairs_of lib) (data_pairs_of lib) n.0 n.1) [
-      | inl e ↦ inl (unlinked_among plan lib.application.network.event_connections n.0 e n.2 n.3)
-      | inr d ↦ inr (unlinked_among plan lib.application.network.data_connections n.0 d n.2 n.3)
+pub each_unlinked : (lib : Library) (plan : Plan) → All (IsUnlinkedAt lib plan) (unlinked_all lib plan)
+each_unlinked lib plan =
+    let es = lib.application.network.event_connections in
+    let ds = lib.application.network.data_connections in
+    All-append (IsUnlinkedAt lib plan) (each_at (unlinked_at plan Events) es) (each_at (unlinked_at plan Data) ds) (each_of_flow lib plan Events es refl)
+    (each_of_flow lib plan Data ds refl)
+
+-- if each connection is linked, none of their pairs lacks a link
+linked_pairs :
+    (plan : Plan) (f : FlowKind) (cs : List Connection) (p : Port × Port) → each_at (unlinked_at plan f) cs ≡ [] → Contains (map pair_of cs) p → IsCut plan p
+    → link_between plan (resource_of plan p.0.at) (resource_of plan p.1.at) ≡ None → ⊥
+linked_pairs plan f cs p h c cut none =
+    let r = map-Contains pair_of cs p c in
+    let all : list_all (is_linked plan) cs ≡ true =
+    none_each (unlinked_at plan f) (is_linked plan) cs (λ k c e. none_unless (is_linked plan c) (record { flow = f; connection = k }) e) h in
+    let q : Port × Port = pair_of r.0 in
+    not_linked plan (resource_of plan q.0.at) (resource_of plan q.1.at)
+    (subst (λ (p : Port × Port). IsCut plan p) (sym r.2) cut)
+    (subst (λ (p : Port × Port). link_between plan (resource_of plan p.0.at) (resource_of plan p.1.at) ≡ None) (sym r.2) none)
+    (passes_at (is_linked plan) cs r.0 all r.1)
+
+pub none_unlinked : (lib : Library) (plan : Plan) → unlinked_all lib plan ≡ [] → ¬ (NoLink lib plan)
+none_unlinked lib plan h w =
+    let es = lib.application.network.event_connections in
+    let ds = lib.application.network.data_connections in
+    let events = each_at (unlinked_at plan Events) es in
+    let values = each_at (unlinked_at plan Data) ds in
+    elim (Contains-append_cases (event_pairs_of lib) (data_pairs_of lib) w.0 w.1) [
+      | inl c ↦ linked_pairs plan Events es w.0 (none_left events values h) c w.2 w.3
+      | inr c ↦ linked_pairs plan Data ds w.0 (none_right events values h) c w.2 w.3
     ]
 
--- the result for one connection whose ends are in two resources
-pub unlinked-is :
-    (plan : Plan) (m : Mapping) (c : Connection) (ways : set.BTreeSet Pair) (r s : ℕ) (from to : Bor Name) (found : Bool) → IsTried plan m c ways r s from to found
-    → r ≢ s → (IsTrue (not found) ↔ IsUnlinked plan c)
-unlinked-is plan m c ways r s from to found t apart =
-    (λ h. unlinked_from plan m c ways r s from to found t apart (false_from_not found h), λ un. ap not (unlinked_cut plan m c ways r s from to found t un))
-  where
-    false_from_not : (b : Bool) → not b ≡ true → b ≡ false
-    false_from_not true h = sym h
-    false_from_not false h = refl
+pair_there : (lib : Library) (f : FlowKind) (c : Connection) → Contains (connections_of f lib.application.network) c → Contains (event_pairs_of lib ++ data_pairs_of lib) (pair_of c)
+pair_there lib Events c there =
+    Contains-append_left (event_pairs_of lib) (data_pairs_of lib) (pair_of c) (Contains-map pair_of lib.application.network.event_connections c there)
+pair_there lib Data c there =
+    Contains-append_right (event_pairs_of lib) (data_pairs_of lib) (pair_of c) (Contains-map pair_of lib.application.network.data_connections c there)
 
--- the result if an event connection has no link
-pub link_lacking :
-    (lib : Library) (plan : Plan) (cs : List Connection) (b : Bool) → cs ≡ lib.application.network.event_connections → (IsTrue b ↔ HasUnlinked plan cs) → b ≡ true
-    → (IsTrue true ↔ NoLink lib plan)
-link_lacking lib plan cs b all is h =
-    let X : List Connection → Type 0 = λ cs. HasUnlinked plan cs in (λ _. no_link_events lib plan (subst X all (is.0 h)), λ _. refl)
-
--- the result if each event connection has its link
-pub link_answer :
-    (lib : Library) (plan : Plan) (cs ds : List Connection) (b d : Bool) → cs ≡ lib.application.network.event_connections → ds ≡ lib.application.network.data_connections
-    → (IsTrue b ↔ HasUnlinked plan cs) → b ≡ false → (IsTrue d ↔ HasUnlinked plan ds) → (IsTrue d ↔ NoLink lib plan)
-link_answer lib plan cs ds b d all_events all_data events none rest =
-    let X : List Connection → Type 0 = λ cs. HasUnlinked plan cs in (
-      λ h. no_link_data lib plan (subst X all_data (rest.0 h)),
-      λ n. elim (no_link_cases lib plan n) [
-        | inl e ↦ absurd (true≢false (sym (events.1 (subst X (sym all_events) e)) ∙ none))
-        | inr e ↦ rest.1 (subst X (sym all_data) e)
-      ],
-    )
+pub unlinked_applies : (lib : Library) (plan : Plan) (u : Unlinked) → IsUnlinkedAt lib plan u → NoLink lib plan
+unlinked_applies lib plan u h =
+    (pair_of h.at_index, pair_there lib u.flow h.at_index (element_of_index (connections_of u.flow lib.application.network) u.connection h.at_index h.found), h.cut, h.none)

@@ -1,9 +1,12 @@
 -- Data connections that no event serves.
-use Rattle.std.proofs.Common.{◌≡◌, ◌≢◌, ℕ, Bool, not, List, [], Option, Some, None, Contains, Bor, sym, ◌∙◌, ap, subst}
-use Rattle.std.specs.Prelude.{◌↔◌, IsTrue, is_some}
+use Rattle.std.proofs.Common.{◌≡◌, ◌≢◌, ◌&&◌, ◌||◌, ℕ, Bool, true, false, List, [], ◌∷◌, Option, Some, None, Contains, Bor, refl, sym, ◌∙◌, ap, subst, inl, inr, arith}
+use Rattle.std.specs.Prelude.{All, is_some, nat_eq, slice_get}
+use Rattle.std.specs.List.{list_any}
+use Rattle.std.specs.Bool.{Decides}
 use Rattle.std.specs.BTreeSet as set
 use Rattle.std.proofs.lemmas.Bool.{true≢false, false_from_ne_true}
-use Rattle.fb_types.specs.Names.{Name, Port, same_name}
+use Rattle.std.proofs.lemmas.Bool.Decides.{nat_tests}
+use Rattle.fb_types.specs.Names.{Name, Port, same_name, same_path}
 use Rattle.fb_types.specs.Blocks.{Kind, ports_of, outputs_with, event_names, variable_names}
 use Rattle.fb_types.specs.Flat.{port_in, resource_of, kind_at}
 use Rattle.fb_types.specs.Repeated.{NameTwice, Twice}
@@ -11,15 +14,22 @@ use Rattle.fb_types.specs.Unknown.{data_outs}
 use Rattle.fb_types.specs.Mapped.{IsCut, IsServed, NoEvent}
 use Rattle.fb_types.specs.declared.library.Library.{Library}
 use Rattle.fb_types.specs.declared.library.Connection.{Connection}
+use Rattle.fb_types.specs.declared.library.PortName.{PortName}
 use Rattle.fb_types.specs.declared.deploy.Plan.{Plan}
+use Rattle.fb_types.proofs.ByIndex.{element_of_index}
+use Rattle.fb_types.proofs.ListTests.{passes_at, passes_somewhere}
 use Rattle.fb_types.proofs.Positions.{is_some-position}
-use Rattle.fb_types.proofs.NameLaws.{contains_from_any}
+use Rattle.fb_types.proofs.NameLaws.{any_from_contains, contains_from_any}
+use Rattle.fb_types.proofs.PathLaws.{same_path_is, same_path_itself}
 use Rattle.fb_check_names.specs.Numbers.{IsNetwork}
 use Rattle.fb_check_names.specs.declared.numbers.NetworkNumbers.{NetworkNumbers}
+use Rattle.fb_findings.proofs.Listing.{all_each, all_unless, none_each, none_unless}
+use Rattle.fb_findings.proofs.Repeating.{same_Decides}
 use Rattle.fb_check_networks.specs.Mapping.{IsHolding, resource_in}
 use Rattle.fb_check_networks.specs.Links.{pair_of}
-use Rattle.fb_check_networks.specs.Serving.{Lead, lead_cmp, Serves, AreServed, HasUnserved, IsUnserved, listed_with, withs_of}
-use Rattle.fb_types.proofs.Elements.{Contains-map, map-Contains}
+use Rattle.fb_check_networks.specs.Serving.{Lead, lead_cmp, Serves, AreServed, listed_with, withs_of}
+use Rattle.fb_check_networks.specs.Unserved.{IsUnservedAt, begin_together, brings, carries, end_together, is_served, unserved_all, unserved_at}
+use Rattle.fb_types.proofs.Elements.{Contains-nil, Contains-cons_cases, Contains-map, map-Contains}
 use Rattle.fb_check_networks.specs.declared.mapping.Mapping.{Mapping}
 use Rattle.fb_check_networks.proofs.Carried.{IsLead, lead-is}
 use Rattle.fb_check_networks.proofs.Numbers.{data_known, known_port}
@@ -41,26 +51,6 @@ way-is :
     → lead_view (component, b, s) ≡ way_of plan c
 way-is plan m c component b s holds is =
     lead-is m c component b s is ∙ ap (with_resource (port_in [] c.from)) (resource-is plan m c.to holds)
-
-pub unserved_same :
-    (lib : Library) (plan : Plan) (m : Mapping) (c : Connection) (r s : ℕ) → IsHolding plan m → r ≡ resource_in m c.from → s ≡ resource_in m c.to → r ≡ s
-    → ¬ (IsUnserved lib plan c)
-unserved_same lib plan m c r s holds sends receives same un =
-    un.0 (sym (sends ∙ resource-is plan m c.from holds) ∙ same ∙ receives ∙ resource-is plan m c.to holds)
-
-pub unserved-is :
-    (lib : Library) (plan : Plan) (m : Mapping) (c : Connection) (served : set.BTreeSet Lead) (component : Option (Bor Name)) (b : Bor Name) (r s : ℕ) (found : Bool)
-    → IsHolding plan m → AreServed lib plan served → r ≡ resource_in m c.from → IsLead m c component b s → r ≢ s
-    → found ≡ set.contains lead_cmp served (component, b, s) → (IsTrue (not found) ↔ IsUnserved lib plan c)
-unserved-is lib plan m c served component b r s found holds are sends is apart found_is =
-    let S : Port × ℕ → Type 0 = λ y. Serves lib plan y.0 y.1 in
-    let way = way-is plan m c component b s holds is in (
-      λ h. (
-        λ same. apart (sends ∙ resource-is plan m c.from holds ∙ same ∙ sym (is.leads ∙ resource-is plan m c.to holds)),
-        λ serves. true≢false (sym h ∙ ap not (found_is ∙ (are.has (component, b, s)).1 (subst S (sym way) serves))),
-      ),
-      λ un. ap not (false_from_ne_true found (λ h. un.1 (subst S way ((are.has (component, b, s)).0 (sym found_is ∙ h))))),
-    )
 
 -- ---- What serves a data connection
 
@@ -119,30 +109,155 @@ serves_from lib plan c k is s =
       s.6,
     )
 
+-- ---- Tests
+
+and_both : (a b : Bool) → (a && b) ≡ true → (a ≡ true) × (b ≡ true)
+and_both true b h = (refl, h)
+and_both false b h = absurd (true≢false (sym h))
+
+or_true : (b : Bool) → (b || true) ≡ true
+or_true true = refl
+or_true false = refl
+
+pub Contains-any : {A : Type 0} (f : A → Bool) (xs : List A) (x : A) → Contains xs x → f x ≡ true → list_any f xs ≡ true
+Contains-any f [] x h e = absurd (Contains-nil x h)
+Contains-any f (y ∷ ys) x h e =
+    elim (Contains-cons_cases y ys x h) [
+      | inl same ↦ ap (λ b. b || list_any f ys) (ap f same ∙ e)
+      | inr rest ↦ ap (λ b. f y || b) (Contains-any f ys x rest e) ∙ or_true (f y)
+    ]
+
+-- ---- One event
+
+port_name : (q : PortName) → (port_in [] q).name ≡ q.port
+port_name q = elim q.component as (λ (o : Option Name). (elim o as (λ _. Port) [ None ↦ record { at = []; name = q.port } | Some c ↦ record { at = c ∷ []; name = q.port } ]).name ≡ q.port) [ None ↦ refl | Some c ↦ refl ]
+
+carried : (o : Option Kind) (e v : Name) → carries o e v ≡ true → (k : Kind) × (o ≡ Some k) × Contains (outputs_with (ports_of k) e) v
+carried None e v h = absurd (true≢false (sym h))
+carried (Some k) e v h = (k, refl, contains_from_any v (outputs_with (ports_of k) e) h)
+
+served_from_brings :
+    (lib : Library) (plan : Plan) (d e : Connection) → Contains lib.application.network.event_connections e → brings lib plan d e ≡ true
+    → IsServed lib plan (pair_of d)
+served_from_brings lib plan d e there h =
+    let both = and_both (begin_together e d) (carries (kind_at lib (port_in [] d.from).at) e.from.port d.from.port && end_together plan e d) h in
+    let more = and_both (carries (kind_at lib (port_in [] d.from).at) e.from.port d.from.port) (end_together plan e d) both.1 in
+    let k = carried (kind_at lib (port_in [] d.from).at) e.from.port d.from.port more.0 in
+    let to : resource_of plan (port_in [] e.to).at ≡ resource_of plan (port_in [] d.to).at = let t = more.1 in grind (arith, nat_tests, t) in
+    let names : Contains (outputs_with (ports_of k.0) (port_in [] e.from).name) (port_in [] d.from).name =
+    subst (λ (n : Name). Contains (outputs_with (ports_of k.0) n) (port_in [] d.from).name) (sym (port_name e.from))
+    (subst (λ (n : Name). Contains (outputs_with (ports_of k.0) e.from.port) n) (sym (port_name d.from)) k.2) in (
+      pair_of e,
+      k.0,
+      Contains-map pair_of lib.application.network.event_connections e there,
+      same_path_is (port_in [] e.from).at (port_in [] d.from).at both.0,
+      k.1,
+      names,
+      to,
+    )
+
+brings_from_served :
+    (lib : Library) (plan : Plan) (d : Connection) → IsServed lib plan (pair_of d) → list_any (brings lib plan d) lib.application.network.event_connections ≡ true
+brings_from_served lib plan d w =
+    let all = lib.application.network.event_connections in
+    let r = map-Contains pair_of all w.0 w.2 in
+    let e = r.0 in
+    let from : (port_in [] e.from).at ≡ (port_in [] d.from).at = ap (λ (p : Port × Port). p.0.at) r.2 ∙ w.3 in
+    let one : begin_together e d ≡ true = ap (λ p. same_path p (port_in [] d.from).at) from ∙ same_path_itself (port_in [] d.from).at in
+    let name : w.0.0.name ≡ e.from.port = sym (ap (λ (p : Port × Port). p.0.name) r.2) ∙ port_name e.from in
+    let listed : Contains (outputs_with (ports_of w.1) e.from.port) d.from.port =
+    subst (λ (n : Name). Contains (outputs_with (ports_of w.1) n) d.from.port) name
+    (subst (λ (n : Name). Contains (outputs_with (ports_of w.1) w.0.0.name) n) (port_name d.from) w.5) in
+    let two : carries (kind_at lib (port_in [] d.from).at) e.from.port d.from.port ≡ true =
+    ap (λ o. carries o e.from.port d.from.port) w.4 ∙ any_from_contains d.from.port (outputs_with (ports_of w.1) e.from.port) listed in
+    let to : resource_of plan (port_in [] e.to).at ≡ resource_of plan (port_in [] d.to).at =
+    ap (λ (p : Port × Port). resource_of plan p.1.at) r.2 ∙ w.6 in
+    let three : end_together plan e d ≡ true = grind (arith, nat_tests, to) in
+    let all_three : brings lib plan d e ≡ true = λ i. one i && (two i && three i) in
+    Contains-any (brings lib plan d) all e r.1 all_three
+
+-- ---- One data connection
+
+-- the result for a connection whose ends one resource holds
+pub served_same :
+    (lib : Library) (plan : Plan) (m : Mapping) (c : Connection) (r s : ℕ) → IsHolding plan m → r ≡ resource_in m c.from → s ≡ resource_in m c.to → r ≡ s
+    → true ≡ is_served lib plan c
+served_same lib plan m c r s holds sends receives same =
+    let from = resource_of plan (pair_of c).0.at in
+    let to = resource_of plan (pair_of c).1.at in
+    let one : from ≡ to = sym (sends ∙ resource-is plan m c.from holds) ∙ same ∙ receives ∙ resource-is plan m c.to holds in
+    let equal : nat_eq from to ≡ true = grind (arith, nat_tests, one) in
+    sym (ap (λ b. b || list_any (brings lib plan c) lib.application.network.event_connections) equal)
+
+-- an event brings the data exactly if one serves the connection
+any_brings : (lib : Library) (plan : Plan) (d : Connection) → Decides (list_any (brings lib plan d) lib.application.network.event_connections) (IsServed lib plan (pair_of d))
+any_brings lib plan d = (
+  λ h. let w = passes_somewhere (brings lib plan d) lib.application.network.event_connections h in served_from_brings lib plan d w.0 w.1 w.2,
+  brings_from_served lib plan d,
+)
+
+-- the result for a connection whose ends are in two resources
+pub served_is :
+    (lib : Library) (plan : Plan) (m : Mapping) (x : NetworkNumbers) (c : Connection) (served : set.BTreeSet Lead) (component : Option (Bor Name)) (b : Bor Name) (r s : ℕ) (found : Bool)
+    → ¬ (NameTwice lib plan) → IsHolding plan m → IsNetwork lib (None, lib.application.network) x → AreServed lib plan served
+    → Contains lib.application.network.data_connections c → r ≡ resource_in m c.from → IsLead m c component b s → r ≢ s
+    → found ≡ set.contains lead_cmp served (component, b, s) → found ≡ is_served lib plan c
+served_is lib plan m x c served component b r s found once holds network are there sends is apart found_is =
+    let sender = resource_of plan (pair_of c).0.at in
+    let receiver = resource_of plan (pair_of c).1.at in
+    let S : Port × ℕ → Type 0 = λ y. Serves lib plan y.0 y.1 in
+    let any = list_any (brings lib plan c) lib.application.network.event_connections in
+    let way = way-is plan m c component b s holds is in
+    let k = begun lib plan x c once network there in
+    let differ : nat_eq sender receiver ≡ false =
+    false_from_ne_true (nat_eq sender receiver) (λ h.
+    let one : sender ≡ receiver = grind (arith, nat_tests, h) in
+    apart (sends ∙ resource-is plan m c.from holds ∙ one ∙ sym (is.leads ∙ resource-is plan m c.to holds))) in
+    let decides : Decides (set.contains lead_cmp served (component, b, s)) (IsServed lib plan (pair_of c)) = (
+      λ h. served_from lib plan c k.0 k.1 (subst S way ((are.has (component, b, s)).0 h)),
+      λ w. (are.has (component, b, s)).1 (subst S (sym way) (serves_from lib plan c k.0 k.1 w)),
+    ) in
+    found_is ∙ same_Decides (set.contains lead_cmp served (component, b, s)) any (IsServed lib plan (pair_of c)) decides (any_brings lib plan c) ∙ sym (ap (λ b. b || any) differ)
+
 -- ---- All data connections
 
-pub no_event_from :
-    (lib : Library) (plan : Plan) (x : NetworkNumbers) → ¬ (NameTwice lib plan) → IsNetwork lib (None, lib.application.network) x
-    → HasUnserved lib plan lib.application.network.data_connections → NoEvent lib plan
-no_event_from lib plan x once network un =
-    let k = begun lib plan x un.0 once network un.1 in
-    (pair_of un.0, Contains-map pair_of lib.application.network.data_connections un.0 un.1, un.2.0, λ served. un.2.1 (serves_from lib plan un.0 k.0 k.1 served))
+unserved : (lib : Library) (plan : Plan) (d : Connection) → is_served lib plan d ≡ false → IsCut plan (pair_of d) × ¬ (IsServed lib plan (pair_of d))
+unserved lib plan d h =
+    let all = lib.application.network.event_connections in
+    let r = resource_of plan (port_in [] d.from).at in
+    let s = resource_of plan (port_in [] d.to).at in
+    elim (nat_eq r s) as (λ b. nat_eq r s ≡ b → (b || list_any (brings lib plan d) all) ≡ false → IsCut plan (pair_of d) × ¬ (IsServed lib plan (pair_of d))) [
+      | true ↦ λ e g. absurd (true≢false g)
+      | false ↦ λ e g. (
+        λ same. true≢false (sym (let at : nat_eq r s ≡ true = grind (arith, nat_tests, same) in at) ∙ e),
+        λ w. true≢false (sym (brings_from_served lib plan d w) ∙ g),
+      )
+    ] refl h
 
-pub no_event_to :
-    (lib : Library) (plan : Plan) (x : NetworkNumbers) → ¬ (NameTwice lib plan) → IsNetwork lib (None, lib.application.network) x
-    → NoEvent lib plan → HasUnserved lib plan lib.application.network.data_connections
-no_event_to lib plan x once network n =
-    let d = map-Contains pair_of lib.application.network.data_connections n.0 n.1 in
-    let k = begun lib plan x d.0 once network d.1 in
-    let C : Port × Port → Type 0 = λ e. IsCut plan e in
-    let S : Port × Port → Type 0 = λ e. ¬ (IsServed lib plan e) in
-    let unserved = subst S (sym d.2) n.3 in
-    (d.0, d.1, (subst C (sym d.2) n.2, λ serves. unserved (served_from lib plan d.0 k.0 k.1 serves)))
+served : (lib : Library) (plan : Plan) (d : Connection) → is_served lib plan d ≡ true → IsCut plan (pair_of d) → IsServed lib plan (pair_of d)
+served lib plan d h cut =
+    let all = lib.application.network.event_connections in
+    let r = resource_of plan (port_in [] d.from).at in
+    let s = resource_of plan (port_in [] d.to).at in
+    elim (nat_eq r s) as (λ b. nat_eq r s ≡ b → (b || list_any (brings lib plan d) all) ≡ true → IsServed lib plan (pair_of d)) [
+      | true ↦ λ e g. absurd (cut (let at : r ≡ s = grind (arith, nat_tests, e) in at))
+      | false ↦ λ e g. let w = passes_somewhere (brings lib plan d) all g in served_from_brings lib plan d w.0 w.1 w.2
+    ] refl h
 
--- the result for all data connections
-pub event_answer :
-    (lib : Library) (plan : Plan) (x : NetworkNumbers) (cs : List Connection) (b : Bool) → ¬ (NameTwice lib plan) → IsNetwork lib (None, lib.application.network) x
-    → cs ≡ lib.application.network.data_connections → (IsTrue b ↔ HasUnserved lib plan cs) → (IsTrue b ↔ NoEvent lib plan)
-event_answer lib plan x cs b once network all is =
-    let X : List Connection → Type 0 = λ cs. HasUnserved lib plan cs in
-    (λ h. no_event_from lib plan x once network (subst X all (is.0 h)), λ n. is.1 (subst X (sym all) (no_event_to lib plan x once network n)))
+pub each_unserved : (lib : Library) (plan : Plan) → All (IsUnservedAt lib plan) (unserved_all lib plan)
+each_unserved lib plan =
+    all_each (IsUnservedAt lib plan) (unserved_at lib plan) lib.application.network.data_connections
+    (λ k c at. all_unless (IsUnservedAt lib plan) (is_served lib plan c) k (λ e.
+    let u = unserved lib plan c e in record { at_index = c; found = at; cut = u.0; alone = u.1 }))
+
+pub none_unserved : (lib : Library) (plan : Plan) → unserved_all lib plan ≡ [] → ¬ (NoEvent lib plan)
+none_unserved lib plan h w =
+    let ds = lib.application.network.data_connections in
+    let r = map-Contains pair_of ds w.0 w.1 in
+    let all = none_each (unserved_at lib plan) (is_served lib plan) ds (λ k c e. none_unless (is_served lib plan c) k e) h in
+    w.3 (subst (λ (p : Port × Port). IsServed lib plan p) r.2
+    (served lib plan r.0 (passes_at (is_served lib plan) ds r.0 all r.1) (subst (λ (p : Port × Port). IsCut plan p) (sym r.2) w.2)))
+
+pub unserved_applies : (lib : Library) (plan : Plan) (k : ℕ) → IsUnservedAt lib plan k → NoEvent lib plan
+unserved_applies lib plan k h =
+    (pair_of h.at_index, Contains-map pair_of lib.application.network.data_connections h.at_index (element_of_index lib.application.network.data_connections k h.at_index h.found), h.cut, h.alone)

@@ -1,22 +1,110 @@
--- From which composite types a number of steps leads down, by number (IEC 61499-1, 5.3; the height is this project's
+-- Where composite types contain themselves, or are too high (E25; IEC 61499-1, 5.3; the height is this project's
 -- profile).
-use Rattle.std.specs.Prelude.{ℕ, zero, suc, List, map, Bool, false, Option, Some, None, slice_get, unwrap_or, is_some}
-use Rattle.std.specs.List.{list_any}
+use Rattle.std.specs.Prelude.{◌≡◌, ℕ, zero, suc, List, map, Bool, false, Option, Some, None, is_some, option_and_then, position, slice_get, unwrap_or}
+use Rattle.fb_types.specs.Blocks.{Composite}
+use Rattle.fb_types.specs.Flat.{type_named}
+use Rattle.fb_types.specs.Joined.{Descends}
+use Rattle.fb_types.specs.declared.library.BlockType.TheVariants as block
+use Rattle.fb_types.specs.declared.library.CompositeType.{CompositeType}
+use Rattle.fb_types.specs.declared.library.Instance.{Instance}
+use Rattle.fb_types.specs.declared.library.Library.{Library}
 use Rattle.fb_check_names.specs.declared.numbers.TypeNumber.{TypeNumber}
 use Rattle.fb_check_names.specs.declared.numbers.TypeNumber.TheVariants as number
 use Rattle.fb_check_names.specs.declared.numbers.NetworkNumbers.{NetworkNumbers}
+use Rattle.fb_findings.specs.declared.location.Descent.{Descent}
+use Rattle.fb_findings.specs.declared.location.Descent.TheVariants.{Circle, Height}
+
+-- ---- Marks, one for each block type
 
 -- whether a type is marked; event blocks never are
 abbrev pub is_marked : List Bool → TypeNumber → Bool
 is_marked marks (number.Event k) = false
 is_marked marks (number.Declared t) = unwrap_or (slice_get marks t) false
 
+-- the first component that is of a marked type
+abbrev pub marked_in : List Bool → Option NetworkNumbers → Option ℕ
+marked_in marks None = None
+marked_in marks (Some x) = position (is_marked marks) x.types
+
 -- whether a composite type contains a marked one
 abbrev pub holds_marked : List Bool → Option NetworkNumbers → Bool
-holds_marked marks None = false
-holds_marked marks (Some x) = list_any (is_marked marks) x.types
+holds_marked marks o = is_some (marked_in marks o)
 
 -- the marks after these rounds; at first all composite types are marked
 abbrev pub marks_after : ℕ → List (Option NetworkNumbers) → List Bool
 marks_after zero xs = map is_some xs
 marks_after (suc n) xs = map (holds_marked (marks_after n xs)) xs
+
+-- ---- Ways down, by number
+
+-- the index of the type, if it is declared
+abbrev pub declared_index : Option TypeNumber → Option ℕ
+declared_index None = None
+declared_index (Some (number.Event k)) = None
+declared_index (Some (number.Declared j)) = Some j
+
+abbrev pub type_inside : Option NetworkNumbers → (component : ℕ) → Option ℕ
+type_inside None i = None
+type_inside (Some x) i = declared_index (slice_get x.types i)
+
+-- the index of the type of the first component that is of a marked type
+abbrev pub below : List (Option NetworkNumbers) → List Bool → ℕ → Option ℕ
+below xs marks k = option_and_then (λ o. option_and_then (type_inside o) (marked_in marks o)) (slice_get xs k)
+
+-- The composite type at the one index has a component of the type at the other.
+pub record IsPart (xs : List (Option NetworkNumbers)) (j k : ℕ) : Type 0 where
+  pub numbers : NetworkNumbers
+  pub holder : slice_get xs j ≡ Some (Some numbers)
+  pub component : ℕ
+  pub of_type : slice_get numbers.types component ≡ Some (number.Declared k)
+
+-- a number of steps down
+abbrev pub Steps : List (Option NetworkNumbers) → (steps : ℕ) → (from to : ℕ) → Type 0
+Steps xs zero j k = j ≡ k
+Steps xs (suc n) j k = (m : ℕ) × IsPart xs j m × Steps xs n m k
+
+abbrev pub LeadsTo : List (Option NetworkNumbers) → (from to : ℕ) → Type 0
+LeadsTo xs j k = (n : ℕ) × Steps xs n j k
+
+-- The type of the component leads to the one at the index.
+pub record LeadsBack (xs : List (Option NetworkNumbers)) (k : ℕ) (o : Option NetworkNumbers) (i : ℕ) : Type 0 where
+  pub through : ℕ
+  pub inside : type_inside o i ≡ Some through
+  pub leads : LeadsTo xs through k
+
+abbrev pub HoldsNone : List Bool → Option NetworkNumbers → Type 0
+HoldsNone marks o = marked_in marks o ≡ None
+
+-- the type at the index has a component of a marked type
+abbrev pub IsHolder : List (Option NetworkNumbers) → List Bool → ℕ × ℕ → Type 0
+IsHolder xs marks r = (o : Option NetworkNumbers) × (slice_get xs r.0 ≡ Some o) × (marked_in marks o ≡ Some r.1)
+
+-- the type at the index leads to itself through the first component of a marked type
+abbrev pub IsRound : List (Option NetworkNumbers) → List Bool → ℕ × ℕ → Type 0
+IsRound xs marks r = (o : Option NetworkNumbers) × (slice_get xs r.0 ≡ Some o) × (marked_in marks o ≡ Some r.1) × LeadsBack xs r.0 o r.1
+
+abbrev pub IsDescent : List (Option NetworkNumbers) → List Bool → Descent → Type 0
+IsDescent xs marks (Circle k i) = IsRound xs marks (k, i)
+IsDescent xs marks (Height k i) = IsHolder xs marks (k, i)
+
+-- ---- Locations
+
+-- the composite type, at the index, has an instance of the second, at the other index
+pub record IsHeld (lib : Library) (k i : ℕ) (t u : CompositeType) : Type 0 where
+  pub holder : slice_get lib.blocks k ≡ Some (block.Composite t)
+  pub instance : Instance
+  pub at_index : slice_get t.network.instances i ≡ Some instance
+  pub of_type : type_named lib instance.block_type ≡ Some (Composite u)
+
+-- some steps lead from the one to the other
+abbrev pub Returns : Library → (u t : CompositeType) → Type 0
+Returns lib u t = (n : ℕ) × Descends lib n u t
+
+-- 15 steps lead down
+abbrev pub GoesDeep : Library → CompositeType → Type 0
+GoesDeep lib u = (v : CompositeType) × Descends lib 15 u v
+
+-- Through the instance the composite type leads to itself, or 16 steps down.
+abbrev pub IsTooHighAt : Library → Descent → Type 0
+IsTooHighAt lib (Circle k i) = (t : CompositeType) × (u : CompositeType) × IsHeld lib k i t u × Returns lib u t
+IsTooHighAt lib (Height k i) = (t : CompositeType) × (u : CompositeType) × IsHeld lib k i t u × GoesDeep lib u

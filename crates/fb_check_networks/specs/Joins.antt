@@ -1,16 +1,12 @@
 -- Data connections that lead out of a range, by number (IEC 61499-1, 5.3; the range of types is this project's profile).
 use Rattle.std.specs.Prelude.{List, Bool, false, not, Option, Some, None}
-use Rattle.std.specs.List.{list_any}
-use Rattle.fb_types.specs.Repeated.{OwnedNetwork}
 use Rattle.fb_types.specs.declared.value.Ty.{Ty}
 use Rattle.fb_types.specs.declared.library.Library.{Library}
 use Rattle.fb_types.specs.declared.library.Ports.{Ports}
 use Rattle.fb_check_names.specs.declared.numbers.TypeNumber.{TypeNumber}
 use Rattle.fb_check_names.specs.declared.numbers.NumberedConnection.{NumberedConnection}
-use Rattle.fb_check_names.specs.declared.numbers.NetworkNumbers.{NetworkNumbers}
 use Rattle.fb_check_networks.specs.Ranges.{is_within}
 use Rattle.fb_check_networks.specs.Variables.{source_type, target_type}
-use Rattle.fb_check_networks.specs.Networks.{boundary}
 
 -- to a type that does not contain all values of the source type
 abbrev pub is_out : Option Ty → Option Ty → Bool
@@ -20,6 +16,3 @@ is_out None o = false
 
 abbrev pub leads_out : Library → Option Ports → List TypeNumber → NumberedConnection → Bool
 leads_out lib around types w = is_out (source_type lib around types w.from) (target_type lib around types w.to)
-
-abbrev pub leads_out_in : Library → OwnedNetwork → NetworkNumbers → Bool
-leads_out_in lib n x = list_any (leads_out lib (boundary n) x.types) x.data_wires

@@ -1,52 +1,53 @@
 -- What a mapping of the application's instances to resources says (IEC 61499-1, 7.2; one resource for each instance is this project's profile).
-use Rattle.std.specs.Prelude.{◌≡◌, ◌++◌, ℕ, Bool, true, false, List, Option, Some, None, map, option_map, unwrap_or, position, flat_map}
+use Rattle.std.specs.Prelude.{◌≡◌, ℕ, List, Option, Some, None, is_some, map, slice_get, unwrap_or}
 use Rattle.std.specs.BTreeMap.{BTreeMap}
 use Rattle.std.specs.Borrow.{Bor}
-use Rattle.fb_types.specs.Names.{Name}
-use Rattle.fb_types.specs.Blocks.{among, named}
+use Rattle.fb_types.specs.Names.{Name, same_name}
 use Rattle.fb_types.specs.Flat.{holder}
-use Rattle.fb_types.specs.Repeated.{Twice}
 use Rattle.fb_types.specs.Mapped.{NotMapped}
+use Rattle.fb_types.specs.declared.library.Instance.{Instance}
 use Rattle.fb_types.specs.declared.library.Library.{Library}
 use Rattle.fb_types.specs.declared.library.PortName.{PortName}
 use Rattle.fb_types.specs.declared.deploy.Plan.{Plan}
 use Rattle.fb_types.specs.declared.deploy.ResourceEntry.{ResourceEntry}
 use Rattle.fb_check_names.specs.Indexes.{index_in}
+use Rattle.fb_findings.specs.Listed.{unless}
+use Rattle.fb_findings.specs.Repeats.{last_place}
+use Rattle.fb_findings.specs.declared.location.Unmapped.{Unmapped}
+use Rattle.fb_findings.specs.declared.location.Unmapped.TheVariants.{Unlisted}
+use Rattle.fb_check_networks.specs.declared.mapping.Listed.{Listed}
 use Rattle.fb_check_networks.specs.declared.mapping.Mapping.{Mapping}
-use Rattle.fb_check_networks.specs.declared.mapping.Mapping.TheVariants.{All, Listed}
+use Rattle.fb_check_networks.specs.declared.mapping.Mapping.TheVariants as mapping
 
--- ---- Names with the numbers of the resources that list them
+-- ---- Names that are listed
 
-abbrev pub at_number : ℕ → List Name → List (Name × ℕ)
-at_number k ns = map (λ n. (n, k)) ns
+-- the map has the last place of each name
+abbrev pub ArePlaces : List Name → BTreeMap (Bor Name) ℕ → Type 0
+ArePlaces ns m = (n : Name) → index_in m n ≡ last_place (same_name n) ns
 
-abbrev pub names_of : List (Name × ℕ) → List Name
-names_of ps = map (λ p. p.0) ps
+-- the number of a resource, as often as it lists a name
+abbrev pub owners_in : ℕ → ResourceEntry → List ℕ
+owners_in k r = map (λ n. k) r.instances
 
-abbrev pub number_in : List (Name × ℕ) → Name → Option ℕ
-number_in ps n = option_map (λ p. p.1) (named (λ p. p.0) n ps)
-
--- The map has these names with their numbers, and no name twice.
-pub record IsHeld (ps : List (Name × ℕ)) (m : BTreeMap (Bor Name) ℕ) : Type 0 where
-  pub once : ¬ (Twice (names_of ps))
-  pub index : (n : Name) → index_in m n ≡ number_in ps n
-
--- The map has the names of a resource after those of before, or one name is there twice.
-pub record AreListed (names : List Name) (number : ℕ) (old new : BTreeMap (Bor Name) ℕ) (all_new : Bool) : Type 0 where
-  pub held : (ps : List (Name × ℕ)) → IsHeld ps old → all_new ≡ true → IsHeld (ps ++ at_number number names) new
-  pub twice : (ps : List (Name × ℕ)) → IsHeld ps old → all_new ≡ false → Twice (names_of ps ++ names)
+-- an instance that has no place
+abbrev pub unlisted_by : BTreeMap (Bor Name) ℕ → ℕ → Instance → List Unmapped
+unlisted_by m k i = unless (is_some (index_in m i.name)) (Unlisted k)
 
 -- ---- The mapping
 
--- No name is listed twice, and the map gives the first resource that lists a name.
-pub record IsListing (resources : List ResourceEntry) (m : BTreeMap (Bor Name) ℕ) : Type 0 where
-  pub once : ¬ (Twice (flat_map (λ r. r.instances) resources))
-  pub index : (n : Name) → index_in m n ≡ position (λ r. among r.instances n) resources
+-- what is at a place
+abbrev pub owned : List ℕ → Option ℕ → Option ℕ
+owned owners None = None
+owned owners (Some place) = slice_get owners place
+
+-- the resource that lists a name
+abbrev pub owner_of : Listed → Name → ℕ
+owner_of l n = unwrap_or (owned l.owners.items (index_in l.places n)) 0
 
 -- the resource that a mapping gives
 abbrev pub holder_in : Mapping → Name → ℕ
-holder_in All n = 0
-holder_in (Listed m) n = unwrap_or (index_in m n) 0
+holder_in mapping.All n = 0
+holder_in (mapping.Listed l) n = owner_of l n
 
 -- the resource that a mapping gives for an end of a connection
 abbrev pub resource_in : Mapping → PortName → ℕ

@@ -11,14 +11,12 @@ use Rattle.std.specs.declared.cmp.Ordering.{Ordering}
 use Rattle.fb_types.specs.Names.{Name, Path, Port}
 use Rattle.fb_types.specs.Blocks.{named, ports_of}
 use Rattle.fb_types.specs.Flat.{kind_at, resource_of}
-use Rattle.fb_types.specs.Mapped.{event_pairs_of, IsCut}
+use Rattle.fb_types.specs.Mapped.{event_pairs_of}
 use Rattle.fb_types.specs.declared.library.Library.{Library}
 use Rattle.fb_types.specs.declared.library.EventPort.{EventPort}
-use Rattle.fb_types.specs.declared.library.Connection.{Connection}
 use Rattle.fb_types.specs.declared.deploy.Plan.{Plan}
 use Rattle.fb_check_names.specs.Numbers.{kind_of_number}
 use Rattle.fb_check_names.specs.declared.numbers.NetworkNumbers.{NetworkNumbers}
-use Rattle.fb_check_networks.specs.Links.{pair_of}
 
 -- ---- Variables WITH output events
 
@@ -72,10 +70,3 @@ pub record AreServed (lib : Library) (plan : Plan) (served : BTreeSet Lead) : Ty
 pub record IsExtended (component : Option (Bor Name)) (names : List Name) (resource : ℕ) (old new : BTreeSet Lead) : Type 0 where
   pub has : (k : Lead)
       → Decides (contains lead_cmp new k) (IsTrue (contains lead_cmp old k) ⊎ ((path_of component ≡ (lead_port k).at) × Contains names (lead_port k).name × (resource ≡ k.2)))
-
--- The ends of a data connection are in two resources, and no event serves the second.
-abbrev pub IsUnserved : Library → Plan → Connection → Type 0
-IsUnserved lib plan c = IsCut plan (pair_of c) × ¬ (Serves lib plan (pair_of c).0 (resource_of plan (pair_of c).1.at))
-
-abbrev pub HasUnserved : Library → Plan → List Connection → Type 0
-HasUnserved lib plan cs = (c : Connection) × Contains cs c × IsUnserved lib plan c

@@ -1,17 +1,37 @@
--- Where data connections lead (IEC 61499-1, 5.3).
-use Rattle.std.specs.Prelude.{List, [], map}
-use Rattle.fb_types.specs.Names.{Port}
-use Rattle.fb_types.specs.Flat.{pairs_in}
-use Rattle.fb_types.specs.Repeated.{Twice}
-use Rattle.fb_types.specs.declared.library.BlockType.{BlockType}
-use Rattle.fb_types.specs.declared.library.BlockType.TheVariants as block
+-- Where two data connections lead to one port (E24; IEC 61499-1, 5.3).
+use Rattle.std.specs.Prelude.{◌≡◌, ℕ, List, [], map, Some}
+use Rattle.fb_types.specs.Names.{Port, same_port}
+use Rattle.fb_types.specs.Flat.{port_in}
+use Rattle.fb_types.specs.Repeated.{OwnedNetwork}
 use Rattle.fb_types.specs.declared.library.Connection.{Connection}
+use Rattle.fb_types.specs.declared.library.Library.{Library}
+use Rattle.fb_findings.specs.Repeats.{IsPair, repeats}
+use Rattle.fb_findings.specs.Sites.{in_networks, network_at}
+use Rattle.fb_findings.specs.declared.location.Joined.{Joined}
+use Rattle.fb_findings.specs.declared.location.Site.{Site}
 
--- the ports to which connections lead
+-- the port to which a connection leads
+abbrev pub target : Connection → Port
+target c = port_in [] c.to
+
 abbrev pub targets : List Connection → List Port
-targets cs = map (λ c. c.1) (pairs_in [] cs)
+targets cs = map target cs
 
--- Two data connections inside a block type lead to one port.
-abbrev pub TwiceInside : BlockType → Type 0
-TwiceInside (block.Basic t) = ⊥
-TwiceInside (block.Composite t) = Twice (targets t.network.data_connections)
+-- The two data connections of the network lead to one port.
+abbrev pub IsJoinedAt : Library → Joined → Type 0
+IsJoinedAt lib j = (n : OwnedNetwork) × (network_at lib j.site ≡ Some n) × IsPair (targets n.1.data_connections) j.connections
+
+-- ---- All, in the order of the declaration
+
+abbrev pub joined_at : Site → ℕ × ℕ → Joined
+joined_at s r = record { site = s; connections = r }
+
+-- the data connections that lead to the port of one before
+abbrev pub joined_among : Site → List Connection → List Joined
+joined_among s cs = map (joined_at s) (repeats same_port (targets cs))
+
+abbrev pub joined_in : Site → OwnedNetwork → List Joined
+joined_in s n = joined_among s n.1.data_connections
+
+abbrev pub joined_all : Library → List Joined
+joined_all lib = in_networks joined_in lib

@@ -1,18 +1,20 @@
 //! E25: composite types that contain themselves, or have a height over 16.
 
-ghost use Rattle.std.specs.Prelude.{◌≡◌, ◌↔◌, map, is_some, IfOk, IsTrue};
-ghost use Rattle.std.specs.List.{list_any};
+ghost use Rattle.std.specs.Prelude.{◌≡◌, ⊤, All, IfOk, IsTrue, MatchOption, is_some, map, position};
 ghost use Rattle.fb_types.specs.Joined.{TooHigh};
 ghost use Rattle.fb_types.specs.declared.deploy.Plan.{Plan};
 ghost use Rattle.fb_types.specs.declared.library.Library.{Library};
 ghost use Rattle.fb_check_names.specs.Numbers.{IsResolved};
 ghost use Rattle.fb_check_networks.specs.Heights as spec;
+ghost use Rattle.fb_check_networks.specs.Heights.{IsTooHighAt};
 
 use fb_check_names::{NetworkNumbers, Resolved, TypeNumber};
+use fb_findings::Descent;
 use std::alloc::{AllocError, Global};
 
-/// The greatest height of a composite type. One that contains no composite type has height 1.
-const MOST: usize = 16;
+/// The number of steps below a component's type from which its holder is too high. A composite type that contains no
+/// composite type has height 1, and the greatest height is 16.
+const MOST_STEPS: usize = 15;
 
 fn is_marked(marks: &[bool], number: TypeNumber) -> bool
     ensures { result ≡ spec.is_marked marks.now number }
@@ -23,25 +25,25 @@ fn is_marked(marks: &[bool], number: TypeNumber) -> bool
     }
 }
 
-/// Whether one of these types is marked.
-fn is_one_marked(marks: &[bool], types: &[TypeNumber]) -> bool
-    ensures { result ≡ list_any (spec.is_marked marks.now) types.now }
+/// The first of these types that is marked.
+fn marked_among(marks: &[bool], types: &[TypeNumber]) -> Option<usize>
+    ensures { result ≡ position (spec.is_marked marks.now) types.now }
 {
-    for number in types {
+    for (component, number) in types.iter().enumerate() {
         if is_marked(marks, *number) {
-            return true;
+            return Some(component);
         }
     }
-    false
+    None
 }
 
-/// Whether a composite type has a component of a type that is marked.
-fn holds_marked(marks: &[bool], numbers: &Option<NetworkNumbers>) -> bool
-    ensures { result ≡ spec.holds_marked marks.now numbers.now }
+/// The first component of a composite type that is of a marked type.
+fn marked_in(marks: &[bool], numbers: &Option<NetworkNumbers>) -> Option<usize>
+    ensures { result ≡ spec.marked_in marks.now numbers.now }
 {
     match numbers {
-        Some(network) => is_one_marked(marks, network.types.as_slice()),
-        None => false,
+        Some(network) => marked_among(marks, network.types.as_slice()),
+        None => None,
     }
 }
 
@@ -66,7 +68,7 @@ fn mark_again(
 {
     let mut again = Vec::new(alloc);
     for numbers in blocks {
-        again.push(holds_marked(marks, numbers))?;
+        again.push(marked_in(marks, numbers).is_some())?;
     }
     Ok(again)
 }
@@ -87,22 +89,111 @@ fn marks_after(
     Ok(marks)
 }
 
-fn has_mark(marks: &[bool]) -> bool
-    ensures { result ≡ list_any (λ b. b) marks.now }
+/// The first composite type with a component of a marked type, and this component.
+fn first_holder(blocks: &[Option<NetworkNumbers>], marks: &[bool]) -> Option<(usize, usize)>
+    ensures { MatchOption result (All (spec.HoldsNone marks.now) blocks.now) (spec.IsHolder blocks.now marks.now) }
 {
-    for mark in marks {
-        if *mark {
+    for (block, numbers) in blocks.iter().enumerate() {
+        if let Some(component) = marked_in(marks, numbers) {
+            return Some((block, component));
+        }
+    }
+    None
+}
+
+/// The index of the type of a component, if it is declared.
+fn type_inside(numbers: &Option<NetworkNumbers>, component: usize) -> Option<usize>
+    ensures { result ≡ spec.type_inside numbers.now component }
+{
+    match numbers {
+        Some(network) => match network.types.get(component)? {
+            TypeNumber::Event(_) => None,
+            TypeNumber::Declared(block) => Some(*block),
+        },
+        None => None,
+    }
+}
+
+/// The index of the type of the first component that is of a marked type.
+fn below(blocks: &[Option<NetworkNumbers>], marks: &[bool], block: usize) -> Option<usize>
+    ensures { result ≡ spec.below blocks.now marks.now block }
+{
+    let numbers = blocks.get(block)?;
+    let component = marked_in(marks, numbers)?;
+    type_inside(numbers, component)
+}
+
+/// Whether steps to first marked components lead from the one block type down to the other. A circle is not found if it is
+/// longer than the steps that are tried, or if such a step leaves it: its types are reported as too high.
+#[tactic(auto, using(crate::proofs::Circles::leads_itself))]
+fn leads_to(blocks: &[Option<NetworkNumbers>], marks: &[bool], from: usize, to: usize) -> bool
+    ensures { IsTrue result → spec.LeadsTo blocks.now from to }
+{
+    let mut block = from;
+    for _step in 0..MOST_STEPS {
+        if block == to {
             return true;
+        }
+        match below(blocks, marks, block) {
+            Some(next) => block = next,
+            None => return false,
         }
     }
     false
 }
 
-/// Whether a composite type contains itself at any depth, or has a height over 16, in a declaration with these numbers.
-/// From one that contains itself, any number of steps leads down.
-pub fn is_too_high(alloc: Global, numbers: &Resolved) -> Result<bool, AllocError>
-    ensures { IfOk result (λ b. (library : Library) (plan : Plan) → IsResolved library plan numbers.now → (IsTrue b ↔ TooHigh library)) }
+/// Whether the type of a component of the block type leads back to this type.
+fn leads_back(
+    blocks: &[Option<NetworkNumbers>],
+    marks: &[bool],
+    block: usize,
+    numbers: &Option<NetworkNumbers>,
+    component: usize,
+) -> bool
+    ensures { IsTrue result → spec.LeadsBack blocks.now block numbers.now component }
 {
-    let marks = marks_after(alloc, numbers.blocks.as_slice(), MOST)?;
-    Ok(has_mark(&marks))
+    match type_inside(numbers, component) {
+        Some(inside) => leads_to(blocks, marks, inside, block),
+        None => false,
+    }
+}
+
+/// A composite type that contains itself, with the component through which it does, if one is found.
+fn first_circle(blocks: &[Option<NetworkNumbers>], marks: &[bool]) -> Option<(usize, usize)>
+    ensures { MatchOption result ⊤ (spec.IsRound blocks.now marks.now) }
+{
+    for (block, numbers) in blocks.iter().enumerate() {
+        if let Some(component) = marked_in(marks, numbers) {
+            if leads_back(blocks, marks, block, numbers, component) {
+                return Some((block, component));
+            }
+        }
+    }
+    None
+}
+
+fn descent_by(blocks: &[Option<NetworkNumbers>], marks: &[bool]) -> Option<Descent>
+    ensures { MatchOption result (All (spec.HoldsNone marks.now) blocks.now) (spec.IsDescent blocks.now marks.now) }
+{
+    if let Some((block, component)) = first_circle(blocks, marks) {
+        return Some(Descent::Circle(block, component));
+    }
+    match first_holder(blocks, marks) {
+        Some((block, component)) => Some(Descent::Height(block, component)),
+        None => None,
+    }
+}
+
+/// A composite type that contains itself at any depth or has a height over 16, in a declaration with these numbers, with
+/// the component through which it does, if there is one. From one that contains itself, any number of steps leads down.
+///
+/// # Errors
+///
+/// When memory runs out.
+pub fn too_high_location(alloc: Global, numbers: &Resolved) -> Result<Option<Descent>, AllocError>
+    ensures { IfOk result (λ o. (library : Library) (plan : Plan) → IsResolved library plan numbers.now → MatchOption o (¬ (TooHigh library)) (IsTooHighAt library)) }
+{
+    let blocks = numbers.blocks.as_slice();
+    let marks = marks_after(alloc, blocks, MOST_STEPS)?;
+    Ok(descent_by(blocks, &marks))
 }

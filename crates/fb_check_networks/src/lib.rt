@@ -2,20 +2,23 @@
 //! (E23), sources of data (E24), heights of composite types (E25), instances and connections that a deployment does not
 //! map to resources and links (E26 to E28), and the number of instances (E30).
 //!
-//! Guarantees to callers: a function for each says whether it applies, and for E26 returns the mapping, or `None` exactly
-//! if it applies. Heights and numbers of instances are computed in rounds over types, so no instance is made to refuse a
-//! declaration. `values::is_within` says which types contain all values of another.
+//! Guarantees to callers: for E23, E24, E27 and E28 a function lists all locations at which it applies, in the order of the
+//! declaration; the list is empty exactly if it does not apply. So does that of E26, which also returns the mapping; that of
+//! E25 finds one location if there is one. For the others a function says whether it applies. Heights and numbers of
+//! instances are computed in rounds over types, so no instance is made to refuse a declaration. `values::is_within` says which types contain all values of another.
 //!
 //! Read in this order: `variables` and `values`, types by number; `parameters`, `ranges`, `sources`, `heights`, `counts`.
-//! Then `mapping` (E26); `links` (E27); `interfaces`, `serving` and `uncarried` (E28).
+//! Then `places` and `mapping` (E26); `links` (E27); `interfaces`, `serving` and `uncarried` (E28); `laws`.
 #![tactic(auto)]
 
 pub mod counts;
 pub mod heights;
 mod interfaces;
+pub mod laws;
 pub mod links;
 pub mod mapping;
 pub mod parameters;
+pub mod places;
 pub mod ranges;
 mod serving;
 pub mod sources;
@@ -24,11 +27,12 @@ pub mod values;
 mod variables;
 
 pub use counts::has_too_many_instances;
-pub use heights::is_too_high;
-pub use links::lacks_link;
-pub use mapping::{Listing, Mapping, holders_of, mapping_of, resource_of};
+pub use heights::too_high_location;
+pub use links::unlinked_locations;
+pub use mapping::{Listed, Mapping, holders_of, mapping_of, resource_of};
 pub use parameters::has_wrong_parameter;
-pub use ranges::leads_out_of_range;
-pub use sources::has_two_sources;
-pub use uncarried::lacks_event;
+pub use places::last_places;
+pub use ranges::misjoin_locations;
+pub use sources::joined_locations;
+pub use uncarried::unserved_locations;
 pub use values::is_within;

@@ -1,12 +1,14 @@
 //! E27: connections between two resources that have no link.
 
-ghost use Rattle.std.specs.Prelude.{◌≡◌, ◌↔◌, [], IfOk, IsTrue, OnOk};
-ghost use Rattle.fb_types.specs.Flat.{name_of_resource, port_in};
+ghost use Rattle.std.specs.Prelude.{◌≡◌, ◌++◌, [], All, IfOk, OnOk};
+ghost use Rattle.fb_types.specs.Flat.{name_of_resource};
 ghost use Rattle.fb_types.specs.Mapped.{NoLink};
 ghost use Rattle.fb_check_networks.specs.Mapping.{IsMapping, IsHolding};
-ghost use Rattle.fb_check_networks.specs.Links.{AreWays, IsUnlinked, HasUnlinked};
+ghost use Rattle.fb_findings.specs.Listed.{each_at};
+ghost use Rattle.fb_check_networks.specs.Links.{AreWays, IsUnlinkedAt, is_linked, unlinked_all, unlinked_at};
 
 use crate::mapping::{Mapping, resource_of};
+use fb_findings::{FlowKind, Unlinked, push_unless};
 use fb_types::{Connection, Library, Link, Plan};
 use std::alloc::{AllocError, Global};
 use std::collections::BTreeSet;
@@ -35,8 +37,8 @@ fn name_of(plan: &Plan, resource: usize) -> &[u8]
     }
 }
 
-/// Whether a connection goes from one resource to another with no link for it.
-fn is_unlinked<'a>(
+/// Whether one resource holds both ends of a connection, or there is a link for it.
+fn is_linked<'a>(
     plan: &'a Plan,
     mapping: &Mapping,
     ways: &BTreeSet<Way<'a>, Global>,
@@ -44,51 +46,73 @@ fn is_unlinked<'a>(
 ) -> bool
     requires mapping { IsHolding plan.now mapping.now }
     requires ways { AreWays plan.now.links ways.now }
-    ensures { IsTrue result ↔ IsUnlinked plan.now connection.now }
+    ensures { result ≡ is_linked plan.now connection.now }
 {
     let from = resource_of(mapping, &connection.from);
     let to = resource_of(mapping, &connection.to);
     if from == to {
-        return false;
+        return true;
     }
-    !ways.contains(&(name_of(plan, from), name_of(plan, to)))
+    ways.contains(&(name_of(plan, from), name_of(plan, to)))
 }
 
-/// Whether one of the connections goes from one resource to another with no link for it.
-fn has_unlinked<'a>(
+/// Adds those of these connections, which carry the same, that go from one resource to another with no link for it.
+fn push_unlinked<'a>(
+    found: &mut Vec<Unlinked>,
     plan: &'a Plan,
     mapping: &Mapping,
     ways: &BTreeSet<Way<'a>, Global>,
+    flow: FlowKind,
     connections: &[Connection],
-) -> bool
+) -> Result<(), AllocError>
     requires mapping { IsHolding plan.now mapping.now }
     requires ways { AreWays plan.now.links ways.now }
-    ensures { IsTrue result ↔ HasUnlinked plan.now connections.now }
+    ensures { IfOk result (λ _. found.new.items ≡ found.old.items ++ each_at (unlinked_at plan.now flow) connections.now) }
 {
-    for connection in connections {
-        if is_unlinked(plan, mapping, ways, connection) {
-            return true;
-        }
+    for (connection, declared) in connections.iter().enumerate() {
+        let is_linked = is_linked(plan, mapping, ways, declared);
+        push_unless(found, is_linked, Unlinked { flow, connection })?;
     }
-    false
+    Ok(())
 }
 
-/// Whether a connection of the application, of events or of data, goes from one resource to another with no link from
-/// the one to the other (E27).
-pub fn lacks_link(
+/// The list of all such connections.
+fn all_unlinked(
     alloc: Global,
     library: &Library,
     plan: &Plan,
     mapping: &Mapping,
-) -> Result<bool, AllocError>
+) -> Result<Vec<Unlinked>, AllocError>
     requires { IsMapping library.now plan.now mapping.now }
-    ensures { IfOk result (λ b. IsTrue b ↔ NoLink library.now plan.now) }
+    ensures { IfOk result (λ found. found.items ≡ unlinked_all library.now plan.now) }
 {
     let mut ways = BTreeSet::new(alloc);
     add_ways(&mut ways, plan.links.as_slice())?;
     let network = &library.application.network;
-    if has_unlinked(plan, mapping, &ways, network.event_connections.as_slice()) {
-        return Ok(true);
-    }
-    Ok(has_unlinked(plan, mapping, &ways, network.data_connections.as_slice()))
+    let mut found = Vec::new(alloc);
+    let events = network.event_connections.as_slice();
+    push_unlinked(&mut found, plan, mapping, &ways, FlowKind::Events, events)?;
+    let data = network.data_connections.as_slice();
+    push_unlinked(&mut found, plan, mapping, &ways, FlowKind::Data, data)?;
+    Ok(found)
+}
+
+/// All connections of the application, of events or of data, that go from one resource to another with no link from the
+/// one to the other (E27), in the order of the declaration.
+///
+/// # Errors
+///
+/// When memory runs out.
+pub fn unlinked_locations(
+    alloc: Global,
+    library: &Library,
+    plan: &Plan,
+    mapping: &Mapping,
+) -> Result<Vec<Unlinked>, AllocError>
+    requires { IsMapping library.now plan.now mapping.now }
+    ensures listed { IfOk result (λ found. found.items ≡ unlinked_all library.now plan.now) }
+    ensures each { IfOk result (λ found. All (IsUnlinkedAt library.now plan.now) found.items) }
+    ensures none { IfOk result (λ found. found.items ≡ [] → ¬ (NoLink library.now plan.now)) }
+{
+    all_unlinked(alloc, library, plan, mapping)
 }

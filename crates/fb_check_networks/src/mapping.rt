@@ -1,18 +1,27 @@
 //! E26: instances of the application that are not mapped, and names that are mapped twice.
 
-ghost use Rattle.std.specs.Prelude.{◌≡◌, [], IfOk, IsTrue, MatchOption, false, flat_map, is_some, map, true};
-ghost use Rattle.std.specs.List.{list_all};
-ghost use Rattle.fb_types.specs.Repeated.{NameTwice, Twice};
-ghost use Rattle.fb_types.specs.Mapped.{NotMapped};
-ghost use Rattle.fb_check_names.specs.Indexes.{index_in};
-ghost use Rattle.fb_check_networks.specs.Mapping.{AreListed, IsHeld, IsListing, IsMapping, holder_in, resource_in};
+ghost use Rattle.std.specs.Prelude.{◌≡◌, ◌++◌, [], IfOk, flat_map, map, true};
+ghost use Rattle.fb_types.specs.Repeated.{NameTwice};
+ghost use Rattle.fb_check_names.specs.Indexes.{names_in};
+ghost use Rattle.fb_findings.specs.Listed.{each_at};
+ghost use Rattle.fb_findings.specs.declared.location.Unmapped.TheVariants.{Again};
+ghost use Rattle.fb_check_networks.specs.Mapping.{ArePlaces, IsMapping, holder_in, owner_of, owners_in, resource_in, unlisted_by};
+ghost use Rattle.fb_check_networks.specs.Unmapped.{unmapped_all, unmapped_among};
 
+use crate::places::last_places;
+use fb_check_names::{Indexes, index_of, push_names};
+use fb_findings::{Repeat, Unmapped, push_unless};
 use fb_types::{Instance, Items, Library, Name, Plan, PortName, ResourceEntry};
 use std::alloc::{AllocError, Global};
-use std::collections::BTreeMap;
 
-/// The resource that lists each name, by its index from 0.
-pub type Listing<'a> = BTreeMap<&'a [u8], usize, Global>;
+/// The resource that lists each name.
+#[derive(Drop)]
+pub struct Listed<'a> {
+    /// The last place of each listed name, in the lists of all resources, one after another.
+    places: Indexes<'a>,
+    /// The resource that lists the name at each place, by its index from 0.
+    owners: Vec<usize>,
+}
 
 /// Which resource holds each instance of the application.
 #[derive(Drop)]
@@ -20,74 +29,121 @@ pub enum Mapping<'a> {
     /// The one resource holds all.
     All,
     /// Each is held by the resource that lists it.
-    Listed(Listing<'a>),
+    Listed(Listed<'a>),
 }
 
-/// Adds the names that a resource lists, and returns whether none was listed before.
-fn list_names<'a>(
-    listing: &mut Listing<'a>,
-    names: &'a [Name],
-    number: usize,
-) -> Result<bool, AllocError>
-    ensures { IfOk result (AreListed names.now number listing.old listing.new) }
-{
-    for name in names {
-        if listing.insert(name.as_bytes(), number)?.is_some() {
-            return Ok(false);
-        }
-    }
-    Ok(true)
-}
-
-/// Adds the names that each resource lists to an empty listing, and returns whether no name is listed twice.
-fn list_all<'a>(
-    listing: &mut Listing<'a>,
+/// The names that the resources list, one list after another.
+fn listed_names<'a>(
+    alloc: Global,
     resources: &'a [ResourceEntry],
-) -> Result<bool, AllocError>
-    requires { IsHeld [] listing.old }
-    ensures once { IfOk result (λ b. IsTrue b → IsListing resources.now listing.new) }
-    ensures twice { IfOk result (λ b. b ≡ false → Twice (flat_map (λ r. r.instances) resources.now)) }
+) -> Result<Vec<&'a Name>, AllocError>
+    ensures { IfOk result (λ v. names_in v.items ≡ flat_map (λ r. r.instances) resources.now) }
 {
+    let mut names = Vec::new(alloc);
+    for resource in resources {
+        push_names(&mut names, resource.instances.as_slice())?;
+    }
+    Ok(names)
+}
+
+/// Adds the number of a resource as often as it lists a name.
+fn push_owner(owners: &mut Vec<usize>, number: usize, names: &[Name]) -> Result<(), AllocError>
+    ensures { IfOk result (λ _. owners.new.items ≡ owners.old.items ++ map (λ n. number) names.now) }
+{
+    for _name in names {
+        owners.push(number)?;
+    }
+    Ok(())
+}
+
+/// The number of the resource that lists each of the names.
+fn owners_of(alloc: Global, resources: &[ResourceEntry]) -> Result<Vec<usize>, AllocError>
+    ensures { IfOk result (λ v. v.items ≡ each_at owners_in resources.now) }
+{
+    let mut owners = Vec::new(alloc);
     for (number, resource) in resources.iter().enumerate() {
-        if !list_names(listing, resource.instances.as_slice(), number)? {
-            return Ok(false);
-        }
+        push_owner(&mut owners, number, resource.instances.as_slice())?;
     }
-    Ok(true)
+    Ok(owners)
 }
 
-/// Whether each instance is listed.
-fn lists_each(listing: &Listing, instances: &[Instance]) -> bool
-    ensures { result ≡ list_all (λ i. is_some (index_in listing.now i.name)) instances.now }
+/// Adds the instances that have no place.
+fn push_unlisted(
+    found: &mut Vec<Unmapped>,
+    places: &Indexes,
+    instances: &[Instance],
+) -> Result<(), AllocError>
+    ensures { IfOk result (λ _. found.new.items ≡ found.old.items ++ each_at (unlisted_by places.now) instances.now) }
 {
-    for instance in instances {
-        if !listing.contains_key(instance.name.as_bytes()) {
-            return false;
-        }
+    for (instance, declared) in instances.iter().enumerate() {
+        let is_listed = places.contains_key(declared.name.as_bytes());
+        push_unless(found, is_listed, Unmapped::Unlisted(instance))?;
     }
-    true
+    Ok(())
 }
 
-/// Which resource holds each instance of the application, or `None` if one is not mapped or a name is mapped twice.
+/// Adds the names that are listed before.
+fn push_again(found: &mut Vec<Unmapped>, pairs: &[Repeat]) -> Result<(), AllocError>
+    ensures { IfOk result (λ _. found.new.items ≡ found.old.items ++ map (λ r. Again r) pairs.now) }
+{
+    for pair in pairs {
+        found.push(Unmapped::Again(*pair))?;
+    }
+    Ok(())
+}
+
+/// The resource that lists each name. Adds all instances that none lists, and all names that are listed before.
+fn list_all<'a>(
+    alloc: Global,
+    found: &mut Vec<Unmapped>,
+    instances: &[Instance],
+    resources: &'a [ResourceEntry],
+) -> Result<Listed<'a>, AllocError>
+    ensures found { IfOk result (λ _. found.new.items ≡ found.old.items ++ unmapped_among (flat_map (λ r. r.instances) resources.now) instances.now) }
+    ensures places { IfOk result (λ l. ArePlaces (flat_map (λ r. r.instances) resources.now) l.places) }
+    ensures owners { IfOk result (λ l. l.owners.items ≡ each_at owners_in resources.now) }
+{
+    let names = listed_names(alloc, resources)?;
+    let mut again = Vec::new(alloc);
+    let places = last_places(alloc, &mut again, names.as_slice())?;
+    push_unlisted(found, &places, instances)?;
+    push_again(found, again.as_slice())?;
+    let owners = owners_of(alloc, resources)?;
+    Ok(Listed { places, owners })
+}
+
+/// Which resource holds each instance of the application, if each is mapped to one. Adds all that are not (E26): the
+/// instances that no resource lists, and the names that are listed before.
+///
+/// # Errors
+///
+/// When memory runs out.
 pub fn mapping_of<'a>(
     alloc: Global,
+    found: &mut Vec<Unmapped>,
     library: &Library,
     plan: &'a Plan,
-) -> Result<Option<Mapping<'a>>, AllocError>
+) -> Result<Mapping<'a>, AllocError>
     requires once { plan.now.holds_all ≡ true → ¬ (NameTwice library.now plan.now) }
-    ensures { IfOk result (λ o. MatchOption o (NotMapped library.now plan.now) (IsMapping library.now plan.now)) }
+    ensures found { IfOk result (λ _. found.new.items ≡ found.old.items ++ unmapped_all library.now plan.now) }
+    ensures mapping { IfOk result (λ m. unmapped_all library.now plan.now ≡ [] → IsMapping library.now plan.now m) }
 {
     if plan.holds_all {
-        return Ok(Some(Mapping::All));
+        return Ok(Mapping::All);
     }
-    let mut listing = BTreeMap::new(alloc);
-    if !list_all(&mut listing, plan.resources.as_slice())? {
-        return Ok(None);
+    let instances = library.application.network.instances.as_slice();
+    let listed = list_all(alloc, found, instances, plan.resources.as_slice())?;
+    Ok(Mapping::Listed(listed))
+}
+
+/// The index of the resource that lists a name. A name that is not listed gives 0.
+fn owner(listed: &Listed, name: &[u8]) -> usize
+    ensures { result ≡ owner_of listed.now name.now }
+{
+    match index_of(&listed.places, name) {
+        Some(place) => listed.owners.as_slice().get(place).copied().unwrap_or(0),
+        None => 0,
     }
-    if !lists_each(&listing, library.application.network.instances.as_slice()) {
-        return Ok(None);
-    }
-    Ok(Some(Mapping::Listed(listing)))
 }
 
 /// The index of the resource that holds an instance of the application. A name that is not mapped gives 0.
@@ -96,7 +152,7 @@ fn holder(mapping: &Mapping, name: &[u8]) -> usize
 {
     match mapping {
         Mapping::All => 0,
-        Mapping::Listed(listing) => listing.get(name).copied().unwrap_or(0),
+        Mapping::Listed(listed) => owner(listed, name),
     }
 }
 

@@ -1,60 +1,112 @@
 //! E24: ports to which two data connections lead.
 
-ghost use Rattle.std.specs.Prelude.{◌≡◌, ◌↔◌, [], Contains, IfOk, IsTrue};
+ghost use Rattle.std.specs.Prelude.{◌≡◌, ◌++◌, [], All, IfOk, map};
 ghost use Rattle.fb_types.specs.Joined.{TwoSources};
-ghost use Rattle.fb_types.specs.Repeated.{Twice};
-ghost use Rattle.fb_types.specs.declared.library.BlockType.{BlockType};
-ghost use Rattle.fb_check_networks.specs.Sources.{TwiceInside, targets};
+ghost use Rattle.fb_types.specs.Names.{same_port};
+ghost use Rattle.fb_findings.specs.Listed.{each_at};
+ghost use Rattle.fb_findings.specs.Repeats.{repeats};
+ghost use Rattle.fb_findings.specs.Sites.{inside_of};
+ghost use Rattle.fb_check_networks.specs.Sources.{IsJoinedAt, joined_all, joined_among, joined_at, joined_in, targets};
 
 use fb_check_names::{EndNames, end_names};
+use fb_findings::{Joined, Repeat, Site, push_pair};
 use fb_types::{BlockType, Connection, Library};
 use std::alloc::{AllocError, Global};
-use std::collections::BTreeSet;
+use std::collections::BTreeMap;
 
-/// Whether two connections lead to one port.
-fn has_target_twice(alloc: Global, connections: &[Connection]) -> Result<bool, AllocError>
-    ensures { IfOk result (λ b. IsTrue b ↔ Twice (targets connections.now)) }
+/// Each connection that leads to the port of one before, with the index of the nearest such connection.
+fn target_pairs(alloc: Global, connections: &[Connection]) -> Result<Vec<Repeat>, AllocError>
+    ensures { IfOk result (λ pairs. pairs.items ≡ repeats same_port (targets connections.now)) }
 {
-    let mut seen: BTreeSet<EndNames, Global> = BTreeSet::new(alloc);
-    for connection in connections {
-        if !seen.insert(end_names(&connection.to))? {
-            return Ok(true);
-        }
+    let mut seen: BTreeMap<EndNames, usize, Global> = BTreeMap::new(alloc);
+    let mut pairs = Vec::new(alloc);
+    for (second, connection) in connections.iter().enumerate() {
+        let first = seen.insert(end_names(&connection.to), second)?;
+        push_pair(&mut pairs, first, second)?;
     }
-    Ok(false)
+    Ok(pairs)
 }
 
-/// Whether two data connections inside a block type lead to one port.
-fn has_target_twice_inside(alloc: Global, block: &BlockType) -> Result<bool, AllocError>
-    ensures { IfOk result (λ b. IsTrue b ↔ TwiceInside block.now) }
+/// Adds pairs of data connections of a network.
+fn push_pairs(found: &mut Vec<Joined>, site: Site, pairs: &[Repeat]) -> Result<(), AllocError>
+    ensures { IfOk result (λ _. found.new.items ≡ found.old.items ++ map (joined_at site) pairs.now) }
 {
-    match block {
-        BlockType::Basic(_) => Ok(false),
-        BlockType::Composite(composite) => {
-            has_target_twice(alloc, composite.network.data_connections.as_slice())
-        }
+    for pair in pairs {
+        found.push(Joined {
+            site,
+            connections: *pair,
+        })?;
+    }
+    Ok(())
+}
+
+/// Adds the data connections of a network that lead to the port of one before.
+fn push_in_network(
+    alloc: Global,
+    found: &mut Vec<Joined>,
+    site: Site,
+    connections: &[Connection],
+) -> Result<(), AllocError>
+    ensures { IfOk result (λ _. found.new.items ≡ found.old.items ++ joined_among site connections.now) }
+{
+    let pairs = target_pairs(alloc, connections)?;
+    push_pairs(found, site, pairs.as_slice())
+}
+
+/// The same for the network inside a block type, if there is one.
+fn push_inside(
+    alloc: Global,
+    found: &mut Vec<Joined>,
+    block: usize,
+    declared: &BlockType,
+) -> Result<(), AllocError>
+    ensures { IfOk result (λ _. found.new.items ≡ found.old.items ++ inside_of joined_in block declared.now) }
+{
+    match declared {
+        BlockType::Basic(_) => Ok(()),
+        BlockType::Composite(composite) => push_in_network(
+            alloc,
+            found,
+            Site::Inside(block),
+            composite.network.data_connections.as_slice(),
+        ),
     }
 }
 
-/// Whether two data connections inside one of the block types lead to one port.
-fn has_target_twice_in_some(alloc: Global, blocks: &[BlockType]) -> Result<bool, AllocError>
-    ensures { IfOk result (λ b. IsTrue b ↔ ((t : BlockType) × Contains blocks.now t × TwiceInside t)) }
+/// The same for all block types.
+fn push_in_blocks(
+    alloc: Global,
+    found: &mut Vec<Joined>,
+    blocks: &[BlockType],
+) -> Result<(), AllocError>
+    ensures { IfOk result (λ _. found.new.items ≡ found.old.items ++ each_at (inside_of joined_in) blocks.now) }
 {
-    for block in blocks {
-        if has_target_twice_inside(alloc, block)? {
-            return Ok(true);
-        }
+    for (block, declared) in blocks.iter().enumerate() {
+        push_inside(alloc, found, block, declared)?;
     }
-    Ok(false)
+    Ok(())
 }
 
-/// Whether two data connections of a network lead to one port.
-pub fn has_two_sources(alloc: Global, library: &Library) -> Result<bool, AllocError>
-    ensures { IfOk result (λ b. IsTrue b ↔ TwoSources library.now) }
+/// The list of all such data connections.
+fn all_joined(alloc: Global, library: &Library) -> Result<Vec<Joined>, AllocError>
+    ensures { IfOk result (λ found. found.items ≡ joined_all library.now) }
 {
-    let application = library.application.network.data_connections.as_slice();
-    if has_target_twice(alloc, application)? {
-        return Ok(true);
-    }
-    has_target_twice_in_some(alloc, library.blocks.as_slice())
+    let mut found = Vec::new(alloc);
+    push_in_blocks(alloc, &mut found, library.blocks.as_slice())?;
+    let connections = library.application.network.data_connections.as_slice();
+    push_in_network(alloc, &mut found, Site::Application, connections)?;
+    Ok(found)
+}
+
+/// All data connections that lead to the port of one before, in the order of the declaration.
+///
+/// # Errors
+///
+/// When memory runs out.
+pub fn joined_locations(alloc: Global, library: &Library) -> Result<Vec<Joined>, AllocError>
+    ensures listed { IfOk result (λ found. found.items ≡ joined_all library.now) }
+    ensures each { IfOk result (λ found. All (IsJoinedAt library.now) found.items) }
+    ensures none { IfOk result (λ found. found.items ≡ [] → ¬ (TwoSources library.now)) }
+{
+    all_joined(alloc, library)
 }

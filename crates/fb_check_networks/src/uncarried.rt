@@ -1,83 +1,116 @@
 //! E28: data connections between two resources that no event serves.
 
-ghost use Rattle.std.specs.Prelude.{◌≡◌, ◌↔◌, IfOk, IsTrue};
+ghost use Rattle.std.specs.Prelude.{◌≡◌, ◌++◌, [], All, None, Contains, IfOk};
 ghost use Rattle.fb_types.specs.Repeated.{NameTwice};
 ghost use Rattle.fb_types.specs.Mapped.{NoEvent};
-ghost use Rattle.fb_check_names.specs.Numbers.{IsResolved};
+ghost use Rattle.fb_check_names.specs.Numbers.{IsNetwork, IsResolved};
+ghost use Rattle.fb_findings.specs.Listed.{each_at};
 ghost use Rattle.fb_check_networks.specs.Mapping.{IsMapping, IsHolding};
-ghost use Rattle.fb_check_networks.specs.Serving.{AreServed, HasUnserved, IsUnserved};
+ghost use Rattle.fb_check_networks.specs.Serving.{AreServed};
+ghost use Rattle.fb_check_networks.specs.Unserved.{IsUnservedAt, is_served, unserved_all, unserved_at};
 
 use crate::mapping::{Mapping, resource_of};
 use crate::serving::{Leads, component_of, served_by};
-use fb_check_names::Resolved;
+use fb_check_names::{NetworkNumbers, Resolved};
+use fb_findings::push_unless;
 use fb_types::{Connection, Library, Plan, all_ports};
 use std::alloc::{AllocError, Global};
 
-/// Whether a data connection goes from one resource to another, and no event serves it.
-fn is_unserved<'a>(
+/// Whether one resource holds both ends of a data connection of the application, or an event serves it.
+fn is_served<'a>(
     library: &Library,
     plan: &Plan,
     mapping: &Mapping,
+    numbers: &NetworkNumbers,
     served: &Leads<'a>,
     connection: &'a Connection,
 ) -> bool
+    requires once { ¬ (NameTwice library.now plan.now) }
     requires mapping { IsHolding plan.now mapping.now }
+    requires numbers { IsNetwork library.now (None, library.now.application.network) numbers.now }
     requires served { AreServed library.now plan.now served.now }
-    ensures { IsTrue result ↔ IsUnserved library.now plan.now connection.now }
+    requires there { Contains library.now.application.network.data_connections connection.now }
+    ensures { result ≡ is_served library.now plan.now connection.now }
 {
     let from = resource_of(mapping, &connection.from);
     let to = resource_of(mapping, &connection.to);
     if from == to {
-        return false;
+        return true;
     }
     let component = component_of(&connection.from);
     let variable = connection.from.port.as_bytes();
-    !served.contains(&(component, variable, to))
+    served.contains(&(component, variable, to))
 }
 
-/// Whether one of the data connections goes from one resource to another, and no event serves it.
-fn has_unserved<'a>(
-    library: &Library,
+/// The list of all data connections that no event serves, from what is served.
+fn unserved_by<'a>(
+    alloc: Global,
+    library: &'a Library,
     plan: &Plan,
     mapping: &Mapping,
+    numbers: &NetworkNumbers,
     served: &Leads<'a>,
-    connections: &'a [Connection],
-) -> bool
+) -> Result<Vec<usize>, AllocError>
+    requires once { ¬ (NameTwice library.now plan.now) }
     requires mapping { IsHolding plan.now mapping.now }
+    requires numbers { IsNetwork library.now (None, library.now.application.network) numbers.now }
     requires served { AreServed library.now plan.now served.now }
-    ensures { IsTrue result ↔ HasUnserved library.now plan.now connections.now }
+    ensures { IfOk result (λ found. found.items ≡ unserved_all library.now plan.now) }
 {
-    for connection in connections {
-        if is_unserved(library, plan, mapping, served, connection) {
-            return true;
-        }
+    let mut found = Vec::new(alloc);
+    let connections = library.application.network.data_connections.as_slice();
+    for (connection, declared) in connections.iter().enumerate() {
+        let is_served = is_served(library, plan, mapping, numbers, served, declared);
+        push_unless(&mut found, is_served, connection)?;
     }
-    false
+    Ok(found)
 }
 
-/// Whether a data connection of the application goes from one resource to another, and no output event WITH its
-/// variable goes from the same instance to that resource (E28).
-pub fn lacks_event(
+/// The list of all data connections that no event serves.
+fn all_unserved(
     alloc: Global,
     library: &Library,
     plan: &Plan,
     mapping: &Mapping,
     resolved: &Resolved,
-) -> Result<bool, AllocError>
+) -> Result<Vec<usize>, AllocError>
     requires once { ¬ (NameTwice library.now plan.now) }
     requires mapping { IsMapping library.now plan.now mapping.now }
     requires resolved { IsResolved library.now plan.now resolved.now }
-    ensures { IfOk result (λ b. IsTrue b ↔ NoEvent library.now plan.now) }
+    ensures { IfOk result (λ found. found.items ≡ unserved_all library.now plan.now) }
 {
     let interfaces = all_ports(alloc)?;
+    let numbers = &resolved.application;
     let served = served_by(
         alloc,
         library,
         interfaces.as_slice(),
         plan,
         mapping,
-        &resolved.application,
+        numbers,
     )?;
-    let connections = library.application.network.data_connections.as_slice();
-    Ok(has_unserved(library, plan, mapping, &served, connections))
+    unserved_by(alloc, library, plan, mapping, numbers, &served)
+}
+
+/// The indices of all data connections of the application that go from one resource to another, and no output event WITH
+/// the variable goes from the same instance to that resource (E28), in the order of the declaration.
+///
+/// # Errors
+///
+/// When memory runs out.
+pub fn unserved_locations(
+    alloc: Global,
+    library: &Library,
+    plan: &Plan,
+    mapping: &Mapping,
+    resolved: &Resolved,
+) -> Result<Vec<usize>, AllocError>
+    requires once { ¬ (NameTwice library.now plan.now) }
+    requires mapping { IsMapping library.now plan.now mapping.now }
+    requires resolved { IsResolved library.now plan.now resolved.now }
+    ensures listed { IfOk result (λ found. found.items ≡ unserved_all library.now plan.now) }
+    ensures each { IfOk result (λ found. All (IsUnservedAt library.now plan.now) found.items) }
+    ensures none { IfOk result (λ found. found.items ≡ [] → ¬ (NoEvent library.now plan.now)) }
+{
+    all_unserved(alloc, library, plan, mapping, resolved)
 }

@@ -16,8 +16,8 @@ use crate::reads::push_unsampled_in_guards;
 use crate::uses::{assigned, mentions_of, push_unassigned_events, push_unmentioned};
 use crate::warning::Warning;
 use fb_check_names::PortKind;
+use fb_findings::Site;
 use fb_types::{BasicType, BlockType, CompositeType, Library, Plan, Stimulus};
-use fb_why_kinds::Site;
 use fb_why_kinds::lookup::BlockTypes;
 use std::alloc::{AllocError, Global};
 

@@ -5,8 +5,8 @@ ghost use Rattle.fb_lint.specs.Positions as spec;
 
 use crate::warning::Warning;
 use fb_check_names::PortKind;
+use fb_findings::Site;
 use fb_read_positions::{BasicPart, NetworkPart, PortPart, Position, TransitionPart};
-use fb_why_kinds::Site;
 
 /// The name of a port.
 fn port_of(port_kind: PortKind, port: usize) -> PortPart

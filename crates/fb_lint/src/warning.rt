@@ -4,7 +4,7 @@ ghost use Rattle.std.specs.Prelude.{◌≡◌};
 ghost use Rattle.fb_lint.specs.Numbers.{number_of};
 
 use fb_check_names::PortKind;
-use fb_why_kinds::Site;
+use fb_findings::Site;
 
 /// What is accepted and probably not meant, with its place. Items of lists are counted from 0, in the order of the text;
 /// `block` is the index of a block type.

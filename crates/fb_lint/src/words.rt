@@ -2,12 +2,13 @@
 
 use crate::warning::Warning;
 use fb_check_names::PortKind;
+use fb_findings::Site;
 use fb_types::{EventPort, Library, Plan, Variable};
+use fb_why_kinds::Text;
 use fb_why_kinds::lookup::BlockTypes;
 use fb_why_kinds::site_messages::{
     instance_of, push_basic, push_block, push_instance, push_site, push_transition,
 };
-use fb_why_kinds::{Site, Text};
 use std::alloc::{AllocError, Global};
 
 /// Says what a warning is about, and why it is given.

@@ -14,12 +14,13 @@ use Rattle.fb_types.specs.declared.library.Variable.{Variable}
 use Rattle.fb_types.specs.declared.deploy.Plan.{Plan}
 use Rattle.fb_types.proofs.NameLaws.{same_name-Decides}
 use Rattle.fb_check_names.specs.GivenTwice.{BlockTwice, NetworkTwice, PortTwice, names_of_ports}
-use Rattle.fb_why_kinds.specs.Listed.{each_at}
-use Rattle.fb_why_kinds.specs.declared.location.Direction.TheVariants.{Input, Output}
-use Rattle.fb_why_kinds.specs.declared.location.Site.{Site}
-use Rattle.fb_why_kinds.specs.declared.location.Site.TheVariants as site
-use Rattle.fb_why_kinds.proofs.Listing.{all_each, all_unless, none_each, none_each_of, none_left, none_right, none_unless}
-use Rattle.fb_why.specs.Pairs.{IsPair, repeats, same_ends, same_sides}
+use Rattle.fb_findings.specs.Listed.{each_at}
+use Rattle.fb_findings.specs.declared.location.Direction.TheVariants.{Input, Output}
+use Rattle.fb_findings.specs.declared.location.Site.{Site}
+use Rattle.fb_findings.specs.declared.location.Site.TheVariants as site
+use Rattle.fb_findings.proofs.Listing.{all_each, all_unless, none_each, none_each_of, none_left, none_right, none_unless}
+use Rattle.fb_findings.specs.Repeats.{IsPair, repeats}
+use Rattle.fb_why.specs.Pairs.{same_ends, same_sides}
 use Rattle.fb_why.specs.Repeats.{event_block_at, given_in, given_in_network, names_twice, parameters_twice, twice_all, twice_by, twice_in_block, twice_in_library, twice_in_network, twice_in_ports, with_twice}
 use Rattle.fb_why.specs.Twice.{IsTwiceAt, IsTwiceInNetwork, IsTwiceInPorts, is_own_name, parameter_names}
 use Rattle.fb_why.specs.declared.twice.GivenTwice.{GivenTwice}
@@ -31,7 +32,8 @@ use Rattle.fb_why.specs.declared.twice.InNetwork.TheVariants as network
 use Rattle.fb_why.specs.declared.twice.NameSpace.{NameSpace}
 use Rattle.fb_why.specs.declared.twice.NameSpace.TheVariants as space
 use Rattle.fb_why.proofs.Once.{IsBlockOnce, IsInstanceOnce, IsWithOnce, all_once, basic_once, basic_ports, composite_once, composite_ports, network_once, ports_once}
-use Rattle.fb_why.proofs.Repeating.{each_pair, ends_Decides, once_of, sides_Decides}
+use Rattle.fb_findings.proofs.Repeating.{each_pair, once_of}
+use Rattle.fb_why.proofs.Repeating.{ends_Decides, sides_Decides}
 
 -- ---- Each is given twice
 

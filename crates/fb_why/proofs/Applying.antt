@@ -1,57 +1,34 @@
 -- From what holds at a location to the condition of its number.
-use Rattle.std.proofs.Common.{◌≡◌, ℕ, zero, suc, ◌<◌, Bool, true, false, not, List, [], ◌∷◌, ◌++◌, map, Some, None, Contains, refl, sym, ◌∙◌, subst, inl, inr, arith}
-use Rattle.std.specs.Prelude.{flat_map, is_some, slice_get}
+use Rattle.std.proofs.Common.{◌≡◌, ℕ, Bool, true, false, not, List, [], ◌++◌, map, Contains, refl, sym, ◌∙◌, inl, inr}
+use Rattle.std.specs.Prelude.{is_some}
 use Rattle.std.proofs.lemmas.Bool.{true≢false}
 use Rattle.std.proofs.lemmas.List.Elements.{Contains-append_left, Contains-append_right}
 use Rattle.fb_types.specs.Names.{Port}
 use Rattle.fb_types.specs.Blocks.{event_block_named, event_blocks}
-use Rattle.fb_types.specs.Flat.{pairs_in, resource_names_of, type_name}
-use Rattle.fb_types.specs.Joined.{Holds, TwoSources}
-use Rattle.fb_types.specs.Mapped.{data_pairs_of, event_pairs_of, mapped}
-use Rattle.fb_types.specs.Repeated.{OwnedNetwork, Twice, algorithm_names, event_pairs, instance_names, link_pairs, networks_in, state_names}
+use Rattle.fb_types.specs.Flat.{resource_names_of, type_name}
+use Rattle.fb_types.specs.Repeated.{Twice, algorithm_names, event_pairs, instance_names, link_pairs, state_names}
 use Rattle.fb_types.specs.declared.library.BlockType.{BlockType}
 use Rattle.fb_types.specs.declared.library.BlockType.TheVariants as block
-use Rattle.fb_types.specs.declared.library.CompositeType.{CompositeType}
 use Rattle.fb_types.specs.declared.library.Connection.{Connection}
 use Rattle.fb_types.specs.declared.library.EventPort.{EventPort}
-use Rattle.fb_types.specs.declared.library.Library.{Library}
 use Rattle.fb_types.specs.declared.library.Network.{Network}
 use Rattle.fb_types.specs.declared.library.Ports.{Ports}
 use Rattle.fb_types.specs.declared.library.Variable.{Variable}
 use Rattle.fb_check_names.specs.GivenTwice.{BlockTwice, NetworkTwice, PortTwice, TypeTwice, names_of_ports}
 use Rattle.fb_types.proofs.NameLaws.{contains_from_any}
-use Rattle.fb_types.proofs.Elements.{Contains-here, Contains-there, Contains-flat_map, Contains-map}
+use Rattle.fb_types.proofs.Elements.{Contains-map}
 use Rattle.fb_types.proofs.ByIndex.{element_of_index}
 use Rattle.fb_check_names.proofs.NameTwice.{block_twice, network_twice, plan_twice, types_twice}
-use Rattle.fb_why.specs.Heights.{IsHeld}
-use Rattle.fb_why.specs.Applies.{HeightApplies, JoinedApplies, TwiceApplies, UnlinkedApplies, UnmappedApplies, UnservedApplies}
-use Rattle.fb_why.specs.Pairs.{IsPair}
-use Rattle.fb_why.specs.Sources.{IsJoinedInside, targets}
+use Rattle.fb_why.specs.Applies.{TwiceApplies}
 use Rattle.fb_why.specs.Twice.{IsEventBlock, IsTwiceInBlock, IsTwiceInNetwork, IsTwiceInPorts, parameter_names}
-use Rattle.fb_why.specs.declared.heights.Descent.TheVariants.{Circle, Height}
-use Rattle.fb_why.specs.declared.sources.Joined.TheVariants as joined
 use Rattle.fb_why.specs.declared.twice.GivenTwice.TheVariants as given
 use Rattle.fb_why.specs.declared.twice.InBlock.{InBlock}
 use Rattle.fb_why.specs.declared.twice.InBlock.TheVariants as part
 use Rattle.fb_why.specs.declared.twice.InNetwork.{InNetwork}
 use Rattle.fb_why.specs.declared.twice.InNetwork.TheVariants as network
-use Rattle.fb_why.specs.declared.unlinked.Unlinked.TheVariants as unlinked
 use Rattle.fb_types.proofs.TwiceLaws.{Twice-append_right, Twice-both}
-use Rattle.fb_why.specs.declared.unmapped.Unmapped.TheVariants.{Unlisted, Again}
+use Rattle.fb_findings.proofs.Repeating.{pair_twice}
 use Rattle.fb_why.proofs.Once.{event_type_names, is_some-named}
-use Rattle.fb_why.proofs.Parted.{targets_are}
-
--- ---- What is there twice
-
-at_both : {A : Type 0} (xs : List A) (i j : ℕ) (x : A) → i < j → slice_get xs i ≡ Some x → slice_get xs j ≡ Some x → Twice xs
-at_both [] i j x less h g = absurd (cc)
-at_both (y ∷ ys) zero zero x less h g = absurd (omega arith)
-at_both {A} (y ∷ ys) zero (suc j) x less h g = let e : y ≡ x = cc in inl (subst (λ (z : A). Contains ys z) (sym e) (element_of_index ys j x g))
-at_both (y ∷ ys) (suc i) zero x less h g = absurd (omega arith)
-at_both (y ∷ ys) (suc i) (suc j) x less h g = inr (at_both ys i j x (omega arith) h g)
-
-pair_twice : {A : Type 0} (xs : List A) (r : ℕ × ℕ) → IsPair xs r → Twice xs
-pair_twice xs r p = at_both xs r.0 r.1 p.what p.in_order p.first p.again
 
 -- ---- E20
 
@@ -108,49 +85,3 @@ twice_applies lib plan (given.Block k b) h = block_twice lib plan h.0 (element_o
 twice_applies lib plan (given.Application n) h = network_twice lib plan (network_pair lib.application.network n h)
 twice_applies lib plan (given.Resource r) h = plan_twice lib plan (inl (pair_twice (resource_names_of plan) r h))
 twice_applies lib plan (given.Link r) h = plan_twice lib plan (inr (pair_twice (link_pairs plan) r h))
-
--- ---- E24
-
-targets_twice : (cs : List Connection) (r : ℕ × ℕ) → IsPair (targets cs) r → Twice (map (λ c. c.1) (pairs_in [] cs))
-targets_twice cs r p = subst (λ (ps : List Port). Twice ps) (sym (targets_are cs)) (pair_twice (targets cs) r p)
-
-inside_applies : (lib : Library) (t : BlockType) (k : ℕ) (r : ℕ × ℕ) → slice_get lib.blocks k ≡ Some t → IsJoinedInside t r → TwoSources lib
-inside_applies lib (block.Basic t) k r at h = absurd h
-inside_applies lib (block.Composite t) k r at h =
-    let top : OwnedNetwork = (None, lib.application.network) in
-    let n : OwnedNetwork = (Some t, t.network) in
-    let inside : Contains (flat_map networks_in lib.blocks) n =
-    Contains-flat_map networks_in lib.blocks (block.Composite t) n (element_of_index lib.blocks k (block.Composite t) at) (Contains-here n []) in
-    (n, Contains-there top (flat_map networks_in lib.blocks) n inside, targets_twice t.network.data_connections r h)
-
-pub joined_applies : JoinedApplies
-joined_applies lib (joined.Application r) h =
-    let n : OwnedNetwork = (None, lib.application.network) in
-    (n, Contains-here n (flat_map networks_in lib.blocks), targets_twice lib.application.network.data_connections r h)
-joined_applies lib (joined.Inside k r) h = inside_applies lib h.0 k r h.1 h.2
-
--- ---- E25
-
-held : (lib : Library) (k i : ℕ) (t u : CompositeType) → IsHeld lib k i t u → Holds lib t u
-held lib k i t u h = (h.instance, element_of_index t.network.instances i h.instance h.at_index, h.of_type)
-
-pub height_applies : HeightApplies
-height_applies lib (Circle k i) h =
-    (h.0, h.0, element_of_index lib.blocks k (block.Composite h.0) h.2.holder, inl (h.3.0, (h.1, held lib k i h.0 h.1 h.2, h.3.1)))
-height_applies lib (Height k i) h =
-    (h.0, h.3.0, element_of_index lib.blocks k (block.Composite h.0) h.2.holder, inr (h.1, held lib k i h.0 h.1 h.2, h.3.1))
-
--- ---- E26 to E28
-
-pub unmapped_applies : UnmappedApplies
-unmapped_applies lib plan (Unlisted k) h = inl (h.instance, element_of_index lib.application.network.instances k h.instance h.at_index, h.unlisted)
-unmapped_applies lib plan (Again r) h = inr (pair_twice (mapped lib plan) r h)
-
-pub unlinked_applies : UnlinkedApplies
-unlinked_applies lib plan (unlinked.Event k) h =
-    (h.at_index, Contains-append_left (event_pairs_of lib) (data_pairs_of lib) h.at_index (element_of_index (event_pairs_of lib) k h.at_index h.found), h.cut, h.none)
-unlinked_applies lib plan (unlinked.Data k) h =
-    (h.at_index, Contains-append_right (event_pairs_of lib) (data_pairs_of lib) h.at_index (element_of_index (data_pairs_of lib) k h.at_index h.found), h.cut, h.none)
-
-pub unserved_applies : UnservedApplies
-unserved_applies lib plan k h = (h.at_index, element_of_index (data_pairs_of lib) k h.at_index h.found, h.cut, h.alone)

@@ -1,101 +1,83 @@
 -- The findings of a number, from the locations of a library and a plan to the bytes that were read.
-use Rattle.std.proofs.Common.{◌≡◌, ℕ, suc, false, List, [], ◌∷◌, map, take, length, Option, Some, None, Result, Ok, Err, Vec, Global, refl, sym, ◌∙◌, ap, subst, inl, inr, arith}
+use Rattle.std.proofs.Common.{◌≡◌, ℕ, suc, false, List, [], ◌∷◌, map, take, length, Option, Some, None, Result, Ok, Err, Vec, Global, refl, sym, ◌∙◌, ap, subst, inl, inr}
 use Rattle.std.specs.Prelude.{All, IfOk, IfSome, MatchOption, nat_lt}
 use Rattle.std.specs.Option.{option_to_list}
 use Rattle.std.proofs.lemmas.List.Elements.{All-cons, All-map, All-nil, All-take, All-weaker}
 use Rattle.fb_read.specs.Whole.{IsLibraryText, IsMemory}
 use Rattle.fb_read.specs.declared.error.ReadError.{ReadError}
-use Rattle.fb_types.specs.Joined.{TooHigh}
 use Rattle.fb_types.specs.declared.deploy.Plan.{Plan}
+use Rattle.fb_types.specs.declared.deploy.Stimulus.{Stimulus}
 use Rattle.fb_types.specs.declared.library.Library.{Library}
 use Rattle.fb_why.specs.Causes.{IsCause}
-use Rattle.fb_why.specs.Findings.{AppliesAt, AppliesNowhere, Finds, FindsInText, FindsOf, IsNoPlan, IsNoText, IsPlan, IsSilent, IsSilentOf}
-use Rattle.fb_why.specs.Heights.{IsTooHighAt}
+use Rattle.fb_why.specs.Findings.{AppliesAt, AppliesNowhere, AreFed, Finds, FindsOf, IsNoText, IsPlan, IsSilent, IsSilentOf, IsUnread}
 use Rattle.fb_why.specs.Listings.{AreAll, AreFlaws, AreFound, AreFoundBy, AreOne, AreShown, AreSpots, IsOnce, locations_of, most_findings}
 use Rattle.fb_why.specs.Places.{IsPlacedFinding}
 use Rattle.fb_why.specs.declared.cause.Cause.{Cause}
 use Rattle.fb_why.specs.declared.cause.Cause.TheVariants as cause
 use Rattle.fb_why.specs.declared.cause.Flaw.{Flaw}
-use Rattle.fb_why.specs.declared.cause.Flaw.TheVariants as flaw
-use Rattle.fb_why.specs.declared.heights.Descent.{Descent}
 use Rattle.fb_why.specs.declared.listing.Findings.{Findings}
 use Rattle.fb_why.specs.declared.place.PlacedFinding.{PlacedFinding}
 use Rattle.fb_why.specs.declared.spot.Spot.{Spot}
-use Rattle.fb_why.specs.declared.spot.Spot.TheVariants as spot
-use Rattle.fb_why.proofs.AllTwice.{none_mapped}
+use Rattle.fb_findings.proofs.Repeating.{none_mapped}
 
--- ---- Locations of a library and a plan
+-- ---- Locations of inputs
 
 -- locations of one kind are those of a refusal
-pub spots_of :
-    {T E : Type 0} (f : Flaw) (lib : Library) (plan : Plan) (at : T → Spot) (made : Result (Vec Spot Global) E) (found xs : List T) → IfOk made (λ v. v.items ≡ map at found)
-    → found ≡ xs → All (λ p. AppliesAt f lib plan (at p)) xs → (xs ≡ [] → AppliesNowhere f lib plan) → AreAll f lib plan (map at xs)
-    → IfOk made (λ v. AreSpots f lib plan v.items)
-spots_of f lib plan at (Err e) found xs is same each none all = tt
-spots_of f lib plan at (Ok v) found xs is same each none all =
-    let e : v.items ≡ map at xs = is ∙ ap (map at) same in
+pub list_spots :
+    {T : Type 0} (f : Flaw) (lib : Library) (plan : Plan) (stimuli : List Stimulus) (at : T → Spot) (found xs : List T) (ss : List Spot) → ss ≡ map at found → found ≡ xs
+    → All (λ p. AppliesAt f lib plan stimuli (at p)) xs → (xs ≡ [] → AppliesNowhere f lib plan stimuli) → AreAll f lib plan stimuli (map at xs) → AreSpots f lib plan stimuli ss
+list_spots f lib plan stimuli at found xs ss is same each none all =
+    let e : ss ≡ map at xs = is ∙ ap (map at) same in
     record {
-      each = subst (λ (ss : List Spot). All (AppliesAt f lib plan) ss) (sym e) (All-map (AppliesAt f lib plan) at xs each);
+      each = subst (λ (ss : List Spot). All (AppliesAt f lib plan stimuli) ss) (sym e) (All-map (AppliesAt f lib plan stimuli) at xs each);
       none = λ h. none (none_mapped at xs (sym e ∙ h));
-      all = subst (λ (ss : List Spot). AreAll f lib plan ss) (sym e) all;
+      all = subst (λ (ss : List Spot). AreAll f lib plan stimuli ss) (sym e) all;
     }
 
-pub one_high :
-    {E : Type 0} (lib : Library) (plan : Plan) (d : Descent) (made : Result (Vec Spot Global) E) → IfOk made (λ v. v.items ≡ spot.TooHigh d ∷ []) → IsTooHighAt lib d
-    → IfOk made (λ v. AreSpots flaw.TooHigh lib plan v.items)
-one_high lib plan d (Err e) is high = tt
-one_high lib plan d (Ok v) is high =
-    let P : Spot → Type 0 = AppliesAt flaw.TooHigh lib plan in
-    record {
-      each = subst (λ (ss : List Spot). All P ss) (sym is) (All-cons P (spot.TooHigh d) [] high (All-nil P));
-      none = λ h. absurd (let no : spot.TooHigh d ∷ [] ≡ [] = sym is ∙ h in cc);
-      all = let one : length v.items ≡ 1 = ap (λ (ss : List Spot). length ss) is in omega (arith, one);
-    }
-
-pub no_high : (lib : Library) (plan : Plan) (spots : List Spot) → spots ≡ [] → ¬ (TooHigh lib) → AreSpots flaw.TooHigh lib plan spots
-no_high lib plan spots is low =
-    let P : Spot → Type 0 = AppliesAt flaw.TooHigh lib plan in
-    record {
-      each = subst (λ (ss : List Spot). All P ss) (sym is) (All-nil P);
-      none = λ h. low;
-      all = let none : length spots ≡ 0 = ap (λ (ss : List Spot). length ss) is in omega (arith, none);
-    }
+pub spots_of :
+    {T E : Type 0} (f : Flaw) (lib : Library) (plan : Plan) (stimuli : List Stimulus) (at : T → Spot) (made : Result (Vec Spot Global) E) (found xs : List T)
+    → IfOk made (λ v. v.items ≡ map at found) → found ≡ xs → All (λ p. AppliesAt f lib plan stimuli (at p)) xs → (xs ≡ [] → AppliesNowhere f lib plan stimuli)
+    → AreAll f lib plan stimuli (map at xs) → IfOk made (λ v. AreSpots f lib plan stimuli v.items)
+spots_of f lib plan stimuli at (Err e) found xs is same each none all = tt
+spots_of f lib plan stimuli at (Ok v) found xs is same each none all = list_spots f lib plan stimuli at found xs v.items is same each none all
 
 -- ---- What is read
 
 pub shown_of :
-    {E : Type 0} (f : Flaw) (text : List ℕ) (bytes : Option (List ℕ)) (lib : Library) (plan : Plan) (spots given : List Spot) (made : Result Findings E) → IsLibraryText text lib → IsPlan bytes plan
-    → AreSpots f lib plan spots → given ≡ spots → IfOk made (λ s. locations_of s ≡ take most_findings given) → IfOk made (λ s. s.more ≡ nat_lt most_findings (length given))
-    → IfOk made (AreShown f text bytes)
-shown_of f text bytes lib plan spots given (Err e) read planned are same shown more = tt
-shown_of f text bytes lib plan spots given (Ok s) read planned are same shown more = record {
+    {E : Type 0} (f : Flaw) (text : List ℕ) (bytes rows : Option (List ℕ)) (lib : Library) (plan : Plan) (stimuli : List Stimulus) (spots given : List Spot) (made : Result Findings E)
+    → IsLibraryText text lib → IsPlan bytes plan → AreFed f rows stimuli → AreSpots f lib plan stimuli spots → given ≡ spots
+    → IfOk made (λ s. locations_of s ≡ take most_findings given) → IfOk made (λ s. s.more ≡ nat_lt most_findings (length given)) → IfOk made (AreShown f text bytes rows)
+shown_of f text bytes rows lib plan stimuli spots given (Err e) read planned fed are same shown more = tt
+shown_of f text bytes rows lib plan stimuli spots given (Ok s) read planned fed are same shown more = record {
   library = lib;
   plan = plan;
+  list = stimuli;
   spots = spots;
   read = read;
   planned = planned;
+  fed = fed;
   are = are;
   shown = shown ∙ ap (take most_findings) same;
   more = more ∙ ap (λ (ss : List Spot). nat_lt most_findings (length ss)) same;
 }
 
 pub shown_flaws :
-    {E : Type 0} (f : Flaw) (text : List ℕ) (bytes : Option (List ℕ)) (made : Result Findings E) → IfOk made (AreShown f text bytes) → IfOk made (AreFlaws f text bytes)
-shown_flaws f text bytes (Err e) h = tt
-shown_flaws f text bytes (Ok s) h = inl h
+    {E : Type 0} (f : Flaw) (text : List ℕ) (bytes rows : Option (List ℕ)) (made : Result Findings E) → IfOk made (AreShown f text bytes rows) → IfOk made (AreFlaws f text bytes rows)
+shown_flaws f text bytes rows (Err e) h = tt
+shown_flaws f text bytes rows (Ok s) h = inl h
 
 -- nothing is shown of what can't be read
-pub unread_plan :
-    {E : Type 0} (f : Flaw) (text : List ℕ) (bytes : Option (List ℕ)) (made : Result Findings E) → IfOk made (λ s. s.shown.items ≡ []) → IfOk made (λ s. s.more ≡ false)
-    → IsNoPlan bytes → IfOk made (AreFlaws f text bytes)
-unread_plan f text bytes (Err e) nothing no_more why = tt
-unread_plan f text bytes (Ok s) nothing no_more why = inr (record { nothing = nothing; no_more = no_more; unread = inr why })
+pub unread_inputs :
+    {E : Type 0} (f : Flaw) (text : List ℕ) (bytes rows : Option (List ℕ)) (made : Result Findings E) → IfOk made (λ s. s.shown.items ≡ []) → IfOk made (λ s. s.more ≡ false)
+    → IsUnread f text bytes rows → IfOk made (AreFlaws f text bytes rows)
+unread_inputs f text bytes rows (Err e) nothing no_more why = tt
+unread_inputs f text bytes rows (Ok s) nothing no_more why = inr (record { nothing = nothing; no_more = no_more; unread = why })
 
 pub unread_text :
-    {E : Type 0} (f : Flaw) (text : List ℕ) (bytes : Option (List ℕ)) (fault : ReadError) (made : Result Findings E)
-    → IfOk made (λ s. (s.shown.items ≡ []) × (s.more ≡ false) × ¬ (IsMemory fault)) → (¬ (IsMemory fault) → IsNoText text) → IfOk made (AreFlaws f text bytes)
-unread_text f text bytes fault (Err e) nothing why = tt
-unread_text f text bytes fault (Ok s) nothing why = inr (record { nothing = nothing.0; no_more = nothing.1; unread = inl (why nothing.2) })
+    {E : Type 0} (f : Flaw) (text : List ℕ) (bytes rows : Option (List ℕ)) (fault : ReadError) (made : Result Findings E)
+    → IfOk made (λ s. (s.shown.items ≡ []) × (s.more ≡ false) × ¬ (IsMemory fault)) → (¬ (IsMemory fault) → IsNoText text) → IfOk made (AreFlaws f text bytes rows)
+unread_text f text bytes rows fault (Err e) nothing why = tt
+unread_text f text bytes rows fault (Ok s) nothing why = inr (record { nothing = nothing.0; no_more = nothing.1; unread = inl (why nothing.2) })
 
 pub nothing_placed : {E : Type 0} (text : List ℕ) (made : Result Findings E) → IfOk made (λ s. s.shown.items ≡ []) → IfOk made (λ s. All (IsPlacedFinding text) s.shown.items)
 nothing_placed text (Err e) nothing = tt
@@ -142,14 +124,6 @@ pub is_once :
     → IfOk shown (λ f. f.more ≡ false) → IfOk shown (IsOnce made)
 is_once made o (Err e) was is more = tt
 is_once made o (Ok f) was is more = (o, was, is, more)
-
--- a text may have no location
-pub text_found :
-    {E : Type 0} (n : ℕ) (text : List ℕ) (plan rows : Option (List ℕ)) (found : Result (Option PlacedFinding) E) → IfOk found (λ o. IfSome o (λ r. FindsInText n text r.finding.location))
-    → IfOk found (λ o. MatchOption o (IsSilentOf cause.Text n text plan rows) (λ r. FindsOf cause.Text n text plan rows r.finding.location))
-text_found n text plan rows (Err e) h = tt
-text_found n text plan rows (Ok None) h = tt
-text_found n text plan rows (Ok (Some r)) h = h
 
 -- of another number nothing is shown
 pub other_found :
@@ -198,23 +172,22 @@ each_found (cause.Flaw flaw) n text plan rows f is (inl s) =
     let P : Spot → Type 0 = Finds text plan rows n in
     subst (λ (ss : List Spot). All P ss) (sym s.shown)
     (All-take P most_findings s.spots
-    (All-weaker (AppliesAt flaw s.library s.plan) P (λ p h. (cause.Flaw flaw, is, record { library = s.library; plan = s.plan; read = s.read; planned = s.planned; applies = h })) s.spots s.are.each))
+    (All-weaker (AppliesAt flaw s.library s.plan s.list) P
+    (λ p h. (cause.Flaw flaw, is, record { library = s.library; plan = s.plan; list = s.list; read = s.read; planned = s.planned; fed = s.fed; applies = h })) s.spots s.are.each))
 each_found (cause.Flaw flaw) n text plan rows f is (inr u) =
     subst (λ (ss : List Spot). All (Finds text plan rows n) ss) (sym (no_location f u.nothing)) (All-nil (Finds text plan rows n))
 each_found cause.Text n text plan rows f is one = each_one cause.Text n text plan rows f is one
 each_found cause.Bytes n text plan rows f is one = each_one cause.Bytes n text plan rows f is one
-each_found (cause.Excess x) n text plan rows f is one = each_one (cause.Excess x) n text plan rows f is one
 each_found cause.Other n text plan rows f is one = each_one cause.Other n text plan rows f is one
 
 none_found :
     (c : Cause) (n : ℕ) (text : List ℕ) (plan rows : Option (List ℕ)) (f : Findings) → IsCause n c → AreFoundBy c n text plan rows f → f.shown.items ≡ [] → IsSilent text plan rows n
 none_found (cause.Flaw flaw) n text plan rows f is (inl s) h =
     let nowhere = s.are.none (none_taken 19 s.spots (sym s.shown ∙ no_location f h)) in
-    (cause.Flaw flaw, is, inl (record { library = s.library; plan = s.plan; read = s.read; planned = s.planned; nowhere = nowhere }))
+    (cause.Flaw flaw, is, inl (record { library = s.library; plan = s.plan; list = s.list; read = s.read; planned = s.planned; fed = s.fed; nowhere = nowhere }))
 none_found (cause.Flaw flaw) n text plan rows f is (inr u) h = (cause.Flaw flaw, is, inr u.unread)
 none_found cause.Text n text plan rows f is one h = none_one cause.Text n text plan rows f is one h
 none_found cause.Bytes n text plan rows f is one h = none_one cause.Bytes n text plan rows f is one h
-none_found (cause.Excess x) n text plan rows f is one h = none_one (cause.Excess x) n text plan rows f is one h
 none_found cause.Other n text plan rows f is one h = none_one cause.Other n text plan rows f is one h
 
 pub numbered :

@@ -1,36 +1,42 @@
--- From what holds of a library and a plan to what holds of the bytes that they were read from.
-use Rattle.std.proofs.Common.{◌≡◌, ℕ, inl, List, Option, Some, None, Result, Ok, Err}
-use Rattle.std.specs.Prelude.{IfOk, IfSome, MatchOption}
-use Rattle.fb_types.specs.declared.deploy.Plan.{Plan}
+-- The stimuli that a refusal is about, and refusals of a text.
+use Rattle.std.proofs.Common.{◌≡◌, ℕ, Bool, true, false, List, [], Option, Some, None, Result, Ok, Err, Vec, Global, refl, sym, subst, ◌∙◌, inr}
+use Rattle.std.specs.Prelude.{IfOk, MatchOption}
 use Rattle.fb_types.specs.declared.deploy.Stimulus.{Stimulus}
-use Rattle.fb_types.specs.declared.library.Library.{Library}
-use Rattle.fb_read.specs.Whole.{IsLibraryText}
-use Rattle.fb_why.specs.Findings.{AreStimuli, ExceedsAt, ExceedsNowhere, HasNoExcess, IsPlan, FindsExcess}
-use Rattle.fb_why.specs.Places.{IsPlacedFinding}
-use Rattle.fb_why.specs.declared.cause.Excess.{Excess}
-use Rattle.fb_why.specs.declared.place.PlacedFinding.{PlacedFinding}
+use Rattle.fb_read.specs.Errors.{fault_number}
+use Rattle.fb_why_bytes.proofs.TextReadings.{finds-numbered}
+use Rattle.fb_why_bytes.specs.Faults.{IsTextRefusal}
+use Rattle.fb_why_bytes.specs.declared.find.TextRefusal.{TextRefusal}
+use Rattle.fb_why.specs.Findings.{AreFedIf, AreNoStimuli, AreNotFedIf, AreStimuli, IsFoundAt, IsSilentOfText, FindsInText}
 use Rattle.fb_why.specs.declared.spot.Finding.{Finding}
+use Rattle.fb_why.specs.declared.spot.Spot.{Spot}
+use Rattle.fb_why.specs.declared.spot.Spot.TheVariants as spot
 
--- and stimuli
-pub excess_found :
-    {E : Type 0} (excess : Excess) (text : List ℕ) (bytes given : Option (List ℕ)) (library : Library) (plan : Plan) (rows : List Stimulus) (made : Result (Option Finding) E)
-    → IsLibraryText text library → IsPlan bytes plan → AreStimuli given rows
-    → IfOk made (λ o. MatchOption o (ExceedsNowhere excess library plan rows) (λ r. ExceedsAt excess library rows r.location))
-    → IfOk made (λ o. MatchOption o (HasNoExcess excess text bytes given) (λ r. FindsExcess excess text bytes given r.location))
-excess_found excess text bytes given library plan rows (Err e) read planned fed holds = tt
-excess_found excess text bytes given library plan rows (Ok None) read planned fed holds =
-    inl (record { library = library; plan = plan; list = rows; read = read; planned = planned; listed = fed; nowhere = holds })
-excess_found excess text bytes given library plan rows (Ok (Some r)) read planned fed holds = record { library = library; list = rows; read = read; listed = fed; applies = holds }
+-- the stimuli that a refusal is about
+pub fed_if :
+    {E : Type 0} (of_them b : Bool) (given : Option (List ℕ)) (made : Result (Option (Vec Stimulus Global)) E) → b ≡ of_them → b ≡ true
+    → IfOk made (λ o. MatchOption o (AreNoStimuli given) (λ v. AreStimuli given v.items)) → IfOk made (λ o. MatchOption o (AreNotFedIf of_them given) (λ v. AreFedIf of_them given v.items))
+fed_if of_them b given made is met holds =
+    subst (λ (x : Bool). IfOk made (λ o. MatchOption o (AreNotFedIf x given) (λ v. AreFedIf x given v.items))) (sym met ∙ is) holds
 
--- a declaration that can't be read, if memory did not run out
-pub unread_found :
-    {E : Type 0} (made : Result (Option PlacedFinding) E) (F N : Type 0) (T : PlacedFinding → Type 0) → IfOk made (λ o. (o ≡ None) × F) → (F → N) → IfOk made (λ o. MatchOption o N T)
-unread_found (Err e) F N T said so = tt
-unread_found (Ok None) F N T said so = so said.1
-unread_found (Ok (Some r)) F N T said so = absurd (let other : Some r ≡ None = said.0 in cc)
+pub not_fed_if : (of_them b : Bool) (given : Option (List ℕ)) (stimuli : List Stimulus) → b ≡ of_them → b ≡ false → stimuli ≡ [] → AreFedIf of_them given stimuli
+not_fed_if of_them b given stimuli is unmet none = subst (λ (x : Bool). AreFedIf x given stimuli) (sym unmet ∙ is) none
 
-pub unplaced :
-    {E : Type 0} (text : List ℕ) (made : Result (Option PlacedFinding) E) (F : Type 0) → IfOk made (λ o. (o ≡ None) × F) → IfOk made (λ o. IfSome o (IsPlacedFinding text))
-unplaced text (Err e) F said = tt
-unplaced text (Ok None) F said = tt
-unplaced text (Ok (Some r)) F said = absurd (let other : Some r ≡ None = said.0 in cc)
+abbrev some_number : ℕ → Option ℕ
+some_number n = Some n
+
+-- a refusal of the text with this number
+pub text_found :
+    {E : Type 0} (number : ℕ) (text : List ℕ) (r : TextRefusal) (made : Result (Option Finding) E) → IsTextRefusal text r → fault_number r.refusal.fault ≡ number → IfOk made (IsFoundAt (spot.Text r.location))
+    → IfOk made (λ o. MatchOption o (IsSilentOfText number text) (λ f. FindsInText number text f.location))
+text_found number text r (Err e) h n w = tt
+text_found number text r (Ok None) h n w = absurd w
+text_found number text r (Ok (Some f)) h n w = subst (λ (s : Spot). FindsInText number text s) (sym w) (finds-numbered text r number h n)
+
+-- one with another number
+pub text_unfound : (number : ℕ) (text : List ℕ) (r : TextRefusal) → IsTextRefusal text r → (fault_number r.refusal.fault ≡ number → ⊥) → IsSilentOfText number text
+text_unfound number text r h n =
+    let w = finds-numbered text r (fault_number r.refusal.fault) h refl in
+    inr (w.0, r.location, λ e. n (same-number (fault_number r.refusal.fault) number (sym w.1 ∙ e)), w.2)
+  where
+    same-number : (a b : ℕ) → some_number a ≡ some_number b → a ≡ b
+    same-number a b e = cc

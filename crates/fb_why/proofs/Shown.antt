@@ -10,7 +10,7 @@ use Rattle.fb_read_positions.specs.Places.{IsAt}
 use Rattle.fb_read_positions.specs.declared.position.Position.{Position}
 use Rattle.fb_why_bytes.specs.Locations.{IsLocation, IsStretch}
 use Rattle.fb_why_bytes.specs.declared.text_locations.TextLocation.{TextLocation}
-use Rattle.fb_why.specs.Places.{IsPlaceAt, IsPlaceIn, IsPlaceOf, IsPlacedFinding, IsShown, Keeps}
+use Rattle.fb_why.specs.Places.{IsPlaceAt, IsPlaceOf, IsPlacedFinding, IsShown, Keeps}
 use Rattle.fb_why.specs.Positions.{position_of}
 use Rattle.fb_why.specs.declared.place.FoundPlace.{FoundPlace}
 use Rattle.fb_why.specs.declared.place.PlacedFinding.{PlacedFinding}
@@ -26,13 +26,6 @@ pub placed :
     → IfSome place (λ l. IsStretch s.start s.end l) → IfSome place (IsPlaceAt text library p)
 placed text library p s None at located there = tt
 placed text library p s (Some place) at located there = record { span = s; at = at; there = there; located = located }
-
-pub shown :
-    {E : Type 0} (text : Text) (library : Library) (location : Spot) (p : Position) (made : Result (Option TextLocation) E) → IsLibraryText text library → position_of library location ≡ Some p
-    → IfOk made (λ o. IfSome o (IsPlaceAt text library p)) → IfOk made (λ o. IfSome o (IsShown text location))
-shown text library location p (Err e) read is holds = tt
-shown text library location p (Ok None) read is holds = tt
-shown text library location p (Ok (Some place)) read is holds = record { library = library; read = read; position = p; position_is = is; placed = holds }
 
 pub shown_from :
     {E : Type 0} (text : Text) (library : Library) (location : Spot) (p : Position) (made : Result FoundPlace E) → IsLibraryText text library → position_of library location ≡ Some p
@@ -52,41 +45,13 @@ match_kept None o N P holds kept = subst (λ (x : Option PlacedFinding). MatchOp
 match_kept (Some f) None N P holds kept = absurd kept
 match_kept (Some f) (Some r) N P holds kept = subst P (sym kept) holds
 
-pub kept_found :
-    {E : Type 0} (finding : Option Finding) (made : Result (Option PlacedFinding) E) (N : Type 0) (P : Spot → Type 0) → MatchOption finding N (λ r. P r.location) → IfOk made (Keeps finding)
-    → IfOk made (λ o. MatchOption o N (λ r. P r.finding.location))
-kept_found finding (Err e) N P holds kept = tt
-kept_found finding (Ok o) N P holds kept = match_kept finding o N P holds kept
-
-pub some_kept : (finding : Option Finding) (o : Option PlacedFinding) (P : Spot → Type 0) → IfSome finding (λ r. P r.location) → Keeps finding o → IfSome o (λ r. P r.finding.location)
-some_kept None o P holds kept = subst (λ (x : Option PlacedFinding). IfSome x (λ r. P r.finding.location)) (sym kept) tt
-some_kept (Some f) None P holds kept = absurd kept
-some_kept (Some f) (Some r) P holds kept = subst P (sym kept) holds
-
 pub of_location : (location : Spot) (place : Option TextLocation) (text : Text) → IfSome place (λ p. location ≡ spot.Text p) → IfSome place (IsPlaceOf text location)
 of_location location None text is = tt
 of_location location (Some p) text is = inl is
 
-pub kept_of :
-    {E : Type 0} (finding : Finding) (given : Option Finding) (made : Result (Option PlacedFinding) E) → given ≡ Some finding
-    → IfOk made (λ o. MatchOption o ⊥ (λ r. r.finding.location ≡ finding.location)) → IfOk made (Keeps given)
-kept_of finding given (Err e) same holds = tt
-kept_of finding given (Ok o) same holds = subst (λ (x : Option Finding). Keeps x o) (sym same) holds
-
 widened : (text : Text) (location : Spot) (q : Option TextLocation) → IfSome q (IsShown text location) → IfSome q (IsPlaceOf text location)
 widened text location None s = tt
 widened text location (Some x) s = inr s
-
-pub placed_of :
-    {E : Type 0} (text : Text) (finding : Finding) (place : Result (Option TextLocation) E) (made : Result (Option PlacedFinding) E)
-    → IfOk place (λ o. IfSome o (IsShown text finding.location)) → IfOk made (λ o. MatchOption o ⊥ (λ r. r.finding.location ≡ finding.location))
-    → IfOk made (λ o. IfSome o (λ r. IsPlaceIn r.place place)) → IfOk made (λ o. IfSome o (IsPlacedFinding text))
-placed_of text finding place (Err e) shown located has = tt
-placed_of text finding place (Ok None) shown located has = tt
-placed_of text finding (Err e) (Ok (Some r)) shown located has = absurd has
-placed_of text finding (Ok p) (Ok (Some r)) shown located has =
-    subst (λ (l : Spot). IfSome r.place (IsPlaceOf text l)) (sym located)
-    (subst (λ (q : Option TextLocation). IfSome q (IsPlaceOf text finding.location)) (sym has) (widened text finding.location p shown))
 
 -- ---- Findings one after another
 

@@ -1,11 +1,9 @@
 -- What a refusal is about, by its number (this project's own).
-use Rattle.std.specs.Prelude.{◌≡◌, ◌≢◌, ◌≤◌, ℕ}
+use Rattle.std.specs.Prelude.{◌≡◌, ◌≢◌, ◌≤◌, ℕ, Bool, true, false}
 use Rattle.fb_check.specs.Faults.{number_of}
 use Rattle.fb_check.specs.declared.fault.Fault.TheVariants as fault
 use Rattle.fb_why.specs.declared.cause.Cause.{Cause}
 use Rattle.fb_why.specs.declared.cause.Cause.TheVariants as cause
-use Rattle.fb_why.specs.declared.cause.Excess.{Excess}
-use Rattle.fb_why.specs.declared.cause.Excess.TheVariants as excess
 use Rattle.fb_why.specs.declared.cause.Flaw.{Flaw}
 use Rattle.fb_why.specs.declared.cause.Flaw.TheVariants as flaw
 
@@ -19,10 +17,14 @@ flaw_number flaw.TooHigh = number_of fault.TooHigh
 flaw_number flaw.Unmapped = number_of fault.NotMapped
 flaw_number flaw.Unlinked = number_of fault.NoLink
 flaw_number flaw.Unserved = number_of fault.NoEvent
+flaw_number flaw.BadStimulus = number_of fault.BadStimulus
+flaw_number flaw.OverLimit = number_of fault.OverLimit
 
-abbrev pub excess_number : Excess → ℕ
-excess_number excess.Stimulus = number_of fault.BadStimulus
-excess_number excess.Limit = number_of fault.OverLimit
+-- a refusal is about the stimuli too
+abbrev pub is_of_stimuli : Flaw → Bool
+is_of_stimuli flaw.BadStimulus = true
+is_of_stimuli flaw.OverLimit = true
+is_of_stimuli _ = false
 
 abbrev pub IsOfText : ℕ → Type 0
 IsOfText n = (1 ≤ n) × (n ≤ 5)
@@ -35,5 +37,4 @@ abbrev pub IsCause : ℕ → Cause → Type 0
 IsCause n cause.Text = IsOfText n
 IsCause n cause.Bytes = IsOfBytes n
 IsCause n (cause.Flaw f) = n ≡ flaw_number f
-IsCause n (cause.Excess x) = n ≡ excess_number x
-IsCause n cause.Other = (¬ (IsOfText n)) × (¬ (IsOfBytes n)) × ((f : Flaw) → n ≢ flaw_number f) × ((x : Excess) → n ≢ excess_number x)
+IsCause n cause.Other = (¬ (IsOfText n)) × (¬ (IsOfBytes n)) × ((f : Flaw) → n ≢ flaw_number f)

@@ -1,53 +1,47 @@
 -- Where a refusal applies to the bytes that were given (this project's own).
-use Rattle.std.specs.Prelude.{◌≡◌, ◌≢◌, ◌⊎◌, ℕ, List, Option, Some, None, Ok, Err, [], IfSome, MatchOption}
+use Rattle.std.specs.Prelude.{◌≡◌, ◌≢◌, ◌⊎◌, ℕ, Bool, true, false, List, Option, Some, None, Ok, Err, [], IfSome, MatchOption}
 use Rattle.fb_inputs.specs.Deployments.{deploy_of}
 use Rattle.fb_inputs.specs.Stimuli as inputs
 use Rattle.fb_read.specs.Whole.{IsLibraryText}
 use Rattle.fb_read.specs.declared.error.ReadError.{ReadError}
 use Rattle.fb_types.specs.Accepted.{IsLeastFault}
-use Rattle.fb_types.specs.Joined.{OutOfRange}
 use Rattle.fb_types.specs.Joined.{TooHigh}
-use Rattle.fb_types.specs.Joined.{TwoSources}
 use Rattle.fb_types.specs.Kinds.{KindWrong}
 use Rattle.fb_types.specs.Limits.{single}
-use Rattle.fb_types.specs.Mapped.{NoEvent}
-use Rattle.fb_types.specs.Mapped.{NoLink}
-use Rattle.fb_types.specs.Mapped.{NotMapped}
 use Rattle.fb_types.specs.Repeated.{NameTwice}
 use Rattle.fb_types.specs.Unknown.{NameUnknown}
 use Rattle.fb_types.specs.declared.deploy.Plan.{Plan}
 use Rattle.fb_types.specs.declared.deploy.Stimulus.{Stimulus}
 use Rattle.fb_types.specs.declared.library.Library.{Library}
-use Rattle.fb_why.specs.Causes.{IsCause, excess_number}
+use Rattle.fb_why.specs.Causes.{IsCause, flaw_number, is_of_stimuli}
 use Rattle.fb_read.specs.Errors.{number_of}
 use Rattle.fb_why_kinds.specs.Unknown.{IsUnknownAt}
 use Rattle.fb_why.specs.declared.cause.Cause.TheVariants as cause
 use Rattle.fb_why.specs.declared.cause.Cause.{Cause}
-use Rattle.fb_why.specs.declared.cause.Excess.TheVariants as excess
-use Rattle.fb_why.specs.declared.cause.Excess.{Excess}
 use Rattle.fb_why.specs.declared.cause.Flaw.TheVariants as flaw
 use Rattle.fb_why.specs.declared.cause.Flaw.{Flaw}
 use Rattle.fb_why.specs.declared.spot.Spot.TheVariants as spot
 use Rattle.fb_why.specs.declared.spot.Finding.{Finding}
 use Rattle.fb_why.specs.declared.spot.Spot.{Spot}
-use Rattle.fb_why.specs.Heights.{IsTooHighAt}
-use Rattle.fb_why.specs.Sources.{IsJoinedAt}
+use Rattle.fb_check_networks.specs.Heights.{IsTooHighAt}
+use Rattle.fb_check_networks.specs.Sources.{IsJoinedAt}
 use Rattle.fb_why.specs.Twice.{IsTwiceAt}
-use Rattle.fb_why.specs.Unlinked.{IsUnlinkedAt}
-use Rattle.fb_why.specs.Unmapped.{IsUnmappedAt}
-use Rattle.fb_why.specs.Unserved.{IsUnservedAt}
+use Rattle.fb_check_networks.specs.Links.{IsUnlinkedAt}
+use Rattle.fb_check_networks.specs.Unmapped.{IsUnmappedAt}
+use Rattle.fb_check_networks.specs.Unserved.{IsUnservedAt}
 use Rattle.fb_inputs.specs.Faults as rows
 use Rattle.fb_inputs.specs.Faults.{AreTaken}
 use Rattle.fb_inputs.specs.Places.{number_at}
 use Rattle.fb_inputs.specs.DeployFaults as tables
 use Rattle.fb_inputs.specs.DeployFaults.{IsPlanned}
 use Rattle.fb_inputs.specs.DeployPlaces as places
-use Rattle.fb_why.specs.Stimuli.{IsBadAt, IsOver}
+use Rattle.fb_check.specs.Stimuli.{IsBadAt, IsOver}
 use Rattle.fb_why_bytes.specs.Faults.{FindsFault}
+use Rattle.fb_why_bytes.specs.declared.text_locations.TextLocation.{TextLocation}
 use Rattle.fb_inputs.specs.declared.deploy_location.DeployLocation.{DeployLocation}
 use Rattle.fb_inputs.specs.declared.location.StimuliLocation.{StimuliLocation}
 use Rattle.fb_why_kinds.specs.Misfits.{IsMisfitAt}
-use Rattle.fb_why_kinds.specs.Misjoins.{IsMisjoinedAt}
+use Rattle.fb_check_networks.specs.Misjoins.{IsMisjoinedAt}
 
 -- ---- What is found
 
@@ -71,52 +65,83 @@ abbrev pub IsNoPlan : Option (List ℕ) → Type 0
 IsNoPlan None = ⊥
 IsNoPlan (Some bytes) = (n : ℕ) × (deploy_of bytes ≡ Err n)
 
--- ---- A declaration and a deployment that are read
+-- The stimuli: if none are given, there are none.
+abbrev pub AreStimuli : Option (List ℕ) → List Stimulus → Type 0
+AreStimuli None stimuli = stimuli ≡ []
+AreStimuli (Some bytes) stimuli = inputs.stimuli_of bytes ≡ Ok stimuli
+
+-- the stimuli are refused
+abbrev pub AreNoStimuli : Option (List ℕ) → Type 0
+AreNoStimuli None = ⊥
+AreNoStimuli (Some bytes) = (n : ℕ) × (inputs.stimuli_of bytes ≡ Err n)
+
+-- the stimuli that are given, for a refusal that is about them; for another none
+abbrev pub AreFedIf : Bool → Option (List ℕ) → List Stimulus → Type 0
+AreFedIf true given stimuli = AreStimuli given stimuli
+AreFedIf false given stimuli = stimuli ≡ []
+
+abbrev pub AreFed : Flaw → Option (List ℕ) → List Stimulus → Type 0
+AreFed flaw given stimuli = AreFedIf (is_of_stimuli flaw) given stimuli
+
+-- a refusal is about the stimuli, which are refused
+abbrev pub AreNotFedIf : Bool → Option (List ℕ) → Type 0
+AreNotFedIf true given = AreNoStimuli given
+AreNotFedIf false given = ⊥
+
+abbrev pub AreNotFed : Flaw → Option (List ℕ) → Type 0
+AreNotFed flaw given = AreNotFedIf (is_of_stimuli flaw) given
+
+-- ---- Inputs that are read
 
 -- The refusal applies at this location.
-abbrev pub AppliesAt : Flaw → Library → Plan → Spot → Type 0
-AppliesAt flaw.Twice lib plan (spot.Twice p) = IsTwiceAt lib plan p
-AppliesAt flaw.Unknown lib plan (spot.Unknown p) = IsUnknownAt lib plan p
-AppliesAt flaw.Misfit lib plan (spot.Misfit p) = IsMisfitAt lib p
-AppliesAt flaw.Misjoin lib plan (spot.Misjoin p) = IsMisjoinedAt lib p
-AppliesAt flaw.Joined lib plan (spot.Joined p) = IsJoinedAt lib p
-AppliesAt flaw.TooHigh lib plan (spot.TooHigh p) = IsTooHighAt lib p
-AppliesAt flaw.Unmapped lib plan (spot.Unmapped p) = IsUnmappedAt lib plan p
-AppliesAt flaw.Unlinked lib plan (spot.Unlinked p) = IsUnlinkedAt lib plan p
-AppliesAt flaw.Unserved lib plan (spot.Unserved p) = IsUnservedAt lib plan p
-AppliesAt _ lib plan _ = ⊥
+abbrev pub AppliesAt : Flaw → Library → Plan → List Stimulus → Spot → Type 0
+AppliesAt flaw.Twice lib plan stimuli (spot.Twice p) = IsTwiceAt lib plan p
+AppliesAt flaw.Unknown lib plan stimuli (spot.Unknown p) = IsUnknownAt lib plan p
+AppliesAt flaw.Misfit lib plan stimuli (spot.Misfit p) = IsMisfitAt lib p
+AppliesAt flaw.Misjoin lib plan stimuli (spot.Misjoin p) = IsMisjoinedAt lib p
+AppliesAt flaw.Joined lib plan stimuli (spot.Joined p) = IsJoinedAt lib p
+AppliesAt flaw.TooHigh lib plan stimuli (spot.TooHigh p) = IsTooHighAt lib p
+AppliesAt flaw.Unmapped lib plan stimuli (spot.Unmapped p) = IsUnmappedAt lib plan p
+AppliesAt flaw.Unlinked lib plan stimuli (spot.Unlinked p) = IsUnlinkedAt lib plan p
+AppliesAt flaw.Unserved lib plan stimuli (spot.Unserved p) = IsUnservedAt lib plan p
+AppliesAt flaw.BadStimulus lib plan stimuli (spot.Stimulus p) = IsBadAt lib stimuli p
+AppliesAt flaw.OverLimit lib plan stimuli (spot.Limit l) = IsOver lib stimuli l
+AppliesAt _ lib plan stimuli _ = ⊥
 
--- The refusal applies nowhere.
-abbrev pub AppliesNowhere : Flaw → Library → Plan → Type 0
-AppliesNowhere flaw.Twice lib plan = ¬ (NameTwice lib plan)
-AppliesNowhere flaw.Unknown lib plan = ¬ (NameUnknown lib plan)
-AppliesNowhere flaw.Misfit lib plan = ¬ (KindWrong lib)
-AppliesNowhere flaw.Misjoin lib plan = ¬ (OutOfRange lib)
-AppliesNowhere flaw.Joined lib plan = ¬ (TwoSources lib)
-AppliesNowhere flaw.TooHigh lib plan = ¬ (TooHigh lib)
-AppliesNowhere flaw.Unmapped lib plan = ¬ (NotMapped lib plan)
-AppliesNowhere flaw.Unlinked lib plan = ¬ (NoLink lib plan)
-AppliesNowhere flaw.Unserved lib plan = ¬ (NoEvent lib plan)
+-- The refusal applies nowhere; for one whose locations the check lists, it is not the first that applies.
+abbrev pub AppliesNowhere : Flaw → Library → Plan → List Stimulus → Type 0
+AppliesNowhere flaw.Twice lib plan stimuli = ¬ (NameTwice lib plan)
+AppliesNowhere flaw.Unknown lib plan stimuli = ¬ (NameUnknown lib plan)
+AppliesNowhere flaw.Misfit lib plan stimuli = ¬ (KindWrong lib)
+AppliesNowhere flaw lib plan stimuli = ¬ (IsLeastFault (flaw_number flaw) lib plan stimuli)
 
 -- They were read, and the refusal applies to them at this location.
-pub record FindsFlaw (flaw : Flaw) (declaration : List ℕ) (deploy : Option (List ℕ)) (location : Spot) : Type 0 where
+pub record FindsFlaw (flaw : Flaw) (declaration : List ℕ) (deploy stimuli : Option (List ℕ)) (location : Spot) : Type 0 where
   pub library : Library
   pub plan : Plan
+  pub list : List Stimulus
   pub read : IsLibraryText declaration library
   pub planned : IsPlan deploy plan
-  pub applies : AppliesAt flaw library plan location
+  pub fed : AreFed flaw stimuli list
+  pub applies : AppliesAt flaw library plan list location
 
 -- They were read, and the refusal does not apply to them.
-pub record IsFlawless (flaw : Flaw) (declaration : List ℕ) (deploy : Option (List ℕ)) : Type 0 where
+pub record IsFlawless (flaw : Flaw) (declaration : List ℕ) (deploy stimuli : Option (List ℕ)) : Type 0 where
   pub library : Library
   pub plan : Plan
+  pub list : List Stimulus
   pub read : IsLibraryText declaration library
   pub planned : IsPlan deploy plan
-  pub nowhere : AppliesNowhere flaw library plan
+  pub fed : AreFed flaw stimuli list
+  pub nowhere : AppliesNowhere flaw library plan list
+
+-- One of those that the refusal is about can't be read.
+abbrev pub IsUnread : Flaw → (declaration : List ℕ) → (deploy stimuli : Option (List ℕ)) → Type 0
+IsUnread flaw declaration deploy stimuli = IsNoText declaration ⊎ IsNoPlan deploy ⊎ AreNotFed flaw stimuli
 
 -- The refusal does not apply to them, or they can't be read.
-abbrev pub HasNoFlaw : Flaw → (declaration : List ℕ) → (deploy : Option (List ℕ)) → Type 0
-HasNoFlaw flaw declaration deploy = IsFlawless flaw declaration deploy ⊎ IsNoText declaration ⊎ IsNoPlan deploy
+abbrev pub HasNoFlaw : Flaw → (declaration : List ℕ) → (deploy stimuli : Option (List ℕ)) → Type 0
+HasNoFlaw flaw declaration deploy stimuli = IsFlawless flaw declaration deploy stimuli ⊎ IsUnread flaw declaration deploy stimuli
 
 -- ---- The text of the declaration
 
@@ -124,6 +149,11 @@ HasNoFlaw flaw declaration deploy = IsFlawless flaw declaration deploy ⊎ IsNoT
 abbrev pub FindsInText : (number : ℕ) → (declaration : List ℕ) → Spot → Type 0
 FindsInText number declaration (spot.Text p) = (fault : ReadError) × (number_of fault ≡ Some number) × FindsFault declaration fault p
 FindsInText number declaration _ = ⊥
+
+-- The text declares a library, or is refused with another number.
+abbrev pub IsSilentOfText : (number : ℕ) → (declaration : List ℕ) → Type 0
+IsSilentOfText number declaration =
+    ((library : Library) × IsLibraryText declaration library) ⊎ ((fault : ReadError) × (location : TextLocation) × (number_of fault ≡ Some number → ⊥) × FindsFault declaration fault location)
 
 -- ---- The bytes of the deployment and of the stimuli
 
@@ -172,68 +202,20 @@ IsSilentOfStimuli number bytes = AreTaken bytes ⊎ AreRefusedOtherwise number b
 abbrev pub IsSilentOfBytes : (number : ℕ) → (deploy stimuli : Option (List ℕ)) → Type 0
 IsSilentOfBytes number deploy stimuli = IfSome deploy (IsSilentOfDeployment number) × IfSome stimuli (IsSilentOfStimuli number)
 
--- ---- With the stimuli
-
--- The stimuli: if none are given, there are none.
-abbrev pub AreStimuli : Option (List ℕ) → List Stimulus → Type 0
-AreStimuli None stimuli = stimuli ≡ []
-AreStimuli (Some bytes) stimuli = inputs.stimuli_of bytes ≡ Ok stimuli
-
--- the stimuli are refused
-abbrev pub AreNoStimuli : Option (List ℕ) → Type 0
-AreNoStimuli None = ⊥
-AreNoStimuli (Some bytes) = (n : ℕ) × (inputs.stimuli_of bytes ≡ Err n)
-
--- The refusal applies at this location.
-abbrev pub ExceedsAt : Excess → Library → List Stimulus → Spot → Type 0
-ExceedsAt excess.Stimulus lib stimuli (spot.Stimulus p) = IsBadAt lib stimuli p
-ExceedsAt excess.Limit lib stimuli (spot.Limit l) = IsOver lib stimuli l
-ExceedsAt _ lib stimuli _ = ⊥
-
--- The refusal is not the first that applies.
-abbrev pub ExceedsNowhere : Excess → Library → Plan → List Stimulus → Type 0
-ExceedsNowhere excess lib plan stimuli = ¬ (IsLeastFault (excess_number excess) lib plan stimuli)
-
--- All were read, and the refusal applies to them at this location.
-pub record FindsExcess (excess : Excess) (declaration : List ℕ) (deploy stimuli : Option (List ℕ)) (location : Spot) : Type 0 where
-  pub library : Library
-  pub list : List Stimulus
-  pub read : IsLibraryText declaration library
-  pub listed : AreStimuli stimuli list
-  pub applies : ExceedsAt excess library list location
-
--- All were read, and the refusal is not the first that applies to them.
-pub record IsModest (excess : Excess) (declaration : List ℕ) (deploy stimuli : Option (List ℕ)) : Type 0 where
-  pub library : Library
-  pub plan : Plan
-  pub list : List Stimulus
-  pub read : IsLibraryText declaration library
-  pub planned : IsPlan deploy plan
-  pub listed : AreStimuli stimuli list
-  pub nowhere : ExceedsNowhere excess library plan list
-
--- The refusal is not the first that applies to them, or they can't be read.
-abbrev pub HasNoExcess : Excess → (declaration : List ℕ) → (deploy stimuli : Option (List ℕ)) → Type 0
-HasNoExcess excess declaration deploy stimuli =
-    IsModest excess declaration deploy stimuli ⊎ IsNoText declaration ⊎ IsNoPlan deploy ⊎ AreNoStimuli stimuli
-
 -- ---- By the number
 
 -- What is refused with this number applies at this location.
 abbrev pub FindsOf : Cause → (number : ℕ) → (declaration : List ℕ) → (deploy stimuli : Option (List ℕ)) → Spot → Type 0
 FindsOf cause.Text number declaration deploy stimuli location = FindsInText number declaration location
 FindsOf cause.Bytes number declaration deploy stimuli location = FindsInBytes number deploy stimuli location
-FindsOf (cause.Flaw flaw) number declaration deploy stimuli location = FindsFlaw flaw declaration deploy location
-FindsOf (cause.Excess excess) number declaration deploy stimuli location = FindsExcess excess declaration deploy stimuli location
+FindsOf (cause.Flaw flaw) number declaration deploy stimuli location = FindsFlaw flaw declaration deploy stimuli location
 FindsOf cause.Other number declaration deploy stimuli location = ⊥
 
--- Nothing is reported if the refusal does not apply, or if something can't be read or is refused with another number. For
--- a text, nothing may be reported in any case in which the location is hard to find.
+-- Nothing is reported if the refusal does not apply, or if something can't be read or is refused with another number.
 abbrev pub IsSilentOf : Cause → (number : ℕ) → (declaration : List ℕ) → (deploy stimuli : Option (List ℕ)) → Type 0
-IsSilentOf cause.Text number declaration deploy stimuli = Unit {0}
+IsSilentOf cause.Text number declaration deploy stimuli = IsSilentOfText number declaration
 IsSilentOf cause.Bytes number declaration deploy stimuli = IsSilentOfBytes number deploy stimuli
-IsSilentOf (cause.Flaw flaw) number declaration deploy stimuli = HasNoFlaw flaw declaration deploy
-IsSilentOf (cause.Excess excess) number declaration deploy stimuli = HasNoExcess excess declaration deploy stimuli
+IsSilentOf (cause.Flaw flaw) number declaration deploy stimuli = HasNoFlaw flaw declaration deploy stimuli
 IsSilentOf cause.Other number declaration deploy stimuli = Unit {0}
 
 -- The refusal with this number applies at this location.

@@ -12,23 +12,23 @@ use Rattle.fb_inputs_positions.specs.declared.position.DeployPosition.TheVariant
 use Rattle.fb_inputs_positions.specs.declared.position.StimuliPosition.{StimuliPosition}
 use Rattle.fb_inputs_positions.specs.declared.position.StimuliPosition.TheVariants as in_stimuli
 use Rattle.fb_why_bytes.specs.InputPlaces.{IsDeployPlace, IsStimuliPlace}
-use Rattle.fb_why_kinds.specs.declared.location.Side.{Side}
-use Rattle.fb_why_kinds.specs.declared.location.Side.TheVariants as side
-use Rattle.fb_why_kinds.specs.declared.location.UnknownName.{UnknownName}
-use Rattle.fb_why_kinds.specs.declared.location.UnknownName.TheVariants as unknown
+use Rattle.fb_findings.specs.declared.location.Side.{Side}
+use Rattle.fb_findings.specs.declared.location.Side.TheVariants as side
+use Rattle.fb_findings.specs.declared.location.UnknownName.{UnknownName}
+use Rattle.fb_findings.specs.declared.location.UnknownName.TheVariants as unknown
 use Rattle.fb_why.specs.declared.input_place.InputPosition.{InputPosition}
 use Rattle.fb_why.specs.declared.input_place.InputPosition.TheVariants as input
-use Rattle.fb_why.specs.declared.location.Limit.TheVariants as limit
-use Rattle.fb_why.specs.declared.location.StimulusFault.{StimulusFault}
-use Rattle.fb_why.specs.declared.location.StimulusFault.TheVariants as fault
-use Rattle.fb_why.specs.declared.location.StimulusLocation.{StimulusLocation}
+use Rattle.fb_check.specs.declared.location.Limit.TheVariants as limit
+use Rattle.fb_check.specs.declared.location.StimulusFault.{StimulusFault}
+use Rattle.fb_check.specs.declared.location.StimulusFault.TheVariants as fault
+use Rattle.fb_check.specs.declared.location.StimulusLocation.{StimulusLocation}
 use Rattle.fb_why.specs.declared.input_place.InputFile.TheVariants as file
 use Rattle.fb_why.specs.declared.input_place.Place.{Place}
 use Rattle.fb_why.specs.declared.spot.Spot.{Spot}
 use Rattle.fb_why.specs.declared.spot.Spot.TheVariants as spot
 use Rattle.fb_why.specs.declared.twice.GivenTwice.{GivenTwice}
 use Rattle.fb_why.specs.declared.twice.GivenTwice.TheVariants as given
-use Rattle.fb_why.specs.declared.unmapped.Unmapped.TheVariants as unmapped
+use Rattle.fb_findings.specs.declared.location.Unmapped.TheVariants as unmapped
 
 abbrev pub Text : Type 0
 Text = List ℕ

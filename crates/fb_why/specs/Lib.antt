@@ -4,15 +4,8 @@ pub mod Positions
 pub mod Places
 pub mod InputPlaces
 pub mod Findings
-pub mod Stimuli
-pub mod Trials
 pub mod Pairs
-pub mod Unmapped
 pub mod Twice
 pub mod Repeats
-pub mod Sources
-pub mod Unlinked
-pub mod Unserved
-pub mod Heights
 pub mod Applies
 pub mod Listings

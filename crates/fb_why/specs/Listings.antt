@@ -1,18 +1,25 @@
 -- The findings of one number: all locations at which it applies, and the first of them (this project's own).
-use Rattle.std.specs.Prelude.{◌≡◌, ◌≤◌, ◌⊎◌, ℕ, false, List, [], Option, Result, Ok, All, MatchOption, map, take, length, nat_lt}
+use Rattle.std.specs.Prelude.{◌≡◌, ◌≤◌, ◌⊎◌, ℕ, false, List, [], ◌∷◌, Option, Result, Ok, All, MatchOption, map, take, length, nat_lt}
 use Rattle.std.specs.Option.{option_to_list}
 use Rattle.fb_read.specs.Whole.{IsLibraryText}
 use Rattle.fb_types.specs.declared.deploy.Plan.{Plan}
+use Rattle.fb_types.specs.declared.deploy.Stimulus.{Stimulus}
 use Rattle.fb_types.specs.declared.library.Library.{Library}
-use Rattle.fb_why_kinds.specs.MisfitLists.{misfits_all, misjoins_all}
+use Rattle.fb_check_networks.specs.Misjoins.{misjoins_all}
+use Rattle.fb_why_kinds.specs.MisfitLists.{misfits_all}
 use Rattle.fb_why_kinds.specs.Unknowns.{unknown_all}
-use Rattle.fb_why.specs.Causes.{IsCause}
-use Rattle.fb_why.specs.Findings.{AppliesAt, AppliesNowhere, Finds, FindsOf, IsNoPlan, IsNoText, IsPlan, IsSilent, IsSilentOf}
+use Rattle.fb_types.specs.Accepted.{IsLeastFault}
+use Rattle.fb_check.specs.Stimuli.{AreAllBad}
+use Rattle.fb_check.specs.declared.location.StimulusLocation.{StimulusLocation}
+use Rattle.fb_check.specs.declared.refusal.Refusal.{Refusal}
+use Rattle.fb_check.specs.declared.refusal.Refusal.TheVariants as refusal
+use Rattle.fb_why.specs.Causes.{IsCause, flaw_number}
+use Rattle.fb_why.specs.Findings.{AppliesAt, AppliesNowhere, AreFed, Finds, FindsOf, IsPlan, IsSilent, IsSilentOf, IsUnread}
 use Rattle.fb_why.specs.Repeats.{twice_all}
-use Rattle.fb_why.specs.Sources.{joined_all}
-use Rattle.fb_why.specs.Unlinked.{unlinked_all}
-use Rattle.fb_why.specs.Unmapped.{unmapped_all}
-use Rattle.fb_why.specs.Unserved.{unserved_all}
+use Rattle.fb_check_networks.specs.Sources.{joined_all}
+use Rattle.fb_check_networks.specs.Links.{unlinked_all}
+use Rattle.fb_check_networks.specs.Unmapped.{unmapped_all}
+use Rattle.fb_check_networks.specs.Unserved.{unserved_all}
 use Rattle.fb_why.specs.declared.cause.Cause.{Cause}
 use Rattle.fb_why.specs.declared.cause.Cause.TheVariants as cause
 use Rattle.fb_why.specs.declared.cause.Flaw.{Flaw}
@@ -29,45 +36,78 @@ most_findings = 20
 abbrev pub locations_of : Findings → List Spot
 locations_of f = map (λ r. r.finding.location) f.shown.items
 
--- ---- A declaration and a deployment that are read
+-- ---- Inputs that are read
 
--- these are all locations of the number; of types that are too high one is listed at most
-abbrev pub AreAll : Flaw → Library → Plan → List Spot → Type 0
-AreAll flaw.Twice lib plan spots = spots ≡ map (λ p. spot.Twice p) (twice_all lib plan)
-AreAll flaw.Unknown lib plan spots = spots ≡ map (λ p. spot.Unknown p) (unknown_all lib plan)
-AreAll flaw.Misfit lib plan spots = spots ≡ map (λ p. spot.Misfit p) (misfits_all lib)
-AreAll flaw.Misjoin lib plan spots = spots ≡ map (λ p. spot.Misjoin p) (misjoins_all lib)
-AreAll flaw.Joined lib plan spots = spots ≡ map (λ p. spot.Joined p) (joined_all lib)
-AreAll flaw.TooHigh lib plan spots = length spots ≤ 1
-AreAll flaw.Unmapped lib plan spots = spots ≡ map (λ p. spot.Unmapped p) (unmapped_all lib plan)
-AreAll flaw.Unlinked lib plan spots = spots ≡ map (λ p. spot.Unlinked p) (unlinked_all lib plan)
-AreAll flaw.Unserved lib plan spots = spots ≡ map (λ p. spot.Unserved p) (unserved_all lib plan)
+-- these are stimuli, and each that the application can't take is among them
+abbrev pub AreAllStimuli : Library → List Stimulus → List Spot → Type 0
+AreAllStimuli lib stimuli spots = (found : List StimulusLocation) × (spots ≡ map (λ p. spot.Stimulus p) found) × AreAllBad lib stimuli found
+
+-- these are all locations of the number; of types that are too high and of limits one is listed at most, of a stimulus one
+-- fault, and those that the check lists are all if it refuses for this flaw first
+abbrev pub AreAll : Flaw → Library → Plan → List Stimulus → List Spot → Type 0
+AreAll flaw.Twice lib plan stimuli spots = spots ≡ map (λ p. spot.Twice p) (twice_all lib plan)
+AreAll flaw.Unknown lib plan stimuli spots = spots ≡ map (λ p. spot.Unknown p) (unknown_all lib plan)
+AreAll flaw.Misfit lib plan stimuli spots = spots ≡ map (λ p. spot.Misfit p) (misfits_all lib)
+AreAll flaw.TooHigh lib plan stimuli spots = length spots ≤ 1
+AreAll flaw.OverLimit lib plan stimuli spots = length spots ≤ 1
+AreAll flaw.Unmapped lib plan stimuli spots = IsLeastFault (flaw_number flaw.Unmapped) lib plan stimuli → spots ≡ map (λ p. spot.Unmapped p) (unmapped_all lib plan)
+AreAll flaw.Misjoin lib plan stimuli spots = IsLeastFault (flaw_number flaw.Misjoin) lib plan stimuli → spots ≡ map (λ p. spot.Misjoin p) (misjoins_all lib)
+AreAll flaw.Joined lib plan stimuli spots = IsLeastFault (flaw_number flaw.Joined) lib plan stimuli → spots ≡ map (λ p. spot.Joined p) (joined_all lib)
+AreAll flaw.Unlinked lib plan stimuli spots = IsLeastFault (flaw_number flaw.Unlinked) lib plan stimuli → spots ≡ map (λ p. spot.Unlinked p) (unlinked_all lib plan)
+AreAll flaw.Unserved lib plan stimuli spots = IsLeastFault (flaw_number flaw.Unserved) lib plan stimuli → spots ≡ map (λ p. spot.Unserved p) (unserved_all lib plan)
+AreAll flaw.BadStimulus lib plan stimuli spots = IsLeastFault (flaw_number flaw.BadStimulus) lib plan stimuli → AreAllStimuli lib stimuli spots
+
+-- The check lists the locations of these flaws.
+abbrev pub IsListed : Flaw → Type 0
+IsListed flaw.Misjoin = Unit {0}
+IsListed flaw.Joined = Unit {0}
+IsListed flaw.TooHigh = Unit {0}
+IsListed flaw.Unmapped = Unit {0}
+IsListed flaw.Unlinked = Unit {0}
+IsListed flaw.Unserved = Unit {0}
+IsListed flaw.BadStimulus = Unit {0}
+IsListed flaw.OverLimit = Unit {0}
+IsListed _ = ⊥
+
+-- the locations of a refusal, if it is one for the flaw
+abbrev pub listed_spots : Flaw → Refusal → List Spot
+listed_spots flaw.Misjoin (refusal.OutOfRange v) = map (λ p. spot.Misjoin p) v.items
+listed_spots flaw.Joined (refusal.TwoSources v) = map (λ p. spot.Joined p) v.items
+listed_spots flaw.TooHigh (refusal.TooHigh d) = spot.TooHigh d ∷ []
+listed_spots flaw.Unmapped (refusal.NotMapped v) = map (λ p. spot.Unmapped p) v.items
+listed_spots flaw.Unlinked (refusal.NoLink v) = map (λ p. spot.Unlinked p) v.items
+listed_spots flaw.Unserved (refusal.NoEvent v) = map (λ p. spot.Unserved p) v.items
+listed_spots flaw.BadStimulus (refusal.BadStimulus v) = map (λ p. spot.Stimulus p) v.items
+listed_spots flaw.OverLimit (refusal.OverLimit l) = spot.Limit l ∷ []
+listed_spots _ _ = []
 
 -- The refusal applies at each of these locations, and nowhere if there is none.
-pub record AreSpots (flaw : Flaw) (lib : Library) (plan : Plan) (spots : List Spot) : Type 0 where
-  pub each : All (AppliesAt flaw lib plan) spots
-  pub none : spots ≡ [] → AppliesNowhere flaw lib plan
-  pub all : AreAll flaw lib plan spots
+pub record AreSpots (flaw : Flaw) (lib : Library) (plan : Plan) (stimuli : List Stimulus) (spots : List Spot) : Type 0 where
+  pub each : All (AppliesAt flaw lib plan stimuli) spots
+  pub none : spots ≡ [] → AppliesNowhere flaw lib plan stimuli
+  pub all : AreAll flaw lib plan stimuli spots
 
 -- They were read, and the first of their locations are shown.
-pub record AreShown (flaw : Flaw) (declaration : List ℕ) (deploy : Option (List ℕ)) (f : Findings) : Type 0 where
+pub record AreShown (flaw : Flaw) (declaration : List ℕ) (deploy stimuli : Option (List ℕ)) (f : Findings) : Type 0 where
   pub library : Library
   pub plan : Plan
+  pub list : List Stimulus
   pub spots : List Spot
   pub read : IsLibraryText declaration library
   pub planned : IsPlan deploy plan
-  pub are : AreSpots flaw library plan spots
+  pub fed : AreFed flaw stimuli list
+  pub are : AreSpots flaw library plan list spots
   pub shown : locations_of f ≡ take most_findings spots
   pub more : f.more ≡ nat_lt most_findings (length spots)
 
 -- They can't be read, and nothing is shown.
-pub record AreUnread (declaration : List ℕ) (deploy : Option (List ℕ)) (f : Findings) : Type 0 where
+pub record AreUnread (flaw : Flaw) (declaration : List ℕ) (deploy stimuli : Option (List ℕ)) (f : Findings) : Type 0 where
   pub nothing : f.shown.items ≡ []
   pub no_more : f.more ≡ false
-  pub unread : IsNoText declaration ⊎ IsNoPlan deploy
+  pub unread : IsUnread flaw declaration deploy stimuli
 
-abbrev pub AreFlaws : Flaw → (declaration : List ℕ) → (deploy : Option (List ℕ)) → Findings → Type 0
-AreFlaws flaw declaration deploy f = AreShown flaw declaration deploy f ⊎ AreUnread declaration deploy f
+abbrev pub AreFlaws : Flaw → (declaration : List ℕ) → (deploy stimuli : Option (List ℕ)) → Findings → Type 0
+AreFlaws flaw declaration deploy stimuli f = AreShown flaw declaration deploy stimuli f ⊎ AreUnread flaw declaration deploy stimuli f
 
 -- ---- By the number
 
@@ -84,7 +124,7 @@ pub record AreOne (c : Cause) (number : ℕ) (declaration : List ℕ) (deploy st
 
 -- what is shown for this cause
 abbrev pub AreFoundBy : Cause → (number : ℕ) → (declaration : List ℕ) → (deploy stimuli : Option (List ℕ)) → Findings → Type 0
-AreFoundBy (cause.Flaw flaw) number declaration deploy stimuli f = AreFlaws flaw declaration deploy f
+AreFoundBy (cause.Flaw flaw) number declaration deploy stimuli f = AreFlaws flaw declaration deploy stimuli f
 AreFoundBy c number declaration deploy stimuli f = AreOne c number declaration deploy stimuli f
 
 -- What is shown for the refusal with this number. It applies at each of the locations.

@@ -1,5 +1,5 @@
 -- Where a location is in the text of the declaration (this project's own).
-use Rattle.std.specs.Prelude.{◌≡◌, ◌⊎◌, Option, Some, None, Result, Ok, Err, IfSome, MatchOption}
+use Rattle.std.specs.Prelude.{◌≡◌, ◌⊎◌, Option, Some, None, IfSome, MatchOption}
 use Rattle.fb_types.specs.declared.library.Library.{Library}
 use Rattle.fb_read.specs.Blank.{Text}
 use Rattle.fb_read.specs.Whole.{IsLibraryText}
@@ -29,11 +29,6 @@ pub record IsShown (text : Text) (location : Spot) (place : TextLocation) : Type
   pub position : Position
   pub position_is : position_of library location ≡ Some position
   pub placed : IsPlaceAt text library position place
-
--- this is the place that was found, if memory did not run out
-abbrev pub IsPlaceIn : {E : Type 0} → Option TextLocation → Result (Option TextLocation) E → Type 0
-IsPlaceIn place (Ok p) = place ≡ p
-IsPlaceIn place (Err e) = ⊥
 
 -- what was found, with a place
 abbrev pub Keeps : Option Finding → Option PlacedFinding → Type 0

@@ -28,30 +28,31 @@ use Rattle.fb_read_positions.specs.declared.position.Position.{Position}
 use Rattle.fb_read_positions.specs.declared.position.Position.TheVariants as position
 use Rattle.fb_read_positions.specs.declared.position.TransitionPart.{TransitionPart}
 use Rattle.fb_read_positions.specs.declared.position.TransitionPart.TheVariants as transition_part
-use Rattle.fb_why_kinds.specs.declared.location.ActionPart.{ActionPart}
-use Rattle.fb_why_kinds.specs.declared.location.ActionPart.TheVariants as action_name
-use Rattle.fb_why_kinds.specs.declared.location.Direction.{Direction}
-use Rattle.fb_why_kinds.specs.declared.location.Direction.TheVariants as direction
-use Rattle.fb_why_kinds.specs.declared.location.FlowKind.{FlowKind}
-use Rattle.fb_why_kinds.specs.declared.location.FlowKind.TheVariants as flow
-use Rattle.fb_why_kinds.specs.declared.location.Misfit.{Misfit}
-use Rattle.fb_why_kinds.specs.declared.location.Misfit.TheVariants as misfit
-use Rattle.fb_why_kinds.specs.declared.location.Side.{Side}
-use Rattle.fb_why_kinds.specs.declared.location.Side.TheVariants as side
-use Rattle.fb_why_kinds.specs.declared.location.Site.{Site}
-use Rattle.fb_why_kinds.specs.declared.location.Site.TheVariants as site
-use Rattle.fb_why_kinds.specs.declared.location.TransitionPart.{TransitionPart as NamedPart}
-use Rattle.fb_why_kinds.specs.declared.location.TransitionPart.TheVariants as transition_name
-use Rattle.fb_why_kinds.specs.declared.location.UnknownName.{UnknownName}
-use Rattle.fb_why_kinds.specs.declared.location.UnknownName.TheVariants as unknown
-use Rattle.fb_why_kinds.specs.declared.location.Variables.{Variables}
-use Rattle.fb_why_kinds.specs.declared.location.Variables.TheVariants as variables
-use Rattle.fb_why.specs.declared.heights.Descent.{Descent}
-use Rattle.fb_why.specs.declared.heights.Descent.TheVariants as descent
-use Rattle.fb_why.specs.declared.location.Limit.{Limit}
-use Rattle.fb_why.specs.declared.location.Limit.TheVariants as limit
-use Rattle.fb_why.specs.declared.sources.Joined.{Joined}
-use Rattle.fb_why.specs.declared.sources.Joined.TheVariants as joined
+use Rattle.fb_findings.specs.declared.location.ActionPart.{ActionPart}
+use Rattle.fb_findings.specs.declared.location.ActionPart.TheVariants as action_name
+use Rattle.fb_findings.specs.declared.location.Direction.{Direction}
+use Rattle.fb_findings.specs.declared.location.Direction.TheVariants as direction
+use Rattle.fb_findings.specs.declared.location.FlowKind.{FlowKind}
+use Rattle.fb_findings.specs.declared.location.FlowKind.TheVariants as flow
+use Rattle.fb_findings.specs.declared.location.Misfit.{Misfit}
+use Rattle.fb_findings.specs.declared.location.Misfit.TheVariants as misfit
+use Rattle.fb_findings.specs.declared.location.Side.{Side}
+use Rattle.fb_findings.specs.declared.location.Side.TheVariants as side
+use Rattle.fb_findings.specs.declared.location.Site.{Site}
+use Rattle.fb_findings.specs.declared.location.Site.TheVariants as site
+use Rattle.fb_findings.specs.declared.location.StatementPart.{StatementPart}
+use Rattle.fb_findings.specs.declared.location.StatementPart.TheVariants as part
+use Rattle.fb_findings.specs.declared.location.TransitionPart.{TransitionPart as NamedPart}
+use Rattle.fb_findings.specs.declared.location.TransitionPart.TheVariants as transition_name
+use Rattle.fb_findings.specs.declared.location.UnknownName.{UnknownName}
+use Rattle.fb_findings.specs.declared.location.UnknownName.TheVariants as unknown
+use Rattle.fb_findings.specs.declared.location.Variables.{Variables}
+use Rattle.fb_findings.specs.declared.location.Variables.TheVariants as variables
+use Rattle.fb_findings.specs.declared.location.Descent.{Descent}
+use Rattle.fb_findings.specs.declared.location.Descent.TheVariants as descent
+use Rattle.fb_check.specs.declared.location.Limit.{Limit}
+use Rattle.fb_check.specs.declared.location.Limit.TheVariants as limit
+use Rattle.fb_findings.specs.declared.location.Joined.{Joined}
 use Rattle.fb_why.specs.declared.spot.Spot.{Spot}
 use Rattle.fb_why.specs.declared.spot.Spot.TheVariants as spot
 use Rattle.fb_why.specs.declared.twice.GivenTwice.{GivenTwice}
@@ -60,10 +61,9 @@ use Rattle.fb_why.specs.declared.twice.InBlock.{InBlock}
 use Rattle.fb_why.specs.declared.twice.InBlock.TheVariants as in_block
 use Rattle.fb_why.specs.declared.twice.InNetwork.{InNetwork}
 use Rattle.fb_why.specs.declared.twice.InNetwork.TheVariants as in_network
-use Rattle.fb_why.specs.declared.unlinked.Unlinked.{Unlinked}
-use Rattle.fb_why.specs.declared.unlinked.Unlinked.TheVariants as unlinked
-use Rattle.fb_why.specs.declared.unmapped.Unmapped.{Unmapped}
-use Rattle.fb_why.specs.declared.unmapped.Unmapped.TheVariants as unmapped
+use Rattle.fb_findings.specs.declared.location.Unlinked.{Unlinked}
+use Rattle.fb_findings.specs.declared.location.Unmapped.{Unmapped}
+use Rattle.fb_findings.specs.declared.location.Unmapped.TheVariants as unmapped
 
 -- a part of the network of a site
 abbrev pub in_site : Site → NetworkPart → Position
@@ -184,18 +184,21 @@ variable_position block variables.Inputs k = position.InPorts block (port_part.I
 variable_position block variables.Outputs k = position.InPorts block (port_part.Output k)
 variable_position block variables.Internals k = position.InBasic block (basic_part.Internal k)
 
--- of a statement where the statement begins
+-- a condition of an IF at its IF or ELSIF, and anything else where the statement begins
+abbrev pub statement_part : (algorithm statement : ℕ) → StatementPart → BasicPart
+statement_part algorithm statement (part.Choice k) = basic_part.Clause algorithm statement k
+statement_part algorithm statement _ = basic_part.Statement algorithm statement
+
 abbrev pub misfit_position : Misfit → Position
 misfit_position (misfit.Initial block list k) = variable_position block list k
 misfit_position (misfit.Parameter s instance parameter) = in_site s (network_part.Parameter instance parameter)
 misfit_position (misfit.Guard block k) = position.InBasic block (basic_part.Transition k transition_part.Guard)
-misfit_position (misfit.Statement block algorithm statement part) = position.InBasic block (basic_part.Statement algorithm statement)
+misfit_position (misfit.Statement block algorithm statement which) = position.InBasic block (statement_part algorithm statement which)
 
 -- ---- Networks and their mapping
 
 abbrev pub joined_position : Joined → Position
-joined_position (joined.Application pair) = data_position site.Application pair.1
-joined_position (joined.Inside block pair) = data_position (site.Inside block) pair.1
+joined_position j = data_position j.site j.connections.1
 
 abbrev pub descent_position : Descent → Position
 descent_position (descent.Circle block instance) = position.InComposite block (network_part.Instance instance)
@@ -205,9 +208,12 @@ abbrev pub unmapped_position : Unmapped → Option Position
 unmapped_position (unmapped.Unlisted instance) = Some (position.InApplication (network_part.Instance instance))
 unmapped_position (unmapped.Again pair) = None
 
+abbrev pub event_or_data : FlowKind → ℕ → Position
+event_or_data flow.Events k = position.InApplication (network_part.EventConnection k connection_part.From)
+event_or_data flow.Data k = data_position site.Application k
+
 abbrev pub unlinked_position : Unlinked → Position
-unlinked_position (unlinked.Event connection) = position.InApplication (network_part.EventConnection connection connection_part.From)
-unlinked_position (unlinked.Data connection) = data_position site.Application connection
+unlinked_position u = event_or_data u.flow u.connection
 
 -- too many instances are shown at the name of the application
 abbrev pub limit_position : Limit → Option Position

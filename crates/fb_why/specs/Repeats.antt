@@ -13,13 +13,14 @@ use Rattle.fb_types.specs.declared.library.Ports.{Ports}
 use Rattle.fb_types.specs.declared.library.Variable.{Variable}
 use Rattle.fb_types.specs.declared.deploy.Plan.{Plan}
 use Rattle.fb_check_names.specs.GivenTwice.{names_of_ports}
-use Rattle.fb_why_kinds.specs.Listed.{each_at, unless}
+use Rattle.fb_findings.specs.Listed.{each_at, unless}
 use Rattle.fb_why_kinds.specs.Unknown.{events_of}
-use Rattle.fb_why_kinds.specs.declared.location.Direction.{Direction}
-use Rattle.fb_why_kinds.specs.declared.location.Direction.TheVariants.{Input, Output}
-use Rattle.fb_why_kinds.specs.declared.location.Site.{Site}
-use Rattle.fb_why_kinds.specs.declared.location.Site.TheVariants as site
-use Rattle.fb_why.specs.Pairs.{repeats, same_ends, same_sides}
+use Rattle.fb_findings.specs.declared.location.Direction.{Direction}
+use Rattle.fb_findings.specs.declared.location.Direction.TheVariants.{Input, Output}
+use Rattle.fb_findings.specs.declared.location.Site.{Site}
+use Rattle.fb_findings.specs.declared.location.Site.TheVariants as site
+use Rattle.fb_findings.specs.Repeats.{repeats}
+use Rattle.fb_why.specs.Pairs.{same_ends, same_sides}
 use Rattle.fb_why.specs.Twice.{is_own_name, parameter_names}
 use Rattle.fb_why.specs.declared.twice.GivenTwice.{GivenTwice}
 use Rattle.fb_why.specs.declared.twice.GivenTwice.TheVariants as given

@@ -14,7 +14,7 @@ use Rattle.fb_types.specs.declared.library.Ports.{Ports}
 use Rattle.fb_types.specs.declared.library.Variable.{Variable}
 use Rattle.fb_types.specs.declared.deploy.Plan.{Plan}
 use Rattle.fb_check_names.specs.GivenTwice.{names_of_ports}
-use Rattle.fb_why.specs.Pairs.{IsPair}
+use Rattle.fb_findings.specs.Repeats.{IsPair}
 use Rattle.fb_why.specs.declared.twice.InNetwork.{InNetwork}
 use Rattle.fb_why.specs.declared.twice.InNetwork.TheVariants as network
 use Rattle.fb_why.specs.declared.twice.InBlock.{InBlock}

@@ -1,9 +1,9 @@
 //! What a refusal is about, by its number.
 
 ghost use Rattle.std.specs.Prelude.{◌≡◌};
-ghost use Rattle.fb_why.specs.Causes.{IsCause};
+ghost use Rattle.fb_why.specs.Causes.{IsCause, is_of_stimuli};
 
-/// A refusal of a declaration and a deployment that can be read.
+/// A refusal of inputs that can be read.
 #[derive(Clone, Copy)]
 pub enum Flaw {
     /// Something is given twice (E20).
@@ -24,15 +24,10 @@ pub enum Flaw {
     Unlinked,
     /// A data connection between two resources is served by no event (E28).
     Unserved,
-}
-
-/// A refusal of inputs with their stimuli.
-#[derive(Clone, Copy)]
-pub enum Excess {
     /// A stimulus does not fit its event input (E29).
-    Stimulus,
+    BadStimulus,
     /// There are too many instances or stimuli (E30).
-    Limit,
+    OverLimit,
 }
 
 /// What a refusal is about.
@@ -42,12 +37,17 @@ pub enum Cause {
     Text,
     /// The bytes of the deployment or of the stimuli (E10 to E16).
     Bytes,
-    /// What the declaration and the deployment say together (E20 to E28).
+    /// What the inputs say together (E20 to E30).
     Flaw(Flaw),
-    /// What they say with the stimuli (E29 and E30).
-    Excess(Excess),
     /// No location is reported.
     Other,
+}
+
+/// Whether a refusal is about the stimuli too.
+pub(crate) fn is_of_stimuli(flaw: Flaw) -> bool
+    ensures { result ≡ is_of_stimuli flaw }
+{
+    matches!(flaw, Flaw::BadStimulus | Flaw::OverLimit)
 }
 
 /// What the refusal with this number is about.
@@ -66,8 +66,8 @@ pub(crate) fn cause_of(number: u8) -> Cause
         26 => Cause::Flaw(Flaw::Unmapped),
         27 => Cause::Flaw(Flaw::Unlinked),
         28 => Cause::Flaw(Flaw::Unserved),
-        29 => Cause::Excess(Excess::Stimulus),
-        30 => Cause::Excess(Excess::Limit),
+        29 => Cause::Flaw(Flaw::BadStimulus),
+        30 => Cause::Flaw(Flaw::OverLimit),
         _ => Cause::Other,
     }
 }

@@ -1,23 +1,19 @@
-//! Where a refusal applies to a declaration and a deployment that can be read.
+//! Where a refusal applies to inputs that can be read.
 
-ghost use Rattle.std.specs.Prelude.{◌≡◌, ◌∷◌, [], IfOk, map};
+ghost use Rattle.std.specs.Prelude.{◌≡◌, ◌∷◌, [], IfOk, List, map};
 ghost use Rattle.fb_types.specs.declared.deploy.Plan.{Plan};
-ghost use Rattle.fb_why.specs.Listings.{AreSpots};
+ghost use Rattle.fb_types.specs.declared.deploy.Stimulus.{Stimulus};
+ghost use Rattle.fb_why.specs.Listings.{AreSpots, IsListed, listed_spots};
 ghost use Rattle.fb_why.specs.declared.cause.Flaw.TheVariants as flaw;
 ghost use Rattle.fb_why.specs.declared.spot.Spot.TheVariants as spot;
 
 use crate::cause::Flaw;
-use crate::heights::too_high_location;
-use crate::sources::{Joined, joined_locations};
 use crate::spot::Spot;
 use crate::twice::{GivenTwice, twice_locations};
-use crate::unlinked::{Unlinked, unlinked_locations};
-use crate::unmapped::{Unmapped, unmapped_locations};
-use crate::unserved::unserved_locations;
+use fb_check::{Case, Refusal, StimulusLocation, why_refused};
+use fb_findings::{Joined, Misfit, Misjoin, UnknownName, Unlinked, Unmapped};
 use fb_types::{Library, Plan};
-use fb_why_kinds::{
-    Misfit, Misjoin, UnknownName, misfit_locations, misjoin_locations, unknown_locations,
-};
+use fb_why_kinds::{misfit_locations, unknown_locations};
 use std::alloc::{AllocError, Global};
 
 /// What is given twice, as locations of a refusal.
@@ -76,9 +72,16 @@ fn unserved_spots(alloc: Global, found: &[usize]) -> Result<Vec<Spot>, AllocErro
     found.iter().map(|p| Spot::Unserved(*p)).collect(alloc)
 }
 
+/// Stimuli that the application can't take, as locations of a refusal.
+fn stimulus_spots(alloc: Global, found: &[StimulusLocation]) -> Result<Vec<Spot>, AllocError>
+    ensures { IfOk result (λ spots. spots.items ≡ map (λ p. spot.Stimulus p) found.now) }
+{
+    found.iter().map(|p| Spot::Stimulus(*p)).collect(alloc)
+}
+
 /// All that is given twice.
 fn all_twice(alloc: Global, library: &Library, plan: &Plan) -> Result<Vec<Spot>, AllocError>
-    ensures { IfOk result (λ spots. AreSpots flaw.Twice library.now plan.now spots.items) }
+    ensures { (stimuli : List Stimulus) → IfOk result (λ spots. AreSpots flaw.Twice library.now plan.now stimuli spots.items) }
 {
     let found = twice_locations(alloc, library, plan)?;
     twice_spots(alloc, found.as_slice())
@@ -86,7 +89,7 @@ fn all_twice(alloc: Global, library: &Library, plan: &Plan) -> Result<Vec<Spot>,
 
 /// All unknown names.
 fn all_unknown(alloc: Global, library: &Library, plan: &Plan) -> Result<Vec<Spot>, AllocError>
-    ensures { IfOk result (λ spots. AreSpots flaw.Unknown library.now plan.now spots.items) }
+    ensures { (stimuli : List Stimulus) → IfOk result (λ spots. AreSpots flaw.Unknown library.now plan.now stimuli spots.items) }
 {
     let found = unknown_locations(alloc, library, plan)?;
     unknown_spots(alloc, found.as_slice())
@@ -94,50 +97,10 @@ fn all_unknown(alloc: Global, library: &Library, plan: &Plan) -> Result<Vec<Spot
 
 /// All wrong kinds.
 fn all_misfit(alloc: Global, library: &Library) -> Result<Vec<Spot>, AllocError>
-    ensures { (plan : Plan) → IfOk result (λ spots. AreSpots flaw.Misfit library.now plan spots.items) }
+    ensures { (plan : Plan) (stimuli : List Stimulus) → IfOk result (λ spots. AreSpots flaw.Misfit library.now plan stimuli spots.items) }
 {
     let found = misfit_locations(alloc, library)?;
     misfit_spots(alloc, found.as_slice())
-}
-
-/// All data connections that lead out of range.
-fn all_misjoin(alloc: Global, library: &Library) -> Result<Vec<Spot>, AllocError>
-    ensures { (plan : Plan) → IfOk result (λ spots. AreSpots flaw.Misjoin library.now plan spots.items) }
-{
-    let found = misjoin_locations(alloc, library)?;
-    misjoin_spots(alloc, found.as_slice())
-}
-
-/// All data connections that lead to one port.
-fn all_joined(alloc: Global, library: &Library) -> Result<Vec<Spot>, AllocError>
-    ensures { (plan : Plan) → IfOk result (λ spots. AreSpots flaw.Joined library.now plan spots.items) }
-{
-    let found = joined_locations(alloc, library)?;
-    joined_spots(alloc, found.as_slice())
-}
-
-/// All instances that are not mapped to one resource.
-fn all_unmapped(alloc: Global, library: &Library, plan: &Plan) -> Result<Vec<Spot>, AllocError>
-    ensures { IfOk result (λ spots. AreSpots flaw.Unmapped library.now plan.now spots.items) }
-{
-    let found = unmapped_locations(alloc, library, plan)?;
-    unmapped_spots(alloc, found.as_slice())
-}
-
-/// All connections without a link.
-fn all_unlinked(alloc: Global, library: &Library, plan: &Plan) -> Result<Vec<Spot>, AllocError>
-    ensures { IfOk result (λ spots. AreSpots flaw.Unlinked library.now plan.now spots.items) }
-{
-    let found = unlinked_locations(alloc, library, plan)?;
-    unlinked_spots(alloc, found.as_slice())
-}
-
-/// All data connections that no event serves.
-fn all_unserved(alloc: Global, library: &Library, plan: &Plan) -> Result<Vec<Spot>, AllocError>
-    ensures { IfOk result (λ spots. AreSpots flaw.Unserved library.now plan.now spots.items) }
-{
-    let found = unserved_locations(alloc, library, plan)?;
-    unserved_spots(alloc, found.as_slice())
 }
 
 /// One location.
@@ -149,35 +112,51 @@ fn one_spot(alloc: Global, spot: Spot) -> Result<Vec<Spot>, AllocError>
     Ok(spots)
 }
 
-/// A composite type that contains itself or is too high, if there is one.
-fn one_too_high(alloc: Global, library: &Library) -> Result<Vec<Spot>, AllocError>
-    ensures { (plan : Plan) → IfOk result (λ spots. AreSpots flaw.TooHigh library.now plan spots.items) }
+/// The locations of a refusal, if it is one for this flaw.
+fn listed_spots(alloc: Global, flaw: Flaw, refusal: &Refusal) -> Result<Vec<Spot>, AllocError>
+    ensures { IfOk result (λ spots. spots.items ≡ listed_spots flaw refusal.now) }
 {
-    match too_high_location(alloc, library)? {
-        Some(location) => one_spot(alloc, Spot::TooHigh(location)),
+    match (flaw, refusal) {
+        (Flaw::Misjoin, Refusal::OutOfRange(found)) => misjoin_spots(alloc, found.as_slice()),
+        (Flaw::Joined, Refusal::TwoSources(found)) => joined_spots(alloc, found.as_slice()),
+        (Flaw::TooHigh, Refusal::TooHigh(location)) => one_spot(alloc, Spot::TooHigh(*location)),
+        (Flaw::Unmapped, Refusal::NotMapped(found)) => unmapped_spots(alloc, found.as_slice()),
+        (Flaw::Unlinked, Refusal::NoLink(found)) => unlinked_spots(alloc, found.as_slice()),
+        (Flaw::Unserved, Refusal::NoEvent(found)) => unserved_spots(alloc, found.as_slice()),
+        (Flaw::BadStimulus, Refusal::BadStimulus(found)) => stimulus_spots(alloc, found.as_slice()),
+        (Flaw::OverLimit, Refusal::OverLimit(limit)) => one_spot(alloc, Spot::Limit(*limit)),
+        _ => Ok(Vec::new(alloc)),
+    }
+}
+
+/// The locations that the check lists, if it refuses inputs for this flaw.
+fn refused_spots(alloc: Global, flaw: Flaw, case: &Case) -> Result<Vec<Spot>, AllocError>
+    requires { IsListed flaw }
+    ensures { IfOk result (λ spots. AreSpots flaw case.now.library.now case.now.plan.now case.now.stimuli.now spots.items) }
+{
+    match why_refused(alloc, case)? {
+        Some(refusal) => listed_spots(alloc, flaw, &refusal),
         None => Ok(Vec::new(alloc)),
     }
 }
 
-/// The locations at which the refusal applies to a declaration and a deployment: all, in the order of the declaration. Of
-/// types that are too high it is one.
-pub fn spots_in(
-    alloc: Global,
-    flaw: Flaw,
-    library: &Library,
-    plan: &Plan,
-) -> Result<Vec<Spot>, AllocError>
-    ensures { IfOk result (λ spots. AreSpots flaw library.now plan.now spots.items) }
+/// The locations at which the refusal applies to inputs: all, in the order of the declaration or of the stimuli. Of types
+/// that are too high and of limits it is one. Those that the check lists itself are there if it refuses for this flaw
+/// first.
+pub fn spots_in(alloc: Global, flaw: Flaw, case: &Case) -> Result<Vec<Spot>, AllocError>
+    ensures { IfOk result (λ spots. AreSpots flaw case.now.library.now case.now.plan.now case.now.stimuli.now spots.items) }
 {
     match flaw {
-        Flaw::Twice => all_twice(alloc, library, plan),
-        Flaw::Unknown => all_unknown(alloc, library, plan),
-        Flaw::Misfit => all_misfit(alloc, library),
-        Flaw::Misjoin => all_misjoin(alloc, library),
-        Flaw::Joined => all_joined(alloc, library),
-        Flaw::TooHigh => one_too_high(alloc, library),
-        Flaw::Unmapped => all_unmapped(alloc, library, plan),
-        Flaw::Unlinked => all_unlinked(alloc, library, plan),
-        Flaw::Unserved => all_unserved(alloc, library, plan),
+        Flaw::Twice => all_twice(alloc, case.library, case.plan),
+        Flaw::Unknown => all_unknown(alloc, case.library, case.plan),
+        Flaw::Misfit => all_misfit(alloc, case.library),
+        Flaw::Misjoin => refused_spots(alloc, Flaw::Misjoin, case),
+        Flaw::Joined => refused_spots(alloc, Flaw::Joined, case),
+        Flaw::TooHigh => refused_spots(alloc, Flaw::TooHigh, case),
+        Flaw::Unmapped => refused_spots(alloc, Flaw::Unmapped, case),
+        Flaw::Unlinked => refused_spots(alloc, Flaw::Unlinked, case),
+        Flaw::Unserved => refused_spots(alloc, Flaw::Unserved, case),
+        Flaw::BadStimulus => refused_spots(alloc, Flaw::BadStimulus, case),
+        Flaw::OverLimit => refused_spots(alloc, Flaw::OverLimit, case),
     }
 }

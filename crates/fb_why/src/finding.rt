@@ -1,39 +1,30 @@
 //! Finds where a refusal applies: reads the bytes again, and searches for the locations at which the refusal applies.
 
-ghost use Rattle.std.specs.Prelude.{◌≡◌, ℕ, [], All, List, Option, None, IfOk, IfSome, MatchOption, false, option_map};
+ghost use Rattle.std.specs.Prelude.{◌≡◌, ℕ, [], All, List, Option, IfOk, IfSome, MatchOption, false, option_map};
 ghost use Rattle.fb_read.specs.Whole.{IsLibraryText, IsMemory};
-ghost use Rattle.fb_why.specs.Findings.{AreNoStimuli, AreStimuli, HasNoExcess, IsNoPlan, IsPlan, IsSilentOfBytes, FindsExcess, FindsInBytes, FindsInText};
+ghost use Rattle.fb_why.specs.Findings.{AreFed, AreNoStimuli, AreNotFed, AreStimuli, IsNoPlan, IsPlan, IsSilentOfBytes, IsSilentOfText, FindsInBytes, FindsInText};
 ghost use Rattle.fb_why.specs.Listings.{AreFlaws, AreFound, AreFoundBy, AreShown, IsOnce};
 ghost use Rattle.fb_why.specs.Places.{IsPlacedFinding};
 
-use crate::cause::{Cause, Excess, Flaw, cause_of};
+use crate::cause::{Cause, Flaw, cause_of, is_of_stimuli};
 use crate::declared::spots_in;
-use crate::fed::finding_with;
 use crate::listing::{Findings, listed, one};
-use crate::place::{PlacedFinding, placed_in, placed_itself};
+use crate::place::{PlacedFinding, placed_itself};
 use crate::refused::{bytes_finding, text_finding};
-use crate::spot::Finding;
+use fb_check::Case;
 use fb_inputs::{InputError, read_deploy, read_stimuli};
 use fb_read::{ReadError, discard, read_library};
 use fb_types::{Deploy, Library, Plan, Stimulus};
 use std::alloc::{AllocError, Global};
 
-/// The result for a declaration that can't be read: no finding, unless memory ran out.
-fn no_finding(fault: ReadError) -> Result<Option<PlacedFinding>, AllocError>
-    ensures { IfOk result (λ o. (o ≡ None) × ¬ (IsMemory fault)) }
-{
-    match fault {
-        ReadError::Memory => Err(AllocError),
-        _ => Ok(None),
-    }
-}
-
-/// The same, as the findings of a number.
+/// The findings for a declaration that can't be read: none, unless memory ran out.
 fn no_findings(alloc: Global, fault: ReadError) -> Result<Findings, AllocError>
     ensures { IfOk result (λ f. (f.shown.items ≡ []) × (f.more ≡ false) × ¬ (IsMemory fault)) }
 {
-    let none = no_finding(fault)?;
-    one(alloc, none)
+    match fault {
+        ReadError::Memory => Err(AllocError),
+        _ => one(alloc, None),
+    }
 }
 
 /// The deployment that is given, or the default one if none is given. `None` if the bytes are refused.
@@ -64,131 +55,97 @@ fn stimuli_of(alloc: Global, stimuli: Option<&[u8]>) -> Result<Option<Vec<Stimul
     }
 }
 
-/// Where the refusal applies to a library, which this text declares, and to a plan.
+/// The stimuli that a refusal is about: those that are given, or none. `None` if the bytes are refused.
+fn fed_stimuli(
+    alloc: Global,
+    flaw: Flaw,
+    stimuli: Option<&[u8]>,
+) -> Result<Option<Vec<Stimulus>>, AllocError>
+    ensures { let given = option_map (λ b. b.now) stimuli.entry in IfOk result (λ o. MatchOption o (AreNotFed flaw given) (λ v. AreFed flaw given v.items)) }
+{
+    if is_of_stimuli(flaw) {
+        stimuli_of(alloc, stimuli)
+    } else {
+        Ok(Some(Vec::new(alloc)))
+    }
+}
+
+/// Where the refusal applies to inputs, whose library this text declares.
 fn flaws_of(
+    alloc: Global,
+    flaw: Flaw,
+    declaration: &[u8],
+    case: &Case,
+) -> Result<Findings, AllocError>
+    requires { IsLibraryText declaration.now case.now.library.now }
+    ensures found { (deploy stimuli : Option (List ℕ)) → IsPlan deploy case.now.plan.now → AreFed flaw stimuli case.now.stimuli.now → IfOk result (AreShown flaw declaration.now deploy stimuli) }
+    ensures placed { IfOk result (λ f. All (IsPlacedFinding declaration.now) f.shown.items) }
+{
+    let spots = spots_in(alloc, flaw, case)?;
+    listed(alloc, declaration, case, spots.as_slice())
+}
+
+/// Where the refusal applies to a library, which this text declares, to a plan, and to the stimuli in these bytes.
+fn flaws_with(
     alloc: Global,
     flaw: Flaw,
     declaration: &[u8],
     library: &Library,
     plan: &Plan,
+    stimuli: Option<&[u8]>,
 ) -> Result<Findings, AllocError>
     requires { IsLibraryText declaration.now library.now }
-    ensures found { (deploy : Option (List ℕ)) → IsPlan deploy plan.now → IfOk result (AreShown flaw declaration.now deploy) }
+    ensures found { (deploy : Option (List ℕ)) → IsPlan deploy plan.now → IfOk result (AreFlaws flaw declaration.now deploy (option_map (λ b. b.now) stimuli.entry)) }
     ensures placed { IfOk result (λ f. All (IsPlacedFinding declaration.now) f.shown.items) }
 {
-    let spots = spots_in(alloc, flaw, library, plan)?;
-    listed(alloc, declaration, library, plan, spots.as_slice())
+    let Some(stimuli) = fed_stimuli(alloc, flaw, stimuli)? else {
+        return one(alloc, None);
+    };
+    let case = Case {
+        library,
+        plan,
+        stimuli: stimuli.as_slice(),
+    };
+    flaws_of(alloc, flaw, declaration, &case)
 }
 
-/// Where the refusal applies to a library, which this text declares, and to the deployment in these bytes.
+/// Where the refusal applies to a library, which this text declares, and to the deployment and the stimuli in these bytes.
 fn flaws_in(
     alloc: Global,
     flaw: Flaw,
     declaration: &[u8],
     library: &Library,
     deploy: Option<&[u8]>,
+    stimuli: Option<&[u8]>,
 ) -> Result<Findings, AllocError>
     requires { IsLibraryText declaration.now library.now }
-    ensures found { IfOk result (AreFlaws flaw declaration.now (option_map (λ b. b.now) deploy.entry)) }
+    ensures found { IfOk result (AreFlaws flaw declaration.now (option_map (λ b. b.now) deploy.entry) (option_map (λ b. b.now) stimuli.entry)) }
     ensures placed { IfOk result (λ f. All (IsPlacedFinding declaration.now) f.shown.items) }
 {
     let Some(deploy) = deploy_of(alloc, deploy)? else {
         return one(alloc, None);
     };
-    flaws_of(alloc, flaw, declaration, library, deploy.plan())
+    flaws_with(alloc, flaw, declaration, library, deploy.plan(), stimuli)
 }
 
-/// Where the refusal applies to the declaration and the deployment in these bytes.
+/// Where the refusal applies to the inputs in these bytes.
 fn flaw_findings(
     alloc: Global,
     flaw: Flaw,
     declaration: &[u8],
     deploy: Option<&[u8]>,
+    stimuli: Option<&[u8]>,
 ) -> Result<Findings, AllocError>
-    ensures found { IfOk result (AreFlaws flaw declaration.now (option_map (λ b. b.now) deploy.entry)) }
+    ensures found { IfOk result (AreFlaws flaw declaration.now (option_map (λ b. b.now) deploy.entry) (option_map (λ b. b.now) stimuli.entry)) }
     ensures placed { IfOk result (λ f. All (IsPlacedFinding declaration.now) f.shown.items) }
 {
     match read_library(alloc, declaration) {
         Ok(library) => {
-            let findings = flaws_in(alloc, flaw, declaration, &library, deploy);
+            let findings = flaws_in(alloc, flaw, declaration, &library, deploy, stimuli);
             discard(library);
             findings
         }
         Err(fault) => no_findings(alloc, fault),
-    }
-}
-
-/// Where the refusal applies to a library, a plan and the stimuli in these bytes.
-fn excess_finding_with(
-    alloc: Global,
-    excess: Excess,
-    library: &Library,
-    plan: &Plan,
-    stimuli: Option<&[u8]>,
-) -> Result<Option<Finding>, AllocError>
-    ensures { let rows = option_map (λ b. b.now) stimuli.entry in (declaration : List ℕ) (deploy : Option (List ℕ)) → IsLibraryText declaration library.now → IsPlan deploy plan.now →
-        IfOk result (λ o. MatchOption o (HasNoExcess excess declaration deploy rows) (λ r. FindsExcess excess declaration deploy rows r.location)) }
-{
-    let Some(stimuli) = stimuli_of(alloc, stimuli)? else {
-        return Ok(None);
-    };
-    finding_with(alloc, excess, library, plan, stimuli.as_slice())
-}
-
-/// Where the refusal applies to a library and to the deployment and the stimuli in these bytes.
-fn excess_finding_in(
-    alloc: Global,
-    excess: Excess,
-    library: &Library,
-    deploy: Option<&[u8]>,
-    stimuli: Option<&[u8]>,
-) -> Result<Option<Finding>, AllocError>
-    ensures { let plan = option_map (λ b. b.now) deploy.entry in let rows = option_map (λ b. b.now) stimuli.entry in (declaration : List ℕ) → IsLibraryText declaration library.now →
-        IfOk result (λ o. MatchOption o (HasNoExcess excess declaration plan rows) (λ r. FindsExcess excess declaration plan rows r.location)) }
-{
-    let Some(deploy) = deploy_of(alloc, deploy)? else {
-        return Ok(None);
-    };
-    excess_finding_with(alloc, excess, library, deploy.plan(), stimuli)
-}
-
-/// Where the refusal applies to a library, which this text declares, and to the deployment and the stimuli in these bytes.
-fn placed_excess(
-    alloc: Global,
-    excess: Excess,
-    declaration: &[u8],
-    library: &Library,
-    deploy: Option<&[u8]>,
-    stimuli: Option<&[u8]>,
-) -> Result<Option<PlacedFinding>, AllocError>
-    requires { IsLibraryText declaration.now library.now }
-    ensures found { let plan = option_map (λ b. b.now) deploy.entry in let rows = option_map (λ b. b.now) stimuli.entry in
-        IfOk result (λ o. MatchOption o (HasNoExcess excess declaration.now plan rows) (λ r. FindsExcess excess declaration.now plan rows r.finding.location)) }
-    ensures placed { IfOk result (λ o. IfSome o (IsPlacedFinding declaration.now)) }
-{
-    let finding = excess_finding_in(alloc, excess, library, deploy, stimuli)?;
-    placed_in(alloc, declaration, library, finding)
-}
-
-/// Where the refusal applies to the inputs in all bytes.
-fn excess_finding(
-    alloc: Global,
-    excess: Excess,
-    declaration: &[u8],
-    deploy: Option<&[u8]>,
-    stimuli: Option<&[u8]>,
-) -> Result<Option<PlacedFinding>, AllocError>
-    ensures found { let plan = option_map (λ b. b.now) deploy.entry in let rows = option_map (λ b. b.now) stimuli.entry in
-        IfOk result (λ o. MatchOption o (HasNoExcess excess declaration.now plan rows) (λ r. FindsExcess excess declaration.now plan rows r.finding.location)) }
-    ensures placed { IfOk result (λ o. IfSome o (IsPlacedFinding declaration.now)) }
-{
-    match read_library(alloc, declaration) {
-        Ok(library) => {
-            let finding = placed_excess(alloc, excess, declaration, &library, deploy, stimuli);
-            discard(library);
-            finding
-        }
-        Err(fault) => no_finding(fault),
     }
 }
 
@@ -198,7 +155,7 @@ fn placed_text(
     number: u8,
     declaration: &[u8],
 ) -> Result<Option<PlacedFinding>, AllocError>
-    ensures found { IfOk result (λ o. IfSome o (λ r. FindsInText number declaration.now r.finding.location)) }
+    ensures found { IfOk result (λ o. MatchOption o (IsSilentOfText number declaration.now) (λ r. FindsInText number declaration.now r.finding.location)) }
     ensures placed { IfOk result (λ o. IfSome o (IsPlacedFinding declaration.now)) }
 {
     let finding = text_finding(alloc, number, declaration)?;
@@ -246,11 +203,7 @@ fn findings_by(
     match cause {
         Cause::Text => once(alloc, placed_text(alloc, number, declaration)),
         Cause::Bytes => once(alloc, placed_bytes(alloc, number, deploy, stimuli)),
-        Cause::Flaw(flaw) => flaw_findings(alloc, flaw, declaration, deploy),
-        Cause::Excess(excess) => {
-            let found = excess_finding(alloc, excess, declaration, deploy, stimuli);
-            once(alloc, found)
-        }
+        Cause::Flaw(flaw) => flaw_findings(alloc, flaw, declaration, deploy, stimuli),
         Cause::Other => one(alloc, None),
     }
 }

@@ -1,30 +1,30 @@
-//! The text for a location in a declaration and a deployment (E20 to E28).
+//! The text for a location in inputs that can be read (E20 to E30).
 
 use crate::height_messages::push_descent;
 use crate::joined_messages::push_joined;
+use crate::limit_messages::{limit_message, stimulus_message};
 use crate::spot::Spot;
 use crate::twice_messages::push_given;
 use crate::unlinked_messages::push_unlinked;
 use crate::unmapped_messages::push_unmapped;
 use crate::unserved_messages::push_unserved;
+use fb_check::Case;
 use fb_types::{Library, Plan};
 use fb_why_kinds::{Text, misfit_message, misjoin_message, unknown_message};
 use std::alloc::{AllocError, Global};
 
 /// Says where the refusal applies, and what is wrong there.
-pub fn flaw_message(
-    alloc: Global,
-    library: &Library,
-    plan: &Plan,
-    location: Spot,
-) -> Result<String, AllocError> {
+pub fn flaw_message(alloc: Global, case: &Case, location: Spot) -> Result<String, AllocError> {
+    let library = case.library;
     match location {
-        Spot::Unknown(location) => unknown_message(alloc, library, plan, location),
+        Spot::Unknown(location) => unknown_message(alloc, library, case.plan, location),
         Spot::Misfit(location) => misfit_message(alloc, library, location),
         Spot::Misjoin(location) => misjoin_message(alloc, library, location),
+        Spot::Stimulus(location) => stimulus_message(alloc, library, case.stimuli, location),
+        Spot::Limit(limit) => limit_message(alloc, limit),
         _ => {
             let mut text = Text::new(alloc);
-            push_location(&mut text, library, plan, location);
+            push_location(&mut text, library, case.plan, location);
             text.into_string()
         }
     }

@@ -1,6 +1,6 @@
 //! The text for a composite type that contains itself, or is too high (E25).
 
-use crate::heights::Descent;
+use fb_findings::Descent;
 use fb_types::{BlockType, CompositeType, Library};
 use fb_why_kinds::{Text, push_instance};
 

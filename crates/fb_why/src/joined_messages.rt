@@ -1,24 +1,15 @@
 //! The text for two data connections that lead to one port (E24).
 
-use crate::pair::Repeat;
-use crate::sources::Joined;
-use fb_types::{BlockType, Library, Network};
+use fb_findings::{Joined, Repeat};
+use fb_types::{Library, Network};
 use fb_why_kinds::Text;
+use fb_why_kinds::site_messages::{network_of, push_site};
 
 /// Adds which two data connections lead to one port.
 pub fn push_joined(text: &mut Text, library: &Library, location: Joined) {
-    match location {
-        Joined::Application(pair) => {
-            text.named("application ", &library.application.name);
-            push_pair(text, &library.application.network, pair);
-        }
-        Joined::Inside(location, pair) => match library.blocks.get(location) {
-            Some(BlockType::Composite(composite)) => {
-                text.named("block type ", &composite.name);
-                push_pair(text, &composite.network, pair);
-            }
-            _ => {}
-        },
+    push_site(text, library, location.site);
+    if let Some(network) = network_of(library, location.site) {
+        push_pair(text, network, location.connections);
     }
 }
 

@@ -1,6 +1,6 @@
 //! Texts for stimuli that do not fit, and for limits that are exceeded.
 
-use crate::location::{Limit, StimulusFault, StimulusLocation};
+use fb_check::{Limit, StimulusFault, StimulusLocation};
 use fb_types::{
     Connection, Library, Name, Setting, Stimulus, Ty, Variable, block_named,
     event_block_input_named, instance_named, kind_named,

@@ -11,9 +11,9 @@ ghost use Rattle.fb_why.specs.Places.{IsPlacedFinding};
 use crate::flaw_message::flaw_message;
 use crate::place::{PlacedFinding, place_among};
 use crate::spot::{Finding, Spot};
+use fb_check::Case;
 use fb_read::token::Located;
 use fb_read_positions::{beginning, discard, tokens_of};
-use fb_types::{Library, Plan};
 use fb_why_bytes::TextLocation;
 use std::alloc::{AllocError, Global};
 
@@ -41,18 +41,17 @@ pub(crate) fn one(alloc: Global, found: Option<PlacedFinding>) -> Result<Finding
     Ok(Findings { shown, more: false })
 }
 
-/// What is wrong at a location of a library and a plan, at this place.
+/// What is wrong at a location of inputs, at this place.
 fn finding_at(
     alloc: Global,
-    library: &Library,
-    plan: &Plan,
+    case: &Case,
     location: Spot,
     place: Option<TextLocation>,
 ) -> Result<PlacedFinding, AllocError>
     ensures found { IfOk result (λ r. r.finding.location ≡ location) }
     ensures placed { IfOk result (λ r. r.place ≡ place) }
 {
-    let text = flaw_message(alloc, library, plan, location)?;
+    let text = flaw_message(alloc, case, location)?;
     let finding = Finding { location, text };
     Ok(PlacedFinding { finding, place })
 }
@@ -62,11 +61,10 @@ fn findings_at(
     alloc: Global,
     declaration: &[u8],
     tokens: &[Located],
-    library: &Library,
-    plan: &Plan,
+    case: &Case,
     locations: &[Spot],
 ) -> Result<Vec<PlacedFinding>, AllocError>
-    requires read { IsLibraryText declaration.now library.now }
+    requires read { IsLibraryText declaration.now case.now.library.now }
     requires few { length tokens.now ≤ most_bytes }
     requires located { AreLocated declaration.now tokens.now (after_mark declaration.now) }
     ensures found { IfOk result (λ all. map (λ r. r.finding.location) all.items ≡ locations.now) }
@@ -75,9 +73,9 @@ fn findings_at(
     let mut all = Vec::new(alloc);
     let mut reached = beginning(tokens);
     for location in locations {
-        let found = place_among(alloc, declaration, tokens, library, reached, *location)?;
+        let found = place_among(alloc, declaration, tokens, case.library, reached, *location)?;
         reached = found.reached;
-        all.push(finding_at(alloc, library, plan, *location, found.place)?)?;
+        all.push(finding_at(alloc, case, *location, found.place)?)?;
     }
     Ok(all)
 }
@@ -93,16 +91,14 @@ fn first_of(locations: &[Spot]) -> &[Spot]
     }
 }
 
-/// The findings at these locations of a library and a plan. The text that declares the library is read once more for their
-/// places, if there are any.
+/// The findings at these locations of inputs. The text that declares the library is read once more for their places.
 pub(crate) fn listed(
     alloc: Global,
     declaration: &[u8],
-    library: &Library,
-    plan: &Plan,
+    case: &Case,
     locations: &[Spot],
 ) -> Result<Findings, AllocError>
-    requires { IsLibraryText declaration.now library.now }
+    requires { IsLibraryText declaration.now case.now.library.now }
     ensures shown { IfOk result (λ f. locations_of f ≡ take most_findings locations.now) }
     ensures more { IfOk result (λ f. f.more ≡ nat_lt most_findings (length locations.now)) }
     ensures placed { IfOk result (λ f. All (IsPlacedFinding declaration.now) f.shown.items) }
@@ -110,7 +106,7 @@ pub(crate) fn listed(
     let more = locations.len() > MOST_FINDINGS;
     let first = first_of(locations);
     let tokens = tokens_of(alloc, declaration)?;
-    let shown = findings_at(alloc, declaration, tokens.as_slice(), library, plan, first);
+    let shown = findings_at(alloc, declaration, tokens.as_slice(), case, first);
     discard(tokens);
     Ok(Findings {
         shown: shown?,

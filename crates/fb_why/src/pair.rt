@@ -4,37 +4,23 @@ ghost use Rattle.std.specs.Prelude.{◌≡◌, ◌++◌, map, IfOk};
 ghost use Rattle.fb_types.specs.Names.{same_name};
 ghost use Rattle.fb_check_names.specs.Ends.{link_ends};
 ghost use Rattle.fb_check_names.specs.Indexes.{names_in};
-ghost use Rattle.fb_why.specs.Pairs.{compared, key_ports, last_place, pair_at, repeats, same_ends, same_sides};
+ghost use Rattle.fb_findings.specs.Repeats.{last_place, repeats};
+ghost use Rattle.fb_check_networks.specs.Links.{is_joining};
+ghost use Rattle.fb_why.specs.Pairs.{ends_of, key_ports, same_ends, same_sides};
 
-use crate::unlinked::is_joining;
 use fb_check_names::{Named, end_names, push_names};
+use fb_check_networks::last_places;
+use fb_findings::{Repeat, push_pair};
 use fb_types::{Connection, Link, Name};
 use std::alloc::{AllocError, Global};
 use std::collections::BTreeMap;
-
-/// The indices of two equal items in a list, the earlier one first.
-pub type Repeat = (usize, usize);
-
-/// Adds a pair for an item that is in the list before.
-fn push_pair(pairs: &mut Vec<Repeat>, first: Option<usize>, second: usize) -> Result<(), AllocError>
-    ensures { IfOk result (λ _. pairs.new.items ≡ pairs.old.items ++ pair_at second first) }
-{
-    if let Some(first) = first {
-        pairs.push((first, second))?;
-    }
-    Ok(())
-}
 
 /// Each name that is in the list before, with the index of the nearest such name.
 pub(crate) fn name_pairs(alloc: Global, names: &[&Name]) -> Result<Vec<Repeat>, AllocError>
     ensures { IfOk result (λ pairs. pairs.items ≡ repeats same_name (names_in names.now)) }
 {
-    let mut seen = BTreeMap::new(alloc);
     let mut pairs = Vec::new(alloc);
-    for (second, name) in names.iter().enumerate() {
-        let first = seen.insert(name.as_bytes(), second)?;
-        push_pair(&mut pairs, first, second)?;
-    }
+    last_places(alloc, &mut pairs, names)?;
     Ok(pairs)
 }
 
@@ -51,34 +37,35 @@ pub(crate) fn called_pairs<T: Named>(alloc: Global, items: &[T]) -> Result<Vec<R
 /// its end.
 type ConnectionNames<'a> = (Option<&'a [u8]>, &'a [u8], Option<&'a [u8]>, &'a [u8]);
 
-/// The names by which two connections are compared: those of both ends, or only of the end where they lead.
-fn names_of(connection: &Connection, both: bool) -> ConnectionNames<'_>
-    ensures { key_ports result ≡ compared both connection.now }
+/// The names at both ends of a connection.
+fn names_of(connection: &Connection) -> ConnectionNames<'_>
+    ensures { key_ports result ≡ ends_of connection.now }
 {
+    let (first_component, first_port) = end_names(&connection.from);
     let (component, port) = end_names(&connection.to);
-    if both {
-        let (first_component, first_port) = end_names(&connection.from);
-        return (first_component, first_port, component, port);
-    }
-    (None, &[], component, port)
+    (first_component, first_port, component, port)
 }
 
-/// Each connection that is equal to one before, by both ends or only by where they lead, with the index of the nearest
-/// such connection.
+/// Each connection that joins the same ports as one before, with the index of the nearest such connection.
 pub(crate) fn connection_pairs(
     alloc: Global,
     connections: &[Connection],
-    both: bool,
 ) -> Result<Vec<Repeat>, AllocError>
-    ensures { IfOk result (λ pairs. pairs.items ≡ repeats same_ends (map (compared both) connections.now)) }
+    ensures { IfOk result (λ pairs. pairs.items ≡ repeats same_ends (map ends_of connections.now)) }
 {
     let mut seen = BTreeMap::new(alloc);
     let mut pairs = Vec::new(alloc);
     for (second, connection) in connections.iter().enumerate() {
-        let first = seen.insert(names_of(connection, both), second)?;
+        let first = seen.insert(names_of(connection), second)?;
         push_pair(&mut pairs, first, second)?;
     }
     Ok(pairs)
+}
+
+fn is_joining(link: &Link, from: &[u8], to: &[u8]) -> bool
+    ensures { result ≡ is_joining from.now to.now link.now }
+{
+    link.from.as_bytes() == from && link.to.as_bytes() == to
 }
 
 /// The index of the last of these links that goes from and to the same resources as a link.

@@ -1,6 +1,6 @@
 //! Where a location is in the text of the declaration.
 
-ghost use Rattle.std.specs.Prelude.{◌≡◌, ◌≤◌, IfOk, IfSome, MatchOption, length};
+ghost use Rattle.std.specs.Prelude.{◌≡◌, ◌≤◌, IfOk, IfSome, length};
 ghost use Rattle.fb_read.specs.Blank.{Text};
 ghost use Rattle.fb_read.specs.Located.{AreLocated};
 ghost use Rattle.fb_read.specs.Tokens.{after_mark};
@@ -10,7 +10,7 @@ ghost use Rattle.fb_read_positions.specs.Resumed.{IsReached};
 ghost use Rattle.fb_read_positions.specs.declared.position.Position.{Position};
 ghost use Rattle.fb_types.specs.declared.library.Library.{Library};
 ghost use Rattle.fb_why.specs.declared.spot.Spot.TheVariants as spot;
-ghost use Rattle.fb_why.specs.Places.{IsPlaceAt, IsPlaceIn, IsPlacedFinding, IsShown, Keeps};
+ghost use Rattle.fb_why.specs.Places.{IsPlaceAt, IsPlacedFinding, IsShown, Keeps};
 
 use crate::positions::position_of;
 use crate::spot::{Finding, Spot};
@@ -110,54 +110,6 @@ pub(crate) fn place_among(
             place: None,
             reached,
         }),
-    }
-}
-
-/// Where a location of a library is in the text that declares it.
-fn place_in(
-    alloc: Global,
-    declaration: &[u8],
-    library: &Library,
-    location: Spot,
-) -> Result<Option<TextLocation>, AllocError>
-    ensures { IsLibraryText declaration.now library.now → IfOk result (λ o. IfSome o (IsShown declaration.now location)) }
-{
-    match position_of(library, location) {
-        Some(position) => place_at(alloc, declaration, library, position),
-        None => Ok(None),
-    }
-}
-
-/// A finding with its place, or an error if memory ran out for the place.
-fn placed(
-    finding: Finding,
-    place: Result<Option<TextLocation>, AllocError>,
-) -> Result<Option<PlacedFinding>, AllocError>
-    ensures found { IfOk result (λ o. MatchOption o ⊥ (λ r. r.finding.location ≡ finding.location)) }
-    ensures place { IfOk result (λ o. IfSome o (λ r. IsPlaceIn r.place place)) }
-{
-    match place {
-        Ok(place) => Ok(Some(PlacedFinding { finding, place })),
-        Err(error) => Err(error),
-    }
-}
-
-/// What was found, with its place in the text that declares the library.
-pub(crate) fn placed_in(
-    alloc: Global,
-    declaration: &[u8],
-    library: &Library,
-    finding: Option<Finding>,
-) -> Result<Option<PlacedFinding>, AllocError>
-    ensures found { IfOk result (Keeps finding) }
-    ensures placed { IsLibraryText declaration.now library.now → IfOk result (λ o. IfSome o (IsPlacedFinding declaration.now)) }
-{
-    match finding {
-        Some(finding) => {
-            let place = place_in(alloc, declaration, library, finding.location);
-            placed(finding, place)
-        }
-        None => Ok(None),
     }
 }
 

@@ -4,22 +4,18 @@ ghost use Rattle.std.specs.Prelude.{◌≡◌};
 ghost use Rattle.std.specs.Option.{option_copied};
 ghost use Rattle.fb_why.specs.Positions as spec;
 
-use crate::heights::Descent;
-use crate::location::Limit;
-use crate::sources::Joined;
 use crate::spot::Spot;
 use crate::twice::{GivenTwice, InBlock, InNetwork};
-use crate::unlinked::Unlinked;
-use crate::unmapped::Unmapped;
+use fb_check::Limit;
+use fb_findings::{
+    ActionPart, Descent, Direction, FlowKind, Joined, Misfit, Misjoin, Side, Site, StatementPart,
+    TransitionPart as NamedPart, UnknownName, Unlinked, Unmapped, Variables,
+};
 use fb_read_positions::{
     BasicPart, ConnectionPart, NetworkPart, PortPart, Position, TransitionPart,
 };
 use fb_types::{
     BlockType, Connection, Instance, Library, Network, PortName, Ports, State, instance_named,
-};
-use fb_why_kinds::{
-    ActionPart, Direction, FlowKind, Misfit, Misjoin, Side, Site, TransitionPart as NamedPart,
-    UnknownName, Variables,
 };
 
 /// A part of the network of a site.
@@ -292,7 +288,17 @@ fn variable_position(block: usize, variables: Variables, variable: usize) -> Pos
     }
 }
 
-/// A wrong kind: of a statement where the statement begins.
+/// A part of a statement: a condition of an IF at its IF or ELSIF, and anything else where the statement begins.
+fn statement_part(algorithm: usize, statement: usize, part: StatementPart) -> BasicPart
+    ensures { result ≡ spec.statement_part algorithm statement part }
+{
+    match part {
+        StatementPart::Choice(choice) => BasicPart::Clause(algorithm, statement, choice),
+        _ => BasicPart::Statement(algorithm, statement),
+    }
+}
+
+/// A wrong kind.
 fn misfit_position(location: Misfit) -> Position
     ensures { result ≡ spec.misfit_position location }
 {
@@ -315,8 +321,8 @@ fn misfit_position(location: Misfit) -> Position
             block,
             algorithm,
             statement,
-            ..
-        } => Position::InBasic(block, BasicPart::Statement(algorithm, statement)),
+            part,
+        } => Position::InBasic(block, statement_part(algorithm, statement, part)),
     }
 }
 
@@ -334,10 +340,8 @@ fn data_position(site: Site, connection: usize) -> Position
 fn joined_position(joined: Joined) -> Position
     ensures { result ≡ spec.joined_position joined }
 {
-    match joined {
-        Joined::Application((_, connection)) => data_position(Site::Application, connection),
-        Joined::Inside(block, (_, connection)) => data_position(Site::Inside(block), connection),
-    }
+    let (_, connection) = joined.connections;
+    data_position(joined.site, connection)
 }
 
 fn descent_position(descent: Descent) -> Position
@@ -364,12 +368,13 @@ fn unmapped_position(unmapped: Unmapped) -> Option<Position>
 fn unlinked_position(unlinked: Unlinked) -> Position
     ensures { result ≡ spec.unlinked_position unlinked }
 {
-    match unlinked {
-        Unlinked::Event(connection) => Position::InApplication(NetworkPart::EventConnection(
+    let Unlinked { flow, connection } = unlinked;
+    match flow {
+        FlowKind::Events => Position::InApplication(NetworkPart::EventConnection(
             connection,
             ConnectionPart::From,
         )),
-        Unlinked::Data(connection) => data_position(Site::Application, connection),
+        FlowKind::Data => data_position(Site::Application, connection),
     }
 }
 

@@ -1,12 +1,11 @@
 //! Where the bytes of a declaration, of a deployment or of stimuli are refused.
 
 ghost use Rattle.std.specs.Prelude.{IfOk, IfSome, MatchOption, option_map};
-ghost use Rattle.fb_why.specs.Findings.{IsDeploymentSpot, IsSilentOfBytes, IsSilentOfDeployment, IsSilentOfStimuli, IsStimuliSpot, FindsInBytes, FindsInDeployment, FindsInStimuli, FindsInText};
+ghost use Rattle.fb_why.specs.Findings.{IsDeploymentSpot, IsSilentOfBytes, IsSilentOfDeployment, IsSilentOfStimuli, IsSilentOfText, IsStimuliSpot, FindsInBytes, FindsInDeployment, FindsInStimuli, FindsInText};
 
 use crate::spot::{Finding, Spot, found};
 use fb_inputs::{deployment_location, stimuli_location};
-use fb_read::{discard, read_library};
-use fb_why_bytes::{deployment_message, stimuli_message, text_location, text_message};
+use fb_why_bytes::{deployment_message, stimuli_message, text_message, text_refusal};
 use std::alloc::{AllocError, Global};
 
 /// Where the text of a declaration is refused, if its refusal has this number.
@@ -15,25 +14,18 @@ pub fn text_finding(
     number: u8,
     declaration: &[u8],
 ) -> Result<Option<Finding>, AllocError>
-    ensures { IfOk result (λ o. IfSome o (λ r. FindsInText number declaration.now r.location)) }
+    ensures { IfOk result (λ o. MatchOption o (IsSilentOfText number declaration.now) (λ r. FindsInText number declaration.now r.location)) }
 {
-    let fault = match read_library(alloc, declaration) {
-        Ok(library) => {
-            discard(library);
-            return Ok(None);
-        }
-        Err(fault) => fault,
+    let Some(refused) = text_refusal(alloc, declaration)? else {
+        return Ok(None);
     };
-    if fault.number() != Some(number) {
+    if refused.refusal.fault.number() != number {
         return Ok(None);
     }
-    match text_location(alloc, declaration, &fault)? {
-        Some(location) => found(
-            Spot::Text(location),
-            text_message(alloc, declaration, &fault, location),
-        ),
-        None => Ok(None),
-    }
+    found(
+        Spot::Text(refused.location),
+        text_message(alloc, declaration, refused),
+    )
 }
 
 /// Where the bytes of a deployment are refused, if their refusal has this number.

@@ -3,15 +3,11 @@
 ghost use Rattle.std.specs.Prelude.{IfOk};
 ghost use Rattle.fb_why.specs.Findings.{IsFoundAt};
 
-use crate::heights::Descent;
-use crate::location::{Limit, StimulusLocation};
-use crate::sources::Joined;
 use crate::twice::GivenTwice;
-use crate::unlinked::Unlinked;
-use crate::unmapped::Unmapped;
+use fb_check::{Limit, StimulusLocation};
+use fb_findings::{Descent, Joined, Misfit, Misjoin, UnknownName, Unlinked, Unmapped};
 use fb_inputs::{DeployLocation, StimuliLocation};
 use fb_why_bytes::TextLocation;
-use fb_why_kinds::{Misfit, Misjoin, UnknownName};
 use std::alloc::AllocError;
 
 /// A location at which a refusal applies.

@@ -6,21 +6,20 @@ ghost use Rattle.fb_types.specs.declared.library.BlockType.TheVariants as kind;
 ghost use Rattle.fb_check_names.specs.Ends.{link_ends};
 ghost use Rattle.fb_check_names.specs.Indexes.{names_in};
 ghost use Rattle.fb_check_names.specs.GivenTwice.{names_of_ports};
-ghost use Rattle.fb_why_kinds.specs.Listed.{each_at};
+ghost use Rattle.fb_findings.specs.Listed.{each_at};
 ghost use Rattle.fb_why.specs.Pairs.{same_ends, same_sides};
 ghost use Rattle.fb_why.specs.Repeats.{event_block_at, given_in, given_in_network, given_with, names_twice, parameters_twice, twice_all, twice_by, twice_in_block, twice_in_library, twice_in_network, twice_in_ports, with_twice};
 ghost use Rattle.fb_why.specs.Twice.{IsTwiceAt};
 ghost use Rattle.fb_why.specs.declared.twice.NameSpace.TheVariants as space;
 ghost use Rattle.fb_types.specs.Repeated as repeated;
 
-use crate::pair::{Repeat, called_pairs, connection_pairs, link_pairs, name_pairs};
+use crate::pair::{called_pairs, connection_pairs, link_pairs, name_pairs};
 use fb_check_names::{Named, push_names};
+use fb_findings::{Direction, Repeat, Site, push_unless};
 use fb_types::{
     BasicType, BlockType, CompositeType, Connection, EventPort, Instance, Library, Link, Name,
     Network, Plan, Ports, Variable, kind_named,
 };
-use fb_why_kinds::listed::push_unless;
-use fb_why_kinds::{Direction, Site};
 use std::alloc::{AllocError, Global};
 
 /// What a network gives twice.
@@ -201,7 +200,7 @@ fn push_connections(
 ) -> Result<(), AllocError>
     ensures { IfOk result (λ _. found.new.items ≡ found.old.items ++ twice_by (space.Connections site) same_ends (repeated.event_pairs network.now)) }
 {
-    let pairs = connection_pairs(alloc, network.event_connections.as_slice(), true)?;
+    let pairs = connection_pairs(alloc, network.event_connections.as_slice())?;
     push_pairs(found, NameSpace::Connections(site), pairs.as_slice())
 }
 

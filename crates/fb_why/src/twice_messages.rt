@@ -1,8 +1,8 @@
 //! The text for what is given twice (E20).
 
-use crate::pair::Repeat;
 use crate::twice::{GivenTwice, InBlock, InNetwork};
 use fb_check_names::Named;
+use fb_findings::Repeat;
 use fb_types::{BlockType, EventPort, Library, Name, Network, Plan};
 use fb_why_kinds::{Text, push_instance};
 

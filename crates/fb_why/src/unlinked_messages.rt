@@ -1,23 +1,18 @@
 //! The text for a connection between two resources without a link (E27).
 
-use crate::unlinked::{Unlinked, resource_of};
-use fb_types::{Application, Connection, Plan, PortName};
+use fb_findings::{FlowKind, Unlinked};
+use fb_types::{Application, Connection, Name, Plan, PortName, ResourceEntry};
 use fb_why_kinds::Text;
 
 /// Adds which connection has no link, and which link it would need.
 pub fn push_unlinked(text: &mut Text, application: &Application, plan: &Plan, location: Unlinked) {
     text.named("application ", &application.name);
-    let (words, connection) = match location {
-        Unlinked::Event(location) => (
-            ": event connection ",
-            application.network.event_connections.get(location),
-        ),
-        Unlinked::Data(location) => (
-            ": data connection ",
-            application.network.data_connections.get(location),
-        ),
+    let network = &application.network;
+    let (words, connections) = match location.flow {
+        FlowKind::Events => (": event connection ", &network.event_connections),
+        FlowKind::Data => (": data connection ", &network.data_connections),
     };
-    if let Some(connection) = connection {
+    if let Some(connection) = connections.get(location.connection) {
         push_connection(text, plan, words, connection);
     }
 }
@@ -31,7 +26,28 @@ fn push_connection(text: &mut Text, plan: &Plan, words: &str, connection: &Conne
 
 /// Adds words, and the resource that holds the component at an end of a connection of the application.
 pub fn push_resource(text: &mut Text, words: &str, plan: &Plan, end: &PortName) {
-    if let Some(resource) = plan.resources.get(resource_of(plan, end)) {
+    if let Some(resource) = resource_of(plan, end) {
         text.named(words, &resource.name);
     }
+}
+
+/// The resource that lists the component at an end, or else the first one.
+fn resource_of<'a>(plan: &'a Plan, end: &PortName) -> Option<&'a ResourceEntry> {
+    if let Some(component) = &end.component {
+        for resource in plan.resources.as_slice() {
+            if is_listed(resource, component) {
+                return Some(resource);
+            }
+        }
+    }
+    plan.resources.get(0)
+}
+
+fn is_listed(resource: &ResourceEntry, component: &Name) -> bool {
+    for name in resource.instances.as_slice() {
+        if name.is(component) {
+            return true;
+        }
+    }
+    false
 }

@@ -1,7 +1,6 @@
 //! The text for an instance that is not mapped to one resource (E26).
 
-use crate::pair::Repeat;
-use crate::unmapped::Unmapped;
+use fb_findings::{Repeat, Unmapped};
 use fb_types::{Application, Name, Plan, ResourceEntry};
 use fb_why_kinds::Text;
 

@@ -14,8 +14,8 @@ use Rattle.fb_check_types.specs.Checks.{is_known_block}
 use Rattle.fb_check_types.proofs.Checks.{known_answer}
 use Rattle.fb_check_names.specs.Unknown.{NetworkUnknown, DeploymentUnknown}
 use Rattle.fb_check_names.proofs.Resolving.{all_known}
-use Rattle.fb_why_kinds.specs.declared.location.UnknownName.{UnknownName}
-use Rattle.fb_why_kinds.specs.declared.location.UnknownName.TheVariants.{InstanceType, Parameter, End, With, Transition, Action, Guard, Body, Mapped, LinkEnd}
+use Rattle.fb_findings.specs.declared.location.UnknownName.{UnknownName}
+use Rattle.fb_findings.specs.declared.location.UnknownName.TheVariants.{InstanceType, Parameter, End, With, Transition, Action, Guard, Body, Mapped, LinkEnd}
 use Rattle.fb_why_kinds.specs.Unknown.{IsUnknownIn, IsUnknownAt, IsBlockKnown}
 
 -- a location in the declaration is one of all

@@ -27,25 +27,25 @@ use Rattle.fb_check_types.specs.Checks.{guard_mentions, is_met}
 use Rattle.fb_check_names.specs.Types.{ports_of_block}
 use Rattle.fb_why_kinds.specs.declared.blocks.Naming.{Naming}
 use Rattle.fb_why_kinds.specs.declared.blocks.Naming.TheVariants as naming
-use Rattle.fb_why_kinds.specs.declared.location.ActionPart.{ActionPart}
-use Rattle.fb_why_kinds.specs.declared.location.ActionPart.TheVariants as actions
-use Rattle.fb_why_kinds.specs.declared.location.Direction.{Direction}
-use Rattle.fb_why_kinds.specs.declared.location.Direction.TheVariants.{Input, Output}
-use Rattle.fb_why_kinds.specs.declared.location.FlowKind.{FlowKind}
-use Rattle.fb_why_kinds.specs.declared.location.FlowKind.TheVariants.{Events, Data}
-use Rattle.fb_why_kinds.specs.declared.location.Side.{Side}
-use Rattle.fb_why_kinds.specs.declared.location.Side.TheVariants.{From, To}
-use Rattle.fb_why_kinds.specs.declared.location.Site.{Site}
-use Rattle.fb_why_kinds.specs.declared.location.Site.TheVariants.{Application, Inside}
-use Rattle.fb_why_kinds.specs.declared.location.TransitionPart.{TransitionPart}
-use Rattle.fb_why_kinds.specs.declared.location.TransitionPart.TheVariants as part
-use Rattle.fb_why_kinds.specs.declared.location.UnknownName.{UnknownName}
-use Rattle.fb_why_kinds.specs.declared.location.UnknownName.TheVariants as location
-use Rattle.fb_why_kinds.specs.Listed.{each_at, unless}
-use Rattle.fb_why_kinds.specs.Sites.{basic_at, basic_inside, connections_of, instance_at, network_at, network_inside}
+use Rattle.fb_findings.specs.declared.location.ActionPart.{ActionPart}
+use Rattle.fb_findings.specs.declared.location.ActionPart.TheVariants as actions
+use Rattle.fb_findings.specs.declared.location.Direction.{Direction}
+use Rattle.fb_findings.specs.declared.location.Direction.TheVariants.{Input, Output}
+use Rattle.fb_findings.specs.declared.location.FlowKind.{FlowKind}
+use Rattle.fb_findings.specs.declared.location.FlowKind.TheVariants.{Events, Data}
+use Rattle.fb_findings.specs.declared.location.Side.{Side}
+use Rattle.fb_findings.specs.declared.location.Side.TheVariants.{From, To}
+use Rattle.fb_findings.specs.declared.location.Site.{Site}
+use Rattle.fb_findings.specs.declared.location.Site.TheVariants.{Application, Inside}
+use Rattle.fb_findings.specs.declared.location.TransitionPart.{TransitionPart}
+use Rattle.fb_findings.specs.declared.location.TransitionPart.TheVariants as part
+use Rattle.fb_findings.specs.declared.location.UnknownName.{UnknownName}
+use Rattle.fb_findings.specs.declared.location.UnknownName.TheVariants as location
+use Rattle.fb_findings.specs.Listed.{each_at, unless}
+use Rattle.fb_findings.specs.Sites.{basic_at, basic_inside, connections_of, instance_at, network_at, network_inside}
 use Rattle.fb_why_kinds.specs.Unknown.{IsUnknownAt, IsUnknownEnd, IsUnknownMention, Unmet, body_at, events_of, guard_at, is_instance, is_resource, is_side_known, is_type_met, link_required, mapped_required, parameter_required, required_action, required_transition, side_of, type_required, variables_for, with_required}
 use Rattle.fb_why_kinds.specs.Unknowns.{mention_in, unknown_all, unknown_ends, unknown_in_action, unknown_in_block, unknown_in_body, unknown_in_chart, unknown_in_deployment, unknown_in_instance, unknown_in_network, unknown_in_state, unknown_in_transition, unknown_inside, unknown_mapped, unknown_mentions, unknown_names, unknown_parameters, unknown_sides, unknown_variables, unknown_withs, unmet_at}
-use Rattle.fb_why_kinds.proofs.Listing.{there_each, there_unless}
+use Rattle.fb_findings.proofs.Listing.{there_each, there_unless}
 use Rattle.fb_why_kinds.proofs.NetworkLocations.{any_map}
 
 -- ---- One location

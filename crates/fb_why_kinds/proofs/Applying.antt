@@ -1,6 +1,6 @@
 -- What is reported of a location makes its number apply.
-use Rattle.std.proofs.Common.{◌≡◌, ℕ, Bool, true, false, [], ◌++◌, Option, Some, None, Contains, refl, sym, ◌∙◌, ap, subst, inl, inr}
-use Rattle.std.specs.Prelude.{flat_map, slice_get, option_and_then}
+use Rattle.std.proofs.Common.{◌≡◌, ℕ, Bool, true, false, ◌++◌, Option, Some, None, Contains, refl, sym, ◌∙◌, ap, inl, inr}
+use Rattle.std.specs.Prelude.{slice_get, option_and_then}
 use Rattle.std.specs.List.{list_all}
 use Rattle.std.proofs.lemmas.Bool.{and_left, and_right}
 use Rattle.std.proofs.lemmas.List.Elements.{Contains-append_left, Contains-append_right}
@@ -8,8 +8,6 @@ use Rattle.std.proofs.lemmas.Option.{same_Some}
 use Rattle.fb_types.specs.Blocks.{Kind, ports_of}
 use Rattle.fb_types.specs.Flat.{kind_of, variables_in}
 use Rattle.fb_types.specs.Kinds.{KindWrong, declared_right, parameter_right}
-use Rattle.fb_types.specs.Joined.{OutOfRange}
-use Rattle.fb_types.specs.Repeated.{OwnedNetwork, networks, networks_in}
 use Rattle.fb_types.specs.Syntax.{body_of}
 use Rattle.fb_types.specs.declared.library.BasicType.{BasicType}
 use Rattle.fb_types.specs.declared.library.BlockType.{BlockType}
@@ -18,44 +16,23 @@ use Rattle.fb_types.specs.declared.library.Library.{Library}
 use Rattle.fb_types.specs.declared.library.Variable.{Variable}
 use Rattle.fb_types.proofs.ListTests.{fails_from}
 use Rattle.fb_types.proofs.ByIndex.{element_of_index}
-use Rattle.fb_types.proofs.Elements.{Contains-flat_map, Contains-nil, Contains-here, Contains-there}
+use Rattle.fb_types.proofs.Elements.{Contains-nil}
 use Rattle.fb_check_types.specs.Checks.{algorithm_right, chart_right, in_place, is_guard_right, is_right_block}
 use Rattle.fb_check_types.proofs.Checks.{chart_right_met, wrong_answer}
-use Rattle.fb_why_kinds.specs.declared.location.Misfit.{Misfit}
-use Rattle.fb_why_kinds.specs.declared.location.Misfit.TheVariants as misfit
-use Rattle.fb_why_kinds.specs.declared.location.Misjoin.{Misjoin}
-use Rattle.fb_why_kinds.specs.declared.location.StatementPart.{StatementPart}
-use Rattle.fb_why_kinds.specs.declared.location.Site.{Site}
-use Rattle.fb_why_kinds.specs.declared.location.Site.TheVariants.{Application, Inside}
-use Rattle.fb_why_kinds.specs.declared.location.Variables.{Variables}
-use Rattle.fb_why_kinds.specs.declared.location.Variables.TheVariants.{Inputs, Outputs, Internals}
+use Rattle.fb_findings.specs.declared.location.Misfit.{Misfit}
+use Rattle.fb_findings.specs.declared.location.Misfit.TheVariants as misfit
+use Rattle.fb_findings.specs.declared.location.StatementPart.{StatementPart}
+use Rattle.fb_findings.specs.declared.location.Site.{Site}
+use Rattle.fb_findings.specs.declared.location.Variables.{Variables}
+use Rattle.fb_findings.specs.declared.location.Variables.TheVariants.{Inputs, Outputs, Internals}
 use Rattle.fb_why_kinds.specs.Misfits.{IsGuardMisfit, IsInitialMisfit, IsMisfitAt, IsParameterMisfit, IsStatementMisfit}
-use Rattle.fb_why_kinds.specs.Misjoins.{IsMisjoinedAt}
-use Rattle.fb_why_kinds.specs.Sites.{basic_at, basic_inside, network_at, network_inside, variables_at}
+use Rattle.fb_findings.specs.Sites.{basic_at, basic_inside, variables_at}
+use Rattle.fb_findings.proofs.Networks.{site_network}
 use Rattle.fb_why_kinds.specs.Statements.{each_in_body, stands_right}
 use Rattle.fb_why_kinds.proofs.Bodies.{body_each}
 use Rattle.fb_why_kinds.proofs.Parts.{part_fails}
 
--- ---- Networks and types at their indices
-
-inside_networks : (t : BlockType) (n : OwnedNetwork) → network_inside t ≡ Some n → Contains (networks_in t) n
-inside_networks (block.Basic t) n h = absurd (cc)
-inside_networks (block.Composite t) n h =
-    let here : OwnedNetwork = (Some t, t.network) in
-    subst (λ (m : OwnedNetwork). Contains (networks_in (block.Composite t)) m) (same_Some here n h) (Contains-here here [])
-
-site_network : (lib : Library) (s : Site) (n : OwnedNetwork) → network_at lib s ≡ Some n → Contains (networks lib) n
-site_network lib Application n h =
-    let here : OwnedNetwork = (None, lib.application.network) in
-    subst (λ (m : OwnedNetwork). Contains (networks lib) m) (same_Some here n h) (Contains-here here (flat_map networks_in lib.blocks))
-site_network lib (Inside k) n h =
-    let here : OwnedNetwork = (None, lib.application.network) in
-    elim (slice_get lib.blocks k) as (λ o. slice_get lib.blocks k ≡ o → option_and_then network_inside o ≡ Some n → Contains (networks lib) n) [
-      | None ↦ λ e h. absurd (cc)
-      | Some t ↦ λ e h.
-          Contains-there here (flat_map networks_in lib.blocks) n
-          (Contains-flat_map networks_in lib.blocks t n (element_of_index lib.blocks k t e) (inside_networks t n h))
-    ] refl h
+-- ---- Block types at their indices
 
 basic_block : (t : BlockType) (b : BasicType) → basic_inside t ≡ Some b → t ≡ block.Basic b
 basic_block (block.Basic t) b h = ap block.Basic (same_Some t b h)
@@ -67,21 +44,6 @@ basic_among lib k b h =
       | None ↦ λ e h. absurd (cc)
       | Some t ↦ λ e h. element_of_index lib.blocks k (block.Basic b) (e ∙ ap (λ (t : BlockType). Some t) (basic_block t b h))
     ] refl h
-
--- ---- Data connections
-
-pub misjoin_applies : (lib : Library) (p : Misjoin) → IsMisjoinedAt lib p → OutOfRange lib
-misjoin_applies lib p m = (
-  m.network,
-  m.at_index,
-  m.source,
-  m.target,
-  site_network lib p.site m.network m.network_is,
-  element_of_index m.network.1.data_connections p.connection m.at_index m.found,
-  m.from,
-  m.to,
-  m.out,
-)
 
 -- ---- Block types
 

@@ -16,10 +16,10 @@ use Rattle.fb_types.specs.declared.library.Transition.{Transition}
 use Rattle.fb_check_types.specs.Checks.{all_met, with_inputs, with_outputs, transition_met, actions_met}
 use Rattle.fb_check_types.proofs.Checks.{withs_met, chart_met}
 use Rattle.fb_check_names.specs.Types.{ports_of_block}
-use Rattle.fb_why_kinds.specs.declared.location.ActionPart.{ActionPart}
-use Rattle.fb_why_kinds.specs.declared.location.Direction.{Direction}
-use Rattle.fb_why_kinds.specs.declared.location.TransitionPart.{TransitionPart}
-use Rattle.fb_why_kinds.specs.Sites.{basic_at}
+use Rattle.fb_findings.specs.declared.location.ActionPart.{ActionPart}
+use Rattle.fb_findings.specs.declared.location.Direction.{Direction}
+use Rattle.fb_findings.specs.declared.location.TransitionPart.{TransitionPart}
+use Rattle.fb_findings.specs.Sites.{basic_at}
 use Rattle.fb_why_kinds.specs.Unknown.{Unmet, UnknownAmong, IsUnknownMention, events_of, variables_for, with_required, required_transition, required_action}
 use Rattle.fb_why_kinds.proofs.NetworkLocations.{unmet_is}
 

@@ -16,7 +16,7 @@ use Rattle.fb_check_types.proofs.Checks.{and_true}
 use Rattle.fb_check_names.specs.Unknown.{DeploymentUnknown}
 use Rattle.fb_types.proofs.ListTests.{list_all-flat_map, list_all-agree}
 use Rattle.fb_check_names.proofs.NetworkUnknown.{met, met_required, list_all-all_of}
-use Rattle.fb_why_kinds.specs.declared.location.Side.{Side}
+use Rattle.fb_findings.specs.declared.location.Side.{Side}
 use Rattle.fb_why_kinds.specs.Unknown.{Unmet, mapped_required, link_required, side_of, is_instance, is_resource, are_mapped, are_sides_met}
 use Rattle.fb_why_kinds.proofs.NetworkLocations.{any_map, unmet_is}
 

@@ -1,5 +1,4 @@
--- The lists of all locations at which a kind is wrong, and of all data connections that lead out of range: each is such a
--- one, and if there is none, all is right.
+-- The list of all locations at which a kind is wrong: each is such a one, and if there is none, all is right.
 use Rattle.std.proofs.Common.{◌≡◌, ◌&&◌, ℕ, suc, ◌+◌, Bool, true, false, not, List, [], ◌++◌, Option, Some, None, refl, sym, ◌∙◌, ap, subst, arith}
 use Rattle.std.specs.Prelude.{All, slice_get, option_and_then}
 use Rattle.std.specs.List.{list_all}
@@ -7,7 +6,6 @@ use Rattle.std.proofs.lemmas.List.Elements.{All-append, All-nil}
 use Rattle.std.proofs.lemmas.List.Folds.{list_all-append}
 use Rattle.fb_types.specs.Blocks.{Kind, ports_of}
 use Rattle.fb_types.specs.Flat.{kind_of, kind_of_instance, variables_in}
-use Rattle.fb_types.specs.Joined.{OutOfRange}
 use Rattle.fb_types.specs.Kinds.{Context, KindWrong, declared_right, is_condition, is_value_kind, is_whole, parameter_right, parameters_right, same_value_kind, value_kind_of, value_kind_of_type}
 use Rattle.fb_types.specs.Names.{Name}
 use Rattle.fb_types.specs.Repeated.{OwnedNetwork}
@@ -23,23 +21,21 @@ use Rattle.fb_types.specs.declared.library.Variable.{Variable}
 use Rattle.fb_types.specs.declared.value_kind.ValueKind.TheVariants.{WholeNumber}
 use Rattle.fb_check_types.specs.Checks.{algorithm_right, chart_right, in_place, is_guard_right, is_right_chart}
 use Rattle.fb_check_types.proofs.Checks.{chart_right_met}
-use Rattle.fb_why_kinds.specs.declared.location.Misfit.{Misfit}
-use Rattle.fb_why_kinds.specs.declared.location.Misfit.TheVariants as misfit
-use Rattle.fb_why_kinds.specs.declared.location.Site.{Site}
-use Rattle.fb_why_kinds.specs.declared.location.Site.TheVariants.{Application, Inside}
-use Rattle.fb_why_kinds.specs.declared.location.StatementPart.{StatementPart}
-use Rattle.fb_why_kinds.specs.declared.location.StatementPart.TheVariants as part
-use Rattle.fb_why_kinds.specs.declared.location.Variables.{Variables}
-use Rattle.fb_why_kinds.specs.declared.location.Variables.TheVariants.{Inputs, Internals, Outputs}
-use Rattle.fb_why_kinds.specs.Listed.{each_at, unless}
-use Rattle.fb_why_kinds.specs.MisfitLists.{misfit_guard, misfit_initial, misfit_parameters, misfits_all, misfits_in_block, misfits_in_body, misfits_in_network, misfits_in_statement, misfits_initial, misfits_inside, misjoin_at, misjoins_all, misjoins_in, misjoins_inside, part_at, wrong_choices, wrong_control, wrong_parts}
+use Rattle.fb_findings.specs.declared.location.Misfit.{Misfit}
+use Rattle.fb_findings.specs.declared.location.Misfit.TheVariants as misfit
+use Rattle.fb_findings.specs.declared.location.Site.{Site}
+use Rattle.fb_findings.specs.declared.location.Site.TheVariants.{Application, Inside}
+use Rattle.fb_findings.specs.declared.location.StatementPart.{StatementPart}
+use Rattle.fb_findings.specs.declared.location.StatementPart.TheVariants as part
+use Rattle.fb_findings.specs.declared.location.Variables.{Variables}
+use Rattle.fb_findings.specs.declared.location.Variables.TheVariants.{Inputs, Internals, Outputs}
+use Rattle.fb_findings.specs.Listed.{each_at, unless}
+use Rattle.fb_why_kinds.specs.MisfitLists.{misfit_guard, misfit_initial, misfit_parameters, misfits_all, misfits_in_block, misfits_in_body, misfits_in_network, misfits_in_statement, misfits_initial, misfits_inside, part_at, wrong_choices, wrong_control, wrong_parts}
 use Rattle.fb_why_kinds.specs.Misfits.{IsMisfitAt, are_set_right_inside, is_all_right}
-use Rattle.fb_why_kinds.specs.Misjoins.{IsMisjoinedAt, are_joined, is_joined}
-use Rattle.fb_why_kinds.specs.Sites.{basic_at, basic_inside, each_inside, network_at, network_inside, variables_at}
+use Rattle.fb_findings.specs.Sites.{basic_at, basic_inside, network_at, network_inside, variables_at}
 use Rattle.fb_why_kinds.specs.Statements.{choice_right, conditions_right, each_in_body, own_right, part_right, stands_right}
 use Rattle.fb_why_kinds.proofs.Bodies.{body_each}
-use Rattle.fb_why_kinds.proofs.Joins.{misjoined_at, none_out}
-use Rattle.fb_why_kinds.proofs.Listing.{all_each, all_unless, none_each, none_left, none_right, none_unless}
+use Rattle.fb_findings.proofs.Listing.{all_each, all_unless, none_each, none_left, none_right, none_unless}
 use Rattle.fb_why_kinds.proofs.OwnedNetwork.{none_wrong}
 
 basic_there : (lib : Library) (b : ℕ) (t : BasicType) → slice_get lib.blocks b ≡ Some (block.Basic t) → basic_at lib b ≡ Some t
@@ -47,39 +43,6 @@ basic_there lib b t at = ap (option_and_then basic_inside) at
 
 network_there : (lib : Library) (b : ℕ) (t : BlockType) (n : OwnedNetwork) → slice_get lib.blocks b ≡ Some t → network_inside t ≡ Some n → network_at lib (Inside b) ≡ Some n
 network_there lib b t n at inside = ap (option_and_then network_inside) at ∙ inside
-
--- ---- Ranges
-
-each_in_range : (lib : Library) (s : Site) (n : OwnedNetwork) → network_at lib s ≡ Some n → All (IsMisjoinedAt lib) (misjoins_in lib s n)
-each_in_range lib s n at =
-    all_each (IsMisjoinedAt lib) (misjoin_at lib s n) n.1.data_connections
-    (λ k c found. all_unless (IsMisjoinedAt lib) (is_joined lib n c) (record { site = s; connection = k })
-    (λ e. misjoined_at lib (record { site = s; connection = k }) n at (c, found, e)))
-
-each_range_inside : (lib : Library) (b : ℕ) (t : BlockType) → slice_get lib.blocks b ≡ Some t → All (IsMisjoinedAt lib) (misjoins_inside lib b t)
-each_range_inside lib b (block.Basic t) at = All-nil (IsMisjoinedAt lib)
-each_range_inside lib b (block.Composite t) at = each_in_range lib (Inside b) (Some t, t.network) (network_there lib b (block.Composite t) (Some t, t.network) at refl)
-
-pub each_misjoin : (lib : Library) → All (IsMisjoinedAt lib) (misjoins_all lib)
-each_misjoin lib =
-    All-append (IsMisjoinedAt lib) (each_at (misjoins_inside lib) lib.blocks) (misjoins_in lib Application (None, lib.application.network))
-    (all_each (IsMisjoinedAt lib) (misjoins_inside lib) lib.blocks (each_range_inside lib))
-    (each_in_range lib Application (None, lib.application.network) refl)
-
-none_in_range : (lib : Library) (s : Site) (n : OwnedNetwork) → misjoins_in lib s n ≡ [] → are_joined lib n ≡ true
-none_in_range lib s n h =
-    none_each (misjoin_at lib s n) (is_joined lib n) n.1.data_connections (λ k c e. none_unless (is_joined lib n c) (record { site = s; connection = k }) e) h
-
-none_range_inside : (lib : Library) (b : ℕ) (t : BlockType) → misjoins_inside lib b t ≡ [] → each_inside (are_joined lib) t ≡ true
-none_range_inside lib b (block.Basic t) h = refl
-none_range_inside lib b (block.Composite t) h = none_in_range lib (Inside b) (Some t, t.network) h
-
-pub none_misjoin : (lib : Library) → misjoins_all lib ≡ [] → ¬ (OutOfRange lib)
-none_misjoin lib h =
-    let blocks = each_at (misjoins_inside lib) lib.blocks in
-    let application = misjoins_in lib Application (None, lib.application.network) in
-    none_out lib (none_in_range lib Application (None, lib.application.network) (none_right blocks application h))
-    (none_each (misjoins_inside lib) (each_inside (are_joined lib)) lib.blocks (none_range_inside lib) (none_left blocks application h))
 
 -- ---- Statements
 

@@ -4,7 +4,6 @@ mod TypePorts
 mod DeploymentLocations
 mod AllLocations
 mod NetworkTests
-mod Joins
 pub mod Typed
 mod Bodies
 mod OwnedNetwork
@@ -14,7 +13,6 @@ mod Searches
 mod Added
 mod Mentioned
 mod Inside
-pub mod Listing
 pub mod Witnesses
 pub mod AllThere
 pub mod KindWitnesses

@@ -15,10 +15,10 @@ use Rattle.fb_types.specs.declared.text.Choice.{Choice, out-Choice}
 use Rattle.fb_check_types.specs.Trees.{all_of, arguments_of, branch_of, branches_of, choice_of, choices_of}
 use Rattle.fb_why_kinds.specs.declared.blocks.Naming.{Naming}
 use Rattle.fb_why_kinds.specs.declared.mentions.Mention as gathered
-use Rattle.fb_why_kinds.specs.Listed.{each_at, unless}
+use Rattle.fb_findings.specs.Listed.{each_at, unless}
 use Rattle.fb_why_kinds.specs.Mentions.{meant, meant_all, mentions_of_control}
 use Rattle.fb_why_kinds.specs.Unknowns.{mention_in, unknown_mentions}
-use Rattle.fb_why_kinds.proofs.Listing.{each_from-map}
+use Rattle.fb_findings.proofs.Listing.{each_from-map}
 use Rattle.fb_check_types.proofs.Says.{assign_says, binary_says, branch_says, call_says, case_says, choice_says, for_says, group_says, if_says, repeat_says, unary_says, variable_says, while_says}
 
 -- ---- Expressions

@@ -23,16 +23,16 @@ use Rattle.fb_check_types.specs.Checks.{is_met}
 use Rattle.fb_types.proofs.ListTests.{list_all-map, list_all-flat_map}
 use Rattle.fb_check_names.specs.Unknown.{NetworkUnknown}
 use Rattle.fb_check_names.proofs.NetworkUnknown.{met, met_required, list_all-all_of}
-use Rattle.fb_why_kinds.specs.declared.location.FlowKind.{FlowKind}
-use Rattle.fb_why_kinds.specs.declared.location.FlowKind.TheVariants.{Events, Data}
-use Rattle.fb_why_kinds.specs.declared.location.Side.{Side}
-use Rattle.fb_why_kinds.specs.declared.location.Site.{Site}
-use Rattle.fb_why_kinds.specs.declared.location.UnknownName.{UnknownName}
-use Rattle.fb_why_kinds.specs.declared.location.UnknownName.TheVariants as location
-use Rattle.fb_why_kinds.specs.Listed.{each_at, unless}
-use Rattle.fb_why_kinds.specs.Sites.{network_at, instance_at, connections_of}
+use Rattle.fb_findings.specs.declared.location.FlowKind.{FlowKind}
+use Rattle.fb_findings.specs.declared.location.FlowKind.TheVariants.{Events, Data}
+use Rattle.fb_findings.specs.declared.location.Side.{Side}
+use Rattle.fb_findings.specs.declared.location.Site.{Site}
+use Rattle.fb_findings.specs.declared.location.UnknownName.{UnknownName}
+use Rattle.fb_findings.specs.declared.location.UnknownName.TheVariants as location
+use Rattle.fb_findings.specs.Listed.{each_at, unless}
+use Rattle.fb_findings.specs.Sites.{network_at, instance_at, connections_of}
 use Rattle.fb_why_kinds.specs.Unknowns.{unknown_in_instance, unknown_parameters}
-use Rattle.fb_why_kinds.proofs.Listing.{each_from-map}
+use Rattle.fb_findings.proofs.Listing.{each_from-map}
 use Rattle.fb_why_kinds.specs.Unknown.{Unmet, UnmetParameter, IsUnknownEnd, type_required, parameter_required, is_type_met, are_parameters_met, is_side_known, are_ends_known}
 
 -- ---- Names that are required

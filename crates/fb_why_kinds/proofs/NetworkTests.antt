@@ -8,7 +8,7 @@ use Rattle.fb_types.specs.declared.library.BlockType.TheVariants as block
 use Rattle.fb_types.specs.declared.library.Library.{Library}
 use Rattle.fb_types.proofs.Elements.{flat_map-Contains, Contains-cons_cases, Contains-nil}
 use Rattle.fb_types.proofs.ListTests.{passes_at}
-use Rattle.fb_why_kinds.specs.Sites.{each_inside}
+use Rattle.fb_findings.specs.Sites.{each_inside}
 
 inside_passes : (test : OwnedNetwork → Bool) (t : BlockType) (n : OwnedNetwork) → each_inside test t ≡ true → Contains (networks_in t) n → test n ≡ true
 inside_passes test (block.Basic t) n h c = absurd (Contains-nil n c)

@@ -9,7 +9,7 @@ use Rattle.fb_check_names.specs.Parts.{PartWrong}
 use Rattle.fb_types.proofs.ListTests.{list_all-both, passes_at}
 use Rattle.fb_check_types.specs.Checks.{is_right_block}
 use Rattle.fb_check_types.proofs.Checks.{wrong_answer}
-use Rattle.fb_why_kinds.specs.declared.location.Misfit.{Misfit}
+use Rattle.fb_findings.specs.declared.location.Misfit.{Misfit}
 use Rattle.fb_why_kinds.specs.Misfits.{IsMisfitAt, are_set_right, are_set_right_inside, is_all_right}
 use Rattle.fb_why_kinds.proofs.NetworkTests.{network_passes}
 

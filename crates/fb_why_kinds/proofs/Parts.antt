@@ -5,8 +5,8 @@ use Rattle.fb_types.specs.Kinds.{Context, is_condition, is_value_kind, is_whole,
 use Rattle.fb_types.specs.Names.{Name}
 use Rattle.fb_types.specs.Syntax.{Expr, Stmt, Empty, Exit, Return, Assign, If, Case, For, While, Repeat, no_stmt, Choices, no_choice, then_choices}
 use Rattle.fb_types.specs.declared.value_kind.ValueKind.TheVariants.{WholeNumber}
-use Rattle.fb_why_kinds.specs.declared.location.StatementPart.{StatementPart}
-use Rattle.fb_why_kinds.specs.declared.location.StatementPart.TheVariants as part
+use Rattle.fb_findings.specs.declared.location.StatementPart.{StatementPart}
+use Rattle.fb_findings.specs.declared.location.StatementPart.TheVariants as part
 use Rattle.fb_why_kinds.specs.Statements.{choice_right, conditions_right, own_right, part_right}
 
 first : (a b : Bool) → (a && b) ≡ true → a ≡ true

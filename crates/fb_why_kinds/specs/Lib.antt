@@ -1,10 +1,8 @@
 pub mod Sites
 pub mod Unknown
-pub mod Listed
 pub mod Unknowns
 pub mod Mentions
 pub mod Types
-pub mod Misjoins
 pub mod Statements
 pub mod Misfits
 pub mod MisfitLists

@@ -1,36 +1,31 @@
--- All locations at which a kind is wrong (E22), and all data connections that lead out of range (E23), in the order of the
--- declaration.
+-- All locations at which a kind is wrong (E22), in the order of the declaration.
 use Rattle.std.specs.Prelude.{ℕ, ◌+◌, List, [], ◌++◌, Some, None, not, false}
 use Rattle.fb_types.specs.Blocks.{ports_of}
 use Rattle.fb_types.specs.Flat.{kind_of_instance}
 use Rattle.fb_types.specs.Kinds.{Context, declared_right, is_condition, is_value_kind, is_whole, parameter_right, same_value_kind, value_kind_of, value_kind_of_type}
 use Rattle.fb_types.specs.Names.{Name}
-use Rattle.fb_types.specs.Repeated.{OwnedNetwork}
 use Rattle.fb_types.specs.Syntax.{Assign, Case, Choices, Empty, Exit, For, If, Repeat, Return, Stmt, While, body_of, no_choice, then_choices}
 use Rattle.fb_types.specs.declared.library.Algorithm.{Algorithm}
 use Rattle.fb_types.specs.declared.library.BasicType.{BasicType}
 use Rattle.fb_types.specs.declared.library.BlockType.{BlockType}
 use Rattle.fb_types.specs.declared.library.BlockType.TheVariants as block
-use Rattle.fb_types.specs.declared.library.Connection.{Connection}
 use Rattle.fb_types.specs.declared.library.Instance.{Instance}
 use Rattle.fb_types.specs.declared.library.Library.{Library}
 use Rattle.fb_types.specs.declared.library.Transition.{Transition}
 use Rattle.fb_types.specs.declared.library.Variable.{Variable}
 use Rattle.fb_types.specs.declared.value_kind.ValueKind.TheVariants.{WholeNumber}
 use Rattle.fb_check_types.specs.Checks.{in_place, is_guard_right}
-use Rattle.fb_why_kinds.specs.declared.location.Misfit.{Misfit}
-use Rattle.fb_why_kinds.specs.declared.location.Misfit.TheVariants as misfit
-use Rattle.fb_why_kinds.specs.declared.location.Misjoin.{Misjoin}
-use Rattle.fb_why_kinds.specs.declared.location.Site.{Site}
-use Rattle.fb_why_kinds.specs.declared.location.Site.TheVariants.{Application, Inside}
-use Rattle.fb_why_kinds.specs.declared.location.StatementPart.{StatementPart}
-use Rattle.fb_why_kinds.specs.declared.location.StatementPart.TheVariants as part
-use Rattle.fb_why_kinds.specs.declared.location.Variables.{Variables}
-use Rattle.fb_why_kinds.specs.declared.location.Variables.TheVariants.{Inputs, Internals, Outputs}
+use Rattle.fb_findings.specs.declared.location.Misfit.{Misfit}
+use Rattle.fb_findings.specs.declared.location.Misfit.TheVariants as misfit
+use Rattle.fb_findings.specs.declared.location.Site.{Site}
+use Rattle.fb_findings.specs.declared.location.Site.TheVariants.{Application, Inside}
+use Rattle.fb_findings.specs.declared.location.StatementPart.{StatementPart}
+use Rattle.fb_findings.specs.declared.location.StatementPart.TheVariants as part
+use Rattle.fb_findings.specs.declared.location.Variables.{Variables}
+use Rattle.fb_findings.specs.declared.location.Variables.TheVariants.{Inputs, Internals, Outputs}
 use Rattle.fb_why_kinds.specs.declared.statements.StatementIndex.{StatementIndex}
-use Rattle.fb_why_kinds.specs.Listed.{each_at, unless}
-use Rattle.fb_why_kinds.specs.Misjoins.{is_joined}
-use Rattle.fb_why_kinds.specs.Sites.{variables_at}
+use Rattle.fb_findings.specs.Listed.{each_at, unless}
+use Rattle.fb_findings.specs.Sites.{variables_at}
 use Rattle.fb_why_kinds.specs.Statements.{Standing, each_in_body}
 
 -- ---- Declared values and parameters
@@ -104,18 +99,3 @@ misfits_in_block lib b t = misfits_initial b t ++ misfits_inside lib b t
 -- the block types, and the application
 abbrev pub misfits_all : Library → List Misfit
 misfits_all lib = each_at (misfits_in_block lib) lib.blocks ++ misfits_in_network lib Application lib.application.network.instances
-
--- ---- Ranges
-
-abbrev pub misjoin_at : Library → Site → OwnedNetwork → ℕ → Connection → List Misjoin
-misjoin_at lib s n k c = unless (is_joined lib n c) (record { site = s; connection = k })
-
-abbrev pub misjoins_in : Library → Site → OwnedNetwork → List Misjoin
-misjoins_in lib s n = each_at (misjoin_at lib s n) n.1.data_connections
-
-abbrev pub misjoins_inside : Library → ℕ → BlockType → List Misjoin
-misjoins_inside lib b (block.Basic t) = []
-misjoins_inside lib b (block.Composite t) = misjoins_in lib (Inside b) (Some t, t.network)
-
-abbrev pub misjoins_all : Library → List Misjoin
-misjoins_all lib = each_at (misjoins_inside lib) lib.blocks ++ misjoins_in lib Application (None, lib.application.network)

@@ -16,12 +16,12 @@ use Rattle.fb_types.specs.declared.library.Parameter.{Parameter}
 use Rattle.fb_types.specs.declared.library.Transition.{Transition}
 use Rattle.fb_types.specs.declared.library.Variable.{Variable}
 use Rattle.fb_check_types.specs.Checks.{in_place, is_guard_right, is_right_block}
-use Rattle.fb_why_kinds.specs.declared.location.Misfit.{Misfit}
-use Rattle.fb_why_kinds.specs.declared.location.Misfit.TheVariants as misfit
-use Rattle.fb_why_kinds.specs.declared.location.StatementPart.{StatementPart}
-use Rattle.fb_why_kinds.specs.declared.location.Site.{Site}
-use Rattle.fb_why_kinds.specs.declared.location.Variables.{Variables}
-use Rattle.fb_why_kinds.specs.Sites.{basic_at, each_inside, network_at, variables_at}
+use Rattle.fb_findings.specs.declared.location.Misfit.{Misfit}
+use Rattle.fb_findings.specs.declared.location.Misfit.TheVariants as misfit
+use Rattle.fb_findings.specs.declared.location.StatementPart.{StatementPart}
+use Rattle.fb_findings.specs.declared.location.Site.{Site}
+use Rattle.fb_findings.specs.declared.location.Variables.{Variables}
+use Rattle.fb_findings.specs.Sites.{basic_at, each_inside, network_at, variables_at}
 use Rattle.fb_why_kinds.specs.Statements.{Standing, each_in_body, part_right}
 
 -- ---- Declared values

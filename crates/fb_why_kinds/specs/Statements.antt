@@ -5,8 +5,8 @@ use Rattle.fb_types.specs.Kinds.{Context, is_value_kind, value_kind_of, value_ki
 use Rattle.fb_types.specs.declared.library.BasicType.{BasicType}
 use Rattle.fb_types.specs.declared.value_kind.ValueKind.TheVariants.{WholeNumber}
 use Rattle.fb_check_types.specs.Checks.{in_place}
-use Rattle.fb_why_kinds.specs.declared.location.StatementPart.{StatementPart}
-use Rattle.fb_why_kinds.specs.declared.location.StatementPart.TheVariants as part
+use Rattle.fb_findings.specs.declared.location.StatementPart.{StatementPart}
+use Rattle.fb_findings.specs.declared.location.StatementPart.TheVariants as part
 use Rattle.fb_why_kinds.specs.declared.statements.Standing as code
 
 -- A statement, and whether it is in a loop.

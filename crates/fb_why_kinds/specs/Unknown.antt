@@ -22,22 +22,22 @@ use Rattle.fb_types.specs.declared.deploy.ResourceEntry.{ResourceEntry}
 use Rattle.fb_check_types.specs.Checks.{is_met, all_met, guard_mentions, is_known_block}
 use Rattle.fb_check_names.specs.Unknown.{NetworkUnknown}
 use Rattle.fb_check_names.specs.Types.{ports_of_block}
-use Rattle.fb_why_kinds.specs.declared.location.FlowKind.{FlowKind}
-use Rattle.fb_why_kinds.specs.declared.location.FlowKind.TheVariants.{Events, Data}
-use Rattle.fb_why_kinds.specs.declared.location.UnknownName.{UnknownName}
-use Rattle.fb_why_kinds.specs.declared.location.UnknownName.TheVariants.{InstanceType, Parameter, End, With, Guard, Mapped, LinkEnd}
-use Rattle.fb_why_kinds.specs.declared.location.UnknownName.TheVariants as location
-use Rattle.fb_why_kinds.specs.declared.location.ActionPart.{ActionPart}
-use Rattle.fb_why_kinds.specs.declared.location.ActionPart.TheVariants.{Algorithm}
-use Rattle.fb_why_kinds.specs.declared.location.ActionPart.TheVariants as actions
-use Rattle.fb_why_kinds.specs.declared.location.Direction.{Direction}
-use Rattle.fb_why_kinds.specs.declared.location.Direction.TheVariants.{Input, Output}
-use Rattle.fb_why_kinds.specs.declared.location.TransitionPart.{TransitionPart}
-use Rattle.fb_why_kinds.specs.declared.location.TransitionPart.TheVariants as part
-use Rattle.fb_why_kinds.specs.declared.location.Side.{Side}
-use Rattle.fb_why_kinds.specs.declared.location.Side.TheVariants.{From, To}
-use Rattle.fb_why_kinds.specs.declared.location.Site.{Site}
-use Rattle.fb_why_kinds.specs.Sites.{basic_at, network_at, network_inside, instance_at, connections_of}
+use Rattle.fb_findings.specs.declared.location.FlowKind.{FlowKind}
+use Rattle.fb_findings.specs.declared.location.FlowKind.TheVariants.{Events, Data}
+use Rattle.fb_findings.specs.declared.location.UnknownName.{UnknownName}
+use Rattle.fb_findings.specs.declared.location.UnknownName.TheVariants.{InstanceType, Parameter, End, With, Guard, Mapped, LinkEnd}
+use Rattle.fb_findings.specs.declared.location.UnknownName.TheVariants as location
+use Rattle.fb_findings.specs.declared.location.ActionPart.{ActionPart}
+use Rattle.fb_findings.specs.declared.location.ActionPart.TheVariants.{Algorithm}
+use Rattle.fb_findings.specs.declared.location.ActionPart.TheVariants as actions
+use Rattle.fb_findings.specs.declared.location.Direction.{Direction}
+use Rattle.fb_findings.specs.declared.location.Direction.TheVariants.{Input, Output}
+use Rattle.fb_findings.specs.declared.location.TransitionPart.{TransitionPart}
+use Rattle.fb_findings.specs.declared.location.TransitionPart.TheVariants as part
+use Rattle.fb_findings.specs.declared.location.Side.{Side}
+use Rattle.fb_findings.specs.declared.location.Side.TheVariants.{From, To}
+use Rattle.fb_findings.specs.declared.location.Site.{Site}
+use Rattle.fb_findings.specs.Sites.{basic_at, network_at, network_inside, instance_at, connections_of}
 
 -- ---- Names that are required
 

@@ -25,18 +25,18 @@ use Rattle.fb_check_types.specs.Checks.{guard_mentions, is_met}
 use Rattle.fb_check_names.specs.Types.{ports_of_block}
 use Rattle.fb_why_kinds.specs.declared.blocks.Naming.{Naming}
 use Rattle.fb_why_kinds.specs.declared.blocks.Naming.TheVariants as naming
-use Rattle.fb_why_kinds.specs.declared.location.ActionPart.TheVariants as actions
-use Rattle.fb_why_kinds.specs.declared.location.Direction.{Direction}
-use Rattle.fb_why_kinds.specs.declared.location.Direction.TheVariants.{Input, Output}
-use Rattle.fb_why_kinds.specs.declared.location.FlowKind.{FlowKind}
-use Rattle.fb_why_kinds.specs.declared.location.FlowKind.TheVariants.{Events, Data}
-use Rattle.fb_why_kinds.specs.declared.location.Side.TheVariants.{From, To}
-use Rattle.fb_why_kinds.specs.declared.location.Site.{Site}
-use Rattle.fb_why_kinds.specs.declared.location.Site.TheVariants.{Application, Inside}
-use Rattle.fb_why_kinds.specs.declared.location.TransitionPart.TheVariants as part
-use Rattle.fb_why_kinds.specs.declared.location.UnknownName.{UnknownName}
-use Rattle.fb_why_kinds.specs.declared.location.UnknownName.TheVariants as location
-use Rattle.fb_why_kinds.specs.Listed.{each_at, unless}
+use Rattle.fb_findings.specs.declared.location.ActionPart.TheVariants as actions
+use Rattle.fb_findings.specs.declared.location.Direction.{Direction}
+use Rattle.fb_findings.specs.declared.location.Direction.TheVariants.{Input, Output}
+use Rattle.fb_findings.specs.declared.location.FlowKind.{FlowKind}
+use Rattle.fb_findings.specs.declared.location.FlowKind.TheVariants.{Events, Data}
+use Rattle.fb_findings.specs.declared.location.Side.TheVariants.{From, To}
+use Rattle.fb_findings.specs.declared.location.Site.{Site}
+use Rattle.fb_findings.specs.declared.location.Site.TheVariants.{Application, Inside}
+use Rattle.fb_findings.specs.declared.location.TransitionPart.TheVariants as part
+use Rattle.fb_findings.specs.declared.location.UnknownName.{UnknownName}
+use Rattle.fb_findings.specs.declared.location.UnknownName.TheVariants as location
+use Rattle.fb_findings.specs.Listed.{each_at, unless}
 use Rattle.fb_why_kinds.specs.Unknown.{events_of, is_instance, is_resource, is_side_known, is_type_met, required_action, required_transition, variables_for}
 
 -- a location at which a name may be required

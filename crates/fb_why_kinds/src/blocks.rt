@@ -5,18 +5,17 @@ ghost use Rattle.fb_types.specs.Unknown.{is_known};
 ghost use Rattle.fb_check_types.specs.Checks.{guard_mentions};
 ghost use Rattle.fb_check_names.specs.Types.{ports_of_block};
 ghost use Rattle.fb_why_kinds.specs.declared.blocks.Naming.TheVariants as naming;
-ghost use Rattle.fb_why_kinds.specs.declared.location.Direction.TheVariants as direction;
-ghost use Rattle.fb_why_kinds.specs.Listed.{each_at, unless};
+ghost use Rattle.fb_findings.specs.declared.location.Direction.TheVariants as direction;
+ghost use Rattle.fb_findings.specs.Listed.{each_at, unless};
 ghost use Rattle.fb_why_kinds.specs.Mentions.{meant};
 ghost use Rattle.fb_why_kinds.specs.Unknowns.{mention_in, unknown_in_block, unknown_in_body, unknown_in_chart, unknown_in_transition, unknown_inside, unknown_mentions, unknown_withs};
 
 use crate::charts::{push_in_states, push_in_withs, push_names};
-use crate::listed::push_unless;
-use crate::location::{Direction, Site, UnknownName};
 use crate::lookup::BlockTypes;
 use crate::mentions::{Mention, is_mention_known, push_body, push_expression};
 use crate::networks::{LocatedNetwork, push_in_network};
 use fb_check_names::PortKind;
+use fb_findings::{Direction, Site, UnknownName, push_unless};
 use fb_types::{Algorithm, BasicType, BlockType, Ports, Transition};
 use std::alloc::{AllocError, Global};
 

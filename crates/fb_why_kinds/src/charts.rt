@@ -4,17 +4,16 @@ ghost use Rattle.std.specs.Prelude.{◌≡◌, ◌++◌, IfOk};
 ghost use Rattle.fb_types.specs.Blocks.{among};
 ghost use Rattle.fb_types.specs.Repeated.{algorithm_names, state_names};
 ghost use Rattle.fb_check_names.specs.PortKinds.{names_of_kind};
-ghost use Rattle.fb_why_kinds.specs.declared.location.ActionPart.TheVariants as actions;
-ghost use Rattle.fb_why_kinds.specs.declared.location.TransitionPart.TheVariants as part;
-ghost use Rattle.fb_why_kinds.specs.declared.location.UnknownName.TheVariants as location;
-ghost use Rattle.fb_why_kinds.specs.Listed.{each_at};
+ghost use Rattle.fb_findings.specs.declared.location.ActionPart.TheVariants as actions;
+ghost use Rattle.fb_findings.specs.declared.location.TransitionPart.TheVariants as part;
+ghost use Rattle.fb_findings.specs.declared.location.UnknownName.TheVariants as location;
+ghost use Rattle.fb_findings.specs.Listed.{each_at};
 ghost use Rattle.fb_why_kinds.specs.Unknown.{required_action, required_transition};
 ghost use Rattle.fb_why_kinds.specs.Unknowns.{unknown_in_action, unknown_in_state, unknown_names, unknown_variables, unmet_at};
 
-use crate::listed::push_unless;
-use crate::location::{ActionPart, Direction, TransitionPart, UnknownName};
 use crate::lookup::{has_port, is_called};
 use fb_check_names::PortKind;
+use fb_findings::{ActionPart, Direction, TransitionPart, UnknownName, push_unless};
 use fb_types::{Action, BasicType, EventPort, Name, Ports, State, Transition};
 use std::alloc::AllocError;
 

@@ -1,13 +1,12 @@
 //! Unknown names in a deployment (E21): mapped instances and the ends of links.
 
 ghost use Rattle.std.specs.Prelude.{◌≡◌, ◌++◌, IfOk};
-ghost use Rattle.fb_why_kinds.specs.declared.location.UnknownName.TheVariants as location;
-ghost use Rattle.fb_why_kinds.specs.Listed.{each_at};
+ghost use Rattle.fb_findings.specs.declared.location.UnknownName.TheVariants as location;
+ghost use Rattle.fb_findings.specs.Listed.{each_at};
 ghost use Rattle.fb_why_kinds.specs.Unknowns.{unknown_in_deployment, unknown_mapped, unknown_sides};
 
-use crate::listed::push_unless;
-use crate::location::{Side, UnknownName};
 use crate::lookup::is_called;
+use fb_findings::{Side, UnknownName, push_unless};
 use fb_types::{Instance, Library, Link, Plan, ResourceEntry};
 use std::alloc::AllocError;
 

@@ -1,17 +1,18 @@
 //! The text for a wrong kind or range: where it is, what is there, and what was expected.
 
-use crate::location::{Misfit, Misjoin, Site, StatementPart, Variables};
 use crate::misfits::internals_of;
-use crate::misjoins::type_at_end;
+use crate::networks::LocatedNetwork;
 use crate::site_messages::{
     instance_of, push_basic, push_block, push_instance, push_site, push_transition, scope_of,
 };
 use crate::statements::{Standing, all_statements};
 use crate::types::type_named;
 use crate::words::{Text, type_words};
-use fb_check_types::{Typing, value_kind_of, value_kind_of_type};
+use fb_check_types::{Typing, port_type, value_kind_of, value_kind_of_type};
+use fb_findings::{Misfit, Misjoin, Site, StatementPart, Variables};
 use fb_types::{
-    BasicType, BlockType, Choice, Expr, Library, Reference, Stmt, Ty, ValueKind, Variable,
+    BasicType, BlockType, Choice, Expr, Library, PortName, Reference, Stmt, Ty, ValueKind,
+    Variable, instance_named,
 };
 use std::alloc::{AllocError, Global};
 
@@ -285,6 +286,21 @@ fn push_for(
             }
         }
         _ => text.words(": a number is expected, and it is a truth value"),
+    }
+}
+
+/// The type of the variable at an end of a data connection.
+fn type_at_end(library: &Library, scope: &LocatedNetwork, end: &PortName) -> Option<Ty> {
+    match &end.component {
+        None => {
+            let composite = scope.composite?;
+            port_type(&composite.ports, &end.port)
+        }
+        Some(name) => {
+            let instance = instance_named(scope.network.instances.as_slice(), name)?;
+            let kind = type_named(library, &instance.block_type)?;
+            kind.port_type(&end.port)
+        }
     }
 }
 

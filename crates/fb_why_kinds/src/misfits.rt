@@ -5,15 +5,14 @@ ghost use Rattle.fb_types.specs.Kinds.{KindWrong};
 ghost use Rattle.fb_types.specs.Flat.{kind_of};
 ghost use Rattle.fb_types.specs.Repeated as repeated;
 ghost use Rattle.fb_check_types.specs.Checks.{is_guard_right};
-ghost use Rattle.fb_why_kinds.specs.Listed.{each_at};
+ghost use Rattle.fb_findings.specs.Listed.{each_at};
 ghost use Rattle.fb_why_kinds.specs.MisfitLists.{misfit_guard, misfit_initial, misfits_all, misfits_in_block, misfits_in_body, misfits_initial, misfits_inside};
 ghost use Rattle.fb_why_kinds.specs.Misfits.{IsMisfitAt};
 
-use crate::listed::push_unless;
-use crate::location::{Misfit, Site, Variables};
 use crate::parameters::push_in_instances;
 use crate::statements::push_in_body;
 use fb_check_types::is_condition;
+use fb_findings::{Misfit, Site, Variables, push_unless};
 use fb_types::{Algorithm, BasicType, BlockType, Library, Transition, Variable};
 use std::alloc::{AllocError, Global};
 

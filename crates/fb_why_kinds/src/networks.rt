@@ -6,15 +6,14 @@ ghost use Rattle.fb_types.specs.Unknown as spec;
 ghost use Rattle.fb_types.specs.Unknown.{data_ins};
 ghost use Rattle.fb_why_kinds.specs.Sites.{placed};
 ghost use Rattle.fb_check_names.specs.PortKinds.{names_of_kind};
-ghost use Rattle.fb_why_kinds.specs.declared.location.UnknownName.TheVariants as location;
-ghost use Rattle.fb_why_kinds.specs.Listed.{each_at, unless};
+ghost use Rattle.fb_findings.specs.declared.location.UnknownName.TheVariants as location;
+ghost use Rattle.fb_findings.specs.Listed.{each_at, unless};
 ghost use Rattle.fb_why_kinds.specs.Unknown.{inputs_of, is_side_known, outputs_of};
 ghost use Rattle.fb_why_kinds.specs.Unknowns.{unknown_ends, unknown_in_instance, unknown_in_network};
 
-use crate::listed::push_unless;
-use crate::location::{FlowKind, Side, Site, UnknownName};
 use crate::lookup::{BlockTypes, has_port};
 use fb_check_names::PortKind;
+use fb_findings::{FlowKind, Side, Site, UnknownName, push_unless};
 use fb_types::{
     CompositeType, Connection, Instance, Network, Parameter, PortName, Ports, instance_named,
 };

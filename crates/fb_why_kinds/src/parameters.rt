@@ -3,14 +3,13 @@
 ghost use Rattle.std.specs.Prelude.{◌≡◌, ◌++◌, IfOk};
 ghost use Rattle.fb_types.specs.Blocks.{ports_of};
 ghost use Rattle.fb_types.specs.Kinds.{parameter_right};
-ghost use Rattle.fb_why_kinds.specs.declared.location.Misfit.TheVariants as misfit;
-ghost use Rattle.fb_why_kinds.specs.Listed.{each_at, unless};
+ghost use Rattle.fb_findings.specs.declared.location.Misfit.TheVariants as misfit;
+ghost use Rattle.fb_findings.specs.Listed.{each_at, unless};
 ghost use Rattle.fb_why_kinds.specs.MisfitLists.{misfit_parameters, misfits_in_network};
 ghost use Rattle.fb_why_kinds.specs.Types.{meant};
 
-use crate::listed::push_unless;
-use crate::location::{Misfit, Site};
 use crate::types::{Kind, type_named};
+use fb_findings::{Misfit, Site, push_unless};
 use fb_types::{Instance, Library, Parameter};
 use std::alloc::AllocError;
 

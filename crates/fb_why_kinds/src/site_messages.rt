@@ -1,9 +1,9 @@
 //! Words for networks, block types and instances, and how they are found.
 
-use crate::location::Site;
 use crate::networks::LocatedNetwork;
 use crate::words::Text;
-use fb_types::{BasicType, BlockType, Instance, Library, Transition};
+use fb_findings::Site;
+use fb_types::{BasicType, BlockType, Instance, Library, Network, Transition};
 
 /// Adds words for a block type.
 pub fn push_block(text: &mut Text, library: &Library, block: usize) {
@@ -50,9 +50,14 @@ pub(crate) fn scope_of(library: &Library, site: Site) -> Option<LocatedNetwork> 
     }
 }
 
+/// The network of a site.
+pub fn network_of(library: &Library, site: Site) -> Option<&Network> {
+    Some(scope_of(library, site)?.network)
+}
+
 /// An instance of the network of a site.
 pub fn instance_of(library: &Library, site: Site, instance: usize) -> Option<&Instance> {
-    scope_of(library, site)?.network.instances.get(instance)
+    network_of(library, site)?.instances.get(instance)
 }
 
 /// Adds words for a transition.

@@ -5,16 +5,15 @@ ghost use Rattle.fb_types.specs.Kinds.{context_in};
 ghost use Rattle.fb_types.specs.Syntax.{Assign, For, body_of, expr_of, no_stmt, stmt_of, step_of};
 ghost use Rattle.fb_check_types.specs.Checks.{in_place};
 ghost use Rattle.fb_check_types.specs.Trees.{all_of, branches_of, choices_of};
-ghost use Rattle.fb_why_kinds.specs.Listed.{each_at, unless};
+ghost use Rattle.fb_findings.specs.Listed.{each_at, unless};
 ghost use Rattle.fb_why_kinds.specs.MisfitLists.{misfits_in_body, misfits_in_statement, part_at, wrong_choices, wrong_control, wrong_parts};
 ghost use Rattle.fb_why_kinds.specs.Statements.{all_standing, each_in_body, each_in_branches, each_in_choices, each_inside, standing_of};
 
-use crate::listed::push_unless;
-use crate::location::{Misfit, StatementPart};
 use crate::types::is_input;
 use fb_check_types::{
     Typing, are_same, is_condition, is_step_whole, is_value_kind, is_whole, value_kind_of_type,
 };
+use fb_findings::{Misfit, StatementPart, push_unless};
 use fb_types::{Algorithm, BasicType, Body, Branch, Choice, Expr, Reference, Stmt, ValueKind};
 use std::alloc::{AllocError, Global};
 

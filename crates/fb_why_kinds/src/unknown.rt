@@ -2,15 +2,15 @@
 
 ghost use Rattle.std.specs.Prelude.{◌≡◌, [], All, Contains, IfOk};
 ghost use Rattle.fb_types.specs.Unknown.{NameUnknown};
-ghost use Rattle.fb_why_kinds.specs.declared.location.UnknownName.{UnknownName};
+ghost use Rattle.fb_findings.specs.declared.location.UnknownName.{UnknownName};
 ghost use Rattle.fb_why_kinds.specs.Unknown.{IsUnknownAt};
 ghost use Rattle.fb_why_kinds.specs.Unknowns.{unknown_all};
 
 use crate::blocks::push_in_blocks;
 use crate::deployment::push_in_deployment;
-use crate::location::{Site, UnknownName};
 use crate::lookup::BlockTypes;
 use crate::networks::{LocatedNetwork, push_in_network};
+use fb_findings::{Site, UnknownName};
 use fb_types::{Library, Plan};
 use std::alloc::{AllocError, Global};
 

@@ -1,6 +1,5 @@
 //! The text for an unknown name: where it is, and what was expected there.
 
-use crate::location::{ActionPart, Direction, FlowKind, Side, Site, TransitionPart, UnknownName};
 use crate::lookup::BlockTypes;
 use crate::mentions::{Mention, push_body, push_expression};
 use crate::networks::{LocatedNetwork, input_of, output_of};
@@ -9,6 +8,7 @@ use crate::site_messages::{
 };
 use crate::words::Text;
 use fb_check_names::PortKind;
+use fb_findings::{ActionPart, Direction, FlowKind, Side, Site, TransitionPart, UnknownName};
 use fb_types::{Action, BasicType, CompositeType, Instance, Library, Name, Plan, instance_named};
 use std::alloc::{AllocError, Global};
 

@@ -15,4 +15,4 @@ returns-in-None-clause-refused c =
     let lib = c.args.case.now.library.now in
     let plan = c.args.case.now.plan.now in
     let ss = c.args.case.now.stimuli.now in
-    least_20 lib plan ss (first lib plan ss) (MatchOption-at_none (NameTwice lib plan) (IsCatalog lib plan) c.in-None.is c.in_ok-catalog.ensures)
+    record { least = least_20 lib plan ss (first lib plan ss) (MatchOption-at_none (NameTwice lib plan) (IsCatalog lib plan) c.in-None.is c.in_ok-catalog.ensures); all = tt }

@@ -9,8 +9,11 @@ use Rattle.fb_check.proofs.judgement.numbers.Goals as goal
 pub returns-then-not-are_parts_known-clause-refused : goal.returns-then-not-are_parts_known-clause-refused
 returns-then-not-are_parts_known-clause-refused c =
     let lib = c.args.case.now.library.now in
-    least_21 c.args.case.now.library.now c.args.case.now.plan.now c.args.case.now.stimuli.now (passes_20 c.args.case.now.library.now c.args.case.now.plan.now c.args.case.now.stimuli.now (first c.args.case.now.library.now c.args.case.now.plan.now c.args.case.now.stimuli.now) c.requires.once)
-    (unknown_part lib c.args.case.now.plan.now (not_so c.are_parts_known.result (ArePartsKnown lib) c.are_parts_known.ensures c.if-not-are_parts_known.true))
+    record {
+      least = least_21 c.args.case.now.library.now c.args.case.now.plan.now c.args.case.now.stimuli.now (passes_20 c.args.case.now.library.now c.args.case.now.plan.now c.args.case.now.stimuli.now (first c.args.case.now.library.now c.args.case.now.plan.now c.args.case.now.stimuli.now) c.requires.once)
+          (unknown_part lib c.args.case.now.plan.now (not_so c.are_parts_known.result (ArePartsKnown lib) c.are_parts_known.ensures c.if-not-are_parts_known.true));
+      all = tt;
+    }
 
 pub resolve-requires-clause-parts : goal.resolve-requires-clause-parts
 resolve-requires-clause-parts c = c.are_parts_known.ensures.0 c.if-not-are_parts_known.false
@@ -26,5 +29,8 @@ returns-in-None-clause-refused c =
     let lib = c.args.case.now.library.now in
     let plan = c.args.case.now.plan.now in
     let ss = c.args.case.now.stimuli.now in
-    least_21 lib plan ss (passes_20 lib plan ss (first lib plan ss) c.requires.once)
-    (MatchOption-at_none (NameUnknown lib plan) (IsResolved lib plan) c.in-None.is c.in_ok-resolved.ensures)
+    record {
+      least = least_21 lib plan ss (passes_20 lib plan ss (first lib plan ss) c.requires.once)
+          (MatchOption-at_none (NameUnknown lib plan) (IsResolved lib plan) c.in-None.is c.in_ok-resolved.ensures);
+      all = tt;
+    }

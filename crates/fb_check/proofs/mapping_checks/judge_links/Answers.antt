@@ -1,11 +1,21 @@
-use Rattle.fb_types.specs.Mapped.{NoLink}
-use Rattle.fb_check.proofs.Verdict.{not_so, passes_27, least_27}
+use Rattle.std.proofs.Common.{vec_len}
+use Rattle.fb_findings.proofs.Listing.{some_says}
+use Rattle.fb_check_networks.specs.Links.{IsUnlinkedAt}
+use Rattle.fb_check_networks.proofs.Unlinked.{unlinked_applies}
+use Rattle.fb_check.proofs.Verdict.{least_27, no_location, passes_27, some_location}
 use Rattle.fb_check.proofs.mapping_checks.judge_links.Goals as goal
+
+pub returns-then-not-is_empty-clause-refused : goal.returns-then-not-is_empty-clause-refused
+returns-then-not-is_empty-clause-refused c =
+    let found = c.in_ok-found.found in
+    record {
+      least = least_27 c.args.case.now.library.now c.args.case.now.plan.now c.args.case.now.stimuli.now c.requires.passed
+          (some_says (IsUnlinkedAt c.args.case.now.library.now c.args.case.now.plan.now) found.items (unlinked_applies c.args.case.now.library.now c.args.case.now.plan.now) c.in_ok-found.ensures.each (some_location found.items (vec_len found) c.is_empty.result found.ok.0 c.is_empty.ensures c.if-not-is_empty.true));
+      all = c.in_ok-found.ensures.listed;
+    }
 
 pub returns-clause-ok : goal.returns-clause-ok
 returns-clause-ok c =
+    let found = c.in_ok-found.found in
     passes_27 c.args.case.now.library.now c.args.case.now.plan.now c.args.case.now.stimuli.now c.requires.passed
-    (not_so c.in_ok-lacks_link.field-0 (NoLink c.args.case.now.library.now c.args.case.now.plan.now) c.in_ok-lacks_link.ensures c.if-branch.false)
-
-pub returns-then-branch-clause-refused : goal.returns-then-branch-clause-refused
-returns-then-branch-clause-refused c = least_27 c.args.case.now.library.now c.args.case.now.plan.now c.args.case.now.stimuli.now c.requires.passed (c.in_ok-lacks_link.ensures.0 c.if-branch.true)
+    (c.in_ok-found.ensures.none (no_location found.items (vec_len found) c.is_empty.result found.ok.0 c.is_empty.ensures c.if-not-is_empty.false))

@@ -1,27 +1,40 @@
-use Rattle.std.proofs.Common.{arith}
-use Rattle.std.proofs.lemmas.Option.{MatchOption-at_some, MatchOption-at_none}
-use Rattle.fb_types.specs.Mapped.{NotMapped}
-use Rattle.fb_check_networks.specs.Mapping.{IsMapping}
-use Rattle.fb_check.proofs.Verdict.{once, passes_26, least_26}
+use Rattle.std.proofs.Common.{◌≡◌, List, ◌++◌, sym, ◌∙◌, ap, arith, vec_len}
+use Rattle.fb_findings.specs.declared.location.Unmapped.{Unmapped}
+use Rattle.fb_findings.proofs.Listing.{some_says}
+use Rattle.fb_check_networks.specs.Unmapped.{IsUnmappedAt, unmapped_all}
+use Rattle.fb_check_networks.proofs.Mapped.{each_unmapped, none_unmapped, unmapped_applies}
+use Rattle.fb_check.proofs.Verdict.{once, passes_26, least_26, no_location, some_location}
 use Rattle.fb_check.proofs.mapping_checks.mapping.Goals as goal
 
 pub mapping_of-requires : goal.mapping_of-requires
 mapping_of-requires c = record { once = λ _. once 26 c.args.case.now.library.now c.args.case.now.plan.now c.args.case.now.stimuli.now (omega arith) c.requires.passed }
 
-pub returns-in-Some-clause-passed : goal.returns-in-Some-clause-passed
-returns-in-Some-clause-passed c =
+pub returns-then-not-is_empty-clause-refused : goal.returns-then-not-is_empty-clause-refused
+returns-then-not-is_empty-clause-refused c =
     let lib = c.args.case.now.library.now in
     let plan = c.args.case.now.plan.now in
-    passes_26 c.args.case.now.library.now c.args.case.now.plan.now c.args.case.now.stimuli.now c.requires.passed (MatchOption-at_some (NotMapped lib plan) (IsMapping lib plan) _ c.in-Some.is c.in_ok-mapping.ensures).each
+    let found = c.mapping_of.new.found in
+    let all : found.items ≡ unmapped_all lib plan = c.in_ok-mapping.ensures.found ∙ ap (λ (ps : List Unmapped). ps ++ unmapped_all lib plan) c.new-found.ensures.items in
+    record {
+      least = least_26 lib plan c.args.case.now.stimuli.now c.requires.passed
+          (some_says (IsUnmappedAt lib plan) (unmapped_all lib plan) (unmapped_applies lib plan) (each_unmapped lib plan)
+          (λ none. some_location found.items (vec_len found) c.is_empty.result found.ok.0 c.is_empty.ensures c.if-not-is_empty.true (all ∙ none)));
+      all = all;
+    }
 
-pub returns-in-Some-clause-ok : goal.returns-in-Some-clause-ok
-returns-in-Some-clause-ok c =
+pub returns-clause-ok : goal.returns-clause-ok
+returns-clause-ok c =
     let lib = c.args.case.now.library.now in
     let plan = c.args.case.now.plan.now in
-    MatchOption-at_some (NotMapped lib plan) (IsMapping lib plan) _ c.in-Some.is c.in_ok-mapping.ensures
+    let found = c.mapping_of.new.found in
+    let all : found.items ≡ unmapped_all lib plan = c.in_ok-mapping.ensures.found ∙ ap (λ (ps : List Unmapped). ps ++ unmapped_all lib plan) c.new-found.ensures.items in
+    c.in_ok-mapping.ensures.mapping (sym all ∙ no_location found.items (vec_len found) c.is_empty.result found.ok.0 c.is_empty.ensures c.if-not-is_empty.false)
 
-pub returns-in-None-clause-refused : goal.returns-in-None-clause-refused
-returns-in-None-clause-refused c =
+pub returns-clause-passed : goal.returns-clause-passed
+returns-clause-passed c =
     let lib = c.args.case.now.library.now in
     let plan = c.args.case.now.plan.now in
-    least_26 lib plan c.args.case.now.stimuli.now c.requires.passed (MatchOption-at_none (NotMapped lib plan) (IsMapping lib plan) c.in-None.is c.in_ok-mapping.ensures)
+    let found = c.mapping_of.new.found in
+    let all : found.items ≡ unmapped_all lib plan = c.in_ok-mapping.ensures.found ∙ ap (λ (ps : List Unmapped). ps ++ unmapped_all lib plan) c.new-found.ensures.items in
+    passes_26 lib plan c.args.case.now.stimuli.now c.requires.passed
+    (none_unmapped lib plan (sym all ∙ no_location found.items (vec_len found) c.is_empty.result found.ok.0 c.is_empty.ensures c.if-not-is_empty.false))

@@ -23,7 +23,7 @@ returns-then-has_wrong_part-clause-refused c =
       | then-has_wrong_part-via-else-has_wrong_part+then-has_wrong_parameter w ↦
           inr (inr ((w.has_wrong_parameter.ensures plan c.requires.resolved).0 w.if-has_wrong_parameter.true))
     ] in
-    least_22 lib plan c.args.case.now.stimuli.now c.requires.passed wrong
+    record { least = least_22 lib plan c.args.case.now.stimuli.now c.requires.passed wrong; all = tt }
 
 pub returns-clause-ok : goal.returns-clause-ok
 returns-clause-ok c =

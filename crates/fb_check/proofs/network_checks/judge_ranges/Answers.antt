@@ -1,14 +1,28 @@
-use Rattle.std.proofs.Common.{arith}
-use Rattle.fb_types.specs.Joined.{OutOfRange}
-use Rattle.fb_check.proofs.Verdict.{once, not_so, least_23, passes_23}
+use Rattle.std.proofs.Common.{arith, vec_len}
+use Rattle.fb_findings.proofs.Listing.{some_says}
+use Rattle.fb_check_networks.specs.Misjoins.{IsMisjoinedAt}
+use Rattle.fb_check_networks.proofs.Joined.{misjoin_applies}
+use Rattle.fb_check.proofs.Verdict.{once, least_23, no_location, passes_23, some_location}
 use Rattle.fb_check.proofs.network_checks.judge_ranges.Goals as goal
 
-pub returns-then-leads_out_of_range-clause-refused : goal.returns-then-leads_out_of_range-clause-refused
-returns-then-leads_out_of_range-clause-refused c =
-    let says = c.leads_out_of_range.ensures c.args.case.now.plan.now c.requires.resolved (once 23 c.args.case.now.library.now c.args.case.now.plan.now c.args.case.now.stimuli.now (omega arith) c.requires.passed) in
-    least_23 c.args.case.now.library.now c.args.case.now.plan.now c.args.case.now.stimuli.now c.requires.passed (says.0 c.if-leads_out_of_range.true)
+pub misjoin_locations-requires : goal.misjoin_locations-requires
+misjoin_locations-requires c = (
+  c.args.case.now.plan.now,
+  c.requires.resolved,
+  once 23 c.args.case.now.library.now c.args.case.now.plan.now c.args.case.now.stimuli.now (omega arith) c.requires.passed,
+)
+
+pub returns-then-not-is_empty-clause-refused : goal.returns-then-not-is_empty-clause-refused
+returns-then-not-is_empty-clause-refused c =
+    let found = c.in_ok-found.found in
+    record {
+      least = least_23 c.args.case.now.library.now c.args.case.now.plan.now c.args.case.now.stimuli.now c.requires.passed
+          (some_says (IsMisjoinedAt c.args.case.now.library.now) found.items (misjoin_applies c.args.case.now.library.now) c.in_ok-found.ensures.each (some_location found.items (vec_len found) c.is_empty.result found.ok.0 c.is_empty.ensures c.if-not-is_empty.true));
+      all = c.in_ok-found.ensures.listed;
+    }
 
 pub returns-clause-ok : goal.returns-clause-ok
 returns-clause-ok c =
-    let says = c.leads_out_of_range.ensures c.args.case.now.plan.now c.requires.resolved (once 23 c.args.case.now.library.now c.args.case.now.plan.now c.args.case.now.stimuli.now (omega arith) c.requires.passed) in
-    passes_23 c.args.case.now.library.now c.args.case.now.plan.now c.args.case.now.stimuli.now c.requires.passed (not_so c.leads_out_of_range.result (OutOfRange c.args.case.now.library.now) says c.if-leads_out_of_range.false)
+    let found = c.in_ok-found.found in
+    passes_23 c.args.case.now.library.now c.args.case.now.plan.now c.args.case.now.stimuli.now c.requires.passed
+    (c.in_ok-found.ensures.none (no_location found.items (vec_len found) c.is_empty.result found.ok.0 c.is_empty.ensures c.if-not-is_empty.false))

@@ -1,11 +1,21 @@
-use Rattle.fb_types.specs.Joined.{TwoSources}
-use Rattle.fb_check.proofs.Verdict.{not_so, passes_24, least_24}
+use Rattle.std.proofs.Common.{vec_len}
+use Rattle.fb_findings.proofs.Listing.{some_says}
+use Rattle.fb_check_networks.specs.Sources.{IsJoinedAt}
+use Rattle.fb_check_networks.proofs.Targets.{joined_applies}
+use Rattle.fb_check.proofs.Verdict.{least_24, no_location, passes_24, some_location}
 use Rattle.fb_check.proofs.network_checks.judge_sources.Goals as goal
+
+pub returns-then-not-is_empty-clause-refused : goal.returns-then-not-is_empty-clause-refused
+returns-then-not-is_empty-clause-refused c =
+    let found = c.in_ok-found.found in
+    record {
+      least = least_24 c.args.case.now.library.now c.args.case.now.plan.now c.args.case.now.stimuli.now c.requires.passed
+          (some_says (IsJoinedAt c.args.case.now.library.now) found.items (joined_applies c.args.case.now.library.now) c.in_ok-found.ensures.each (some_location found.items (vec_len found) c.is_empty.result found.ok.0 c.is_empty.ensures c.if-not-is_empty.true));
+      all = c.in_ok-found.ensures.listed;
+    }
 
 pub returns-clause-ok : goal.returns-clause-ok
 returns-clause-ok c =
+    let found = c.in_ok-found.found in
     passes_24 c.args.case.now.library.now c.args.case.now.plan.now c.args.case.now.stimuli.now c.requires.passed
-    (not_so c.in_ok-has_two_sources.field-0 (TwoSources c.args.case.now.library.now) c.in_ok-has_two_sources.ensures c.if-branch.false)
-
-pub returns-then-branch-clause-refused : goal.returns-then-branch-clause-refused
-returns-then-branch-clause-refused c = least_24 c.args.case.now.library.now c.args.case.now.plan.now c.args.case.now.stimuli.now c.requires.passed (c.in_ok-has_two_sources.ensures.0 c.if-branch.true)
+    (c.in_ok-found.ensures.none (no_location found.items (vec_len found) c.is_empty.result found.ok.0 c.is_empty.ensures c.if-not-is_empty.false))

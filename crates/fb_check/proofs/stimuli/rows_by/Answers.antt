@@ -1,39 +1,52 @@
-use Rattle.std.proofs.Common.{arith}
-use Rattle.std.proofs.lemmas.Option.{MatchOption-at_some, MatchOption-at_none}
-use Rattle.fb_check.specs.Directory.{CanTake, IsTaken}
-use Rattle.fb_check.proofs.Good.{bad_at, none_bad}
-use Rattle.fb_check.proofs.Refused.{refused_none, refused_more, refused_all}
-use Rattle.fb_check.proofs.Rows.{rows_none, rows_more, rows_all}
+use Rattle.std.proofs.Common.{List, sym, subst, arith}
+use Rattle.std.specs.Prelude.{All}
+use Rattle.std.proofs.lemmas.List.Elements.{All-nil}
+use Rattle.fb_check.specs.declared.location.StimulusLocation.{StimulusLocation}
+use Rattle.fb_check_networks.proofs.Looking.{at_element}
+use Rattle.fb_check.specs.Stimuli.{IsBadAt}
+use Rattle.fb_check.proofs.Good.{Known, none_bad}
+use Rattle.fb_check.proofs.Refused.{refused_none, refused_all}
+use Rattle.fb_check.proofs.Rows.{added_all, added_bad, added_rows, all_of, rows_none, rows_all}
 use Rattle.fb_check.proofs.stimuli.rows_by.Goals as goal
 
-pub loop-stimulus-init : goal.loop-stimulus-init
-loop-stimulus-init c = record { within = omega arith; none = refused_none c.args.library.now; rows = rows_none c.args.library.now c.args.stimuli.now _ c.new-rows.ensures }
-
-pub returns-in-None : goal.returns-in-None
-returns-in-None c =
-    let lib = c.args.library.now in
-    let plan = c.requires.names.0 in
-    let s = c.stimulus-item.result in
-    bad_at lib plan c.args.stimuli.now _ s c.requires.names.1.once c.requires.names.2 c.loop-stimulus-test.true c.stimulus-item.is
-    (MatchOption-at_none (¬ (CanTake lib s)) (IsTaken lib s) c.in-None.is c.in_ok-row.ensures)
-
-pub loop-stimulus-preserved : goal.loop-stimulus-preserved
-loop-stimulus-preserved c =
-    let lib = c.args.library.now in
-    let s = c.stimulus-item.result in
-    let taken = MatchOption-at_some (¬ (CanTake lib s)) (IsTaken lib s) _ c.in-Some.is c.in_ok-row.ensures in
-    record {
-      within = (let test = c.loop-stimulus-test.true in omega (arith, test));
-      none = refused_more lib c.args.stimuli.now _ s c.loop-stimulus-test.true c.stimulus-item.is c.loop-stimulus.invariant.none taken.takes;
-      rows = rows_more lib c.args.stimuli.now _ s _ _ c.in-Some.row c.loop-stimulus-test.true c.stimulus-item.is c.loop-stimulus.invariant.rows taken.row
-          c.in_ok-push-in-Some.ensures.ok;
-    }
-
-pub returns : goal.returns
-returns c =
+pub loop-row-init : goal.loop-row-init
+loop-row-init c =
     let lib = c.args.library.now in
     let ss = c.args.stimuli.now in
     record {
-      good = none_bad lib c.requires.names.0 ss c.requires.names.1.once c.requires.names.2 (refused_all lib ss _ c.loop-stimulus-test.false c.loop-stimulus.invariant.none);
-      rows = rows_all lib ss _ _ c.loop-stimulus.invariant.within c.loop-stimulus-test.false c.loop-stimulus.invariant.rows;
+      within = omega arith;
+      each = subst (λ (ps : List StimulusLocation). All (IsBadAt lib ss) ps) (sym c.requires.empty) (All-nil (IsBadAt lib ss));
+      all = λ k s below. absurd (omega (arith, below));
+      rows = λ _. (refused_none lib, rows_none lib ss _ c.new-rows.ensures);
+    }
+
+pub loop-row-preserved : goal.loop-row-preserved
+loop-row-preserved c =
+    let lib = c.args.library.now in
+    let ss = c.args.stimuli.now in
+    let k = c.loop-row.row in
+    let s = c.index-stimuli-row.result in
+    let at = at_element ss k s c.loop-row-test.true c.index-stimuli-row.is in
+    let known : Known lib = record { plan = c.requires.names.0; once = c.requires.names.1.once; known = c.requires.names.2 } in
+    record {
+      within = (let test = c.loop-row-test.true in omega (arith, test));
+      each = added_bad lib ss k s c.in_ok-made.made _ _ _ _ at c.in_ok-made.ensures c.in_ok-push_row.ensures c.loop-row.invariant.each;
+      all = added_all lib ss k s c.in_ok-made.made _ _ _ _ known at c.in_ok-made.ensures c.in_ok-push_row.ensures c.loop-row.invariant.all;
+      rows = added_rows lib ss k s c.in_ok-made.made _ _ _ _ c.loop-row-test.true c.index-stimuli-row.is c.in_ok-made.ensures c.in_ok-push_row.ensures c.loop-row.invariant.rows;
+    }
+
+pub returns-clause-each : goal.returns-clause-each
+returns-clause-each c = c.loop-row.invariant.each
+
+pub returns-clause-all : goal.returns-clause-all
+returns-clause-all c = all_of c.args.library.now c.args.stimuli.now _ _ c.loop-row-test.false c.loop-row.invariant.all
+
+pub returns-clause-rows : goal.returns-clause-rows
+returns-clause-rows c = λ none.
+    let lib = c.args.library.now in
+    let ss = c.args.stimuli.now in
+    let all = c.loop-row.invariant.rows none in
+    record {
+      good = none_bad lib c.requires.names.0 ss c.requires.names.1.once c.requires.names.2 (refused_all lib ss _ c.loop-row-test.false all.0);
+      rows = rows_all lib ss _ _ c.loop-row.invariant.within c.loop-row-test.false all.1;
     }

@@ -1,11 +1,13 @@
-use Rattle.std.proofs.Common.{◌≤◌, length, take}
-use Rattle.fb_system.specs.Rows.{AreRowsUpTo}
-use Rattle.fb_check.proofs.Refused.{HasRefused}
+use Rattle.std.proofs.Common.{◌≡◌, ◌≤◌, [], length}
+use Rattle.std.specs.Prelude.{All}
+use Rattle.fb_check.specs.Stimuli.{AreAllBadUpTo, IsBadAt}
+use Rattle.fb_check.proofs.Rows.{AreGoodUpTo}
 use Rattle.fb_check.proofs.stimuli.rows_by.Given as goal
 
-abbrev pub invariant-loop-stimulus : goal.invariant-loop-stimulus
-invariant-loop-stimulus l = record {
-  within : l.stimulus-index ≤ length l.stimuli;
-  none : ¬ (HasRefused l.library (take l.stimulus-index l.stimuli));
-  rows : AreRowsUpTo l.stimulus-index l.library l.stimuli l.rows;
+abbrev pub invariant-loop-row : goal.invariant-loop-row
+invariant-loop-row l = record {
+  within : l.row ≤ length l.stimuli;
+  each : All (IsBadAt l.library l.stimuli) l.found.items;
+  all : AreAllBadUpTo l.row l.library l.stimuli l.found.items;
+  rows : l.found.items ≡ [] → AreGoodUpTo l.row l.library l.stimuli l.rows;
 }

@@ -1,26 +1,33 @@
-use Rattle.std.proofs.Common.{sym}
-use Rattle.std.proofs.lemmas.Bool.{true≢false}
-use Rattle.fb_check_networks.proofs.Listing.{held_resource, listing_from_held, resource_twice}
+use Rattle.std.proofs.Common.{◌≡◌, ◌++◌, List, ℕ, append_assoc, map, ◌∙◌, ap, subst}
+use Rattle.std.specs.Prelude.{flat_map}
+use Rattle.fb_types.specs.Names.{Name, same_name}
+use Rattle.fb_check_names.specs.Indexes.{names_in}
+use Rattle.fb_findings.specs.Listed.{each_at}
+use Rattle.fb_findings.specs.Repeats.{repeats}
+use Rattle.fb_findings.specs.declared.location.Unmapped.{Unmapped}
+use Rattle.fb_findings.specs.declared.location.Unmapped.TheVariants.{Again}
+use Rattle.fb_check_networks.specs.Mapping.{ArePlaces}
+use Rattle.fb_check_networks.specs.Unmapped.{unlisted_at}
+use Rattle.fb_check_networks.proofs.Owners.{unlisted_are}
 use Rattle.fb_check_networks.proofs.mapping.list_all.Goals as goal
 
-pub loop-number-init : goal.loop-number-init
-loop-number-init c = c.requires
+pub returns-clause-found : goal.returns-clause-found
+returns-clause-found c =
+    let is = c.args.instances.now in
+    let ns : List Name = flat_map (λ r. r.instances) c.args.resources.now in
+    let names : names_in c.as_slice.result.now ≡ ns = ap names_in c.as_slice.ensures.value ∙ c.in_ok-names.ensures in
+    let places : ArePlaces ns c.in_ok-places.places = subst (λ (ns : List Name). ArePlaces ns c.in_ok-places.places) names c.in_ok-places.ensures.places in
+    let pairs : c.as_slice-2.result.now ≡ repeats same_name ns =
+    c.as_slice-2.ensures.value ∙ c.in_ok-places.ensures.again ∙ ap (λ (rs : List (ℕ × ℕ)). rs ++ repeats same_name (names_in c.as_slice.result.now)) c.new-again.ensures.items ∙ ap (repeats same_name) names in
+    let unlisted : List Unmapped = each_at (unlisted_at ns) is in
+    c.in_ok-push_again.ensures
+    ∙ (λ i. (c.in_ok-push_unlisted.ensures ∙ ap (λ (us : List Unmapped). c.args.found.now.items ++ us) (unlisted_are c.in_ok-places.places ns is places)) i ++ map (λ r. Again r) (pairs i))
+    ∙ append_assoc c.args.found.now.items unlisted (map (λ r. Again r) (repeats same_name ns))
 
-pub returns-then-not-branch : goal.returns-then-not-branch
-returns-then-not-branch c = record {
-  once = λ h. absurd (true≢false (sym h));
-  twice = λ _.
-      resource_twice c.args.resources.now c.loop-number.number c.index-resources-number.result _ _ _ _ c.loop-number-test.true c.index-resources-number.is
-      c.as_slice.ensures c.in_ok-list_names.ensures c.if-not-branch.true c.loop-number.invariant;
-}
+pub returns-clause-places : goal.returns-clause-places
+returns-clause-places c =
+    let names = ap names_in c.as_slice.ensures.value ∙ c.in_ok-names.ensures in
+    subst (λ (ns : List Name). ArePlaces ns c.in_ok-places.places) names c.in_ok-places.ensures.places
 
-pub loop-number-preserved : goal.loop-number-preserved
-loop-number-preserved c =
-    held_resource c.args.resources.now c.loop-number.number c.index-resources-number.result _ _ _ _ c.loop-number-test.true c.index-resources-number.is
-    c.as_slice.ensures c.in_ok-list_names.ensures c.if-not-branch.false c.loop-number.invariant
-
-pub returns : goal.returns
-returns c = record {
-  once = λ _. listing_from_held c.args.resources.now c.loop-number.number _ c.loop-number-test.false c.loop-number.invariant;
-  twice = λ h. absurd (true≢false h);
-}
+pub returns-clause-owners : goal.returns-clause-owners
+returns-clause-owners c = c.in_ok-owners.ensures

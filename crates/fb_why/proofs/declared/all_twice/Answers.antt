@@ -6,6 +6,6 @@ use Rattle.fb_why.proofs.Numbered.{spots_of}
 use Rattle.fb_why.proofs.declared.all_twice.Goals as goal
 
 pub returns : goal.returns
-returns c =
-    spots_of flaw.Twice c.args.library.now c.args.plan.now (λ (p : GivenTwice). spot.Twice p) c.twice_spots.result c.as_slice.result.now c.in_ok-found.found.items c.twice_spots.ensures c.as_slice.ensures.value
+returns c = λ stimuli.
+    spots_of flaw.Twice c.args.library.now c.args.plan.now stimuli (λ (p : GivenTwice). spot.Twice p) c.twice_spots.result c.as_slice.result.now c.in_ok-found.found.items c.twice_spots.ensures c.as_slice.ensures.value
     c.in_ok-found.ensures.each c.in_ok-found.ensures.none (ap (map (λ (p : GivenTwice). spot.Twice p)) c.in_ok-found.ensures.listed)

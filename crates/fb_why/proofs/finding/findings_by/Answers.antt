@@ -1,7 +1,7 @@
 use Rattle.std.proofs.Common.{Bor, List, ℕ}
 use Rattle.std.specs.Prelude.{option_map}
 use Rattle.fb_why.specs.declared.cause.Cause.TheVariants as cause
-use Rattle.fb_why.proofs.Numbered.{by_cause, nothing_placed, once_found, once_placed, other_found, text_found}
+use Rattle.fb_why.proofs.Numbered.{by_cause, nothing_placed, once_found, once_placed, other_found}
 use Rattle.fb_why.proofs.finding.findings_by.Goals as goal
 
 pub returns-in-Text-clause-found : goal.returns-in-Text-clause-found
@@ -10,7 +10,7 @@ returns-in-Text-clause-found c =
     let rows = option_map (λ (b : Bor (List ℕ)). b.now) c.args.stimuli in
     by_cause c.args.cause cause.Text c.args.number c.args.declaration.now plan rows c.once.result c.in-Text.is
     (once_found cause.Text c.args.number c.args.declaration.now plan rows c.placed_text.result c.once.result
-    (text_found c.args.number c.args.declaration.now plan rows c.placed_text.result c.placed_text.ensures.found) c.once.ensures)
+    c.placed_text.ensures.found c.once.ensures)
 
 pub returns-in-Text-clause-placed : goal.returns-in-Text-clause-placed
 returns-in-Text-clause-placed c = once_placed c.args.declaration.now c.placed_text.result c.once.result c.placed_text.ensures.placed c.once.ensures
@@ -31,18 +31,6 @@ returns-in-Flaw-clause-found c =
     let plan = option_map (λ (b : Bor (List ℕ)). b.now) c.args.deploy in
     let rows = option_map (λ (b : Bor (List ℕ)). b.now) c.args.stimuli in
     by_cause c.args.cause (cause.Flaw c.in-Flaw.flaw) c.args.number c.args.declaration.now plan rows c.flaw_findings.result c.in-Flaw.is c.flaw_findings.ensures.found
-
-pub returns-in-Excess-clause-found : goal.returns-in-Excess-clause-found
-returns-in-Excess-clause-found c =
-    let plan = option_map (λ (b : Bor (List ℕ)). b.now) c.args.deploy in
-    let rows = option_map (λ (b : Bor (List ℕ)). b.now) c.args.stimuli in
-    let it = cause.Excess c.in-Excess.excess in
-    by_cause c.args.cause it c.args.number c.args.declaration.now plan rows c.once-in-Excess.result c.in-Excess.is
-    (once_found it c.args.number c.args.declaration.now plan rows c.excess_finding-found.result c.once-in-Excess.result c.excess_finding-found.ensures.found c.once-in-Excess.ensures)
-
-pub returns-in-Excess-clause-placed : goal.returns-in-Excess-clause-placed
-returns-in-Excess-clause-placed c =
-    once_placed c.args.declaration.now c.excess_finding-found.result c.once-in-Excess.result c.excess_finding-found.ensures.placed c.once-in-Excess.ensures
 
 pub returns-in-Other-clause-found : goal.returns-in-Other-clause-found
 returns-in-Other-clause-found c =

@@ -3,7 +3,7 @@ use Rattle.fb_types.specs.Names.{same_name}
 use Rattle.fb_types.specs.declared.deploy.Link.{Link}
 use Rattle.fb_check_names.specs.Ends.{link_ends}
 use Rattle.fb_why.specs.Pairs.{same_sides}
-use Rattle.fb_why.proofs.Repeating.{last_step, last_whole}
+use Rattle.fb_findings.proofs.Repeating.{last_step, last_whole}
 use Rattle.fb_why.proofs.pair.last_link.Goals.{then-is_joining, else-is_joining}
 use Rattle.fb_why.proofs.pair.last_link.Goals as goal
 

@@ -1,6 +1,7 @@
 use Rattle.std.proofs.Common.{◌≡◌, map, take}
 use Rattle.fb_check_names.specs.Ends.{link_ends}
-use Rattle.fb_why.specs.Pairs.{last_place, same_sides}
+use Rattle.fb_findings.specs.Repeats.{last_place}
+use Rattle.fb_why.specs.Pairs.{same_sides}
 use Rattle.fb_why.proofs.pair.last_link.Given as goal
 
 abbrev pub invariant-loop-index : goal.invariant-loop-index

@@ -1,8 +1,9 @@
 use Rattle.std.proofs.Common.{◌++◌, ℕ, Option, ◌∙◌, ap}
 use Rattle.fb_check_names.specs.Ends.{link_ends}
-use Rattle.fb_why_kinds.proofs.Listing.{each_done, each_more}
-use Rattle.fb_why.specs.Pairs.{pair_at, same_sides}
-use Rattle.fb_why.proofs.Repeating.{pair_in, pairs_are}
+use Rattle.fb_findings.proofs.Listing.{each_done, each_more}
+use Rattle.fb_findings.specs.Repeats.{pair_at}
+use Rattle.fb_why.specs.Pairs.{same_sides}
+use Rattle.fb_findings.proofs.Repeating.{pair_in, pairs_are}
 use Rattle.fb_why.proofs.pair.link_pairs.Goals as goal
 
 pub loop-second-preserved : goal.loop-second-preserved

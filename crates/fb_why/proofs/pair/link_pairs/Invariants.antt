@@ -1,8 +1,8 @@
 use Rattle.std.proofs.Common.{◌≡◌, ◌++◌, drop}
 use Rattle.fb_check_names.specs.Ends.{link_ends}
-use Rattle.fb_why_kinds.specs.Listed.{each_at, each_from}
+use Rattle.fb_findings.specs.Listed.{each_at, each_from}
 use Rattle.fb_why.specs.Pairs.{same_sides}
-use Rattle.fb_why.proofs.Repeating.{pair_in}
+use Rattle.fb_findings.proofs.Repeating.{pair_in}
 use Rattle.fb_why.proofs.pair.link_pairs.Given as goal
 
 abbrev pub invariant-loop-second : goal.invariant-loop-second

@@ -4,8 +4,8 @@ use Rattle.fb_types.specs.Blocks.{event_block_named}
 use Rattle.fb_why.specs.Repeats.{event_block_at}
 use Rattle.fb_why.specs.Twice.{is_own_name}
 use Rattle.fb_why.specs.declared.twice.GivenTwice.TheVariants as given
-use Rattle.fb_why_kinds.proofs.Listing.{added_unless, each_done, each_more}
-use Rattle.fb_why.proofs.Repeating.{no_more}
+use Rattle.fb_findings.proofs.Listing.{added_unless, each_done, each_more}
+use Rattle.fb_findings.proofs.Repeating.{no_more}
 use Rattle.fb_why.proofs.twice.push_event_blocks.Goals as goal
 
 pub loop-block-preserved : goal.loop-block-preserved

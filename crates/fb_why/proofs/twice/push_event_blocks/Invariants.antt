@@ -1,6 +1,6 @@
 use Rattle.std.proofs.Common.{◌≡◌, ◌++◌, drop}
 use Rattle.fb_why.specs.Repeats.{event_block_at}
-use Rattle.fb_why_kinds.specs.Listed.{each_at, each_from}
+use Rattle.fb_findings.specs.Listed.{each_at, each_from}
 use Rattle.fb_why.proofs.twice.push_event_blocks.Given as goal
 
 abbrev pub invariant-loop-block : goal.invariant-loop-block

@@ -2,8 +2,8 @@ use Rattle.std.proofs.Common.{◌++◌, List, ◌∙◌, ap}
 use Rattle.fb_types.specs.Names.{Name}
 use Rattle.fb_why.specs.Repeats.{names_twice, with_twice}
 use Rattle.fb_why.specs.declared.twice.NameSpace.TheVariants as space
-use Rattle.fb_why.proofs.Repeating.{map_itself}
-use Rattle.fb_why_kinds.proofs.Listing.{each_done, each_more}
+use Rattle.fb_findings.proofs.Repeating.{map_itself}
+use Rattle.fb_findings.proofs.Listing.{each_done, each_more}
 use Rattle.fb_why.proofs.twice.push_in_withs.Goals as goal
 
 pub loop-event-preserved : goal.loop-event-preserved

@@ -1,6 +1,6 @@
 use Rattle.std.proofs.Common.{◌≡◌, ◌++◌, drop}
 use Rattle.fb_why.specs.Repeats.{with_twice}
-use Rattle.fb_why_kinds.specs.Listed.{each_at, each_from}
+use Rattle.fb_findings.specs.Listed.{each_at, each_from}
 use Rattle.fb_why.proofs.twice.push_in_withs.Given as goal
 
 abbrev pub invariant-loop-event : goal.invariant-loop-event

@@ -1,8 +1,8 @@
 use Rattle.std.proofs.Common.{◌∷◌, ◌++◌, [], ℕ, zero, List, ◌∙◌, ap, map, refl}
 use Rattle.fb_why.specs.Repeats.{given_in}
 use Rattle.fb_why.specs.declared.twice.GivenTwice.{GivenTwice}
-use Rattle.fb_why_kinds.proofs.Listing.{walk_done}
-use Rattle.fb_why.proofs.Repeating.{copied_more}
+use Rattle.fb_findings.proofs.Listing.{walk_done}
+use Rattle.fb_findings.proofs.Repeating.{copied_more}
 use Rattle.fb_why.proofs.twice.push_pairs.Goals as goal
 
 pub loop-pair-preserved : goal.loop-pair-preserved

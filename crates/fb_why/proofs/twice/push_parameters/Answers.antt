@@ -2,7 +2,7 @@ use Rattle.std.proofs.Common.{◌++◌, List, ◌∙◌, ap, map}
 use Rattle.fb_types.specs.declared.library.Parameter.{Parameter}
 use Rattle.fb_why.specs.Repeats.{names_twice, parameters_twice}
 use Rattle.fb_why.specs.declared.twice.NameSpace.TheVariants as space
-use Rattle.fb_why_kinds.proofs.Listing.{each_done, each_more}
+use Rattle.fb_findings.proofs.Listing.{each_done, each_more}
 use Rattle.fb_why.proofs.twice.push_parameters.Goals as goal
 
 pub loop-instance-preserved : goal.loop-instance-preserved

@@ -3,7 +3,7 @@ use Rattle.std.specs.Prelude.{All}
 use Rattle.fb_types.specs.Repeated.{NameTwice}
 use Rattle.fb_why.specs.Twice.{IsTwiceAt}
 use Rattle.fb_why.specs.declared.twice.GivenTwice.{GivenTwice}
-use Rattle.fb_why_kinds.proofs.Listing.{of_list}
+use Rattle.fb_findings.proofs.Listing.{of_list}
 use Rattle.fb_why.proofs.AllTwice.{each_twice, none_twice}
 use Rattle.fb_why.proofs.twice.twice_locations.Goals as goal
 

@@ -1,5 +1,5 @@
 use Rattle.fb_why_kinds.specs.Unknowns.{unknown_in_block}
-use Rattle.fb_why_kinds.proofs.Listing.{each_done, each_more}
+use Rattle.fb_findings.proofs.Listing.{each_done, each_more}
 use Rattle.fb_why_kinds.proofs.blocks.push_in_blocks.Goals as goal
 
 pub loop-block-preserved : goal.loop-block-preserved

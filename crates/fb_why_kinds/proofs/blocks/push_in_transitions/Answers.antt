@@ -1,5 +1,5 @@
 use Rattle.fb_why_kinds.specs.Unknowns.{unknown_in_transition}
-use Rattle.fb_why_kinds.proofs.Listing.{each_done, each_more}
+use Rattle.fb_findings.proofs.Listing.{each_done, each_more}
 use Rattle.fb_why_kinds.proofs.blocks.push_in_transitions.Goals as goal
 
 pub loop-transition-preserved : goal.loop-transition-preserved

@@ -1,11 +1,11 @@
 use Rattle.std.proofs.Common.{◌++◌, ◌∙◌, ap}
 use Rattle.fb_types.specs.Unknown.{is_known}
 use Rattle.fb_why_kinds.specs.declared.mentions.Mention as gathered
-use Rattle.fb_why_kinds.specs.declared.location.UnknownName.{UnknownName}
-use Rattle.fb_why_kinds.specs.Listed.{unless}
+use Rattle.fb_findings.specs.declared.location.UnknownName.{UnknownName}
+use Rattle.fb_findings.specs.Listed.{unless}
 use Rattle.fb_why_kinds.specs.Mentions.{meant}
 use Rattle.fb_why_kinds.specs.Unknowns.{mention_in}
-use Rattle.fb_why_kinds.proofs.Listing.{added_unless, each_done, each_more}
+use Rattle.fb_findings.proofs.Listing.{added_unless, each_done, each_more}
 use Rattle.fb_why_kinds.proofs.blocks.push_mentions.Goals as goal
 
 pub loop-index-preserved : goal.loop-index-preserved

@@ -1,7 +1,7 @@
 use Rattle.std.proofs.Common.{◌≡◌, ◌++◌, drop}
 use Rattle.fb_types.specs.Unknown.{is_known}
 use Rattle.fb_why_kinds.specs.declared.mentions.Mention as gathered
-use Rattle.fb_why_kinds.specs.Listed.{each_at, each_from, unless}
+use Rattle.fb_findings.specs.Listed.{each_at, each_from, unless}
 use Rattle.fb_why_kinds.specs.Mentions.{meant}
 use Rattle.fb_why_kinds.specs.Unknowns.{mention_in}
 use Rattle.fb_why_kinds.proofs.blocks.push_mentions.Given as goal

@@ -1,5 +1,5 @@
 use Rattle.fb_why_kinds.specs.Unknowns.{unknown_in_action}
-use Rattle.fb_why_kinds.proofs.Listing.{each_done_of, each_more}
+use Rattle.fb_findings.proofs.Listing.{each_done_of, each_more}
 use Rattle.fb_why_kinds.proofs.charts.push_in_state.Goals as goal
 
 pub loop-action-preserved : goal.loop-action-preserved

@@ -1,5 +1,5 @@
 use Rattle.fb_why_kinds.specs.Unknowns.{unknown_in_state}
-use Rattle.fb_why_kinds.proofs.Listing.{each_done, each_more}
+use Rattle.fb_findings.proofs.Listing.{each_done, each_more}
 use Rattle.fb_why_kinds.proofs.charts.push_in_states.Goals as goal
 
 pub loop-state-preserved : goal.loop-state-preserved

@@ -1,6 +1,6 @@
 use Rattle.std.proofs.Common.{◌≡◌, ◌++◌, drop}
 use Rattle.fb_why_kinds.specs.Unknowns.{unknown_in_state}
-use Rattle.fb_why_kinds.specs.Listed.{each_at, each_from}
+use Rattle.fb_findings.specs.Listed.{each_at, each_from}
 use Rattle.fb_why_kinds.proofs.charts.push_in_states.Given as goal
 
 abbrev pub invariant-loop-state : goal.invariant-loop-state

@@ -1,6 +1,6 @@
 use Rattle.fb_check_names.specs.PortKinds.{names_of_kind}
 use Rattle.fb_why_kinds.specs.Unknowns.{unknown_variables}
-use Rattle.fb_why_kinds.proofs.Listing.{each_done, each_more}
+use Rattle.fb_findings.proofs.Listing.{each_done, each_more}
 use Rattle.fb_why_kinds.proofs.charts.push_in_withs.Goals as goal
 
 pub loop-event-preserved : goal.loop-event-preserved

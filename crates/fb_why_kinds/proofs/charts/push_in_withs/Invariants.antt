@@ -1,7 +1,7 @@
 use Rattle.std.proofs.Common.{◌≡◌, ◌++◌, drop}
 use Rattle.fb_check_names.specs.PortKinds.{names_of_kind}
 use Rattle.fb_why_kinds.specs.Unknowns.{unknown_variables}
-use Rattle.fb_why_kinds.specs.Listed.{each_at, each_from}
+use Rattle.fb_findings.specs.Listed.{each_at, each_from}
 use Rattle.fb_why_kinds.proofs.charts.push_in_withs.Given as goal
 
 abbrev pub invariant-loop-event : goal.invariant-loop-event

@@ -1,9 +1,9 @@
 use Rattle.fb_types.specs.Blocks.{among}
 use Rattle.fb_types.specs.Names.{Name}
 use Rattle.fb_check_names.specs.PortKinds.{names_of_kind}
-use Rattle.fb_why_kinds.specs.Listed.{unless}
-use Rattle.fb_why_kinds.specs.declared.location.UnknownName.TheVariants as location
-use Rattle.fb_why_kinds.proofs.Listing.{added_unless, each_done_of, each_more}
+use Rattle.fb_findings.specs.Listed.{unless}
+use Rattle.fb_findings.specs.declared.location.UnknownName.TheVariants as location
+use Rattle.fb_findings.proofs.Listing.{added_unless, each_done_of, each_more}
 use Rattle.fb_why_kinds.proofs.charts.push_variables.Goals as goal
 
 pub loop-variable-preserved : goal.loop-variable-preserved

@@ -2,8 +2,8 @@ use Rattle.std.proofs.Common.{◌≡◌, ◌++◌, drop}
 use Rattle.fb_types.specs.Blocks.{among}
 use Rattle.fb_types.specs.Names.{Name}
 use Rattle.fb_check_names.specs.PortKinds.{names_of_kind}
-use Rattle.fb_why_kinds.specs.Listed.{each_at, each_from, unless}
-use Rattle.fb_why_kinds.specs.declared.location.UnknownName.TheVariants as location
+use Rattle.fb_findings.specs.Listed.{each_at, each_from, unless}
+use Rattle.fb_findings.specs.declared.location.UnknownName.TheVariants as location
 use Rattle.fb_why_kinds.proofs.charts.push_variables.Given as goal
 
 abbrev pub invariant-loop-variable : goal.invariant-loop-variable

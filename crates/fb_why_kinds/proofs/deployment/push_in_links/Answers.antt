@@ -1,5 +1,5 @@
 use Rattle.fb_why_kinds.specs.Unknowns.{unknown_sides}
-use Rattle.fb_why_kinds.proofs.Listing.{each_done, each_more}
+use Rattle.fb_findings.proofs.Listing.{each_done, each_more}
 use Rattle.fb_why_kinds.proofs.deployment.push_in_links.Goals as goal
 
 pub loop-link-preserved : goal.loop-link-preserved

@@ -1,5 +1,5 @@
 use Rattle.fb_why_kinds.specs.Unknowns.{unknown_mapped}
-use Rattle.fb_why_kinds.proofs.Listing.{each_done, each_more}
+use Rattle.fb_findings.proofs.Listing.{each_done, each_more}
 use Rattle.fb_why_kinds.proofs.deployment.push_in_resources.Goals as goal
 
 pub loop-resource-preserved : goal.loop-resource-preserved

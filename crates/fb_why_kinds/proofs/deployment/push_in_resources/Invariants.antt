@@ -1,6 +1,6 @@
 use Rattle.std.proofs.Common.{◌≡◌, ◌++◌, drop}
 use Rattle.fb_why_kinds.specs.Unknowns.{unknown_mapped}
-use Rattle.fb_why_kinds.specs.Listed.{each_at, each_from}
+use Rattle.fb_findings.specs.Listed.{each_at, each_from}
 use Rattle.fb_why_kinds.proofs.deployment.push_in_resources.Given as goal
 
 abbrev pub invariant-loop-resource : goal.invariant-loop-resource

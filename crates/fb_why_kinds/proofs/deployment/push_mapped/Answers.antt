@@ -1,8 +1,8 @@
 use Rattle.fb_types.specs.Names.{Name}
-use Rattle.fb_why_kinds.specs.Listed.{unless}
-use Rattle.fb_why_kinds.specs.declared.location.UnknownName.TheVariants as location
+use Rattle.fb_findings.specs.Listed.{unless}
+use Rattle.fb_findings.specs.declared.location.UnknownName.TheVariants as location
 use Rattle.fb_why_kinds.specs.Unknown.{is_instance}
-use Rattle.fb_why_kinds.proofs.Listing.{added_unless, each_done_of, each_more}
+use Rattle.fb_findings.proofs.Listing.{added_unless, each_done_of, each_more}
 use Rattle.fb_why_kinds.proofs.deployment.push_mapped.Goals as goal
 
 pub loop-instance-preserved : goal.loop-instance-preserved

@@ -1,7 +1,7 @@
 use Rattle.std.proofs.Common.{◌≡◌, ◌++◌, drop}
 use Rattle.fb_types.specs.Names.{Name}
-use Rattle.fb_why_kinds.specs.Listed.{each_at, each_from, unless}
-use Rattle.fb_why_kinds.specs.declared.location.UnknownName.TheVariants as location
+use Rattle.fb_findings.specs.Listed.{each_at, each_from, unless}
+use Rattle.fb_findings.specs.declared.location.UnknownName.TheVariants as location
 use Rattle.fb_why_kinds.specs.Unknown.{is_instance}
 use Rattle.fb_why_kinds.proofs.deployment.push_mapped.Given as goal
 

@@ -2,8 +2,8 @@ use Rattle.std.proofs.Common.{◌≡◌, [], List}
 use Rattle.std.specs.Prelude.{All}
 use Rattle.fb_types.specs.Kinds.{KindWrong}
 use Rattle.fb_why_kinds.specs.Misfits.{IsMisfitAt}
-use Rattle.fb_why_kinds.specs.declared.location.Misfit.{Misfit}
-use Rattle.fb_why_kinds.proofs.Listing.{of_list}
+use Rattle.fb_findings.specs.declared.location.Misfit.{Misfit}
+use Rattle.fb_findings.proofs.Listing.{of_list}
 use Rattle.fb_why_kinds.proofs.KindWitnesses.{each_misfit, none_misfit}
 use Rattle.fb_why_kinds.proofs.misfits.misfit_locations.Goals as goal
 

@@ -1,7 +1,7 @@
 use Rattle.fb_check_types.specs.Checks.{is_guard_right}
-use Rattle.fb_why_kinds.specs.declared.location.Misfit.TheVariants as misfit
+use Rattle.fb_findings.specs.declared.location.Misfit.TheVariants as misfit
 use Rattle.fb_why_kinds.specs.MisfitLists.{misfit_guard}
-use Rattle.fb_why_kinds.proofs.Listing.{added_unless, each_done, each_more}
+use Rattle.fb_findings.proofs.Listing.{added_unless, each_done, each_more}
 use Rattle.fb_why_kinds.proofs.misfits.push_guards.Goals as goal
 
 pub loop-transition-preserved : goal.loop-transition-preserved

@@ -1,5 +1,5 @@
 use Rattle.fb_why_kinds.specs.MisfitLists.{misfits_in_body}
-use Rattle.fb_why_kinds.proofs.Listing.{each_done, each_more}
+use Rattle.fb_findings.proofs.Listing.{each_done, each_more}
 use Rattle.fb_why_kinds.proofs.misfits.push_in_bodies.Goals as goal
 
 pub loop-algorithm-preserved : goal.loop-algorithm-preserved

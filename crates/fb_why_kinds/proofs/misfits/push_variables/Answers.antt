@@ -1,7 +1,7 @@
 use Rattle.fb_types.specs.Kinds.{declared_right}
-use Rattle.fb_why_kinds.specs.declared.location.Misfit.TheVariants as misfit
+use Rattle.fb_findings.specs.declared.location.Misfit.TheVariants as misfit
 use Rattle.fb_why_kinds.specs.MisfitLists.{misfit_initial}
-use Rattle.fb_why_kinds.proofs.Listing.{added_unless, each_done, each_more}
+use Rattle.fb_findings.proofs.Listing.{added_unless, each_done, each_more}
 use Rattle.fb_why_kinds.proofs.misfits.push_variables.Goals as goal
 
 pub loop-variable-preserved : goal.loop-variable-preserved

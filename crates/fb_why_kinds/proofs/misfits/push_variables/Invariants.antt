@@ -1,6 +1,6 @@
 use Rattle.std.proofs.Common.{◌≡◌, ◌++◌, drop}
 use Rattle.fb_why_kinds.specs.MisfitLists.{misfit_initial}
-use Rattle.fb_why_kinds.specs.Listed.{each_at, each_from}
+use Rattle.fb_findings.specs.Listed.{each_at, each_from}
 use Rattle.fb_why_kinds.proofs.misfits.push_variables.Given as goal
 
 abbrev pub invariant-loop-variable : goal.invariant-loop-variable

@@ -1,6 +1,6 @@
 use Rattle.fb_why_kinds.specs.Sites.{placed}
 use Rattle.fb_why_kinds.specs.Unknowns.{unknown_ends}
-use Rattle.fb_why_kinds.proofs.Listing.{each_done, each_more}
+use Rattle.fb_findings.proofs.Listing.{each_done, each_more}
 use Rattle.fb_why_kinds.proofs.networks.push_in_connections.Goals as goal
 
 pub loop-connection-preserved : goal.loop-connection-preserved

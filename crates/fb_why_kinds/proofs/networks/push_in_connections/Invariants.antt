@@ -1,7 +1,7 @@
 use Rattle.std.proofs.Common.{◌≡◌, ◌++◌, drop}
 use Rattle.fb_why_kinds.specs.Sites.{placed}
 use Rattle.fb_why_kinds.specs.Unknowns.{unknown_ends}
-use Rattle.fb_why_kinds.specs.Listed.{each_at, each_from}
+use Rattle.fb_findings.specs.Listed.{each_at, each_from}
 use Rattle.fb_why_kinds.proofs.networks.push_in_connections.Given as goal
 
 abbrev pub invariant-loop-connection : goal.invariant-loop-connection

@@ -1,11 +1,11 @@
 use Rattle.std.proofs.Common.{refl, sym, ◌∙◌, ap}
 use Rattle.std.specs.Option.{option_copied}
-use Rattle.fb_why_kinds.specs.Listed.{unless}
-use Rattle.fb_why_kinds.specs.declared.location.UnknownName.TheVariants as location
+use Rattle.fb_findings.specs.Listed.{unless}
+use Rattle.fb_findings.specs.declared.location.UnknownName.TheVariants as location
 use Rattle.fb_why_kinds.specs.Unknown.{is_type_met}
 use Rattle.fb_why_kinds.specs.Unknowns.{unknown_parameters}
 use Rattle.fb_why_kinds.proofs.Added.{all_added, then_added}
-use Rattle.fb_why_kinds.proofs.Listing.{added_unless}
+use Rattle.fb_findings.proofs.Listing.{added_unless}
 use Rattle.fb_why_kinds.proofs.NetworkLocations.{no_parameters, parameters_of}
 use Rattle.fb_why_kinds.proofs.networks.push_in_instance.Goals as goal
 

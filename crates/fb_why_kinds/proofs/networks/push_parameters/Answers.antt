@@ -1,9 +1,9 @@
 use Rattle.fb_types.specs.Blocks.{among}
 use Rattle.fb_types.specs.Unknown.{data_ins}
 use Rattle.fb_types.specs.declared.library.Parameter.{Parameter}
-use Rattle.fb_why_kinds.specs.Listed.{unless}
-use Rattle.fb_why_kinds.specs.declared.location.UnknownName.TheVariants as location
-use Rattle.fb_why_kinds.proofs.Listing.{added_unless, each_done, each_more}
+use Rattle.fb_findings.specs.Listed.{unless}
+use Rattle.fb_findings.specs.declared.location.UnknownName.TheVariants as location
+use Rattle.fb_findings.proofs.Listing.{added_unless, each_done, each_more}
 use Rattle.fb_why_kinds.proofs.networks.push_parameters.Goals as goal
 
 pub loop-parameter-preserved : goal.loop-parameter-preserved

@@ -1,10 +1,10 @@
 use Rattle.fb_types.specs.Blocks.{ports_of}
 use Rattle.fb_types.specs.Kinds.{parameter_right}
 use Rattle.fb_types.specs.declared.library.Parameter.{Parameter}
-use Rattle.fb_why_kinds.specs.Listed.{unless}
+use Rattle.fb_findings.specs.Listed.{unless}
 use Rattle.fb_why_kinds.specs.Types.{meant}
-use Rattle.fb_why_kinds.specs.declared.location.Misfit.TheVariants as misfit
-use Rattle.fb_why_kinds.proofs.Listing.{added_unless, each_done, each_more}
+use Rattle.fb_findings.specs.declared.location.Misfit.TheVariants as misfit
+use Rattle.fb_findings.proofs.Listing.{added_unless, each_done, each_more}
 use Rattle.fb_why_kinds.proofs.parameters.push_parameters.Goals as goal
 
 pub loop-parameter-preserved : goal.loop-parameter-preserved

@@ -2,9 +2,9 @@ use Rattle.std.proofs.Common.{◌≡◌, ◌++◌, drop}
 use Rattle.fb_types.specs.Blocks.{ports_of}
 use Rattle.fb_types.specs.Kinds.{parameter_right}
 use Rattle.fb_types.specs.declared.library.Parameter.{Parameter}
-use Rattle.fb_why_kinds.specs.Listed.{each_at, each_from, unless}
+use Rattle.fb_findings.specs.Listed.{each_at, each_from, unless}
 use Rattle.fb_why_kinds.specs.Types.{meant}
-use Rattle.fb_why_kinds.specs.declared.location.Misfit.TheVariants as misfit
+use Rattle.fb_findings.specs.declared.location.Misfit.TheVariants as misfit
 use Rattle.fb_why_kinds.proofs.parameters.push_parameters.Given as goal
 
 abbrev pub invariant-loop-parameter : goal.invariant-loop-parameter

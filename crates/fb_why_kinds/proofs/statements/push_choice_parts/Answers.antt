@@ -3,10 +3,10 @@ use Rattle.fb_types.specs.Kinds.{context_in, is_condition}
 use Rattle.fb_types.specs.declared.text.Choice.{Choice}
 use Rattle.fb_check_types.specs.Trees.{choice_of, choices_of}
 use Rattle.fb_check_types.proofs.Says.{choice_says}
-use Rattle.fb_why_kinds.specs.declared.location.StatementPart.TheVariants as part
-use Rattle.fb_why_kinds.specs.Listed.{unless}
+use Rattle.fb_findings.specs.declared.location.StatementPart.TheVariants as part
+use Rattle.fb_findings.specs.Listed.{unless}
 use Rattle.fb_why_kinds.specs.MisfitLists.{part_at, wrong_choices}
-use Rattle.fb_why_kinds.proofs.Listing.{added_unless, walk_done, walk_more}
+use Rattle.fb_findings.proofs.Listing.{added_unless, walk_done, walk_more}
 use Rattle.fb_why_kinds.proofs.statements.push_choice_parts.Goals as goal
 
 pub loop-index-preserved : goal.loop-index-preserved

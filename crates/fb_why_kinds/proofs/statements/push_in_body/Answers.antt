@@ -1,9 +1,9 @@
 use Rattle.std.proofs.Common.{List, sym, ◌∙◌, ap}
-use Rattle.fb_why_kinds.specs.Listed.{each_at}
+use Rattle.fb_findings.specs.Listed.{each_at}
 use Rattle.fb_why_kinds.specs.MisfitLists.{misfits_in_statement}
 use Rattle.fb_why_kinds.specs.Statements.{Standing, all_standing, standing_of}
 use Rattle.fb_why_kinds.proofs.Added.{all_added}
-use Rattle.fb_why_kinds.proofs.Listing.{each_from-map}
+use Rattle.fb_findings.proofs.Listing.{each_from-map}
 use Rattle.fb_why_kinds.proofs.statements.push_in_body.Goals as goal
 
 pub returns : goal.returns

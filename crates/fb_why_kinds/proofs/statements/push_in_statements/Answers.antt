@@ -1,7 +1,7 @@
 use Rattle.fb_why_kinds.specs.declared.statements.Standing as code
 use Rattle.fb_why_kinds.specs.MisfitLists.{misfits_in_statement}
 use Rattle.fb_why_kinds.specs.Statements.{standing_of}
-use Rattle.fb_why_kinds.proofs.Listing.{each_done, each_more}
+use Rattle.fb_findings.proofs.Listing.{each_done, each_more}
 use Rattle.fb_why_kinds.proofs.statements.push_in_statements.Goals as goal
 
 pub loop-statement-preserved : goal.loop-statement-preserved

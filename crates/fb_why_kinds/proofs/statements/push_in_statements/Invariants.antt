@@ -2,7 +2,7 @@ use Rattle.std.proofs.Common.{◌≡◌, ◌++◌, drop}
 use Rattle.fb_why_kinds.specs.declared.statements.Standing as code
 use Rattle.fb_why_kinds.specs.MisfitLists.{misfits_in_statement}
 use Rattle.fb_why_kinds.specs.Statements.{standing_of}
-use Rattle.fb_why_kinds.specs.Listed.{each_at, each_from}
+use Rattle.fb_findings.specs.Listed.{each_at, each_from}
 use Rattle.fb_why_kinds.proofs.statements.push_in_statements.Given as goal
 
 abbrev pub invariant-loop-statement : goal.invariant-loop-statement

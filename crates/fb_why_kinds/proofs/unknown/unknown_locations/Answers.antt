@@ -1,10 +1,10 @@
 use Rattle.std.proofs.Common.{◌≡◌, [], Contains, List}
 use Rattle.std.specs.Prelude.{All}
 use Rattle.fb_types.specs.Unknown.{NameUnknown}
-use Rattle.fb_why_kinds.specs.declared.location.UnknownName.{UnknownName}
+use Rattle.fb_findings.specs.declared.location.UnknownName.{UnknownName}
 use Rattle.fb_why_kinds.specs.Unknown.{IsUnknownAt}
 use Rattle.fb_why_kinds.proofs.AllThere.{there_unknown}
-use Rattle.fb_why_kinds.proofs.Listing.{of_list}
+use Rattle.fb_findings.proofs.Listing.{of_list}
 use Rattle.fb_why_kinds.proofs.Witnesses.{each_unknown, none_unknown}
 use Rattle.fb_why_kinds.proofs.unknown.unknown_locations.Goals as goal
 

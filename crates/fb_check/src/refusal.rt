@@ -1,0 +1,82 @@
+//! Why inputs are refused, and where.
+
+ghost use Rattle.std.specs.Prelude.{◌≡◌};
+ghost use Rattle.fb_check.specs.Refusals.{error_of, fault_of};
+ghost use Rattle.fb_check.specs.declared.refusal.Stop.TheVariants.{Memory};
+
+use crate::error::CheckError;
+use crate::fault::Fault;
+use crate::location::{Limit, StimulusLocation};
+use fb_findings::{Descent, Joined, Misjoin, Unlinked, Unmapped};
+use std::alloc::AllocError;
+
+/// Why inputs are refused: the least number that applies, with all locations at which it does, in the order of the
+/// declaration or of the stimuli.
+#[derive(Drop)]
+pub enum Refusal {
+    /// A number whose locations are not listed.
+    Unlisted(Fault),
+    /// Data connections to types that do not contain all values (E23).
+    OutOfRange(Vec<Misjoin>),
+    /// Data connections that lead to the port of one before (E24).
+    TwoSources(Vec<Joined>),
+    /// A composite type that contains itself or is too high (E25): one is found.
+    TooHigh(Descent),
+    /// Instances of the application that are not mapped to one resource (E26).
+    NotMapped(Vec<Unmapped>),
+    /// Connections between two resources without a link (E27).
+    NoLink(Vec<Unlinked>),
+    /// Data connections between two resources that no event serves, by their indices in the application (E28).
+    NoEvent(Vec<usize>),
+    /// Stimuli that the application can't take (E29).
+    BadStimulus(Vec<StimulusLocation>),
+    /// A limit that is exceeded (E30).
+    OverLimit(Limit),
+}
+
+impl Refusal {
+    /// What is refused.
+    pub fn fault(&self) -> Fault
+        ensures { result ≡ fault_of self.now }
+    {
+        match self {
+            Refusal::Unlisted(fault) => *fault,
+            Refusal::OutOfRange(_) => Fault::OutOfRange,
+            Refusal::TwoSources(_) => Fault::TwoSources,
+            Refusal::TooHigh(_) => Fault::TooHigh,
+            Refusal::NotMapped(_) => Fault::NotMapped,
+            Refusal::NoLink(_) => Fault::NoLink,
+            Refusal::NoEvent(_) => Fault::NoEvent,
+            Refusal::BadStimulus(_) => Fault::BadStimulus,
+            Refusal::OverLimit(_) => Fault::OverLimit,
+        }
+    }
+}
+
+/// Why a check stops before its end.
+#[derive(Drop)]
+pub enum Stop {
+    Memory,
+    /// The inputs are refused.
+    Refused(Refusal),
+}
+
+impl From<AllocError> for Stop {
+    ghost from_gives = { λ _ e. e ≡ Memory };
+
+    fn from(_error: AllocError) -> Stop {
+        Stop::Memory
+    }
+}
+
+impl Stop {
+    /// The error of a check that stops so.
+    pub(crate) fn error(&self) -> CheckError
+        ensures { result ≡ error_of self.now }
+    {
+        match self {
+            Stop::Memory => CheckError::Memory,
+            Stop::Refused(refusal) => CheckError::Refused(refusal.fault()),
+        }
+    }
+}

@@ -1,0 +1,15 @@
+use Rattle.std.proofs.Common.{◌≡◌, ℕ, [], List}
+use Rattle.std.specs.Prelude.{All}
+use Rattle.fb_types.specs.Mapped.{NoEvent}
+use Rattle.fb_findings.proofs.Listing.{of_list}
+use Rattle.fb_check_networks.specs.Unserved.{IsUnservedAt}
+use Rattle.fb_check_networks.proofs.Unserved.{each_unserved, none_unserved}
+use Rattle.fb_check_networks.proofs.uncarried.unserved_locations.Goals as goal
+
+pub returns-clause-each : goal.returns-clause-each
+returns-clause-each c =
+    of_list c.all_unserved.result (λ (ps : List ℕ). All (IsUnservedAt c.args.library.now c.args.plan.now) ps) c.all_unserved.ensures (each_unserved c.args.library.now c.args.plan.now)
+
+pub returns-clause-none : goal.returns-clause-none
+returns-clause-none c =
+    of_list c.all_unserved.result (λ (ps : List ℕ). ps ≡ [] → ¬ (NoEvent c.args.library.now c.args.plan.now)) c.all_unserved.ensures (none_unserved c.args.library.now c.args.plan.now)

@@ -1,0 +1,3 @@
+pub mod Listing
+pub mod Repeating
+pub mod Networks

@@ -1,9 +1,0 @@
-use Rattle.std.proofs.Common.{arith}
-use Rattle.fb_why.proofs.Marks.{marks_more, marks_done}
-use Rattle.fb_why.proofs.heights.marks_after.Goals as goal
-
-pub loop-round-preserved : goal.loop-round-preserved
-loop-round-preserved c = marks_more _ _ _ _ _ c.loop-round.invariant c.deref.ensures.value c.in_ok-marks-2.ensures
-
-pub returns : goal.returns
-returns c = marks_done c.args.library.now c.loop-round._round c.args.rounds _ c.loop-round.invariant (omega arith)

@@ -1,6 +1,0 @@
-use Rattle.std.proofs.Common.{◌≡◌, ◌++◌, ℕ, drop, map}
-use Rattle.fb_why.specs.declared.sources.Joined.TheVariants as joined
-use Rattle.fb_why.proofs.sources.push_composite.Given as goal
-
-abbrev pub invariant-loop-pair : goal.invariant-loop-pair
-invariant-loop-pair l = l.found.items ++ map (λ (r : ℕ × ℕ). joined.Inside l.block r) (drop l.pair-index l.pairs) ≡ l.fn.found.items ++ map (λ (r : ℕ × ℕ). joined.Inside l.block r) l.pairs

@@ -1,7 +1,0 @@
-use Rattle.std.proofs.Common.{◌≡◌, ◌++◌, drop}
-use Rattle.fb_why.specs.Unserved.{unserved_at}
-use Rattle.fb_why_kinds.specs.Listed.{each_at, each_from}
-use Rattle.fb_why.proofs.unserved.push_unserved.Given as goal
-
-abbrev pub invariant-loop-connection : goal.invariant-loop-connection
-invariant-loop-connection l = l.found.items ++ each_from (unserved_at l.library l.plan) l.connection (drop l.connection l.connections) ≡ l.fn.found.items ++ each_at (unserved_at l.library l.plan) l.connections
