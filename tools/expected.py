@@ -40,7 +40,6 @@ END_FOR WHILE END_WHILE REPEAT UNTIL END_REPEAT EXIT RETURN AND OR XOR NOT MOD""
 SIGNS = "; : , . .. ( ) [ ] := -> = <> < > <= >= + - * / &".split()
 TRIED = {**KINDS, **{it: it for it in (*WORDS, *KEYWORDS, *SIGNS)}}
 
-HERE = re.compile(r"(line 2, column 1: |-:2:1: E03: )found ")
 # What is probably meant, which may follow the list.
 HINT = re.compile(r" \((an earlier line ends|a word of|ELSE IF begins|comments do not nest).*\)$")
 
@@ -73,8 +72,9 @@ def places(room):
 def fault_of(room, case):
     """Returns what is wrong with the list of tokens after a text, by one token that is put there, or None."""
     text, words, name, token = case
-    line = why(room, f"{text}\n{token}")
-    if not HERE.match(line):
+    # (on the same line: a semicolon that is missing at the end of a line is shown there, and not at the token)
+    line = why(room, f"{text} {token}")
+    if not line.startswith(f"-:1:{len(text) + 2}: E03: found "):
         is_name = name in WORDS and "name" in words
         return None if name in words or is_name else f"{text[-60:]!r}: {token} may follow, and is not listed: {sorted(words)}"
     if name in words:

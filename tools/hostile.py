@@ -3,7 +3,7 @@
 
 A declaration, a deployment and stimuli that are accepted are cut at each byte, and each of their bytes is replaced in turn
 by each of five others. The program must accept the text and its run must end, or refuse it with a number and write nothing.
-Then --why must print the place too, which for a syntax fault is on the line of the refusal. A declaration that lacks a part of its last word is refused
+Then --why must print the place too, which for a syntax fault is on the line of the refusal, or where an earlier line ends without its semicolon. A declaration that lacks a part of its last word is refused
 for its tokens or for its grammar.
 
 ./gate makes these calls each time it has run the program. Without ./gate they use the program that ./simulate built."""
@@ -55,7 +55,9 @@ FILES = {
 }
 ENDED = re.compile(rb"([0-9]+ .*\n)*(end [0-9]+|stop [0-9]+ \w+ \w+)\n")
 OF_TOKENS = rb"\n(line [1-9][0-9]*, column |-:[1-9][0-9]*:)[1-9][0-9]*: .+"
-OF_GRAMMAR = rb"E03 line (?P<line>[1-9][0-9]*)\n(line (?P=line), column |-:(?P=line):)[1-9][0-9]*: .+"
+# A semicolon that is missing at the end of a line is shown there.
+OF_EARLIER_LINE = rb"-:[1-9][0-9]*:[1-9][0-9]*: E03: found \S+ on a later line, expected .+ \(this line ends without ;\)"
+OF_GRAMMAR = rb"E03 line (?P<line>[1-9][0-9]*)\n(-:(?P=line):[1-9][0-9]*: .+|" + OF_EARLIER_LINE + rb")"
 REFUSED = re.compile(rb"refused (" + OF_GRAMMAR + rb"|E0[1245]" + OF_TOKENS + rb"|E([12][0-9]|30)\n.+)\n(.*\n)*")
 CUT = re.compile(rb"refused (" + OF_GRAMMAR + rb"|E02" + OF_TOKENS + rb")\n(.*\n)*")
 

@@ -88,10 +88,16 @@ pub fn locate_deploy(alloc: Global, bytes: &[u8]) -> Result<Deploy, DeployFault>
 ///
 /// # Errors
 ///
-/// The first of these that applies to the whole document: more than 1 MiB (E15); not TOML (E10); a key that is missing,
-/// unknown or of the wrong kind, a text that is no name, a link from a resource to itself (E11); a latency outside 1 to
-/// 1,000,000 (E12); a table of latencies that doesn't rise from tick 0 to at most 10^12 (E16); more than 256 resources,
-/// 1,024 links or 64 entries of a table (E15). `Memory` if memory runs out.
+/// The first of these that applies to the whole document:
+///
+/// - E15: more than 1 MiB;
+/// - E10: not TOML;
+/// - E11: a key that is missing, unknown or of the wrong kind; a text that is no name; a link from a resource to itself;
+/// - E12: a latency outside 1 to 1,000,000;
+/// - E16: a table of latencies that doesn't rise from tick 0 to at most 10^12;
+/// - E15: more than 256 resources, 1,024 links or 64 entries of a table.
+///
+/// `Memory` if memory runs out.
 pub fn read_deploy(alloc: Global, bytes: &[u8]) -> Result<Deploy, InputError>
     ensures { Answers (λ d. d) (spec.deploy_of bytes.now) result }
 {

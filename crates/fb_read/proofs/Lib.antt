@@ -56,3 +56,5 @@ pub mod DurationLaws
 pub mod FaultLaws
 pub mod ShapeLaws
 pub mod SignLaws
+pub mod PrefixLaws
+pub mod PlaceLaws

@@ -1,5 +1,5 @@
 -- The rules of expressions look one token ahead.
-use Rattle.std.proofs.Common.{◌≡◌, ℕ, zero, suc, ◌<◌, ◌≤◌, Bool, true, false, cond, List, [], ◌∷◌, ◌++◌, length, Option, Some, None, Ok, Err, refl, ap, leb, arith}
+use Rattle.std.proofs.Common.{◌≡◌, ℕ, zero, suc, ◌<◌, ◌≤◌, Bool, true, false, cond, List, [], ◌∷◌, ◌++◌, length, Option, Some, None, Ok, Err, refl, sym, ap, ◌∙◌, leb, arith}
 use Rattle.std.specs.Prelude.{max}
 use Rattle.fb_types.specs.Names.{Name}
 use Rattle.fb_types.specs.declared.text.Expr.{Expr}
@@ -12,7 +12,7 @@ use Rattle.fb_read.specs.declared.token.Mark.{Mark}
 use Rattle.fb_read.specs.declared.token.Mark.TheVariants as mark
 use Rattle.fb_read.specs.declared.expression.Nested.{Nested}
 use Rattle.fb_read.specs.Tokens.{Tokens}
-use Rattle.fb_read.specs.Parser.{Parser, too_deep, and_then, ◌>>=◌, pure, refuse, eat, expect, name, literal, sees_name, rest_of}
+use Rattle.fb_read.specs.Parser.{Outcome, Parser, too_deep, and_then, ◌>>=◌, pure, refuse, eat, expect, name, literal, sees_name, rest_of}
 use Rattle.fb_read.specs.Operators.{next_operator, begins_expression, loosest}
 use Rattle.fb_read.specs.Expressions.{leaf, around, group, prefixed, arguments_from, arguments, call, named, primary, unary, operated, climb, level_at, nested_expression, expression}
 use Rattle.fb_read.specs.Parser.{after, sees}
@@ -20,18 +20,33 @@ use Rattle.fb_read.specs.Nesting.{most_nesting}
 use Rattle.fb_read.proofs.Steps.{after-seen, mark-shorter, seen}
 use Rattle.fb_read.proofs.Lengths.{level-shorter}
 use Rattle.fb_read.proofs.ExpressionSound.{nested-right}
-use Rattle.fb_read.proofs.Local.{left-length, Local, local-bind, taken, kept, stepped, local-step, local-as, local-pure, local-refuse, local-deep, HeadOnly, peek, local-peek, local-cond, local-if}
-use Rattle.fb_read.proofs.LocalSteps.{Advances, local-eat, local-expect, local-name, local-literal, local-turns}
+use Rattle.std.proofs.lemmas.Bool.{le-leb, leb-true}
+use Rattle.fb_read.proofs.Local.{left-length, IsFlat, Local, Nests, nests-of, local-bind, looks-bind, flat-bind, nests-bind, taken, kept, stepped, local-step, looks-as, local-pure, local-refuse, nests-deep, HeadOnly, local-by, local-cond, local-if, local-if-nests}
+use Rattle.fb_read.proofs.LocalSteps.{Advances, local-eat, local-eat-then, local-expect-then, local-name, local-literal, local-turns}
 use Rattle.fb_read.proofs.LocalLoops.{bind-same}
 
 -- refused for its nesting, or read
-local-around : (below depth : ℕ) (x : Expr) → Local (around below depth x)
+nests-around : (below depth : ℕ) (x : Expr) → Nests (around below depth x)
 unfolding around
-local-around below depth x = go (leb depth below)
+nests-around below depth x = go (leb depth below)
   where
-    go : (b : Bool) → Local {A = Nested} (λ ts. cond b (Ok (record { expr = x; nesting = suc depth }, ts)) (Err too_deep))
-    go true = local-pure (record { expr = x; nesting = suc depth })
-    go false = local-deep
+    go : (b : Bool) → Nests {A = Nested} (λ ts. cond b (Ok (record { expr = x; nesting = suc depth }, ts)) (Err too_deep))
+    go true = nests-of (local-pure (record { expr = x; nesting = suc depth }))
+    go false = nests-deep
+
+-- what is no deeper than the limit is read
+abbrev around_end : ℕ → Expr → Outcome Nested
+around_end depth x = Ok (record { expr = x; nesting = suc depth }, [])
+
+abbrev too_deep_end : Outcome Nested
+too_deep_end = Err too_deep
+
+flat-around : (below depth : ℕ) (x : Expr) → depth ≤ below → IsFlat (around below depth x)
+unfolding around
+flat-around below depth x le h = no-end (sym (ap (λ (b : Bool). cond b (around_end depth x) too_deep_end) (le-leb depth below le)) ∙ h)
+  where
+    no-end : around_end depth x ≡ too_deep_end → ⊥
+    no-end e = cc
 
 operator-head : (n : ℕ) → HeadOnly (next_operator n)
 operator-head n (token.Mark k) ts = refl
@@ -58,32 +73,50 @@ next = stepped (kept (tt {0})) (λ t. taken (tt {0}))
 local-next : Local next
 local-next = local-step (kept (tt {0})) (λ t. taken (tt {0}))
 
-local-following : {A : Type 0} (p : Parser A) → Local p → Local (λ ts. p (rest_of ts))
-local-following p l = local-as (λ ts. p (rest_of ts)) (next >>= (λ _. p)) go (local-bind next (λ _. p) local-next (λ _. l))
+nests-following : {A : Type 0} (p : Parser A) → Nests p → Nests (λ ts. p (rest_of ts))
+nests-following p l = record {
+  looks = looks-as (λ ts. p (rest_of ts)) (next >>= (λ _. p)) go (looks-bind next (λ _. p) local-next.looks (λ _. l.looks));
+  deep = deep-of;
+}
   where
     go : (ts : Tokens) → p (rest_of ts) ≡ (next >>= (λ _. p)) ts
     go [] = refl
     go (t ∷ ts) = refl
 
+    deep-of : (ts more : Tokens) → p (rest_of ts) ≡ Err too_deep → p (rest_of (ts ++ more)) ≡ Err too_deep
+    deep-of [] more h = l.deep [] (rest_of more) h
+    deep-of (t ∷ ts) more h = l.deep ts more h
+
 after-shorter : (k : Mark) (ts : Tokens) → sees k ts ≡ true → length (after k ts) < length ts
 after-shorter k ts e = rw (after-seen k ts e) (mark-shorter (seen k ts e))
 
-module _ (below : ℕ) (inner : ℕ → Parser Nested) (l : (n : ℕ) → Local (inner n)) (adv : (n : ℕ) → Advances (inner n)) where
-  local-group : Local (group below inner)
+-- what is read of a part is no deeper than this
+abbrev IsBelow : ℕ → Parser Nested → Type 0
+IsBelow below p = (ts rest : Tokens) (x : Nested) → p ts ≡ Ok (x, rest) → x.nesting ≤ below
+
+module _ (below : ℕ) (inner : ℕ → Parser Nested) (l : (n : ℕ) → Nests (inner n)) (adv : (n : ℕ) → Advances (inner n)) (le : (n : ℕ) → IsBelow below (inner n)) where
+  local-closed : (depth : ℕ) (x : Expr) → Local (expect mark.Close >>= (λ _. around below depth x))
+  local-closed depth x = local-expect-then mark.Close (around below depth x) (nests-around below depth x)
+
+  nests-group : Nests (group below inner)
   unfolding group
-  local-group = local-bind (inner loosest) _ (l loosest) (λ x. local-bind (expect mark.Close) _ (local-expect mark.Close) (λ _. local-around below x.nesting (e.Group x.expr)))
+  nests-group = nests-bind (inner loosest) _ (l loosest) (λ x. nests-of (local-closed x.nesting (e.Group x.expr))) (λ x ts rest h. (local-closed x.nesting (e.Group x.expr)).flat)
 
-  local-prefixed : (op : UnaryOperator) → Local (prefixed below inner op)
+  nests-prefixed : (op : UnaryOperator) → Nests (prefixed below inner op)
   unfolding prefixed
-  local-prefixed op = local-bind (inner 0) _ (l 0) (λ x. local-around below x.nesting (e.Unary op x.expr))
+  nests-prefixed op = nests-bind (inner 0) _ (l 0) (λ x. nests-around below x.nesting (e.Unary op x.expr)) (λ x ts rest h. flat-around below x.nesting (e.Unary op x.expr) (le 0 ts rest x h))
 
-  local-arguments_from : (n : ℕ) (found : List Expr) (depth : ℕ) → Local (arguments_from below inner n found depth)
+  -- the next arguments, if a comma follows
+  local-comma : (n : ℕ) (found : List Expr) (depth : ℕ) → Nests (arguments_from below inner n found depth) → Local (eat mark.Comma >>= (λ b. cond b (arguments_from below inner n found depth) (pure (found, depth))))
+  local-comma n found depth g = local-eat-then mark.Comma (arguments_from below inner n found depth) (pure (found, depth)) g (local-pure (found, depth))
+
+  nests-arguments_from : (n : ℕ) (found : List Expr) (depth : ℕ) → Nests (arguments_from below inner n found depth)
   unfolding arguments_from
-  local-arguments_from zero found depth = local-refuse
-  local-arguments_from (suc n) found depth =
-      local-bind (inner loosest) _ (l loosest) (λ x. local-bind (eat mark.Comma) _ (local-eat mark.Comma) (λ b. local-cond b _ _
-      (local-arguments_from n (found ++ x.expr ∷ []) (max depth x.nesting))
-      (local-pure (found ++ x.expr ∷ [], max depth x.nesting))))
+  nests-arguments_from zero found depth = nests-of local-refuse
+  nests-arguments_from (suc n) found depth =
+      nests-bind (inner loosest) _ (l loosest)
+      (λ x. nests-of (local-comma n (found ++ x.expr ∷ []) (max depth x.nesting) (nests-arguments_from n (found ++ x.expr ∷ []) (max depth x.nesting))))
+      (λ x ts rest h. (local-comma n (found ++ x.expr ∷ []) (max depth x.nesting) (nests-arguments_from n (found ++ x.expr ∷ []) (max depth x.nesting))).flat)
 
   -- the turns after a comma
   turn-same : (n m : ℕ) (found : List Expr) (depth : ℕ) (x : Nested) (r : Tokens)
@@ -120,7 +153,7 @@ module _ (below : ℕ) (inner : ℕ → Parser Nested) (l : (n : ℕ) → Local 
   guarded n = λ ts. cond (begins_expression ts) (arguments_from below inner n [] 0 ts) (refuse ts)
 
   local-guarded : (n : ℕ) → Local (guarded n)
-  local-guarded n = local-if begins_expression (arguments_from below inner n [] 0) refuse expression-head (local-arguments_from n [] 0) local-refuse
+  local-guarded n = local-if-nests begins_expression (arguments_from below inner n [] 0) refuse expression-head refl (nests-arguments_from n [] 0) local-refuse
 
   guarded-fuel : (n m : ℕ) (ts : Tokens) → length ts ≤ n → length ts ≤ m → guarded n ts ≡ guarded m ts
   guarded-fuel n m [] a b = refl
@@ -136,7 +169,7 @@ module _ (below : ℕ) (inner : ℕ → Parser Nested) (l : (n : ℕ) → Local 
   unfolding call
   local-call function =
       local-bind (eat mark.Close) _ (local-eat mark.Close) (λ b. local-cond b _ _ (local-pure (leaf (e.Call function [])))
-      (local-bind (arguments below inner) _ local-arguments (λ found. local-bind (expect mark.Close) _ (local-expect mark.Close) (λ _. local-around below found.1 (e.Call function found.0)))))
+      (local-bind (arguments below inner) _ local-arguments (λ found. local-closed found.1 (e.Call function found.0))))
 
   local-named : Local (named below inner)
   unfolding named
@@ -146,36 +179,45 @@ module _ (below : ℕ) (inner : ℕ → Parser Nested) (l : (n : ℕ) → Local 
   local-primary : Local (primary below inner)
   unfolding primary
   local-primary =
-      local-bind (eat mark.Open) _ (local-eat mark.Open) (λ a. local-cond a _ _ local-group
+      local-eat-then mark.Open _ _ nests-group
       (local-bind (eat mark.True) _ (local-eat mark.True) (λ b. local-cond b _ _ (local-pure (leaf (e.Truth true)))
       (local-bind (eat mark.False) _ (local-eat mark.False) (λ c. local-cond c _ _ (local-pure (leaf (e.Truth false)))
-      (local-if sees_name (named below inner) (literal >>= (λ n. pure (leaf (e.Whole n)))) name-head local-named (local-bind literal _ local-literal (λ n. local-pure (leaf (e.Whole n))))))))))
+      (local-if sees_name (named below inner) (literal >>= (λ n. pure (leaf (e.Whole n)))) name-head local-named (local-bind literal _ local-literal (λ n. local-pure (leaf (e.Whole n)))))))))
 
   local-unary : Local (unary below inner)
   unfolding unary
   local-unary =
-      local-bind (eat mark.Minus) _ (local-eat mark.Minus) (λ a. local-cond a _ _ (local-prefixed sign.Negate)
-      (local-bind (eat mark.Not) _ (local-eat mark.Not) (λ b. local-cond b _ _ (local-prefixed sign.Not) local-primary)))
+      local-eat-then mark.Minus _ _ (nests-prefixed sign.Negate) (local-eat-then mark.Not _ _ (nests-prefixed sign.Not) local-primary)
 
-  local-operated : (go : Nested → Parser Nested) → ((x : Nested) → Local (go x)) → (operand : Parser Nested) → Local operand → (left : Nested) (o : Option BinaryOperator)
-      → Local (operated below inner go operand left o)
-  local-operated go g operand m left None = local-pure left
-  local-operated go g operand m left (Some op) = by (leb left.nesting below)
+  nests-operated : (go : Nested → Parser Nested) → ((x : Nested) → Local (go x)) → (operand : Parser Nested) → Nests operand → IsBelow below operand → (left : Nested) (o : Option BinaryOperator)
+      → Nests (operated below inner go operand left o)
+  nests-operated go g operand m low left None = nests-of (local-pure left)
+  nests-operated go g operand m low left (Some op) = by (leb left.nesting below) refl
     where
-      by : (b : Bool) → Local (λ ts. cond b ((operand >>= (λ right. around below (max left.nesting right.nesting) (e.Binary op left.expr right.expr) >>= go)) (rest_of ts)) (Err too_deep))
-      by true =
-          local-following (operand >>= (λ right. around below (max left.nesting right.nesting) (e.Binary op left.expr right.expr) >>= go))
-          (local-bind operand _ m (λ right. local-bind _ go (local-around below (max left.nesting right.nesting) (e.Binary op left.expr right.expr)) g))
-      by false = local-deep
+      longer : Nested → Parser Nested
+      longer right = around below (max left.nesting right.nesting) (e.Binary op left.expr right.expr)
 
-  local-climb : (level : ℕ) (operand : Parser Nested) → Local operand → (n : ℕ) (left : Nested) → Local (climb below inner level operand n left)
+      joins : (right : Nested) → Nests (longer right >>= go)
+      joins right = nests-bind (longer right) go (nests-around below (max left.nesting right.nesting) (e.Binary op left.expr right.expr)) (λ x. nests-of (g x)) (λ x ts rest h. (g x).flat)
+
+      flat-joins : (right : Nested) → left.nesting ≤ below → right.nesting ≤ below → IsFlat (longer right >>= go)
+      flat-joins right a b = flat-bind (longer right) go (nests-around below (max left.nesting right.nesting) (e.Binary op left.expr right.expr)).looks
+          (flat-around below (max left.nesting right.nesting) (e.Binary op left.expr right.expr) (omega arith)) (λ x. (g x).flat)
+
+      by : (b : Bool) → leb left.nesting below ≡ b → Nests (λ ts. cond b ((operand >>= (λ right. longer right >>= go)) (rest_of ts)) (Err too_deep))
+      by true k =
+          nests-following (operand >>= (λ right. longer right >>= go))
+          (nests-bind operand _ m joins (λ right ts rest h. flat-joins right (leb-true _ _ k) (low ts rest right h)))
+      by false k = nests-deep
+
+  local-climb : (level : ℕ) (operand : Parser Nested) → Nests operand → IsBelow below operand → (n : ℕ) (left : Nested) → Local (climb below inner level operand n left)
   unfolding climb
-  local-climb level operand m zero left = local-pure left
-  local-climb level operand m (suc n) left =
-      local-as _ (peek (next_operator level) >>= (λ o. operated below inner (climb below inner level operand n) operand left o)) (λ ts. refl)
-      (local-bind (peek (next_operator level)) _ (local-peek (next_operator level) (operator-head level)) (λ o. local-operated (climb below inner level operand n) (λ x. local-climb level operand m n x) operand m left o))
+  local-climb level operand m low zero left = local-pure left
+  local-climb level operand m low (suc n) left =
+      local-by (next_operator level) (λ o. operated below inner (climb below inner level operand n) operand left o) (operator-head level)
+      (λ o. nests-operated (climb below inner level operand n) (λ x. local-climb level operand m low n x) operand m low left o) (local-pure left).flat
 
-  climb-fuel : (level : ℕ) (operand : Parser Nested) → Local operand → (n m : ℕ) (left : Nested) (ts : Tokens) → length ts ≤ n → length ts ≤ m
+  climb-fuel : (level : ℕ) (operand : Parser Nested) → Nests operand → (n m : ℕ) (left : Nested) (ts : Tokens) → length ts ≤ n → length ts ≤ m
       → climb below inner level operand n left ts ≡ climb below inner level operand m left ts
   unfolding climb
   climb-fuel level operand g zero zero left ts a b = refl
@@ -190,9 +232,9 @@ module _ (below : ℕ) (inner : ℕ → Parser Nested) (l : (n : ℕ) → Local 
           → cond c (and_then (operand ts) (λ right. λ s. and_then (around below (max left.nesting right.nesting) (e.Binary op left.expr right.expr) s) (climb below inner level operand n))) (Err too_deep)
           ≡ cond c (and_then (operand ts) (λ right. λ s. and_then (around below (max left.nesting right.nesting) (e.Binary op left.expr right.expr) s) (climb below inner level operand m))) (Err too_deep)
       again more op true = bind-same (operand ts) _ _ (λ right r read.
-          let first = left-length r ts (g.left ts r right read) in
+          let first = left-length r ts (g.looks.left ts r right read) in
           bind-same (around below (max left.nesting right.nesting) (e.Binary op left.expr right.expr) r) _ _ (λ longer s k.
-          let second = left-length s r ((local-around below (max left.nesting right.nesting) (e.Binary op left.expr right.expr)).left r s longer k) in
+          let second = left-length s r ((nests-around below (max left.nesting right.nesting) (e.Binary op left.expr right.expr)).looks.left r s longer k) in
           more longer s (omega arith) (omega arith)))
       again more op false = refl
 
@@ -206,16 +248,24 @@ module _ (below : ℕ) (inner : ℕ → Parser Nested) (l : (n : ℕ) → Local 
   local-level_at zero = local-unary
   local-level_at (suc n) =
       local-bind (level_at below inner n) _ (local-level_at n) (λ first.
-      local-turns (λ k. climb below inner (suc n) (inner n) k first) (λ k. local-climb (suc n) (inner n) (l n) k first) (λ k m ts a b. climb-fuel (suc n) (inner n) (l n) k m first ts a b))
+      local-turns (λ k. climb below inner (suc n) (inner n) k first) (λ k. local-climb (suc n) (inner n) (l n) (le n) k first) (λ k m ts a b. climb-fuel (suc n) (inner n) (l n) k m first ts a b))
 
 advances-nested : (d level : ℕ) → Advances (nested_expression d level)
 advances-nested d level ts rest x h = level-shorter (nested-right d level ts x rest h).derived
 
-local-nested : (d level : ℕ) → Local (nested_expression d level)
+below-nested : (d level : ℕ) → IsBelow d (nested_expression d level)
+below-nested d level ts rest x h = (nested-right d level ts x rest h).fits
+
+nests-nested : (d level : ℕ) → Nests (nested_expression d level)
 unfolding nested_expression
-local-nested zero level = local-deep
-local-nested (suc d) level = local-level_at d (nested_expression d) (local-nested d) (advances-nested d) level
+nests-nested zero level = nests-deep
+nests-nested (suc d) level = nests-of (local-level_at d (nested_expression d) (nests-nested d) (advances-nested d) (below-nested d) level)
+
+-- an expression that may nest
+local-nested : (d level : ℕ) → Local (nested_expression (suc d) level)
+unfolding nested_expression
+local-nested d level = local-level_at d (nested_expression d) (nests-nested d) (advances-nested d) (below-nested d) level
 
 pub local-expression : Local expression
 unfolding expression
-local-expression = local-bind (nested_expression most_nesting loosest) _ (local-nested most_nesting loosest) (λ x. local-pure x.expr)
+local-expression = local-bind (nested_expression most_nesting loosest) _ (local-nested 63 loosest) (λ x. local-pure x.expr)

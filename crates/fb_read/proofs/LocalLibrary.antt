@@ -147,11 +147,11 @@ local-inside = local-bind name _ local-name (λ first. local-bind ports _ local-
 block-rest : Local (inside >>= (λ found. expect mark.EndFunctionBlock >>= (λ _. pure found)))
 block-rest = local-bind inside _ local-inside (λ found. local-ended mark.EndFunctionBlock found)
 
-local-block : Local block
+pub local-block : Local block
 unfolding block
 local-block = local-bind (expect mark.FunctionBlock) _ (local-expect mark.FunctionBlock) (λ _. block-rest)
 
-advances-block : Advances block
+pub advances-block : Advances block
 unfolding block
 advances-block = advances-bind (expect mark.FunctionBlock) _ (advances-expect mark.FunctionBlock) (λ _. block-rest)
 

@@ -5,7 +5,7 @@ use Rattle.fb_read.specs.declared.token.Mark.TheVariants as mark
 use Rattle.fb_read.specs.Tokens.{Tokens}
 use Rattle.fb_read.specs.Parser.{Outcome, Parser, syntax, and_then, pure, eat, sees, after, many_from, many_after, many, section, run_from, run_after, separated_from, separated}
 use Rattle.fb_read.specs.Statements.{several_from, several}
-use Rattle.fb_read.proofs.Local.{left-length, Local, local-bind, local-as, local-pure, local-refuse, HeadOnly, local-cond, local-if}
+use Rattle.fb_read.proofs.Local.{left-length, Local, Nests, nests-of, local-bind, nests-bind, local-as, local-pure, local-refuse, HeadOnly, local-cond, local-if-nests}
 use Rattle.fb_read.proofs.LocalSteps.{local-eat, Advances, local-turns}
 
 -- what follows is the same if it is the same after what was read
@@ -14,7 +14,7 @@ bind-same (Ok p) f g h = h p.0 p.1 refl
 bind-same (Err e) f g h = refl
 
 after-length : (k : Mark) (ts : Tokens) → length (after k ts) ≤ length ts
-after-length k ts = left-length (after k ts) ts ((local-eat k).left ts (after k ts) (sees k ts) refl)
+after-length k ts = left-length (after k ts) ts ((local-eat k).looks.left ts (after k ts) (sees k ts) refl)
 
 pub sees-head : (k : Mark) → HeadOnly (sees k)
 sees-head k t ts = refl
@@ -63,12 +63,12 @@ local-section item begin end l adv none = local-bind (eat begin) _ (local-eat be
 
 -- ---- as long as something begins
 
-local-several_from : {A : Type 0} (begins : Tokens → Bool) (item : Parser A) → HeadOnly begins → Local item → (n : ℕ) (found : List A) → Local (several_from begins item n found)
+local-several_from : {A : Type 0} (begins : Tokens → Bool) (item : Parser A) → HeadOnly begins → begins [] ≡ false → Nests item → (n : ℕ) (found : List A) → Local (several_from begins item n found)
 unfolding several_from
-local-several_from begins item only l zero found = local-pure found
-local-several_from begins item only l (suc n) found =
-    local-if begins (λ ts. and_then (item ts) (λ x. several_from begins item n (found ++ x ∷ []))) (pure found) only
-    (local-bind item _ l (λ x. local-several_from begins item only l n (found ++ x ∷ []))) (local-pure found)
+local-several_from begins item only none l zero found = local-pure found
+local-several_from begins item only none l (suc n) found =
+    local-if-nests begins (λ ts. and_then (item ts) (λ x. several_from begins item n (found ++ x ∷ []))) (pure found) only none
+    (nests-bind item _ l (λ x. nests-of (local-several_from begins item only none l n (found ++ x ∷ []))) (λ x ts rest e. (local-several_from begins item only none l n (found ++ x ∷ [])).flat)) (local-pure found)
 
 several-fuel : {A : Type 0} (begins : Tokens → Bool) (item : Parser A) → Advances item → begins [] ≡ false → (n m : ℕ) (found : List A) (ts : Tokens) → length ts ≤ n → length ts ≤ m
     → several_from begins item n found ts ≡ several_from begins item m found ts
@@ -85,10 +85,10 @@ several-fuel {A = A} begins item adv none (suc n) (suc m) found ts a b = go (λ 
     go more true = bind-same (item ts) _ _ (λ x r e. let shorter = adv ts r x e in more (found ++ x ∷ []) r (omega arith) (omega arith))
     go more false = refl
 
-pub local-several : {A : Type 0} (begins : Tokens → Bool) (item : Parser A) → HeadOnly begins → begins [] ≡ false → Local item → Advances item → (found : List A) → Local (several begins item found)
+pub local-several : {A : Type 0} (begins : Tokens → Bool) (item : Parser A) → HeadOnly begins → begins [] ≡ false → Nests item → Advances item → (found : List A) → Local (several begins item found)
 unfolding several
 local-several begins item only none l adv found =
-    local-turns (λ n. several_from begins item n found) (λ n. local-several_from begins item only l n found) (λ n m ts a b. several-fuel begins item adv none n m found ts a b)
+    local-turns (λ n. several_from begins item n found) (λ n. local-several_from begins item only none l n found) (λ n m ts a b. several-fuel begins item adv none n m found ts a b)
 
 -- a run is the same as several that this mark begins
 run-several : {A : Type 0} (item : Parser A) (begin : Mark) (n : ℕ) (found : List A) (ts : Tokens) → run_from item begin n found ts ≡ several_from (sees begin) item n found ts
@@ -104,7 +104,7 @@ run-several {A = A} item begin (suc n) found ts = go (λ xs r. run-several item 
 pub local-run_after : {A : Type 0} (item : Parser A) (begin : Mark) → Local item → Advances item → (found : List A) → Local (run_after item begin found)
 unfolding run_after several
 local-run_after item begin l adv found =
-    local-as (run_after item begin found) (several (sees begin) item found) (λ ts. run-several item begin (length ts) found ts) (local-several (sees begin) item (sees-head begin) refl l adv found)
+    local-as (run_after item begin found) (several (sees begin) item found) (λ ts. run-several item begin (length ts) found ts) (local-several (sees begin) item (sees-head begin) refl (nests-of l) adv found)
 
 -- ---- with commas between them
 

@@ -20,7 +20,7 @@ pub advances-bind : {A B : Type 0} (p : Parser A) (f : A → Parser B) → Advan
 advances-bind p f adv l ts rest y h =
     let w = both_ok (p ts) f (y, rest) h in
     let a = adv ts w.1 w.0 w.2 in
-    let b = left-length rest w.1 ((l w.0).left w.1 rest y w.3) in
+    let b = left-length rest w.1 ((l w.0).looks.left w.1 rest y w.3) in
     omega arith
 
 pub none-bind : {A B : Type 0} (p : Parser A) (f : A → Parser B) → IsNoneAtEnd p → IsNoneAtEnd (p >>= f)

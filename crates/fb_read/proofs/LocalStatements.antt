@@ -15,7 +15,7 @@ use Rattle.fb_read.specs.Expressions.{expression}
 use Rattle.fb_read.specs.Statements.{begins_statement, begins_label, bound, label, assignment, step, bounds, simple, for_end, cases, block, choice, elsif, choices, branch, branches, others, if_statement, case_body, case_statement, loop_body, for_to, for_statement, while_statement, repeat_statement, statement, nested_statement, body}
 use Rattle.fb_read.proofs.StatementLengths.{label-shorter, statement-shorter}
 use Rattle.fb_read.proofs.StatementSound.{label-sound, nested-right}
-use Rattle.fb_read.proofs.Local.{Local, local-bind, local-pure, local-deep, HeadOnly, local-cond}
+use Rattle.fb_read.proofs.Local.{Local, Nests, nests-of, local-bind, local-pure, nests-deep, HeadOnly, local-cond}
 use Rattle.fb_read.proofs.LocalSteps.{Advances, local-eat, local-expect, local-name, local-whole}
 use Rattle.fb_read.proofs.LocalLoops.{IsNoneAtEnd, sees-head, local-several, local-separated}
 use Rattle.fb_read.proofs.LocalRules.{advances-bind, advances-expect, advances-separated, local-ended}
@@ -79,7 +79,7 @@ local-for_end =
 local-finished : {A : Type 0} (k : Mark) (x : A) → Local (expect k >>= (λ _. expect mark.Semicolon >>= (λ _. pure x)))
 local-finished k x = local-bind (expect k) _ (local-expect k) (λ _. local-ended mark.Semicolon x)
 
-module _ (inner : Parser Stmt) (l : Local inner) (adv : Advances inner) where
+module _ (inner : Parser Stmt) (l : Nests inner) (adv : Advances inner) where
   local-block : Local (block inner)
   unfolding block
   local-block = local-several begins_statement inner statement-head refl l adv []
@@ -99,7 +99,7 @@ module _ (inner : Parser Stmt) (l : Local inner) (adv : Advances inner) where
 
   local-choices : Local (choices inner)
   unfolding choices
-  local-choices = local-bind (choice inner) _ local-choice (λ first. local-several (sees mark.Elsif) (elsif inner) (sees-head mark.Elsif) refl local-elsif advances-elsif (first ∷ []))
+  local-choices = local-bind (choice inner) _ local-choice (λ first. local-several (sees mark.Elsif) (elsif inner) (sees-head mark.Elsif) refl (nests-of local-elsif) advances-elsif (first ∷ []))
 
   branch-rest : (labels : List Label) → Local (expect mark.Colon >>= (λ _. block inner >>= (λ body. pure (branch_of labels body))))
   branch-rest labels = local-bind (expect mark.Colon) _ (local-expect mark.Colon) (λ _. local-bind (block inner) _ local-block (λ body. local-pure (branch_of labels body)))
@@ -114,7 +114,7 @@ module _ (inner : Parser Stmt) (l : Local inner) (adv : Advances inner) where
 
   local-branches : Local (branches inner)
   unfolding branches
-  local-branches = local-bind (branch inner) _ local-branch (λ first. local-several begins_label (branch inner) label-head refl local-branch advances-branch (first ∷ []))
+  local-branches = local-bind (branch inner) _ local-branch (λ first. local-several begins_label (branch inner) label-head refl (nests-of local-branch) advances-branch (first ∷ []))
 
   local-others : Local (others inner)
   unfolding others
@@ -167,12 +167,12 @@ module _ (inner : Parser Stmt) (l : Local inner) (adv : Advances inner) where
 advances-nested : (d : ℕ) → Advances (nested_statement d)
 advances-nested d ts rest x h = statement-shorter (nested-right d ts x rest h).derived
 
-local-nested : (d : ℕ) → Local (nested_statement d)
+nests-nested : (d : ℕ) → Nests (nested_statement d)
 unfolding nested_statement
-local-nested zero = local-deep
-local-nested (suc d) = local-statement (nested_statement d) (local-nested d) (advances-nested d)
+nests-nested zero = nests-deep
+nests-nested (suc d) = nests-of (local-statement (nested_statement d) (nests-nested d) (advances-nested d))
 
 pub local-body : Local body
 unfolding body
 local-body =
-    local-bind _ _ (local-block (nested_statement most_nesting) (local-nested most_nesting) (advances-nested most_nesting)) (λ statements. local-ended mark.EndAlgorithm (body_of statements))
+    local-bind _ _ (local-block (nested_statement most_nesting) (nests-nested most_nesting) (advances-nested most_nesting)) (λ statements. local-ended mark.EndAlgorithm (body_of statements))

@@ -7,8 +7,9 @@ use Rattle.fb_read.specs.declared.token.Token.{Token}
 use Rattle.fb_read.specs.declared.token.Token.TheVariants as token
 use Rattle.fb_read.specs.declared.token.Mark.{Mark}
 use Rattle.fb_read.specs.Tokens.{Tokens}
-use Rattle.fb_read.specs.Parser.{Parser, syntax, eat, is_mark, after, expect, name, name_if, word, ty_of, typed, ty_name, whole, one, literal}
-use Rattle.fb_read.proofs.Local.{Local, Step, taken, kept, denied, on, stepped, local-step, local-as}
+use Rattle.fb_read.specs.Parser.{Outcome, Parser, syntax, too_deep, and_then, ◌>>=◌, eat, is_mark, after, expect, name, name_if, word, ty_of, typed, ty_name, whole, one, literal}
+use Rattle.std.proofs.lemmas.List.{length-append}
+use Rattle.fb_read.proofs.Local.{IsFlat, Local, Nests, Step, taken, kept, denied, on, stepped, looks-bind, looks-cond, local-step, local-as}
 
 -- ---- one token
 
@@ -42,6 +43,49 @@ expect-is k (t ∷ ts) = tested-by (is_mark k t) tt t ts
 
 pub local-expect : (k : Mark) → Local (expect k)
 local-expect k = local-as (expect k) (stepped denied (λ t. tested (is_mark k t) tt)) (expect-is k) (local-step denied (λ t. tested (is_mark k t) tt))
+
+-- what follows a mark may nest too deep at once
+pub local-eat-then : {A : Type 0} (k : Mark) (p q : Parser A) → Nests p → Local q → Local (eat k >>= (λ b. cond b p q))
+unfolding after
+local-eat-then {A = A} k p q l m = record {
+  looks = looks-bind (eat k) (λ b. cond b p q) (local-eat k).looks (λ b. looks-cond b p q l.looks m.looks);
+  deep = deep-of;
+  flat = λ h. m.flat h;
+}
+  where
+    go : (b : Bool) (t : Token) (ts more : Tokens) → (cond b p q) (cond b ts (t ∷ ts)) ≡ Err too_deep → (cond b p q) (cond b (ts ++ more) (t ∷ (ts ++ more))) ≡ Err too_deep
+    go true t ts more h = l.deep ts more h
+    go false t ts more h = m.deep (t ∷ ts) more h
+
+    deep-of : (ts more : Tokens) → (eat k >>= (λ b. cond b p q)) ts ≡ Err too_deep → (eat k >>= (λ b. cond b p q)) (ts ++ more) ≡ Err too_deep
+    deep-of [] more h = absurd (m.flat h)
+    deep-of (t ∷ ts) more h = go (is_mark k t) t ts more h
+
+abbrev passed : Tokens → Outcome (Unit {0})
+passed ts = Ok (tt, ts)
+
+abbrev stuck : Tokens → Outcome (Unit {0})
+stuck ts = Err (syntax ts)
+
+pub local-expect-then : {A : Type 0} (k : Mark) (p : Parser A) → Nests p → Local (expect k >>= (λ _. p))
+unfolding expect
+local-expect-then {A = A} k p l = record {
+  looks = looks-bind (expect k) (λ _. p) (local-expect k).looks (λ _. l.looks);
+  deep = deep-of;
+  flat = λ h. no-deep [] h;
+}
+  where
+    no-deep : (ts : Tokens) → and_then (stuck ts) (λ _. p) ≡ Err too_deep → ⊥
+    no-deep ts h = cc
+
+    go : (b : Bool) (t : Token) (ts more : Tokens) → and_then (cond b (passed ts) (stuck (t ∷ ts))) (λ _. p) ≡ Err too_deep
+        → and_then (cond b (passed (ts ++ more)) (stuck (t ∷ (ts ++ more)))) (λ _. p) ≡ Err too_deep
+    go true t ts more h = l.deep ts more h
+    go false t ts more h = absurd (no-deep (t ∷ ts) h)
+
+    deep-of : (ts more : Tokens) → (expect k >>= (λ _. p)) ts ≡ Err too_deep → (expect k >>= (λ _. p)) (ts ++ more) ≡ Err too_deep
+    deep-of [] more h = absurd (no-deep [] h)
+    deep-of (t ∷ ts) more h = go (is_mark k t) t ts more h
 
 abbrev name_step : Token → Step Name
 name_step (token.Name text) = taken text
@@ -183,18 +227,26 @@ Advances {A = A} p = (ts rest : Tokens) (x : A) → p ts ≡ Ok (x, rest) → le
 pub local-turns : {A : Type 0} (p : ℕ → Parser A) → ((n : ℕ) → Local (p n)) → ((n m : ℕ) (ts : Tokens) → length ts ≤ n → length ts ≤ m → p n ts ≡ p m ts)
     → Local (λ ts. p (length ts) ts)
 local-turns {A = A} p l fuel = record {
-  left = λ ts rest x h. (l (length ts)).left ts rest x h;
-  stuck = λ ts rest h. (l (length ts)).stuck ts rest h;
-  same = λ before mid following more t x h.
-      let a : Tokens = before ++ t ∷ following in
-      let b : Tokens = before ++ t ∷ more in
-      let n : ℕ = length a + length b in
-      let there : p n a ≡ Ok (x, mid ++ t ∷ following) = fuel n (length a) a (omega arith) (omega arith) ∙ h in
-      fuel (length b) n b (omega arith) (omega arith) ∙ (l n).same before mid following more t x there;
-  refused = λ before mid following more t h.
-      let a : Tokens = before ++ t ∷ following in
-      let b : Tokens = before ++ t ∷ more in
-      let n : ℕ = length a + length b in
-      let there : p n a ≡ Err (syntax (mid ++ t ∷ following)) = fuel n (length a) a (omega arith) (omega arith) ∙ h in
-      fuel (length b) n b (omega arith) (omega arith) ∙ (l n).refused before mid following more t there;
+  looks = record {
+    left = λ ts rest x h. (l (length ts)).looks.left ts rest x h;
+    stuck = λ ts rest h. (l (length ts)).looks.stuck ts rest h;
+    same = λ before mid following more t x h.
+        let a : Tokens = before ++ t ∷ following in
+        let b : Tokens = before ++ t ∷ more in
+        let n : ℕ = length a + length b in
+        let there : p n a ≡ Ok (x, mid ++ t ∷ following) = fuel n (length a) a (omega arith) (omega arith) ∙ h in
+        fuel (length b) n b (omega arith) (omega arith) ∙ (l n).looks.same before mid following more t x there;
+    refused = λ before mid following more t h.
+        let a : Tokens = before ++ t ∷ following in
+        let b : Tokens = before ++ t ∷ more in
+        let n : ℕ = length a + length b in
+        let there : p n a ≡ Err (syntax (mid ++ t ∷ following)) = fuel n (length a) a (omega arith) (omega arith) ∙ h in
+        fuel (length b) n b (omega arith) (omega arith) ∙ (l n).looks.refused before mid following more t there;
+  };
+  deep = λ ts more h.
+      let all : Tokens = ts ++ more in
+      let longer : length ts ≤ length all = omega (arith, length-append ts more) in
+      let there : p (length all) ts ≡ Err too_deep = fuel (length all) (length ts) ts longer (omega arith) ∙ h in
+      (l (length all)).deep ts more there;
+  flat = λ h. (l 0).flat h;
 }

@@ -41,7 +41,7 @@ found p = Ok p
 same-found : (p q : Token × ℕ) → found p ≡ found q → p ≡ q
 same-found p q e = cc
 
-same-length : (o : Found) (t u : Token) (m n : ℕ) → o ≡ Ok (t, m) → o ≡ Ok (u, n) → m ≡ n
+pub same-length : (o : Found) (t u : Token) (m n : ℕ) → o ≡ Ok (t, m) → o ≡ Ok (u, n) → m ≡ n
 same-length o t u m n h k = ap (λ (p : Token × ℕ). p.1) (same-found (t, m) (u, n) (sym h ∙ k))
 
 pub begins-before : (text : Text) (p : Located) → Begins text p → p.index < length text

@@ -1,11 +1,12 @@
 -- Which token a rule begins with, and which may follow an expression.
-use Rattle.std.proofs.Common.{◌≡◌, ℕ, suc, true, false, List, Some, refl, arith}
+use Rattle.std.proofs.Common.{◌≡◌, ℕ, suc, true, false, List, [], ◌∷◌, Some, Err, refl, arith}
 use Rattle.fb_read.specs.declared.token.Mark.{Mark}
 use Rattle.fb_read.specs.declared.token.Mark.TheVariants as mark
 use Rattle.fb_types.specs.declared.text.BinaryOperator.{BinaryOperator}
 use Rattle.fb_types.specs.declared.text.Expr.{Expr}
 use Rattle.fb_read.specs.Tokens.{Tokens}
-use Rattle.fb_read.specs.Parser.{same_mark, sees, rest_of}
+use Rattle.fb_read.specs.Expressions.{arguments, arguments_from, nested_expression}
+use Rattle.fb_read.specs.Parser.{same_mark, sees, rest_of, too_deep}
 use Rattle.fb_read.specs.Grammar.{IsMark, is_mark, is_name, is_whole, is_time}
 use Rattle.fb_read.specs.Operators.{operator_of, next_operator, begins_expression, Stops}
 use Rattle.fb_read.specs.ExpressionGrammar.{IsLevel, is_unary, is_chain, IsChain, ends, goes_on, IsUnary, negated, inverted, is_primary, IsPrimary, is_number, is_duration, is_true, is_false, is_variable, is_group, is_bare_call, is_call, AreArguments, one, another}
@@ -77,3 +78,9 @@ level-opens (is_chain a c) = level-opens a
 pub arguments-open : {xs : List Expr} {ts rest : Tokens} → AreArguments xs ts rest → opens ts
 arguments-open (one x) = level-opens x
 arguments-open (another x k a) = level-opens x
+
+-- arguments at the limit of nesting
+pub arguments_at_limit : (below : ℕ) (ts : Tokens) → below ≡ 0 → begins_expression ts ≡ true → arguments below (nested_expression below) ts ≡ Err too_deep
+unfolding arguments arguments_from nested_expression
+arguments_at_limit below [] none b = absurd cc
+arguments_at_limit below (t ∷ ts) none b = rw (none, b) refl

@@ -3,12 +3,12 @@ use Rattle.std.proofs.Common.{◌≡◌, Bool, true, false, [], ◌∷◌, ◌++
 use Rattle.fb_types.specs.declared.library.Library.{Library}
 use Rattle.fb_read.specs.declared.token.Token.{Token}
 use Rattle.fb_read.specs.Tokens.{Tokens}
-use Rattle.fb_read.specs.Parser.{RuleFault, syntax}
+use Rattle.fb_read.specs.Parser.{Outcome, RuleFault, syntax, too_deep}
 use Rattle.fb_read.specs.Blocks.{library}
 use Rattle.fb_read.specs.BlocksGrammar.{IsLibrary}
 use Rattle.fb_read.specs.Fits.{fits_library}
 use Rattle.fb_read.specs.Whole.{ended}
-use Rattle.fb_read.specs.Stops.{IsRefusedToken, Stops}
+use Rattle.fb_read.specs.Stops.{BeginsNoneThatFits, IsRefusedToken, Stops}
 use Rattle.fb_read.proofs.Local.{IsLeft, shape, Shape, is_read, is_stuck, is_deep}
 use Rattle.fb_read.proofs.LocalLibrary.{local-library}
 use Rattle.fb_read.proofs.WholeLaws.{answer, parsed}
@@ -39,10 +39,10 @@ refused-on before left more t h (is_read x rest e) = read rest e
     read [] e = absurd (let k = sym (ap ended e) ∙ h in cc)
     read (u ∷ us) e =
         let w = same-rest u us (ap ended e) in
-        ap ended (local-library.same before [] left more t x (e ∙ ap (λ (r : Tokens). Ok (x, r)) w))
+        ap ended (local-library.looks.same before [] left more t x (e ∙ ap (λ (r : Tokens). Ok (x, r)) w))
 refused-on before left more t h (is_stuck rest e) =
     let w : rest ≡ t ∷ left = (let k = sym (ap ended e) ∙ h in cc) in
-    ap ended (local-library.refused before [] left more t (e ∙ ap (λ (r : Tokens). Err (syntax r)) w))
+    ap ended (local-library.looks.refused before [] left more t (e ∙ ap (λ (r : Tokens). Err (syntax r)) w))
 refused-on before left more t h (is_deep e) = absurd (let k = sym (ap ended e) ∙ h in cc)
 
 left-of : (ts left : Tokens) (t : Token) → ended (library ts) ≡ Err (syntax (t ∷ left)) → Shape (library ts) → IsLeft (t ∷ left) ts
@@ -52,10 +52,10 @@ left-of ts left t h (is_read x rest e) = read rest e
     read [] e = absurd (let k = sym (ap ended e) ∙ h in cc)
     read (u ∷ us) e =
         let w : u ∷ us ≡ t ∷ left = (let k = sym (ap ended e) ∙ h in cc) in
-        subst (λ (r : Tokens). IsLeft r ts) w (local-library.left ts (u ∷ us) x e)
+        subst (λ (r : Tokens). IsLeft r ts) w (local-library.looks.left ts (u ∷ us) x e)
 left-of ts left t h (is_stuck rest e) =
     let w : rest ≡ t ∷ left = (let k = sym (ap ended e) ∙ h in cc) in
-    subst (λ (r : Tokens). IsLeft r ts) w (local-library.stuck ts rest e)
+    subst (λ (r : Tokens). IsLeft r ts) w (local-library.looks.stuck ts rest e)
 left-of ts left t h (is_deep e) = absurd (let k = sym (ap ended e) ∙ h in cc)
 
 -- no library begins with the tokens up to the one at which they are refused
@@ -74,3 +74,22 @@ stops-at ts left t h =
 pub stops : (ts left : Tokens) → ended (library ts) ≡ Err (syntax left) → Stops left ts
 stops ts [] h = no-library ts [] h
 stops ts (t ∷ left) h = stops-at ts left t h
+
+ended-deep : (o : Outcome Library) → ended o ≡ Err too_deep → o ≡ Err too_deep
+ended-deep (Ok (y, [])) e = absurd cc
+ended-deep (Ok (y, (t ∷ ts))) e = absurd cc
+ended-deep (Err f) e = cc
+
+-- no tokens nest too deep
+pub none-deep : ended (library []) ≡ Err too_deep → ⊥
+none-deep h = local-library.flat (ended-deep (library []) h)
+
+-- no library that keeps the limit of nesting begins with tokens that are refused for theirs
+pub none-fits : (front : Tokens) → ended (library front) ≡ Err too_deep → BeginsNoneThatFits front
+none-fits front h x more l fits =
+    let deep : library (front ++ more) ≡ Err too_deep = local-library.deep front more (ended-deep (library front) h) in
+    go (fits_library x) fits (sym (ap (λ (o : Outcome Library). ended o) deep) ∙ parsed (front ++ more) x l)
+  where
+    go : (b : Bool) → b ≡ true → refused too_deep ≡ answer b x → ⊥
+    go true f e = cc
+    go false f e = cc

@@ -140,7 +140,7 @@ not_fitting ts f x h l fits = go (sym h ∙ parsed-complete ts x l fits)
     go : Err f ≡ answer true x → ⊥
     go e = cc
 
-abbrev Nothing : Text → Type 0
+abbrev pub Nothing : Text → Type 0
 Nothing text = (x : Library) → IsLibraryText text x → ⊥
 
 -- nothing is derived
@@ -150,7 +150,7 @@ Barren text = (x : Library) → IsDerived text x → ⊥
 at-tokens : (text : Text) (ts : Tokens) (x : Library) → AreTokens ts (after_mark text) → IsDerived text x → IsLibrary x ts []
 at-tokens text ts x a l = subst (λ (us : Tokens). IsLibrary x us []) (tokens-unique l.read a) l.derived
 
-nothing-parsed : (text : Text) (ts : Tokens) (f : RuleFault) → AreTokens ts (after_mark text) → ended (library ts) ≡ Err f → Nothing text
+pub nothing-parsed : (text : Text) (ts : Tokens) (f : RuleFault) → AreTokens ts (after_mark text) → ended (library ts) ≡ Err f → Nothing text
 nothing-parsed text ts f a h x l = not_fitting ts f x h (at-tokens text ts x a l.derived) l.fits
 
 too-deep : (text : Text) (ts : Tokens) (f : RuleFault) (x : Library) → AreTokens ts (after_mark text) → ended (library ts) ≡ Err f → IsDerived text x → f ≡ too_deep

@@ -4,8 +4,10 @@ use Rattle.fb_read.specs.declared.token.Located.{Located}
 use Rattle.fb_read.specs.declared.token.Token.{Token}
 use Rattle.fb_read.specs.declared.error.ReadError.{ReadError}
 use Rattle.fb_read.specs.declared.error.ReadError.TheVariants as error
+use Rattle.fb_read.specs.declared.expected.Expected.{Expected}
 use Rattle.fb_read.specs.declared.refused.ReadFault.{ReadFault}
 use Rattle.fb_read.specs.declared.refused.ReadFault.TheVariants as fault
+use Rattle.fb_read.specs.declared.refused.Refusal.{Refusal}
 use Rattle.fb_read.specs.declared.refused.TextFault.{TextFault}
 use Rattle.fb_read.specs.declared.refused.TextFault.TheVariants as text_fault
 use Rattle.fb_read.specs.Blank.{Text, at, skip, start}
@@ -14,7 +16,7 @@ use Rattle.fb_read.specs.declared.front.LexFault.TheVariants as lex_fault
 use Rattle.fb_read.specs.Front.{bad_byte, bad_token, Found, Gives, front}
 use Rattle.fb_read.specs.Tokens.{Tokens, tokens_of, after_mark}
 use Rattle.fb_read.specs.Located.{AreLocated, IsFirstFaultAt}
-use Rattle.fb_read.specs.Stops.{Stops}
+use Rattle.fb_read.specs.Stops.{BeginsNoneThatFits, Stops}
 use Rattle.fb_read.specs.Parser.{syntax, too_deep}
 use Rattle.fb_read.specs.Blocks.{library}
 use Rattle.fb_read.specs.Whole.{most_bytes, ended}
@@ -59,14 +61,31 @@ pub record IsSyntaxAt (text : Text) (begin end : ℕ) : Type 0 where
   pub stops : Stops left (tokens_of placed)
   pub next : IsNext (drop (length placed - length left) placed) text begin end
 
--- The tokens of the text form no library because something nests too deep, and one of them is there.
+-- these tokens are refused for their nesting
+abbrev pub IsTooDeep : List Located → Type 0
+IsTooDeep ps = ended (library (tokens_of ps)) ≡ Err too_deep
+
+-- so are this number of them, and it is not 0
+abbrev pub IsDeepLen : List Located → ℕ → Type 0
+IsDeepLen ps n = (0 < n) × (n ≤ length ps) × IsTooDeep (take n ps)
+
+-- this is the least such number
+abbrev pub IsFirstDeep : List Located → ℕ → Type 0
+IsFirstDeep ps n = IsDeepLen ps n × (IsTooDeep (take (n - 1) ps) → ⊥)
+
+-- The tokens of the text form no library because something nests too deep. The first of them is there such that those up to
+-- it are refused for their nesting. No library that keeps the limit begins with those.
 pub record IsNestingAt (text : Text) (begin end : ℕ) : Type 0 where
   pub short : length text ≤ most_bytes
   pub placed : List Located
   pub located : AreLocated text placed (after_mark text)
-  pub refused : ended (library (tokens_of placed)) ≡ Err too_deep
+  pub refused : IsTooDeep placed
   pub index : ℕ
+  pub some : index < length placed
   pub next : IsNext (drop index placed) text begin end
+  pub up_to : IsTooDeep (take (suc index) placed)
+  pub first : IsTooDeep (take index placed) → ⊥
+  pub none : BeginsNoneThatFits (tokens_of (take (suc index) placed))
 
 -- The text is refused for this between two offsets.
 abbrev pub IsFaultAt : TextFault → Text → ℕ → ℕ → Type 0
@@ -81,8 +100,17 @@ abbrev pub IsRefused : Text → ReadFault → Type 0
 IsRefused text fault.Memory = Unit {0}
 IsRefused text (fault.Refused r) = IsFaultAt r.fault text r.start r.end
 
+-- no kind of tokens
+abbrev pub nothing : Expected
+nothing = record { kinds = 0 }
+
 abbrev pub refused_at : TextFault → ℕ → ℕ → ReadFault
-refused_at why first last = fault.Refused (record { fault = why; start = first; end = last })
+refused_at why first last = fault.Refused (record { fault = why; start = first; end = last; expected = nothing })
+
+-- the refusal of the same fault at the same bytes, whatever is expected there
+abbrev pub IsSameFault : Refusal → ReadFault → Type 0
+IsSameFault r fault.Memory = Unit {0}
+IsSameFault r (fault.Refused s) = (s.fault ≡ r.fault) × (s.start ≡ r.start) × (s.end ≡ r.end)
 
 -- the refusal of a text with this fault at an offset
 abbrev pub IsFaultOf : Text → ℕ → LexFault → ReadFault → Type 0

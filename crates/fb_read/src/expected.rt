@@ -1,17 +1,16 @@
 //! What could have been at the token at which the grammar refuses a text.
 
-ghost use Rattle.std.specs.Prelude.{◌≤◌, ◌<◌, ◌^◌, length, IfOk};
+ghost use Rattle.std.specs.Prelude.{◌≡◌, ◌≤◌, ◌<◌, ◌^◌, length};
+ghost use Rattle.fb_read.specs.Refusals.{nothing};
 ghost use Rattle.fb_read.specs.Whole.{most_bytes};
 
 use crate::cursor::{Cursor, ty_of};
 use crate::discarding::discard;
 use crate::fault::ParseFault;
 use crate::operator::operator_of;
-use crate::refused::ReadFault;
 use crate::rule::Rule;
 use crate::token::{Located, Mark, Token};
-use crate::tokens::lex;
-use fb_types::{Items, Library, MOST_BYTES};
+use fb_types::{Items, Library};
 use std::alloc::{AllocError, Global};
 
 /// The spellings of the keywords and the signs, in the order in which they are listed.
@@ -203,7 +202,9 @@ pub struct Expected {
 
 impl Expected {
     /// No kind.
-    pub fn none() -> Expected {
+    pub fn none() -> Expected
+        ensures { result ≡ nothing }
+    {
         Expected { kinds: 0 }
     }
 
@@ -287,39 +288,35 @@ fn watch(alloc: Global, tokens: &[Located], left: usize) -> Result<Watched, Allo
     })
 }
 
-/// The tokens of a text that has some; none if it has a fault in them.
-fn tokens_of(alloc: Global, text: &[u8]) -> Result<Items<Located>, AllocError>
-    requires { length text.now ≤ most_bytes }
-    ensures { IfOk result (λ found. length found ≤ most_bytes) }
+/// Watches a mark after the last of these tokens, which end there. Loops of the rules make no test where no token is left.
+fn watch_after(
+    alloc: Global,
+    tokens: &mut Vec<Located>,
+    mark: Mark,
+    end: usize,
+) -> Result<Watched, AllocError>
+    requires { length tokens.old.items ≤ most_bytes }
+    ensures { length tokens.new.items ≤ most_bytes }
 {
-    match lex(alloc, text) {
-        Ok(tokens) => Ok(tokens),
-        Err(ReadFault::Memory) => Err(AllocError),
-        Err(_) => Ok(Items::new(alloc)),
-    }
-}
-
-/// Watches a mark after the end of a text. Loops of the rules make no test where no token is left.
-fn watch_after(alloc: Global, text: &[u8], mark: Mark) -> Result<Watched, AllocError>
-    requires { length text.now ≤ most_bytes }
-{
-    let mut tokens = tokens_of(alloc, text)?;
     tokens.push(Located {
         token: Token::Mark(mark),
-        index: text.len(),
+        index: end,
     })?;
-    watch(alloc, tokens.as_slice(), 1)
+    let watched = watch(alloc, tokens.as_slice(), 1);
+    drop(tokens.pop());
+    watched
 }
 
-/// What could follow a text. No place takes both of two marks that are tried.
-fn expected_after(alloc: Global, text: &[u8]) -> Result<Expected, AllocError>
-    requires { length text.now ≤ most_bytes }
+/// What could follow these tokens. No place takes both of two marks that are tried.
+fn expected_after(alloc: Global, tokens: Items<Located>, end: usize) -> Result<Expected, AllocError>
+    requires { length tokens ≤ most_bytes }
 {
-    let first = watch_after(alloc, text, Mark::DotDot)?;
+    let mut tokens = tokens.into_vec();
+    let first = watch_after(alloc, &mut tokens, Mark::DotDot, end)?;
     if !first.taken {
         return Ok(first.missed);
     }
-    let second = watch_after(alloc, text, Mark::EndFunctionBlock)?;
+    let second = watch_after(alloc, &mut tokens, Mark::EndFunctionBlock, end)?;
     Ok(second.missed)
 }
 
@@ -328,22 +325,19 @@ fn tokens_before(tokens: &[Located], start: usize) -> usize {
     tokens.iter().filter(|token| token.index < start).count()
 }
 
-/// The kinds of tokens with which a text could go on in place of the token at `start`, at which its syntax is refused, or
-/// of its end. It is read once or twice more for that.
-///
-/// # Errors
-///
-/// When memory runs out.
-pub fn expected_at(alloc: Global, text: &[u8], start: usize) -> Result<Expected, AllocError> {
-    if text.len() > MOST_BYTES {
-        return Ok(Expected::none());
-    }
-    let tokens = tokens_of(alloc, text)?;
+/// The kinds of tokens with which a text could go on in place of the one of its tokens that is at `start`, at which its
+/// syntax is refused, or of its end, if that is there. The tokens are read once or twice more for that.
+pub(crate) fn expected_at(
+    alloc: Global,
+    tokens: Items<Located>,
+    start: usize,
+) -> Result<Expected, AllocError>
+    requires { length tokens ≤ most_bytes }
+{
     let before = tokens_before(tokens.as_slice(), start);
     let left = tokens.len().saturating_sub(before);
     if left == 0 {
-        drop(tokens);
-        return expected_after(alloc, text);
+        return expected_after(alloc, tokens, start);
     }
     let watched = watch(alloc, tokens.as_slice(), left)?;
     Ok(watched.missed)

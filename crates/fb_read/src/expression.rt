@@ -113,6 +113,11 @@ impl<F: Fn(&mut Cursor<'_>, u32, u8) -> Result<Nested, ParseFault>> ExpressionRu
         if !cursor.begins_expression() {
             return Err(ParseFault::Syntax);
         }
+        if self.below == 0 {
+            // The first token of the arguments is the one that nests too deep: a call without arguments would not.
+            cursor.take();
+            return Err(ParseFault::Nesting);
+        }
         let mut found = cursor.no_items();
         let mut depth = 0;
         for _turn in 0..cursor.left() {

@@ -4,11 +4,11 @@
 //! grammar, or the fault for which the text is refused. If it is refused for anything but memory, the text declares no
 //! library. A text declares at most one library (`laws`).
 //!
-//! Read in this order: `read`, the entry, and `error`; `token`, `tokens` and `front`, from bytes to tokens, with `blank`,
-//! `word`, `keyword`, `number` and `time`; `cursor`, `rule` and `fault`, how a rule reads; `block`, `ports`, `network`,
-//! `chart`, `operator`, `expression` and `statement`, the rules; `refused`, where a text is refused; `expected`, what could
-//! be there instead; `laws`; `discarding`, which frees what was read. The modules from tokens to rules are public for
-//! `fb_read_positions`, which reads a text once more up to a position.
+//! Read in this order: `read`, the entry, and `error`. From bytes to tokens: `token`, `tokens` and `front`, with `blank`,
+//! `word`, `keyword`, `number` and `time`. The rules: `cursor`, `rule` and `fault`, how a rule reads; `block`, `ports`,
+//! `network`, `chart`, `operator`, `expression` and `statement`. Then `refused`, where a text is refused; `expected`, what
+//! could be there instead; `laws`; `discarding`, which frees what was read. The modules from tokens to rules are public
+//! for `fb_read_positions`, which reads a text once more up to a position.
 #![tactic(auto)]
 
 mod blank;
@@ -38,6 +38,6 @@ mod word;
 
 pub use discarding::discard;
 pub use error::ReadError;
-pub use expected::{Expected, expected_at};
+pub use expected::Expected;
 pub use read::{read_library, read_located};
 pub use refused::{ReadFault, Refusal, TextFault};

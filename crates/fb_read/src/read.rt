@@ -1,22 +1,23 @@
 //! Whole declaration texts.
 
-ghost use Rattle.std.specs.Prelude.{◌≡◌, ◌+◌, ◌-◌, ◌≤◌, ◌<◌, ◌==◌, ◌↔◌, length, take, drop, count_by, Err, IfOk, IfErr, IsErrOf};
+ghost use Rattle.std.specs.Prelude.{◌≡◌, ◌+◌, ◌-◌, ◌≤◌, ◌<◌, ◌==◌, ◌↔◌, length, take, drop, count_by, Err, IfOk, IfErr, IsErrOf, IsTrue};
 ghost use Rattle.fb_types.specs.declared.library.Library.{Library};
 ghost use Rattle.fb_read.specs.Front.{bad_byte, bad_token};
 ghost use Rattle.fb_read.specs.Tokens.{after_mark};
 ghost use Rattle.fb_read.specs.Located.{AreLocated, IsLocatedEnd};
-ghost use Rattle.fb_read.specs.Refusals.{IsAtNext, IsErrorAt, IsErrorOf, IsFaultAt, IsNext, IsRefused, IsTokenLen, too_long};
+ghost use Rattle.fb_read.specs.Refusals.{IsAtNext, IsDeepLen, IsErrorAt, IsErrorOf, IsFaultAt, IsFirstDeep, IsNext, IsRefused, IsSameFault, IsTokenLen, IsTooDeep, too_long};
 ghost use Rattle.fb_read.specs.Whole.{IsDerived, IsLibraryText, IsNesting, HasTokenFault, HasTokens, RefusesWhere, IsMemory, IsGrammarFault, most_bytes};
 
 use crate::cursor::Cursor;
 use crate::error::ReadError;
+use crate::expected::{Expected, expected_at};
 use crate::fault::ParseFault;
 use crate::front::{LexFault, front};
 use crate::refused::{ReadFault, Refusal, TextFault};
 use crate::rule::Rule;
 use crate::token::{Located, Span};
 use crate::tokens::lex;
-use fb_types::{Library, MOST_BYTES};
+use fb_types::{Items, Library, MOST_BYTES};
 use std::alloc::{AllocError, Global};
 
 /// The length of the token at the front of a text. The token is dropped here, so that no caller has to drop it.
@@ -81,7 +82,87 @@ fn refused_before(
     ensures { IsAtNext text.now (drop (length tokens.now - left) tokens.now) fault result }
 {
     match span_before(alloc, text, tokens, left) {
-        Ok(Span { start, end }) => ReadFault::Refused(Refusal { fault, start, end }),
+        Ok(Span { start, end }) => ReadFault::Refused(Refusal {
+            fault,
+            start,
+            end,
+            expected: Expected::none(),
+        }),
+        Err(_) => ReadFault::Memory,
+    }
+}
+
+/// Whether these tokens are refused for their nesting.
+fn nests_too_deep(alloc: Global, tokens: &[Located]) -> Result<bool, AllocError>
+    requires { length tokens.now ≤ most_bytes }
+    ensures { IfOk result (λ b. IsTrue b ↔ IsTooDeep tokens.now) }
+{
+    let mut cursor = Cursor::new(alloc, tokens);
+    match Library::read(&mut cursor) {
+        Ok(library) => {
+            drop(library);
+            Ok(false)
+        }
+        Err(ParseFault::Memory) => Err(AllocError),
+        Err(ParseFault::Syntax) => Ok(false),
+        Err(ParseFault::Nesting) => Ok(true),
+    }
+}
+
+/// The first of these tokens, at most this number.
+fn front_of(tokens: &[Located], len: usize) -> &[Located]
+    ensures { result.now ≡ take len tokens.now }
+{
+    if tokens.len() > len {
+        &tokens[..len]
+    } else {
+        tokens
+    }
+}
+
+/// How many of these tokens there are up to the first that nests too deep, or more. It is that token after which this
+/// number is left: a rule refuses its nesting there.
+fn probable_len(alloc: Global, tokens: &[Located], left: usize) -> Result<usize, AllocError>
+    requires few { length tokens.now ≤ most_bytes }
+    requires deep { IsTooDeep tokens.now }
+    ensures { IfOk result (IsDeepLen tokens.now) }
+{
+    let len = tokens.len().saturating_sub(left);
+    let nests = nests_too_deep(alloc, front_of(tokens, len))?;
+    if nests { Ok(len) } else { Ok(tokens.len()) }
+}
+
+/// How many of these tokens there are up to the first that nests too deep, where a rule that refuses them leaves this
+/// number. It is searched from where it probably is, so that the first turn ends the search.
+fn deep_len(alloc: Global, tokens: &[Located], left: usize) -> Result<usize, AllocError>
+    requires few { length tokens.now ≤ most_bytes }
+    requires deep { IsTooDeep tokens.now }
+    ensures { IfOk result (IsFirstDeep tokens.now) }
+{
+    let most = probable_len(alloc, tokens, left)?;
+    for turn in 0..most {
+        let len = most - turn;
+        let nests = nests_too_deep(alloc, front_of(tokens, len - 1))?;
+        if !nests {
+            return Ok(len);
+        }
+    }
+    Ok(most)
+}
+
+/// The refusal of tokens that nest too deep, where a rule that refuses them leaves this number.
+fn refused_nesting(alloc: Global, text: &[u8], tokens: &[Located], left: usize) -> ReadFault
+    requires short { length text.now ≤ most_bytes }
+    requires few { length tokens.now ≤ most_bytes }
+    requires located { AreLocated text.now tokens.now (after_mark text.now) }
+    requires deep { IsTooDeep tokens.now }
+    ensures { IsRefused text.now result }
+{
+    match deep_len(alloc, tokens, left) {
+        Ok(len) => {
+            let left = tokens.len() - len + 1;
+            refused_before(alloc, text, tokens, left, TextFault::Nesting)
+        }
         Err(_) => ReadFault::Memory,
     }
 }
@@ -110,15 +191,65 @@ fn parse(alloc: Global, text: &[u8], tokens: &[Located]) -> Result<Library, Read
             let left = cursor.left();
             Err(refused_before(alloc, text, tokens, left, TextFault::Syntax))
         }
-        // A rule refuses its nesting after the first token that nests too deep.
         Err(ParseFault::Nesting) => {
-            let left = cursor.left().saturating_add(1);
-            Err(refused_before(alloc, text, tokens, left, TextFault::Nesting))
+            let left = cursor.left();
+            Err(refused_nesting(alloc, text, tokens, left))
         }
     }
 }
 
-/// Reads the library that a declaration text declares.
+/// The tokens of a text that is not too long.
+fn tokens_in(alloc: Global, text: &[u8]) -> Result<Items<Located>, ReadFault>
+    ensures short { IfOk result (λ tokens. length text.now ≤ most_bytes) }
+    ensures few { IfOk result (λ tokens. length tokens ≤ most_bytes) }
+    ensures located { IfOk result (λ tokens. AreLocated text.now tokens (after_mark text.now)) }
+    ensures refused { IfErr result (λ e. IsRefused text.now e) }
+    // No memory is used for a text that is too long.
+    ensures too_long { most_bytes < length text.now → result ≡ Err too_long }
+{
+    if text.len() > MOST_BYTES {
+        return Err(ReadFault::Refused(Refusal {
+            fault: TextFault::TooLong,
+            start: MOST_BYTES,
+            end: MOST_BYTES + 1,
+            expected: Expected::none(),
+        }));
+    }
+    lex(alloc, text)
+}
+
+/// A refusal, for a syntax fault with what was expected in place of the bytes at which it shows. They are the bytes of one
+/// of these tokens, or the end of their text.
+fn with_expected(alloc: Global, tokens: Items<Located>, refusal: Refusal) -> ReadFault
+    requires { length tokens ≤ most_bytes }
+    ensures { IsSameFault refusal result }
+{
+    let Refusal {
+        fault,
+        start,
+        end,
+        ..
+    } = refusal;
+    let expected = match fault {
+        TextFault::Syntax => expected_at(alloc, tokens, start),
+        _ => {
+            drop(tokens);
+            Ok(Expected::none())
+        }
+    };
+    match expected {
+        Ok(expected) => ReadFault::Refused(Refusal {
+            fault,
+            start,
+            end,
+            expected,
+        }),
+        Err(_) => ReadFault::Memory,
+    }
+}
+
+/// Reads the library that a declaration text declares. A syntax fault comes with what was expected, for which the tokens
+/// are read once or twice more.
 ///
 /// # Errors
 ///
@@ -131,14 +262,21 @@ pub fn read_located(alloc: Global, text: &[u8]) -> Result<Library, ReadFault>
     // No memory is used for a text that is too long.
     ensures too_long { most_bytes < length text.now → result ≡ Err too_long }
 {
-    if text.len() > MOST_BYTES {
-        return Err(ReadFault::Refused(Refusal {
-            fault: TextFault::TooLong,
-            start: MOST_BYTES,
-            end: MOST_BYTES + 1,
-        }));
+    let tokens = tokens_in(alloc, text)?;
+    match parse(alloc, text, tokens.as_slice()) {
+        Ok(found) => Ok(found),
+        Err(ReadFault::Memory) => Err(ReadFault::Memory),
+        Err(ReadFault::Refused(refusal)) => Err(with_expected(alloc, tokens, refusal)),
     }
-    let tokens = lex(alloc, text)?;
+}
+
+/// Reads the library that a declaration text declares. What was expected in place of a syntax fault is not searched.
+fn read_placed(alloc: Global, text: &[u8]) -> Result<Library, ReadFault>
+    ensures declared { IfOk result (λ library. IsLibraryText text.now library) }
+    ensures refused { IfErr result (λ e. IsRefused text.now e) }
+    ensures too_long { most_bytes < length text.now → result ≡ Err too_long }
+{
+    let tokens = tokens_in(alloc, text)?;
     parse(alloc, text, tokens.as_slice())
 }
 
@@ -200,7 +338,7 @@ pub fn read_library(alloc: Global, text: &[u8]) -> Result<Library, ReadError>
     ensures token { RefusesWhere result ReadError.Token (HasTokenFault bad_token text.now) }
     ensures grammar { IfErr result (λ e. IsGrammarFault e → HasTokens text.now) }
 {
-    match read_located(alloc, text) {
+    match read_placed(alloc, text) {
         Ok(library) => Ok(library),
         Err(fault) => Err(error_of(text, fault)),
     }

@@ -1,5 +1,9 @@
 //! Why and where a declaration text is refused.
 
+ghost use Rattle.std.specs.Prelude.{◌≡◌};
+ghost use Rattle.fb_read.specs.Errors.{fault_number};
+
+use crate::expected::Expected;
 use std::alloc::AllocError;
 
 /// What is wrong with a declaration text.
@@ -17,6 +21,21 @@ pub enum TextFault {
     Nesting,
 }
 
+impl TextFault {
+    /// The number of the refusal, from 1 to 5.
+    pub fn number(self) -> u8
+        ensures { result ≡ fault_number self }
+    {
+        match self {
+            TextFault::Byte => 1,
+            TextFault::Token => 2,
+            TextFault::Syntax => 3,
+            TextFault::TooLong => 4,
+            TextFault::Nesting => 5,
+        }
+    }
+}
+
 /// A fault of a declaration text, and the bytes at which it shows: from `start` up to `end`, both offsets in bytes.
 /// There are none at the end of the text.
 #[derive(Clone, Copy)]
@@ -27,6 +46,8 @@ pub struct Refusal {
     pub start: usize,
     /// The offset past the last byte.
     pub end: usize,
+    /// For a syntax fault: the kinds of tokens with which the text could go on in place of these bytes.
+    pub expected: Expected,
 }
 
 /// Why a declaration text is not read.

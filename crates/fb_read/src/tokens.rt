@@ -9,6 +9,7 @@ ghost use Rattle.fb_read.specs.Refusals.{IsFaultOf, IsFoundAt, IsRefused, IsUncl
 ghost use Rattle.fb_read.specs.Whole.{most_bytes};
 
 use crate::blank::{at, open_comment, skip};
+use crate::expected::Expected;
 use crate::front::{LexFault, faulty_len, front};
 use crate::refused::{ReadFault, Refusal, TextFault};
 use crate::token::{Located, Token};
@@ -40,6 +41,7 @@ fn unclosed(text: &[u8], rest: &[u8]) -> ReadFault
         fault: TextFault::Token,
         start,
         end: text.len(),
+        expected: Expected::none(),
     })
 }
 
@@ -54,6 +56,7 @@ fn faulty(text: &[u8], index: usize, fault: LexFault) -> ReadFault
             fault: TextFault::Byte,
             start: index,
             end: index + 1,
+            expected: Expected::none(),
         }),
         LexFault::Token => {
             let end = index + faulty_len(&text[index..]);
@@ -61,6 +64,7 @@ fn faulty(text: &[u8], index: usize, fault: LexFault) -> ReadFault
                 fault: TextFault::Token,
                 start: index,
                 end,
+                expected: Expected::none(),
             })
         }
     }

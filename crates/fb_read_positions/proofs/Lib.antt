@@ -1,4 +1,3 @@
 pub mod Steps
 pub mod Named
-mod LocalBlocks
 mod Resuming

@@ -11,6 +11,7 @@ use Rattle.fb_read.specs.declared.token.Located.{Located}
 use Rattle.fb_read.specs.declared.token.Mark.TheVariants as mark
 use Rattle.fb_read.specs.declared.token.Token.{Token}
 use Rattle.fb_read.proofs.Local.{Local, local-bind, local-if, local-pure, shape, is_read, is_stuck, is_deep}
+use Rattle.fb_read.proofs.LocalLibrary.{advances-block, local-block}
 use Rattle.fb_read.proofs.LocalLoops.{local-run_after, sees-head}
 use Rattle.fb_read.proofs.LocalRules.{local-application}
 use Rattle.fb_read.proofs.LocalSteps.{local-expect, local-name}
@@ -20,7 +21,6 @@ use Rattle.fb_read_positions.specs.declared.position.NetworkPart.{NetworkPart}
 use Rattle.fb_read_positions.specs.declared.position.Position.{Position}
 use Rattle.fb_read_positions.specs.declared.position.Position.TheVariants as position
 use Rattle.fb_read_positions.specs.declared.resume.Reached.{Reached}
-use Rattle.fb_read_positions.proofs.LocalBlocks.{advances-block, local-block}
 use Rattle.fb_read_positions.proofs.Steps.{blocks_more, then_on}
 
 -- ---- What walks leave
@@ -59,7 +59,7 @@ drop-map f (suc n) (x ∷ xs) = drop-map f n xs
 -- the last tokens, as many as are left
 pub last_tokens : {w : Walk} (ps : List Located) (mid : Tokens) → Local w → w (tokens_of ps) ≡ Ok (tt, mid) → tokens_of (drop (length ps - length mid) ps) ≡ mid
 last_tokens ps mid local e =
-    let left = local.left (tokens_of ps) mid tt e in
+    let left = local.looks.left (tokens_of ps) mid tt e in
     let f : Located → Token = λ p. p.token in
     let long : length left.before + length mid ≡ length ps = sym (length-append left.before mid) ∙ ap (λ (ts : Tokens). length ts) left.joined ∙ length-map ps f in
     drop-map f (length ps - length mid) ps

@@ -1,5 +1,5 @@
 -- One turn of a loop that reads up to a position.
-use Rattle.std.proofs.Common.{◌≡◌, ℕ, zero, suc, Bool, true, false, [], ◌∷◌, Ok, Err, ◌-◌, refl, sym, ap, subst, ◌∙◌, arith}
+use Rattle.std.proofs.Common.{◌≡◌, ◌≤◌, ℕ, zero, suc, Bool, true, false, cond, eqb, ◌||◌, [], ◌∷◌, Ok, Err, ◌-◌, refl, sym, ap, subst, ◌∙◌, arith}
 use Rattle.fb_read.specs.Blocks.{block}
 use Rattle.fb_read.specs.Parser.{Parser, Outcome, Reads, ◌>>◌, and_then, expect, sees_name, rest_of, syntax}
 use Rattle.fb_read.specs.Statements.{begins_statement}
@@ -8,7 +8,7 @@ use Rattle.fb_read.specs.declared.fault.ParseFault.{ParseFault}
 use Rattle.fb_read.specs.declared.fault.ParseFault.TheVariants as fault
 use Rattle.fb_read.specs.declared.token.Mark.TheVariants as mark
 use Rattle.fb_read.specs.declared.token.Token.TheVariants as token
-use Rattle.fb_read_positions.specs.Walks.{opens, pass, pass_blocks, pass_separated, pass_variables, past_application, past_variable, skip, to_name, to_statement}
+use Rattle.fb_read_positions.specs.Walks.{begins_clause, begins_clauses, depth_after, ends_clauses, opens, pass, pass_blocks, pass_separated, pass_variables, past_application, past_variable, skip, to_clause, to_name, to_statement}
 use Rattle.std.specs.Prelude.{◌&&◌, length}
 
 -- ---- Outcomes
@@ -136,6 +136,53 @@ not_ready a b is = rw is refl
 pub begins_none : (a b : Bool) → b ≡ false → (a && b) ≡ false
 begins_none true b is = is
 begins_none false b is = refl
+
+-- ---- Clauses
+
+-- none begins where no token is left
+none_begins : (depth : ℕ) → begins_clause [] depth ≡ true → ⊥
+none_begins depth h = go (eqb depth 0) (eqb depth 1) h
+  where
+    go : (a b : Bool) → ((a && false) || (b && false)) ≡ true → ⊥
+    go true true e = cc
+    go true false e = cc
+    go false true e = cc
+    go false false e = cc
+
+pub at_clause : (ts : Tokens) (depth : ℕ) → begins_clause ts depth ≡ true → to_clause ts depth zero ≡ Ok (tt, ts)
+unfolding to_clause
+at_clause [] depth begins = absurd (none_begins depth begins)
+at_clause (t ∷ ts) depth begins = rw begins refl
+
+pub past_clause : (ts : Tokens) (depth n : ℕ) → begins_clause ts depth ≡ true → to_clause ts depth (suc n) ≡ to_clause (rest_of ts) (depth_after ts depth) n
+unfolding to_clause
+past_clause [] depth n begins = absurd (none_begins depth begins)
+past_clause (t ∷ ts) depth n begins = rw begins refl
+
+pub past_no_clause : (ts : Tokens) (depth n : ℕ) → begins_clause ts depth ≡ false → to_clause ts depth n ≡ to_clause (rest_of ts) (depth_after ts depth) n
+unfolding to_clause
+past_no_clause [] depth zero none = refl
+past_no_clause [] depth (suc n) none = refl
+past_no_clause (t ∷ ts) depth zero none = rw none refl
+past_no_clause (t ∷ ts) depth (suc n) none = rw none refl
+
+pub moved_clause : (ts us : Tokens) (a b m n : ℕ) → us ≡ ts → b ≡ a → n ≡ m → to_clause ts a m ≡ to_clause us b n
+moved_clause ts us a b m n t o k =
+    ap (λ (x : Tokens). to_clause x a m) (sym t) ∙ ap (λ (x : ℕ). to_clause us x m) (sym o) ∙ ap (λ (x : ℕ). to_clause us b x) (sym k)
+
+pub no_clause_left : (ts : Tokens) (depth n : ℕ) → length ts ≡ 0 → to_clause ts depth n ≡ Err (syntax ts)
+unfolding to_clause
+no_clause_left [] depth n e = refl
+no_clause_left (t ∷ ts) depth n e = absurd (let no : suc (length ts) ≡ 0 = e in cc)
+
+-- one more at most
+pub depth_more : (ts : Tokens) (depth : ℕ) → depth_after ts depth ≤ suc depth
+depth_more ts depth = go (begins_clauses ts) (ends_clauses ts)
+  where
+    go : (a b : Bool) → cond a (suc depth) (cond b (depth - 1) depth) ≤ suc depth
+    go true b = omega arith
+    go false true = omega arith
+    go false false = omega arith
 
 -- ---- Tokens that are left
 

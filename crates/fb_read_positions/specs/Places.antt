@@ -99,6 +99,7 @@ name_in_basic (basic_part.OutputAfter n k) t = output_name t.states n k
 name_in_basic (basic_part.Transition n part) t = option_and_then (name_of_transition part) (slice_get t.transitions n)
 name_in_basic (basic_part.Algorithm n) t = option_map (λ a. a.name) (slice_get t.algorithms n)
 name_in_basic (basic_part.Statement n k) t = None
+name_in_basic (basic_part.Clause n k j) t = None
 name_in_basic (basic_part.Mention n k) t = None
 
 abbrev pub basic_inside : BlockType → Option BasicType

@@ -1,6 +1,6 @@
 -- What the parser reads up to a position of a declaration: the entries before it, as the grammar has them (this project's
 -- own). What is left begins at the position.
-use Rattle.std.specs.Prelude.{ℕ, zero, suc, Bool, true, ◌&&◌, ◌||◌, if◌then◌else◌, [], ◌∷◌, Ok, Err, codes}
+use Rattle.std.specs.Prelude.{ℕ, zero, suc, ◌-◌, ◌==◌, Bool, true, ◌&&◌, ◌||◌, if◌then◌else◌, [], ◌∷◌, Ok, Err, codes}
 use Rattle.fb_read.specs.declared.token.Mark.{Mark}
 use Rattle.fb_read.specs.declared.token.Mark.TheVariants as mark
 use Rattle.fb_read.specs.declared.token.Token.TheVariants as token
@@ -271,6 +271,33 @@ to_statement [] ready n = Err (syntax [])
 to_statement (t ∷ ts) ready zero = if ready && begins_statement (t ∷ ts) then Ok (tt, t ∷ ts) else to_statement ts (opens (t ∷ ts)) zero
 to_statement (t ∷ ts) ready (suc n) = to_statement ts (opens (t ∷ ts)) (if ready && begins_statement (t ∷ ts) then n else suc n)
 
+-- an IF or a REPEAT begins
+abbrev pub begins_clauses : Tokens → Bool
+begins_clauses ts = sees mark.If ts || sees mark.Repeat ts
+
+-- another clause of it
+abbrev pub begins_another : Tokens → Bool
+begins_another ts = sees mark.Elsif ts || sees mark.Until ts
+
+-- it ends
+abbrev pub ends_clauses : Tokens → Bool
+ends_clauses ts = sees mark.EndIf ts || sees mark.EndRepeat ts
+
+-- how many IFs and REPEATs have begun and not ended, after the next token
+abbrev pub depth_after : Tokens → ℕ → ℕ
+depth_after ts depth = if begins_clauses ts then suc depth else (if ends_clauses ts then depth - 1 else depth)
+
+-- the next token begins a clause of an IF or a REPEAT that is in no other one
+abbrev pub begins_clause : Tokens → ℕ → Bool
+begins_clause ts depth = (depth == 0 && begins_clauses ts) || (depth == 1 && begins_another ts)
+
+-- The first token that is left begins the clause at this index of the IF or the REPEAT with which these tokens begin: the
+-- IF or the REPEAT itself, one of the ELSIFs, or the UNTIL. `depth`: how many IFs and REPEATs have begun and not ended.
+unfoldable pub to_clause : Tokens → (depth index : ℕ) → Outcome (Unit {0})
+to_clause [] depth n = Err (syntax [])
+to_clause (t ∷ ts) depth zero = if begins_clause (t ∷ ts) depth then Ok (tt, t ∷ ts) else to_clause ts (depth_after (t ∷ ts) depth) zero
+to_clause (t ∷ ts) depth (suc n) = to_clause ts (depth_after (t ∷ ts) depth) (if begins_clause (t ∷ ts) depth then n else suc n)
+
 abbrev pub to_basic_part : BasicPart → Walk
 to_basic_part (basic_part.Internal n) = to_variable mark.Var n
 to_basic_part (basic_part.State n) = to_state n
@@ -282,6 +309,10 @@ to_basic_part (basic_part.Algorithm n) = to_algorithm n
 to_basic_part (basic_part.Statement n k) = do
   to_body n
   (λ ts. to_statement ts true k)
+to_basic_part (basic_part.Clause n k j) = do
+  to_body n
+  (λ ts. to_statement ts true k)
+  (λ ts. to_clause ts 0 j)
 to_basic_part (basic_part.Mention n k) = do
   to_body n
   (λ ts. to_name ts k)

@@ -130,7 +130,9 @@ fn name_in_basic(part: BasicPart, basic: &BasicType) -> Option<&Name>
             name_of_transition(part, transition)
         }
         BasicPart::Algorithm(algorithm) => Some(&basic.algorithms.get(algorithm)?.name),
-        BasicPart::Statement(_, _) | BasicPart::Mention(_, _) => None,
+        BasicPart::Statement(_, _) | BasicPart::Clause(_, _, _) | BasicPart::Mention(_, _) => {
+            None
+        }
     }
 }
 

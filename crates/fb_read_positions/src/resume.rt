@@ -182,7 +182,7 @@ fn reach_application(
 }
 
 /// Reads up to a position of a declaration, from where these tokens were read before.
-pub fn reach(
+pub(crate) fn reach(
     alloc: Global,
     tokens: &[Located],
     reached: Reached,

@@ -1,7 +1,7 @@
 //! What is probably meant at a place of a declaration at which its text is refused.
 
 use crate::text::ByteText;
-use fb_read::front::front;
+use fb_read::Expected;
 use fb_read::token::{Located, Mark, Token};
 use fb_read::tokens::lex;
 use fb_types::{Items, MOST_BYTES};
@@ -98,56 +98,17 @@ fn tokens_before(alloc: Global, text: &[u8], start: usize) -> Option<Items<Locat
     }
 }
 
-/// The bytes from the last one of these tokens to an offset, and the length of the token.
-fn last_before<'a>(
-    alloc: Global,
-    text: &'a [u8],
-    tokens: &[Located],
-    start: usize,
-) -> Option<(&'a [u8], usize)> {
-    let last = tokens.last()?;
-    let here = text.get(last.index..start)?;
-    match front(alloc, here) {
-        Ok((token, len)) => {
-            drop(token);
-            Some((here, len))
-        }
-        Err(_) => None,
-    }
-}
-
-/// The last token before an offset, if a line ends between them.
-fn last_of_earlier_line(alloc: Global, text: &[u8], start: usize) -> Option<&[u8]> {
-    let tokens = tokens_before(alloc, text, start)?;
-    let (here, len) = last_before(alloc, text, tokens.as_slice(), start)?;
-    if here.get(len..)?.contains(&b'\n') {
-        here.get(..len)
-    } else {
-        None
-    }
-}
-
 /// Whether these words, separated by spaces, have this one.
 fn has_word(words: &str, word: &str) -> bool {
     words.split(' ').any(|other| other == word)
 }
 
-/// Says that a semicolon is missing, if one was expected at an offset and the token before it is on an earlier line. A
-/// statement that may begin there may also be empty, so that a semicolon is not missing there.
-pub(crate) fn push_semicolon(
-    alloc: Global,
-    message: &mut ByteText,
-    text: &[u8],
-    start: usize,
-    expected: &str,
-) {
-    if !has_word(expected, ";") || has_word(expected, "name") {
-        return;
-    }
-    if let Some(last) = last_of_earlier_line(alloc, text, start) {
-        message.words(" (an earlier line ends with ");
-        message.shown(last);
-        message.words(", without ;)");
+/// Whether a semicolon is missing, where this was expected. A statement that may begin there may also be empty, so that
+/// none is missing there.
+pub(crate) fn misses_semicolon(alloc: Global, expected: Expected) -> bool {
+    match expected.words(alloc) {
+        Ok(words) => has_word(words.as_str(), ";") && !has_word(words.as_str(), "name"),
+        Err(_) => false,
     }
 }
 

@@ -1,6 +1,6 @@
 //! Locations in a text.
 
-ghost use Rattle.std.specs.Prelude.{◌≡◌, ◌==◌, ◌≤◌, ◌<◌, IfSome, count_by, length, not};
+ghost use Rattle.std.specs.Prelude.{◌≡◌, ◌==◌, ◌≤◌, ◌<◌, ◌+◌, IfSome, count_by, length, not};
 ghost use Rattle.std.specs.List.{suffix_len};
 ghost use Rattle.fb_read.specs.Blank as spec;
 ghost use Rattle.fb_read.specs.Tokens.{after_mark};
@@ -68,6 +68,23 @@ fn after_line_feed(text: &[u8]) -> usize
     columns
 }
 
+/// The location of the bytes between two offsets of a text.
+pub(crate) fn location_in(text: &[u8], start: usize, end: usize) -> TextLocation
+    requires columns { length text.now ≤ start + length (after_mark text.now) }
+    requires ordered { start ≤ end }
+    requires within { end ≤ length text.now }
+    ensures location { IsLocation text.now result }
+    ensures there { IsStretch start end result }
+{
+    let before = &text[..start];
+    TextLocation {
+        start,
+        end,
+        line: line_feeds(before) + 1,
+        column: after_line_feed(before) + 1,
+    }
+}
+
 /// The bytes between two offsets, if the text has them after its byte order mark.
 pub fn location_at(text: &[u8], start: usize, end: usize) -> Option<TextLocation>
     ensures location { IfSome result (IsLocation text.now) }
@@ -76,11 +93,5 @@ pub fn location_at(text: &[u8], start: usize, end: usize) -> Option<TextLocation
     if start > end || end > text.len() || start < text.len() - after_mark(text).len() {
         return None;
     }
-    let before = &text[..start];
-    Some(TextLocation {
-        start,
-        end,
-        line: line_feeds(before) + 1,
-        column: after_line_feed(before) + 1,
-    })
+    Some(location_in(text, start, end))
 }

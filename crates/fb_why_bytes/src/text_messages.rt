@@ -1,44 +1,37 @@
 //! The text for a location in a declaration.
 
 use crate::comments::push_comment;
+use crate::find::TextRefusal;
 use crate::fraction::{Fraction, fraction_of, push_time};
-use crate::hints::{push_else_if, push_left_out, push_semicolon};
+use crate::hints::{push_else_if, push_left_out};
 use crate::text::{ByteText, front};
-use crate::text_locations::TextLocation;
-use fb_read::{ReadError, expected_at};
+use fb_read::{Expected, TextFault};
 use fb_types::MOST_BYTES;
 use std::alloc::{AllocError, Global};
 
 /// Says what is wrong at a location: what is there, and what was expected.
-pub fn text_message(
-    alloc: Global,
-    text: &[u8],
-    fault: &ReadError,
-    location: TextLocation,
-) -> Result<String, AllocError> {
+pub fn text_message(alloc: Global, text: &[u8], found: TextRefusal) -> Result<String, AllocError> {
     let mut message = ByteText::new(alloc);
-    push_fault(alloc, &mut message, text, fault, location);
+    push_fault(alloc, &mut message, text, found);
     message.into_string()
 }
 
-fn push_fault(
-    alloc: Global,
-    message: &mut ByteText,
-    text: &[u8],
-    fault: &ReadError,
-    location: TextLocation,
-) {
-    let TextLocation { start, end, .. } = location;
-    let here = token(text.get(start..end).unwrap_or(&[]));
-    match fault {
-        ReadError::Syntax { .. } => {
-            push_found(message, here);
+fn push_fault(alloc: Global, message: &mut ByteText, text: &[u8], found: TextRefusal) {
+    let start = found.refusal.start;
+    let here = token(text.get(start..found.refusal.end).unwrap_or(&[]));
+    match found.refusal.fault {
+        TextFault::Syntax => {
+            let is_earlier = found.location.start < start;
+            push_found(message, here, is_earlier);
             push_left_out(message, here);
-            push_expected(alloc, message, text, start);
+            push_expected(alloc, message, text, start, found.refusal.expected);
+            push_semicolon(message, is_earlier);
             push_comment(message, text, start);
         }
-        ReadError::Token => push_no_token(message, here, text.get(start..).unwrap_or(&[])),
-        _ => push_matter(message, fault, here),
+        TextFault::Token => push_no_token(message, here, text.get(start..).unwrap_or(&[])),
+        TextFault::Byte => push_about(message, "", here, " is allowed only in comments"),
+        TextFault::TooLong => message.numbered("a text has at most ", MOST_BYTES, " bytes"),
+        TextFault::Nesting => push_about(message, "with ", here, " more than 64 are nested"),
     }
 }
 
@@ -47,17 +40,6 @@ fn token(here: &[u8]) -> &[u8] {
     match here {
         [b'(', b'*', ..] => b"(*",
         _ => here,
-    }
-}
-
-/// Adds what is wrong there.
-fn push_matter(message: &mut ByteText, fault: &ReadError, here: &[u8]) {
-    match fault {
-        ReadError::Memory => message.words("out of memory"),
-        ReadError::Byte => push_about(message, "", here, " is allowed only in comments"),
-        ReadError::TooLong => message.numbered("a text has at most ", MOST_BYTES, " bytes"),
-        ReadError::Nesting => push_about(message, "with ", here, " more than 64 are nested"),
-        ReadError::Token | ReadError::Syntax { .. } => {}
     }
 }
 
@@ -87,30 +69,39 @@ fn push_about(message: &mut ByteText, before: &str, here: &[u8], after: &str) {
     message.words(after);
 }
 
-/// Adds the token that is there instead of an expected one.
-fn push_found(message: &mut ByteText, here: &[u8]) {
+/// Adds the token that is there instead of an expected one, and whether an earlier line is shown.
+fn push_found(message: &mut ByteText, here: &[u8], is_earlier: bool) {
     message.words("found ");
     if here.is_empty() {
         message.words("the end of the text");
     } else {
         message.shown(here);
+        message.words(if is_earlier { " on a later line" } else { "" });
+    }
+}
+
+/// Says that a semicolon is missing at the end of the line that is shown, if it is an earlier one.
+fn push_semicolon(message: &mut ByteText, is_earlier: bool) {
+    if is_earlier {
+        message.words(" (this line ends without ;)");
     }
 }
 
 /// Adds the tokens with which the text could go on at an offset.
-fn push_expected(alloc: Global, message: &mut ByteText, text: &[u8], start: usize) {
-    match expected_words(alloc, text, start) {
+fn push_expected(
+    alloc: Global,
+    message: &mut ByteText,
+    text: &[u8],
+    start: usize,
+    expected: Expected,
+) {
+    match expected.words(alloc) {
         Ok(words) => {
             push_words(message, words.as_str());
-            push_semicolon(alloc, message, text, start, words.as_str());
             push_else_if(alloc, message, text, start, words.as_str());
         }
         Err(_) => message.give_up(),
     }
-}
-
-fn expected_words(alloc: Global, text: &[u8], start: usize) -> Result<String, AllocError> {
-    expected_at(alloc, text, start)?.words(alloc)
 }
 
 /// Adds the tokens that were expected, if any are known.

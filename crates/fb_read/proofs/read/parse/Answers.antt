@@ -1,5 +1,6 @@
-use Rattle.std.proofs.Common.{◌-◌, length, sym, ◌∙◌}
-use Rattle.fb_read.proofs.RefusalLaws.{left-over, over-deep, refused-rule, whole-declared}
+use Rattle.std.proofs.Common.{sym, ap, ◌∙◌}
+use Rattle.fb_read.specs.Whole.{ended}
+use Rattle.fb_read.proofs.RefusalLaws.{left-over, refused-rule, whole-declared}
 use Rattle.fb_read.proofs.read.parse.Goals as goal
 
 pub returns-then-left-eq0-clause-declared : goal.returns-then-left-eq0-clause-declared
@@ -17,7 +18,10 @@ returns-in-Err-Syntax-clause-refused c =
     refused-rule c.args.text.now c.args.tokens.now c.requires.short c.requires.located c.read.new.cursor c.refused_before-in-Err-Syntax.result (rw (c.in-Err-Syntax.field-0-is, c.new-cursor.ensures) at c.in-Err-Syntax.ensures)
     (rw c.left-left-in-Err-Syntax.ensures at c.refused_before-in-Err-Syntax.ensures)
 
-pub returns-in-Err-Nesting-clause-refused : goal.returns-in-Err-Nesting-clause-refused
-returns-in-Err-Nesting-clause-refused c =
-    over-deep c.args.text.now c.args.tokens.now c.requires.short c.requires.located (length c.args.tokens.now - c.saturating_add-left.result) c.refused_before-in-Err-Nesting.result
-    (rw (c.in-Err-Nesting.field-0-is, c.new-cursor.ensures) at c.in-Err-Nesting.ensures) c.refused_before-in-Err-Nesting.ensures
+pub refused_nesting-requires : goal.refused_nesting-requires
+refused_nesting-requires c = record {
+  short = c.requires.short;
+  few = c.requires.few;
+  located = c.requires.located;
+  deep = ap ended (rw (c.in-Err-Nesting.field-0-is, c.new-cursor.ensures) at c.in-Err-Nesting.ensures);
+}

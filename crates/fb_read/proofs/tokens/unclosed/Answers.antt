@@ -11,4 +11,5 @@ overflow_add-start c = let fits = end-length c.args.rest.now c.args.text.now c.r
 
 pub returns : goal.returns
 returns c =
-    unclosed-in c.args.text.now c.args.rest.now c.open_comment.result _ c.requires.end c.open_comment.ensures.within c.open_comment.ensures.there c.open_comment.ensures.none refl
+    rw c.none.ensures
+    (unclosed-in c.args.text.now c.args.rest.now c.open_comment.result _ c.requires.end c.open_comment.ensures.within c.open_comment.ensures.there c.open_comment.ensures.none refl)

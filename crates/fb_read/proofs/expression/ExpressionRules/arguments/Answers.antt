@@ -1,12 +1,19 @@
-use Rattle.std.proofs.Common.{rules, arith}
+use Rattle.std.proofs.Common.{rules, ◌≡◌, true, arith}
 use Rattle.std.proofs.lemmas.Grind.{common_steps}
 use Rattle.fb_read.specs.Expressions.{nested_expression, arguments, arguments_from}
+use Rattle.fb_read.specs.Operators.{begins_expression}
+use Rattle.fb_read.proofs.Starts.{arguments_at_limit}
 use Rattle.fb_read.proofs.Turns.{one_more, no_more}
 use Rattle.fb_read.proofs.expression.ExpressionRules.arguments.Goals as goal
 
 pub returns-then-not-begins_expression : goal.returns-then-not-begins_expression
 unfolding arguments
 returns-then-not-begins_expression g c = first_of (search rules, grind (arith, common_steps))
+
+pub returns-then-self-eq0 : goal.returns-then-self-eq0
+returns-then-self-eq0 g c =
+    let begins : begins_expression c.args.cursor.now ≡ true = search rules in
+    arguments_at_limit c.args.self.now.below c.args.cursor.now c.if-self-eq0.true begins
 
 pub loop-turn-init : goal.loop-turn-init
 unfolding arguments

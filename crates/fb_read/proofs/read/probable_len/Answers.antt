@@ -1,0 +1,12 @@
+use Rattle.std.proofs.Common.{◌-◌, length, take, arith}
+use Rattle.fb_read.specs.Refusals.{IsTooDeep}
+use Rattle.fb_read.proofs.RefusalLaws.{all-deep, deep-len}
+use Rattle.fb_read.proofs.read.probable_len.Goals as goal
+
+pub returns-then-nests : goal.returns-then-nests
+returns-then-nests c =
+    let deep : IsTooDeep (take c.saturating_sub-len.result c.args.tokens.now) = rw c.front_of.ensures at (c.in_ok-nests.ensures.0 c.if-nests.true) in
+    deep-len c.args.tokens.now c.saturating_sub-len.result (omega (arith, c.saturating_sub-len.ensures)) deep
+
+pub returns-else-nests : goal.returns-else-nests
+returns-else-nests c = all-deep c.args.tokens.now c.requires.deep
