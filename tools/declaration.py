@@ -1,7 +1,8 @@
 """Reads declarations by docs/FORMATS.md, independently of the program, for tools/interpreter.py and tools/editors.py.
 
 Numbers and times are numbers, names and keywords are in upper case. A statement or an expression is a tuple that begins with its
-kind; a name is itself. This does not look for the faults that the program's check refuses."""
+kind; a name is itself. Where these are in the text is noted beside them. This does not look for the faults that the program's check
+refuses."""
 
 import re
 from types import SimpleNamespace
@@ -26,24 +27,39 @@ def literal(found):
 
 
 def tokens_of(text):
-    found, at = [], 0
+    """Returns the tokens, and for each the offsets of its first character and of the one after its last."""
+    found, spans, at = [], [], 0
     while at < len(text):
         one = TOKEN.match(text, at)
         if one is None:
             raise ValueError(f"no token: {text[at:at + 20]!r}")
         at = one.end()
-        if one["time"] or one["whole"]:
-            found.append(literal(one))
-        elif one["name"] or one["sign"]:
-            found.append(one[0].upper())
-    return found
+        if one.lastgroup:
+            found.append(literal(one) if one["time"] or one["whole"] else one[0].upper())
+            spans.append(one.span())
+    return found, spans
 
 
 class Reader:
-    """Reads an accepted declaration."""
+    """Reads an accepted declaration.
+
+    `places` has by the `id` of what was read: for a list of statements or actions, the first token of each; for an operation, its
+    first token, its operator and the token after its last; for a transition, the first token of its condition. `headings` has by
+    the `id` of the statements of an algorithm the token of its name. Tokens are counted from 0, and `spans` has their offsets."""
 
     def __init__(self, text):
-        self.tokens, self.at = tokens_of(text.removeprefix("\ufeff")), 0
+        (self.tokens, self.spans), self.at = tokens_of(text.removeprefix("\ufeff")), 0
+        self.places, self.headings = {}, {}
+
+    def add(self, entries, entry):
+        """Reads an entry of a list, and notes where it begins."""
+        self.places.setdefault(id(entries), []).append(self.at)
+        entries.append(entry())
+
+    def placed(self, found, *place):
+        """Returns what was read, and notes its place."""
+        self.places[id(found)] = place
+        return found
 
     def next(self):
         self.at += 1
@@ -127,9 +143,9 @@ class Reader:
     def state(self):
         name, actions = self.next(), []
         if self.has(":"):
-            actions.append(self.action())
+            self.add(actions, self.action)
             while self.has(","):
-                actions.append(self.action())
+                self.add(actions, self.action)
         self.want(";")
         return name, actions
 
@@ -142,25 +158,28 @@ class Reader:
         self.want("TO")
         end = self.next()
         self.want(":=")
+        condition = self.at
         event = None if self.tokens[self.at] == "[" else self.next()
         guard = None
         if self.has("["):
             guard = self.expression()
             self.want("]")
         self.want(";")
-        return start, end, None if event == 1 else event, guard
+        return self.placed((start, end, None if event == 1 else event, guard), condition)
 
     def algorithms(self):
         while self.has("ALGORITHM"):
-            name = self.next()
+            heading, name = self.at, self.next()
             self.want("IN", "ST", ":")
-            yield name, self.statements("END_ALGORITHM")
+            body = self.statements("END_ALGORITHM")
+            self.headings[id(body)] = heading
+            yield name, body
 
     def statements(self, *ends):
         """Reads statements up to one of these words, which is taken."""
         found = []
         while not self.has(*ends):
-            found.append(self.statement())
+            self.add(found, self.statement)
         return found
 
     def statement(self):
@@ -217,7 +236,7 @@ class Reader:
             self.want(":")
             body = []
             while not (isinstance(self.tokens[self.at], int) or self.tokens[self.at] in ("-", "ELSE", "END_CASE")):
-                body.append(self.statement())
+                self.add(body, self.statement)
             found.append((labels, body))
         return "case", chosen, found, otherwise
 
@@ -238,14 +257,18 @@ class Reader:
     def expression(self, level=0):
         if level == len(LEVELS):
             return self.unary()
-        found = self.expression(level + 1)
+        first, found = self.at, self.expression(level + 1)
         while self.has(*LEVELS[level]):
-            found = (self.tokens[self.at - 1], found, self.expression(level + 1))
+            operator = self.at - 1
+            found = (self.tokens[operator], found, self.expression(level + 1))
+            self.placed(found, first, operator, self.at)
         return found
 
     def unary(self):
+        first = self.at
         if self.has("-", "NOT"):
-            return ("minus" if self.tokens[self.at - 1] == "-" else "NOT", self.unary())
+            found = ("minus" if self.tokens[first] == "-" else "NOT", self.unary())
+            return self.placed(found, first, first, self.at)
         if self.has("("):
             found = self.expression()
             self.want(")")
@@ -259,7 +282,7 @@ class Reader:
         while not self.has(")"):
             arguments.append(self.expression())
             self.has(",")
-        return (f"{word}()", *arguments)
+        return self.placed((f"{word}()", *arguments), first, first, self.at)
 
     def network(self):
         parts = dict(self.section("FBS", "END_FBS", self.instance))

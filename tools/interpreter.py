@@ -281,7 +281,8 @@ class System:
     """The accepted texts with the state of the simulation."""
 
     def __init__(self, declaration, deployment=None, stimuli=(), steps=STEPS):
-        self.types, application = Reader(declaration).library()
+        self.reader = Reader(declaration)
+        self.types, application = self.reader.library()
         self.blocks, self.agenda, self.lines, self.steps, self.tick, self.count = [], [], [], steps, 0, 0
         names = [*application.parts]
         self.resources = [("MAIN", names)]
@@ -409,12 +410,17 @@ class System:
             if found is None:
                 return
             present, block.state = "", found[1]
-            for algorithm, event in chart.states[block.state]:
-                self.step()
-                if algorithm:
-                    self.run_algorithm(block, chart.algorithms[algorithm])
-                if event:
-                    self.emit(block, event)
+            for number, _ in enumerate(chart.states[block.state]):
+                self.perform(block, number)
+
+    def perform(self, block, number):
+        """Performs the action of this number, from 0 on, of the state that a chart has entered."""
+        algorithm, event = block.type.chart.states[block.state][number]
+        self.step()
+        if algorithm:
+            self.run_algorithm(block, block.type.chart.algorithms[algorithm])
+        if event:
+            self.emit(block, event)
 
     def run_algorithm(self, block, body):
         try:

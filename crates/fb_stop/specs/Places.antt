@@ -18,6 +18,9 @@ use Rattle.fb_read_positions.specs.declared.position.BasicPart.TheVariants as pa
 use Rattle.fb_read_positions.specs.declared.position.Position.{Position}
 use Rattle.fb_read_positions.specs.declared.position.Position.TheVariants as position
 use Rattle.fb_fault.specs.declared.operation.Operation.{Operation}
+use Rattle.fb_fault.specs.declared.statement.Anchor.{Anchor}
+use Rattle.fb_fault.specs.declared.statement.Anchor.TheVariants.{Beginning, Elsif, Until}
+use Rattle.fb_fault.specs.declared.statement.Placed.{Placed}
 use Rattle.fb_read_positions.specs.declared.position.TransitionPart.{TransitionPart}
 use Rattle.fb_read_positions.specs.declared.position.TransitionPart.TheVariants.{Condition, Guard}
 use Rattle.fb_stop.specs.declared.found.EventSite.TheVariants.{Port}
@@ -34,10 +37,22 @@ pub record IsNth (t : BasicType) (state : Name) (nth index : ℕ) : Type 0 where
   pub leaves : same_name transition.from state ≡ true
   pub before : length (filter (λ x. same_name x.from state) (take index t.transitions)) ≡ nth
 
--- The part is the statement of the algorithm at an index, or the algorithm if no statement is said.
+-- The part of the algorithm at an index from which the tokens of an operation are counted: the statement, or its clause
+-- after ELSIF or UNTIL.
+abbrev pub part_from : (index statement : ℕ) → Anchor → BasicPart
+part_from index n Beginning = part.Statement index n
+part_from index n (Elsif k) = part.Clause index n k
+part_from index n Until = part.Clause index n 1
+
+-- .. the statement if no operation is said
+abbrev pub part_with : (index statement : ℕ) → Option Placed → BasicPart
+part_with index n None = part.Statement index n
+part_with index n (Some x) = part_from index n x.anchor
+
+-- The part is the one of the statement of the algorithm at an index, or the algorithm if no statement is said.
 abbrev pub IsShown : Option Inside → (index : ℕ) → BasicPart → Type 0
 IsShown None index x = x ≡ part.Algorithm index
-IsShown (Some i) index x = x ≡ part.Statement index i.statement
+IsShown (Some i) index x = x ≡ part_with index i.statement i.operation
 
 -- the algorithm at the index has this name
 pub record IsAlgorithmAt (t : BasicType) (n : Name) (index : ℕ) : Type 0 where
@@ -51,9 +66,9 @@ pub record IsAlgorithmPart (t : BasicType) (n : Name) (inside : Option Inside) (
   pub there : IsAlgorithmAt t n index
   pub is : IsShown inside index x
 
--- .. of the action at an index of a state, or the action, which has no algorithm
+-- .. of the action at an index of a state, or its event, if it has no algorithm
 abbrev pub IsPartOf : BasicType → (state index : ℕ) → Option Inside → Option Name → BasicPart → Type 0
-IsPartOf t s j inside None x = x ≡ part.Action s j
+IsPartOf t s j inside None x = x ≡ part.OutputAlone s j
 IsPartOf t s j inside (Some n) x = IsAlgorithmPart t n inside x
 
 pub record IsActionPart (t : BasicType) (s j : ℕ) (inside : Option Inside) (x : BasicPart) : Type 0 where
@@ -68,7 +83,8 @@ abbrev pub shown_part : Option Operation → TransitionPart
 shown_part None = Condition
 shown_part (Some x) = Guard
 
--- The part of a basic type is the condition of the transition of the site, or the statement or the algorithm of its action.
+-- The part of a basic type is the condition of the transition of the site, or the statement, a clause of it, or the
+-- algorithm of its action.
 abbrev pub IsSitePart : BasicType → Site → BasicPart → Type 0
 IsSitePart t (site.Transition s j operation) x = (index : ℕ) × (x ≡ part.Transition index (shown_part operation)) × IsNth t (state_at t s) j index
 IsSitePart t (site.Action s j inside) x = IsActionPart t s j inside x

@@ -11,8 +11,6 @@ use Rattle.fb_read.specs.declared.token.Located.{Located}
 use Rattle.fb_read.specs.declared.token.Span.{Span}
 use Rattle.fb_read_positions.specs.Places.{IsAt}
 use Rattle.fb_read_positions.specs.declared.position.Position.{Position}
-use Rattle.fb_fault.specs.declared.statement.Anchor.{Anchor}
-use Rattle.fb_fault.specs.declared.statement.Anchor.TheVariants.{Beginning, Elsif, Until}
 use Rattle.fb_fault.specs.declared.statement.Placed.{Placed}
 use Rattle.fb_stop.specs.Places.{IsStopPosition}
 use Rattle.fb_stop.specs.declared.found.FoundStop.{FoundStop}
@@ -47,18 +45,13 @@ pub record IsShownIn (text : Text) (library : Library) (position : Position) (op
 
 -- ---- Stops
 
-abbrev pub at_beginning : Anchor → Operation → Option Operation
-at_beginning Beginning x = Some x
-at_beginning (Elsif n) x = None
-at_beginning Until x = None
-
-abbrev pub counted_from_beginning : Option Placed → Option Operation
-counted_from_beginning None = None
-counted_from_beginning (Some p) = at_beginning p.anchor p.operation
+abbrev pub operation_placed : Option Placed → Option Operation
+operation_placed None = None
+operation_placed (Some p) = Some p.operation
 
 abbrev pub operation_inside : Option Inside → Option Operation
 operation_inside None = None
-operation_inside (Some i) = counted_from_beginning i.operation
+operation_inside (Some i) = operation_placed i.operation
 
 abbrev pub operation_in_site : Site → Option Operation
 operation_in_site (site.Transition s j operation) = operation

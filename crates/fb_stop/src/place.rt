@@ -2,12 +2,13 @@
 
 ghost use Rattle.std.specs.Prelude.{◌≡◌, ◌<◌, IfSome, IsTrue, length};
 ghost use Rattle.fb_types.specs.Headline.{system_of};
+ghost use Rattle.fb_stop.specs.Places as spec;
 ghost use Rattle.fb_stop.specs.Places.{IsActionPart, IsAlgorithmAt, IsAlgorithmPart, IsNth, IsShown, IsSitePart, IsStopPosition, shown_part};
 
 use crate::found::{EventSite, FoundStop, StopSite};
 use crate::site::{Inside, Site};
 use fb_check_names::TypeNumber;
-use fb_fault::Operation;
+use fb_fault::{Anchor, Operation, Placed};
 use fb_read_positions::{BasicPart, Position, TransitionPart};
 use fb_system::System;
 use fb_types::{BasicType, BlockType, Name};
@@ -40,12 +41,34 @@ fn algorithm_index(block: &BasicType, name: &Name) -> Option<usize>
     None
 }
 
-/// The part of a basic type at which the algorithm at an index is shown: the statement, or else its name.
+/// The part of the algorithm at an index from which the tokens of an operation of a statement are counted: the statement,
+/// or its clause after ELSIF or UNTIL.
+fn part_from(index: usize, statement: usize, anchor: Anchor) -> BasicPart
+    ensures { result ≡ spec.part_from index statement anchor }
+{
+    match anchor {
+        Anchor::Beginning => BasicPart::Statement(index, statement),
+        Anchor::Elsif(number) => BasicPart::Clause(index, statement, number),
+        Anchor::Until => BasicPart::Clause(index, statement, 1),
+    }
+}
+
+/// The part of the algorithm at an index at which a statement is shown, and the operation of it that has no value.
+fn part_with(index: usize, statement: usize, operation: Option<Placed>) -> BasicPart
+    ensures { result ≡ spec.part_with index statement operation }
+{
+    match operation {
+        Some(operation) => part_from(index, statement, operation.anchor),
+        None => BasicPart::Statement(index, statement),
+    }
+}
+
+/// The part of a basic type at which the algorithm at an index is shown: the statement or a clause of it, or else its name.
 fn statement_part(index: usize, inside: Option<Inside>) -> BasicPart
     ensures { IsShown inside index result }
 {
     match inside {
-        Some(inside) => BasicPart::Statement(index, inside.statement),
+        Some(inside) => part_with(index, inside.statement, inside.operation),
         None => BasicPart::Algorithm(index),
     }
 }
@@ -60,7 +83,7 @@ fn algorithm_part(block: &BasicType, name: &Name, inside: Option<Inside>) -> Opt
     }
 }
 
-/// The part of a basic type at which an action is shown: its algorithm, or itself if it has none.
+/// The part of a basic type at which an action is shown: its algorithm, or its event if it has none.
 fn action_part(
     block: &BasicType,
     state: usize,
@@ -71,7 +94,7 @@ fn action_part(
 {
     match &block.states.get(state)?.actions.get(index)?.algorithm {
         Some(name) => algorithm_part(block, name, inside),
-        None => Some(BasicPart::Action(state, index)),
+        None => Some(BasicPart::OutputAlone(state, index)),
     }
 }
 

@@ -11,7 +11,7 @@ ghost use Rattle.fb_stop.specs.Shown.{IsShownAmong, IsShownIn, IsStopShown, IsTo
 use crate::found::{FoundStop, StopSite};
 use crate::place::position_of;
 use crate::site::Site;
-use fb_fault::{Anchor, Operation, Placed};
+use fb_fault::Operation;
 use fb_read::read::span_before;
 use fb_read::token::{Located, Span};
 use fb_read_positions::{Position, discard, span_of, tokens_of};
@@ -116,8 +116,7 @@ fn shown_in(
     found
 }
 
-/// The operation of a stop, whose tokens are counted from the position of the stop. Those after ELSIF or UNTIL are counted
-/// from there, and so are left out.
+/// The operation of a stop. Its tokens are counted from the token at the position of the stop.
 fn operation_at(site: StopSite) -> Option<Operation>
     ensures { result ≡ spec.operation_at site }
 {
@@ -126,13 +125,7 @@ fn operation_at(site: StopSite) -> Option<Operation>
     };
     match site {
         Site::Transition { operation, .. } => operation,
-        Site::Action { inside, .. } => match inside?.operation? {
-            Placed {
-                anchor: Anchor::Beginning,
-                operation,
-            } => Some(operation),
-            _ => None,
-        },
+        Site::Action { inside, .. } => Some(inside?.operation?.operation),
     }
 }
 
