@@ -4,7 +4,8 @@
 The second simulator of tools/interpreter.py runs each example and each random system of tools/drawn.py once more, and notes what each
 block does as docs/FORMATS.md says: transitions, algorithms with what they change, lost events, and what event blocks remember. The
 program is given the trace alone. Both texts are to be the same, and without the lines that begin with two spaces they are the trace.
-Of traces in which one emission was changed or left out, the program is to refuse the first line that shows it. Of traces that are cut
+Of traces in which one emission was changed or left out, the program is to refuse the first line that shows it. Of traces that stop
+where a resource has used up its steps, with a limit that was passed before, it is to refuse the event that passed it. Of traces that are cut
 off, with `--cut`, the text is to be the same up to the last event, and then the lines that are there."""
 
 import glob
@@ -55,12 +56,21 @@ class Noted(interpreter.System):
     def __init__(self, *given):
         super().__init__(*given)
         self.covered = {("state", id(it.type), it.state) for it in self.blocks if it.type.chart}
+        # (of each event: the numbers of its first and its last line, its resource and tick, the steps used there after it, and whether a chart took it)
+        self.uses, self.number = [], 0
 
     def cover(self, what, block, mark):
         self.covered.add((what, id(block.type), mark))
 
+    def take(self, what):
+        first, block = self.number + 1, what[1]
+        super().take(what)
+        if first <= self.number:
+            self.uses.append((first, self.number, block.home, self.tick, self.steps - self.left, bool(getattr(block.type, "chart", None))))
+
     def line(self, block, sign, event, values):
         super().line(block, sign, event, values)
+        self.number += 1
         self.covered.add((sign, block.path, event))
 
     def note(self, text):
@@ -212,16 +222,48 @@ def spoiled(system, trace):
             return
 
 
+def passed(system, trace):
+    """A trace that stops for its steps, with a limit that an event before has passed, and the number of the line of that event."""
+    *lines, end = trace.splitlines(keepends=True)
+    limit = max((it[4] for it in system.uses), default=1) - 1
+    over = next((it for it in system.uses if it[4] > limit), None)
+    # (a chart that takes the last event is judged by what is left of the limit, and may run out of it just there)
+    if limit < 1 or not over or not re.match(r"end|stop .* steps$", end) or over[1] == len(lines) and over[5]:
+        return
+    if end.startswith("end"):
+        _, _, home, tick, *_ = system.uses[-1]
+        end = f"stop {tick} {system.resources[home][0]} steps\n"
+    yield "".join([*lines, end]), limit, over[0]
+
+
 def is_own(first, line):
     """Whether a line is one of an emission of the block of another line, in its tick."""
     (tick, _, path), (other_tick, sign, other_path) = (EVENT.match(it).groups() for it in (first, line))
     return sign == "<" and (tick, path) == (other_tick, other_path)
 
 
+def fronts(trace):
+    """Some fronts of a trace, none of them all of it."""
+    return [trace[: min(len(trace) * turn // CUTS + turn % 3, len(trace) - 1)] for turn in range(CUTS)]
+
+
+def whole_lines(front):
+    return front[: front.rfind("\n") + 1].splitlines(keepends=True)
+
+
+def first_untaken(whole):
+    """The number of lines of a trace before that of the event after which only lines of its own block come in its tick."""
+    return next((at for at, it in enumerate(whole) if all(is_own(it, other) for other in whole[at + 1 :])), len(whole))
+
+
+def stops_for_steps(trace):
+    return re.search(r"^stop .* steps$", trace, re.M)
+
+
 def cut_text(wanted, front):
     """What `inspect --cut` writes of the front of a trace."""
-    whole = front[: front.rfind("\n") + 1].splitlines(keepends=True)
-    first = next((at for at, it in enumerate(whole) if all(is_own(it, other) for other in whole[at + 1 :])), len(whole))
+    whole = whole_lines(front)
+    first = first_untaken(whole)
     kept, lines = [], 0
     for line in wanted.splitlines(keepends=True):
         if not line.startswith("  "):
@@ -234,8 +276,7 @@ def cut_text(wanted, front):
 
 def cut_faults(room, place, words, wanted, trace):
     """What is wrong with the texts of a trace that is cut off at some bytes."""
-    for turn in range(CUTS):
-        front = trace[: min(len(trace) * turn // CUTS + turn % 3, len(trace) - 1)]
+    for front in fronts(trace):
         ran = room.call([*words, "--cut", "-"], front.encode())
         found = with_conditions(ran.stdout.decode())
         if ran.returncode or ran.stderr or found != cut_text(wanted, front):
@@ -259,7 +300,7 @@ def faults_of(room, number, case):
                 it.write(text)
         words = ["inspect", f"{number}.iec", *(["--deploy", f"{number}.toml"] if plan else [])]
         # (a trace that does not stop for its steps needs no limit)
-        words += ["--steps", str(steps)] if re.search(r"^stop .* steps$", trace, re.M) else []
+        words += ["--steps", str(steps)] if stops_for_steps(trace) else []
         ran = room.call([*words, f"{number}.trace"])
         found = with_conditions(ran.stdout.decode())
         if ran.returncode or ran.stderr or found != wanted:
@@ -277,6 +318,11 @@ def faults_of(room, number, case):
             ran = room.call([*words, "-"], text.encode())
             if (ran.returncode, ran.stderr) != (2, f"refused trace line {line}\n".encode()):
                 wrong.append(f"{name}, form {form}: a spoiled line {line}: status {ran.returncode} {ran.stderr.decode().strip()}")
+        without = words[:-2] if "--steps" in words else words
+        for text, limit, line in passed(system, trace):
+            ran = room.call([*without, "--steps", str(limit), "-"], text.encode())
+            if (ran.returncode, ran.stderr) != (2, f"refused trace line {line}\n".encode()):
+                wrong.append(f"{name}, form {form}: steps passed at line {line}: status {ran.returncode} {ran.stderr.decode().strip()}")
     return wrong
 
 

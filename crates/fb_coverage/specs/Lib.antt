@@ -1,4 +1,5 @@
 pub mod Tables
+pub mod Additions
 pub mod Sets
 pub mod Openings
 pub mod Shares

@@ -4,7 +4,7 @@ use Rattle.std.specs.Prelude.{IfSome}
 use Rattle.std.specs.Io.KnownBytes.{Appends, Consumes, IsAtEnd}
 use Rattle.std.proofs.KnownBytes.{Appends-nil, Appends-trans}
 use Rattle.std.proofs.lemmas.List.Elements.{All-nil}
-use Rattle.fb_types.specs.Headline.{Inputs, system_of}
+use Rattle.fb_types.specs.Headline.{AreAccepted, Inputs, system_of}
 use Rattle.fb_types.specs.Names.{Name}
 use Rattle.fb_types.specs.Numbers.{line_of}
 use Rattle.fb_types.specs.Systems.{System}
@@ -23,6 +23,7 @@ use Rattle.fb_wave.specs.declared.truncation.Cut.TheVariants as cut
 use Rattle.fb_wave.proofs.Copied.{ends_after}
 use Rattle.fb_coverage.specs.declared.marks.Marks.{Marks}
 use Rattle.fb_inspect.specs.Covering.{Covers, IsCovered, IsCoveredBy, IsCutCovered}
+use Rattle.fb_inspect.specs.Happenings.{History, together}
 use Rattle.fb_inspect.specs.Inspections.{IsCutInspected, IsCutShown, IsInspected, IsShown, IsShownBy, ShowsFront, all_text, cut_note, one_text}
 use Rattle.fb_inspect.specs.Lines.{IsNext}
 use Rattle.fb_inspect.specs.Looks.{Turn}
@@ -33,8 +34,9 @@ use Rattle.fb_inspect.specs.declared.error.InspectError.TheVariants.{Refused, Na
 use Rattle.fb_inspect.specs.declared.page.Page.{Page}
 use Rattle.fb_inspect.specs.declared.reading.Reading.{Reading}
 use Rattle.fb_inspect.specs.declared.walk.Extent.{Extent}
-use Rattle.fb_inspect.specs.declared.walk.Extent.TheVariants.{CutOff}
+use Rattle.fb_inspect.specs.declared.walk.Extent.TheVariants.{CutOff, Whole}
 use Rattle.fb_inspect.specs.declared.walk.Walk.{Walk}
+use Rattle.fb_inspect.proofs.Happened.{marked_by, marked_none}
 use Rattle.fb_inspect.proofs.Severing.{cut_whole, on_some}
 
 -- ---- The end
@@ -213,26 +215,25 @@ severed_covers may i only steps input remaining line marks allowed read one shor
     on_some input _ _ (cut_whole input remaining line read one short)
     (λ text after. record {
       only = only;
-      covered = (
+      history = together [];
+      goes = (
         allowed,
+        cut_note,
         record {
-          bytes = cut_note;
-          inspected = record {
-            form = One;
-            lines = [];
-            untaken = [];
-            trace = record { lines = record { each = All-nil (IsLineOf (system_of i)); rise = tt }; part = after.part; unended = after.unended; is = after.is };
-            of_one = tt;
-            turns = [];
-            lines_are = refl;
-            chain = tt;
-            goes_on = tt;
-            written = refl;
-          };
-          charts = refl;
-          ports = refl;
+          form = One;
+          lines = [];
+          untaken = [];
+          trace = record { lines = record { each = All-nil (IsLineOf (system_of i)); rise = tt }; part = after.part; unended = after.unended; is = after.is };
+          of_one = tt;
+          turns = [];
+          lines_are = refl;
+          chain = tt;
+          goes_on = tt;
+          written = refl;
         },
+        refl,
       );
+      marked = marked_none i marks marks refl;
     })
 
 -- where a trace may be cut off or not
@@ -249,11 +250,22 @@ shown_cut cut.Refused sys only steps input old new same shown = absurd (cc)
 shown_cut cut.Allowed sys only steps input old new same shown = on_some input _ _ shown (λ text is. inr is)
 
 -- what is covered, whatever is shown of it, next to marks by another name
+covers_by :
+    (may : Cut) (i : Inputs) → AreAccepted i → (only : List Name) (steps : ℕ) (text : List ℕ) (first last : Marks) (extent : Extent) → IsCoveredBy may i only steps text first last extent
+    → Covers may i steps text first last extent
+covers_by may i accepted only steps text first last Whole covered =
+    let h : History = record { turns = covered.inspected.turns; lines = covered.inspected.lines } in
+    record { only = only; history = h; goes = (covered.bytes, covered.inspected, refl); marked = marked_by i accepted h first last covered.charts covered.ports }
+covers_by may i accepted only steps text first last CutOff (allowed, covered) =
+    let h : History = record { turns = covered.inspected.turns; lines = covered.inspected.lines } in
+    record { only = only; history = h; goes = (allowed, covered.bytes, covered.inspected, refl); marked = marked_by i accepted h first last covered.charts covered.ports }
+
 pub covers_of :
-    (may : Cut) (i : Inputs) (only : List Name) (steps : ℕ) (known : Option (List ℕ)) (own first last : Marks) (extent : Extent) → own ≡ first
+    (may : Cut) (i : Inputs) → AreAccepted i → (only : List Name) (steps : ℕ) (known : Option (List ℕ)) (own first last : Marks) (extent : Extent) → own ≡ first
     → IfSome known (λ text. IsCoveredBy may i only steps text own last extent) → IfSome known (λ text. Covers may i steps text first last extent)
-covers_of may i only steps known own first last extent same is =
-    on_some known _ _ is (λ text covered. record { only = only; covered = subst (λ (m : Marks). IsCoveredBy may i only steps text m last extent) same covered })
+covers_of may i accepted only steps known own first last extent same is =
+    on_some known _ _ is
+    (λ text covered. covers_by may i accepted only steps text first last extent (subst (λ (m : Marks). IsCoveredBy may i only steps text m last extent) same covered))
 
 -- ---- Faults
 

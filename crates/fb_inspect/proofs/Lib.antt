@@ -1,6 +1,7 @@
 pub mod Showing
 pub mod ShowingLaws
 pub mod Marked
+pub mod Happened
 pub mod Moving
 pub mod Emitted
 pub mod Charted
@@ -11,6 +12,7 @@ pub mod Gone
 pub mod Severing
 pub mod Gathered
 pub mod Stepped
+pub mod OneStep
 pub mod Ended
 pub mod Opened
 pub mod Within

@@ -30,10 +30,10 @@ use Rattle.fb_wave.specs.Lines.{IsLineOf, IsTextOf}
 use Rattle.fb_coverage.specs.declared.marks.Marks.{Marks}
 use Rattle.fb_net.proofs.Others.{get_set_other, get_set_same}
 use Rattle.fb_inspect.specs.Counted.{left_of}
-use Rattle.fb_inspect.specs.Inspections.{AreLimited, AreTaken, AreTurns, EndsBySteps, EndsByStop, EndsSo, KeepsLimit, all_text, is_kept, last_look, limited, most, stop_of}
+use Rattle.fb_inspect.specs.Inspections.{AreLimited, AreTaken, AreTurns, EndsBySteps, EndsByStop, EndsSo, KeepSteps, KeepsLimit, NoneStops, RunsOut, all_text, is_kept, last_look, limited, stop_of}
 use Rattle.fb_inspect.specs.Lines.{IsNext}
 use Rattle.fb_inspect.specs.Markings.{TurnMarks}
-use Rattle.fb_inspect.specs.Looks.{Left, Look, left_at, opening_look, turn_text}
+use Rattle.fb_inspect.specs.Looks.{Left, Look, Turn, Turns, left_at, most, opening_look, turn_text}
 use Rattle.fb_inspect.specs.Moves.{Goes, IsLineAt, shown_text}
 use Rattle.fb_inspect.specs.Walking.{AreCutOff, AreMarked, HasCovered, HasLimited, IsComplete, IsCutAfter, IsGone, IsLookOf, IsReadOn, IsSevered, MayEnd, TurnGoes, flag_at}
 use Rattle.fb_inspect.specs.declared.blocks.Remembered.{Remembered}
@@ -49,15 +49,15 @@ use Rattle.fb_inspect.proofs.Walked.{one_or_other}
 -- ---- Limits
 
 -- the steps that are left in a tick, of the resource that has the limit in it
-left_here : (n t left : ℕ) → left_at n t (record { tick = Some t; left = left }) ≡ left
-left_here n t left =
+left_here : (n t left least : ℕ) → left_at n t (record { tick = Some t; left = left; least = least }) ≡ left
+left_here n t left least =
     let same : (t == t) ≡ true = grind (arith, nat_tests) in
     ap (λ (b : Bool). if b then left else n) same
 
-left_with : (steps t r : ℕ) (look : Look) → (limited steps t r look).steps r ≡ record { tick = Some t; left = (left_at most t (look.steps r) + steps) - most }
+left_with : (steps t r : ℕ) (look : Look) → (limited steps t r look).steps r ≡ record { tick = Some t; left = (left_at most t (look.steps r) + steps) - most; least = (look.steps r).least }
 left_with steps t r look =
     let same : (r == r) ≡ true = grind (arith, nat_tests) in
-    ap (λ (b : Bool). if b then record { tick = Some t; left = (left_at most t (look.steps r) + steps) - most } else look.steps r) same
+    ap (λ (b : Bool). if b then record { tick = Some t; left = (left_at most t (look.steps r) + steps) - most; least = (look.steps r).least } else look.steps r) same
 
 -- what a resource has left is limited
 pub look_limited :
@@ -75,17 +75,80 @@ look_limited sys steps key look blocks old new is has = record {
       (sym (subst (λ (i : ℕ). slice_get (slice_set old key.resource has.after) i ≡ Some s) same found) ∙ get_set_same old key.resource has.before has.after has.stood) in
       subst (λ (i : ℕ). (limited steps key.tick key.resource look).steps i ≡ left_of s) (sym same)
       (left_with steps key.tick key.resource look
-      ∙ ap (λ (l : Left). record { tick = Some key.tick; left = (left_at most key.tick l + steps) - most }) (is.lefts key.resource has.before has.stood)
+      ∙ ap (λ (l : Left). record { tick = Some key.tick; left = (left_at most key.tick l + steps) - most; least = l.least }) (is.lefts key.resource has.before has.stood)
       ∙ sym has.left_is
       ∙ ap left_of (sym own)))
       (λ differ.
       let theirs : (r == key.resource) ≡ false = false_from_ne_true (r == key.resource) (λ e. differ (grind (arith, nat_tests))) in
-      ap (λ (b : Bool). if b then record { tick = Some key.tick; left = (left_at most key.tick (look.steps key.resource) + steps) - most } else look.steps r) theirs
+      ap (λ (b : Bool). if b then record { tick = Some key.tick; left = (left_at most key.tick (look.steps key.resource) + steps) - most; least = (look.steps key.resource).least } else look.steps r) theirs
       ∙ is.lefts r s (sym (get_set_other old key.resource r has.after differ) ∙ found));
 }
   where
     same_some : (a b : TickSteps) → Some a ≡ Some b → a ≡ b
     same_some a b e = cc
+
+-- ---- How a trace ends
+
+module _ (sys : System) (steps : ℕ) (xs : List Turn) (chain : AreTurns sys most (opening_look sys) xs) (goes_on : NoneStops xs) where
+  abbrev last_seen : Look
+  last_seen = last_look (opening_look sys) xs
+
+  out_of_steps : (t r : ℕ) → left_at most t (last_seen.steps r) + steps ≡ most → KeepSteps sys steps last_seen → EndsBySteps sys steps t r xs
+  out_of_steps t r used kept = record {
+    limited_so = record { before = xs; last = []; parts = sym (append-nil xs); chain = chain; goes_on = goes_on; one = tt; kept = kept; within = omega (arith, used); judged = tt };
+    runs_out = ap (left_at steps t) (left_with steps t r last_seen) ∙ left_here steps t ((left_at most t (last_seen.steps r) + steps) - most) (last_seen.steps r).least ∙ omega (arith, used);
+  }
+
+  by_reason : (m : StopMark) (r : Reason) → MayEnd sys steps last_seen (AtStop m.tick m.resource r) → EndsSo sys steps xs (AtStop m.tick m.resource r)
+  by_reason m Steps may = out_of_steps m.tick m.resource may.0 may.1
+  by_reason m Divide may = absurd may
+  by_reason m Range may = absurd may
+
+  -- where no taking stopped its resource
+  pub ends_between : (e : Outcome) → MayEnd sys steps last_seen (ending_of e) → EndsSo sys steps xs (ending_of e)
+  ends_between (End h) may = (chain, goes_on)
+  ends_between (Stop m) may = by_reason m m.reason may
+
+  module _ (x : Turn) (line : Line) (first_is : x.first ≡ line_of sys line) where
+    pub key_is : x.first.key ≡ line.key
+    key_is = ap (λ (m : model.Line). m.key) first_is
+
+    by_stop :
+        (r : Reason) → (r ≡ Steps → ⊥) → EndsByStop sys (xs ++ x ∷ []) (AtStop line.key.tick line.key.resource r) → EndsSo sys steps (xs ++ x ∷ []) (AtStop line.key.tick line.key.resource r)
+    by_stop Steps other ends = absurd (other refl)
+    by_stop Divide other ends = ends
+    by_stop Range other ends = ends
+
+    -- where the last one did, for a reason other than the steps
+    pub ends_stopped : (r : Reason) → Turns sys most last_seen x → x.stop ≡ Some r → (r ≡ Steps → ⊥) → EndsSo sys steps (xs ++ x ∷ []) (AtStop line.key.tick line.key.resource r)
+    ends_stopped r turns stops other =
+        let ended : stop_of (xs ++ x ∷ []) ≡ Some (AtStop line.key.tick line.key.resource r) =
+        stop_more xs x ∙ ap (stop_by x) stops ∙ ap (λ (k : Key). Some (AtStop k.tick k.resource r)) key_is in
+        by_stop r other (chain_more sys most (opening_look sys) xs x chain goes_on turns, ended)
+
+    -- the last one has what its resource has left there of these steps
+    unfoldable pub last_limited :
+        KeepSteps sys steps last_seen → KeepsLimit steps line.key.tick line.key.resource last_seen → Turns sys steps (limited steps line.key.tick line.key.resource last_seen) x
+        → AreLimited sys steps line.key.tick line.key.resource (xs ++ x ∷ [])
+    last_limited kept within turns = record {
+      before = xs;
+      last = x ∷ [];
+      parts = refl;
+      chain = chain;
+      goes_on = goes_on;
+      one = (ap (λ (k : Key). k.tick) key_is, ap (λ (k : Key). k.resource) key_is);
+      kept = kept;
+      within = within;
+      judged = (turns, nothing x.stop, tt);
+    }
+
+    -- .. and runs out of them
+    pub ends_used :
+        KeepSteps sys steps last_seen → KeepsLimit steps line.key.tick line.key.resource last_seen → Turns sys steps (limited steps line.key.tick line.key.resource last_seen) x
+        → RunsOut steps line.key.tick line.key.resource (limited steps line.key.tick line.key.resource last_seen) (x ∷ [])
+        → EndsSo sys steps (xs ++ x ∷ []) (AtStop line.key.tick line.key.resource Steps)
+    unfolding last_limited
+    ends_used kept within turns out = record { limited_so = last_limited kept within turns; runs_out = out }
 
 -- ---- Takings
 
@@ -122,7 +185,7 @@ module _ (types : List BlockType) (sys : System) (form : Form) (limit : ℕ) (lo
           ap (λ (w : List ℕ). w ++ x) (same ∙ goes.goes.took ∙ ap (λ (w : List ℕ). goes.goes.taken ++ w) (sym rest)) ∙ append_assoc goes.goes.taken v x
 
   -- from what was not read ahead yet
-  pub turn_reread :
+  unfoldable pub turn_reread :
       (old new : Walk) (r s rest : Option (List ℕ)) → ((bytes : List ℕ) → Consumes s rest bytes → Consumes r rest bytes) → TurnGoes types sys form limit look line stop old new s rest
       → TurnGoes types sys form limit look line stop old new r rest
   turn_reread old new r s rest back goes = record {
@@ -148,7 +211,7 @@ module _ (types : List BlockType) (sys : System) (form : Form) (limit : ℕ) (lo
   }
 
   -- whatever the next line was
-  pub turn_next :
+  unfoldable pub turn_next :
       (old : Walk) (bad : Next) (new : Walk) (remaining rest : Option (List ℕ))
       → TurnGoes types sys form limit look line stop (record old { trail = record (old.trail) { reading = record (old.trail.reading) { next = bad } } }) new remaining rest
       → TurnGoes types sys form limit look line stop old new remaining rest
@@ -315,40 +378,16 @@ module _ (types : List BlockType) (first : Marks) (sys : System) (form : Form) (
 
     -- the last line comes where no taking stopped its resource
     pub ended_here :
-        (end : Outcome) → IsNext sys form (last_tick 0 covered.gone.gone.lines) w.trail.reading.line.items (next.End end) → MayEnd steps seen_last (ending_of end)
+        (end : Outcome) → IsNext sys form (last_tick 0 covered.gone.gone.lines) w.trail.reading.line.items (next.End end) → MayEnd sys steps seen_last (ending_of end)
         → IsComplete types first sys form only steps w end input remaining old mid
     ended_here end here may = record {
       turns = covered.gone.turns;
       gone = covered.gone.gone;
-      ends = by end may;
+      ends = ends_between sys steps covered.gone.turns covered.gone.chain covered.gone.goes_on end may;
       last = here.0;
       after = here.1;
       marked = covered.marked;
     }
-      where
-        out_of_steps : (t r : ℕ) → left_at most t (seen_last.steps r) + steps ≡ most → EndsBySteps sys steps t r covered.gone.turns
-        out_of_steps t r used = record {
-          limited_so = record {
-            before = covered.gone.turns;
-            last = [];
-            parts = sym (append-nil covered.gone.turns);
-            chain = covered.gone.chain;
-            goes_on = covered.gone.goes_on;
-            one = tt;
-            within = omega (arith, used);
-            judged = tt;
-          };
-          runs_out = ap (left_at steps t) (left_with steps t r seen_last) ∙ left_here steps t ((left_at most t (seen_last.steps r) + steps) - most) ∙ omega (arith, used);
-        }
-
-        by_reason : (m : StopMark) (r : Reason) → MayEnd steps seen_last (AtStop m.tick m.resource r) → EndsSo sys steps covered.gone.turns (AtStop m.tick m.resource r)
-        by_reason m Steps may = out_of_steps m.tick m.resource may
-        by_reason m Divide may = absurd may
-        by_reason m Range may = absurd may
-
-        by : (e : Outcome) → MayEnd steps seen_last (ending_of e) → EndsSo sys steps covered.gone.turns (ending_of e)
-        by (End h) may = (covered.gone.chain, covered.gone.goes_on)
-        by (Stop m) may = by_reason m m.reason may
 
     module _ (line : Line) (later : last_tick 0 covered.gone.gone.lines ≤ line.key.tick) (is : IsTextOf sys form line w.trail.reading.line.items) where
       within : line.instance < length sys.paths
@@ -392,53 +431,33 @@ module _ (types : List BlockType) (first : Marks) (sys : System) (form : Form) (
             let mark : Outcome = Stop (record { tick = line.key.tick; resource = line.key.resource; reason = r }) in
             let here = subst (λ (n : Next). IsNext sys form line.key.tick done.trail.reading.line.items n) last next_is in
             let it = covered.gone.turns ++ goes.turn ∷ [] in
-            let ended : stop_of it ≡ Some (AtStop line.key.tick line.key.resource r) =
-            stop_more covered.gone.turns goes.turn ∙ ap (stop_by goes.turn) (goes.stop_is ∙ stops)
-            ∙ ap (λ (k : Key). Some (AtStop k.tick k.resource r)) (ap (λ (m : model.Line). m.key) goes.first_is) in
             record {
               turns = it;
               gone = more;
-              ends = by_stop r other (chained, ended);
+              ends = ends_stopped sys steps covered.gone.turns covered.gone.chain covered.gone.goes_on goes.turn line goes.first_is r goes.turns (goes.stop_is ∙ stops) other;
               last = here.0;
               after = subst (λ (t : ℕ). IsAfter t mark) (sym tick_is) here.1;
               marked = marks_are;
             }
-          where
-            by_stop :
-                (r : Reason) → (r ≡ Steps → ⊥) → EndsByStop sys (covered.gone.turns ++ goes.turn ∷ []) (AtStop line.key.tick line.key.resource r)
-                → EndsSo sys steps (covered.gone.turns ++ goes.turn ∷ []) (AtStop line.key.tick line.key.resource r)
-            by_stop Steps other ends = absurd (other refl)
-            by_stop Divide other ends = ends
-            by_stop Range other ends = ends
 
       -- one more event is taken, and its resource runs out of these steps
       pub ran_out_on :
           (done : Walk) (stop : Option Reason) (rest : Option (List ℕ)) (goes : TurnGoes types sys form steps (limited steps line.key.tick line.key.resource seen_last) line stop w done remaining rest)
-          → KeepsLimit steps line.key.tick line.key.resource seen_last → (stop ≡ Some Steps) ⊎ ((stop ≡ None) × (left_at steps line.key.tick (goes.turn.after.steps line.key.resource) ≡ 0))
+          → KeepSteps sys steps seen_last → KeepsLimit steps line.key.tick line.key.resource seen_last → (stop ≡ Some Steps) ⊎ ((stop ≡ None) × (left_at steps line.key.tick (goes.turn.after.steps line.key.resource) ≡ 0))
           → IsNext sys form line.key.tick done.trail.reading.line.items done.trail.reading.next
           → done.trail.reading.next ≡ next.End (Stop (record { tick = line.key.tick; resource = line.key.resource; reason = Steps }))
           → IsComplete types first sys form only steps done (Stop (record { tick = line.key.tick; resource = line.key.resource; reason = Steps })) input rest old mid
       unfolding gone_more
-      ran_out_on done stop rest goes within_limit out next_is last =
+      ran_out_on done stop rest goes kept within_limit out next_is last =
           let mark : Outcome = Stop (record { tick = line.key.tick; resource = line.key.resource; reason = Steps }) in
           let here = subst (λ (n : Next). IsNext sys form line.key.tick done.trail.reading.line.items n) last next_is in
-          let key_is : goes.turn.first.key ≡ line.key = ap (λ (m : model.Line). m.key) goes.first_is in
-          let so : AreLimited sys steps line.key.tick line.key.resource (covered.gone.turns ++ goes.turn ∷ []) = record {
-            before = covered.gone.turns;
-            last = goes.turn ∷ [];
-            parts = refl;
-            chain = covered.gone.chain;
-            goes_on = covered.gone.goes_on;
-            one = (ap (λ (k : Key). k.tick) key_is, ap (λ (k : Key). k.resource) key_is);
-            within = within_limit;
-            judged = (goes.turns, nothing goes.turn.stop, tt);
-          } in
+          let so = last_limited sys steps covered.gone.turns covered.gone.chain covered.gone.goes_on goes.turn line goes.first_is kept within_limit goes.turns in
           let taken : AreTaken sys steps (covered.gone.turns ++ goes.turn ∷ []) = inr (line.key.tick, line.key.resource, so) in
           let look : Look = limited steps line.key.tick line.key.resource seen_last in
           record {
             turns = covered.gone.turns ++ goes.turn ∷ [];
             gone = gone_more sys form only steps types w done covered.gone.turns line stop input remaining rest old mid covered.gone.gone later within steps look goes taken;
-            ends = record { limited_so = so; runs_out = out_by out };
+            ends = ends_used sys steps covered.gone.turns covered.gone.chain covered.gone.goes_on goes.turn line goes.first_is kept within_limit goes.turns (out_by out);
             last = here.0;
             after = subst (λ (t : ℕ). IsAfter t mark)
                 (sym (last_is sys form only steps types w done covered.gone.turns line stop input remaining rest old mid covered.gone.gone later within steps look goes taken)) here.1;
@@ -469,31 +488,31 @@ module _ (types : List BlockType) (first : Marks) (sys : System) (form : Form) (
           stopped_on done stop rest (subst (λ (n : ℕ). TurnGoes types sys form n seen_last line stop w done remaining rest) same (goes seen_last covered.gone.look)) next_is r stops other last
 
       pub last_on :
-          (between done : Walk) (stop : Option Reason) (rest : Option (List ℕ)) → between.shown ≡ w.shown → between.trail ≡ w.trail → between.blocks ≡ w.blocks
+          (between done : Walk) (stop : Option Reason) (rest : Option (List ℕ)) → ((look : Look) → IsLookOf sys w.blocks.items w.steps.items look → KeepSteps sys steps look) → between.shown ≡ w.shown → between.trail ≡ w.trail → between.blocks ≡ w.blocks
           → HasLimited steps line.key w.steps.items between.steps.items
           → ((look : Look) → IsLookOf sys between.blocks.items between.steps.items look → TurnGoes types sys form steps look line stop between done remaining rest)
           → ((look : Look) → IsLookOf sys done.blocks.items done.steps.items look → (stop ≡ Some Steps) ⊎ ((stop ≡ None) × (left_at steps line.key.tick (look.steps line.key.resource) ≡ 0)))
           → IsNext sys form line.key.tick done.trail.reading.line.items done.trail.reading.next
           → done.trail.reading.next ≡ next.End (Stop (record { tick = line.key.tick; resource = line.key.resource; reason = Steps }))
           → IsComplete types first sys form only steps done (Stop (record { tick = line.key.tick; resource = line.key.resource; reason = Steps })) input rest old mid
-      last_on between done stop rest shown_same trail_same blocks_same has goes out next_is last =
+      last_on between done stop rest kept shown_same trail_same blocks_same has goes out next_is last =
           let look : Look = limited steps line.key.tick line.key.resource seen_last in
           let is_look : IsLookOf sys between.blocks.items between.steps.items look =
           subst (λ (b : Vec Remembered). IsLookOf sys b.items between.steps.items look) (sym blocks_same)
           (look_limited sys steps line.key seen_last w.blocks.items w.steps.items between.steps.items covered.gone.look has) in
           let own = turn_from types sys form steps look line stop w between done remaining rest shown_same trail_same (goes look is_look) in
-          ran_out_on done stop rest own
+          ran_out_on done stop rest own (kept seen_last covered.gone.look)
           (subst (λ (l : Left). most ≤ left_at most line.key.tick l + steps) (sym (covered.gone.look.lefts line.key.resource has.before has.stood)) has.within)
           (out own.turn.after own.look_after) next_is last
 
       -- the trace is cut off in the lines after it
       pub severed_on :
-          (done : Walk) (text : List ℕ) → AreCutOff sys form line text remaining → done.trail.marks ≡ w.trail.marks
+          (done : Walk) (rows : List Line) (text : List ℕ) → AreCutOff sys form line rows text remaining → done.trail.marks ≡ w.trail.marks
           → done.trail.page.text.items ≡ w.trail.page.text.items ++ shown_text (flag_at w.shown.items line.instance) (w.trail.reading.line.items ++ text)
           → IsSevered types first sys form only done input old mid
-      severed_on done text off marks_same put =
+      severed_on done rows text off marks_same put =
           let gone = covered.gone.gone in
-          let all : List Line = line ∷ off.rows in
+          let all : List Line = line ∷ rows in
           let L : List ℕ = lines_text form sys (map (line_of sys) gone.lines) in
           let flag : Bool = flag_at w.shown.items line.instance in
           let own : w.trail.reading.line.items ++ text ≡ lines_text form sys (map (line_of sys) all) =
@@ -525,18 +544,18 @@ module _ (types : List BlockType) (first : Marks) (sys : System) (form : Form) (
             marked = subst (AreMarked types sys covered.gone.turns gone.lines first) (sym marks_same) covered.marked;
           }
         where
-          here : (off : AreCutOff sys form line text remaining) → All (IsLineAt sys line.key.tick) (line ∷ off.rows)
+          here : (off : AreCutOff sys form line rows text remaining) → All (IsLineAt sys line.key.tick) (line ∷ rows)
           here off =
-              All-cons (IsLineAt sys line.key.tick) line off.rows (record { line = is.line; tick_is = refl })
+              All-cons (IsLineAt sys line.key.tick) line rows (record { line = is.line; tick_is = refl })
               (λ n d h. record { line = (off.each n d h).line; tick_is = (off.each n d h).tick })
 
           regroup : (a b c d : List ℕ) → (a ++ b) ++ (c ++ d) ≡ (a ++ (b ++ c)) ++ d
           regroup a b c d = append_assoc a b (c ++ d) ∙ ap (λ (u : List ℕ). a ++ u) (sym (append_assoc b c d)) ∙ sym (append_assoc a (b ++ c) d)
 
           after :
-              (known o : Option (List ℕ)) (off : AreCutOff sys form line text o) → Consumes known o (lines_text form sys (map (line_of sys) covered.gone.gone.lines) ++ w.trail.reading.line.items)
-              → lines_text form sys (map (line_of sys) (covered.gone.gone.lines ++ (line ∷ off.rows))) ≡ lines_text form sys (map (line_of sys) covered.gone.gone.lines) ++ (w.trail.reading.line.items ++ text)
-              → IfSome known (λ t. IsCutAfter t (lines_text form sys (map (line_of sys) (covered.gone.gone.lines ++ (line ∷ off.rows)))))
+              (known o : Option (List ℕ)) (off : AreCutOff sys form line rows text o) → Consumes known o (lines_text form sys (map (line_of sys) covered.gone.gone.lines) ++ w.trail.reading.line.items)
+              → lines_text form sys (map (line_of sys) (covered.gone.gone.lines ++ (line ∷ rows))) ≡ lines_text form sys (map (line_of sys) covered.gone.gone.lines) ++ (w.trail.reading.line.items ++ text)
+              → IfSome known (λ t. IsCutAfter t (lines_text form sys (map (line_of sys) (covered.gone.gone.lines ++ (line ∷ rows)))))
           after None o off read whole = tt
           after (Some t) None off read whole = absurd read
           after (Some t) (Some s) off read whole = record {

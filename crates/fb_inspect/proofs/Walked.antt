@@ -1,5 +1,5 @@
 -- One taking of a walk through a trace, from the reaction of one instance.
-use Rattle.std.proofs.Common.{◌≡◌, ◌≢◌, ◌<◌, ◌≤◌, ◌^◌, ℕ, suc, Bool, true, false, List, [], ◌∷◌, ◌++◌, length, Option, Some, None, refl, sym, ◌∙◌, ap, subst, inl, inr, append-nil, arith}
+use Rattle.std.proofs.Common.{◌≡◌, ◌≢◌, ◌<◌, ◌≤◌, ◌^◌, ℕ, min, suc, Bool, true, false, List, [], ◌∷◌, ◌++◌, length, Option, Some, None, refl, sym, ◌∙◌, ap, subst, inl, inr, append-nil, arith}
 use Rattle.std.specs.Prelude.{◌==◌, if◌then◌else◌, slice_get, slice_set}
 use Rattle.std.proofs.Math.ListN.{length-set}
 use Rattle.std.proofs.lemmas.Bool.{false_from_ne_true}
@@ -42,7 +42,7 @@ use Rattle.fb_inspect.specs.Chains.{Piece, ShowsReaction}
 use Rattle.fb_inspect.specs.Charting.{ChartGoes, IsChartOf, IsChartTaking, place, sys_of}
 use Rattle.fb_inspect.specs.Counted.{left_of}
 use Rattle.fb_inspect.specs.Looks.{BlockTurns, ChartTurns, Left, Look, Seen, TimerTurns, Turn, Turns, TurnsAt, TurnsWith, emissions_by, emits_pieces, left_at, memory_pieces, pieces_text, reacted, turn_text, with_left, with_seen}
-use Rattle.fb_inspect.specs.Markings.{ChartMarked, PiecesMark, TurnMarks, TurnMarksAt}
+use Rattle.fb_inspect.specs.Markings.{ChartMarked, PiecesMark, TurnMarks, TurnMarksAt, event_number}
 use Rattle.fb_inspect.specs.Moves.{Goes, shown_text}
 use Rattle.fb_inspect.specs.Timing.{BlockGoes, IsBlockKept, IsBlockLine, TimerGoes, taken_reaction, taken_variables, timer_reaction}
 use Rattle.fb_inspect.specs.Walking.{AreKept, CanReact, HasStepped, IsChartKept, IsKept, IsLookOf, KeptGoes, ReactGoes, TurnGoes, flag_at, with_steps}
@@ -54,6 +54,7 @@ use Rattle.fb_inspect.specs.declared.charts.ChartTaking.{ChartTaking}
 use Rattle.fb_inspect.specs.declared.steps.TickSteps.{TickSteps}
 use Rattle.fb_inspect.specs.declared.trail.Trail.{Trail}
 use Rattle.fb_inspect.specs.declared.walk.Walk.{Walk}
+use Rattle.fb_inspect.proofs.Marked.{event_number_at}
 use Rattle.fb_inspect.proofs.Moving.{aside, goes_as, goes_same, goes_then, shown-append}
 use Rattle.fb_inspect.proofs.Timed.{taken_is}
 
@@ -206,12 +207,13 @@ module _ (x : ChartTaking) (look : Look) (c d : Chart) (left steps : ℕ) (stop 
         memory_is = refl;
         variables_are = λ n. refl;
       } in
+      let numbered : event_number basic (line_of (sys_of x) line).event ≡ line.event =
+      ap (λ (n : model.Line). event_number basic n.event) here ∙ event_number_at basic line.event taking.sound taking.event in
       let marked : ChartMarked x.fixed.table.now.system.now.library.blocks basic it a.marks.charts z.marks.charts = record {
         number = x.number;
-        event = line.event;
         type_is = taking.number;
-        event_is = ap (λ (n : model.Line). n.event) here;
-        pieces = subst (λ (n : ChartMarks). PiecesMark basic x.number line.event goes.pieces n z.marks.charts) (taken_marked ∙ ap (with_taken x.number line.event) charts_are) goes.marked;
+        pieces = subst (λ (e : ℕ). PiecesMark basic x.number e goes.pieces (with_taken x.number e a.marks.charts) z.marks.charts) (sym numbered)
+            (subst (λ (n : ChartMarks). PiecesMark basic x.number line.event goes.pieces n z.marks.charts) (taken_marked ∙ ap (with_taken x.number line.event) charts_are) goes.marked);
       } in
       let turns : ChartTurns left look basic it = record {
         taken = taking.taken;
@@ -387,9 +389,6 @@ module _ (sys : System) (numbered : (i : ℕ) → i < length sys.paths → sys.n
 
 -- ---- Steps
 
-same_left : (a b : Left) → a.tick ≡ b.tick → a.left ≡ b.left → a ≡ b
-same_left a b tick left = ap (λ (t : Option ℕ). record a { tick = t }) tick ∙ ap (λ (n : ℕ). record b { left = n }) left
-
 module _ (sys : System) (limit : ℕ) (key : Key) (look done : Look) (old mid new : List TickSteps) (stepped : HasStepped limit key old mid) (own : TickSteps) (stood : slice_get mid key.resource ≡ Some own) (left : ℕ)
     (steps_are : new ≡ slice_set mid key.resource (with_steps own left)) (then_is : done.steps ≡ (with_left key left look).steps) where
   same_steps : (a b : TickSteps) → Some a ≡ Some b → a ≡ b
@@ -403,15 +402,20 @@ module _ (sys : System) (limit : ℕ) (key : Key) (look done : Look) (old mid ne
   pub counts_after : length new ≡ length old
   counts_after = ap length steps_are ∙ length-set mid key.resource (with_steps own left) ∙ ap length stepped.steps_are ∙ length-set old key.resource stepped.after
 
-  here_left : (s : TickSteps) → slice_get new key.resource ≡ Some s → done.steps key.resource ≡ left_of s
-  here_left s at =
+  here_left :
+      (s : TickSteps) → ((q : ℕ) (u : TickSteps) → slice_get old q ≡ Some u → look.steps q ≡ left_of u) → slice_get new key.resource ≡ Some s
+      → done.steps key.resource ≡ left_of s
+  here_left s lefts at =
       let is : s ≡ with_steps own left =
       same_steps s (with_steps own left)
       (sym at ∙ ap (λ (l : List TickSteps). slice_get l key.resource) steps_are ∙ get_set_same mid key.resource own (with_steps own left) stood) in
       let mine : (key.resource == key.resource) ≡ true = grind (arith, nat_tests) in
+      let fewest : (look.steps key.resource).least ≡ own.least =
+      ap (λ (l : Left). l.least) (lefts key.resource stepped.before stepped.stood) ∙ sym (ap (λ (o : TickSteps). o.least) own_is ∙ stepped.least_is) in
       ap (λ (f : ℕ → Left). f key.resource) then_is
-      ∙ ap (λ (b : Bool). if b then record { tick = Some key.tick; left = left } else look.steps key.resource) mine
-      ∙ ap (λ (t : Option ℕ). record { tick = t; left = left }) (sym (ap (λ (o : TickSteps). o.tick) own_is ∙ stepped.tick_is))
+      ∙ ap (λ (b : Bool). if b then record { tick = Some key.tick; left = left; least = min (look.steps key.resource).least left } else look.steps key.resource) mine
+      ∙ ap (λ (t : Option ℕ). record { tick = t; left = left; least = min (look.steps key.resource).least left }) (sym (ap (λ (o : TickSteps). o.tick) own_is ∙ stepped.tick_is))
+      ∙ ap (λ (n : ℕ). record { tick = own.tick; left = left; least = min n left }) fewest
       ∙ sym (ap left_of is)
 
   other_left :
@@ -420,7 +424,7 @@ module _ (sys : System) (limit : ℕ) (key : Key) (look done : Look) (old mid ne
   other_left r s differ lefts at =
       let theirs : (r == key.resource) ≡ false = false_from_ne_true (r == key.resource) (λ e. differ (grind (arith, nat_tests))) in
       ap (λ (f : ℕ → Left). f r) then_is
-      ∙ ap (λ (b : Bool). if b then record { tick = Some key.tick; left = left } else look.steps r) theirs
+      ∙ ap (λ (b : Bool). if b then record { tick = Some key.tick; left = left; least = min (look.steps key.resource).least left } else look.steps r) theirs
       ∙ lefts r s
       (sym (get_set_other old key.resource r stepped.after differ) ∙ ap (λ (l : List TickSteps). slice_get l r) (sym stepped.steps_are)
       ∙ sym (get_set_other mid key.resource r (with_steps own left) differ) ∙ ap (λ (l : List TickSteps). slice_get l r) (sym steps_are) ∙ at)
@@ -430,7 +434,7 @@ module _ (sys : System) (limit : ℕ) (key : Key) (look done : Look) (old mid ne
   lefts_after lefts r s at =
       one_or_other r key.resource (done.steps r ≡ left_of s)
       (λ same.
-      subst (λ (i : ℕ). done.steps i ≡ left_of s) (sym same) (here_left s (subst (λ (i : ℕ). slice_get new i ≡ Some s) same at)))
+      subst (λ (i : ℕ). done.steps i ≡ left_of s) (sym same) (here_left s lefts (subst (λ (i : ℕ). slice_get new i ≡ Some s) same at)))
       (λ differ. other_left r s differ lefts at)
 
 -- ---- One taking

@@ -4,4 +4,4 @@ use Rattle.fb_inspect.specs.declared.steps.TickSteps.{TickSteps}
 
 -- what the program's count says
 abbrev pub left_of : TickSteps → Left
-left_of s = record { tick = s.tick; left = s.meter.left }
+left_of s = record { tick = s.tick; left = s.meter.left; least = s.least }

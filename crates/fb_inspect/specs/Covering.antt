@@ -5,6 +5,7 @@ use Rattle.fb_types.specs.Names.{Name}
 use Rattle.fb_coverage.specs.declared.marks.Marks.{Marks}
 use Rattle.fb_wave.specs.declared.truncation.Cut.{Cut}
 use Rattle.fb_wave.specs.declared.truncation.Cut.TheVariants as cut
+use Rattle.fb_inspect.specs.Happenings.{AreMarkedBy, History}
 use Rattle.fb_inspect.specs.Inspections.{IsCutInspected, IsInspected}
 use Rattle.fb_inspect.specs.Markings.{TurnsMark, lines_marked}
 use Rattle.fb_inspect.specs.declared.walk.Extent.{Extent}
@@ -29,7 +30,19 @@ abbrev pub IsCoveredBy : Cut → Inputs → (only : List Name) → (steps : ℕ)
 IsCoveredBy may i only steps text old new Whole = IsCovered i only steps text old new
 IsCoveredBy may i only steps text old new CutOff = (may ≡ cut.Allowed) × IsCutCovered i only text old new
 
--- .. whatever is shown of it
+-- ---- What traces cover
+
+-- A text is gone through by these takings: all of it, or as far as it goes where it is cut off.
+abbrev pub GoesBy : Cut → Inputs → (only : List Name) → (steps : ℕ) → (text : List ℕ) → History → Extent → Type 0
+GoesBy may i only steps text h Whole =
+    (bytes : List ℕ) × (inspected : IsInspected (system_of i) only steps text bytes) × (h ≡ record { turns = inspected.turns; lines = inspected.lines })
+GoesBy may i only steps text h CutOff =
+    (may ≡ cut.Allowed) × (bytes : List ℕ) × (inspected : IsCutInspected (system_of i) only text bytes)
+    × (h ≡ record { turns = inspected.turns; lines = inspected.lines })
+
+-- .. whatever is shown of it, and exactly what they do is marked next to what others did
 pub record Covers (may : Cut) (i : Inputs) (steps : ℕ) (text : List ℕ) (old new : Marks) (extent : Extent) : Type 0 where
   pub only : List Name
-  pub covered : IsCoveredBy may i only steps text old new extent
+  pub history : History
+  pub goes : GoesBy may i only steps text history extent
+  pub marked : AreMarkedBy i history old new

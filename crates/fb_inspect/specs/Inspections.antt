@@ -1,5 +1,5 @@
 -- A trace that is gone through: takings one after another, each from what the blocks remember.
-use Rattle.std.specs.Prelude.{◌≡◌, ◌≤◌, ◌⊎◌, ℕ, ◌+◌, ◌-◌, nat_eq, List, [], ◌∷◌, ◌++◌, map, All, Bool, true, false, ◌&&◌, if◌then◌else◌, Option, Some, None, codes}
+use Rattle.std.specs.Prelude.{◌≡◌, ◌<◌, ◌≤◌, ◌⊎◌, ℕ, ◌+◌, ◌-◌, nat_eq, List, [], ◌∷◌, ◌++◌, map, length, All, Bool, true, false, ◌&&◌, if◌then◌else◌, Option, Some, None, codes}
 use Rattle.std.specs.List.{list_any}
 use Rattle.std.specs.Io.KnownBytes.{Appends}
 use Rattle.fb_types.specs.Names.{Name, Path}
@@ -18,6 +18,7 @@ use Rattle.fb_wave.specs.Lines.{IsLineOf}
 use Rattle.fb_wave.specs.Waves.{IsTraceOf}
 use Rattle.fb_wave.specs.declared.truncation.Cut.{Cut}
 use Rattle.fb_wave.specs.declared.truncation.Cut.TheVariants as cut
+pub use Rattle.fb_inspect.specs.Looks.{most}
 use Rattle.fb_inspect.specs.Looks.{Look, Turn, Turns, left_at, opening_look, turn_lines, turn_text}
 
 -- nothing is taken after a stop
@@ -72,9 +73,9 @@ stop_of [] = None
 stop_of (x ∷ []) = elim x.stop [ None ↦ None | Some r ↦ Some (AtStop x.first.key.tick x.first.key.resource r) ]
 stop_of (x ∷ y ∷ xs) = stop_of (y ∷ xs)
 
--- the greatest limit of steps of a resource in a tick that a run may have
-abbrev pub most : ℕ
-most = 10000000
+-- No resource used more than these steps in a tick so far, of the greatest limit.
+abbrev pub KeepSteps : System → (steps : ℕ) → Look → Type 0
+KeepSteps sys steps look = (r : ℕ) → r < length sys.resource_names → most ≤ (look.steps r).least + steps
 
 -- A resource used no more than these steps in a tick, of the greatest limit.
 abbrev pub KeepsLimit : (steps tick resource : ℕ) → Look → Type 0
@@ -83,7 +84,7 @@ KeepsLimit steps t r look = most ≤ left_at most t (look.steps r) + steps
 -- .. and has in this tick what is left of them
 abbrev pub limited : (steps tick resource : ℕ) → Look → Look
 limited steps t r look =
-    record look { steps = with_at r (record { tick = Some t; left = (left_at most t (look.steps r) + steps) - most }) look.steps }
+    record look { steps = with_at r (record { tick = Some t; left = (left_at most t (look.steps r) + steps) - most; least = (look.steps r).least }) look.steps }
 
 -- at most one taking, and that is of this resource in this tick
 abbrev pub IsOneOf : (tick resource : ℕ) → List Turn → Type 0
@@ -91,7 +92,8 @@ IsOneOf t r [] = Unit {0}
 IsOneOf t r (x ∷ []) = (x.first.key.tick ≡ t) × (x.first.key.resource ≡ r)
 IsOneOf t r (x ∷ y ∷ xs) = ⊥
 
--- Each resource has the greatest limit, but in the last taking, if that is of this resource in this tick, it has what is left there of these steps.
+-- Each resource has the greatest limit, and uses no more than these steps in a tick. But in the last taking, if that is of this resource in this
+-- tick, it has what is left there of these steps.
 pub record AreLimited (sys : System) (steps tick resource : ℕ) (xs : List Turn) : Type 0 where
   pub before : List Turn
   pub last : List Turn
@@ -99,6 +101,7 @@ pub record AreLimited (sys : System) (steps tick resource : ℕ) (xs : List Turn
   pub chain : AreTurns sys most (opening_look sys) before
   pub goes_on : NoneStops before
   pub one : IsOneOf tick resource last
+  pub kept : KeepSteps sys steps (last_look (opening_look sys) before)
   pub within : KeepsLimit steps tick resource (last_look (opening_look sys) before)
   pub judged : AreTurns sys steps (limited steps tick resource (last_look (opening_look sys) before)) last
 

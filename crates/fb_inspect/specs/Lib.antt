@@ -6,9 +6,12 @@ pub mod Looks
 pub mod Inspections
 pub mod Counted
 pub mod Markings
+pub mod Happenings
 pub mod Covering
+pub mod Laws
 pub mod Moves
 pub mod Charting
 pub mod Timing
 pub mod Walking
+pub mod Stepping
 pub mod Faults

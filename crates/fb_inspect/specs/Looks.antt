@@ -1,6 +1,6 @@
 -- What the blocks of a system remember at a line of a trace, as far as the lines before it tell: the memory and the variables of
 -- the model's blocks, the ticks at which timers go off, and the steps that each resource has made in its last tick.
-use Rattle.std.specs.Prelude.{◌≡◌, ◌≤◌, ◌^◌, ◌⊎◌, ℕ, zero, suc, nat_eq, ◌&&◌, List, [], ◌∷◌, ◌++◌, map, Bool, true, false, if◌then◌else◌, Option, Some, None}
+use Rattle.std.specs.Prelude.{◌≡◌, ◌≤◌, ◌^◌, ◌⊎◌, ℕ, zero, suc, min, nat_eq, ◌&&◌, List, [], ◌∷◌, ◌++◌, map, Bool, true, false, if◌then◌else◌, Option, Some, None}
 use Rattle.fb_types.specs.Names.{Name, Path, same_path}
 use Rattle.fb_types.specs.Values.{Values, same_truth}
 use Rattle.fb_types.specs.Blocks.{Kind, Basic, Event, Composite, Emission, ports_of}
@@ -29,10 +29,15 @@ pub record Seen : Type 0 where
   pub variables : Values
   pub due : Option ℕ
 
--- the tick in which a resource was last, with the steps that are left there
+-- the greatest limit of steps of a resource in a tick that a run may have
+abbrev pub most : ℕ
+most = 10000000
+
+-- the tick in which a resource was last, with the steps that are left there, and the fewest that were left after a taking
 pub record Left : Type 0 where
   pub tick : Option ℕ
   pub left : ℕ
+  pub least : ℕ
 
 pub record Look : Type 0 where
   pub blocks : Path → Seen
@@ -48,7 +53,7 @@ abbrev pub opening_look : System → Look
 opening_look sys =
     record {
       blocks = λ p. let b = opening_block sys p in record { memory = b.memory; variables = b.variables; due = first_due (sys.kind p) };
-      steps = λ r. record { tick = None; left = 0 };
+      steps = λ r. record { tick = None; left = 0; least = most };
     }
 
 -- ---- Changes
@@ -61,7 +66,8 @@ abbrev pub left_at : (limit tick : ℕ) → Left → ℕ
 left_at limit tick l = if is_tick l.tick tick then l.left else limit
 
 abbrev pub with_left : Key → (left : ℕ) → Look → Look
-with_left k left look = record look { steps = with_at k.resource (record { tick = Some k.tick; left = left }) look.steps }
+with_left k left look =
+    record look { steps = with_at k.resource (record { tick = Some k.tick; left = left; least = min (look.steps k.resource).least left }) look.steps }
 
 abbrev pub due_after : TimerAsk → Option ℕ → Option ℕ
 due_after Keep due = due

@@ -1,15 +1,15 @@
 -- What is marked as covered while a trace is gone through.
-use Rattle.std.specs.Prelude.{◌≡◌, ℕ, zero, suc, List, [], ◌∷◌, length, slice_get, unwrap_or, Option, Some, None}
+use Rattle.std.specs.Prelude.{◌≡◌, ◌≢◌, ◌<◌, ℕ, zero, suc, List, [], ◌∷◌, length, slice_get, unwrap_or, Option, Some, None}
 use Rattle.std.specs.List.{position}
 use Rattle.fb_types.specs.Blocks.{Kind, Basic, Event, Composite}
 use Rattle.fb_types.specs.Names.{Name, same_name}
-use Rattle.fb_types.specs.Numbers.{event_at}
 use Rattle.fb_types.specs.Systems.{System}
 use Rattle.fb_types.specs.declared.library.BasicType.{BasicType}
 use Rattle.fb_types.specs.declared.library.BlockType.{BlockType}
 use Rattle.fb_types.specs.declared.library.BlockType.TheVariants as block
+use Rattle.fb_types.specs.declared.library.Transition.{Transition}
 use Rattle.fb_types.specs.declared.run.Line.{Line}
-use Rattle.fb_ecc.specs.Indexes.{state_at}
+use Rattle.fb_ecc.specs.Numbered.{number_in}
 use Rattle.fb_coverage.specs.Sets.{with_cleared, with_lost, with_port, with_ran, with_taken}
 use Rattle.fb_coverage.specs.declared.marks.ChartMarks.{ChartMarks}
 use Rattle.fb_coverage.specs.declared.marks.PortMarks.{PortMarks}
@@ -24,6 +24,18 @@ lines_marked [] m = m
 lines_marked (l ∷ ls) m = lines_marked ls (with_port l.instance l.taken l.event m)
 
 -- ---- Charts
+
+-- the index of a state, or the number of them where none has this name
+abbrev pub state_number : BasicType → Name → ℕ
+state_number t n = number_in (λ s. s.name) t.states n
+
+-- .. of an event input
+abbrev pub event_number : BasicType → Name → ℕ
+event_number t n = number_in (λ p. p.name) t.ports.event_inputs n
+
+-- The transition is at this index, and none before it is like it.
+abbrev pub IsFirstLike : List Transition → Transition → ℕ → Type 0
+IsFirstLike xs y k = (slice_get xs k ≡ Some y) × ((j : ℕ) → j < k → slice_get xs j ≢ Some y)
 
 -- the index of an algorithm, or the number of them where none has this name
 abbrev pub algorithm_number : BasicType → Name → ℕ
@@ -41,9 +53,9 @@ with_lost_if None m = m
 with_lost_if (Some e) m = with_lost m
 
 -- A piece of what a block of the type does, which has this number, after it took the event at this index. A transition is
--- marked by its index: of several that are alike the first clears.
+-- marked by its index: of several that are alike it is the first that clears.
 abbrev pub PieceMarks : BasicType → (number event : ℕ) → Piece → ChartMarks → ChartMarks → Type 0
-PieceMarks t i e (Clears_by y) m n = (k : ℕ) × (s : ℕ) × (slice_get t.transitions k ≡ Some y) × (state_at t s ≡ y.to) × (n ≡ with_cleared i k s e m)
+PieceMarks t i e (Clears_by y) m n = (k : ℕ) × IsFirstLike t.transitions y k × (n ≡ with_cleared i k (state_number t y.to) e m)
 PieceMarks t i e (Is_lost s) m n = n ≡ with_lost m
 PieceMarks t i e (Ran a before after) m n = n ≡ with_ran i (algorithm_number t a) m
 PieceMarks t i e (Stops_by r) m n = n ≡ m
@@ -57,10 +69,8 @@ PiecesMark t i e (p ∷ ps) m n = (o : ChartMarks) × PieceMarks t i e p m o × 
 -- a basic block of a declared type took an event
 pub record ChartMarked (blocks : List BlockType) (t : BasicType) (x : Turn) (m n : ChartMarks) : Type 0 where
   pub number : ℕ
-  pub event : ℕ
   pub type_is : slice_get blocks number ≡ Some (block.Basic t)
-  pub event_is : x.first.event ≡ event_at t.ports.event_inputs event
-  pub pieces : PiecesMark t number event x.pieces (with_taken number event m) n
+  pub pieces : let e = event_number t x.first.event in PiecesMark t number e x.pieces (with_taken number e m) n
 
 abbrev pub TurnMarksAt : List BlockType → Option Kind → Turn → ChartMarks → ChartMarks → Type 0
 TurnMarksAt blocks None x m n = n ≡ m

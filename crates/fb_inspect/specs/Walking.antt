@@ -1,5 +1,5 @@
 -- What the program keeps of the blocks of a system, and one taking of a walk through a trace (this project's own).
-use Rattle.std.specs.Prelude.{◌≡◌, ◌<◌, ◌≤◌, ◌^◌, ◌⊎◌, ℕ, ◌+◌, ◌-◌, suc, List, [], ◌++◌, map, length, slice_get, slice_set, unwrap_or, All, IfSome, Bool, true, false, Option, Some, None}
+use Rattle.std.specs.Prelude.{◌≡◌, ◌<◌, ◌≤◌, ◌^◌, ◌⊎◌, ℕ, ◌+◌, ◌-◌, suc, min, List, [], ◌++◌, map, length, slice_get, slice_set, unwrap_or, All, IfSome, Bool, true, false, Option, Some, None}
 use Rattle.std.specs.Io.BufRead.{take_through}
 use Rattle.std.specs.Io.KnownBytes.{Appends, Consumes, IsAtEnd, prepend_known}
 use Rattle.fb_types.specs.Names.{Name, Path, same_path}
@@ -29,9 +29,9 @@ use Rattle.fb_wave.specs.Waves.{AreLinesOf}
 use Rattle.fb_coverage.specs.declared.marks.Marks.{Marks}
 use Rattle.fb_inspect.specs.Charting.{IsChartOf}
 use Rattle.fb_inspect.specs.Counted.{left_of}
-use Rattle.fb_inspect.specs.Inspections.{AreOfOne, AreTaken, AreTurns, EndsSo, IsOwnLine, NoneStops, all_lines, all_text, cut_note, is_kept, last_look, most, one_text}
+use Rattle.fb_inspect.specs.Inspections.{AreOfOne, AreTaken, AreTurns, EndsSo, IsOwnLine, KeepSteps, NoneStops, all_lines, all_text, cut_note, is_kept, last_look, one_text}
 use Rattle.fb_inspect.specs.Lines.{IsNext}
-use Rattle.fb_inspect.specs.Looks.{Look, Seen, Turn, Turns, TurnsAt, left_at, opening_look, turn_lines, turn_text, with_left}
+use Rattle.fb_inspect.specs.Looks.{Look, Seen, Turn, Turns, TurnsAt, left_at, most, opening_look, turn_lines, turn_text, with_left}
 use Rattle.fb_inspect.specs.Markings.{TurnMarks, TurnsMark, lines_marked}
 use Rattle.fb_inspect.specs.Moves.{Goes, shown_text}
 use Rattle.fb_inspect.specs.Timing.{IsBlockKept}
@@ -113,9 +113,9 @@ pub record CanReact (sys : System) (form : Form) (b : Remembered) (line : Line) 
   pub seen : Seen
   pub kept : IsKept (sys.kind (path_at sys line.instance)) b seen
 
--- the steps of a resource with another number of them left
+-- the steps of a resource with another number of them left after a taking
 abbrev pub with_steps : TickSteps → ℕ → TickSteps
-with_steps s left = record s { meter = record { left = left } }
+with_steps s left = record s { meter = record { left = left }; least = min s.least left }
 
 -- A step was used of a resource.
 pub record HasStepped (limit : ℕ) (key : Key) (old new : List TickSteps) : Type 0 where
@@ -124,6 +124,7 @@ pub record HasStepped (limit : ℕ) (key : Key) (old new : List TickSteps) : Typ
   pub after : TickSteps
   pub used : left_at limit key.tick (left_of before) ≡ suc after.meter.left
   pub tick_is : after.tick ≡ Some key.tick
+  pub least_is : after.least ≡ before.least
   pub steps_are : new ≡ slice_set old key.resource after
 
 -- A resource has what is left of some steps, in place of what is left of the greatest limit.
@@ -132,15 +133,15 @@ pub record HasLimited (steps : ℕ) (key : Key) (old new : List TickSteps) : Typ
   pub stood : slice_get old key.resource ≡ Some before
   pub after : TickSteps
   pub within : most ≤ left_at most key.tick (left_of before) + steps
-  pub left_is : left_of after ≡ record { tick = Some key.tick; left = (left_at most key.tick (left_of before) + steps) - most }
+  pub left_is : left_of after ≡ record { tick = Some key.tick; left = (left_at most key.tick (left_of before) + steps) - most; least = before.least }
   pub steps_are : new ≡ slice_set old key.resource after
 
 -- Where no taking stopped its resource, a trace ends at a horizon, or where the steps of a resource are used up.
-abbrev pub MayEnd : (steps : ℕ) → Look → Ending → Type 0
-MayEnd steps look (AtHorizon h) = Unit {0}
-MayEnd steps look (AtStop tick r Steps) = left_at most tick (look.steps r) + steps ≡ most
-MayEnd steps look (AtStop tick r Divide) = ⊥
-MayEnd steps look (AtStop tick r Range) = ⊥
+abbrev pub MayEnd : System → (steps : ℕ) → Look → Ending → Type 0
+MayEnd sys steps look (AtHorizon h) = Unit {0}
+MayEnd sys steps look (AtStop tick r Steps) = (left_at most tick (look.steps r) + steps ≡ most) × KeepSteps sys steps look
+MayEnd sys steps look (AtStop tick r Divide) = ⊥
+MayEnd sys steps look (AtStop tick r Range) = ⊥
 
 -- The instance of a line has reacted to it, and no other one.
 pub record ReactGoes (blocks : List BlockType) (sys : System) (form : Form) (look : Look) (line : Line) (stop : Option Reason) (old new : Walk) (remaining rest : Option (List ℕ)) : Type 0 where
@@ -254,32 +255,27 @@ pub record IsReadOn (old new : Option (List ℕ)) : Type 0 where
   pub after : (known : Option (List ℕ)) (bytes : List ℕ) → Consumes known old bytes → Consumes known new bytes
   pub before : (rest : Option (List ℕ)) (bytes : List ℕ) → Consumes new rest bytes → Consumes old rest bytes
 
--- The next line is one of an emission of the block of a line, in its tick.
-pub record IsOwnNext (n : Next) (first : Line) : Type 0 where
-  pub line : Line
-  pub is : n ≡ next.Event line
+-- A line is one of an emission of the block of another line, in its tick.
+pub record IsOwnRow (line first : Line) : Type 0 where
   pub taken : line.taken ≡ false
   pub instance : line.instance ≡ first.instance
   pub tick : line.key.tick ≡ first.key.tick
 
--- The lines of emissions of the block of a line, in its tick, were read ahead.
-pub record AreRows (sys : System) (form : Form) (first : Line) (text : List ℕ) (input remaining : Option (List ℕ)) : Type 0 where
-  pub rows : List Line
+-- These lines of emissions of the block of a line, in its tick, were read ahead.
+pub record AreRows (sys : System) (form : Form) (first : Line) (rows : List Line) (text : List ℕ) (input remaining : Option (List ℕ)) : Type 0 where
   pub each : All (IsOwnLine sys first) rows
   pub is : text ≡ lines_text form sys (map (line_of sys) rows)
   pub read : Consumes input remaining text
 
 -- .. and then one more line
-pub record AreGathered (sys : System) (form : Form) (first : Line) (text last : List ℕ) (input remaining : Option (List ℕ)) : Type 0 where
-  pub rows : List Line
+pub record AreGathered (sys : System) (form : Form) (first : Line) (rows : List Line) (text last : List ℕ) (input remaining : Option (List ℕ)) : Type 0 where
   pub each : All (IsOwnLine sys first) rows
   pub is : text ≡ lines_text form sys (map (line_of sys) rows)
   pub read : Consumes input remaining (text ++ last)
   pub alone : IfSome remaining (λ rest. input ≡ None ⊎ (last ≡ take_through 10 (last ++ rest)))
 
 -- .. and that one is cut off
-pub record AreCutOff (sys : System) (form : Form) (first : Line) (text : List ℕ) (input : Option (List ℕ)) : Type 0 where
-  pub rows : List Line
+pub record AreCutOff (sys : System) (form : Form) (first : Line) (rows : List Line) (text : List ℕ) (input : Option (List ℕ)) : Type 0 where
   pub each : All (IsOwnLine sys first) rows
   pub is : text ≡ lines_text form sys (map (line_of sys) rows)
   pub rest : IfSome input (λ whole. IsCutAfter whole text)
@@ -287,7 +283,7 @@ pub record AreCutOff (sys : System) (form : Form) (first : Line) (text : List �
 -- nothing was taken in any of the resources
 pub record AreUnused (n : ℕ) (steps : List TickSteps) : Type 0 where
   pub all : length steps ≡ n
-  pub each : (r : ℕ) (s : TickSteps) → slice_get steps r ≡ Some s → left_of s ≡ record { tick = None; left = 0 }
+  pub each : (r : ℕ) (s : TickSteps) → slice_get steps r ≡ Some s → left_of s ≡ record { tick = None; left = 0; least = most }
 
 -- A walk that was begun with a line that was read.
 pub record Begins (sys : System) (only : List Name) (marks : Marks) (reading : Reading) (walk : Walk) : Type 0 where

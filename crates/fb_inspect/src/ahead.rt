@@ -1,19 +1,20 @@
 //! Lines that are read ahead.
 
-ghost use Rattle.std.specs.Prelude.{◌≡◌, [], IfOk, IsTrue, OnOk, true, false};
+ghost use Rattle.std.specs.Prelude.{◌≡◌, ◌∷◌, ◌++◌, [], IfOk, IfSome, IsTrue, OnOk, true, false};
 ghost use Rattle.std.specs.Io.KnownBytes.{Consumes};
 ghost use Rattle.fb_types.specs.Headline.{system_of};
 ghost use Rattle.fb_wave.specs.Tables.{IsTable};
-ghost use Rattle.fb_inspect.specs.Walking.{AreCutOff, AreGathered, IsOwnNext, IsReadOn, unread};
+ghost use Rattle.fb_inspect.specs.Walking.{AreCutOff, AreGathered, IsOwnRow, IsReadOn, unread};
 
 use crate::error::InspectError;
-use crate::reading::{Next, judged};
+use crate::reading::{Next, Reading, judged};
 use crate::trail::Fixed;
 use fb_types::Line;
 use fb_wave::truncation::is_unended;
 use fb_wave::{Cut, Guess, PortTable, next_line};
 use std::alloc::{AllocError, Global};
 use std::io::BufRead;
+use std::mem;
 
 /// The lines after that of an event: those of emissions of its block in its tick, and the line after them. They are read
 /// before the event is taken, since that last line decides whether the trace ends with it.
@@ -21,21 +22,51 @@ use std::io::BufRead;
 pub struct Ahead {
     /// The lines that were not gone through yet.
     pub text: Vec<u8>,
+    /// Those of emissions that were read last, as they were read.
+    pub rows: Vec<Line>,
     /// The last line that was read.
     pub last: Vec<u8>,
     guess: Guess,
+    /// The event that is taken, or the first one after which its resource had used too many steps.
+    watched: EventLine,
+}
+
+/// The line of an event.
+#[derive(Drop)]
+struct EventLine {
+    text: Vec<u8>,
+    number: u64,
+    /// The tick of the line before it.
+    tick: u64,
+    /// Whether its resource had used too many steps after it.
+    is_excess: bool,
 }
 
 /// Whether a line is one of an emission of the block of another line, in its tick.
-fn is_own(next: &Next, first: &Line) -> bool
-    ensures { IsTrue result → IsOwnNext next.now first.now }
+fn is_own(line: &Line, first: &Line) -> bool
+    ensures { IsTrue result → IsOwnRow line.now first.now }
 {
-    match next {
-        Next::Event(line) => {
-            !line.taken && line.instance == first.instance && line.key.tick == first.key.tick
-        }
-        Next::End(_) | Next::Bad => false,
+    !line.taken && line.instance == first.instance && line.key.tick == first.key.tick
+}
+
+/// The line that was read, if it is one of an emission of the block of another line, in its tick.
+fn own_row(next: Next, first: &Line) -> Option<Line>
+    ensures { IfSome result (λ line. (next ≡ Next.Event line) × IsOwnRow line first.now) }
+{
+    let Next::Event(line) = next else {
+        return None;
+    };
+    if !is_own(&line, first) {
+        return None;
     }
+    Some(line)
+}
+
+fn keep_row(rows: &mut Vec<Line>, row: Line) -> Result<(), AllocError>
+    ensures { OnOk result (rows.new.items ≡ rows.old.items ++ row ∷ []) }
+{
+    rows.push(row)?;
+    Ok(())
 }
 
 impl Ahead {
@@ -49,9 +80,51 @@ impl Ahead {
     {
         Ok(Ahead {
             text: Vec::new(alloc),
+            rows: Vec::new(alloc),
             last: Vec::new(alloc),
             guess: Guess::new(alloc, table)?,
+            watched: EventLine {
+                text: Vec::new(alloc),
+                number: 0,
+                tick: 0,
+                is_excess: false,
+            },
         })
+    }
+
+    /// Keeps the next line, that of an event, until the next one is kept. The first one after which too many steps were
+    /// used stays.
+    pub(crate) fn watch(&mut self, reading: &Reading) -> Result<(), AllocError>
+        ensures text { self.new.text ≡ self.old.text }
+        ensures rows { self.new.rows ≡ self.old.rows }
+    {
+        let watched = &mut self.watched;
+        if watched.is_excess {
+            return Ok(());
+        }
+        watched.number = reading.number;
+        watched.tick = reading.tick;
+        watched.text.clear();
+        watched.text.extend_from_slice(reading.line.as_slice())
+    }
+
+    /// Notes whether the resource of the event that is kept had used too many steps after it.
+    pub(crate) fn note(&mut self, is_excess: bool)
+        ensures text { self.new.text ≡ self.old.text }
+        ensures rows { self.new.rows ≡ self.old.rows }
+    {
+        self.watched.is_excess = self.watched.is_excess || is_excess;
+    }
+
+    /// Goes back to the first event after which its resource had used too many steps. Answers `false` where there is none.
+    pub(crate) fn go_back(&mut self, reading: &mut Reading) -> bool {
+        if !self.watched.is_excess {
+            return false;
+        }
+        mem::swap(&mut reading.line, &mut self.watched.text);
+        reading.number = self.watched.number;
+        reading.tick = self.watched.tick;
+        true
     }
 
     /// Reads the lines after that of an event. The last of them is not added to the text.
@@ -62,9 +135,10 @@ impl Ahead {
         input: &mut R,
     ) -> Result<(), InspectError>
         requires { IsTable fixed.now.table.now }
-        ensures { OnOk result (AreGathered (system_of fixed.now.table.now.system.now) fixed.now.form first.now self.new.text.items self.new.last.items (R.remaining input.old) (R.remaining input.new)) }
+        ensures { OnOk result (AreGathered (system_of fixed.now.table.now.system.now) fixed.now.form first.now self.new.rows.items self.new.text.items self.new.last.items (R.remaining input.old) (R.remaining input.new)) }
     {
         self.text.clear();
+        self.rows.clear();
         for _ in 0..u64::MAX {
             next_line(input, &mut self.last)?;
             let line = self.last.as_slice();
@@ -77,10 +151,11 @@ impl Ahead {
                 tick,
                 line,
             )?;
-            if !is_own(&next, first) {
+            let Some(row) = own_row(next, first) else {
                 return Ok(());
-            }
+            };
             self.text.extend_from_slice(line)?;
+            keep_row(&mut self.rows, row)?;
         }
         Err(InspectError::Read)
     }
@@ -96,7 +171,7 @@ impl Ahead {
     ) -> Result<bool, InspectError>
         requires { IsTable fixed.now.table.now }
         ensures whole { IfOk result (λ is_cut. is_cut ≡ false → Consumes (R.remaining input.old) (R.remaining input.new) self.new.text.items) }
-        ensures cut { IfOk result (λ is_cut. is_cut ≡ true → (cut ≡ Cut.Allowed) × AreCutOff (system_of fixed.now.table.now.system.now) fixed.now.form first.now self.new.text.items (R.remaining input.old)) }
+        ensures cut { IfOk result (λ is_cut. is_cut ≡ true → (cut ≡ Cut.Allowed) × AreCutOff (system_of fixed.now.table.now.system.now) fixed.now.form first.now self.new.rows.items self.new.text.items (R.remaining input.old)) }
     {
         self.gather(fixed, first, input)?;
         if cut == Cut::Allowed && is_unended(self.last.as_slice()) {
@@ -127,7 +202,7 @@ impl Ahead {
     ) -> Result<bool, InspectError>
         requires { IsTable fixed.now.table.now }
         ensures whole { IfOk result (λ is_cut. is_cut ≡ false → IsReadOn (unread self.old (R.remaining input.old)) (unread self.new (R.remaining input.new))) }
-        ensures cut { IfOk result (λ is_cut. is_cut ≡ true → (cut ≡ Cut.Allowed) × (self.old.text.items ≡ []) × AreCutOff (system_of fixed.now.table.now.system.now) fixed.now.form first.now self.new.text.items (R.remaining input.old)) }
+        ensures cut { IfOk result (λ is_cut. is_cut ≡ true → (cut ≡ Cut.Allowed) × (self.old.text.items ≡ []) × AreCutOff (system_of fixed.now.table.now.system.now) fixed.now.form first.now self.new.rows.items self.new.text.items (R.remaining input.old)) }
     {
         if !self.is_passed() {
             return Ok(false);

@@ -68,6 +68,7 @@ fn cover_with<R: BufRead>(
     requires { IsTable table.now }
     ensures { IfOk result (λ covered. IfSome (R.remaining input.old) (λ text. Covers terms.cut table.now.system.now terms.steps text marks covered.marks covered.extent)) }
 {
+    table.system.facts();
     let mut line = Vec::new(alloc);
     next_line(input, &mut line)?;
     if is_severed(terms.cut, line.as_slice()) {
@@ -94,8 +95,9 @@ fn cover_with<R: BufRead>(
     Ok(Covered { marks, extent })
 }
 
-/// Reads a trace of the system, in either form, and marks what it covers next to what others covered. Of a trace that is
-/// cut off, the event after which only lines of its own block come in its tick is not counted.
+/// Reads a trace of the system, in either form, and marks what it covers next to what others covered: exactly what its
+/// takings do. Of a trace that is cut off, the event after which only lines of its own block come in its tick is not
+/// counted.
 ///
 /// # Errors
 /// As those of `inspect`. The marks are lost then.

@@ -180,7 +180,7 @@ pub fn begun(
 }
 
 /// Whether a trace that may be cut off ends before its first line, or in it.
-pub(crate) fn is_severed(cut: Cut, line: &[u8]) -> bool
+pub fn is_severed(cut: Cut, line: &[u8]) -> bool
     ensures cut { IsTrue result → cut ≡ Cut.Allowed }
     ensures line { IsTrue result → is_unended line.now ≡ true }
 {
@@ -188,7 +188,7 @@ pub(crate) fn is_severed(cut: Cut, line: &[u8]) -> bool
 }
 
 /// Lends the line at which a walk has refused a trace, and why.
-pub(crate) fn lend(alloc: Global, form: Form, trail: &mut Trail, refused: &mut RefusedLine)
+pub fn lend(alloc: Global, form: Form, trail: &mut Trail, refused: &mut RefusedLine)
     ensures { trail.new.marks ≡ trail.old.marks }
 {
     refused.current = CurrentLine {

@@ -7,7 +7,8 @@
 //! Read in this order: `insides`, the entry, with `error`; `walk`, which goes line by line, with `trail`, how far it has
 //! come; `reading`, the lines, `ahead`, lines that are read ahead, and `page`, where text waits; `finding`, why a line is
 //! refused, with `message`, its text; `blocks`, what blocks remember; `steps`, the steps of a tick; then the reactions: `charts` and `event_blocks`,
-//! with `notes`, what is written of them. `covering` goes through a trace for what it covers.
+//! with `notes`, what is written of them. `covering` goes through a trace for what it covers; `laws`, what
+//! the marks of several traces say.
 #![tactic(auto)]
 
 pub mod ahead;
@@ -18,6 +19,7 @@ pub mod error;
 mod event_blocks;
 pub mod finding;
 pub mod insides;
+pub mod laws;
 pub mod message;
 pub mod notes;
 pub mod page;

@@ -1,9 +1,9 @@
 //! The steps of a resource in a tick.
 
-ghost use Rattle.std.specs.Prelude.{◌≡◌, ◌≤◌, ◌+◌, ◌-◌, suc, Some, None};
+ghost use Rattle.std.specs.Prelude.{◌≡◌, ◌≤◌, ◌+◌, ◌-◌, suc, min, IsTrue, Some, None};
 ghost use Rattle.std.specs.Bool.{OnFalse, OnTrue};
 ghost use Rattle.fb_inspect.specs.Counted.{left_of};
-ghost use Rattle.fb_inspect.specs.Inspections.{most};
+ghost use Rattle.fb_inspect.specs.Looks.{most};
 ghost use Rattle.fb_inspect.specs.Looks as spec;
 
 use fb_st::Meter;
@@ -14,16 +14,19 @@ use fb_types::MOST_STEPS;
 pub struct TickSteps {
     pub tick: Option<u64>,
     pub meter: Meter,
+    /// The fewest steps that were left after an event, of the greatest limit.
+    pub least: u64,
 }
 
 impl TickSteps {
     /// Nothing was taken yet.
     pub(crate) fn new() -> TickSteps
-        ensures { left_of result ≡ record { tick = None; left = 0 } }
+        ensures { left_of result ≡ record { tick = None; left = 0; least = most } }
     {
         TickSteps {
             tick: None,
             meter: Meter { left: 0 },
+            least: MOST_STEPS,
         }
     }
 
@@ -42,6 +45,7 @@ impl TickSteps {
     pub(crate) fn step(&mut self, limit: u64, tick: u64) -> bool
         ensures used { OnTrue result (spec.left_at limit tick (left_of self.old) ≡ suc self.new.meter.left) }
         ensures tick { OnTrue result (self.new.tick ≡ Some tick) }
+        ensures least { OnTrue result (self.new.least ≡ self.old.least) }
         ensures none { OnFalse result (spec.left_at limit tick (left_of self.old) ≡ 0) }
         ensures kept { OnFalse result (self.new ≡ self.old) }
     {
@@ -52,6 +56,7 @@ impl TickSteps {
         *self = TickSteps {
             tick: Some(tick),
             meter: Meter { left: left - 1 },
+            least: self.least,
         };
         true
     }
@@ -60,7 +65,7 @@ impl TickSteps {
     /// nothing changes, and the answer is `false`.
     pub(crate) fn limit(&mut self, steps: u64, tick: u64) -> bool
         ensures within { OnTrue result (most ≤ spec.left_at most tick (left_of self.old) + steps) }
-        ensures left { OnTrue result (left_of self.new ≡ record { tick = Some tick; left = (spec.left_at most tick (left_of self.old) + steps) - most }) }
+        ensures left { OnTrue result (left_of self.new ≡ record { tick = Some tick; left = (spec.left_at most tick (left_of self.old) + steps) - most; least = self.old.least }) }
     {
         let Some(all) = self.left_at(MOST_STEPS, tick).checked_add(steps) else {
             return false;
@@ -73,7 +78,22 @@ impl TickSteps {
             meter: Meter {
                 left: all - MOST_STEPS,
             },
+            least: self.least,
         };
         true
+    }
+
+    /// An event was taken.
+    pub(crate) fn settle(&mut self)
+        ensures { self.new ≡ record self.old { least = min self.old.least self.old.meter.left } }
+    {
+        self.least = self.least.min(self.meter.left);
+    }
+
+    /// Whether no more than these steps were used in a tick, of the greatest limit.
+    pub(crate) fn keeps(&self, steps: u64) -> bool
+        ensures { IsTrue result → most ≤ self.now.least + steps }
+    {
+        self.least.saturating_add(steps) >= MOST_STEPS
     }
 }

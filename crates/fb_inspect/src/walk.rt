@@ -1,6 +1,6 @@
 //! Through a trace, line by line.
 
-ghost use Rattle.std.specs.Prelude.{◌≡◌, ◌<◌, ◌≤◌, ◌^◌, ◌⊎◌, ◌++◌, ℕ, ◌+◌, List, [], IfOk, IfSome, IsTrue, OnErr, OnOk, Option, Some, None, length, true, false};
+ghost use Rattle.std.specs.Prelude.{◌≡◌, ◌<◌, ◌≤◌, ◌^◌, ◌⊎◌, ◌++◌, ℕ, ◌+◌, List, [], IfOk, IfSome, IsTrue, OnErr, OnOk, All, Option, Some, None, length, true, false};
 ghost use Rattle.std.specs.Bool.{OnTrue};
 ghost use Rattle.std.specs.Io.KnownBytes.{Consumes};
 ghost use Rattle.fb_types.specs.Headline.{system_of};
@@ -14,11 +14,12 @@ ghost use Rattle.fb_wave.specs.Dumps.{last_tick};
 ghost use Rattle.fb_wave.specs.Lines.{IsTextOf};
 ghost use Rattle.fb_wave.specs.Tables.{IsTable};
 ghost use Rattle.fb_inspect.specs.Covering.{IsCoveredBy};
-ghost use Rattle.fb_inspect.specs.Inspections.{IsShownBy, ShowsFront, most};
+ghost use Rattle.fb_inspect.specs.Inspections.{IsShownBy, KeepSteps, ShowsFront};
 ghost use Rattle.fb_inspect.specs.Lines.{IsNext};
-ghost use Rattle.fb_inspect.specs.Looks.{Look, left_at};
+ghost use Rattle.fb_inspect.specs.Looks.{Look, left_at, most};
 ghost use Rattle.fb_inspect.specs.Walking as spec;
 ghost use Rattle.fb_inspect.specs.Moves.{shown_text};
+ghost use Rattle.fb_inspect.specs.Stepping.{LineGoes, StepGoes};
 ghost use Rattle.fb_inspect.specs.Walking.{AreKept, CanReact, Finishes, FinishesCut, HasAdvanced, HasCovered, HasLimited, HasStepped, IsKept, IsLookOf, KeptGoes, MayEnd, ReactGoes, SendsCutPart, SendsPart, Starts, TurnGoes, unread};
 ghost use Rattle.fb_inspect.specs.declared.blocks.Remembered.TheVariants as kept;
 
@@ -158,6 +159,18 @@ fn flag_at(flags: &[bool], instance: u32) -> bool
     }
 }
 
+/// Whether no resource used more than these steps in a tick so far, of the greatest limit.
+fn all_keep(all: &[TickSteps], steps: u64) -> bool
+    ensures { IsTrue result → All (λ s. most ≤ s.least + steps) all.now }
+{
+    for own in all {
+        if !own.keeps(steps) {
+            return false;
+        }
+    }
+    true
+}
+
 /// How a walk goes on.
 #[derive(Clone, Copy, PartialEq, Eq)]
 pub enum Step {
@@ -244,7 +257,9 @@ impl Walk {
             unreachable!()
         };
         let trail = &mut self.trail;
-        react_kept(fixed, trail, block, &mut steps.meter, line, input)
+        let stop = react_kept(fixed, trail, block, &mut steps.meter, line, input)?;
+        steps.settle();
+        Ok(stop)
     }
 
     /// Takes the event of the next line. Answers the reason that stops the resource, if one does.
@@ -277,13 +292,49 @@ impl Walk {
 
     /// Whether a trace may end so where no reaction was stopped: at a horizon, or where a resource has used up these steps.
     pub fn may_end(&self, steps: u64, end: Outcome) -> bool
-        ensures { (sys : System) (look : Look) → IsLookOf sys self.now.blocks.items self.now.steps.items look → IsTrue result → MayEnd steps look (ending_of end) }
+        ensures { (sys : System) (look : Look) → IsLookOf sys self.now.blocks.items self.now.steps.items look → IsTrue result → MayEnd sys steps look (ending_of end) }
     {
         match end {
             Outcome::End(_) => true,
             Outcome::Stop(mark) => {
-                mark.reason == Reason::Steps && self.has_used(steps, mark.tick, mark.resource)
+                mark.reason == Reason::Steps
+                    && self.has_used(steps, mark.tick, mark.resource)
+                    && self.keep_steps(steps)
             }
+        }
+    }
+
+    /// Whether no resource used more than these steps in a tick so far, of the greatest limit.
+    fn keep_steps(&self, steps: u64) -> bool
+        ensures { (sys : System) (look : Look) → IsLookOf sys self.now.blocks.items self.now.steps.items look → IsTrue result → KeepSteps sys steps look }
+    {
+        all_keep(self.steps.as_slice(), steps)
+    }
+
+    /// Whether a resource used more than these steps in a tick so far, of the greatest limit.
+    fn exceeds(&self, steps: u64, resource: u32) -> bool {
+        match self.steps.get(resource as usize) {
+            Some(own) => !own.keeps(steps),
+            None => false,
+        }
+    }
+
+    /// The refusal of a trace that stops where a resource has used up its steps: of the first event after which a resource
+    /// had used too many, or else of the next line, for what was found.
+    fn refusal_for_steps(&mut self, ahead: &mut Ahead, finding: Finding) -> InspectError {
+        if ahead.go_back(&mut self.trail.reading) {
+            return self.trail.refusal(Finding::NoStep);
+        }
+        self.trail.refusal(finding)
+    }
+
+    /// The refusal of the last line, which ends the trace so.
+    fn refusal_of_end(&mut self, ahead: &mut Ahead, end: Outcome) -> InspectError {
+        match end {
+            Outcome::Stop(mark) if mark.reason == Reason::Steps => {
+                self.refusal_for_steps(ahead, Finding::Runs)
+            }
+            Outcome::Stop(_) | Outcome::End(_) => self.trail.refusal(Finding::Runs),
         }
     }
 
@@ -377,9 +428,9 @@ impl Walk {
         ensures goes { (first : Marks) (only : List Name) (steps : ℕ) (known remaining old new : Option (List ℕ)) → let sys = system_of fixed.now.table.now.system.now in
             let types = fixed.now.table.now.system.now.library.blocks in (covered : HasCovered types first sys fixed.now.form only steps self.old known (unread ahead.old remaining) old new) → last_tick 0 covered.gone.gone.lines ≤ line.now.key.tick
             → IfOk result (HasAdvanced types first sys fixed.now.form only steps self.new known (unread ahead.new remaining) old new) }
-        ensures turned { (look : Look) (remaining : Option (List ℕ)) → let sys = system_of fixed.now.table.now.system.now in let types = fixed.now.table.now.system.now.library.blocks in
+        ensures turned { (look : Look) (steps : ℕ) (remaining : Option (List ℕ)) → let sys = system_of fixed.now.table.now.system.now in let types = fixed.now.table.now.system.now.library.blocks in
             IsLookOf sys self.old.blocks.items self.old.steps.items look
-            → IfOk result (λ step. step ≡ Step.Taken → TurnGoes types sys fixed.now.form most look line.now None self.old self.new (unread ahead.old remaining) (unread ahead.new remaining)) }
+            → IfOk result (LineGoes types sys fixed.now.form steps look line.now self.old self.new ahead.new (unread ahead.old remaining) (unread ahead.new remaining)) }
         ensures whole { IfOk result (λ step. step ≡ Step.CutOff → ⊥) }
     {
         let Some(reason) = self.take_ahead(fixed, line, ahead)? else {
@@ -393,6 +444,34 @@ impl Walk {
             return Err(self.trail.refusal(Finding::Stops(reason)));
         }
         Ok(Step::Ended(stop_of(&line.key, reason)))
+    }
+
+    /// Takes the event of the next line, whose resource has all steps of the greatest limit, and notes if it is the first
+    /// after which its resource had used more than these in a tick.
+    fn take_watched(
+        &mut self,
+        fixed: &Fixed<'_, '_>,
+        steps: u64,
+        line: &Line,
+        ahead: &mut Ahead,
+    ) -> Result<Step, InspectError>
+        requires table { IsTable fixed.now.table.now }
+        requires is { IsTextOf (system_of fixed.now.table.now.system.now) fixed.now.form line.now self.old.trail.reading.line.items }
+        requires look { (look : Look) × IsLookOf (system_of fixed.now.table.now.system.now) self.old.blocks.items self.old.steps.items look }
+        requires limit { fixed.now.limit ≡ most }
+        ensures goes { (first : Marks) (only : List Name) (known remaining old new : Option (List ℕ)) → let sys = system_of fixed.now.table.now.system.now in
+            let types = fixed.now.table.now.system.now.library.blocks in (covered : HasCovered types first sys fixed.now.form only steps self.old known (unread ahead.old remaining) old new) → last_tick 0 covered.gone.gone.lines ≤ line.now.key.tick
+            → IfOk result (HasAdvanced types first sys fixed.now.form only steps self.new known (unread ahead.new remaining) old new) }
+        ensures turned { (look : Look) (remaining : Option (List ℕ)) → let sys = system_of fixed.now.table.now.system.now in let types = fixed.now.table.now.system.now.library.blocks in
+            IsLookOf sys self.old.blocks.items self.old.steps.items look
+            → IfOk result (LineGoes types sys fixed.now.form steps look line.now self.old self.new ahead.new (unread ahead.old remaining) (unread ahead.new remaining)) }
+        ensures whole { IfOk result (λ step. step ≡ Step.CutOff → ⊥) }
+    {
+        ahead.watch(&self.trail.reading)?;
+        let step = self.take_freely(fixed, line, ahead)?;
+        let is_excess = self.exceeds(steps, line.key.resource);
+        ahead.note(is_excess);
+        Ok(step)
     }
 
     /// Takes the event of the next line, after which a resource must have used up these steps.
@@ -409,10 +488,15 @@ impl Walk {
         ensures goes { (first : Marks) (only : List Name) (known remaining old new : Option (List ℕ)) → let sys = system_of fixed.now.table.now.system.now in
             let types = fixed.now.table.now.system.now.library.blocks in (covered : HasCovered types first sys fixed.now.form only steps self.old known (unread ahead.old remaining) old new) → last_tick 0 covered.gone.gone.lines ≤ line.now.key.tick
             → IfOk result (HasAdvanced types first sys fixed.now.form only steps self.new known (unread ahead.new remaining) old new) }
-        ensures ended { IfOk result (λ step. step ≡ Step.Taken → ⊥) }
+        ensures turned { (look : Look) (remaining : Option (List ℕ)) → let sys = system_of fixed.now.table.now.system.now in let types = fixed.now.table.now.system.now.library.blocks in
+            IsLookOf sys self.old.blocks.items self.old.steps.items look
+            → IfOk result (LineGoes types sys fixed.now.form steps look line.now self.old self.new ahead.new (unread ahead.old remaining) (unread ahead.new remaining)) }
         ensures whole { IfOk result (λ step. step ≡ Step.CutOff → ⊥) }
     {
         fixed.table.system.facts();
+        if !self.keep_steps(steps) {
+            return Err(self.refusal_for_steps(ahead, Finding::NoStep));
+        }
         if !self.limit(steps, &line.key) {
             return Err(self.trail.refusal(Finding::NoStep));
         }
@@ -470,8 +554,9 @@ impl Walk {
         ensures goes { (first : Marks) (only : List Name) (known old new : Option (List ℕ)) → let sys = system_of fixed.now.table.now.system.now in
             let types = fixed.now.table.now.system.now.library.blocks in (covered : HasCovered types first sys fixed.now.form only terms.steps self.old known (unread ahead.old (R.remaining input.old)) old new) → last_tick 0 covered.gone.gone.lines ≤ line.now.key.tick
             → IfOk result (HasAdvanced types first sys fixed.now.form only terms.steps self.new known (unread ahead.new (R.remaining input.new)) old new) }
-        ensures turned { (look : Look) → let sys = system_of fixed.now.table.now.system.now in IsLookOf sys self.old.blocks.items self.old.steps.items look → IfOk result (λ step. step ≡ Step.Taken →
-            TurnGoes fixed.now.table.now.system.now.library.blocks sys fixed.now.form most look line.now None self.old self.new (unread ahead.old (R.remaining input.old)) (unread ahead.new (R.remaining input.new))) }
+        ensures turned { (look : Look) → let sys = system_of fixed.now.table.now.system.now in let types = fixed.now.table.now.system.now.library.blocks in
+            IsLookOf sys self.old.blocks.items self.old.steps.items look
+            → IfOk result (LineGoes types sys fixed.now.form terms.steps look line.now self.old self.new ahead.new (unread ahead.old (R.remaining input.old)) (unread ahead.new (R.remaining input.new))) }
         ensures cut { IfOk result (λ step. step ≡ Step.CutOff → terms.cut ≡ Cut.Allowed) }
     {
         let is_cut = ahead.look(fixed, terms.cut, line, input)?;
@@ -482,7 +567,7 @@ impl Walk {
         if self.is_near(fixed, ahead, line) {
             return self.take_last(fixed, terms.steps, line, ahead);
         }
-        self.take_freely(fixed, line, ahead)
+        self.take_watched(fixed, terms.steps, line, ahead)
     }
 
     /// Goes on by one event, or to the end of the trace. Lines are read ahead as far as that needs.
@@ -503,15 +588,23 @@ impl Walk {
         ensures goes { (first : Marks) (only : List Name) (known old new : Option (List ℕ)) → let sys = system_of fixed.now.table.now.system.now in
             let types = fixed.now.table.now.system.now.library.blocks in HasCovered types first sys fixed.now.form only terms.steps self.old known (unread ahead.old (R.remaining input.old)) old new
             → IfOk result (HasAdvanced types first sys fixed.now.form only terms.steps self.new known (unread ahead.new (R.remaining input.new)) old new) }
-        ensures turned { (look : Look) → let sys = system_of fixed.now.table.now.system.now in IsLookOf sys self.old.blocks.items self.old.steps.items look → IfOk result (λ step. step ≡ Step.Taken →
-            (line : run.Line) × (Next.Event line ≡ self.old.trail.reading.next)
-            × TurnGoes fixed.now.table.now.system.now.library.blocks sys fixed.now.form most look line None self.old self.new (unread ahead.old (R.remaining input.old)) (unread ahead.new (R.remaining input.new))) }
+        ensures turned { (look : Look) → let sys = system_of fixed.now.table.now.system.now in let types = fixed.now.table.now.system.now.library.blocks in
+            IsLookOf sys self.old.blocks.items self.old.steps.items look
+            → IfOk result (StepGoes types sys fixed.now.form terms.steps look self.old self.new ahead.new (unread ahead.old (R.remaining input.old)) (unread ahead.new (R.remaining input.new))) }
         ensures cut { IfOk result (λ step. step ≡ Step.CutOff → terms.cut ≡ Cut.Allowed) }
     {
         match mem::replace(&mut self.trail.reading.next, Next::Bad) {
-            Next::Event(line) => self.step_on(fixed, terms, &line, ahead, input),
+            Next::Event(line) => match self.step_on(fixed, terms, &line, ahead, input)? {
+                // Nothing was taken, so it is the next line again.
+                Step::CutOff => {
+                    self.trail.reading.next = Next::Event(line);
+                    Ok(Step::CutOff)
+                }
+                Step::Taken => Ok(Step::Taken),
+                Step::Ended(end) => Ok(Step::Ended(end)),
+            },
             Next::End(end) if self.may_end(terms.steps, end) => Ok(Step::Ended(end)),
-            Next::End(_) => Err(self.trail.refusal(Finding::Runs)),
+            Next::End(end) => Err(self.refusal_of_end(ahead, end)),
             Next::Bad => Err(self.trail.refusal(Finding::Line)),
         }
     }

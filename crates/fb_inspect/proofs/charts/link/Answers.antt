@@ -1,12 +1,13 @@
-use Rattle.std.proofs.Common.{◌≡◌, ◌<◌, ◌++◌, ℕ, length, List, None, Ok, Option, Some, refl, ap, subst, ◌∙◌}
+use Rattle.std.proofs.Common.{◌≡◌, ◌<◌, ◌++◌, ℕ, length, List, None, Ok, Option, Some, refl, sym, ap, subst, ◌∙◌}
 use Rattle.std.specs.Prelude.{IfNone, IfSome, option_map}
 use Rattle.fb_types.specs.Charts.{Position, actions_of, trial_at}
 use Rattle.fb_types.specs.Names.{Name}
 use Rattle.fb_types.specs.Numbers.{event_at}
 use Rattle.fb_types.specs.declared.value.Reason.{Reason}
 use Rattle.fb_st.specs.Frames.{values_of}
+use Rattle.fb_coverage.specs.Sets.{with_cleared}
 use Rattle.fb_ecc.specs.Indexes.{state_at}
-use Rattle.fb_ecc.specs.Steps.{IsFirst, trial_by}
+use Rattle.fb_ecc.specs.Steps.{IsFirst, clearing_index, trial_by}
 use Rattle.fb_ecc.specs.Trials.{transition_at}
 use Rattle.fb_inspect.specs.Chains.{Acting, Clears_by}
 use Rattle.fb_inspect.specs.Charting.{ChartGoes, place}
@@ -16,7 +17,7 @@ use Rattle.fb_inspect.specs.Notes.{lost_if}
 use Rattle.fb_inspect.specs.declared.blocks.Chart.{Chart}
 use Rattle.fb_inspect.specs.declared.trail.Trail.{Trail}
 use Rattle.fb_inspect.proofs.Charted.{link_failed, link_rested, link_stopped, link_went}
-use Rattle.fb_inspect.proofs.Marked.{cleared_at}
+use Rattle.fb_inspect.proofs.Marked.{first_like, state_entered}
 use Rattle.fb_inspect.proofs.Moving.{aside}
 use Rattle.fb_inspect.proofs.Placed.{entered_at, lost_any, marks_any, moved_at}
 use Rattle.fb_inspect.proofs.charts.link.Goals as goal
@@ -74,8 +75,11 @@ returns-in-Some-clause-linked g c =
     let first = subst (λ (o : Option ℕ). IfSome o (IsFirst t (state_at t was.state) present (values_of was.frame))) c.in-Ok-Some.field-0-is c.in-Ok-Some.ensures.first in
     let entered = subst (λ (o : Option ℕ). IfSome o (λ k. state_at t now.state ≡ (transition_at t k).to)) c.in-Ok-Some.field-0-is c.in-Ok-Some.ensures.entered in
     let within = subst (λ (o : Option ℕ). IfSome o (λ k. k < length t.transitions)) c.in-Ok-Some.field-0-is c.in-Ok-Some.ensures.within in
+    let at_index = subst (λ (o : Option ℕ). IfSome o (λ k. clearing_index (state_at t was.state) 0 t.transitions present (values_of was.frame) ≡ Some k)) c.in-Ok-Some.field-0-is c.in-Ok-Some.ensures.index in
+    let like = first_like (state_at t was.state) present (values_of was.frame) t c.in-Ok-Some.index at_index in
+    let target = state_entered t now.state c.in-Ok-Some.index y.to c.requires.taking.sound within c.in-Ok-Some.ensures.block.state entered in
     let mark : PieceMarks t x.number x.line.now.event (Clears_by y) trail.marks.charts noted.marks.charts =
-    (c.in-Ok-Some.index, now.state, cleared_at t c.in-Ok-Some.index within, entered, c.mark_cleared.ensures) in
+    (c.in-Ok-Some.index, like, c.mark_cleared.ensures ∙ ap (λ (s : ℕ). with_cleared x.number c.in-Ok-Some.index s x.line.now.event trail.marks.charts) (sym target)) in
     let at = entered_at t was.state now.state was.frame now.frame c.args.meter.now.left c.clear.new.meter.left y.to entered c.in-Ok-Some.ensures.frame in
     link_stopped x present y y.to c.clear.new.meter.left c.in-Some.reason p m q trail noted c.perform_all.new.trail left after tried first (aside trail noted refl refl refl) mark refl c.in_ok-note_cleared-in-Ok-Some.ensures at
     (subst (λ (n : Name). ChartGoes x (Acting t (actions_of t n)) m (Some c.in-Some.reason) q noted c.perform_all.new.trail left after) entered
@@ -102,8 +106,11 @@ returns-in-None-clause-linked g c =
     let first = subst (λ (o : Option ℕ). IfSome o (IsFirst t (state_at t was.state) present (values_of was.frame))) c.in-Ok-Some.field-0-is c.in-Ok-Some.ensures.first in
     let entered = subst (λ (o : Option ℕ). IfSome o (λ k. state_at t now.state ≡ (transition_at t k).to)) c.in-Ok-Some.field-0-is c.in-Ok-Some.ensures.entered in
     let within = subst (λ (o : Option ℕ). IfSome o (λ k. k < length t.transitions)) c.in-Ok-Some.field-0-is c.in-Ok-Some.ensures.within in
+    let at_index = subst (λ (o : Option ℕ). IfSome o (λ k. clearing_index (state_at t was.state) 0 t.transitions present (values_of was.frame) ≡ Some k)) c.in-Ok-Some.field-0-is c.in-Ok-Some.ensures.index in
+    let like = first_like (state_at t was.state) present (values_of was.frame) t c.in-Ok-Some.index at_index in
+    let target = state_entered t now.state c.in-Ok-Some.index y.to c.requires.taking.sound within c.in-Ok-Some.ensures.block.state entered in
     let mark : PieceMarks t x.number x.line.now.event (Clears_by y) trail.marks.charts noted.marks.charts =
-    (c.in-Ok-Some.index, now.state, cleared_at t c.in-Ok-Some.index within, entered, c.mark_cleared.ensures) in
+    (c.in-Ok-Some.index, like, c.mark_cleared.ensures ∙ ap (λ (s : ℕ). with_cleared x.number c.in-Ok-Some.index s x.line.now.event trail.marks.charts) (sym target)) in
     let at = entered_at t was.state now.state was.frame now.frame c.args.meter.now.left c.clear.new.meter.left y.to entered c.in-Ok-Some.ensures.frame in
     link_went x present y y.to c.clear.new.meter.left p m q trail noted c.perform_all.new.trail left after tried first (aside trail noted refl refl refl) mark refl c.in_ok-note_cleared-in-Ok-Some.ensures at refl
     (subst (λ (n : Name). ChartGoes x (Acting t (actions_of t n)) m None q noted c.perform_all.new.trail left after) entered

@@ -33,4 +33,4 @@ returns g c =
     c.in_ok-next_line.ensures.read) in
     let Q : Marks → Type 0 = λ m. IfSome known (λ text. Covers c.args.terms.cut i c.args.terms.steps text c.args.marks m c.in_ok-extent.extent) in
     subst Q (sym (c.replace-marks.ensures.value ∙ c.lend.ensures))
-    (covers_of c.args.terms.cut i only c.args.terms.steps known c.in_ok-walk.walk.trail.marks c.args.marks c.go-gone.new.self.trail.marks c.in_ok-extent.extent c.in_ok-walk.ensures.marks_are covered)
+    (covers_of c.args.terms.cut i c.facts.ensures.accepted only c.args.terms.steps known c.in_ok-walk.walk.trail.marks c.args.marks c.go-gone.new.self.trail.marks c.in_ok-extent.extent c.in_ok-walk.ensures.marks_are covered)

@@ -10,6 +10,6 @@ returns-then-is_unended-clause-cut g c = λ same.
     let allowed : c.args.cut ≡ cut.Allowed = search rules in
     let short : is_unended c.gather.new.self.last.items ≡ true = search rules in (
       allowed,
-      rows_cut (system_of c.args.fixed.now.table.now.system.now) c.args.fixed.now.form c.args.first.now c.gather.new.self.text.items c.gather.new.self.last.items (g.R.Read.remaining c.args.input.now)
+      rows_cut (system_of c.args.fixed.now.table.now.system.now) c.args.fixed.now.form c.args.first.now c.gather.new.self.rows.items c.gather.new.self.text.items c.gather.new.self.last.items (g.R.Read.remaining c.args.input.now)
           (g.R.Read.remaining c.gather.new.input) c.in_ok-gather.ensures short,
     )

@@ -6,11 +6,11 @@ use Rattle.fb_inspect.proofs.ahead.Ahead.gather.Goals as goal
 
 pub loop-init : goal.loop-init
 loop-init g c =
-    rows_none (system_of c.args.fixed.now.table.now.system.now) c.args.fixed.now.form c.args.first.now c.clear.new.self.items (g.R.Read.remaining c.args.input.now) c.clear.ensures.items
+    rows_none (system_of c.args.fixed.now.table.now.system.now) c.args.fixed.now.form c.args.first.now c.clear-2.new.self.items c.clear.new.self.items (g.R.Read.remaining c.args.input.now) c.clear-2.ensures.items c.clear.ensures.items
 
-pub returns-then-not-is_own : goal.returns-then-not-is_own
-returns-then-not-is_own g c =
-    rows_last (system_of c.args.fixed.now.table.now.system.now) c.args.fixed.now.form c.args.first.now c.loop.self.text.items c.next_line.new.line.items (g.R.Read.remaining c.args.input.now)
+pub returns-in_default : goal.returns-in_default
+returns-in_default g c =
+    rows_last (system_of c.args.fixed.now.table.now.system.now) c.args.fixed.now.form c.args.first.now c.loop.self.rows.items c.loop.self.text.items c.next_line.new.line.items (g.R.Read.remaining c.args.input.now)
     (g.R.Read.remaining c.loop.input) (g.R.Read.remaining c.next_line.new.input) c.loop.invariant c.in_ok-next_line.ensures.read c.in_ok-next_line.ensures.line
 
 pub loop-preserved : goal.loop-preserved
@@ -19,7 +19,7 @@ loop-preserved g c =
     let form = c.args.fixed.now.form in
     let first = c.args.first.now in
     let text = c.loop.self.text.items in
-    rows_more sys form first text c.next_line.new.line.items c.extend_from_slice.new.self.items (g.R.Read.remaining c.args.input.now) (g.R.Read.remaining c.loop.input)
-    (g.R.Read.remaining c.next_line.new.input) c.in_ok-next.next c.loop.invariant (c.is_own.ensures c.if-not-is_own.false)
+    rows_more sys form first c.loop.self.rows.items c.keep_row.new.rows.items c.in-Some.row text c.next_line.new.line.items c.extend_from_slice.new.self.items (g.R.Read.remaining c.args.input.now)
+    (g.R.Read.remaining c.loop.input) (g.R.Read.remaining c.next_line.new.input) c.in_ok-next.next c.loop.invariant c.in-Some.ensures.0 c.in-Some.ensures.1
     (subst (λ (l : List ℕ). IsNext sys form first.key.tick l c.in_ok-next.next) c.as_slice-line.ensures.value c.in_ok-next.ensures) c.in_ok-next_line.ensures.read
-    (c.in_ok-extend_from_slice.ensures.items ∙ ap (λ (l : List ℕ). text ++ l) c.as_slice-line.ensures.value)
+    (c.in_ok-extend_from_slice.ensures.items ∙ ap (λ (l : List ℕ). text ++ l) c.as_slice-line.ensures.value) c.in_ok-keep_row.ensures

@@ -5,4 +5,4 @@ use Rattle.fb_inspect.proofs.ahead.Ahead.gather.Given as goal
 -- the lines up to here were read
 abbrev pub invariant-loop : goal.invariant-loop
 invariant-loop g l =
-    AreRows (system_of l.fixed.table.now.system.now) l.fixed.form l.first l.self.text.items (g.R.Read.remaining l.fn.input) (g.R.Read.remaining l.input)
+    AreRows (system_of l.fixed.table.now.system.now) l.fixed.form l.first l.self.rows.items l.self.text.items (g.R.Read.remaining l.fn.input) (g.R.Read.remaining l.input)

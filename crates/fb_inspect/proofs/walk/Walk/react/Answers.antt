@@ -1,7 +1,7 @@
-use Rattle.std.proofs.Common.{◌<◌, ℕ, refl, sym, subst}
+use Rattle.std.proofs.Common.{◌<◌, ℕ, ap, refl, slice_set, sym, subst}
 use Rattle.fb_types.specs.Headline.{system_of}
 use Rattle.fb_types.specs.Numbers.{path_at}
-use Rattle.fb_inspect.proofs.Placed.{item_is, ok_then}
+use Rattle.fb_inspect.proofs.Placed.{item_is}
 use Rattle.fb_inspect.proofs.walk.Walk.react.Goals as goal
 
 pub react_kept-requires-clause-can : goal.react_kept-requires-clause-can
@@ -23,14 +23,14 @@ returns-clause-goes g c = λ look are.
     let within = subst (λ (n : ℕ). l.instance < n) (sym are.all) c.requires.is.line.belongs.instance in
     let at = item_is c.args.self.now.blocks.items l.instance c.in-Some-get_mut.block.now within c.in-Some-get_mut.ensures.value in
     let resource = subst (λ (n : ℕ). l.key.resource < n) (sym c.requires.steps) c.requires.is.line.belongs.resource in
-    ok_then c.react_kept.result _ _ (c.react_kept.ensures.goes look (are.each l.instance c.in-Some-get_mut.block.now at))
-    (λ stop goes. record {
+    let goes = c.in_ok-stop.ensures.goes look (are.each l.instance c.in-Some-get_mut.block.now at) in
+    record {
       own = c.in-Some.steps.now;
       stood = item_is c.args.self.now.steps.items l.key.resource c.in-Some.steps.now resource c.in-Some.ensures.value;
       block = c.react_kept.new.block;
       left = c.react_kept.new.meter.left;
       goes = goes;
       blocks_are = refl;
-      steps_are = refl;
+      steps_are = ap (slice_set c.args.self.now.steps.items l.key.resource) c.settle.ensures;
       shown_are = refl;
-    })
+    }

@@ -1,37 +1,91 @@
-use Rattle.std.proofs.Common.{subst, sym}
+use Rattle.std.proofs.Common.{inl, refl, subst, sym}
 use Rattle.fb_types.specs.Headline.{system_of}
-use Rattle.fb_inspect.specs.Inspections.{last_look, most}
+use Rattle.fb_inspect.specs.Inspections.{last_look}
 use Rattle.fb_inspect.specs.Lines.{IsNext}
 use Rattle.fb_inspect.specs.Looks.{opening_look}
-use Rattle.fb_inspect.specs.Walking.{unread}
+use Rattle.fb_inspect.specs.Stepping.{LineGoes}
+use Rattle.fb_inspect.specs.Walking.{HasAdvanced, unread}
 use Rattle.fb_inspect.specs.declared.reading.Next.{Next}
+use Rattle.fb_inspect.specs.declared.reading.Next.TheVariants as next
 use Rattle.fb_wave.specs.Dumps.{last_tick}
-use Rattle.fb_inspect.proofs.Placed.{ok_then}
-use Rattle.fb_inspect.proofs.Stepped.{bad_on, complete_bad, ended_here, turn_next}
+use Rattle.fb_inspect.proofs.OneStep.{ended_whole, line_next, severed_next, step_over, taken_whole}
+use Rattle.fb_inspect.proofs.Stepped.{bad_on, complete_bad, ended_here}
 use Rattle.fb_inspect.proofs.walk.Walk.step.Goals as goal
 
-pub returns-in-Event-clause-goes : goal.returns-in-Event-clause-goes
-returns-in-Event-clause-goes g c = λ first only known old new covered.
+pub returns-in-CutOff-clause-goes : goal.returns-in-CutOff-clause-goes
+returns-in-CutOff-clause-goes g c = λ first only known old new covered.
     let fixed = c.args.fixed.now in
     let types = fixed.table.now.system.now.library.blocks in
     let sys = system_of fixed.table.now.system.now in
     let here = subst (λ (n : Next). IsNext sys fixed.form (last_tick 0 covered.gone.gone.lines) c.args.self.now.trail.reading.line.items n) (sym c.in-Event.ensures.value) covered.gone.next in
     let past = bad_on types first sys fixed.form only c.args.terms.steps c.args.self.now c.replace.new.dest known (unread c.args.ahead.now (g.R.Read.remaining c.args.input.now)) old new
     c.replace.ensures.after covered c.in-Event.line.key.tick here.1 in
-    c.step_on.ensures.goes first only known old new past.0 past.1
+    severed_next types first sys fixed.form only c.step_on.new.self (next.Event c.in-Event.line) known old new
+    (subst (HasAdvanced types first sys fixed.form only c.args.terms.steps c.step_on.new.self known (unread c.step_on.new.ahead (g.R.Read.remaining c.step_on.new.input)) old new) c.in-CutOff.is
+    (c.in_ok-step_on-in-Event.ensures.goes first only known old new past.0 past.1))
 
-pub returns-in-Event-clause-turned : goal.returns-in-Event-clause-turned
-returns-in-Event-clause-turned g c = λ look is.
+pub returns-in-CutOff-clause-turned : goal.returns-in-CutOff-clause-turned
+returns-in-CutOff-clause-turned g c = λ look is.
     let fixed = c.args.fixed.now in
     let types = fixed.table.now.system.now.library.blocks in
     let sys = system_of fixed.table.now.system.now in
-    ok_then c.step_on.result _ _ (c.step_on.ensures.turned look is)
-    (λ step turned same. (
-      c.in-Event.line,
+    let r = unread c.args.ahead.now (g.R.Read.remaining c.args.input.now) in
+    let rest = unread c.step_on.new.ahead (g.R.Read.remaining c.step_on.new.input) in
+    let goes = line_next types sys fixed.form c.args.terms.steps look c.in-Event.line c.args.self.now c.replace.new.dest c.step_on.new.self r rest c.step_on.new.ahead _
+    (c.in_ok-step_on-in-Event.ensures.turned look is) in (
+      record {
+        line = c.in-Event.line;
+        is = c.in-Event.ensures.value;
+        goes = subst (LineGoes types sys fixed.form c.args.terms.steps look c.in-Event.line c.args.self.now c.step_on.new.self c.step_on.new.ahead r rest) c.in-CutOff.is goes;
+      },
       c.in-Event.ensures.value,
-      turn_next types sys fixed.form most look c.in-Event.line _ c.args.self.now c.replace.new.dest c.step_on.new.self (unread c.args.ahead.now (g.R.Read.remaining c.args.input.now))
-          (unread c.step_on.new.ahead (g.R.Read.remaining c.step_on.new.input)) (turned same),
-    ))
+    )
+
+pub returns-in-Taken-clause-goes : goal.returns-in-Taken-clause-goes
+returns-in-Taken-clause-goes g c = λ first only known old new covered.
+    let fixed = c.args.fixed.now in
+    let types = fixed.table.now.system.now.library.blocks in
+    let sys = system_of fixed.table.now.system.now in
+    let here = subst (λ (n : Next). IsNext sys fixed.form (last_tick 0 covered.gone.gone.lines) c.args.self.now.trail.reading.line.items n) (sym c.in-Event.ensures.value) covered.gone.next in
+    let past = bad_on types first sys fixed.form only c.args.terms.steps c.args.self.now c.replace.new.dest known (unread c.args.ahead.now (g.R.Read.remaining c.args.input.now)) old new
+    c.replace.ensures.after covered c.in-Event.line.key.tick here.1 in
+    subst (HasAdvanced types first sys fixed.form only c.args.terms.steps c.step_on.new.self known (unread c.step_on.new.ahead (g.R.Read.remaining c.step_on.new.input)) old new) c.in-Taken.is
+    (c.in_ok-step_on-in-Event.ensures.goes first only known old new past.0 past.1)
+
+pub returns-in-Taken-clause-turned : goal.returns-in-Taken-clause-turned
+returns-in-Taken-clause-turned g c = λ look is.
+    let fixed = c.args.fixed.now in
+    let types = fixed.table.now.system.now.library.blocks in
+    let sys = system_of fixed.table.now.system.now in
+    let r = unread c.args.ahead.now (g.R.Read.remaining c.args.input.now) in
+    let rest = unread c.step_on.new.ahead (g.R.Read.remaining c.step_on.new.input) in
+    let goes = line_next types sys fixed.form c.args.terms.steps look c.in-Event.line c.args.self.now c.replace.new.dest c.step_on.new.self r rest c.step_on.new.ahead _
+    (c.in_ok-step_on-in-Event.ensures.turned look is) in
+    step_over types sys fixed.form c.args.terms.steps look c.args.self.now c.step_on.new.self c.in-Event.line c.step_on.new.ahead r rest _ c.in-Event.ensures.value taken_whole
+    (subst (LineGoes types sys fixed.form c.args.terms.steps look c.in-Event.line c.args.self.now c.step_on.new.self c.step_on.new.ahead r rest) c.in-Taken.is goes)
+
+pub returns-in-Ended-clause-goes : goal.returns-in-Ended-clause-goes
+returns-in-Ended-clause-goes g c = λ first only known old new covered.
+    let fixed = c.args.fixed.now in
+    let types = fixed.table.now.system.now.library.blocks in
+    let sys = system_of fixed.table.now.system.now in
+    let here = subst (λ (n : Next). IsNext sys fixed.form (last_tick 0 covered.gone.gone.lines) c.args.self.now.trail.reading.line.items n) (sym c.in-Event.ensures.value) covered.gone.next in
+    let past = bad_on types first sys fixed.form only c.args.terms.steps c.args.self.now c.replace.new.dest known (unread c.args.ahead.now (g.R.Read.remaining c.args.input.now)) old new
+    c.replace.ensures.after covered c.in-Event.line.key.tick here.1 in
+    subst (HasAdvanced types first sys fixed.form only c.args.terms.steps c.step_on.new.self known (unread c.step_on.new.ahead (g.R.Read.remaining c.step_on.new.input)) old new) c.in-Ended.is
+    (c.in_ok-step_on-in-Event.ensures.goes first only known old new past.0 past.1)
+
+pub returns-in-Ended-clause-turned : goal.returns-in-Ended-clause-turned
+returns-in-Ended-clause-turned g c = λ look is.
+    let fixed = c.args.fixed.now in
+    let types = fixed.table.now.system.now.library.blocks in
+    let sys = system_of fixed.table.now.system.now in
+    let r = unread c.args.ahead.now (g.R.Read.remaining c.args.input.now) in
+    let rest = unread c.step_on.new.ahead (g.R.Read.remaining c.step_on.new.input) in
+    let goes = line_next types sys fixed.form c.args.terms.steps look c.in-Event.line c.args.self.now c.replace.new.dest c.step_on.new.self r rest c.step_on.new.ahead _
+    (c.in_ok-step_on-in-Event.ensures.turned look is) in
+    step_over types sys fixed.form c.args.terms.steps look c.args.self.now c.step_on.new.self c.in-Event.line c.step_on.new.ahead r rest _ c.in-Event.ensures.value (ended_whole _)
+    (subst (LineGoes types sys fixed.form c.args.terms.steps look c.in-Event.line c.args.self.now c.step_on.new.self c.step_on.new.ahead r rest) c.in-Ended.is goes)
 
 pub returns-in-End-clause-goes : goal.returns-in-End-clause-goes
 returns-in-End-clause-goes g c = λ first only known old new covered.
@@ -43,3 +97,7 @@ returns-in-End-clause-goes g c = λ first only known old new covered.
     complete_bad types first sys fixed.form only c.args.terms.steps c.args.self.now c.replace.new.dest c.in-End.end known r old new
     (ended_here types first sys fixed.form only c.args.terms.steps c.args.self.now known r old new covered c.in-End.end here
     (c.may_end.ensures sys (last_look (opening_look sys) covered.gone.turns) covered.gone.look c.if-may_end.true))
+
+pub returns-in-End-clause-turned : goal.returns-in-End-clause-turned
+returns-in-End-clause-turned g c = λ look is.
+    inl (record { is = c.in-End.ensures.value; may = c.may_end.ensures (system_of c.args.fixed.now.table.now.system.now) look is c.if-may_end.true; left = refl })

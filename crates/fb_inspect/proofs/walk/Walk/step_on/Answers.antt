@@ -1,10 +1,10 @@
-use Rattle.std.proofs.Common.{List, ℕ, Option, subst}
+use Rattle.std.proofs.Common.{List, ℕ, Option, subst, sym}
 use Rattle.std.specs.Io.KnownBytes.{Consumes}
 use Rattle.fb_types.specs.Headline.{system_of}
-use Rattle.fb_inspect.specs.Inspections.{most}
-use Rattle.fb_inspect.specs.Walking.{unread}
+use Rattle.fb_inspect.specs.Walking.{AreCutOff, unread}
+use Rattle.fb_inspect.proofs.OneStep.{line_reread, ok_both}
 use Rattle.fb_inspect.proofs.Placed.{ok_then}
-use Rattle.fb_inspect.proofs.Stepped.{none_ahead, reread_on, severed_on, turn_reread}
+use Rattle.fb_inspect.proofs.Stepped.{none_ahead, reread_on, severed_on}
 use Rattle.fb_inspect.proofs.walk.Walk.step_on.Goals as goal
 
 pub returns-then-is_cut-clause-goes : goal.returns-then-is_cut-clause-goes
@@ -17,7 +17,7 @@ returns-then-is_cut-clause-goes g c = λ first only known old new covered later.
     let on : (bytes : List ℕ) → Consumes known (unread c.args.ahead.now o) bytes → Consumes known o bytes =
     λ bytes read. subst (λ (p : Option (List ℕ)). Consumes known p bytes) (none_ahead c.args.ahead.now.text.items o off.1) read in
     let again = reread_on types first sys fixed.form only c.args.terms.steps c.args.self.now known (unread c.args.ahead.now o) o old new on covered c.args.line.now.key.tick later in
-    severed_on types first sys fixed.form only c.args.terms.steps c.args.self.now known o old new again.0 c.args.line.now again.1 c.requires.is c.put_untaken.new.self c.look.new.self.text.items off.2
+    severed_on types first sys fixed.form only c.args.terms.steps c.args.self.now known o old new again.0 c.args.line.now again.1 c.requires.is c.put_untaken.new.self c.look.new.self.rows.items c.look.new.self.text.items off.2
     c.put_untaken.ensures.marks c.in_ok-put_untaken.ensures.text
 
 pub returns-then-is_near-clause-goes : goal.returns-then-is_near-clause-goes
@@ -43,7 +43,27 @@ returns-clause-goes g c = λ first only known old new covered later.
     let n = g.R.Read.remaining c.look.new.input in
     let again = reread_on types first sys fixed.form only c.args.terms.steps c.args.self.now known o (unread c.look.new.self n) old new
     ((c.in_ok-is_cut.ensures.whole c.if-is_cut.false).after known) covered c.args.line.now.key.tick later in
-    c.take_freely.ensures.goes first only c.args.terms.steps known n old new again.0 again.1
+    c.take_watched.ensures.goes first only known n old new again.0 again.1
+
+pub returns-then-is_cut-clause-turned : goal.returns-then-is_cut-clause-turned
+returns-then-is_cut-clause-turned g c = λ look is.
+    let fixed = c.args.fixed.now in
+    let o = g.R.Read.remaining c.args.input.now in
+    let off = c.in_ok-is_cut.ensures.cut c.if-is_cut.true in
+    subst (λ (p : Option (List ℕ)). AreCutOff (system_of fixed.table.now.system.now) fixed.form c.args.line.now c.look.new.self.rows.items c.look.new.self.text.items p)
+    (sym (none_ahead c.args.ahead.now.text.items o off.1)) off.2
+
+pub returns-then-is_near-clause-turned : goal.returns-then-is_near-clause-turned
+returns-then-is_near-clause-turned g c = λ look is.
+    let fixed = c.args.fixed.now in
+    let types = fixed.table.now.system.now.library.blocks in
+    let sys = system_of fixed.table.now.system.now in
+    let n = g.R.Read.remaining c.look.new.input in
+    let after = unread c.take_last.new.ahead n in
+    ok_both c.take_last.result _ _ _ c.take_last.ensures.whole (c.take_last.ensures.turned look n is)
+    (λ step whole goes.
+    line_reread types sys fixed.form c.args.terms.steps look c.args.line.now c.args.self.now c.take_last.new.self (unread c.args.ahead.now (g.R.Read.remaining c.args.input.now))
+    (unread c.look.new.self n) after ((c.in_ok-is_cut.ensures.whole c.if-is_cut.false).before after) c.take_last.new.ahead step whole goes)
 
 pub returns-clause-turned : goal.returns-clause-turned
 returns-clause-turned g c = λ look is.
@@ -51,11 +71,11 @@ returns-clause-turned g c = λ look is.
     let types = fixed.table.now.system.now.library.blocks in
     let sys = system_of fixed.table.now.system.now in
     let n = g.R.Read.remaining c.look.new.input in
-    let after = unread c.take_freely.new.ahead n in
-    ok_then c.take_freely.result _ _ (c.take_freely.ensures.turned look n is)
-    (λ step turned same.
-    turn_reread types sys fixed.form most look c.args.line.now _ c.args.self.now c.take_freely.new.self (unread c.args.ahead.now (g.R.Read.remaining c.args.input.now))
-    (unread c.look.new.self n) after ((c.in_ok-is_cut.ensures.whole c.if-is_cut.false).before after) (turned same))
+    let after = unread c.take_watched.new.ahead n in
+    ok_both c.take_watched.result _ _ _ c.take_watched.ensures.whole (c.take_watched.ensures.turned look n is)
+    (λ step whole goes.
+    line_reread types sys fixed.form c.args.terms.steps look c.args.line.now c.args.self.now c.take_watched.new.self (unread c.args.ahead.now (g.R.Read.remaining c.args.input.now))
+    (unread c.look.new.self n) after ((c.in_ok-is_cut.ensures.whole c.if-is_cut.false).before after) c.take_watched.new.ahead step whole goes)
 
 pub returns-clause-cut : goal.returns-clause-cut
-returns-clause-cut g c = ok_then c.take_freely.result _ _ c.take_freely.ensures.whole (λ step never same. absurd (never same))
+returns-clause-cut g c = ok_then c.take_watched.result _ _ c.take_watched.ensures.whole (λ step never same. absurd (never same))
