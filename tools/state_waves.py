@@ -4,9 +4,11 @@
 The second simulator of tools/interpreter.py runs each example and each random system of tools/drawn.py once more, and notes what each
 taking changes inside a basic block: its state, its internal variables, and whether it lost the event. The program is given the trace
 alone. What its dump has of the inside of blocks is to be that, to the byte, at these times and in this order, and the declarations of
-it are to be in the scopes of the blocks. Without these lines the dump is to be the one that `wave` makes. Of traces in which one
-emission was changed or left out, the program is to refuse the first line that shows it. Where GTKWave's own reader is on this machine,
-it must find the same states and values in the dump as tools/vcd.py."""
+it are to be in the scopes of the blocks. Without these lines the dump is to be the one that `wave` makes. `--steps` is given where the
+trace stops for its steps, and where it must not matter. Of traces in which one emission was changed or left out, the program is to
+refuse the first line that shows it. Of each trace several fronts are given with `--cut`, and what changes inside blocks is to be that of
+the events whose lines are all there. Where GTKWave's own reader is on this machine, it must find the same states and values in the dump
+as tools/vcd.py."""
 
 import os
 import re
@@ -49,7 +51,8 @@ class Stated(insides.Noted):
     def __init__(self, *given):
         super().__init__(*given)
         charts = [it for it in self.blocks if it.type.chart]
-        self.changes = [(0, line) for it in charts for line in inside_of(it)]
+        # (each with the number of lines of the trace up to its taking)
+        self.changes = [(0, 0, line) for it in charts for line in inside_of(it)]
         self.declared = {f"{self.resources[it.home][0]}.{it.path}": declared_of(it) for it in charts}
         self.has_lost = False
 
@@ -57,12 +60,16 @@ class Stated(insides.Noted):
         self.has_lost |= text.startswith("lost in ")
 
     def run_chart(self, block, present):
-        before, self.has_lost = inside_of(block), False
+        before, self.has_lost, taken = inside_of(block), False, len(self.lines)
         try:
             super().run_chart(block, present)
         finally:
-            self.changes += [(self.tick, line) for line, old in zip(inside_of(block), before) if line != old]
-            self.changes += [(self.tick, f"1l{block.number}")] * self.has_lost
+            self.changes += [(taken, self.tick, line) for line, old in zip(inside_of(block), before) if line != old]
+            self.changes += [(taken, self.tick, f"1l{block.number}")] * self.has_lost
+
+    def changes_to(self, lines):
+        """What the takings of the first lines of the trace change, this many, each with its tick."""
+        return [(tick, line) for taken, tick, line in self.changes if taken <= lines]
 
 
 class Parts:
@@ -100,15 +107,29 @@ def faults_by_gtkwave(dump):
     return [f"by GTKWave: {it} has {other.values.get(it)}" for it in own.values if other.values.get(it) != own.values[it]]
 
 
-def faults_of_dump(system, dump, plain):
-    """What is wrong with a dump of the simulation's trace, of which `wave` makes the plain one."""
-    found = Parts(dump)
+def faults_of_dump(system, lines, dump, plain):
+    """What is wrong with a dump of the simulation's trace, of which the first lines are taken, this many. `wave` makes the plain one."""
+    found, changes = Parts(dump), system.changes_to(lines)
     if found.others != plain.splitlines():
         yield f"without the inside of blocks: {first_difference(found.others, plain.splitlines())}"
-    if found.changes != system.changes:
-        yield first_difference(found.changes, system.changes)
+    if found.changes != changes:
+        yield first_difference(found.changes, changes)
     if found.declared != system.declared:
         yield first_difference(sorted(found.declared.items()), sorted(system.declared.items()))
+
+
+def cut_faults(room, system, words, limit, trace):
+    """What is wrong with the dumps of a trace that is cut off at some bytes."""
+    for turn, front in enumerate(insides.fronts(trace)):
+        whole = insides.whole_lines(front)
+        # (of a trace that is cut off no limit of steps is known)
+        cut = [*words, "--cut", *(limit if turn % 2 else ["--steps", "1"]), "-"]
+        dump, plain = room.call([*cut[:-1], "--states", "-"], front.encode()), room.call(cut, front.encode())
+        if dump.returncode or dump.stderr:
+            yield f"{len(front)} bytes: status {dump.returncode} {dump.stderr.decode().strip()}"
+            continue
+        found = faults_of_dump(system, insides.first_untaken(whole), dump.stdout.decode(), plain.stdout.decode())
+        yield from (f"{len(front)} bytes: {it}" for it in found)
 
 
 def faults_of(room, number, case, with_gtkwave):
@@ -116,6 +137,7 @@ def faults_of(room, number, case, with_gtkwave):
     name, declaration, plan, stimuli, horizon, steps = case
     wrong = []
     for form in (1, 2):
+        place = f"{name}, form {form}"
         system = Stated(declaration, tomllib.loads(plan) if plan else None, interpreter.stimuli_in(stimuli), steps)
         trace = system.run(horizon, form=form)
         files = {"iec": declaration, "trace": trace} | ({"toml": plan} if plan else {})
@@ -123,18 +145,21 @@ def faults_of(room, number, case, with_gtkwave):
             with open(f"{room.folder}/w{number}.{ending}", "w", encoding="utf-8") as it:
                 it.write(text)
         words = ["wave", f"w{number}.iec", *(["--deploy", f"w{number}.toml"] if plan else [])]
-        stated = [*words, "--states", "--steps", str(steps)]
+        # (a trace that does not stop for its steps needs no limit, and none that is given matters)
+        limit = ["--steps", str(steps)] if insides.stops_for_steps(trace) else ["--steps", "1"] * (form - 1)
+        stated = [*words, "--states", *limit]
         dump, plain = room.call([*stated, f"w{number}.trace"]), room.call([*words, f"w{number}.trace"])
         if dump.returncode or dump.stderr:
-            wrong.append(f"{name}, form {form}: status {dump.returncode} {dump.stderr.decode().strip()}")
+            wrong.append(f"{place}: status {dump.returncode} {dump.stderr.decode().strip()}")
             continue
-        wrong += [f"{name}, form {form}: {it}" for it in faults_of_dump(system, dump.stdout.decode(), plain.stdout.decode())]
+        wrong += [f"{place}: {it}" for it in faults_of_dump(system, len(system.lines), dump.stdout.decode(), plain.stdout.decode())]
+        wrong += [f"{place}, cut: {it}" for it in cut_faults(room, system, words, limit, trace)]
         if with_gtkwave:
-            wrong += [f"{name}, form {form}: {it}" for it in faults_by_gtkwave(dump.stdout.decode())]
+            wrong += [f"{place}: {it}" for it in faults_by_gtkwave(dump.stdout.decode())]
         for text, line in insides.spoiled(system, trace):
             ran = room.call([*stated, "-"], text.encode())
             if (ran.returncode, ran.stderr) != (2, f"refused trace line {line}\n".encode()):
-                wrong.append(f"{name}, form {form}: a spoiled line {line}: status {ran.returncode} {ran.stderr.decode().strip()}")
+                wrong.append(f"{place}: a spoiled line {line}: status {ran.returncode} {ran.stderr.decode().strip()}")
     return wrong
 
 

@@ -107,7 +107,7 @@ lost_by t i e [] m n same = ap (λ (k : ChartMarks). k.lost) same ∙ or_false m
     or_false true = refl
     or_false false = refl
 lost_by t i e (Clears_by y ∷ ps) m n are =
-    lost_by t i e ps are.0 n are.2 ∙ ap (λ (k : ChartMarks). k.lost || list_any is_loss ps) are.1.4
+    lost_by t i e ps are.0 n are.2 ∙ ap (λ (k : ChartMarks). k.lost || list_any is_loss ps) are.1.2
 lost_by t i e (Is_lost s ∷ ps) m n are =
     lost_by t i e ps are.0 n are.2 ∙ ap (λ (k : ChartMarks). k.lost || list_any is_loss ps) are.1 ∙ or_true m.lost (list_any is_loss ps)
 lost_by t i e (Ran a before after ∷ ps) m n are = lost_by t i e ps are.0 n are.2 ∙ ap (λ (k : ChartMarks). k.lost || list_any is_loss ps) are.1

@@ -5,18 +5,18 @@ use Rattle.std.proofs.lemmas.Bool.{cases_eq, eq-eqb, ne_eqb}
 use Rattle.fb_types.specs.Blocks.{Emission}
 use Rattle.fb_types.specs.Names.{Name, Path}
 use Rattle.fb_types.specs.Numbers.{line_of, ports_at}
-use Rattle.fb_types.specs.Simulation.{Ending}
 use Rattle.fb_types.specs.States as model
 use Rattle.fb_types.specs.Systems.{System}
 use Rattle.fb_types.specs.declared.run.Line.{Line}
 use Rattle.fb_wave.specs.Changes.{line, time_text}
-use Rattle.fb_wave.specs.Dumps.{dump_text, end_text, last_tick, tick_changes, ticks_text}
+use Rattle.fb_wave.specs.CutOff.{cut_comment}
+use Rattle.fb_wave.specs.Dumps.{end_text, last_tick, tick_changes, ticks_text}
 use Rattle.fb_wave.specs.Scopes.{closed, head_text, instances_begun, instances_declared, opened, own_name, ports_declared, resources_declared}
 use Rattle.fb_wave.specs.Signals.{size_of}
 use Rattle.fb_inspect.specs.Looks.{Look, emission_line, opening_look, turn_lines}
 use Rattle.fb_states.specs.Heads.{insides_begun, instances_opened, resources_opened, state_head}
 use Rattle.fb_states.specs.Laws.{AddsOnlyStates}
-use Rattle.fb_states.specs.StateDumps.{HaveLines, Taken, lines_of, state_dump, takings_text, tick_of}
+use Rattle.fb_states.specs.StateDumps.{HaveLines, Taken, lines_of, takings_text, tick_of}
 
 -- ---- The head
 
@@ -120,34 +120,44 @@ ticks_next sys t before now (l ∷ ls) rest x es are other =
     ∙ ap (λ (k : ℕ). (tick_changes sys before now ++ time_text t k) ++ ticks_text sys k (before ++ now) (l ∷ []) (ls ++ rest)) all.0
     ∙ ap (λ (s : List ℕ). (tick_changes sys before now ++ time_text t x.key.tick) ++ s) (ticks_same sys x.key.tick (before ++ now) (l ∷ []) ls rest all.1)
 
-abbrev take_text : System → (t : ℕ) → (before now : List Line) → Taken → (rest : List Taken) → Bool → List ℕ
-take_text sys t before now x xs b =
-    cond b (takings_text false sys t before (now ++ x.lines) x.turn.after xs)
-    (((tick_changes sys before now ++ time_text t (tick_of x)) ++ []) ++ takings_text false sys (tick_of x) (before ++ now) x.lines x.turn.after xs)
+abbrev take_text : System → (us : List Line) → (t : ℕ) → (before now : List Line) → Taken → (rest : List Taken) → Bool → List ℕ
+take_text sys us t before now x xs b =
+    cond b (takings_text false sys us t before (now ++ x.lines) x.turn.after xs)
+    (((tick_changes sys before now ++ time_text t (tick_of x)) ++ []) ++ takings_text false sys us (tick_of x) (before ++ now) x.lines x.turn.after xs)
 
 taking_same :
-    (sys : System) (t : ℕ) (before now : List Line) (x : Taken) (xs : List Taken) → map (line_of sys) x.lines ≡ turn_lines x.turn → ((tick_of x ≡ t) ⊎ (tick_of x ≡ t → ⊥))
-    → takings_text false sys t before (now ++ x.lines) x.turn.after xs ≡ ticks_text sys t before (now ++ x.lines) (lines_of xs)
-    → takings_text false sys (tick_of x) (before ++ now) x.lines x.turn.after xs ≡ ticks_text sys (tick_of x) (before ++ now) x.lines (lines_of xs)
-    → take_text sys t before now x xs (tick_of x == t) ≡ ticks_text sys t before now (x.lines ++ lines_of xs)
-taking_same sys t before now x xs have (inl same) here other =
-    ap (take_text sys t before now x xs) (eq-eqb (tick_of x) t same) ∙ here
-    ∙ sym (ticks_same sys t before now x.lines (lines_of xs) (subst (λ (k : ℕ). AreAt k x.lines) same (all_at sys x.lines x.turn.first x.turn.emits have)))
-taking_same sys t before now x xs have (inr differs) here other =
-    ap (take_text sys t before now x xs) (ne_eqb (tick_of x) t differs)
-    ∙ ap (λ (l : List ℕ). l ++ takings_text false sys (tick_of x) (before ++ now) x.lines x.turn.after xs) (append-nil (tick_changes sys before now ++ time_text t (tick_of x)))
+    (sys : System) (us : List Line) (t : ℕ) (before now : List Line) (x : Taken) (xs : List Taken) → map (line_of sys) x.lines ≡ turn_lines x.turn → ((tick_of x ≡ t) ⊎ (tick_of x ≡ t → ⊥))
+    → takings_text false sys us t before (now ++ x.lines) x.turn.after xs ≡ ticks_text sys t before (now ++ x.lines) (lines_of xs ++ us)
+    → takings_text false sys us (tick_of x) (before ++ now) x.lines x.turn.after xs ≡ ticks_text sys (tick_of x) (before ++ now) x.lines (lines_of xs ++ us)
+    → take_text sys us t before now x xs (tick_of x == t) ≡ ticks_text sys t before now (x.lines ++ (lines_of xs ++ us))
+taking_same sys us t before now x xs have (inl same) here other =
+    ap (take_text sys us t before now x xs) (eq-eqb (tick_of x) t same) ∙ here
+    ∙ sym (ticks_same sys t before now x.lines (lines_of xs ++ us) (subst (λ (k : ℕ). AreAt k x.lines) same (all_at sys x.lines x.turn.first x.turn.emits have)))
+taking_same sys us t before now x xs have (inr differs) here other =
+    ap (take_text sys us t before now x xs) (ne_eqb (tick_of x) t differs)
+    ∙ ap (λ (l : List ℕ). l ++ takings_text false sys us (tick_of x) (before ++ now) x.lines x.turn.after xs) (append-nil (tick_changes sys before now ++ time_text t (tick_of x)))
     ∙ ap (λ (l : List ℕ). (tick_changes sys before now ++ time_text t (tick_of x)) ++ l) other
-    ∙ sym (ticks_next sys t before now x.lines (lines_of xs) x.turn.first x.turn.emits have differs)
+    ∙ sym (ticks_next sys t before now x.lines (lines_of xs ++ us) x.turn.first x.turn.emits have differs)
 
 takings_same :
-    (sys : System) (t : ℕ) (before now : List Line) (look : Look) (xs : List Taken) → HaveLines sys xs → takings_text false sys t before now look xs ≡ ticks_text sys t before now (lines_of xs)
-takings_same sys t before now look [] have = refl
-takings_same sys t before now look (x ∷ xs) have =
-    taking_same sys t before now x xs have.0 (cases_eq (tick_of x) t) (takings_same sys t before (now ++ x.lines) x.turn.after xs have.1)
-    (takings_same sys (tick_of x) (before ++ now) x.lines x.turn.after xs have.1)
+    (sys : System) (us : List Line) (t : ℕ) (before now : List Line) (look : Look) (xs : List Taken) → HaveLines sys xs
+    → takings_text false sys us t before now look xs ≡ ticks_text sys t before now (lines_of xs ++ us)
+takings_same sys us t before now look [] have = refl
+takings_same sys us t before now look (x ∷ xs) have =
+    taking_same sys us t before now x xs have.0 (cases_eq (tick_of x) t) (takings_same sys us t before (now ++ x.lines) x.turn.after xs have.1)
+    (takings_same sys us (tick_of x) (before ++ now) x.lines x.turn.after xs have.1)
+    ∙ ap (ticks_text sys t before now) (sym (append_assoc x.lines (lines_of xs) us))
+
+all_same : (sys : System) (us : List Line) (xs : List Taken) (ends : List ℕ) → HaveLines sys xs
+    → (state_head false sys ++ takings_text false sys us 0 [] [] (opening_look sys) xs) ++ ends ≡ (head_text sys ++ ticks_text sys 0 [] [] (lines_of xs ++ us)) ++ ends
+all_same sys us xs ends have =
+    ap (λ (l : List ℕ). (l ++ takings_text false sys us 0 [] [] (opening_look sys) xs) ++ ends) (head_same sys)
+    ∙ ap (λ (l : List ℕ). (head_text sys ++ l) ++ ends) (takings_same sys us 0 [] [] (opening_look sys) xs have)
 
 pub adds_only : AddsOnlyStates
-adds_only sys xs end have =
-    let ends : List ℕ = end_text sys (last_tick 0 (lines_of xs)) end in
-    ap (λ (l : List ℕ). (l ++ takings_text false sys 0 [] [] (opening_look sys) xs) ++ ends) (head_same sys)
-    ∙ ap (λ (l : List ℕ). (head_text sys ++ l) ++ ends) (takings_same sys 0 [] [] (opening_look sys) xs have)
+adds_only = record {
+  whole = λ sys xs end have.
+      all_same sys [] xs (end_text sys (last_tick 0 (lines_of xs)) end) have
+      ∙ ap (λ (ls : List Line). (head_text sys ++ ticks_text sys 0 [] [] ls) ++ end_text sys (last_tick 0 (lines_of xs)) end) (append-nil (lines_of xs));
+  cut = λ sys xs us have. all_same sys us xs cut_comment have;
+}

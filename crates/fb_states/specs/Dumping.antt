@@ -2,7 +2,7 @@
 use Rattle.std.specs.Prelude.{◌≡◌, ◌<◌, ℕ, List, [], ◌∷◌, ◌++◌, true, All, length}
 use Rattle.fb_types.specs.Systems.{System}
 use Rattle.fb_types.specs.declared.run.Line.{Line}
-use Rattle.fb_wave.specs.Dumps.{last_tick}
+use Rattle.fb_wave.specs.Dumps.{last_tick, tick_changes, ticks_text}
 use Rattle.fb_wave.specs.Levels.{AreLevels}
 use Rattle.fb_wave.specs.LineSignals.{fires_of, has_signal, touches_of}
 use Rattle.fb_wave.specs.Signals.{sizes_of}
@@ -28,11 +28,11 @@ pub record Shows (sys : System) (xs : List Taken) (shown : List ℕ) (x : PortDu
   pub tick : x.tick ≡ last_tick 0 (lines_of xs)
   pub levels : AreLevels (sizes_of sys sys.paths) (fires_of sys (lines_of xs)) (has_signal sys (lines_of xs)) (touches_of sys now) x.levels
   pub text :
-      (rest : List Taken)
-      → shown ++ takings_text true sys x.tick before now (last_look (opening_look sys) (turns_of xs)) rest
-      ≡ state_head true sys ++ takings_text true sys 0 [] [] (opening_look sys) (xs ++ rest)
+      (us : List Line) (rest : List Taken)
+      → shown ++ takings_text true sys us x.tick before now (last_look (opening_look sys) (turns_of xs)) rest
+      ≡ state_head true sys ++ takings_text true sys us 0 [] [] (opening_look sys) (xs ++ rest)
 
--- The same where the next taking is one of this tick.
+-- The same where the next taking, or the next line without one, is of this tick.
 pub record IsTurned (sys : System) (xs : List Taken) (shown : List ℕ) (next : ℕ) (x : PortDump) : Type 0 where
   pub before : List Line
   pub now : List Line
@@ -40,9 +40,12 @@ pub record IsTurned (sys : System) (xs : List Taken) (shown : List ℕ) (next : 
   pub tick : x.tick ≡ next
   pub levels : AreLevels (sizes_of sys sys.paths) (fires_of sys (lines_of xs)) (has_signal sys (lines_of xs)) (touches_of sys now) x.levels
   pub text :
-      (y : Taken) (rest : List Taken) → tick_of y ≡ next
-      → shown ++ (turn_changes sys (last_look (opening_look sys) (turns_of xs)) y.turn ++ takings_text true sys next before (now ++ y.lines) y.turn.after rest)
-      ≡ state_head true sys ++ takings_text true sys 0 [] [] (opening_look sys) (xs ++ y ∷ rest)
+      (us : List Line) (y : Taken) (rest : List Taken) → tick_of y ≡ next
+      → shown ++ (turn_changes sys (last_look (opening_look sys) (turns_of xs)) y.turn ++ takings_text true sys us next before (now ++ y.lines) y.turn.after rest)
+      ≡ state_head true sys ++ takings_text true sys us 0 [] [] (opening_look sys) (xs ++ y ∷ rest)
+  pub untaken :
+      (l : Line) (us : List Line) → l.key.tick ≡ next
+      → shown ++ ticks_text sys next before (now ++ l ∷ []) us ≡ state_head true sys ++ takings_text true sys (l ∷ us) 0 [] [] (opening_look sys) xs
 
 -- Lines of the tick were shown.
 pub record ShowsLines (sys : System) (ls : List Line) (old new : PortDump) : Type 0 where
@@ -50,3 +53,11 @@ pub record ShowsLines (sys : System) (ls : List Line) (old new : PortDump) : Typ
   pub levels :
       (all now : List Line) → AreLevels (sizes_of sys sys.paths) (fires_of sys all) (has_signal sys all) (touches_of sys now) old.levels
       → AreLevels (sizes_of sys sys.paths) (fires_of sys (all ++ ls)) (has_signal sys (all ++ ls)) (touches_of sys (now ++ ls)) new.levels
+
+-- Takings were written, and then lines without their takings: the text so far is that of all these, but for what the last tick changes at ports.
+pub record ShowsUntaken (sys : System) (xs : List Taken) (us : List Line) (shown : List ℕ) (x : PortDump) : Type 0 where
+  pub before : List Line
+  pub now : List Line
+  pub parts : lines_of xs ++ us ≡ before ++ now
+  pub levels : AreLevels (sizes_of sys sys.paths) (fires_of sys (lines_of xs ++ us)) (has_signal sys (lines_of xs ++ us)) (touches_of sys now) x.levels
+  pub text : shown ++ tick_changes sys before now ≡ state_head true sys ++ takings_text true sys us 0 [] [] (opening_look sys) xs

@@ -2,7 +2,6 @@ pub mod Inner
 pub mod Heads
 pub mod StateDumps
 pub mod Saved
-pub mod Ends
 pub mod Dumping
 pub mod StateWaves
 pub mod Waving

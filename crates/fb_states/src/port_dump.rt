@@ -8,8 +8,8 @@ ghost use Rattle.fb_system.specs.Lines.{BelongsTo};
 ghost use Rattle.fb_trace.specs.End.{EndsIn, ending_of};
 ghost use Rattle.fb_inspect.specs.Looks.{opening_look};
 ghost use Rattle.fb_inspect.specs.Walking.{AreKept};
-ghost use Rattle.fb_states.specs.Dumping.{IsPortDump, IsTurned, Shows, ShowsLines};
-ghost use Rattle.fb_states.specs.StateDumps.{Taken, state_dump};
+ghost use Rattle.fb_states.specs.Dumping.{IsPortDump, IsTurned, Shows, ShowsLines, ShowsUntaken};
+ghost use Rattle.fb_states.specs.StateDumps.{Taken, cut_dump, state_dump};
 
 use crate::head::put_head;
 use fb_inspect::blocks::Remembered;
@@ -71,7 +71,7 @@ impl PortDump {
     }
 
     /// Shows a line of the tick.
-    fn show_line(&mut self, system: &System, line: &Line) -> Result<(), AllocError>
+    pub(crate) fn show_line(&mut self, system: &System, line: &Line) -> Result<(), AllocError>
         requires dump { IsPortDump (system_of system.now) self.old }
         requires line { BelongsTo (system_of system.now) line.now }
         ensures numbers { OnOk result (IsPortDump (system_of system.now) self.new) }
@@ -116,5 +116,15 @@ impl PortDump {
     {
         put_changes(text, &mut self.levels)?;
         put_end(text, system, self.tick, end)
+    }
+
+    /// Puts what changed at ports in the last tick, and that the trace is cut off, after a text.
+    pub(crate) fn cut_off(&mut self, text: &mut Vec<u8>) -> Result<(), AllocError>
+        requires { All (λ s. s < length self.old.levels.cells.items) self.old.levels.marked.items }
+        ensures { (sys : Flat) (xs : List Taken) (us : List run.Line) (sent : List ℕ) → ShowsUntaken sys xs us (sent ++ text.old.items) self.old
+            → OnOk result (sent ++ text.new.items ≡ cut_dump true sys xs us) }
+    {
+        put_changes(text, &mut self.levels)?;
+        text.extend_from_slice(b"$comment cut $end\n")
     }
 }

@@ -1,4 +1,4 @@
-//! The calls that compare traces: with rules, and with one another.
+//! The calls that check traces: against rules, and against one another.
 
 ghost use Rattle.std.specs.Prelude.{◌≡◌, IfNone, IfOk, IfSome, codes, false, map, option_map};
 ghost use Rattle.clap.specs.Words.{app_of, found_of, rows_of, rule_of};
@@ -14,24 +14,24 @@ use crate::line::{
 use clap::{Arg, ArgAction, ArgMatches, Command};
 use std::alloc::{AllocError, Global};
 
-/// Traces that rules are to hold of.
+/// Rules, and the traces against which they are checked.
 #[derive(Drop)]
 pub struct Expect<'a> {
     /// The name of the file with the rules; `-` is standard input, here and below.
     pub rules: &'a str,
     /// The names of the files with the traces, one or more.
     pub traces: Vec<&'a str>,
-    /// The name of the declaration's file, where the names of the rules must be in it.
+    /// The name of the declaration's file, if the names of the rules must be in it.
     pub declaration: Option<&'a str>,
     /// The names of the files of block types that are read before the declaration, in their order.
     pub types: Vec<&'a str>,
-    /// The name of the deployment's file, where one is given.
+    /// The name of the deployment's file, if one is given.
     pub deploy: Option<&'a str>,
     /// Whether a rule that a trace leaves undecided counts as broken.
     pub is_strict: bool,
     /// Whether traces may be cut off.
     pub is_cut: bool,
-    /// Whether a refusal is reported with its place, where that is known.
+    /// Whether a refusal is reported with its place, if that is known.
     pub why: bool,
 }
 
@@ -85,7 +85,7 @@ pub(crate) fn traces<'a>(alloc: Global) -> Arg<'a>
     required(alloc, "TRACE", TRACES_HELP).action(ArgAction::Append)
 }
 
-/// The command that holds rules against traces.
+/// The command that checks rules against traces.
 pub(crate) fn expect_command<'a>(alloc: Global) -> Result<Command<'a>, AllocError>
     ensures app { IfOk result (λ c. app_of c ≡ spec.expect) }
     ensures globals { IfOk result (λ c. (fields_of c).has_globals ≡ false) }
@@ -116,7 +116,7 @@ pub(crate) fn diff_command<'a>(alloc: Global) -> Result<Command<'a>, AllocError>
     with_arg(command, required(alloc, "B", SECOND_HELP))
 }
 
-/// Whether a deployment or block types are named, and no declaration.
+/// Whether a deployment or block types are given without a declaration.
 fn declares_nothing(declaration: Option<&str>, deploy: Option<&str>, types: &[&str]) -> bool
     ensures { result ≡ spec.declares_nothing (option_map (λ n. n.now) declaration.entry) (option_map (λ n. n.now) deploy.entry) (map (λ t. t.now) types.now) }
 {
@@ -127,8 +127,8 @@ fn declares_nothing(declaration: Option<&str>, deploy: Option<&str>, types: &[&s
     }
 }
 
-/// The call that holds rules against traces, with what was found. A deployment and block types
-/// are those of a declaration.
+/// The call that checks rules against traces, from the parser's matches. A deployment and block types
+/// need a declaration.
 pub(crate) fn expect_of<'a>(
     alloc: Global,
     found: &ArgMatches<'a>,
@@ -162,7 +162,7 @@ pub(crate) fn expect_of<'a>(
     })))
 }
 
-/// The call that compares two traces, with what was found.
+/// The call that compares two traces, from the parser's matches.
 pub(crate) fn diff_of<'a>(found: &ArgMatches<'a>) -> Option<Call<'a>>
     ensures name { IfSome result (λ r. codes "diff" ≡ call_name r) }
     ensures rows { IfSome result (IsCall (rows_of (found_of found.now))) }

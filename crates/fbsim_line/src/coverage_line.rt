@@ -15,12 +15,12 @@ use clap::{ArgMatches, Command};
 use fb_types::MOST_STEPS;
 use std::alloc::{AllocError, Global};
 
-/// Traces of which must be reported what they cover, and what they are traces of.
+/// Traces whose coverage is reported, with their declaration and deployment.
 #[derive(Drop)]
 pub struct Coverage<'a> {
     /// The name of the declaration's file; `-` is standard input, here and below.
     pub declaration: &'a str,
-    /// The name of the deployment's file, where one is given.
+    /// The name of the deployment's file, if one is given.
     pub deploy: Option<&'a str>,
     /// The names of the files with the traces, one or more.
     pub traces: Vec<&'a str>,

@@ -11,14 +11,14 @@ use crate::line::{Call, deployed, option, types_of, with_arg};
 use clap::{ArgMatches, Command};
 use std::alloc::{AllocError, Global};
 
-/// What must be drawn, and the files that it is in.
+/// What is drawn, and its files.
 #[derive(Clone, Copy)]
 pub struct Draw<'a> {
     /// The name of the declaration's file; `-` is standard input, here and below.
     pub declaration: &'a str,
-    /// The name of the deployment's file, where one is given.
+    /// The name of the deployment's file, if one is given.
     pub deploy: Option<&'a str>,
-    /// The name of the type of which the chart or the network is drawn, in any letter case. Without it the application is.
+    /// The name of the type whose chart or network is drawn, in any letter case. Without it the application is drawn.
     pub block_type: Option<&'a str>,
 }
 
@@ -39,7 +39,7 @@ pub(crate) fn draw_command<'a>(alloc: Global) -> Result<Command<'a>, AllocError>
     with_arg(command, option(alloc, "type", TYPE_HELP))
 }
 
-/// The call that draws what is declared, with what was found.
+/// The call that draws what is declared, from the parser's matches.
 pub(crate) fn draw_of<'a>(
     alloc: Global,
     found: &ArgMatches<'a>,

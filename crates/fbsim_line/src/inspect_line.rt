@@ -15,16 +15,16 @@ use clap::{ArgMatches, Command};
 use fb_types::MOST_STEPS;
 use std::alloc::{AllocError, Global};
 
-/// A trace that must be inspected, and what it is a trace of.
+/// A trace that is inspected, with its declaration and deployment.
 #[derive(Drop)]
 pub struct Inspect<'a> {
     /// The name of the declaration's file; `-` is standard input, here and below.
     pub declaration: &'a str,
-    /// The name of the deployment's file, where one is given.
+    /// The name of the deployment's file, if one is given.
     pub deploy: Option<&'a str>,
     /// The name of the file with the trace.
     pub trace: &'a str,
-    /// The paths of the instances that are shown, in any letter case; all are where there is none.
+    /// The paths of the instances that are shown, in any letter case. Without any, all are shown.
     pub only: Vec<&'a str>,
     /// The most steps of a resource in one tick, in a run that stops for them.
     pub steps: u64,
@@ -75,7 +75,7 @@ fn only_of<'a>(alloc: Global, found: &ArgMatches<'a>) -> Result<Vec<&'a str>, Al
     }
 }
 
-/// The call that inspects a trace, with what was found.
+/// The call that inspects a trace, from the parser's matches.
 pub(crate) fn inspect_of<'a>(
     alloc: Global,
     found: &ArgMatches<'a>,

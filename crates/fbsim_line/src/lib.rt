@@ -1,9 +1,9 @@
 //! The words of a call of the program.
 //!
-//! It guarantees to callers: `parse` gives the call that the parser's matches of the words represent, defaults included, or
-//! the text that they ask for, or that they are no call.
+//! Guarantees to callers: `parse` returns the call that the parser's matches of the words represent, defaults included, or
+//! the text for which the words ask, or says that they are no call.
 //!
-//! Read it in this order: `line`, the calls and how their words are read; `bench_line`, `draw_line`,
+//! Read in this order: `line`, the calls and how their words are read; `bench_line`, `draw_line`,
 //! `inspect_line` and `coverage_line`, the words of `expect`, `diff`, `draw`, `inspect` and `coverage`.
 #![tactic(auto)]
 

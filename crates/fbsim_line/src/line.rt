@@ -26,14 +26,14 @@ use std::alloc::{AllocError, Global};
 /// One call of the program: its subcommand with the file names, numbers and flags.
 #[derive(Drop)]
 pub enum Call<'a> {
-    /// Explains what the refusal or the reason of this name means, as `E21` or `divide`, in any letter case.
+    /// Explains the refusal or the reason with this name, such as `E21` or `divide`, in any letter case.
     Explain(&'a str),
     /// Checks or runs an application. The names are those of the files of block types that are read before the declaration,
     /// in their order, here and below.
     Task(Task<'a>, Vec<&'a str>),
     /// Shows a trace as waveforms.
     Wave(Wave<'a>, Vec<&'a str>),
-    /// Holds rules against traces.
+    /// Checks rules against traces.
     Expect(Expect<'a>),
     /// Compares two traces.
     Diff(Diff<'a>),
@@ -45,7 +45,7 @@ pub enum Call<'a> {
     Coverage(Coverage<'a>, Vec<&'a str>),
 }
 
-/// A trace to be shown as waveforms, and what it is a trace of.
+/// A trace that is shown as waveforms, with its declaration and deployment.
 #[derive(Clone, Copy)]
 pub struct Wave<'a> {
     /// The name of the declaration's file; `-` is standard input, here and below.
@@ -92,9 +92,9 @@ pub enum Action {
         horizon: u64,
         /// The most steps that a resource makes in one tick, 1 to 10,000,000.
         steps: u64,
-        /// How many workers there are, 1 to 64.
+        /// The number of workers, 1 to 64.
         workers: u64,
-        /// Whether all is run from one agenda on one thread, whatever the number of workers.
+        /// Whether one agenda and one thread are used, whatever the number of workers.
         serial: bool,
         /// The form of the trace.
         form: Form,
@@ -121,7 +121,7 @@ impl From<AllocError> for LineFault {
     }
 }
 
-/// What is said of words that the parser takes and that name no call all the same.
+/// The text for words that the parser accepts and that still name no call.
 const NO_CALL: &str = "error: the words name no call\n";
 
 /// The version of the program, that of CHANGELOG.md.
@@ -152,7 +152,7 @@ const STATES_HELP: &str =
     "Adds the state of each basic block, its internal variables and the events that it lost.";
 
 const WAVE_STEPS_HELP: &str =
-    "With --states: the limit of steps of the run that wrote the trace, 1 to 10000000.";
+    "With --states: the limit of steps of the run that wrote the trace, 1 to 10000000, if it stopped for them.";
 
 const EXPLAIN_ABOUT: &str =
     "Prints what a refusal or the reason of a stop means, two examples, and what to look at.";
@@ -202,10 +202,10 @@ pub(crate) const WHY_HELP: &str =
 const LINT_HELP: &str =
     "Reports warnings about files that are accepted on standard error, a line each; explain L01 explains the first.";
 
-/// What the forms of the trace are called.
+/// The names of the forms of the trace.
 const FORM_WORDS: &[&str] = &["1", "2"];
 
-/// An argument that has to be there, by its place among the words.
+/// A required argument, by its position among the words.
 pub(crate) fn required<'a>(alloc: Global, id: &'a str, help: &'a str) -> Arg<'a>
     ensures rule { rule_of result ≡ spec.required id.entry.now }
     ensures local { result.global ≡ false }
@@ -213,7 +213,7 @@ pub(crate) fn required<'a>(alloc: Global, id: &'a str, help: &'a str) -> Arg<'a>
     Arg::new(alloc, id).required(true).help(help)
 }
 
-/// An option that takes a value, as the name of a file.
+/// An option that takes a value, such as the name of a file.
 pub(crate) fn option<'a>(alloc: Global, id: &'a str, help: &'a str) -> Arg<'a>
     ensures rule { rule_of result ≡ spec.file id.entry.now }
     ensures local { result.global ≡ false }
@@ -242,7 +242,7 @@ pub(crate) fn limited<'a>(
     option(alloc, id, help).value_parser(values)
 }
 
-/// An option without a value, which is there or is not.
+/// An option without a value.
 pub(crate) fn flag<'a>(alloc: Global, id: &'a str, help: &'a str) -> Arg<'a>
     ensures rule { rule_of result ≡ spec.flag id.entry.now }
     ensures local { result.global ≡ false }
@@ -250,7 +250,7 @@ pub(crate) fn flag<'a>(alloc: Global, id: &'a str, help: &'a str) -> Arg<'a>
     option(alloc, id, help).action(ArgAction::SetTrue)
 }
 
-/// The command with one more argument, where it could be made.
+/// The command with one more argument, if there was memory for it.
 pub(crate) fn with_arg<'a>(
     command: Result<Command<'a>, AllocError>,
     arg: Arg<'a>,
@@ -267,7 +267,7 @@ pub(crate) fn with_arg<'a>(
     }
 }
 
-/// A command with an argument that has to be there, and what the help says of both.
+/// A command with a required argument, and the help texts of both.
 pub(crate) fn begun<'a>(
     alloc: Global,
     name: &'a str,
@@ -285,8 +285,8 @@ pub(crate) fn begun<'a>(
         .arg(required(alloc, id, help))
 }
 
-/// A command with the names of a declaration, of the files of block types before it, and of its deployment, and what the
-/// help says of it.
+/// A command with the names of a declaration, of the files of block types before it, and of its deployment, and its help
+/// text.
 pub(crate) fn deployed<'a>(
     alloc: Global,
     name: &'a str,
@@ -301,7 +301,7 @@ pub(crate) fn deployed<'a>(
     with_arg(command, option(alloc, "deploy", DEPLOY_HELP))
 }
 
-/// A command with the names of its files, and what the help says of it.
+/// A command with the names of its files, and its help text.
 fn files<'a>(
     alloc: Global,
     name: &'a str,
@@ -339,7 +339,7 @@ fn forms<'a>() -> ValueParser<'a>
     ValueParser::Names(FORM_WORDS)
 }
 
-/// The command that runs, with the options that are numbers: how far a run goes, and by how many workers.
+/// The command `run`, with the options that are numbers: horizon, steps and workers.
 fn run_numbers<'a>(alloc: Global) -> Result<Command<'a>, AllocError>
     ensures app { IfOk result (λ c. app_of c ≡ spec.with_numbers (spec.files (codes "run"))) }
     ensures globals { IfOk result (λ c. (fields_of c).has_globals ≡ false) }
@@ -353,7 +353,7 @@ fn run_numbers<'a>(alloc: Global) -> Result<Command<'a>, AllocError>
     with_arg(command, workers)
 }
 
-/// The command that runs, with all options: also, how a run is made, and what its trace is like.
+/// The command `run` with all its options.
 fn run<'a>(alloc: Global, forms: ValueParser<'a>) -> Result<Command<'a>, AllocError>
     ensures app { IfOk result (λ c. app_of c ≡ spec.with_run_options forms.entry (spec.files (codes "run"))) }
     ensures globals { IfOk result (λ c. (fields_of c).has_globals ≡ false) }
@@ -394,8 +394,8 @@ fn explain<'a>(alloc: Global) -> Result<Command<'a>, AllocError>
     )
 }
 
-/// Both of two, where both could be made. It is for values of any types, since the drop of a value on the way is proved
-/// part by part, and that of a type parameter in one step.
+/// Both of two values, if there was memory for both. It takes values of any types: dropping a known type on the way is
+/// proved part by part, dropping a type parameter in one step.
 fn both<F: Drop, S: Drop>(
     first: Result<F, AllocError>,
     second: Result<S, AllocError>,
@@ -406,7 +406,7 @@ fn both<F: Drop, S: Drop>(
     Ok((first?, second?))
 }
 
-/// The command with one more subcommand, where both could be made.
+/// The command with one more subcommand, if there was memory for both.
 fn with_subcommand<'a>(
     command: Result<Command<'a>, AllocError>,
     subcommand: Result<Command<'a>, AllocError>,
@@ -443,7 +443,7 @@ pub(crate) fn number(found: &ArgMatches<'_>, id: &str) -> Option<u64>
     found.get_one::<u64>(id)
 }
 
-/// Whether an option without a value is there.
+/// Whether an option without a value is given.
 pub(crate) fn has_flag(found: &ArgMatches<'_>, id: &str) -> bool
     ensures { IsFlag (rows_of (found_of found.now)) id.now result }
 {
@@ -508,7 +508,7 @@ pub(crate) fn types_of<'a>(
     }
 }
 
-/// The files and the action of a run or a check, where the command has such a name.
+/// The files and the action of a run or a check, if the command has such a name.
 fn task_of<'a>(name: &str, found: &ArgMatches<'a>) -> Option<Task<'a>>
     ensures name { IfSome result (λ c. name.now ≡ command_name c.action) }
     ensures rows { IfSome result (IsTask (rows_of (found_of found.now))) }
@@ -528,7 +528,7 @@ fn task_of<'a>(name: &str, found: &ArgMatches<'a>) -> Option<Task<'a>>
     })
 }
 
-/// The call for a run or a check with what was found, where the command has such a name.
+/// The call for a run or a check, from the parser's matches, if the command has such a name.
 fn task_call<'a>(
     alloc: Global,
     name: &str,
@@ -545,7 +545,7 @@ fn task_call<'a>(
     Ok(Some(Call::Task(task, types)))
 }
 
-/// The call for waveforms with what was found.
+/// The call for waveforms, from the parser's matches.
 fn wave_of<'a>(alloc: Global, found: &ArgMatches<'a>) -> Result<Option<Call<'a>>, AllocError>
     ensures name { IfOk result (λ o. IfSome o (λ r. codes "wave" ≡ call_name r)) }
     ensures rows { IfOk result (λ o. IfSome o (IsCall (rows_of (found_of found.now)))) }
@@ -574,7 +574,7 @@ fn wave_of<'a>(alloc: Global, found: &ArgMatches<'a>) -> Result<Option<Call<'a>>
     Ok(Some(Call::Wave(wave, types)))
 }
 
-/// The call for what a refusal means, with the name that was found.
+/// The call that explains a refusal or a reason, with its name.
 fn explain_of<'a>(found: &ArgMatches<'a>) -> Option<Call<'a>>
     ensures name { IfSome result (λ r. codes "explain" ≡ call_name r) }
     ensures rows { IfSome result (IsCall (rows_of (found_of found.now))) }
@@ -638,7 +638,7 @@ fn call_in<'a>(alloc: Global, matches: &ArgMatches<'a>) -> Result<Call<'a>, Line
 /// The call that the words name, the program's own name first.
 ///
 /// # Errors
-/// `Help` where help or the version is asked for, `Fault` where the words are no call, and `Memory`.
+/// `Help` if help or the version is asked for, `Fault` if the words are no call, and `Memory`.
 pub fn parse<'a>(alloc: Global, words: &'a [&'a str]) -> Result<Call<'a>, LineFault>
     ensures call { IfOk result (AreCall (map (λ w. w.now) words.entry.now)) }
     ensures taken { OnOk result (IsTaken (map (λ w. w.now) words.entry.now)) }

@@ -9,9 +9,9 @@ pub returns-in_err-end-clause-fault : goal.returns-in_err-end-clause-fault
 returns-in_err-end-clause-fault g c =
     err_any c.from_residual.result _ (none_sent (system_of c.args.system.now) c.args.end c.args.self.now (g.W.Write.contents c.args.out.now))
 
-pub returns-in_err-is_over-clause-fault : goal.returns-in_err-is_over-clause-fault
-returns-in_err-is_over-clause-fault g c =
-    err_any c.from_residual-in_err-is_over.result _ (none_sent (system_of c.args.system.now) c.args.end c.args.self.now (g.W.Write.contents c.args.out.now))
+pub returns-in_err-is_at_end-clause-fault : goal.returns-in_err-is_at_end-clause-fault
+returns-in_err-is_at_end-clause-fault g c =
+    err_any c.from_residual-in_err-is_at_end.result _ (none_sent (system_of c.args.system.now) c.args.end c.args.self.now (g.W.Write.contents c.args.out.now))
 
 pub returns-then-not-branch-clause-fault : goal.returns-then-not-branch-clause-fault
 returns-then-not-branch-clause-fault g c = none_sent (system_of c.args.system.now) c.args.end c.args.self.now (g.W.Write.contents c.args.out.now)
@@ -20,7 +20,7 @@ pub returns-clause-finishes : goal.returns-clause-finishes
 returns-clause-finishes g c =
     on_ok c.flush.result _ _ c.flush.ensures.whole
     (λ got. record {
-      over = c.in_ok-is_over.ensures.over c.if-not-branch.false;
+      over = c.in_ok-is_at_end.ensures c.if-not-branch.false;
       rest = c.end.new.text.items;
       got = got;
       whole = λ xs sent shown. c.in_ok-end.ensures xs sent shown;
