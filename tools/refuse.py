@@ -140,9 +140,30 @@ def cycle():
 
 RUNS = [delayed(), stopped(), composite(), ring(), relay(), cycle()]
 
-# The calls that read a trace, and the runs whose traces they read: one with long lines, one with a stop.
-COMMANDS = ["wave", "wave --states", "inspect", "coverage"]
+# The calls that read a trace, each with its status if it has all memory: `expect` has a rule that breaks, and `diff` a second trace that
+# differs. Then the runs whose traces they read: one with long lines, one with a stop.
+COMMANDS = {"wave": 0, "wave --states": 0, "inspect": 0, "coverage": 0, "expect": 1, "diff": 1}
 TRACED = [relay(), stopped()]
+# A rule of each form, for any of these traces. The last one breaks.
+RULES = """[[rule]]
+name = "an event that is taken is answered"
+after = "* > *"
+within = 9
+see = "* < *"
+[[rule]]
+name = "an answer has its event"
+before = "* < *"
+within = 9
+see = "* > *"
+[[rule]]
+name = "the first resource takes nothing after the second"
+never = "R1 > *"
+from = "R2 > *"
+[[rule]]
+name = "there is one answer"
+count = "* < *"
+most = 1
+"""
 
 
 def ends_of(rounds):
@@ -215,20 +236,27 @@ def try_run(program, it, way):
 
 
 def words_of(command, it):
-    """The arguments of a call that reads the trace of a run: its declaration, its deployment, and its limit of steps where there is one."""
+    """The arguments of a call that reads the trace of a run: its declaration, its deployment, and its limit of steps if there is one. `diff`
+    reads two traces and nothing else."""
+    if command == "diff":
+        return [command, "trace", "changed"]
     options = dict(zip(it.words[::2], it.words[1::2]))
-    kept = ["--deploy"] if command == "wave" else ["--deploy", "--steps"]
-    return [*command.split(), "d.iec", *(word for name in kept if name in options for word in (name, options[name])), "trace"]
+    kept = ["--deploy"] if command in ("wave", "expect") else ["--deploy", "--steps"]
+    given = [word for name in kept if name in options for word in (name, options[name])]
+    if command == "expect":
+        return [command, "rules", "trace", "--decl", "d.iec", *given]
+    return [*command.split(), "d.iec", *given, "trace"]
 
 
 def try_command(program, command, it):
-    """Refuses each request of a call that reads the trace of this run. With all memory the call must succeed."""
+    """Refuses each request of a call that reads the trace of this run. With all memory the call must end as COMMANDS says."""
     name = f"{PROGRAM}, {command} of {it.name}"
-    texts = {**it.texts, "trace": "".join(it.rounds)}
+    trace = "".join(it.rounds)
+    texts = {**it.texts, "trace": trace, "changed": trace[:-1] + "0\n", "rules": RULES}
     with Room(program, {name: text.encode() for name, text in texts.items()}) as room:
         refusals = Refusals(room, words_of(command, it), OUT_OF_MEMORY)
         status, output, _ = refusals.run(0)
-        if status:
+        if status != COMMANDS[command]:
             return tell(name, [f"with memory: status {status}, {output[:300]!r}"], 0)
         return tell(name, *refusals.faults(status, output))
 

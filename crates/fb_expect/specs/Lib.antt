@@ -20,3 +20,4 @@ pub mod Judging
 pub mod Parting
 pub mod Reports
 pub mod DifferenceReport
+pub mod Faults

@@ -1,7 +1,8 @@
 //! Why a trace is not read to its end.
 
 ghost use Rattle.std.specs.Prelude.{◌≡◌};
-ghost use Rattle.fb_expect.specs.declared.fault.TraceError.TheVariants.{Memory, Read};
+ghost use Rattle.fb_expect.specs.Faults.{trace_error};
+ghost use Rattle.fb_expect.specs.declared.fault.TraceError.TheVariants.{Memory};
 
 use crate::lines::ReadFault;
 use std::alloc::AllocError;
@@ -15,7 +16,7 @@ pub enum TraceError {
     Refused(u64),
     #[error("out of memory")]
     Memory,
-    /// The reader of the trace gave an error.
+    /// The reader of the trace failed, other than for memory.
     #[error("file fault")]
     Read,
 }
@@ -29,9 +30,12 @@ impl From<AllocError> for TraceError {
 }
 
 impl From<ReadFault> for TraceError {
-    ghost from_gives = { λ _ e. e ≡ Read };
+    ghost from_gives = { λ fault e. e ≡ trace_error fault };
 
-    fn from(_fault: ReadFault) -> TraceError {
-        TraceError::Read
+    fn from(fault: ReadFault) -> TraceError {
+        match fault {
+            ReadFault::Memory => TraceError::Memory,
+            ReadFault::Read => TraceError::Read,
+        }
     }
 }

@@ -5,11 +5,31 @@ ghost use Rattle.std.specs.Io.BufRead.{DropsThrough, take_through};
 ghost use Rattle.std.specs.Io.KnownBytes.{Consumes, IsAtEnd};
 ghost use Rattle.fb_expect.specs.Lines.{IsOneLine};
 
+use std::io;
 use std::io::BufRead;
 
-/// The reader of a text failed.
+/// Why the next line of a text is not read.
 #[derive(Debug, Drop)]
-pub struct ReadFault;
+pub enum ReadFault {
+    /// There is no memory for the line.
+    Memory,
+    /// The reader failed, other than for memory.
+    Read,
+}
+
+impl From<io::Error> for ReadFault {
+    ghost use Rattle.std.specs.IoError.{error_kind};
+    ghost use Rattle.fb_expect.specs.Faults.{IsFaultOf};
+
+    ghost from_gives = { λ error fault. IsFaultOf (error_kind error) fault };
+
+    fn from(error: io::Error) -> ReadFault {
+        if error.kind() == io::ErrorKind::OutOfMemory {
+            return ReadFault::Memory;
+        }
+        ReadFault::Read
+    }
+}
 
 /// Reads the next line into a buffer, with its line feed. At the end of the text the buffer is empty.
 pub(crate) fn next_line<R: BufRead>(input: &mut R, line: &mut Vec<u8>) -> Result<(), ReadFault>
@@ -22,7 +42,7 @@ pub(crate) fn next_line<R: BufRead>(input: &mut R, line: &mut Vec<u8>) -> Result
     line.clear();
     match input.read_until(b'\n', line) {
         Ok(_) => Ok(()),
-        Err(_) => Err(ReadFault),
+        Err(error) => Err(ReadFault::from(error)),
     }
 }
 

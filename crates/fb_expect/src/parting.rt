@@ -20,7 +20,7 @@ pub struct Difference {
 /// Reads two texts line by line, up to the first line in which they differ, where there is one.
 ///
 /// # Errors
-/// Where a reader fails.
+/// `Memory` if there is no memory for a line, `Read` if a reader fails otherwise.
 pub fn part<R: BufRead, S: BufRead>(
     alloc: Global,
     first: &mut R,
@@ -60,5 +60,5 @@ fn parting<R: BufRead, S: BufRead>(
             return Ok(None);
         }
     }
-    Err(ReadFault)
+    Err(ReadFault::Read)
 }

@@ -41,7 +41,8 @@ now t = t.now
 pub unopened :
     {S : Type 0} (opens : Opening S) (is_named : Bool) (from to : S) (name : Text) (fault : SourceFault) → opens from name (Err fault) to
     → IsStopped opens is_named name from to (failure_of_source fault)
-unopened opens is_named from to name source.File is = inl is
+unopened opens is_named from to name source.File is = inl (source.File, refl, is)
+unopened opens is_named from to name source.Folder is = inl (source.Folder, refl, is)
 unopened opens is_named from to name source.Memory is = tt
 
 -- it is refused

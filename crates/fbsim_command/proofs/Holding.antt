@@ -45,7 +45,8 @@ passed-on (Err g) f P same p = subst P (sym same) p
 
 -- it is not opened
 pub unopened : {S : Type 0} (opens : Opening S) (old new : S) (name : Text) (fault : SourceFault) → opens old name (Err fault) new → IsUnheld opens old new name (failure_of_source fault)
-unopened opens old new name source.File is = inl is
+unopened opens old new name source.File is = inl (source.File, refl, is)
+unopened opens old new name source.Folder is = inl (source.Folder, refl, is)
 unopened opens old new name source.Memory is = tt
 
 -- it is refused

@@ -16,16 +16,16 @@ use Rattle.fbsim_command.specs.Failures.{failure_of_wave}
 use Rattle.fbsim_command.specs.LineNotes.{NotesLine, SaysFault}
 use Rattle.fbsim_command.specs.Notes.{NotesOf}
 use Rattle.fbsim_command.specs.Outcomes.{End, Held}
-use Rattle.fbsim_command.specs.Showing.{files_of}
+use Rattle.fbsim_command.specs.Showing.{NotesAs, files_of}
 use Rattle.fbsim_command.specs.declared.failure.Failure.{Failure}
 use Rattle.fbsim_line.specs.declared.line.Wave.{Wave}
 
 -- a note of a check, or of a line
 pub noted_in :
-    (types : List Text) (w : Wave) (lines : List ℕ) (given : Given) (trace : Held) (end : End) (note line : Option Text) → NotesLine w.why given trace end line
-    → NotesOf types (files_of w) lines given end note ⊎ (note ≡ line) → NotesOf types (files_of w) lines given end note ⊎ NotesLine w.why given trace end note
+    (types : List Text) (w : Wave) (lines : List ℕ) (given : Given) (trace : Held) (end : End) (note line : Option Text) → NotesAs w.has_states w.why given trace end line
+    → NotesOf types (files_of w) lines given end note ⊎ (note ≡ line) → NotesOf types (files_of w) lines given end note ⊎ NotesAs w.has_states w.why given trace end note
 noted_in types w lines given trace end note line of_line (inl noted) = inl noted
-noted_in types w lines given trace end note line of_line (inr same) = inr (subst (λ (n : Option Text). NotesLine w.why given trace end n) (sym same) of_line)
+noted_in types w lines given trace end note line of_line (inr same) = inr (subst (λ (n : Option Text). NotesAs w.has_states w.why given trace end n) (sym same) of_line)
 
 -- the note that says what is wrong with a line
 pub says :

@@ -5,10 +5,12 @@ use Rattle.std.specs.Io.KnownBytes.{Appends}
 use Rattle.clap.specs.Words.{Text}
 use Rattle.fb_expect.specs.Parting.{MayPart}
 use Rattle.fb_expect.specs.DifferenceReport.{ShowsDifference}
+use Rattle.fb_expect.specs.declared.lines.ReadFault.{ReadFault}
+use Rattle.fb_expect.specs.declared.lines.ReadFault.TheVariants as line_fault
 use Rattle.fb_expect.specs.declared.parting.Difference.{Difference}
 use Rattle.fbsim_command.specs.declared.statuses.Done.TheVariants.{Different}
 use Rattle.fbsim_command.specs.Comparing.{AreUnopened, Compares, Differs, IsReported}
-use Rattle.fbsim_command.specs.Failures.{WritesPart, failure_of_source}
+use Rattle.fbsim_command.specs.Failures.{WritesPart, failure_of_source, failure_of_trace}
 use Rattle.fbsim_command.specs.Outcomes.{End, Held}
 use Rattle.fbsim_command.specs.Showing.{Opening}
 use Rattle.fbsim_line.specs.declared.bench_line.Diff.{Diff}
@@ -20,6 +22,11 @@ use Rattle.fbsim_command.specs.declared.sources.SourceFault.{SourceFault}
 pub parted : (d : Diff) (first second a b : Held) (r : End) (f : Failure) → IsErrAnd r (λ g. g ≡ f) → Differs d first second a b (Err f) → Differs d first second a b r
 parted d first second a b (Ok x) f bad is = absurd bad
 parted d first second a b (Err g) f same is = subst (λ (h : Failure). Differs d first second a b (Err h)) (sym same) is
+
+-- a reader that fails writes nothing
+pub unread : (d : Diff) (first second old : Held) (fault : ReadFault) → Differs d first second old old (Err (failure_of_trace fault))
+unread d first second old line_fault.Memory = refl
+unread d first second old line_fault.Read = refl
 
 -- what is reported of two lines
 pub reported-of :

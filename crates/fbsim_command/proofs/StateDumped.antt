@@ -1,6 +1,5 @@
 -- How a call for waveforms with the inside of basic blocks ends where there are none, or no whole ones.
-use Rattle.std.proofs.Common.{◌≡◌, ℕ, Option, Some, None, Ok, Err, inl, inr, refl, sym, subst}
-use Rattle.std.specs.Prelude.{IsErrAnd}
+use Rattle.std.proofs.Common.{◌≡◌, ℕ, Option, Some, None, Ok, Err, inl, inr, refl}
 use Rattle.fb_types.specs.Headline.{Inputs, system_of}
 use Rattle.fb_read.specs.declared.error.ReadError.{ReadError}
 use Rattle.fb_read.specs.declared.error.ReadError.TheVariants as read
@@ -14,21 +13,21 @@ use Rattle.fb_sim.specs.declared.outcome.Refusal as sim
 use Rattle.fb_sim.specs.declared.outcome.Refusal.TheVariants as of
 use Rattle.fb_sim.specs.declared.outcome.RunError.{RunError}
 use Rattle.fb_sim.specs.declared.outcome.RunError.TheVariants as run
+use Rattle.fb_wave.specs.declared.truncation.Cut.{Cut}
 use Rattle.fb_states.specs.StateWaves.{WritesFront}
 use Rattle.fbsim_command.specs.Failures.{failure_of, failure_of_inspection, numbered_input}
-use Rattle.fbsim_command.specs.Outcomes.{End, Held}
+use Rattle.fbsim_command.specs.Outcomes.{Held}
 use Rattle.fbsim_command.specs.StateDumping.{DumpsStates}
-use Rattle.fbsim_command.specs.declared.failure.Failure.{Failure}
 
 -- nothing is written where the inputs are refused
-pub states_none : (given : Given) (steps : ℕ) (trace old : Held) (error : RunError) → IsRefusal given error → DumpsStates given steps trace old old (Err (failure_of error))
-states_none given steps trace old (run.Refused r) is = refusal r is
+pub states_none : (may : Cut) (steps : ℕ) (given : Given) (trace old : Held) (error : RunError) → IsRefusal given error → DumpsStates may steps given trace old old (Err (failure_of error))
+states_none may steps given trace old (run.Refused r) is = refusal r is
   where
-    numbered : (r : sim.Refusal) → IsRightly given r → (o : Option ℕ) → failure_of (run.Refused r) ≡ numbered_input o → DumpsStates given steps trace old old (Err (numbered_input o))
+    numbered : (r : sim.Refusal) → IsRightly given r → (o : Option ℕ) → failure_of (run.Refused r) ≡ numbered_input o → DumpsStates may steps given trace old old (Err (numbered_input o))
     numbered r is (Some n) reported = inl (record { error = run.Refused r; refused = is; reported = reported }, refl)
     numbered r is None reported = inl refl
 
-    unread : (e : ReadError) → IsRightly given (of.Declaration e) → DumpsStates given steps trace old old (Err (failure_of (run.Refused (of.Declaration e))))
+    unread : (e : ReadError) → IsRightly given (of.Declaration e) → DumpsStates may steps given trace old old (Err (failure_of (run.Refused (of.Declaration e))))
     unread read.Memory is = inl refl
     unread read.Byte is = inl (record { error = run.Refused (of.Declaration read.Byte); refused = is; reported = refl }, refl)
     unread read.Token is = inl (record { error = run.Refused (of.Declaration read.Token); refused = is; reported = refl }, refl)
@@ -36,29 +35,23 @@ states_none given steps trace old (run.Refused r) is = refusal r is
     unread read.TooLong is = inl (record { error = run.Refused (of.Declaration read.TooLong); refused = is; reported = refl }, refl)
     unread read.Nesting is = inl (record { error = run.Refused (of.Declaration read.Nesting); refused = is; reported = refl }, refl)
 
-    refusal : (r : sim.Refusal) → IsRightly given r → DumpsStates given steps trace old old (Err (failure_of (run.Refused r)))
+    refusal : (r : sim.Refusal) → IsRightly given r → DumpsStates may steps given trace old old (Err (failure_of (run.Refused r)))
     refusal (of.Declaration e) is = unread e is
     refusal (of.Deployment e) is = numbered (of.Deployment e) is (input.number_of e) refl
     refusal (of.Stimuli e) is = numbered (of.Stimuli e) is (input.number_of e) refl
     refusal (of.Check e) is = numbered (of.Check e) is (check.number_of e) refl
-states_none given steps trace old run.Memory is = inl refl
-states_none given steps trace old (run.Write n) is = absurd is
-states_none given steps trace old run.BadOption is = absurd is
-states_none given steps trace old run.Failed is = absurd is
+states_none may steps given trace old run.Memory is = inl refl
+states_none may steps given trace old (run.Write n) is = absurd is
+states_none may steps given trace old run.BadOption is = absurd is
+states_none may steps given trace old run.Failed is = absurd is
 
 -- a beginning is written where the trace is refused, or where reading it, writing or memory fails
 pub states_front :
-    (given : Given) (steps : ℕ) (trace old new : Held) (i : Inputs) → Declares given i → (e : InspectError) → WritesFront (system_of i) steps old new
-    → DumpsStates given steps trace old new (Err (failure_of_inspection e))
-states_front given steps trace old new i is (inspection.Refused line) front = inr (i, is, front)
-states_front given steps trace old new i is inspection.Names front = inr (i, is, front)
-states_front given steps trace old new i is inspection.Unknown front = inr (i, is, front)
-states_front given steps trace old new i is inspection.Memory front = inr (i, is, front)
-states_front given steps trace old new i is inspection.Read front = (i, is, front)
-states_front given steps trace old new i is (inspection.Write n) front = (i, is, front)
-
--- a failure that is passed on
-pub states_passed :
-    (given : Given) (steps : ℕ) (trace old new : Held) (r : End) (f : Failure) → IsErrAnd r (λ g. g ≡ f) → DumpsStates given steps trace old new (Err f) → DumpsStates given steps trace old new r
-states_passed given steps trace old new (Ok d) f bad ends = absurd bad
-states_passed given steps trace old new (Err g) f is ends = subst (λ (h : Failure). DumpsStates given steps trace old new (Err h)) (sym is) ends
+    (may : Cut) (steps : ℕ) (given : Given) (trace old new : Held) (i : Inputs) → Declares given i → (e : InspectError) → WritesFront (system_of i) steps old new
+    → DumpsStates may steps given trace old new (Err (failure_of_inspection e))
+states_front may steps given trace old new i is (inspection.Refused line) front = inr (i, is, front)
+states_front may steps given trace old new i is inspection.Names front = inr (i, is, front)
+states_front may steps given trace old new i is inspection.Unknown front = inr (i, is, front)
+states_front may steps given trace old new i is inspection.Memory front = inr (i, is, front)
+states_front may steps given trace old new i is inspection.Read front = (i, is, front)
+states_front may steps given trace old new i is (inspection.Write n) front = (i, is, front)

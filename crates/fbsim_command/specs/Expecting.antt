@@ -33,7 +33,6 @@ use Rattle.fbsim_command.specs.declared.failure.RefusalLine.TheVariants.{Numbere
 use Rattle.fbsim_line.specs.declared.line.Action.TheVariants.{Check}
 use Rattle.fbsim_line.specs.declared.line.Task.{Task}
 use Rattle.fbsim_command.specs.declared.sources.SourceFault.{SourceFault}
-use Rattle.fbsim_command.specs.declared.sources.SourceFault.TheVariants as source
 use Rattle.fbsim_command.specs.declared.statuses.Done.TheVariants.{Helped, Explained, Accepted, Shown, Ended, Stopped, Met, Unmet, Same, Different}
 use Rattle.fbsim_command.specs.declared.texts.Part.{Part}
 
@@ -86,9 +85,8 @@ pub record AreNamesUnread {S : Type 0} (reads : Reading S) (x : Expect) (old new
   pub declaration : IsUndeclared reads x x.declaration between new part fault
 
 -- The note to the file of the rules, which is not read.
-pub record IsRulesFileNote (x : Expect) (fault : SourceFault) (note : Text) : Type 0 where
-  pub unread : fault ≡ source.File
-  pub is : IsNoteOfName (codes "rules") x.rules.now note
+abbrev pub IsRulesFileNote : Expect → SourceFault → (note : Text) → Type 0
+IsRulesFileNote x fault note = IsNoteOfName (codes "rules") x.rules.now fault note
 
 -- the note to this file of the declaration, which is not read
 abbrev pub IsNamesFileNote : Expect → Option (Bor Text) → Part → SourceFault → Text → Type 0
@@ -223,7 +221,7 @@ pub record RefusesTrace {S : Type 0} (opens : Opening S) (x : Expect) (rules : L
 
 -- A trace is not opened, or can't be read to its end.
 abbrev pub IsNoTrace : {S : Type 0} → Opening S → (old new : S) → (name : Text) → Type 0
-IsNoTrace opens old new name = opens old name (Err source.File) new ⊎ ((trace : Held) × opens old name (Ok trace) new)
+IsNoTrace opens old new name = ((fault : SourceFault) × (failure_of_source fault ≡ File) × opens old name (Err fault) new) ⊎ ((trace : Held) × opens old name (Ok trace) new)
 
 pub record LacksTrace {S : Type 0} (opens : Opening S) (x : Expect) (rules : List Rule) (old new : S) : Type 0 where
   pub name : Text

@@ -6,6 +6,8 @@ use Rattle.fb_read.specs.declared.error.ReadError.{ReadError}
 use Rattle.fb_read.specs.declared.error.ReadError.TheVariants as read
 use Rattle.fb_expect.specs.Refusals as rules
 use Rattle.fb_expect.specs.declared.error.RulesError.{RulesError}
+use Rattle.fb_expect.specs.declared.lines.ReadFault.{ReadFault}
+use Rattle.fb_expect.specs.declared.lines.ReadFault.TheVariants as line_fault
 use Rattle.fb_inputs.specs.Refusals as input
 use Rattle.fb_inputs.specs.declared.error.InputError.{InputError}
 use Rattle.fb_check.specs.Refusals as check
@@ -62,6 +64,10 @@ failure_of (run.Write n) = Write n
 failure_of run.BadOption = BadOption
 failure_of run.Failed = Memory
 
+abbrev pub failure_of_trace : ReadFault → Failure
+failure_of_trace line_fault.Memory = Memory
+failure_of_trace line_fault.Read = File
+
 abbrev pub failure_of_wave : WaveError → Failure
 failure_of_wave (wave.Refused line) = Refused (Trace line)
 failure_of_wave wave.Memory = Memory
@@ -82,6 +88,7 @@ failure_of_rules e = numbered_input (rules.number_of e)
 
 abbrev pub failure_of_source : SourceFault → Failure
 failure_of_source source.File = File
+failure_of_source source.Folder = File
 failure_of_source source.Memory = Memory
 
 -- ---- The texts

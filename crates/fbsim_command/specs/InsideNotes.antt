@@ -6,7 +6,6 @@ use Rattle.fbsim_command.specs.Outcomes.{End}
 use Rattle.fbsim_command.specs.declared.failure.Failure.TheVariants.{Refused}
 use Rattle.fbsim_command.specs.declared.failure.RefusalLine.TheVariants.{Trace}
 use Rattle.fbsim_command.specs.declared.sources.SourceFault.{SourceFault}
-use Rattle.fbsim_command.specs.declared.sources.SourceFault.TheVariants as source
 
 -- The note begins so and has the number of the line. Its words are not specified.
 pub record SaysLine (front : Text) (line : ℕ) (note : Text) : Type 0 where
@@ -19,6 +18,5 @@ NotesInside why end None = Unit {0}
 NotesInside why end (Some note) = IsTrue why × ((line : ℕ) × (end ≡ Err (Refused (Trace line))) × SaysLine (codes "trace") line note)
 
 -- The note of a trace that can't be opened.
-pub record IsOpenNote (name : Text) (fault : SourceFault) (note : Text) : Type 0 where
-  pub unread : fault ≡ source.File
-  pub is : IsNoteOfName (codes "trace") name note
+abbrev pub IsOpenNote : (name : Text) → SourceFault → (note : Text) → Type 0
+IsOpenNote name fault note = IsNoteOfName (codes "trace") name fault note

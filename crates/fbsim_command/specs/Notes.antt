@@ -14,7 +14,7 @@ use Rattle.fbsim_command.specs.declared.failure.Failure.{Failure}
 use Rattle.fbsim_command.specs.declared.failure.Failure.TheVariants.{Refused}
 use Rattle.fbsim_command.specs.declared.failure.RefusalLine.TheVariants.{Numbered, Syntax}
 use Rattle.fbsim_command.specs.declared.sources.SourceFault.{SourceFault}
-use Rattle.fbsim_command.specs.declared.sources.SourceFault.TheVariants.{File}
+use Rattle.fbsim_command.specs.declared.sources.SourceFault.TheVariants.{File, Folder, Memory}
 use Rattle.fbsim_command.specs.declared.texts.Part.{Part}
 use Rattle.fbsim_command.specs.Outcomes.{End}
 use Rattle.fbsim_command.specs.declared.texts.Part.TheVariants.{BlockTypes, Declaration, Deployment, Stimuli}
@@ -34,23 +34,28 @@ name_of types c Declaration = Some c.declaration.now
 name_of types c Deployment = option_map (λ n. n.now) c.deploy
 name_of types c Stimuli = option_map (λ n. n.now) c.stimuli
 
--- what is the matter with a file of this name
-pub record IsMatter (name matter : List ℕ) : Type 0 where
+-- a file of this name can't be read
+pub record IsUnreadable (name matter : List ℕ) : Type 0 where
   pub input : name ≡ codes "-" → matter ≡ codes "standard input can't be read, or was read before"
   pub others : name ≢ codes "-" → matter ≡ codes "no file of this name can be read"
 
--- the note of a file of this name, which is called so
-pub record IsNoteOfName (word name note : List ℕ) : Type 0 where
+-- what is the matter with a file of this name, which is not read; nothing is said where memory ran out
+abbrev pub IsMatter : SourceFault → (name matter : List ℕ) → Type 0
+IsMatter File name matter = IsUnreadable name matter
+IsMatter Folder name matter = matter ≡ codes "this is a folder, not a file"
+IsMatter Memory name matter = ⊥
+
+-- the note of a file of this name, which is called so and is not read
+pub record IsNoteOfName (word name : List ℕ) (fault : SourceFault) (note : List ℕ) : Type 0 where
   pub matter : List ℕ
-  pub is_matter : IsMatter name matter
+  pub is_matter : IsMatter fault name matter
   pub text : note ≡ word ++ codes " " ++ name ++ codes ": " ++ matter
 
 -- The note of a file that can't be read.
 pub record IsFileNote (types : List (List ℕ)) (c : Task) (part : Part) (fault : SourceFault) (note : List ℕ) : Type 0 where
-  pub unread : fault ≡ File
   pub name : List ℕ
   pub named : name_of types c part ≡ Some name
-  pub is : IsNoteOfName (file_word part) name note
+  pub is : IsNoteOfName (file_word part) name fault note
 
 -- ---- Refusals
 

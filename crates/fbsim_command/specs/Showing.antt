@@ -13,6 +13,7 @@ use Rattle.fbsim_line.specs.declared.line.Task.{Task}
 use Rattle.fbsim_line.specs.declared.line.Action.TheVariants.{Check}
 use Rattle.fbsim_line.specs.declared.line.Wave.{Wave}
 use Rattle.fbsim_command.specs.Failures.{failure_of_source}
+use Rattle.fbsim_command.specs.InsideNotes.{NotesInside}
 use Rattle.fbsim_command.specs.LineNotes.{NotesLine}
 use Rattle.fbsim_command.specs.Notes.{IsFileNote, IsNoteOfName, Notes, NotesOf}
 use Rattle.fbsim_command.specs.Outcomes.{End, Held, IsRefused}
@@ -23,7 +24,6 @@ use Rattle.fbsim_command.specs.declared.failure.Failure.TheVariants.{Refused, Re
 use Rattle.fbsim_command.specs.declared.failure.RefusalLine.{RefusalLine}
 use Rattle.fbsim_command.specs.declared.failure.RefusalLine.TheVariants.{Trace}
 use Rattle.fbsim_command.specs.declared.sources.SourceFault.{SourceFault}
-use Rattle.fbsim_command.specs.declared.sources.SourceFault.TheVariants as source
 use Rattle.fbsim_command.specs.declared.statuses.Done.TheVariants.{Helped, Explained, Accepted, Shown, Ended, Stopped, Met, Unmet, Same, Different}
 use Rattle.fbsim_command.specs.declared.texts.Part.{Part}
 
@@ -82,15 +82,19 @@ Dumps may given trace old new (Err (RefusedTrace text)) = ⊥
 
 -- .. with the inside of basic blocks, or without
 abbrev pub DumpsAs : (has_states : Bool) → (steps : ℕ) → Cut → Given → (trace : Held) → (old new : Held) → End → Type 0
-DumpsAs true steps may given trace old new end = DumpsStates given steps trace old new end
+DumpsAs true steps may given trace old new end = DumpsStates may steps given trace old new end
 DumpsAs false steps may given trace old new end = Dumps may given trace old new end
+
+-- .. and what is reported of the line at which it is refused
+abbrev pub NotesAs : (has_states why : Bool) → Given → (trace : Held) → End → Option Text → Type 0
+NotesAs true why given trace end note = NotesInside why end note
+NotesAs false why given trace end note = NotesLine why given trace end note
 
 -- ---- What is read
 
 -- The note of a trace that can't be opened.
-pub record IsTraceFileNote (w : Wave) (fault : SourceFault) (note : Text) : Type 0 where
-  pub unread : fault ≡ source.File
-  pub is : IsNoteOfName (codes "trace") w.trace.now note
+abbrev pub IsTraceFileNote : Wave → SourceFault → (note : Text) → Type 0
+IsTraceFileNote w fault note = IsNoteOfName (codes "trace") w.trace.now fault note
 
 -- All is read that the trace is of, the trace is opened, and its dump is written. A syntax fault is one of the file that has it.
 -- A note is that of a check, or says what is wrong with the line at which the trace is refused.
@@ -103,7 +107,7 @@ pub record IsReadAndShown {S : Type 0} (reads : Reading S) (opens : Opening S) (
   pub opened : opens between w.trace.now (Ok trace) to
   pub inner : End
   pub done : DumpsAs w.has_states w.steps (cut_of w) given trace old new inner
-  pub noted : NotesOf types (files_of w) lines given inner note ⊎ NotesLine w.why given trace inner note
+  pub noted : NotesOf types (files_of w) lines given inner note ⊎ NotesAs w.has_states w.why given trace inner note
   pub ends : EndsIn types w.declaration.now lines inner end
 
 -- All is read that the trace is of, and the trace is not opened.

@@ -3,7 +3,8 @@ use Rattle.std.specs.Prelude.{◌≡◌, ◌⊎◌, ℕ, IfSome, Ok, Err}
 use Rattle.fb_types.specs.Headline.{Inputs, system_of}
 use Rattle.fb_sim.specs.Given.{Given}
 use Rattle.fb_sim.specs.Serial.{Declares}
-use Rattle.fb_states.specs.StateWaves.{IsStateWave, WritesFront}
+use Rattle.fb_wave.specs.declared.truncation.Cut.{Cut}
+use Rattle.fb_states.specs.StateWaves.{IsShownWith, WritesFront}
 use Rattle.fbsim_command.specs.Outcomes.{End, Held, IsRefused}
 use Rattle.fbsim_command.specs.declared.failure.Failure.TheVariants.{Refused, RefusedTrace, File, Write, Memory, Line, BadOption}
 use Rattle.fbsim_command.specs.declared.statuses.Done.TheVariants.{Helped, Explained, Accepted, Shown, Ended, Stopped, Met, Unmet, Same, Different}
@@ -13,21 +14,21 @@ abbrev pub StatesFront : Given → (steps : ℕ) → (old new : Held) → Type 0
 StatesFront given steps old new = (i : Inputs) × Declares given i × WritesFront (system_of i) steps old new
 
 -- a trace of what the inputs declare is read, of which these bytes are known, and its dump is written with the inside of basic blocks
-abbrev pub DumpsStates : Given → (steps : ℕ) → (trace : Held) → (old new : Held) → End → Type 0
-DumpsStates given steps trace old new (Ok Shown) = (i : Inputs) × Declares given i × IfSome trace (λ text. IsStateWave (system_of i) steps text old new)
-DumpsStates given steps trace old new (Ok Helped) = ⊥
-DumpsStates given steps trace old new (Ok Explained) = ⊥
-DumpsStates given steps trace old new (Ok Accepted) = ⊥
-DumpsStates given steps trace old new (Ok Ended) = ⊥
-DumpsStates given steps trace old new (Ok Stopped) = ⊥
-DumpsStates given steps trace old new (Ok Met) = ⊥
-DumpsStates given steps trace old new (Ok Unmet) = ⊥
-DumpsStates given steps trace old new (Ok Same) = ⊥
-DumpsStates given steps trace old new (Ok Different) = ⊥
-DumpsStates given steps trace old new (Err (Refused refusal)) = (IsRefused given refusal × (new ≡ old)) ⊎ StatesFront given steps old new
-DumpsStates given steps trace old new (Err File) = StatesFront given steps old new
-DumpsStates given steps trace old new (Err (Write n)) = StatesFront given steps old new
-DumpsStates given steps trace old new (Err Memory) = (new ≡ old) ⊎ StatesFront given steps old new
-DumpsStates given steps trace old new (Err (Line message)) = ⊥
-DumpsStates given steps trace old new (Err BadOption) = ⊥
-DumpsStates given steps trace old new (Err (RefusedTrace text)) = ⊥
+abbrev pub DumpsStates : Cut → (steps : ℕ) → Given → (trace : Held) → (old new : Held) → End → Type 0
+DumpsStates may steps given trace old new (Ok Shown) = (i : Inputs) × Declares given i × IfSome trace (λ text. IsShownWith may (system_of i) steps text old new)
+DumpsStates may steps given trace old new (Ok Helped) = ⊥
+DumpsStates may steps given trace old new (Ok Explained) = ⊥
+DumpsStates may steps given trace old new (Ok Accepted) = ⊥
+DumpsStates may steps given trace old new (Ok Ended) = ⊥
+DumpsStates may steps given trace old new (Ok Stopped) = ⊥
+DumpsStates may steps given trace old new (Ok Met) = ⊥
+DumpsStates may steps given trace old new (Ok Unmet) = ⊥
+DumpsStates may steps given trace old new (Ok Same) = ⊥
+DumpsStates may steps given trace old new (Ok Different) = ⊥
+DumpsStates may steps given trace old new (Err (Refused refusal)) = (IsRefused given refusal × (new ≡ old)) ⊎ StatesFront given steps old new
+DumpsStates may steps given trace old new (Err File) = StatesFront given steps old new
+DumpsStates may steps given trace old new (Err (Write n)) = StatesFront given steps old new
+DumpsStates may steps given trace old new (Err Memory) = (new ≡ old) ⊎ StatesFront given steps old new
+DumpsStates may steps given trace old new (Err (Line message)) = ⊥
+DumpsStates may steps given trace old new (Err BadOption) = ⊥
+DumpsStates may steps given trace old new (Err (RefusedTrace text)) = ⊥

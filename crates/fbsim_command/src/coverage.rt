@@ -132,7 +132,7 @@ fn note_of_refusal(
     note_of_inside(alloc, coverage.why, front.as_str(), system, line, refused)
 }
 
-/// One more trace that is cut off, or not. No call names so many that they can't be counted.
+/// One more trace that is cut off, or not. No call names more traces than can be counted.
 fn counted(extent: Extent, cut: u64) -> Result<u64, Failure>
     ensures count { IfOk result (λ n. n ≡ spec.counted extent cut) }
     ensures memory { IfErr result (λ failure. failure ≡ Failure.Memory) }

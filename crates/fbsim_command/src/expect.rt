@@ -319,9 +319,7 @@ fn compare<R: BufRead, T: BufRead, W: Write>(
 ) -> Result<Done, Failure>
     ensures { Differs diff.now (R.remaining first.old) (T.remaining second.old) (W.contents out.old) (W.contents out.new) result }
 {
-    let Ok(found) = part(alloc, first, second) else {
-        return Err(Failure::File);
-    };
+    let found = part(alloc, first, second)?;
     let Some(difference) = found else {
         return Ok(Done::Same);
     };

@@ -1,12 +1,12 @@
 //! Why a call of the program does not do what is asked, and how that is reported.
 
 ghost use Rattle.std.specs.Prelude.{◌≡◌};
-ghost use Rattle.fbsim_command.specs.Failures.{failure_of, failure_of_check, failure_of_inspection, failure_of_read, failure_of_input, failure_of_refusal, failure_of_rules, failure_of_source, failure_of_wave};
+ghost use Rattle.fbsim_command.specs.Failures.{failure_of, failure_of_check, failure_of_inspection, failure_of_read, failure_of_input, failure_of_refusal, failure_of_rules, failure_of_source, failure_of_trace, failure_of_wave};
 ghost use Rattle.fbsim_command.specs.declared.failure.Failure.TheVariants.{Memory};
 
 use crate::sources::SourceFault;
 use fb_check::CheckError;
-use fb_expect::RulesError;
+use fb_expect::{ReadFault, RulesError};
 use fb_inputs::InputError;
 use fb_inspect::InspectError;
 use fb_read::ReadError;
@@ -115,6 +115,17 @@ impl From<RunError> for Failure {
     }
 }
 
+impl From<ReadFault> for Failure {
+    ghost from_gives = { λ fault failure. failure ≡ failure_of_trace fault };
+
+    fn from(fault: ReadFault) -> Failure {
+        match fault {
+            ReadFault::Memory => Failure::Memory,
+            ReadFault::Read => Failure::File,
+        }
+    }
+}
+
 impl From<WaveError> for Failure {
     ghost from_gives = { λ error failure. failure ≡ failure_of_wave error };
 
@@ -162,7 +173,7 @@ impl From<SourceFault> for Failure {
 
     fn from(fault: SourceFault) -> Failure {
         match fault {
-            SourceFault::File => Failure::File,
+            SourceFault::File | SourceFault::Folder => Failure::File,
             SourceFault::Memory => Failure::Memory,
         }
     }

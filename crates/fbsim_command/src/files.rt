@@ -33,6 +33,17 @@ impl<'r, R: rt::Files + Input> Files<'r, R> {
     }
 }
 
+/// Opens a file of the machine. A folder can be opened like one, and only reading it fails, so what it is comes first.
+fn open_file<R: rt::Files>(files: &R, name: &str) -> Result<R::File, SourceFault> {
+    match fs::metadata(files, name) {
+        Ok(metadata) if metadata.is_dir() => Err(SourceFault::Folder),
+        _ => match fs::open(files, name) {
+            Ok(file) => Ok(file),
+            Err(_) => Err(SourceFault::File),
+        },
+    }
+}
+
 /// The first bytes of a reader, at most `most` of them.
 ///
 /// # Errors
@@ -111,9 +122,9 @@ impl<'r, R: rt::Files + Input> Source for Files<'r, R> {
             self.has_read_input = true;
             return read_most(alloc, &mut self.runtime.reader(), most);
         }
-        match fs::open(self.runtime, name) {
+        match open_file(self.runtime, name) {
             Ok(mut file) => read_most(alloc, &mut file, most),
-            Err(_) => Err(SourceFault::File),
+            Err(fault) => Err(fault),
         }
     }
 }
@@ -133,9 +144,9 @@ impl<'r, R: rt::Files + Input> Streams for Files<'r, R> {
             self.has_read_input = true;
             return paged(alloc, Opened::Input(self.runtime.reader()));
         }
-        match fs::open(self.runtime, name) {
+        match open_file(self.runtime, name) {
             Ok(file) => paged(alloc, Opened::Named(file)),
-            Err(_) => Err(SourceFault::File),
+            Err(fault) => Err(fault),
         }
     }
 }

@@ -1,12 +1,13 @@
 //! What is reported after the refusal of a trace that is gone through: what is wrong with the line.
 
-ghost use Rattle.std.specs.Prelude.{◌≡◌, ◌++◌, IfSome, IsTrue, codes, decimal, option_map, string_bytes};
+ghost use Rattle.std.specs.Prelude.{◌≡◌, ◌++◌, ℕ, Err, IfSome, IsTrue, codes, decimal, option_map, string_bytes};
+ghost use Rattle.fb_inspect.specs.declared.error.InspectError.TheVariants as failed;
 ghost use Rattle.fbsim_command.specs.InsideNotes.{IsOpenNote, SaysLine};
 ghost use Rattle.fbsim_command.specs.Notes.{Notes};
 
 use crate::notes::note_of_name;
 use crate::sources::SourceFault;
-use fb_inspect::{RefusedLine, finding_message};
+use fb_inspect::{InspectError, RefusedLine, finding_message};
 use fb_system::System;
 use fb_wave_why::{fault_of, line_message};
 use std::alloc::Global;
@@ -56,6 +57,24 @@ pub(crate) fn note_of_inside(
     note_with(alloc, front, line, words.as_str())
 }
 
+/// What is wrong with the line at which a trace that is gone through is refused, where that is asked for.
+pub(crate) fn note_of_gone(
+    alloc: Global,
+    why: bool,
+    system: &System,
+    gone: &Result<(), InspectError>,
+    refused: &RefusedLine,
+) -> Option<String>
+    ensures { IfSome result (λ note. IsTrue why × ((line : ℕ) × (gone.now ≡ Err (failed.Refused line)) × SaysLine (codes "trace") line (string_bytes note))) }
+{
+    match gone {
+        Err(InspectError::Refused(line)) => {
+            note_of_inside(alloc, why, "trace", system, *line, refused)
+        }
+        _ => None,
+    }
+}
+
 /// The note to the file of a trace, which is not opened, where one is asked for.
 pub(crate) fn note_of_open(
     alloc: Global,
@@ -68,8 +87,5 @@ pub(crate) fn note_of_open(
     if !why {
         return None;
     }
-    if let SourceFault::Memory = fault {
-        return None;
-    }
-    Some(note_of_name(alloc, "trace", name)?)
+    note_of_name(alloc, "trace", name, fault)
 }

@@ -1,14 +1,13 @@
 //! What happens inside the blocks of a trace.
 
-ghost use Rattle.std.specs.Prelude.{◌≡◌, ℕ, Err, IfOk, IfSome, IsTrue, OnErr, OnOk, codes, map, option_map, string_bytes};
+ghost use Rattle.std.specs.Prelude.{◌≡◌, IfOk, IfSome, OnErr, OnOk, map, option_map, string_bytes};
 ghost use Rattle.fb_types.specs.Headline.{system_of};
 ghost use Rattle.fb_inspect.specs.Inspections.{IsShownBy, ShowsFront};
-ghost use Rattle.fb_inspect.specs.declared.error.InspectError.TheVariants as failed;
-ghost use Rattle.fbsim_command.specs.InsideNotes.{NotesInside, SaysLine};
+ghost use Rattle.fbsim_command.specs.InsideNotes.{NotesInside};
 ghost use Rattle.fbsim_command.specs.Inspecting.{Inspects, ShowsInsides, cut_of, files_of, paths_of, upper};
 
 use crate::failure::Failure;
-use crate::inside_notes::{note_of_inside, note_of_open};
+use crate::inside_notes::{note_of_gone, note_of_open};
 use crate::line_notes::note_of_wave;
 use crate::notes::note_of_file;
 use crate::own_lines::end_with;
@@ -92,24 +91,6 @@ fn go<R: BufRead, W: Write>(
     fb_inspect::inspect(alloc, system, inspection, refused, trace, out)
 }
 
-/// What is wrong with the line at which a trace is refused, where that is asked for.
-fn note_of_gone(
-    alloc: Global,
-    inspect: &Inspect<'_>,
-    system: &System,
-    gone: &Result<(), InspectError>,
-    refused: &RefusedLine,
-) -> Option<String>
-    ensures { IfSome result (λ note. IsTrue inspect.now.why × ((line : ℕ) × (gone.now ≡ Err (failed.Refused line)) × SaysLine (codes "trace") line (string_bytes note))) }
-{
-    match gone {
-        Err(InspectError::Refused(line)) => {
-            note_of_inside(alloc, inspect.why, "trace", system, *line, refused)
-        }
-        _ => None,
-    }
-}
-
 /// Reads a trace of what is declared, and writes it with what happens inside its blocks. It says how that ends, and what is
 /// reported of the line at which the trace is refused.
 fn write_inspected<R: BufRead, W: Write>(
@@ -128,7 +109,7 @@ fn write_inspected<R: BufRead, W: Write>(
     };
     let mut refused = RefusedLine::new(alloc);
     let gone = go(alloc, &system, inspect, &mut refused, trace, out);
-    let note = note_of_gone(alloc, inspect, &system, &gone, &refused);
+    let note = note_of_gone(alloc, inspect.why, &system, &gone, &refused);
     // Dropped by one call: the end of its scope would prove the drop part by part.
     discard(system);
     match gone {

@@ -1,7 +1,7 @@
 //! What is reported after the line of a failure: its place.
 
 ghost use Rattle.std.specs.Prelude.{◌≡◌, ◌++◌, IfOk, IfSome, map, option_map, string_bytes};
-ghost use Rattle.fbsim_command.specs.Notes.{AreNotesOf, IsFileNote, IsMatter, IsNote, IsNoteIn, IsNoteOfFindings, IsNoteOfName, IsNoteOfNumber, Notes, file_word, input_names, name_of, number_of, on_line};
+ghost use Rattle.fbsim_command.specs.Notes.{AreNotesOf, IsFileNote, IsMatter, IsNote, IsNoteIn, IsNoteOfFindings, IsNoteOfName, IsNoteOfNumber, Notes, file_word, input_names, name_of, number_of, on_line, IsUnreadable};
 ghost use Rattle.fbsim_command.specs.InputNotes.{IsNoteThere, names_of};
 ghost use Rattle.fbsim_command.specs.OwnLines.{IsPlaced};
 ghost use Rattle.fbsim_command.specs.Texts.{given_of, lines_of};
@@ -31,14 +31,25 @@ fn word_for(part: Part) -> &'static str
     }
 }
 
-/// What is the matter with a file of this name.
-fn words_for(name: &str) -> &'static str
-    ensures { IsMatter name.now result.now }
+/// Says that a file of this name can't be read.
+fn words_of_name(name: &str) -> &'static str
+    ensures { IsUnreadable name.now result.now }
 {
     if name == "-" {
         "standard input can't be read, or was read before"
     } else {
         "no file of this name can be read"
+    }
+}
+
+/// What is the matter with a file of this name. There are no words where memory ran out.
+fn words_for(name: &str, fault: SourceFault) -> Option<&'static str>
+    ensures { IfSome result (λ words. IsMatter fault name.now words.now) }
+{
+    match fault {
+        SourceFault::File => Some(words_of_name(name)),
+        SourceFault::Folder => Some("this is a folder, not a file"),
+        SourceFault::Memory => None,
     }
 }
 
@@ -54,11 +65,16 @@ fn name_of<'a>(types: &[&'a str], task: &Task<'a>, part: Part) -> Option<&'a str
     }
 }
 
-/// The note to a file of this name, which is called so. Without memory for it there is none.
-pub(crate) fn note_of_name(alloc: Global, word: &str, name: &str) -> Option<String>
-    ensures { IfSome result (λ note. IsNoteOfName word.now name.now (string_bytes note)) }
+/// The note to a file of this name, which is called so and is not read. Without memory there is none.
+pub(crate) fn note_of_name(
+    alloc: Global,
+    word: &str,
+    name: &str,
+    fault: SourceFault,
+) -> Option<String>
+    ensures { IfSome result (λ note. IsNoteOfName word.now name.now fault (string_bytes note)) }
 {
-    let matter = words_for(name);
+    let matter = words_for(name, fault)?;
     match format!(in alloc; "{word} {name}: {matter}") {
         Ok(note) => Some(note),
         Err(_) => None,
@@ -77,12 +93,8 @@ pub fn note_of_file(
     if !task.why {
         return None;
     }
-    if let SourceFault::Memory = unread.fault {
-        return None;
-    }
     let name = name_of(types, task, unread.part)?;
-    let word = word_for(unread.part);
-    Some(note_of_name(alloc, word, name)?)
+    note_of_name(alloc, word_for(unread.part), name, unread.fault)
 }
 
 /// The number of a refusal of the inputs.

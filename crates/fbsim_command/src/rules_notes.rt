@@ -37,10 +37,7 @@ pub(crate) fn note_of_rules(
     if !expect.why {
         return None;
     }
-    if let SourceFault::Memory = fault {
-        return None;
-    }
-    Some(note_of_name(alloc, "rules", expect.rules)?)
+    note_of_name(alloc, "rules", expect.rules, fault)
 }
 
 /// The note to a file of the declaration, which is not read, where one is asked for.

@@ -11,6 +11,8 @@ use std::io::BufRead;
 pub enum SourceFault {
     /// It is not there, or it cannot be read.
     File,
+    /// It is a folder.
+    Folder,
     Memory,
 }
 
@@ -22,7 +24,7 @@ pub trait Source {
     /// The file of this name, but at most its first `most` bytes.
     ///
     /// # Errors
-    /// `File` where it is not there or cannot be read, and `Memory`.
+    /// `File` where it is not there or cannot be read, `Folder` where it is one, and `Memory`.
     fn read(&mut self, alloc: Global, name: &str, most: usize) -> Result<Vec<u8>, SourceFault>
         ensures gives { MatchResult result
             (λ bytes. gives self.old name.now most (Ok bytes.items) self.new)
@@ -41,7 +43,7 @@ pub trait Streams {
     /// The file of this name.
     ///
     /// # Errors
-    /// `File` where it is not there, and `Memory`.
+    /// `File` where it is not there, `Folder` where it is one, and `Memory`.
     fn open(&mut self, alloc: Global, name: &str) -> Result<Self::Stream, SourceFault>
         ensures { MatchResult result
             (λ stream. opens self.old name.now (Ok (Self.Stream.remaining stream)) self.new)

@@ -1,28 +1,42 @@
 //! The waveforms of a trace with the inside of basic blocks.
 
+ghost use Rattle.std.specs.Prelude.{option_map, string_bytes};
+ghost use Rattle.fbsim_command.specs.InsideNotes.{NotesInside};
 ghost use Rattle.fbsim_command.specs.StateDumping.{DumpsStates};
 
 use crate::failure::Failure;
+use crate::inside_notes::note_of_gone;
 use crate::statuses::Done;
+use fb_inspect::{RefusedLine, Terms};
 use fb_sim::{Inputs, discard, open};
 use fb_states::write_states;
 use std::alloc::Global;
 use std::io::{BufRead, Write};
 
-/// Reads a trace of what is declared, and writes its waveforms with the inside of basic blocks.
+/// Reads a trace of what is declared, and writes its waveforms with the inside of basic blocks. It says how that ends, and
+/// what is reported of the line at which the trace is refused.
 pub(crate) fn dump_states<R: BufRead, W: Write>(
     alloc: Global,
-    steps: u64,
+    why: bool,
+    terms: Terms,
     inputs: &Inputs<'_>,
     trace: &mut R,
     out: &mut W,
-) -> Result<Done, Failure>
-    ensures { DumpsStates inputs.now steps (R.remaining trace.old) (W.contents out.old) (W.contents out.new) result }
+) -> (Result<Done, Failure>, Option<String>)
+    ensures dumped { DumpsStates terms.cut terms.steps inputs.now (R.remaining trace.old) (W.contents out.old) (W.contents out.new) result.0 }
+    ensures noted { NotesInside why result.0 (option_map string_bytes result.1) }
 {
-    let system = open(alloc, inputs)?;
-    let written = write_states(alloc, &system, steps, trace, out);
+    let system = match open(alloc, inputs) {
+        Ok(system) => system,
+        Err(error) => return (Err(Failure::from(error)), None),
+    };
+    let mut refused = RefusedLine::new(alloc);
+    let gone = write_states(alloc, &system, terms, &mut refused, trace, out);
+    let note = note_of_gone(alloc, why, &system, &gone, &refused);
     // Dropped by one call: the end of its scope would prove the drop part by part.
     discard(system);
-    written?;
-    Ok(Done::Shown)
+    match gone {
+        Ok(()) => (Ok(Done::Shown), note),
+        Err(error) => (Err(Failure::from(error)), note),
+    }
 }

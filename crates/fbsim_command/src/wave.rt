@@ -3,7 +3,7 @@
 ghost use Rattle.std.specs.Prelude.{◌≡◌, map, option_map, string_bytes};
 ghost use Rattle.fbsim_command.specs.LineNotes.{NotesLine};
 ghost use Rattle.fbsim_command.specs.Notes.{Notes};
-ghost use Rattle.fbsim_command.specs.Showing.{Dumps, DumpsAs, IsTraceFileNote, Shows, cut_of, files_of};
+ghost use Rattle.fbsim_command.specs.Showing.{Dumps, DumpsAs, IsTraceFileNote, NotesAs, Shows, cut_of, files_of};
 
 use crate::failure::Failure;
 use crate::line_notes::{note_of_trace_line, note_of_wave};
@@ -13,6 +13,7 @@ use crate::sources::{Source, SourceFault, Streams};
 use crate::state_dump::dump_states;
 use crate::statuses::Done;
 use crate::texts::read_files;
+use fb_inspect::Terms;
 use fb_sim::{Inputs, discard, open};
 use fb_wave::{CurrentLine, Cut, write_wave_with};
 use fbsim_line::{Action, Task, Wave};
@@ -70,7 +71,7 @@ fn dump_ports<R: BufRead, W: Write>(
     }
 }
 
-/// The same, with the inside of basic blocks where that is asked for. Then nothing is reported of the line.
+/// The same, with the inside of basic blocks where that is asked for.
 fn dump<R: BufRead, W: Write>(
     alloc: Global,
     wave: &Wave<'_>,
@@ -79,10 +80,14 @@ fn dump<R: BufRead, W: Write>(
     out: &mut W,
 ) -> (Result<Done, Failure>, Option<String>)
     ensures dumped { DumpsAs wave.now.has_states wave.now.steps (cut_of wave.now) inputs.now (R.remaining trace.old) (W.contents out.old) (W.contents out.new) result.0 }
-    ensures noted { NotesLine wave.now.why inputs.now (R.remaining trace.old) result.0 (option_map string_bytes result.1) }
+    ensures noted { NotesAs wave.now.has_states wave.now.why inputs.now (R.remaining trace.old) result.0 (option_map string_bytes result.1) }
 {
     if wave.has_states {
-        return (dump_states(alloc, wave.steps, inputs, trace, out), None);
+        let terms = Terms {
+            cut: cut_of(wave),
+            steps: wave.steps,
+        };
+        return dump_states(alloc, wave.why, terms, inputs, trace, out);
     }
     dump_ports(alloc, wave, inputs, trace, out)
 }
@@ -94,10 +99,7 @@ fn note_of_trace(alloc: Global, wave: &Wave<'_>, fault: SourceFault) -> Option<S
     if !wave.why {
         return None;
     }
-    if let SourceFault::Memory = fault {
-        return None;
-    }
-    Some(note_of_name(alloc, "trace", wave.trace)?)
+    note_of_name(alloc, "trace", wave.trace, fault)
 }
 
 /// Reads what a trace is of, and the trace, and writes its waveforms. It says how that ends, and what is reported after

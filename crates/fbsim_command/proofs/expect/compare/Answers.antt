@@ -1,12 +1,19 @@
 use Rattle.std.proofs.Common.{refl}
 use Rattle.fbsim_command.specs.Comparing.{IsReported}
 use Rattle.fbsim_command.specs.declared.failure.Failure.TheVariants.{Memory}
-use Rattle.fbsim_command.proofs.Parting.{parted, reported-of, not_reported, wrote}
+use Rattle.fbsim_command.proofs.Parting.{parted, reported-of, not_reported, unread, wrote}
 use Rattle.fbsim_command.proofs.expect.compare.Goals as goal
+
+pub returns-in_err-found : goal.returns-in_err-found
+returns-in_err-found g c =
+    let first = g.R.Read.remaining c.args.first.now in
+    let second = g.T.Read.remaining c.args.second.now in
+    parted c.args.diff.now first second _ _ c.from_residual.result _ c.from_residual.ensures.1
+    (unread c.args.diff.now first second (g.W.Write.contents c.args.out.now) c.in_err-found.field-0.0)
 
 pub returns-in_err-text : goal.returns-in_err-text
 returns-in_err-text g c =
-    parted c.args.diff.now (g.R.Read.remaining c.args.first.now) (g.T.Read.remaining c.args.second.now) _ _ c.from_residual.result Memory c.from_residual.ensures.1 refl
+    parted c.args.diff.now (g.R.Read.remaining c.args.first.now) (g.T.Read.remaining c.args.second.now) _ _ c.from_residual-in_err-text.result Memory c.from_residual-in_err-text.ensures.1 refl
 
 pub returns-in_err-write_text : goal.returns-in_err-write_text
 returns-in_err-write_text g c =
@@ -14,7 +21,7 @@ returns-in_err-write_text g c =
     let first = g.R.Read.remaining c.args.first.now in
     let second = g.T.Read.remaining c.args.second.now in
     let reported : IsReported d first second c.in_ok-text.text.items =
-    reported-of d first second c.in-Ok.found c.in-Some.difference c.in_ok-text.text.items c.in-Some.is c.in-Ok.ensures c.in_ok-text.ensures
+    reported-of d first second c.in_ok-found.found c.in-Some.difference c.in_ok-text.text.items c.in-Some.is c.in_ok-found.ensures c.in_ok-text.ensures
     in
     parted d first second _ _ c.from_residual-in_err-write_text.result _ c.from_residual-in_err-write_text.ensures.1
     (not_reported d first second _ _ c.in_ok-text.text.items c.as_slice.result.now c.as_slice.ensures.value reported c.in_err-write_text.field-0.0 c.in_err-write_text.ensures.part)
@@ -25,6 +32,6 @@ returns g c =
     let first = g.R.Read.remaining c.args.first.now in
     let second = g.T.Read.remaining c.args.second.now in
     let reported : IsReported d first second c.in_ok-text.text.items =
-    reported-of d first second c.in-Ok.found c.in-Some.difference c.in_ok-text.text.items c.in-Some.is c.in-Ok.ensures c.in_ok-text.ensures
+    reported-of d first second c.in_ok-found.found c.in-Some.difference c.in_ok-text.text.items c.in-Some.is c.in_ok-found.ensures c.in_ok-text.ensures
     in
     wrote d first second _ _ c.in_ok-text.text.items c.as_slice.result.now c.as_slice.ensures.value reported c.in_ok-write_text.ensures.whole

@@ -1,13 +1,47 @@
-use Rattle.fbsim_command.proofs.StateDumped.{states_front, states_none, states_passed}
+use Rattle.std.proofs.Common.{Err, string_bytes, subst, sym}
+use Rattle.std.specs.Prelude.{IfSome, OnErr, OnOk}
+use Rattle.fb_types.specs.Headline.{system_of}
+use Rattle.fb_states.specs.StateWaves.{IsShownWith, WritesFront}
+use Rattle.fbsim_command.specs.StateDumping.{DumpsStates}
+use Rattle.fbsim_command.specs.declared.failure.Failure.{Failure}
+use Rattle.fbsim_command.proofs.Inspecting.{line_noted_inside, none_noted_inside}
+use Rattle.fbsim_command.proofs.StateDumped.{states_front, states_none}
 use Rattle.fbsim_command.proofs.state_dump.dump_states.Goals as goal
 
-pub returns-in_err-system : goal.returns-in_err-system
-returns-in_err-system g c =
-    states_passed c.args.inputs.now c.args.steps (g.R.Read.remaining c.args.trace.now) _ _ c.from_residual.result _ c.from_residual.ensures.1
-    (states_none c.args.inputs.now c.args.steps (g.R.Read.remaining c.args.trace.now) _ c.in_err-system.field-0.0 c.in_err-system.ensures.refused)
+pub returns-in-Err-clause-dumped : goal.returns-in-Err-clause-dumped
+returns-in-Err-clause-dumped g c =
+    let t = c.args.terms in
+    let out = g.W.Write.contents c.args.out.now in
+    let trace = g.R.Read.remaining c.args.trace.now in
+    subst (λ (f : Failure). DumpsStates t.cut t.steps c.args.inputs.now trace out out (Err f)) (sym c.from.ensures)
+    (states_none t.cut t.steps c.args.inputs.now trace out c.in-Err.error c.in-Err.ensures.refused)
 
-pub returns-in_err-written : goal.returns-in_err-written
-returns-in_err-written g c =
-    states_passed c.args.inputs.now c.args.steps (g.R.Read.remaining c.args.trace.now) _ _ c.from_residual-in_err-written.result _ c.from_residual-in_err-written.ensures.1
-    (states_front c.args.inputs.now c.args.steps (g.R.Read.remaining c.args.trace.now) _ _ c.in_ok-system.system c.in_ok-system.ensures.system c.in_err-written.field-0.0
-    c.in_err-written.ensures.fault)
+pub returns-in-Ok-gone-clause-dumped : goal.returns-in-Ok-gone-clause-dumped
+returns-in-Ok-gone-clause-dumped g c =
+    let t = c.args.terms in
+    let sys = system_of c.in-Ok.system in
+    let old = g.W.Write.contents c.args.out.now in
+    let new = g.W.Write.contents c.write_states-gone.new.out in
+    let trace = g.R.Read.remaining c.args.trace.now in
+    (c.in-Ok.system, c.in-Ok.ensures.system, subst (λ r. OnOk r (IfSome trace (λ text. IsShownWith t.cut sys t.steps text old new))) c.in-Ok-gone.is c.write_states-gone.ensures.whole)
+
+pub returns-in-Ok-gone-clause-noted : goal.returns-in-Ok-gone-clause-noted
+returns-in-Ok-gone-clause-noted g c =
+    none_noted_inside string_bytes c.args.why c.write_states-gone.result _ c.in-Ok-gone.field-0 c.note_of_gone-note.result c.in-Ok-gone.is c.note_of_gone-note.ensures
+
+pub returns-clause-dumped : goal.returns-clause-dumped
+returns-clause-dumped g c =
+    let t = c.args.terms in
+    let sys = system_of c.in-Ok.system in
+    let old = g.W.Write.contents c.args.out.now in
+    let new = g.W.Write.contents c.write_states-gone.new.out in
+    let trace = g.R.Read.remaining c.args.trace.now in
+    let e = c.in-Err-gone.error in
+    subst (λ (f : Failure). DumpsStates t.cut t.steps c.args.inputs.now trace old new (Err f)) (sym c.from-in-Err-gone.ensures)
+    (states_front t.cut t.steps c.args.inputs.now trace old new c.in-Ok.system c.in-Ok.ensures.system e
+    (subst (λ r. OnErr r (WritesFront sys t.steps old new)) c.in-Err-gone.is c.write_states-gone.ensures.fault))
+
+pub returns-clause-noted : goal.returns-clause-noted
+returns-clause-noted g c =
+    line_noted_inside string_bytes c.args.why c.write_states-gone.result c.in-Err-gone.error c.from-in-Err-gone.result c.note_of_gone-note.result c.in-Err-gone.is c.from-in-Err-gone.ensures
+    c.note_of_gone-note.ensures
