@@ -1,12 +1,12 @@
 //! Runs of a simulation, from the bytes of its inputs to those of its trace.
 //!
-//! What this crate guarantees to its callers is the headline: `run`, with workers, and `run_serial`, on one thread, write
-//! the trace of the one-thread simulation of accepted inputs, and so does a `Simulation` that its caller advances.
-//! `run_with_progress` reports the progress of a run also. There is no rule about simulation here.
+//! The guarantee to callers is the headline: `run`, with workers, and `run_serial`, on one thread, write the trace of the
+//! one-thread simulation of accepted inputs. So does a `Simulation` that its caller advances. `run_with_progress` also
+//! reports the progress of a run. This crate has no rule about simulation.
 //!
-//! Read in this order: `options` and `outcome`; `reading`, what comes before a run; `serial` with `one_agenda`, a
-//! run on one thread; `runs` with `trial`, `drive` and `rounds`, a run with workers, with `pace`, `progress`, `tally`,
-//! `work` and `printing`; `simulation` and `state`; `with_progress`, a run that reports its progress.
+//! Read in this order: `options` and `outcome`; `reading`, the steps before a run; `serial` with `one_agenda`, a run on one
+//! thread. A run with workers: `runs` with `trial`, `drive` and `rounds`; `pace`, `progress`, `tally`, `work` and
+//! `printing`. Then `simulation` and `state`; `with_progress`, a run that reports its progress.
 #![tactic(auto)]
 
 mod drive;

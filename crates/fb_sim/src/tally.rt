@@ -5,8 +5,8 @@ ghost use Rattle.fb_trace.specs.Progress.{bounded};
 
 use crate::options::Options;
 
-/// A window that gave fewer lines than these was so little work that neither a thread was worth its while, nor a look
-/// at each resource and each link, which a round has and a turn of a single resource has not.
+/// If a round gives fewer lines than this, a thread would cost more than it saves. So would looking at each resource and
+/// each link, which a round does and a turn of a single resource does not.
 const MANY_LINES: usize = 64;
 
 /// How many turns of single resources go before a window, where the one before had little to do. The lines that they

@@ -22,9 +22,9 @@ use fb_types::MOST_RESOURCES;
 
 impl Core {
     /// How far each resource may run, in ticks (milliseconds): to the greatest bound below which no later message can
-    /// reach it, but not past the horizon, the tick after the least stop, or `cap` ticks past the least event; or to its
-    /// clock where that is greater. A resource that has stopped has its bound too, though it gets no job. This takes no
-    /// memory: the links were copied when the core was opened.
+    /// reach it. It is not past the horizon, the tick after the least stop, or `cap` ticks past the least event. If the
+    /// clock of the resource is greater, the bound is the clock. A resource that has stopped has a bound too, though it
+    /// gets no job. This takes no memory: the links were copied when the core was opened.
     pub fn bounds(&self, horizon: u64, cap: u64) -> Bounds
         requires clocks { KeepHorizon horizon self.now.resources.items }
         requires early { horizon ≤ 10 ^ 12 }
