@@ -9,6 +9,7 @@
 - The example in the comment of a public item is the body of the test that it names.
 - Every function like `fb_sim::run::run` and every file like `docs/FORMATS.md` that a page names exists, and so does every type or
   definition like `HasTaken`. If a page says in which file a definition is, it is there.
+- So does every name like `module::item` in the comments of sources.
 - README.md has at most 1,800 words, each entry of docs/DECISIONS.md at most 80, each row of docs/PROOFS.md at most 100.
 
 It prints what is wrong and then ends with status 1. ./gate runs it."""
@@ -138,6 +139,22 @@ def definition_name_faults(page, known):
     return faults
 
 
+def comment_faults():
+    """Returns the names like `module::item` in comments of sources that are nowhere in the code of their crate, or of the crate with
+    which they begin."""
+    faults, known = [], {it: set(re.findall(r"\w+", re.sub(r"(?m)^\s*//.*$", "", sources(it, "src")))) for it in crates()}
+    for crate in crates():
+        for place in sorted(glob.glob(f"{TOP}/crates/{crate}/src/**/*.rt", recursive=True)):
+            here = os.path.relpath(place, TOP)
+            comments = "\n".join(it for it in text_of(here).splitlines() if it.lstrip().startswith("//"))
+            # (a type of a crate below has an upper-case letter first)
+            for it in re.findall(r"`([a-z]\w*(?:::\w+)+)`", comments):
+                of = it.split("::")[0]
+                if it.split("::")[-1] not in known[of if of in known else crate]:
+                    faults.append(f"{here}: there is no {it}")
+    return faults
+
+
 def block_faults():
     """Returns the blocks of docs/READING.md that are not in the file of crates/ that was named last."""
     page, named, faults = "docs/READING.md", None, []
@@ -192,7 +209,7 @@ def main():
     pages = ["README.md", "CONTRIBUTING.md", "CHANGELOG.md", *[f"docs/{it}" for it in sorted(os.listdir(f"{TOP}/docs")) if it.endswith(".md")], "bench/README.md", "examples/README.md"]
     proved = [it for it in crates() if it != "fbsim" and not it.endswith("_tests")]
     faults = has_all("docs/ARCHITECTURE.md", crates()) + has_all("docs/PROOFS.md", proved, may_repeat=True)
-    faults += module_faults() + proof_faults() + definition_faults() + block_faults() + example_faults() + length_faults()
+    faults += module_faults() + proof_faults() + definition_faults() + comment_faults() + block_faults() + example_faults() + length_faults()
     places = [it for kind in ("src/**/*.rt", "specs/**/*.antt", "proofs/**/*.antt") for it in glob.glob(f"{TOP}/crates/*/{kind}", recursive=True)]
     known = {word for it in places for word in re.findall(r"[A-Z]\w+", text_of(os.path.relpath(it, TOP)))}
     known |= {os.path.basename(it).removesuffix(".antt") for it in places}

@@ -14,7 +14,7 @@ Without a crate it is the whole gate. In order:
   ./simulate (tools/launcher.py), waveforms of the examples (tools/waves.py), graphs of declarations (tools/graphs.py), what
   happens inside traces (tools/insides.py), waveforms with it (tools/state_waves.py), texts that are no traces (tools/traces.py), the stored
   cases of cases/ (tools/cases.py), rings of resources (tools/rings.py), random systems (tools/drawn.py), random types
-  (tools/drawn_types.py), each token at each place of a declaration (tools/expected.py), types with more events than 16 bits can number (tools/wide.py), outputs that take little and readers that
+  (tools/drawn_types.py), where they stop (tools/stops.py), each token at each place of a declaration (tools/expected.py), types with more events than 16 bits can number (tools/wide.py), outputs that take little and readers that
   fail (tools/narrow.py), texts that are cut or changed in one byte (tools/hostile.py), and each request for memory refused
   (tools/refuse.py)
 
@@ -57,6 +57,7 @@ import narrow
 import refuse
 import rings
 import state_waves
+import stops
 import traces
 import waves
 import wide
@@ -200,6 +201,7 @@ def call_after_each_run():
         yield rings.try_all(made)
         yield drawn.try_all(made)
         yield drawn_types.try_all(made)
+        yield stops.try_all(made)
         yield wide.main([made]) == 0
         yield narrow.try_all(made)
         yield hostile.try_all(made)
