@@ -1,10 +1,14 @@
 -- How the statements of an algorithm are counted: as they begin in the text, those inside others too (this project's own).
-use Rattle.std.specs.Prelude.{ℕ, ◌+◌, ◌-◌, ◌^◌, min}
+use Rattle.std.specs.Prelude.{ℕ, ◌+◌, ◌-◌, ◌^◌, ◌<◌, min}
 use Rattle.fb_types.specs.Syntax.{Stmt, Empty, Exit, Return, Assign, If, Case, For, While, Repeat, Stmts, no_stmt, then_stmts, Choices, no_choice, then_choices, Branches, no_branch, then_branches}
 
 -- The next number. Numbers end where those of the program do, which no text reaches.
 abbrev pub next : ℕ → ℕ
 next n = min (n + 1) (2 ^ 64 - 1)
+
+-- A text may reach the number, so that it is that of one statement alone.
+abbrev pub IsReached : ℕ → Type 0
+IsReached n = n < 2 ^ 64 - 1
 
 abbrev mutual
   -- the number of what follows a statement of this number

@@ -15,11 +15,15 @@ use Rattle.fb_fault.specs.declared.operation.Operation.{Operation}
 abbrev pub HasValue : Values → read.Expr → Type 0
 HasValue vars e = (v : Value) × (value_of (expr_of e) vars ≡ Ok v)
 
+abbrev pub HasNoValue : Values → read.Expr → Type 0
+HasNoValue vars e = HasValue vars e → ⊥
+
 -- The argument at this index is the first one that has no value.
 pub record IsFirstWithout (vars : Values) (args : List read.Expr) (index : ℕ) : Type 0 where
   pub argument : read.Expr
   pub at : slice_get args index ≡ Some argument
   pub before : (k : ℕ) (e : read.Expr) → k < index → slice_get args k ≡ Some e → HasValue vars e
+  pub without : HasNoValue vars argument
 
 -- each argument has one
 abbrev pub AllHaveValues : Values → List read.Expr → Type 0
@@ -27,6 +31,13 @@ AllHaveValues vars args = (k : ℕ) (e : read.Expr) → slice_get args k ≡ Som
 
 abbrev pub IsWithout : Values → Reason → read.Expr → Type 0
 IsWithout vars r e = value_of (expr_of e) vars ≡ Err r
+
+-- It has a value, or none for another reason. So have all calls with these arguments.
+abbrev pub IsOtherwise : Values → Reason → read.Expr → Type 0
+IsOtherwise vars r e = IsWithout vars r e → ⊥
+
+abbrev pub IsCallOtherwise : Values → Reason → List read.Expr → Type 0
+IsCallOtherwise vars r args = (f : Name) → IsOtherwise vars r (read.Call f args)
 
 -- The expression that begins at the token has no value for the reason, and that is so by the operation: the operands of
 -- the operation have values, and so has what is evaluated before it.

@@ -8,8 +8,8 @@ use Rattle.fb_types.specs.declared.text.Expr.{Expr}
 use Rattle.fb_types.specs.declared.text.Stmt as read
 use Rattle.fb_types.specs.declared.value.Reason.{Reason}
 use Rattle.fb_st.specs.Flows.{all_of, branches_of, choices_of}
-use Rattle.fb_fault.specs.Numbers.{next, after_all, after_branches, after_choices}
-use Rattle.fb_fault.specs.Operations.{FaultIn}
+use Rattle.fb_fault.specs.Numbers.{IsReached, next, after_all, after_branches, after_choices}
+use Rattle.fb_fault.specs.Operations.{FaultIn, IsOtherwise}
 use Rattle.fb_fault.specs.Tokens.{past}
 use Rattle.fb_fault.specs.declared.statement.Anchor.{Anchor}
 use Rattle.fb_fault.specs.declared.statement.Anchor.TheVariants.{Beginning, Elsif, Until}
@@ -102,3 +102,29 @@ pub record IsInBranches (vars : Values) (r : Reason) (bs : List Branch) (others 
   pub from : ℕ
   pub of : IsOfCase bs others first body from
   pub found : IsInList vars r body from number x
+
+-- ---- Where no operation is answered
+
+-- Each expression of the statement itself has a value, or none for another reason.
+abbrev pub IsOwnOtherwise : Values → Reason → read.Stmt → Type 0
+IsOwnOtherwise vars r s = (a : Anchor) (n : ℕ) (e : Expr) → IsExpression s a n e → IsOtherwise vars r e
+
+-- .. each condition of IF, and the bounds of FOR
+abbrev pub AreOtherwise : Values → Reason → List Choice → Type 0
+AreOtherwise vars r cs = (k : ℕ) (c : Choice) → slice_get cs k ≡ Some c → IsOtherwise vars r (out-Choice c).condition
+
+abbrev pub AreBoundsOtherwise : Values → Reason → Expr → Expr → Option Expr → Type 0
+AreBoundsOtherwise vars r a b c = IsOtherwise vars r a × IsOtherwise vars r b × ((e : Expr) → c ≡ Some e → IsOtherwise vars r e)
+
+-- So it is in the statement of the number, if a text may reach it.
+abbrev pub IsStatementOtherwise : Values → Reason → read.Stmt → (n number : ℕ) → Type 0
+IsStatementOtherwise vars r s n number = IsReached number → (t : read.Stmt) → IsNumbered s n t number → IsOwnOtherwise vars r t
+
+abbrev pub IsListOtherwise : Values → Reason → List read.Stmt → (first number : ℕ) → Type 0
+IsListOtherwise vars r ss first number = IsReached number → (t : read.Stmt) → IsAmong ss first t number → IsOwnOtherwise vars r t
+
+abbrev pub AreChoicesOtherwise : Values → Reason → List Choice → List read.Stmt → (first number : ℕ) → Type 0
+AreChoicesOtherwise vars r cs others first number = (body : List read.Stmt) (from : ℕ) → IsOfIf cs others first body from → IsListOtherwise vars r body from number
+
+abbrev pub AreBranchesOtherwise : Values → Reason → List Branch → List read.Stmt → (first number : ℕ) → Type 0
+AreBranchesOtherwise vars r bs others first number = (body : List read.Stmt) (from : ℕ) → IsOfCase bs others first body from → IsListOtherwise vars r body from number

@@ -1,9 +1,9 @@
 //! The operation at which an expression has no value, as tokens.
 
-ghost use Rattle.std.specs.Prelude.{◌≡◌, ◌<◌, IfNone, IfSome, length, map, true};
+ghost use Rattle.std.specs.Prelude.{◌≡◌, ◌<◌, IfNone, IfSome, length, map, true, false};
 ghost use Rattle.fb_st.specs.Frames.{values_of};
 ghost use Rattle.fb_fault.specs.Tokens as spec;
-ghost use Rattle.fb_fault.specs.Operations.{AllHaveValues, FaultIn, HasValue, IsFirstWithout, IsOfCall, IsWithout};
+ghost use Rattle.fb_fault.specs.Operations.{AllHaveValues, FaultIn, HasNoValue, HasValue, IsCallOtherwise, IsFirstWithout, IsOfCall, IsOtherwise, IsWithout};
 
 use crate::number::next;
 use fb_st::{Frame, eval};
@@ -63,7 +63,8 @@ fn past_each(arguments: &[Expr], first: usize) -> usize
 
 /// Whether an expression has a value.
 fn has_value(expr: &Expr, frame: &Frame) -> bool
-    ensures { result ≡ true → HasValue (values_of frame.now) expr.now }
+    ensures has { result ≡ true → HasValue (values_of frame.now) expr.now }
+    ensures none { result ≡ false → HasNoValue (values_of frame.now) expr.now }
 {
     match eval(expr, frame) {
         Ok(_) => true,
@@ -73,7 +74,8 @@ fn has_value(expr: &Expr, frame: &Frame) -> bool
 
 /// Whether an expression has no value for this reason.
 fn fails(expr: &Expr, frame: &Frame, reason: Reason) -> bool
-    ensures { result ≡ true → IsWithout (values_of frame.now) reason expr.now }
+    ensures without { result ≡ true → IsWithout (values_of frame.now) reason expr.now }
+    ensures otherwise { result ≡ false → IsOtherwise (values_of frame.now) reason expr.now }
 {
     match eval(expr, frame) {
         Ok(_) => false,
@@ -104,7 +106,8 @@ fn operation_in_call(
     end: usize,
     reason: Reason,
 ) -> Option<Operation>
-    ensures { IfSome result (IsOfCall (values_of frame.now) reason arguments.now first end) }
+    ensures found { IfSome result (IsOfCall (values_of frame.now) reason arguments.now first end) }
+    ensures none { IfNone result (IsCallOtherwise (values_of frame.now) reason arguments.now) }
 {
     match first_without(arguments, frame) {
         Some(index) => {
@@ -120,10 +123,11 @@ fn operation_in_call(
 }
 
 /// The operation at which an expression has no value for this reason: its operands have values, and what is evaluated
-/// before it has them too. The expression begins at this token.
+/// before it has them too. The expression begins at this token. `None` if it has a value, or none for another reason.
 #[cycle(operation)]
 pub fn operation_in(expr: &Expr, frame: &Frame, first: usize, reason: Reason) -> Option<Operation>
-    ensures { IfSome result (FaultIn (values_of frame.now) reason expr.now first) }
+    ensures found { IfSome result (FaultIn (values_of frame.now) reason expr.now first) }
+    ensures none { IfNone result (IsOtherwise (values_of frame.now) reason expr.now) }
 {
     if !fails(expr, frame, reason) {
         return None;

@@ -1,10 +1,10 @@
 //! The operation in a statement of a body at which a reason comes.
 
-ghost use Rattle.std.specs.Prelude.{◌≡◌, IfSome};
+ghost use Rattle.std.specs.Prelude.{◌≡◌, IfNone, IfSome};
 ghost use Rattle.fb_st.specs.Frames.{values_of};
-ghost use Rattle.fb_fault.specs.Operations.{FaultIn};
+ghost use Rattle.fb_fault.specs.Operations.{FaultIn, IsOtherwise};
 ghost use Rattle.fb_fault.specs.Statements as spec;
-ghost use Rattle.fb_fault.specs.Statements.{HasOwn, IsInBranches, IsInChoices, IsInList, IsInStatement, IsOfChoices, IsOfFor};
+ghost use Rattle.fb_fault.specs.Statements.{AreBoundsOtherwise, AreBranchesOtherwise, AreChoicesOtherwise, AreOtherwise, HasOwn, IsInBranches, IsInChoices, IsInList, IsInStatement, IsListOtherwise, IsOfChoices, IsOfFor, IsOwnOtherwise, IsStatementOtherwise};
 
 use crate::number::{after, after_all, next};
 use crate::operation::{Operation, operation_in, past};
@@ -40,6 +40,7 @@ fn found_in(
 ) -> Option<Placed>
     ensures anchor { IfSome result (λ x. x.anchor ≡ anchor) }
     ensures fault { IfSome result (λ x. FaultIn (values_of frame.now) reason expr.now first x.operation) }
+    ensures none { IfNone result (IsOtherwise (values_of frame.now) reason expr.now) }
 {
     match operation_in(expr, frame, first, reason) {
         Some(operation) => Some(Placed { anchor, operation }),
@@ -60,7 +61,8 @@ fn anchor_of(index: usize) -> Anchor
 
 /// The operation in a condition of an IF.
 fn in_conditions(choices: &[Choice], frame: &Frame, reason: Reason) -> Option<Placed>
-    ensures { IfSome result (IsOfChoices (values_of frame.now) reason choices.now) }
+    ensures found { IfSome result (IsOfChoices (values_of frame.now) reason choices.now) }
+    ensures none { IfNone result (AreOtherwise (values_of frame.now) reason choices.now) }
 {
     for (index, choice) in choices.iter().enumerate() {
         let anchor = anchor_of(index);
@@ -79,7 +81,8 @@ fn in_bounds(
     frame: &Frame,
     reason: Reason,
 ) -> Option<Placed>
-    ensures { IfSome result (IsOfFor (values_of frame.now) reason start.now end.now step.now) }
+    ensures found { IfSome result (IsOfFor (values_of frame.now) reason start.now end.now step.now) }
+    ensures none { IfNone result (AreBoundsOtherwise (values_of frame.now) reason start.now end.now step.now) }
 {
     let second = next(past(start, 3));
     if let Some(found) = found_in(start, Anchor::Beginning, 3, frame, reason) {
@@ -99,7 +102,8 @@ fn in_bounds(
 
 /// The operation in an expression of a statement itself.
 fn in_own(statement: &Stmt, frame: &Frame, reason: Reason) -> Option<Placed>
-    ensures { IfSome result (HasOwn (values_of frame.now) reason statement.now) }
+    ensures found { IfSome result (HasOwn (values_of frame.now) reason statement.now) }
+    ensures none { IfNone result (IsOwnOtherwise (values_of frame.now) reason statement.now) }
 {
     match statement {
         Stmt::Empty | Stmt::Exit | Stmt::Return => None,
@@ -121,7 +125,8 @@ fn in_statement(
     frame: &Frame,
     reason: Reason,
 ) -> Option<Placed>
-    ensures { IfSome result (IsInStatement (values_of frame.now) reason statement.now at number) }
+    ensures found { IfSome result (IsInStatement (values_of frame.now) reason statement.now at number) }
+    ensures none { IfNone result (IsStatementOtherwise (values_of frame.now) reason statement.now at number) }
 {
     if number == at {
         return in_own(statement, frame, reason);
@@ -160,7 +165,8 @@ fn in_list(
     frame: &Frame,
     reason: Reason,
 ) -> Option<Placed>
-    ensures { IfSome result (IsInList (values_of frame.now) reason statements.now first number) }
+    ensures found { IfSome result (IsInList (values_of frame.now) reason statements.now first number) }
+    ensures none { IfNone result (IsListOtherwise (values_of frame.now) reason statements.now first number) }
 {
     let mut at = first;
     for statement in statements {
@@ -183,7 +189,8 @@ fn in_choices(
     frame: &Frame,
     reason: Reason,
 ) -> Option<Placed>
-    ensures { IfSome result (IsInChoices (values_of frame.now) reason choices.now others.now first number) }
+    ensures found { IfSome result (IsInChoices (values_of frame.now) reason choices.now others.now first number) }
+    ensures none { IfNone result (AreChoicesOtherwise (values_of frame.now) reason choices.now others.now first number) }
 {
     let mut at = first;
     for choice in choices {
@@ -206,7 +213,8 @@ fn in_branches(
     frame: &Frame,
     reason: Reason,
 ) -> Option<Placed>
-    ensures { IfSome result (IsInBranches (values_of frame.now) reason branches.now others.now first number) }
+    ensures found { IfSome result (IsInBranches (values_of frame.now) reason branches.now others.now first number) }
+    ensures none { IfNone result (AreBranchesOtherwise (values_of frame.now) reason branches.now others.now first number) }
 {
     let mut at = first;
     for branch in branches {
@@ -220,9 +228,10 @@ fn in_branches(
 }
 
 /// The operation in the statement of a number of a body that has no value for this reason, where the variables hold what
-/// the frame has.
+/// the frame has. `None` if each expression of that statement has a value there, or none for another reason.
 pub fn operation_of(body: &Body, number: usize, frame: &Frame, reason: Reason) -> Option<Placed>
-    ensures { IfSome result (IsInList (values_of frame.now) reason body.now.statements 0 number) }
+    ensures found { IfSome result (IsInList (values_of frame.now) reason body.now.statements 0 number) }
+    ensures none { IfNone result (IsListOtherwise (values_of frame.now) reason body.now.statements 0 number) }
 {
     in_list(body.statements.as_slice(), 0, number, frame, reason)
 }

@@ -17,6 +17,7 @@ returns-then-not-has_value-clause-some c =
       argument = x;
       at = slice_get-get_or xs c.loop-index.index x c.loop-index-test.true ∙ ap Some (sym c.index-arguments-index.is);
       before = λ k e below at. c.loop-index.invariant k below e at;
+      without = c.has_value.ensures.none c.if-not-has_value.true;
     }
 
 pub loop-index-preserved : goal.loop-index-preserved
@@ -25,7 +26,7 @@ loop-index-preserved c =
     let x : Expr = c.index-arguments-index.result in
     let here : slice_get xs c.loop-index.index ≡ Some x = slice_get-get_or xs c.loop-index.index x c.loop-index-test.true ∙ ap Some (sym c.index-arguments-index.is) in
     below_more _ _ c.loop-index.invariant
-    (λ e at. subst (HasValue (values_of c.args.frame.now)) (same_some x e xs c.loop-index.index here at) (c.has_value.ensures c.if-not-has_value.false))
+    (λ e at. subst (HasValue (values_of c.args.frame.now)) (same_some x e xs c.loop-index.index here at) (c.has_value.ensures.has c.if-not-has_value.false))
 
 pub returns-clause-none : goal.returns-clause-none
 returns-clause-none c = λ k e at.

@@ -1,4 +1,4 @@
-use Rattle.std.proofs.Common.{◌≡◌, ◌*◌, ◌+◌, max, take}
+use Rattle.std.proofs.Common.{◌≡◌, ◌*◌, ◌+◌, ◌≤◌, max, take}
 use denote.Param.Weighed.{most}
 use Rattle.fb_types.proofs.text.Branch.TheLaws as branch
 use Rattle.fb_types.proofs.text.Choice.TheLaws as choice
@@ -7,15 +7,15 @@ use Rattle.fb_st.specs.Flows.{all_of, branches_of, choices_of}
 use Rattle.fb_fault.specs.Numbers.{after_all, after_branches, after_choices}
 use Rattle.fb_fault.proofs.statement.+statement.Given as goal
 
--- the number is that of what comes next
+-- the number is that of what comes next, and what is passed has lower ones
 abbrev pub invariant-in_list-loop-statement : goal.invariant-in_list-loop-statement
-invariant-in_list-loop-statement l = l.at ≡ after_all (all_of (take l.statement-index l.statements)) l.first
+invariant-in_list-loop-statement l = record { counted : l.at ≡ after_all (all_of (take l.statement-index l.statements)) l.first; passed : l.at ≤ max l.first l.number }
 
 abbrev pub invariant-in_choices-loop-choice : goal.invariant-in_choices-loop-choice
-invariant-in_choices-loop-choice l = l.at ≡ after_choices (choices_of (take l.choice-index l.choices)) l.first
+invariant-in_choices-loop-choice l = record { counted : l.at ≡ after_choices (choices_of (take l.choice-index l.choices)) l.first; passed : l.at ≤ max l.first l.number }
 
 abbrev pub invariant-in_branches-loop-branch : goal.invariant-in_branches-loop-branch
-invariant-in_branches-loop-branch l = l.at ≡ after_branches (branches_of (take l.branch-index l.branches)) l.first
+invariant-in_branches-loop-branch l = record { counted : l.at ≡ after_branches (branches_of (take l.branch-index l.branches)) l.first; passed : l.at ≤ max l.first l.number }
 
 -- ---- How deep the trees are
 
