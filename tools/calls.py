@@ -669,7 +669,7 @@ CALLS += [
     of("run empty --horizon 8 --workers 64", 0, out=b"end 8\n"),
     # The location of a fault is printed if it is asked for.
     of("run slip --horizon 1 --why", 2, err=placed(b"refused E21\n", b"slip" + AT_THE_SLIP)),
-    of("check merge --deploy merge_plan --why", 2, err=placed(b"refused E21\n", b"merge_plan:4:1: E21: resource R: instance N: application A has no instance N\n")),
+    of("check merge --deploy merge_plan --why", 2, err=placed(b"refused E21\n", b"merge_plan:4:19: E21: resource R: instance N: application A has no instance N\n")),
     of("check - --why", 2, err=placed(b"refused E03 line 2\n", b"-:2:7: E03: found the end of the text, expected :\n", b"APPLICATION A\nFBS M "), given=b"APPLICATION A\nFBS M "),
     of("check merge --stim merge_fed --why", 2, err=placed(b"refused E29\n", b"merge_fed:2:3: E29: row 0: there is no instance N\n")),
     of("check slip --deploy nowhere --why", 3, err=b"file fault\ndeployment nowhere: no file of this name can be read\n"),

@@ -1,5 +1,6 @@
 -- Scans of a text, one offset after another.
 use Rattle.std.proofs.Common.{◌≡◌, ℕ, ◌+◌, ◌<◌, ◌≤◌, ◌==◌, ◌&&◌, ◌||◌, Bool, true, false, cond, refl, sym, ap, ◌∙◌, arith, add-one, below_more}
+use Rattle.fb_inputs_positions.specs.Arrays.{is_free, is_separator, is_space, quote, quote_after}
 use Rattle.fb_inputs_positions.specs.Counts.{Text, at, count_below}
 use Rattle.fb_inputs_positions.specs.Lines.{is_blank, is_first}
 
@@ -31,8 +32,32 @@ pub left : (a b : Bool) → (a && b) ≡ true → a ≡ true
 left true b e = refl
 left false b e = e
 
+-- ---- The quotes that an offset is in
+
+quote_on : (z : Text) (n : ℕ) → quote z (n + 1) ≡ quote_after (at z n) (quote z n)
+unfolding quote
+quote_on z n = rw add-one refl
+
+pub quote_more : (z : Text) (n q next : ℕ) → q ≡ quote z n → next ≡ quote_after (at z n) q → next ≡ quote z (n + 1)
+quote_more z n q next before e = e ∙ ap (λ (k : ℕ). quote_after (at z n) k) before ∙ sym (quote_on z n)
+
+-- ---- Whether only spaces are between an offset and what an element may follow
+
+free_on : (z : Text) (n : ℕ) → is_free z (n + 1) ≡ (is_separator z n || (is_space (at z n) && is_free z n))
+unfolding is_free
+free_on z n = rw add-one refl
+
+pub free_more : (z : Text) (n : ℕ) (free next : Bool) → free ≡ is_free z n → next ≡ (is_separator z n || (is_space (at z n) && free)) → next ≡ is_free z (n + 1)
+free_more z n free next before e = e ∙ ap (λ (f : Bool). is_separator z n || (is_space (at z n) && f)) before ∙ sym (free_on z n)
+
 -- ---- What does not hold from an offset on
 
 pub none_more : (test : ℕ → Bool) (from n : ℕ) → ((k : ℕ) → from ≤ k → k < n → test k ≡ false) → test n ≡ false → (k : ℕ) → from ≤ k → k < n + 1 → test k ≡ false
 none_more test from n before here k after lt =
     below_more (λ (j : ℕ). from ≤ j → test j ≡ false) n (λ j l a. before j a l) (λ a. here) k lt after
+
+-- ---- What holds from an offset on
+
+pub all_more : (test : ℕ → Bool) (from n : ℕ) → ((k : ℕ) → from ≤ k → k < n → test k ≡ true) → test n ≡ true → (k : ℕ) → from ≤ k → k < n + 1 → test k ≡ true
+all_more test from n before here k after lt =
+    below_more (λ (j : ℕ). from ≤ j → test j ≡ true) n (λ j l a. before j a l) (λ a. here) k lt after

@@ -10,6 +10,7 @@ use Rattle.fb_inputs.specs.declared.deploy_location.DeployKey.{DeployKey}
 use Rattle.fb_inputs.specs.declared.deploy_location.TableLocation.{TableLocation}
 use Rattle.fb_inputs.specs.declared.deploy_location.TableLocation.TheVariants as table
 use Rattle.fb_inputs.specs.DeployPlaces.{text_of}
+use Rattle.fb_inputs_positions.specs.Arrays.{IsArrayAfter, IsElement}
 use Rattle.fb_inputs_positions.specs.Counts.{Text, IsNth, mark_len}
 use Rattle.fb_inputs_positions.specs.Lines.{IsKeyIn, begins_table, link_heading, resource_heading}
 use Rattle.fb_inputs_positions.specs.Positions.{around_deploy, around_stimuli, stepped}
@@ -103,13 +104,24 @@ IsKeyAt text table.Top k span = IsKeyIn text 0 (text_of k) span
 IsKeyAt text (table.Resource i) k span = IsKeyAfter text resource_heading i k span
 IsKeyAt text (table.Link i) k span = IsKeyAfter text link_heading i k span
 
+-- The byte begins the element with this index of the array at the key.
+pub record IsElementAt (text : Text) (t : TableLocation) (k : DeployKey) (index : ℕ) (span : Span) : Type 0 where
+  pub key : Span
+  pub key_at : IsKeyAt text t k key
+  pub array : ℕ
+  pub array_begins : IsArrayAfter text key.end array
+  pub inner : ℕ
+  pub element : IsElement (drop array text) index inner
+  pub start : span.start ≡ array + inner
+  pub end : span.end ≡ span.start + 1
+
 -- The bytes are at the position.
 abbrev pub IsInDeployment : Text → DeployPosition → Span → Type 0
 IsInDeployment text in_deploy.Start span = IsStart text span
 IsInDeployment text (in_deploy.Byte at) span = IsByteAt text at span
 IsInDeployment text (in_deploy.Table t) span = IsTableAt text t span
 IsInDeployment text (in_deploy.Key t k) span = IsKeyAt text t k span
-IsInDeployment text (in_deploy.Element t k i) span = ⊥
+IsInDeployment text (in_deploy.Element t k i) span = IsElementAt text t k i span
 
 -- The bytes are at the position, at one around it, or at the beginning of the text, which is around all.
 abbrev pub IsNearInDeployment : Text → DeployPosition → Span → Type 0

@@ -1,8 +1,9 @@
 //! Finds a position of a deployment in its text.
 
 ghost use Rattle.std.specs.Prelude.{◌≡◌, IfSome};
-ghost use Rattle.fb_inputs_positions.specs.Places.{IsByteAt, IsHeadingAt, IsInDeployment, IsKeyAfter, IsKeyAt, IsNearInDeployment, IsTableAt};
+ghost use Rattle.fb_inputs_positions.specs.Places.{IsByteAt, IsElementAt, IsHeadingAt, IsInDeployment, IsKeyAfter, IsKeyAt, IsNearInDeployment, IsTableAt};
 
+use crate::arrays::{array_begin, element_begin};
 use crate::lines::{LINK, RESOURCE, heading_begin, is_first_after, key_from};
 use crate::position::DeployPosition;
 use crate::scan::{mark_len, start_of};
@@ -65,8 +66,22 @@ fn key_span(text: &[u8], table: TableLocation, key: DeployKey) -> Option<Span>
     }
 }
 
-/// The bytes at a position of a deployment. `None` if a scan for headings of tables and keys at the beginning of a line
-/// does not find it.
+/// The byte that begins an element of the array at a key of a table.
+fn element_span(text: &[u8], table: TableLocation, key: DeployKey, index: usize) -> Option<Span>
+    ensures { IfSome result (IsElementAt text.now table key index) }
+{
+    let key = key_span(text, table, key)?;
+    let array = array_begin(text, key.end)?;
+    let inner = element_begin(&text[array..], index)?;
+    let start = array + inner;
+    Some(Span {
+        start,
+        end: start + 1,
+    })
+}
+
+/// The bytes at a position of a deployment. `None` if a scan for headings of tables and keys at the beginning of a line,
+/// and for the elements of arrays after keys, does not find it.
 pub fn span_in_deployment(text: &[u8], position: DeployPosition) -> Option<Span>
     ensures { IfSome result (IsInDeployment text.now position) }
 {
@@ -75,7 +90,7 @@ pub fn span_in_deployment(text: &[u8], position: DeployPosition) -> Option<Span>
         DeployPosition::Byte(at) => byte_span(text, at),
         DeployPosition::Table(table) => table_span(text, table),
         DeployPosition::Key(table, key) => key_span(text, table, key),
-        DeployPosition::Element(_, _, _) => None,
+        DeployPosition::Element(table, key, index) => element_span(text, table, key, index),
     }
 }
 

@@ -15,7 +15,7 @@ pub(crate) const RESOURCE: &[u8] = b"[[resource]]";
 pub(crate) const LINK: &[u8] = b"[[link]]";
 
 /// Whether a byte is a space, a tab, or one of a byte order mark.
-fn is_blank(byte: u8) -> bool
+pub(crate) fn is_blank(byte: u8) -> bool
     ensures { result ≡ spec.is_blank byte }
 {
     matches!(byte, b' ' | b'\t' | 0xEF | 0xBB | 0xBF)
