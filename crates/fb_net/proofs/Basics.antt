@@ -3,7 +3,7 @@ use Rattle.std.proofs.Common.{◌≡◌, ℕ, ◌<◌, List, [], length, Option,
 use Rattle.std.proofs.Math.Path.{fun_ext}
 use Rattle.fb_types.specs.Names.{Path}
 use Rattle.fb_types.specs.Values.{Values}
-use Rattle.fb_types.specs.Blocks.{Kind, Basic, inputs_with}
+use Rattle.fb_types.specs.Blocks.{Basic, inputs_with}
 use Rattle.fb_types.specs.Charts.{ChartReacts, Moving, Position}
 use Rattle.fb_types.specs.Headline.{Inputs, system_of}
 use Rattle.fb_types.specs.Numbers.{event_at, pair_up, path_at}
@@ -30,7 +30,7 @@ use Rattle.fb_net.specs.declared.block.Block.TheVariants as block
 use Rattle.fb_net.specs.declared.resource.Forest.{Forest}
 use Rattle.fb_net.specs.declared.shell.Shell.{Shell}
 use Rattle.fb_net.proofs.Components.{leaf_basic}
-use Rattle.fb_net.proofs.Descents.{StoodAt, stood_at}
+use Rattle.fb_net.proofs.Descents.{stood_at}
 use Rattle.fb_net.proofs.Writing.{AreNumbered, put_forest}
 use Rattle.fb_net.specs.Leaves.{ChartCame, ChartEnded, EachWorld, HasCharted, IsOne, IsReadyAt, chart_start, charted_block}
 use Rattle.fb_net.proofs.Leaves.{basic_is, stands_basic}

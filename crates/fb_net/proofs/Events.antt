@@ -1,10 +1,10 @@
 -- What the reactions of an event block, to an event and to its timer, leave of the blocks of its resource.
-use Rattle.std.proofs.Common.{◌≡◌, ◌≢◌, ◌<◌, ℕ, List, [], ◌++◌, length, map, Option, Some, None, Result, Ok, Err, refl, sym, ap, subst, ◌∙◌, arith}
+use Rattle.std.proofs.Common.{◌≡◌, ◌≢◌, ◌<◌, ℕ, List, [], ◌++◌, length, map, Some, None, Result, Ok, Err, refl, sym, ap, subst, ◌∙◌, arith}
 use Rattle.std.specs.Prelude.{All, OnOk, slice_get}
 use Rattle.std.proofs.lemmas.Option.{none-some}
 use Rattle.std.proofs.lemmas.Result.{on_ok_weaker}
 use Rattle.fb_types.specs.Names.{Name, Path}
-use Rattle.fb_types.specs.Blocks.{Kind, Basic, Event, ports_of_event_block, variable_names}
+use Rattle.fb_types.specs.Blocks.{Basic, Event, ports_of_event_block, variable_names}
 use Rattle.fb_types.specs.EventBlocks.{Memory, Reaction, reaction, expiry}
 use Rattle.fb_types.specs.Headline.{Inputs, system_of}
 use Rattle.fb_types.specs.Numbers.{by_index, event_at, path_at, ports_at}
@@ -72,7 +72,7 @@ expired_agrees k s b tick h =
 
 -- The instance is one of an event block.
 module _ (i : Inputs) (old : Forest) (k : ℕ) (kind : EventKind) (of_kind : (system_of i).kind (path_at (system_of i) k) ≡ Some (Event kind)) (number : k < length (system_of i).paths) where
-  there : (w : World) → IsForest i old w → InForest i old k
+  pub there : (w : World) → IsForest i old w → InForest i old k
       → (s : State) × (block_at old.blocks (way_in i old.roots k) ≡ Some (block.Event s)) × EventRepresents kind s (block_in i w k).memory
   there w forest lies =
       let sys = system_of i in

@@ -35,3 +35,5 @@ pub mod Events
 pub mod Keys
 pub mod Leaves
 pub mod PutOut
+pub mod PortRows
+pub mod PassingOn

@@ -9,7 +9,7 @@ use Rattle.fb_types.proofs.ByIndex.{slice_get-append_left, slice_get-append_here
 use Rattle.fb_system.specs.Layouts.{AreNumbers}
 use Rattle.fb_net.specs.Opening.{AreRooted, AreRoots}
 use Rattle.fb_net.specs.Worlds.{seat_in}
-use Rattle.fb_net.proofs.Growing.{Nearer, Before, Last, nearer}
+use Rattle.fb_net.proofs.Growing.{Before, Last, nearer}
 use Rattle.fb_net.proofs.Seating.{longer, seat_kept, seat_last}
 
 -- an element of the first n is one of the first n + 1

@@ -1,8 +1,7 @@
 -- Each instance of a resource has its block on its way, before the first event.
-use Rattle.std.proofs.Common.{◌≡◌, ℕ, ◌<◌, ◌≤◌, ◌+◌, ◌-◌, zero, suc, Bool, true, false, cond, nat_eq, List, [], ◌∷◌, ◌++◌, map, length, take, Option, Some, None, refl, sym, ◌∙◌, ap, subst, arith}
+use Rattle.std.proofs.Common.{◌≡◌, ℕ, ◌<◌, ◌≤◌, ◌+◌, ◌-◌, zero, suc, List, [], ◌∷◌, ◌++◌, map, length, Option, Some, None, refl, sym, ◌∙◌, ap, subst, arith}
 use Rattle.std.specs.Prelude.{option_map, option_and_then, position, slice_get, unwrap_or}
 use Rattle.fb_types.specs.Names.{Name, Path, same_name}
-use Rattle.fb_types.specs.Blocks.{named}
 use Rattle.fb_types.specs.Flat.{inside, instance_at, instance_in, network_at, resource_of}
 use Rattle.fb_types.specs.Headline.{AreAccepted, Inputs, system_of}
 use Rattle.fb_types.specs.Numbers.{path_at}
@@ -14,7 +13,7 @@ use Rattle.fb_types.specs.declared.library.Library.{Library}
 use Rattle.fb_types.specs.declared.library.Network.{Network}
 use Rattle.fb_types.proofs.Positions.{named-position, position_is}
 use Rattle.fb_types.proofs.Options.{and_then_parts}
-use Rattle.fb_system.specs.Layouts.{path_of, index_at, route_to}
+use Rattle.fb_system.specs.Layouts.{index_at, route_to}
 use Rattle.fb_net.specs.Blocks.{components_of, own_of}
 use Rattle.fb_net.specs.Trees.{block_at, own_at}
 use Rattle.fb_net.specs.Worlds.{IsForest, RepresentsAt, Represents, rooted, seat_in}

@@ -4,14 +4,17 @@ ghost use Rattle.std.specs.Prelude.{◌≡◌, ◌≢◌, ◌∷◌, [], ◌≤�
 ghost use Rattle.fb_types.specs.Blocks.{Basic, Event};
 ghost use Rattle.fb_types.specs.Numbers.{path_at};
 ghost use Rattle.fb_types.specs.declared.library.BasicType.{BasicType};
+ghost use Rattle.fb_event.specs.Reactions.{PassesTo};
 ghost use Rattle.fb_net.specs.Arrivals.{AreTypedAt, entering, leaving, reacting, sampling};
 ghost use Rattle.fb_net.specs.Events.{Remembered};
 ghost use Rattle.fb_net.specs.Leaves.{IsOne};
-ghost use Rattle.fb_net.specs.Samples.{names_in};
+ghost use Rattle.fb_net.specs.Samples.{AreSampled, names_in, names_out};
 ghost use Rattle.fb_net.specs.Steps.{ArePutOut, HasArrived, HasDone, HasWritten, IsKept, IsSame, MayArrive, MayBegin, ports_in, system_in};
+ghost use Rattle.fb_system.specs.Ends.{ComesFrom, LeadsTo};
 ghost use Rattle.fb_system.specs.Lines.{IsEmission};
 ghost use Rattle.fb_system.specs.Ports.{IsCompositeAt, IsTarget};
 ghost use Rattle.fb_system.specs.IndexLists.{AreIndexes};
+ghost use Rattle.fb_system.specs.PortRows.{IsPortRow, IsWith};
 ghost use Rattle.fb_net.specs.Worlds.{InForest};
 ghost use Rattle.fb_laws.specs.Typed.{IsTypedSystem};
 
@@ -22,16 +25,18 @@ use crate::event_blocks::react_event;
 use crate::samples::{sampled_values, shown_values};
 use crate::taking::Taking;
 use fb_check_names::TypeNumber;
+use fb_event::passes_to;
 use fb_st::Meter;
+use fb_system::{NextTarget, PortRow, With};
 use fb_types::{
     BasicType, BlockType, Emission, Emits, EventKind, Halt, InstanceVariable, Target, TimerAsk,
-    Values,
+    Value, Values,
 };
 use std::alloc::AllocError;
 
 impl Taking<'_> {
-    /// An event block or a composite takes an event at an event input: it keeps what the variables WITH the event
-    /// sample, and the line of the event says their values.
+    /// An event block takes an event at an event input: it keeps what the variables WITH the event sample, and the line of
+    /// the event says their values.
     #[inline(always)]
     fn take_samples(&mut self, at: Target) -> Result<(), AllocError>
         requires index { MayArrive self.old at }
@@ -52,16 +57,15 @@ impl Taking<'_> {
             let values = Values::new(*self.outbox.lines.allocator());
             return write_taken(self.outbox, system, self.key, at, values);
         }
-        self.take_values(at, indexes)
+        self.take_values(at.instance, at.event, indexes)
     }
 
     /// .. where the variables WITH the event are at `indexes`.
-    fn take_values(&mut self, at: Target, indexes: &[u32]) -> Result<(), AllocError>
-        requires index { MayArrive self.old at }
-        requires input { at.is_output ≡ false }
-        requires no_basic { (t : BasicType) → (system_in self.old).kind (path_at (system_in self.old) at.instance) ≢ Some (Basic t) }
-        requires indexes { AreIndexes (ports_in self.old at.instance).inputs (names_in (system_in self.old) at) indexes.now }
-        ensures taken { OnOk result (HasDone (sampling self.old.system.now self.old.key.now at) self.old self.new) }
+    fn take_values(&mut self, instance: u32, event: u32, indexes: &[u32]) -> Result<(), AllocError>
+        requires index { MayArrive self.old (record { instance = instance; event = event; is_output = false }) }
+        requires no_basic { (t : BasicType) → (system_in self.old).kind (path_at (system_in self.old) instance) ≢ Some (Basic t) }
+        requires indexes { AreIndexes (ports_in self.old instance).inputs (names_in (system_in self.old) (record { instance = instance; event = event; is_output = false })) indexes.now }
+        ensures taken { OnOk result (HasDone (sampling self.old.system.now self.old.key.now (record { instance = instance; event = event; is_output = false })) self.old self.new) }
         ensures ready { OnOk result (MayBegin self.new) }
         ensures outs { OnOk result (ArePutOut self.old self.new) }
 
@@ -69,9 +73,20 @@ impl Taking<'_> {
         ensures kept { IsKept self.old self.new }
         ensures same { IsSame self.old self.new }
     {
+        let at = Target {
+            instance,
+            event,
+            is_output: false,
+        };
         // Mostly there is one variable, and there is nothing to walk over.
         if let [variable] = indexes {
-            return self.take_value(at, *variable);
+            let input = InstanceVariable {
+                instance: at.instance,
+                variable: *variable,
+                is_output: false,
+            };
+            let source = self.system.source(input);
+            return self.take_value(at, *variable, &source);
         }
         let alloc = *self.outbox.lines.allocator();
         let values = sampled_values(alloc, self.forest, self.system, at, indexes)?;
@@ -81,11 +96,17 @@ impl Taking<'_> {
 
     /// .. where one variable is WITH the event.
     #[inline(always)]
-    fn take_value(&mut self, at: Target, variable: u32) -> Result<(), AllocError>
+    fn take_value(
+        &mut self,
+        at: Target,
+        variable: u32,
+        source: &Option<InstanceVariable>,
+    ) -> Result<(), AllocError>
         requires index { MayArrive self.old at }
         requires input { at.is_output ≡ false }
         requires no_basic { (t : BasicType) → (system_in self.old).kind (path_at (system_in self.old) at.instance) ≢ Some (Basic t) }
         requires represents { AreIndexes (ports_in self.old at.instance).inputs (names_in (system_in self.old) at) (variable ∷ []) }
+        requires source { ComesFrom (system_in self.old) (record { instance = at.instance; variable = variable; is_output = false }) source.now }
         ensures taken { OnOk result (HasDone (sampling self.old.system.now self.old.key.now at) self.old self.new) }
         ensures ready { OnOk result (MayBegin self.new) }
         ensures outs { OnOk result (ArePutOut self.old self.new) }
@@ -99,10 +120,29 @@ impl Taking<'_> {
             variable,
             is_output: false,
         };
-        let value = self.forest.sampled(self.system, input);
+        let value = self.forest.sampled_from(self.system, input, source);
         self.forest.set_input(self.system, input, value);
         let values = Values::from_slice(*self.outbox.lines.allocator(), &[value])?;
         write_taken(self.outbox, self.system, self.key, at, values)
+    }
+
+    /// An event arrives at an event input of an event block that only passes events on. No block is looked up.
+    #[inline(always)]
+    fn pass_on(&mut self, kind: EventKind, at: Target, event: u32) -> Result<(), AllocError>
+        requires index { MayArrive self.old at }
+        requires input { at.is_output ≡ false }
+        requires kind { (system_in self.old).kind (path_at (system_in self.old) at.instance) ≡ Some (Event kind) }
+        requires passes { PassesTo kind event }
+        ensures reacted { OnOk result (HasDone (reacting self.old.system.now self.old.key.now kind at) self.old self.new) }
+        ensures outs { OnOk result (ArePutOut self.old self.new) }
+
+        // Also where memory runs out.
+        ensures kept { IsKept self.old self.new }
+        ensures same { IsSame self.old self.new }
+    {
+        let values = Values::new(*self.outbox.lines.allocator());
+        write_taken(self.outbox, self.system, self.key, at, values)?;
+        self.emit_bare(at.instance, event)
     }
 
     /// An event arrives at an event input of an event block. `emits` is room for what it emits.
@@ -111,6 +151,33 @@ impl Taking<'_> {
     /// When memory runs out, and never a stop.
     #[inline(always)]
     fn arrive_event(&mut self, kind: EventKind, at: Target, emits: &mut Emits) -> Result<(), Halt>
+        requires index { MayArrive self.old at }
+        requires input { at.is_output ≡ false }
+        requires kind { (system_in self.old).kind (path_at (system_in self.old) at.instance) ≡ Some (Event kind) }
+        requires sound { IsTypedSystem (system_in self.old) }
+        requires typed { AreTypedAt self.old.system.now self.old.forest.now }
+        ensures reacted { OnOk result (HasDone (reacting self.old.system.now self.old.key.now kind at) self.old self.new) }
+        ensures outs { OnOk result (ArePutOut self.old self.new) }
+
+        // Also where memory runs out.
+        ensures kept { IsKept self.old self.new }
+        ensures same { IsSame self.old self.new }
+        ensures only_memory { IfErr result (λ halt. halt ≡ Halt.Memory) }
+    {
+        match passes_to(kind) {
+            Some(event) => Ok(self.pass_on(kind, at, event)?),
+            None => self.sample_and_react(kind, at, emits),
+        }
+    }
+
+    /// .. of one that does more than pass events on.
+    #[inline(always)]
+    fn sample_and_react(
+        &mut self,
+        kind: EventKind,
+        at: Target,
+        emits: &mut Emits,
+    ) -> Result<(), Halt>
         requires index { MayArrive self.old at }
         requires input { at.is_output ≡ false }
         requires kind { (system_in self.old).kind (path_at (system_in self.old) at.instance) ≡ Some (Event kind) }
@@ -134,11 +201,84 @@ impl Taking<'_> {
         Ok(())
     }
 
+    /// .. where it is known which variables are WITH the event: mostly one, and then nothing is looked up.
+    #[inline(always)]
+    fn take_with(&mut self, at: Target, with: &With) -> Result<(), AllocError>
+        requires index { MayArrive self.old at }
+        requires input { at.is_output ≡ false }
+        requires no_basic { (t : BasicType) → (system_in self.old).kind (path_at (system_in self.old) at.instance) ≢ Some (Basic t) }
+        requires with { IsWith (system_in self.old) at with.now }
+        ensures taken { OnOk result (HasDone (sampling self.old.system.now self.old.key.now at) self.old self.new) }
+        ensures ready { OnOk result (MayBegin self.new) }
+        ensures outs { OnOk result (ArePutOut self.old self.new) }
+
+        // Also where memory runs out.
+        ensures kept { IsKept self.old self.new }
+        ensures same { IsSame self.old self.new }
+    {
+        match with {
+            With::Nothing => {
+                let values = Values::new(*self.outbox.lines.allocator());
+                write_taken(self.outbox, self.system, self.key, at, values)
+            }
+            With::One(variable, source) => self.take_value(at, *variable, source),
+            With::Several => {
+                let indexes = self.system.inputs_with(at.instance, at.event);
+                self.take_values(at.instance, at.event, indexes)
+            }
+        }
+    }
+
     /// An event from outside arrives at an event input of a composite, and goes on inside.
-    fn enter(&mut self, at: Target) -> Result<(), AllocError>
+    fn enter(&mut self, instance: u32, event: u32) -> Result<(), AllocError>
+        requires index { MayArrive self.old (record { instance = instance; event = event; is_output = false }) }
+        requires composite { IsCompositeAt (system_in self.old) instance }
+        ensures entered { OnOk result (HasDone (entering self.old.system.now self.old.key.now (record { instance = instance; event = event; is_output = false })) self.old self.new) }
+        ensures outs { OnOk result (ArePutOut self.old self.new) }
+
+        // Also where memory runs out.
+        ensures kept { IsKept self.old self.new }
+        ensures same { IsSame self.old self.new }
+    {
+        let at = Target {
+            instance,
+            event,
+            is_output: false,
+        };
+        match self.system.kept_port(at) {
+            Some(port) => self.enter_by(at, port),
+            None => self.enter_by_tables(instance, event),
+        }
+    }
+
+    /// .. at a port that is not kept.
+    #[inline(never)]
+    fn enter_by_tables(&mut self, instance: u32, event: u32) -> Result<(), AllocError>
+        requires index { MayArrive self.old (record { instance = instance; event = event; is_output = false }) }
+        requires composite { IsCompositeAt (system_in self.old) instance }
+        ensures entered { OnOk result (HasDone (entering self.old.system.now self.old.key.now (record { instance = instance; event = event; is_output = false })) self.old self.new) }
+        ensures outs { OnOk result (ArePutOut self.old self.new) }
+
+        // Also where memory runs out.
+        ensures kept { IsKept self.old self.new }
+        ensures same { IsSame self.old self.new }
+    {
+        let at = Target {
+            instance,
+            event,
+            is_output: false,
+        };
+        let port = self.system.port_by_tables(at);
+        self.enter_by(at, &port)
+    }
+
+    /// .. by what is known of the port.
+    #[inline(always)]
+    fn enter_by(&mut self, at: Target, port: &PortRow) -> Result<(), AllocError>
         requires index { MayArrive self.old at }
         requires input { at.is_output ≡ false }
         requires composite { IsCompositeAt (system_in self.old) at.instance }
+        requires port { IsPortRow self.old.system.now at port.now }
         ensures entered { OnOk result (HasDone (entering self.old.system.now self.old.key.now at) self.old self.new) }
         ensures outs { OnOk result (ArePutOut self.old self.new) }
 
@@ -146,12 +286,13 @@ impl Taking<'_> {
         ensures kept { IsKept self.old self.new }
         ensures same { IsSame self.old self.new }
     {
-        self.take_samples(at)?;
+        self.take_with(at, &port.with)?;
         send_out(
             &mut self.outbox.outs,
             self.forest,
             self.system,
             at,
+            &port.first,
             &[],
             &[],
         )
@@ -159,10 +300,55 @@ impl Taking<'_> {
 
     /// An event from inside arrives at an event output of a composite, which shows the outputs WITH the event and emits
     /// it.
-    fn leave(&mut self, at: Target) -> Result<(), AllocError>
+    fn leave(&mut self, instance: u32, event: u32) -> Result<(), AllocError>
+        requires index { MayArrive self.old (record { instance = instance; event = event; is_output = true }) }
+        requires composite { IsCompositeAt (system_in self.old) instance }
+        ensures left { OnOk result (HasDone (leaving self.old.system.now self.old.key.now (record { instance = instance; event = event; is_output = true })) self.old self.new) }
+        ensures outs { OnOk result (ArePutOut self.old self.new) }
+
+        // Also where memory runs out.
+        ensures kept { IsKept self.old self.new }
+        ensures same { IsSame self.old self.new }
+    {
+        let at = Target {
+            instance,
+            event,
+            is_output: true,
+        };
+        match self.system.kept_port(at) {
+            Some(port) => self.leave_by(at, port),
+            None => self.leave_by_tables(instance, event),
+        }
+    }
+
+    /// .. at a port that is not kept.
+    #[inline(never)]
+    fn leave_by_tables(&mut self, instance: u32, event: u32) -> Result<(), AllocError>
+        requires index { MayArrive self.old (record { instance = instance; event = event; is_output = true }) }
+        requires composite { IsCompositeAt (system_in self.old) instance }
+        ensures left { OnOk result (HasDone (leaving self.old.system.now self.old.key.now (record { instance = instance; event = event; is_output = true })) self.old self.new) }
+        ensures outs { OnOk result (ArePutOut self.old self.new) }
+
+        // Also where memory runs out.
+        ensures kept { IsKept self.old self.new }
+        ensures same { IsSame self.old self.new }
+    {
+        let at = Target {
+            instance,
+            event,
+            is_output: true,
+        };
+        let port = self.system.port_by_tables(at);
+        self.leave_by(at, &port)
+    }
+
+    /// .. by what is known of the port.
+    #[inline(always)]
+    fn leave_by(&mut self, at: Target, port: &PortRow) -> Result<(), AllocError>
         requires index { MayArrive self.old at }
         requires output { at.is_output ≡ true }
         requires composite { IsCompositeAt (system_in self.old) at.instance }
+        requires port { IsPortRow self.old.system.now at port.now }
         ensures left { OnOk result (HasDone (leaving self.old.system.now self.old.key.now at) self.old self.new) }
         ensures outs { OnOk result (ArePutOut self.old self.new) }
 
@@ -170,15 +356,76 @@ impl Taking<'_> {
         ensures kept { IsKept self.old self.new }
         ensures same { IsSame self.old self.new }
     {
+        match &port.with {
+            With::One(variable, source) => self.leave_value(at, &port.first, *variable, source),
+            With::Nothing | With::Several => self.leave_values(at.instance, at.event, &port.first),
+        }
+    }
+
+    /// .. where one variable is WITH the event.
+    #[inline(always)]
+    fn leave_value(
+        &mut self,
+        at: Target,
+        first: &Option<NextTarget>,
+        variable: u32,
+        source: &Option<InstanceVariable>,
+    ) -> Result<(), AllocError>
+        requires index { MayArrive self.old at }
+        requires output { at.is_output ≡ true }
+        requires composite { IsCompositeAt (system_in self.old) at.instance }
+        requires first { LeadsTo (system_in self.old) at 0 first.now }
+        requires represents { AreIndexes (ports_in self.old at.instance).outputs (names_out (system_in self.old) at) (variable ∷ []) }
+        requires source { ComesFrom (system_in self.old) (record { instance = at.instance; variable = variable; is_output = true }) source.now }
+        ensures left { OnOk result (HasDone (leaving self.old.system.now self.old.key.now at) self.old self.new) }
+        ensures outs { OnOk result (ArePutOut self.old self.new) }
+
+        // Also where memory runs out.
+        ensures kept { IsKept self.old self.new }
+        ensures same { IsSame self.old self.new }
+    {
+        let output = InstanceVariable {
+            instance: at.instance,
+            variable,
+            is_output: true,
+        };
+        let value = self.forest.shown_inside_from(self.system, output, source);
+        self.emit_value(at.instance, at.event, first, variable, value)
+    }
+
+    /// .. where any number of variables are WITH the event.
+    #[inline(never)]
+    fn leave_values(
+        &mut self,
+        instance: u32,
+        event: u32,
+        first: &Option<NextTarget>,
+    ) -> Result<(), AllocError>
+        requires index { MayArrive self.old (record { instance = instance; event = event; is_output = true }) }
+        requires composite { IsCompositeAt (system_in self.old) instance }
+        requires first { LeadsTo (system_in self.old) (record { instance = instance; event = event; is_output = true }) 0 first.now }
+        ensures left { OnOk result (HasDone (leaving self.old.system.now self.old.key.now (record { instance = instance; event = event; is_output = true })) self.old self.new) }
+        ensures outs { OnOk result (ArePutOut self.old self.new) }
+
+        // Also where memory runs out.
+        ensures kept { IsKept self.old self.new }
+        ensures same { IsSame self.old self.new }
+    {
+        let at = Target {
+            instance,
+            event,
+            is_output: true,
+        };
         let system = self.system;
         let alloc = *self.outbox.lines.allocator();
         let indexes = system.outputs_with(at.instance, at.event);
         let values = shown_values(alloc, self.forest, system, at, indexes)?;
         let event = at.event;
-        self.emit_at(at.instance, Emission { event, values }, indexes)
+        self.emit_at(at.instance, Emission { event, values }, first, indexes)
     }
 
     /// Writes the line of an event that was taken at an event input of a basic block, and emits what its reaction emits.
+    #[inline(always)]
     fn write_and_emit(
         &mut self,
         at: Target,
@@ -197,17 +444,21 @@ impl Taking<'_> {
         ensures same { IsSame self.old self.new }
     {
         write_taken(self.outbox, self.system, self.key, at, values)?;
-        self.emit_all(at.instance, emits)
+        self.emit_basic(at.instance, emits)
     }
 
-    /// An event arrives at an event input of a basic block. `emits` is room for what it emits.
+    /// A basic block reacts to an event with the values that its variables sample. `sampled` lends the same values as
+    /// `values`, which its line keeps.
     ///
     /// # Errors
-    /// `Halt::Stop` where a reason ends the reaction: what was emitted before it is kept.
-    fn arrive_basic(
+    /// As `arrive_basic`.
+    #[inline(always)]
+    fn react_with(
         &mut self,
         block: &BasicType,
         at: Target,
+        sampled: &[Value],
+        values: Values,
         meter: &mut Meter,
         emits: &mut Emits,
     ) -> Result<(), Halt>
@@ -215,6 +466,9 @@ impl Taking<'_> {
         requires input { at.is_output ≡ false }
         requires kind { (system_in self.old).kind (path_at (system_in self.old) at.instance) ≡ Some (Basic block.now) }
         requires one { IsOne self.old.system.now self.old.forest.now at.instance }
+        requires alike { sampled.now ≡ values }
+        requires sampled { AreSampled self.old.system.now self.old.forest.now at values }
+        requires counted { length values ≡ length (names_in (system_in self.old) at) }
         ensures reacted { HasArrived self.old at meter.old.left result self.new meter.new.left }
         ensures outs { Remembered result (ArePutOut self.old self.new) }
         ensures fewer { meter.new.left ≤ meter.old.left }
@@ -223,6 +477,73 @@ impl Taking<'_> {
         ensures kept { IsKept self.old self.new }
         ensures same { IsSame self.old self.new }
     {
+        emits.clear();
+        let end = react_basic(self.forest, self.system, block, at, sampled, meter, emits);
+        self.write_and_emit(at, values, emits)?;
+        end
+    }
+
+    /// .. where one variable is WITH the event.
+    #[inline(always)]
+    fn react_to_one(
+        &mut self,
+        block: &BasicType,
+        at: Target,
+        variable: u32,
+        source: &Option<InstanceVariable>,
+        meter: &mut Meter,
+        emits: &mut Emits,
+    ) -> Result<(), Halt>
+        requires index { MayArrive self.old at }
+        requires input { at.is_output ≡ false }
+        requires kind { (system_in self.old).kind (path_at (system_in self.old) at.instance) ≡ Some (Basic block.now) }
+        requires one { IsOne self.old.system.now self.old.forest.now at.instance }
+        requires represents { AreIndexes (ports_in self.old at.instance).inputs (names_in (system_in self.old) at) (variable ∷ []) }
+        requires source { ComesFrom (system_in self.old) (record { instance = at.instance; variable = variable; is_output = false }) source.now }
+        ensures reacted { HasArrived self.old at meter.old.left result self.new meter.new.left }
+        ensures outs { Remembered result (ArePutOut self.old self.new) }
+        ensures fewer { meter.new.left ≤ meter.old.left }
+
+        // Also where memory runs out.
+        ensures kept { IsKept self.old self.new }
+        ensures same { IsSame self.old self.new }
+    {
+        let input = InstanceVariable {
+            instance: at.instance,
+            variable,
+            is_output: false,
+        };
+        let value = self.forest.sampled_from(self.system, input, source);
+        let values = Values::one(*self.outbox.lines.allocator(), value);
+        self.react_with(block, at, &[value], values, meter, emits)
+    }
+
+    /// .. where any number of variables are WITH the event.
+    #[inline(never)]
+    fn react_to_several(
+        &mut self,
+        block: &BasicType,
+        instance: u32,
+        event: u32,
+        meter: &mut Meter,
+        emits: &mut Emits,
+    ) -> Result<(), Halt>
+        requires index { MayArrive self.old (record { instance = instance; event = event; is_output = false }) }
+        requires kind { (system_in self.old).kind (path_at (system_in self.old) instance) ≡ Some (Basic block.now) }
+        requires one { IsOne self.old.system.now self.old.forest.now instance }
+        ensures reacted { HasArrived self.old (record { instance = instance; event = event; is_output = false }) meter.old.left result self.new meter.new.left }
+        ensures outs { Remembered result (ArePutOut self.old self.new) }
+        ensures fewer { meter.new.left ≤ meter.old.left }
+
+        // Also where memory runs out.
+        ensures kept { IsKept self.old self.new }
+        ensures same { IsSame self.old self.new }
+    {
+        let at = Target {
+            instance,
+            event,
+            is_output: false,
+        };
         let alloc = *self.outbox.lines.allocator();
         let indexes = self.system.inputs_with(at.instance, at.event);
         let values = sampled_values(alloc, self.forest, self.system, at, indexes)?;
@@ -238,6 +559,49 @@ impl Taking<'_> {
         );
         self.write_and_emit(at, values, emits)?;
         end
+    }
+
+    /// An event arrives at an event input of a basic block. `emits` is room for what it emits.
+    ///
+    /// # Errors
+    /// `Halt::Stop` where a reason ends the reaction: what was emitted before it is kept.
+    fn arrive_basic(
+        &mut self,
+        block: &BasicType,
+        instance: u32,
+        event: u32,
+        meter: &mut Meter,
+        emits: &mut Emits,
+    ) -> Result<(), Halt>
+        requires index { MayArrive self.old (record { instance = instance; event = event; is_output = false }) }
+        requires kind { (system_in self.old).kind (path_at (system_in self.old) instance) ≡ Some (Basic block.now) }
+        requires one { IsOne self.old.system.now self.old.forest.now instance }
+        ensures reacted { HasArrived self.old (record { instance = instance; event = event; is_output = false }) meter.old.left result self.new meter.new.left }
+        ensures outs { Remembered result (ArePutOut self.old self.new) }
+        ensures fewer { meter.new.left ≤ meter.old.left }
+
+        // Also where memory runs out.
+        ensures kept { IsKept self.old self.new }
+        ensures same { IsSame self.old self.new }
+    {
+        let at = Target {
+            instance,
+            event,
+            is_output: false,
+        };
+        match self.system.kept_port(at) {
+            Some(port) => match &port.with {
+                With::Nothing => {
+                    let values = Values::new(*self.outbox.lines.allocator());
+                    self.react_with(block, at, &[], values, meter, emits)
+                }
+                With::One(variable, source) => {
+                    self.react_to_one(block, at, *variable, source, meter, emits)
+                }
+                With::Several => self.react_to_several(block, instance, event, meter, emits),
+            },
+            None => self.react_to_several(block, instance, event, meter, emits),
+        }
     }
 
     /// An event arrives at a port of an instance. `emits` is room for what a leaf emits.
@@ -263,12 +627,18 @@ impl Taking<'_> {
         match system.kind(at.instance) {
             TypeNumber::Event(kind) => self.arrive_event(kind, at, emits),
             TypeNumber::Declared(index) => match system.library().blocks.get(index) {
-                Some(BlockType::Basic(block)) => self.arrive_basic(block, at, meter, emits),
+                Some(BlockType::Basic(block)) => self.arrive_basic(
+                    block,
+                    at.instance,
+                    at.event,
+                    meter,
+                    emits,
+                ),
                 Some(BlockType::Composite(_)) => {
                     if at.is_output {
-                        Ok(self.leave(at)?)
+                        Ok(self.leave(at.instance, at.event)?)
                     } else {
-                        Ok(self.enter(at)?)
+                        Ok(self.enter(at.instance, at.event)?)
                     }
                 }
                 None => unreachable!(),

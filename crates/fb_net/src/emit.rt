@@ -5,18 +5,20 @@ ghost use Rattle.fb_types.specs.Headline.{system_of};
 ghost use Rattle.fb_types.specs.Blocks.{outputs_with};
 ghost use Rattle.fb_types.specs.Numbers.{carried_of, event_at, line_of, path_at, port_of, ports_at};
 ghost use Rattle.fb_types.specs.Reactions.{spread};
+ghost use Rattle.fb_system.specs.Ends.{LeadsTo};
 ghost use Rattle.fb_system.specs.Lines.{BelongsTo, IsEmission};
 ghost use Rattle.fb_system.specs.Ports.{IsCarried, IsPort, IsTarget};
 ghost use Rattle.fb_system.specs.IndexLists.{AreIndexes};
+ghost use Rattle.fb_system.specs.PortRows.{IsPortRow};
 ghost use Rattle.fb_net.specs.Changes.{Changes};
 ghost use Rattle.fb_net.specs.Emitting.{PutsOut, bare, carried_by, others, outputs_at, outputs_shown};
 ghost use Rattle.fb_net.specs.Outs.{IsOut, out_of};
-ghost use Rattle.fb_net.specs.Steps.{ArePutOut, EmitsAll, EmitsWell, IsKept, IsSame, MayEmit, ports_in};
+ghost use Rattle.fb_net.specs.Steps.{ArePutOut, EmitsAll, EmitsWell, IsKept, IsSame, MayEmit, ports_in, system_in};
 
 use crate::outbox::{Out, Outbox, OutgoingMessage};
 use crate::resource::Forest;
 use crate::taking::Taking;
-use fb_system::System;
+use fb_system::{NextTarget, PortRow, System, With};
 use fb_types::{
     Carried, Emission, Emits, InstanceVariable, Items, Key, Line, Target, Value, Values,
 };
@@ -79,27 +81,29 @@ fn put_message(
     Ok(())
 }
 
-/// Sends an event from a port to where its connections lead, in their order, with the values of data outputs of its
-/// instance, each at its index. Each target costs one lookup, and a message memory for its values. The error is that
-/// memory runs out.
+/// Sends an event from a port to where its connections lead, `first` and then the others, with the values of data outputs
+/// of its instance, each at its index. Each target after the first costs one lookup, and a message memory for its values.
+/// The error is that memory runs out.
 #[inline(always)]
 pub fn send_out(
     outs: &mut Vec<Out>,
     forest: &Forest,
     system: &System,
     from: Target,
+    first: &Option<NextTarget>,
     indexes: &[u32],
     values: &[Value],
 ) -> Result<(), AllocError>
     requires resource { forest.now.resource < length (system_of system.now).resource_names }
     requires port { IsPort (system_of system.now) from }
+    requires first { LeadsTo (system_of system.now) from 0 first.now }
     requires carried { All (IsCarried (system_of system.now)) (carried_by from.instance indexes.now values.now) }
     ensures sent { OnOk result (map (out_of (system_of system.now)) outs.new.items ≡ map (out_of (system_of system.now)) outs.old.items
         ++ spread (system_of system.now) forest.now.resource (map (carried_of (system_of system.now)) (carried_by from.instance indexes.now values.now)) ((system_of system.now).targets (port_of (system_of system.now) from))) }
     ensures outs { OnOk result (All (IsOut (system_of system.now) forest.now.resource) outs.old.items → All (IsOut (system_of system.now) forest.now.resource) outs.new.items) }
 {
     let resource = forest.resource;
-    let Some(reached) = system.reached(from, 0) else {
+    let Some(reached) = first else {
         return Ok(());
     };
     let instance = from.instance;
@@ -116,6 +120,12 @@ pub fn send_out(
     if !reached.more {
         return Ok(());
     }
+    // This copy is made here alone, so that where there is no other connection no port is put into memory for the call.
+    let from = Target {
+        instance,
+        event: from.event,
+        is_output: from.is_output,
+    };
     send_others(outs, resource, system, from, indexes, values)
 }
 
@@ -154,6 +164,56 @@ fn send_others(
         index += 1;
     }
     Ok(())
+}
+
+/// Sends an event without values from a port to where its connections lead, in their order.
+#[inline(always)]
+fn send_bare(
+    outs: &mut Vec<Out>,
+    forest: &Forest,
+    system: &System,
+    instance: u32,
+    event: u32,
+) -> Result<(), AllocError>
+    requires resource { forest.now.resource < length (system_of system.now).resource_names }
+    requires port { IsPort (system_of system.now) (record { instance = instance; event = event; is_output = true }) }
+    ensures sent { OnOk result (map (out_of (system_of system.now)) outs.new.items ≡ map (out_of (system_of system.now)) outs.old.items
+        ++ spread (system_of system.now) forest.now.resource [] ((system_of system.now).targets (port_of (system_of system.now) (record { instance = instance; event = event; is_output = true })))) }
+    ensures outs { OnOk result (All (IsOut (system_of system.now) forest.now.resource) outs.old.items → All (IsOut (system_of system.now) forest.now.resource) outs.new.items) }
+{
+    let from = Target {
+        instance,
+        event,
+        is_output: true,
+    };
+    match system.kept_port(from) {
+        Some(port) => send_out(outs, forest, system, from, &port.first, &[], &[]),
+        None => send_by_tables(outs, forest, system, instance, event),
+    }
+}
+
+/// .. from a port that is not kept.
+#[inline(never)]
+fn send_by_tables(
+    outs: &mut Vec<Out>,
+    forest: &Forest,
+    system: &System,
+    instance: u32,
+    event: u32,
+) -> Result<(), AllocError>
+    requires resource { forest.now.resource < length (system_of system.now).resource_names }
+    requires port { IsPort (system_of system.now) (record { instance = instance; event = event; is_output = true }) }
+    ensures sent { OnOk result (map (out_of (system_of system.now)) outs.new.items ≡ map (out_of (system_of system.now)) outs.old.items
+        ++ spread (system_of system.now) forest.now.resource [] ((system_of system.now).targets (port_of (system_of system.now) (record { instance = instance; event = event; is_output = true })))) }
+    ensures outs { OnOk result (All (IsOut (system_of system.now) forest.now.resource) outs.old.items → All (IsOut (system_of system.now) forest.now.resource) outs.new.items) }
+{
+    let from = Target {
+        instance,
+        event,
+        is_output: true,
+    };
+    let first = system.reached(from, 0);
+    send_out(outs, forest, system, from, &first, &[], &[])
 }
 
 /// Writes the line of an event that was taken at a port of an instance. The error is that memory runs out.
@@ -243,9 +303,113 @@ impl Taking<'_> {
         if emission.values.is_empty() {
             return self.emit_bare(instance, emission.event);
         }
-        let system = self.system;
-        let indexes = system.outputs_with(instance, emission.event);
-        self.emit_at(instance, emission, indexes)
+        let from = Target {
+            instance,
+            event: emission.event,
+            is_output: true,
+        };
+        match self.system.kept_port(from) {
+            Some(port) => self.emit_by(instance, emission, port),
+            None => self.emit_by_tables(instance, emission),
+        }
+    }
+
+    /// .. at a port that is not kept.
+    #[inline(never)]
+    fn emit_by_tables(&mut self, instance: u32, emission: Emission) -> Result<(), AllocError>
+        requires index { MayEmit self.old instance }
+        requires emission { IsEmission (ports_in self.old instance) emission }
+        ensures emitted { OnOk result (EmitsWell self.old instance (emission ∷ []) self.new) }
+
+        // Also where memory runs out.
+        ensures kept { IsKept self.old self.new }
+        ensures same { IsSame self.old self.new }
+    {
+        let from = Target {
+            instance,
+            event: emission.event,
+            is_output: true,
+        };
+        let port = self.system.port_by_tables(from);
+        self.emit_by(instance, emission, &port)
+    }
+
+    /// .. by what is known of its port: mostly one variable is WITH the event.
+    #[inline(always)]
+    fn emit_by(
+        &mut self,
+        instance: u32,
+        emission: Emission,
+        port: &PortRow,
+    ) -> Result<(), AllocError>
+        requires index { MayEmit self.old instance }
+        requires emission { IsEmission (ports_in self.old instance) emission }
+        requires port { IsPortRow self.old.system.now (record { instance = instance; event = emission.event; is_output = true }) port.now }
+        ensures emitted { OnOk result (EmitsWell self.old instance (emission ∷ []) self.new) }
+
+        // Also where memory runs out.
+        ensures kept { IsKept self.old self.new }
+        ensures same { IsSame self.old self.new }
+    {
+        if let With::One(variable, _) = &port.with {
+            if let Some(value) = emission.values.as_slice().first() {
+                return self.emit_value(instance, emission.event, &port.first, *variable, *value);
+            }
+        }
+        let indexes = self.system.outputs_with(instance, emission.event);
+        self.emit_at(instance, emission, &port.first, indexes)
+    }
+
+    /// Emits one output event with one variable, which is at `variable`. Errors are as of `emit_one`.
+    #[inline(always)]
+    pub fn emit_value(
+        &mut self,
+        instance: u32,
+        event: u32,
+        first: &Option<NextTarget>,
+        variable: u32,
+        value: Value,
+    ) -> Result<(), AllocError>
+        requires index { MayEmit self.old instance }
+        requires event { event < length (ports_in self.old instance).event_outputs }
+        requires first { LeadsTo (system_in self.old) (record { instance = instance; event = event; is_output = true }) 0 first.now }
+        requires indexes { let its = ports_in self.old instance in AreIndexes its.outputs (outputs_with its (event_at its.event_outputs event)) (variable ∷ []) }
+        ensures emitted { OnOk result (EmitsWell self.old instance (record { event = event; values = value ∷ [] } ∷ []) self.new) }
+
+        // Also where memory runs out.
+        ensures kept { IsKept self.old self.new }
+        ensures same { IsSame self.old self.new }
+    {
+        let output = InstanceVariable {
+            instance,
+            variable,
+            is_output: true,
+        };
+        self.forest.publish(self.system, output, value);
+        let from = Target {
+            instance,
+            event,
+            is_output: true,
+        };
+        send_out(
+            &mut self.outbox.outs,
+            self.forest,
+            self.system,
+            from,
+            first,
+            &[variable],
+            &[value],
+        )?;
+        let values = Values::from_slice(*self.outbox.lines.allocator(), &[value])?;
+        self.outbox.lines.reserve(1)?;
+        self.outbox.lines.push_reserved(Line {
+            key: *self.key,
+            taken: false,
+            instance,
+            event,
+            values,
+        });
+        Ok(())
     }
 
     /// Emits one output event, whose variables are at `indexes`. Errors are as of `emit_one`.
@@ -254,10 +418,12 @@ impl Taking<'_> {
         &mut self,
         instance: u32,
         emission: Emission,
+        first: &Option<NextTarget>,
         indexes: &[u32],
     ) -> Result<(), AllocError>
         requires index { MayEmit self.old instance }
         requires emission { IsEmission (ports_in self.old instance) emission }
+        requires first { LeadsTo (system_in self.old) (record { instance = instance; event = emission.event; is_output = true }) 0 first.now }
         requires indexes { let its = ports_in self.old instance in AreIndexes its.outputs (outputs_with its (event_at its.event_outputs emission.event)) indexes.now }
         ensures emitted { OnOk result (EmitsWell self.old instance (emission ∷ []) self.new) }
 
@@ -283,6 +449,7 @@ impl Taking<'_> {
             self.forest,
             self.system,
             from,
+            first,
             indexes,
             values.as_slice(),
         )?;
@@ -300,7 +467,7 @@ impl Taking<'_> {
     /// Emits one output event without values: it goes where its connections lead, and it has a line. Errors are as of
     /// `emit_one`.
     #[inline(always)]
-    fn emit_bare(&mut self, instance: u32, event: u32) -> Result<(), AllocError>
+    pub fn emit_bare(&mut self, instance: u32, event: u32) -> Result<(), AllocError>
         requires index { MayEmit self.old instance }
         requires emission { IsEmission (ports_in self.old instance) (bare event) }
         ensures emitted { OnOk result (EmitsWell self.old instance (bare event ∷ []) self.new) }
@@ -309,18 +476,12 @@ impl Taking<'_> {
         ensures kept { IsKept self.old self.new }
         ensures same { IsSame self.old self.new }
     {
-        let from = Target {
-            instance,
-            event,
-            is_output: true,
-        };
-        send_out(
+        send_bare(
             &mut self.outbox.outs,
             self.forest,
             self.system,
-            from,
-            &[],
-            &[],
+            instance,
+            event,
         )?;
         let values = Values::new(*self.outbox.lines.allocator());
         self.outbox.lines.reserve(1)?;
@@ -339,6 +500,83 @@ impl Taking<'_> {
     /// instance has its block then too.
     #[inline(always)]
     pub fn emit_all(&mut self, instance: u32, emits: &mut Emits) -> Result<(), AllocError>
+        requires index { MayEmit self.old instance }
+        requires emissions { All (IsEmission (ports_in self.old instance)) emits.old }
+        ensures emitted { OnOk result (EmitsAll self.old instance emits.old self.new) }
+        ensures outs { OnOk result (ArePutOut self.old self.new) }
+
+        // Also where memory runs out.
+        ensures kept { IsKept self.old self.new }
+        ensures same { IsSame self.old self.new }
+    {
+        // Most reactions of event blocks emit one event without values.
+        match emits.pop_bare() {
+            Some(event) => self.emit_bare(instance, event),
+            None => self.emit_rest(instance, emits),
+        }
+    }
+
+    /// .. of a basic block, most of whose reactions emit one event with one value.
+    #[inline(always)]
+    pub fn emit_basic(&mut self, instance: u32, emits: &mut Emits) -> Result<(), AllocError>
+        requires index { MayEmit self.old instance }
+        requires emissions { All (IsEmission (ports_in self.old instance)) emits.old }
+        ensures emitted { OnOk result (EmitsAll self.old instance emits.old self.new) }
+        ensures outs { OnOk result (ArePutOut self.old self.new) }
+
+        // Also where memory runs out.
+        ensures kept { IsKept self.old self.new }
+        ensures same { IsSame self.old self.new }
+    {
+        match emits.pop_one() {
+            Some((event, value)) => self.emit_with_one(instance, event, value),
+            None => self.emit_all(instance, emits),
+        }
+    }
+
+    /// Emits one output event with one value. Errors are as of `emit_one`.
+    #[inline(always)]
+    fn emit_with_one(&mut self, instance: u32, event: u32, value: Value) -> Result<(), AllocError>
+        requires index { MayEmit self.old instance }
+        requires emission { IsEmission (ports_in self.old instance) (record { event = event; values = value ∷ [] }) }
+        ensures emitted { OnOk result (EmitsWell self.old instance (record { event = event; values = value ∷ [] } ∷ []) self.new) }
+
+        // Also where memory runs out.
+        ensures kept { IsKept self.old self.new }
+        ensures same { IsSame self.old self.new }
+    {
+        let from = Target {
+            instance,
+            event,
+            is_output: true,
+        };
+        if let Some(port) = self.system.kept_port(from) {
+            if let With::One(variable, _) = &port.with {
+                return self.emit_value(instance, event, &port.first, *variable, value);
+            }
+        }
+        let values = Values::one(*self.outbox.lines.allocator(), value);
+        self.emit_by_tables(instance, Emission { event, values })
+    }
+
+    /// .. which are not one event without values.
+    #[inline(never)]
+    fn emit_rest(&mut self, instance: u32, emits: &mut Emits) -> Result<(), AllocError>
+        requires index { MayEmit self.old instance }
+        requires emissions { All (IsEmission (ports_in self.old instance)) emits.old }
+        ensures emitted { OnOk result (EmitsAll self.old instance emits.old self.new) }
+        ensures outs { OnOk result (ArePutOut self.old self.new) }
+
+        // Also where memory runs out.
+        ensures kept { IsKept self.old self.new }
+        ensures same { IsSame self.old self.new }
+    {
+        self.emit_each(instance, emits)
+    }
+
+    /// .. one by one.
+    #[inline(always)]
+    fn emit_each(&mut self, instance: u32, emits: &mut Emits) -> Result<(), AllocError>
         requires index { MayEmit self.old instance }
         requires emissions { All (IsEmission (ports_in self.old instance)) emits.old }
         ensures emitted { OnOk result (EmitsAll self.old instance emits.old self.new) }

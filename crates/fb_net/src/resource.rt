@@ -7,6 +7,7 @@ ghost use Rattle.fb_types.specs.Flat.{zero_value};
 ghost use Rattle.fb_types.specs.Headline.{system_of};
 ghost use Rattle.fb_types.specs.Numbers.{path_at};
 ghost use Rattle.fb_types.specs.Reactions.{World};
+ghost use Rattle.fb_system.specs.Ends.{ComesFrom};
 ghost use Rattle.fb_system.specs.Ports.{IsVariable, variable_of};
 ghost use Rattle.fb_net.specs.Changes.{Changes, Holds, ShowsInside, input_sampled, output_shown, slot_set};
 ghost use Rattle.fb_net.specs.Worlds.{TakesSamples, Found, InForest, IsComposite, IsForest, Reads, Samples, Sees, Shows, key_cmp, key_of, seat_in, value_in, way_in, with_seated};
@@ -204,8 +205,24 @@ impl Forest {
         requires input { input.is_output ≡ false }
         ensures { Samples system.now self.now input result }
     {
-        match system.source(input) {
-            Some(source) => self.shown(system, source),
+        self.sampled_from(system, input, &system.source(input))
+    }
+
+    /// .. where it is known what the input is connected to, if anything.
+    #[inline(always)]
+    pub fn sampled_from(
+        &self,
+        system: &System,
+        input: InstanceVariable,
+        source: &Option<InstanceVariable>,
+    ) -> Value
+        requires variable { IsVariable (system_of system.now) input }
+        requires input { input.is_output ≡ false }
+        requires source { ComesFrom (system_of system.now) input source.now }
+        ensures { Samples system.now self.now input result }
+    {
+        match source {
+            Some(source) => self.shown(system, *source),
             None => self.slot(system, input),
         }
     }
@@ -219,8 +236,25 @@ impl Forest {
         requires composite { IsComposite (system_of system.now) output }
         ensures { ShowsInside system.now self.now output result }
     {
-        match system.source(output) {
-            Some(source) => self.shown(system, source),
+        self.shown_inside_from(system, output, &system.source(output))
+    }
+
+    /// .. where it is known what the output is connected to inside, if anything.
+    #[inline(always)]
+    pub fn shown_inside_from(
+        &self,
+        system: &System,
+        output: InstanceVariable,
+        source: &Option<InstanceVariable>,
+    ) -> Value
+        requires variable { IsVariable (system_of system.now) output }
+        requires output { output.is_output ≡ true }
+        requires source { ComesFrom (system_of system.now) output source.now }
+        requires composite { IsComposite (system_of system.now) output }
+        ensures { ShowsInside system.now self.now output result }
+    {
+        match source {
+            Some(source) => self.shown(system, *source),
             None => self.published(system, output),
         }
     }

@@ -16,7 +16,7 @@ use crate::resource::Forest;
 use crate::taking::Taking;
 use fb_st::Meter;
 use fb_system::System;
-use fb_types::{Emits, Halt};
+use fb_types::{Emits, Halt, Key};
 use std::alloc::{AllocError, Global};
 use std::marker::Model;
 
@@ -107,40 +107,8 @@ impl Tree {
     /// forget((tree, outbox));
     /// discard_system(system);
     /// ```
-    pub fn take(
-        &mut self,
-        system: &System,
-        arrival: Arrival<'_>,
-        tick: u64,
-        meter: &mut Meter,
-        outbox: &mut Outbox,
-    ) -> Result<(), Halt>
-        requires event { IsEventIn system.now self.old.resource (event_in arrival) }
-        requires named { self.old.resource < length (system_of system.now).resource_names }
-        requires early { tick ≤ 10 ^ 12 }
-        requires belongs { (w : World) × IsForest system.now self.old w × AreTyped (system_of system.now) w }
-        requires typed { IsTypedEvent (system_of system.now) (event_of system.now (event_in arrival)) }
-        ensures taken { HasTaken system.now (key_at tick self.old.resource arrival.entry) (event_in arrival.entry) self.old outbox.old meter.old.left result self.new meter.new.left outbox.new }
-        ensures outs { Remembered result (StillAreOuts system.now self.old outbox.old self.new outbox.new) }
-        ensures fewer { meter.new.left ≤ meter.old.left }
-        ensures resource { self.new.resource ≡ self.old.resource }
-
-        // Also where memory runs out.
-        ensures whole { (w : World) × IsForest system.now self.new w }
-    {
-        // Each of these branches is compiled for its events alone: what they are is asked once, and not again for their
-        // key and for what they do.
-        match arrival {
-            Arrival::Local { .. } => self.take_by_key(system, arrival, tick, meter, outbox),
-            Arrival::Message(_) => self.take_by_key(system, arrival, tick, meter, outbox),
-            _ => self.take_by_key(system, arrival, tick, meter, outbox),
-        }
-    }
-
-    /// .. under the key that the event has.
-    #[inline(always)]
     #[tactic(auto, using(crate::proofs::Keys::keys))]
-    fn take_by_key(
+    pub fn take(
         &mut self,
         system: &System,
         arrival: Arrival<'_>,
@@ -164,9 +132,41 @@ impl Tree {
         // There are at most 256 resources, so that the number of one fits.
         system.facts();
         let key = arrival.key(tick, self.forest.resource as u32);
+        self.take_under(system, arrival, &key, meter, outbox)
+    }
+
+    /// The same as `take`, for callers that have the key of the event.
+    ///
+    /// # Errors
+    /// As `take`.
+    #[inline(always)]
+    #[tactic(auto, using(crate::proofs::Keys::keys))]
+    pub fn take_under(
+        &mut self,
+        system: &System,
+        arrival: Arrival<'_>,
+        key: &Key,
+        meter: &mut Meter,
+        outbox: &mut Outbox,
+    ) -> Result<(), Halt>
+        requires key { key.now ≡ key_at key.now.tick self.old.resource arrival }
+        requires event { IsEventIn system.now self.old.resource (event_in arrival) }
+        requires named { self.old.resource < length (system_of system.now).resource_names }
+        requires early { key.now.tick ≤ 10 ^ 12 }
+        requires belongs { (w : World) × IsForest system.now self.old w × AreTyped (system_of system.now) w }
+        requires typed { IsTypedEvent (system_of system.now) (event_of system.now (event_in arrival)) }
+        ensures taken { HasTaken system.now key.now (event_in arrival.entry) self.old outbox.old meter.old.left result self.new meter.new.left outbox.new }
+        ensures outs { Remembered result (StillAreOuts system.now self.old outbox.old self.new outbox.new) }
+        ensures fewer { meter.new.left ≤ meter.old.left }
+        ensures resource { self.new.resource ≡ self.old.resource }
+
+        // Also where memory runs out.
+        ensures whole { (w : World) × IsForest system.now self.new w }
+    {
+        system.facts();
         let mut taking = Taking {
             system,
-            key: &key,
+            key,
             forest: &mut self.forest,
             outbox,
         };

@@ -1,13 +1,10 @@
 -- What a row says of an event port (IEC 61499-1, 5.1 and 5.3; the numbers are this project's profile).
-use Rattle.std.specs.Prelude.{◌≡◌, Some, ℕ, List, [], ◌∷◌, Bool, All, Option, if◌then◌else◌, slice_get}
+use Rattle.std.specs.Prelude.{ℕ, List, [], ◌∷◌, Bool, All, Option, if◌then◌else◌}
 use Rattle.fb_types.specs.Names.{Name}
 use Rattle.fb_types.specs.Blocks as types
 use Rattle.fb_types.specs.Headline.{Inputs, system_of}
 use Rattle.fb_types.specs.Numbers.{event_at, path_at, ports_at}
 use Rattle.fb_types.specs.Systems.{System}
-use Rattle.fb_types.specs.declared.library.BasicType.{BasicType}
-use Rattle.fb_types.specs.declared.library.BlockType.TheVariants as block
-use Rattle.fb_types.specs.declared.library.CompositeType.{CompositeType}
 use Rattle.fb_types.specs.declared.library.Ports.{Ports}
 use Rattle.fb_types.specs.declared.library.Variable.{Variable}
 use Rattle.fb_types.specs.declared.run.InstanceVariable.{InstanceVariable}
@@ -15,30 +12,9 @@ use Rattle.fb_types.specs.declared.run.Target.{Target}
 use Rattle.fb_system.specs.Ends.{ComesFrom, LeadsTo}
 use Rattle.fb_system.specs.IndexLists.{AreIndexes}
 use Rattle.fb_system.specs.declared.ends.PortRowAt.{PortRowAt}
-use Rattle.fb_system.specs.declared.port_row.PortKind.{PortKind}
-use Rattle.fb_system.specs.declared.port_row.PortKind.TheVariants.{Event, Basic, Composite}
 use Rattle.fb_system.specs.declared.port_row.PortRow.{PortRow}
 use Rattle.fb_system.specs.declared.port_row.With.{With}
 use Rattle.fb_system.specs.declared.port_row.With.TheVariants.{Nothing, One, Several}
-
--- the type with an index in the declaration is a basic one, and that of the instance
-pub record IsBasicAt (i : Inputs) (instance index : ℕ) : Type 0 where
-  pub type : BasicType
-  pub declared : slice_get i.library.blocks index ≡ Some (block.Basic type)
-  pub kind : (system_of i).kind (path_at (system_of i) instance) ≡ Some (types.Basic type)
-
--- the type of the instance is a composite one of the declaration
-pub record IsComposed (i : Inputs) (instance : ℕ) : Type 0 where
-  pub index : ℕ
-  pub type : CompositeType
-  pub declared : slice_get i.library.blocks index ≡ Some (block.Composite type)
-  pub kind : (system_of i).kind (path_at (system_of i) instance) ≡ Some (types.Composite type)
-
--- what the type of an instance is
-abbrev pub IsOfKind : Inputs → (instance : ℕ) → PortKind → Type 0
-IsOfKind i k (Event e) = (system_of i).kind (path_at (system_of i) k) ≡ Some (types.Event e)
-IsOfKind i k (Basic index) = IsBasicAt i k index
-IsOfKind i k Composite = IsComposed i k
 
 -- the variables among which those WITH the events of a port are, of an interface
 abbrev pub variables_of : Ports → (is_output : Bool) → List Variable
@@ -68,7 +44,6 @@ IsWith sys at Several = Unit {0}
 
 -- what a row says of a port
 pub record IsPortRow (i : Inputs) (at : Target) (r : PortRow) : Type 0 where
-  pub kind : IsOfKind i at.instance r.kind
   pub with : IsWith (system_of i) at r.with
   pub first : LeadsTo (system_of i) at 0 r.first
 

@@ -51,7 +51,7 @@ pub use layout::{InstanceRow, Layout};
 pub use links::Links;
 pub use netlist::Netlist;
 pub use next_target::NextTarget;
-pub use port_row::{PortKind, PortRow, With};
+pub use port_row::{PortRow, With};
 pub use rows::{SlotValue, StimulusRow};
 pub use stimulus::StimulusAt;
 pub use system::System;

@@ -1,18 +1,7 @@
 //! What is kept of an event port.
 
 use crate::next_target::NextTarget;
-use fb_types::{EventKind, InstanceVariable};
-
-/// What the type of an instance is.
-#[derive(Clone, Copy)]
-pub enum PortKind {
-    /// An event block of this kind.
-    Event(EventKind),
-    /// A basic block, whose type has this index among the block types of the declaration.
-    Basic(usize),
-    /// A composite.
-    Composite,
-}
+use fb_types::InstanceVariable;
 
 /// The variables WITH an event.
 #[derive(Clone, Copy)]
@@ -25,11 +14,9 @@ pub enum With {
     Several,
 }
 
-/// An event port: what has it, the variables WITH its event, and where its first connection leads.
+/// An event port: the variables WITH its event, and where its first connection leads.
 #[derive(Clone, Copy)]
 pub struct PortRow {
-    /// What the type of its instance is.
-    pub kind: PortKind,
     /// The variables WITH its event: data inputs at an event input, data outputs at an event output.
     pub with: With,
     /// Where its first connection leads, or `None` if it has no connection.

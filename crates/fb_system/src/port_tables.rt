@@ -4,39 +4,22 @@ ghost use Rattle.std.specs.Prelude.{◌≡◌};
 ghost use Rattle.fb_types.specs.Headline.{system_of};
 ghost use Rattle.fb_system.specs.IndexLists.{AreIndexes};
 ghost use Rattle.fb_system.specs.Ports.{IsPort};
-ghost use Rattle.fb_system.specs.PortRows.{IsOfKind, IsPortRow, IsWith, port_names, port_variables};
+ghost use Rattle.fb_system.specs.PortRows.{IsPortRow, IsWith, port_names, port_variables};
 
-use crate::port_row::{PortKind, PortRow, With};
+use crate::port_row::{PortRow, With};
 use crate::system::System;
-use fb_check_names::TypeNumber;
-use fb_types::{BlockType, InstanceVariable, Target};
+use fb_types::{InstanceVariable, Target};
 
 impl System {
-    /// What has an event port, the variables WITH its event, and where its first connection leads.
+    /// The variables WITH the event of a port, and where its first connection leads.
     #[inline(never)]
-    pub(crate) fn port_by_tables(&self, at: Target) -> PortRow
+    pub fn port_by_tables(&self, at: Target) -> PortRow
         requires { IsPort (system_of self.now) at }
         ensures { IsPortRow self.now at result }
     {
         PortRow {
-            kind: self.port_kind(at),
             with: self.port_with(at),
             first: self.reached(at, 0),
-        }
-    }
-
-    /// What the type of the instance is that has a port.
-    fn port_kind(&self, at: Target) -> PortKind
-        requires { IsPort (system_of self.now) at }
-        ensures { IsOfKind self.now at.instance result }
-    {
-        match self.kind(at.instance) {
-            TypeNumber::Event(kind) => PortKind::Event(kind),
-            TypeNumber::Declared(index) => match self.library().blocks.get(index) {
-                Some(BlockType::Basic(_)) => PortKind::Basic(index),
-                Some(BlockType::Composite(_)) => PortKind::Composite,
-                None => unreachable!(),
-            },
         }
     }
 

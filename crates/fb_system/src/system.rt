@@ -271,16 +271,15 @@ impl System {
         self.reached_by_tables(from, index)
     }
 
-    /// What has an event port, the variables WITH its event, and where its first connection leads: what is looked up of
-    /// most events, in one step.
+    /// What is looked up of an event port in one step: the variables WITH its event, and where its first connection leads.
+    /// It is kept of the first 16,384 ports. `port_by_tables` gives the same of every port.
     #[inline(always)]
-    pub fn port(&self, at: Target) -> PortRow
-        requires { IsPort (system_of self.now) at }
-        ensures { IsPortRow self.now at result }
+    pub fn kept_port(&self, at: Target) -> Option<&PortRow>
+        ensures { IfSome result (λ r. IsPortRow self.now at r.now) }
     {
         match self.whole.kept.ends.port(at) {
-            Some(kept) => kept.row,
-            None => self.port_by_tables(at),
+            Some(kept) => Some(&kept.row),
+            None => None,
         }
     }
 

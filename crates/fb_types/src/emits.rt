@@ -155,6 +155,24 @@ impl Emits {
         Some(event)
     }
 
+    /// Removes the only emission, if it is the only one and has one value, stored in place, and returns its event and that
+    /// value. Otherwise the list stays as it is.
+    #[inline(always)]
+    pub fn pop_one(&mut self) -> Option<(u32, Value)>
+        ensures alone { IfSome result (λ (event, value). self.old ≡ record { event = event; values = value ∷ [] } ∷ []) }
+        ensures none_left { IfSome result (λ _. self.new ≡ []) }
+        ensures same { IfNone result (self.new ≡ self.old) }
+    {
+        let first = self.first.as_ref()?;
+        let value = first.values.only()?;
+        if !self.others.is_empty() {
+            return None;
+        }
+        let event = first.event;
+        self.first = None;
+        Some((event, value))
+    }
+
     /// Drops all emissions and keeps their memory.
     #[inline(always)]
     pub fn clear(&mut self)

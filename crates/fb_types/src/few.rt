@@ -1,6 +1,6 @@
 //! Lists that usually have one element.
 
-ghost use Rattle.std.specs.Prelude.{◌≡◌, [], ◌∷◌, ◌++◌, ◌↔◌, IsTrue, IfOk, OnOk, OnErr};
+ghost use Rattle.std.specs.Prelude.{◌≡◌, [], ◌∷◌, ◌++◌, ◌↔◌, IsTrue, IfOk, IfSome, OnOk, OnErr};
 ghost use Rattle.fb_types.specs.Held.{all_held};
 
 use crate::value::Value;
@@ -116,6 +116,17 @@ impl<T: Drop> Few<T> {
 }
 
 impl<T: Copy> Few<T> {
+    /// The element that is stored in place, if there is one.
+    #[inline(always)]
+    pub(crate) fn only(&self) -> Option<T>
+        ensures { IfSome result (λ item. self.now ≡ item ∷ []) }
+    {
+        match &self.held {
+            Held::One(item) => Some(*item),
+            Held::Nothing | Held::Several(_) => None,
+        }
+    }
+
     /// A copy of the elements of a slice.
     pub fn from_slice(alloc: Global, items: &[T]) -> Result<Few<T>, AllocError>
         ensures { IfOk result (λ l. l ≡ items.now) }

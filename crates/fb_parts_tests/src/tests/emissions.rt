@@ -2,7 +2,6 @@
 
 use fb_types::{Emits, Value};
 use std::mem::forget;
-use std::process::Abort;
 
 #[test]
 fn the_only_emission_without_values_is_its_event(rt: HostRuntime) {
@@ -38,5 +37,20 @@ fn an_emission_with_a_value_stays(rt: HostRuntime) {
     assert!(rt; only.event == 3);
     assert!(rt; only.values.as_slice().first().copied() == Some(Value::Whole(5)));
     forget(only);
+    assert!(rt; emits.is_empty());
+}
+
+#[test]
+fn the_only_emission_with_one_value_is_its_event_and_the_value(rt: HostRuntime) {
+    let mut emits = Emits::new(rt.alloc());
+    assert!(rt; emits.pop_one().is_none());
+    emits.push_bare(7).expect(&rt, "memory");
+    assert!(rt; emits.pop_one().is_none());
+    assert!(rt; emits.pop_bare() == Some(7));
+    emits.push_one(3, Value::Whole(5)).expect(&rt, "memory");
+    let Some((event, value)) = emits.pop_one() else {
+        panic!(rt; "one emission with one value");
+    };
+    assert!(rt; event == 3 && value == Value::Whole(5));
     assert!(rt; emits.is_empty());
 }

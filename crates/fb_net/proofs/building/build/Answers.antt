@@ -1,4 +1,4 @@
-use Rattle.std.proofs.Common.{◌≡◌, ℕ, List, sym, subst}
+use Rattle.std.proofs.Common.{ℕ, List, sym, subst}
 use Rattle.fb_net.specs.declared.block.Block.{Block}
 use Rattle.fb_net.specs.Opening.{AreGrown, AreRooted, CoversAll}
 use Rattle.fb_net.proofs.Charts.{no_charts}

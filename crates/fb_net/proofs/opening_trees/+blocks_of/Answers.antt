@@ -1,7 +1,5 @@
-use Rattle.std.proofs.Common.{◌≡◌, ◌≤◌, ◌-◌, ℕ, get_or, Some, arith}
-use Rattle.std.specs.Prelude.{slice_get}
+use Rattle.std.proofs.Common.{◌≤◌, arith}
 use Rattle.std.proofs.lemmas.Option.{slice_get-get_or}
-use Rattle.fb_net.specs.Opening.{IsDeep}
 use Rattle.fb_net.proofs.Growing.{deeper, grown_none, grown_step, room}
 use Rattle.fb_net.proofs.opening_trees.+blocks_of.Goals as goal
 

@@ -16,13 +16,13 @@ returns-clause-emitted c =
     let e = bare c.args.event in
     let f = c.args.self.now.forest.now in
     let x = c.args.self.now.outbox.now in
-    let y : Outbox = record { lines = c.push_reserved.new.self; outs = c.send_out.new.outs; timer = x.timer } in
+    let y : Outbox = record { lines = c.push_reserved.new.self; outs = c.send_bare.new.outs; timer = x.timer } in
     let done : Doing i key k f x e f y = record {
       indexes = [];
       stand = no_indexes _ _ c.requires.emission.values;
       published = nothing_shown i k f;
-      sent = c.in_ok-send_out.ensures.sent;
-      belong = c.in_ok-send_out.ensures.outs;
+      sent = c.in_ok-send_bare.ensures.sent;
+      belong = c.in_ok-send_bare.ensures.outs;
       lines =
           c.push_reserved.ensures.items
           ∙ ap (λ (vs : List Value). c.reserve.new.self.items ++ line_by key k (record { event = c.args.event; values = vs }) ∷ []) c.new-values.ensures
@@ -31,8 +31,8 @@ returns-clause-emitted c =
     } in
     has_emitted i key k f x e f y done c.requires.index.number c.requires.index.here c.requires.index.resource c.args.self.now.named c.requires.emission
 
-pub returns-in_err-send_out-clause-kept : goal.returns-in_err-send_out-clause-kept
-returns-in_err-send_out-clause-kept c = kept-same c.args.self.now.system.now c.args.self.now.forest.now
+pub returns-in_err-send_bare-clause-kept : goal.returns-in_err-send_bare-clause-kept
+returns-in_err-send_bare-clause-kept c = kept-same c.args.self.now.system.now c.args.self.now.forest.now
 
 pub returns-in_err-reserve-clause-kept : goal.returns-in_err-reserve-clause-kept
 returns-in_err-reserve-clause-kept c = kept-same c.args.self.now.system.now c.args.self.now.forest.now

@@ -1,9 +1,14 @@
-use Rattle.std.proofs.Common.{length, refl, sym, ap, ◌∙◌}
+use Rattle.std.proofs.Common.{length, refl, sym, ap, ◌∙◌, subst}
 use Rattle.std.proofs.lemmas.Bool.{eqb-true}
 use Rattle.std.proofs.lemmas.Result.{on_ok_weaker}
+use Rattle.std.specs.Prelude.{OnOk}
 use Rattle.fb_types.specs.Headline.{system_of}
+use Rattle.fb_types.specs.declared.run.Target.{Target}
+use Rattle.fb_net.specs.Arrivals.{sampling}
+use Rattle.fb_net.specs.Steps.{HasDone, MayArrive}
 use Rattle.fb_net.specs.Samples.{names_in}
 use Rattle.fb_net.proofs.Changing.{samples_none}
+use Rattle.fb_net.proofs.PortRows.{at_input}
 use Rattle.fb_net.proofs.PutOut.{lines-put}
 use Rattle.fb_net.proofs.Sampling.{none-sampled, sampling-represents}
 use Rattle.fb_net.proofs.Wholes.{kept-same}
@@ -33,3 +38,14 @@ returns-then-is_empty-clause-outs c =
     let f = c.args.self.now.forest.now in
     on_ok_weaker c.write_taken.result
     (lines-put c.args.self.now.system.now f f c.args.self.now.outbox.now c.write_taken.new.outbox refl c.write_taken.ensures.outs) c.write_taken.ensures.lines
+
+pub take_values-requires-clause-index : goal.take_values-requires-clause-index
+take_values-requires-clause-index c = subst (λ (t : Target). MayArrive c.args.self.now t) (at_input c.args.at c.requires.input) c.requires.index
+
+pub take_values-requires-clause-indexes : goal.take_values-requires-clause-indexes
+take_values-requires-clause-indexes c = c.inputs_with-indexes.ensures
+
+pub returns-clause-taken : goal.returns-clause-taken
+returns-clause-taken c =
+    let a = c.args.self.now in
+    subst (λ (t : Target). OnOk c.take_values.result (HasDone (sampling a.system.now a.key.now t) a c.take_values.new.self)) (sym (at_input c.args.at c.requires.input)) c.take_values.ensures.taken

@@ -13,8 +13,8 @@ use Rattle.fb_net.proofs.Sampling.{one-sampled, sampling-represents}
 use Rattle.fb_net.proofs.Wholes.{kept-changed}
 use Rattle.fb_net.proofs.taking.Taking.take_value.Goals as goal
 
-pub sampled-value-requires-clause-variable : goal.sampled-value-requires-clause-variable
-sampled-value-requires-clause-variable c = record { instance = c.requires.index.port.instance; variable = c.requires.represents.within 0 0 (omega arith) }
+pub sampled_from-value-requires-clause-variable : goal.sampled_from-value-requires-clause-variable
+sampled_from-value-requires-clause-variable c = record { instance = c.requires.index.port.instance; variable = c.requires.represents.within 0 0 (omega arith) }
 
 pub set_input-requires-clause-variable : goal.set_input-requires-clause-variable
 set_input-requires-clause-variable c = record { instance = c.requires.index.port.instance; variable = c.requires.represents.within 0 0 (omega arith) }
@@ -37,14 +37,14 @@ returns-clause-taken c =
     let at = c.args.at in
     let f = c.args.self.now.forest.now in
     let g = c.set_input.new.self in
-    let value = c.sampled-value.result in
+    let value = c.sampled_from-value.result in
     let values = c.in_ok-values.values in
     let is = c.in_ok-values.ensures in
     let name = variable_at (ports_at sys (path_at sys at.instance)).inputs in
     let by_name = subst (λ (ns : List Name). Changes i f at.instance (all_sampled ns (value ∷ [])) g) c.requires.represents.named
     (changes_as (all_sampled (map name (c.args.variable ∷ [])) (value ∷ [])) c.set_input.ensures (λ m. refl)) in
     let changes = subst (λ (vs : List Value). Changes i f at.instance (all_sampled (names_in sys at) vs) g) (sym is) by_name in
-    let sampled = one-sampled i f at (c.args.variable ∷ []) value values c.requires.represents refl c.sampled-value.ensures is in
+    let sampled = one-sampled i f at (c.args.variable ∷ []) value values c.requires.represents refl c.sampled_from-value.ensures is in
     on_ok_weaker c.write_taken.result
     (λ written. sampling-represents i c.args.self.now.key.now at f g c.args.self.now.outbox.now c.write_taken.new.outbox values
     c.requires.index.ready c.requires.input c.requires.index.here sampled changes written c.write_taken.ensures.outs c.write_taken.ensures.timer)

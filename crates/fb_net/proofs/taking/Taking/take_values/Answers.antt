@@ -1,6 +1,7 @@
-use Rattle.std.proofs.Common.{◌≡◌, List, length, subst, arith}
+use Rattle.std.proofs.Common.{◌≡◌, false, refl, List, length, subst, arith}
 use Rattle.std.proofs.lemmas.Result.{on_ok_weaker}
 use Rattle.fb_types.specs.Headline.{system_of}
+use Rattle.fb_types.specs.declared.run.Target.{Target}
 use Rattle.fb_types.specs.declared.value.Value.{Value}
 use Rattle.fb_net.specs.Samples.{all_sampled, names_in}
 use Rattle.fb_net.specs.Changes.{Changes}
@@ -17,11 +18,11 @@ take_value-requires-clause-represents c =
 pub returns-clause-taken : goal.returns-clause-taken
 returns-clause-taken c =
     let i = c.args.self.now.system.now in
-    let at = c.args.at in
+    let at : Target = record { instance = c.args.instance; event = c.args.event; is_output = false } in
     let kept = subst (λ (vs : List Value). Changes i c.args.self.now.forest.now at.instance (all_sampled (names_in (system_of i) at) vs) c.keep_samples.new.forest) c.as_slice.ensures c.keep_samples.ensures in
     on_ok_weaker c.write_taken.result
     (λ written. sampling-represents i c.args.self.now.key.now at c.args.self.now.forest.now c.keep_samples.new.forest c.args.self.now.outbox.now c.write_taken.new.outbox c.in_ok-values.values
-    c.requires.index.ready c.requires.input c.requires.index.here c.in_ok-values.ensures.sampled kept written c.write_taken.ensures.outs c.write_taken.ensures.timer)
+    c.requires.index.ready refl c.requires.index.here c.in_ok-values.ensures.sampled kept written c.write_taken.ensures.outs c.write_taken.ensures.timer)
     c.write_taken.ensures.written
 
 pub returns-in_err-values-clause-kept : goal.returns-in_err-values-clause-kept
@@ -30,10 +31,13 @@ returns-in_err-values-clause-kept c =
 
 pub returns-clause-kept : goal.returns-clause-kept
 returns-clause-kept c =
-    kept-changed c.args.self.now.system.now c.args.self.now.forest.now c.keep_samples.new.forest c.args.at.instance _ c.keep_samples.ensures c.requires.index.here
+    kept-changed c.args.self.now.system.now c.args.self.now.forest.now c.keep_samples.new.forest c.args.instance _ c.keep_samples.ensures c.requires.index.here
 
 pub returns-clause-outs : goal.returns-clause-outs
 returns-clause-outs c =
     on_ok_weaker c.write_taken.result
     (lines-put c.args.self.now.system.now c.args.self.now.forest.now c.keep_samples.new.forest c.args.self.now.outbox.now c.write_taken.new.outbox c.keep_samples.ensures.resource c.write_taken.ensures.outs)
     c.write_taken.ensures.lines
+
+pub take_value-requires-clause-source : goal.take_value-requires-clause-source
+take_value-requires-clause-source c = record { comes = c.source-source.ensures.comes; within = c.source-source.ensures.within }

@@ -12,16 +12,16 @@ returns-clause-wrote c =
     let i = c.args.self.now.system.now in
     let k = c.args.self.now.key.now in
     let at = c.args.at in
-    on_ok_weaker c.emit_all.result
+    on_ok_weaker c.emit_basic.result
     (wrote-so i k at.instance (line_of (system_of i) (taken_line k at c.args.values))
     (map (emission_of (ports_at (system_of i) (path_at (system_of i) at.instance))) c.args.emits.now)
-    c.args.self.now.forest.now c.emit_all.new.self.forest.now c.args.self.now.outbox.now c.write_taken.new.outbox c.emit_all.new.self.outbox.now
+    c.args.self.now.forest.now c.emit_basic.new.self.forest.now c.args.self.now.outbox.now c.write_taken.new.outbox c.emit_basic.new.self.outbox.now
     c.in_ok-write_taken.ensures.written c.write_taken.ensures.outs c.write_taken.ensures.timer)
-    c.emit_all.ensures.emitted
+    c.emit_basic.ensures.emitted
 
 pub returns-clause-outs : goal.returns-clause-outs
 returns-clause-outs c =
     let i = c.args.self.now.system.now in
     let f = c.args.self.now.forest.now in
-    on_ok_weaker c.emit_all.result
-    (λ outs were. outs (lines-put i f f c.args.self.now.outbox.now c.write_taken.new.outbox refl c.write_taken.ensures.outs c.in_ok-write_taken.ensures.lines were)) c.emit_all.ensures.outs
+    on_ok_weaker c.emit_basic.result
+    (λ outs were. outs (lines-put i f f c.args.self.now.outbox.now c.write_taken.new.outbox refl c.write_taken.ensures.outs c.in_ok-write_taken.ensures.lines were)) c.emit_basic.ensures.outs

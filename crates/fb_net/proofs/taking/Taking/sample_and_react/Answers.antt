@@ -17,7 +17,7 @@ use Rattle.fb_net.proofs.Arriving.{event-reacts, event-typed, ports-of_event}
 use Rattle.fb_net.proofs.PutOut.{timer-asked}
 use Rattle.fb_net.proofs.Same.{already, put-out-after, still}
 use Rattle.fb_net.proofs.Wholes.{kept-then, kept-world}
-use Rattle.fb_net.proofs.taking.Taking.arrive_event.Goals as goal
+use Rattle.fb_net.proofs.taking.Taking.sample_and_react.Goals as goal
 
 pub react_event-requires-clause-port : goal.react_event-requires-clause-port
 react_event-requires-clause-port c =

@@ -1,0 +1,94 @@
+-- What the rows of event ports say, where a step of taking an event needs it.
+use Rattle.std.proofs.Common.{◌≡◌, ℕ, Bool, true, false, List, [], ◌∷◌, length, refl, sym, subst, ap, ◌∙◌, arith}
+use Rattle.std.specs.Prelude.{Option, Some, slice_get}
+use Rattle.fb_types.specs.Blocks.{Basic, Composite}
+use Rattle.fb_types.specs.Numbers.{path_at, ports_at}
+use Rattle.fb_types.specs.Systems.{System}
+use Rattle.fb_types.specs.declared.library.BasicType.{BasicType}
+use Rattle.fb_types.specs.declared.library.CompositeType.{CompositeType}
+use Rattle.fb_types.specs.declared.run.InstanceVariable.{InstanceVariable}
+use Rattle.fb_types.specs.declared.run.Target.{Target}
+use Rattle.fb_types.specs.declared.value.Value.{Value}
+use Rattle.fb_system.specs.Ends.{ComesFrom, LeadsTo}
+use Rattle.fb_system.specs.IndexLists.{AreIndexes}
+use Rattle.fb_system.specs.Ports.{IsTarget}
+use Rattle.fb_system.specs.PortRows.{IsOneWith, IsWith, names_of, variables_of}
+use Rattle.fb_system.specs.declared.next_target.NextTarget.{NextTarget}
+use Rattle.fb_system.specs.declared.port_row.With.{With}
+use Rattle.fb_system.specs.declared.port_row.With.TheVariants.{Nothing, One}
+use Rattle.fb_net.specs.Samples.{names_in, names_out}
+
+-- ---- A port whose direction is known
+
+pub at_input : (at : Target) → at.is_output ≡ false → at ≡ record { instance = at.instance; event = at.event; is_output = false }
+at_input at e = (let to : Bool → Target = λ b. record { instance = at.instance; event = at.event; is_output = b } in ap to e)
+
+pub at_output : (at : Target) → at.is_output ≡ true → at ≡ record { instance = at.instance; event = at.event; is_output = true }
+at_output at e = (let to : Bool → Target = λ b. record { instance = at.instance; event = at.event; is_output = b } in ap to e)
+
+-- an event goes to a basic block at an event input
+pub basic_input : (sys : System) (at : Target) (t : BasicType) → IsTarget sys at → sys.kind (path_at sys at.instance) ≡ Some (Basic t) → at.is_output ≡ false
+basic_input sys at t target is = go at.is_output refl
+  where
+    differ : (c : CompositeType) → Some (Basic t) ≡ Some (Composite c) → ⊥
+    differ c e = cc
+
+    go : (b : Bool) → at.is_output ≡ b → at.is_output ≡ false
+    go false e = e
+    go true e = (let composite = target.composite e in absurd (differ composite.0 (sym is ∙ composite.1)))
+
+-- ---- A part of a row that is known
+
+pub none_with : (sys : System) (at : Target) (w : With) → w ≡ Nothing → IsWith sys at w → IsWith sys at Nothing
+none_with sys at w e h = subst (λ (x : With). IsWith sys at x) e h
+
+pub one_with : (sys : System) (at : Target) (w : With) (v : ℕ) (s : Option InstanceVariable) → w ≡ One v s → IsWith sys at w → IsOneWith sys at v s
+one_with sys at w v s e h = subst (λ (x : With). IsWith sys at x) e h
+
+pub leads_to : (sys : System) (from : Target) (o : Option NextTarget) (r : NextTarget) → LeadsTo sys from 0 o → o ≡ Some r → LeadsTo sys from 0 (Some r)
+leads_to sys from o r h e = subst (λ (x : Option NextTarget). LeadsTo sys from 0 x) e h
+
+pub comes_from : (sys : System) (to : InstanceVariable) (o p : Option InstanceVariable) → ComesFrom sys to o → o ≡ p → ComesFrom sys to p
+comes_from sys to o p h e = subst (λ (x : Option InstanceVariable). ComesFrom sys to x) e h
+
+-- ---- The variables WITH an event input
+
+pub none_in : (sys : System) (at : Target) → at.is_output ≡ false → IsWith sys at Nothing → AreIndexes (ports_at sys (path_at sys at.instance)).inputs (names_in sys at) []
+none_in sys at input h =
+    let its = ports_at sys (path_at sys at.instance) in subst (λ (b : Bool). AreIndexes (variables_of its b) (names_of its b at.event) []) input h
+
+pub one_in :
+    (sys : System) (at : Target) (v : ℕ) (s : Option InstanceVariable) → at.is_output ≡ false → IsOneWith sys at v s
+    → AreIndexes (ports_at sys (path_at sys at.instance)).inputs (names_in sys at) (v ∷ [])
+one_in sys at v s input h =
+    let its = ports_at sys (path_at sys at.instance) in subst (λ (b : Bool). AreIndexes (variables_of its b) (names_of its b at.event) (v ∷ [])) input h.indexes
+
+pub source_in :
+    (sys : System) (at : Target) (v : ℕ) (s : Option InstanceVariable) → at.is_output ≡ false → IsOneWith sys at v s
+    → ComesFrom sys (record { instance = at.instance; variable = v; is_output = false }) s
+source_in sys at v s input h = subst (λ (b : Bool). ComesFrom sys (record { instance = at.instance; variable = v; is_output = b }) s) input h.comes
+
+-- ---- .. and an event output
+
+pub one_out :
+    (sys : System) (at : Target) (v : ℕ) (s : Option InstanceVariable) → at.is_output ≡ true → IsOneWith sys at v s
+    → AreIndexes (ports_at sys (path_at sys at.instance)).outputs (names_out sys at) (v ∷ [])
+one_out sys at v s output h =
+    let its = ports_at sys (path_at sys at.instance) in subst (λ (b : Bool). AreIndexes (variables_of its b) (names_of its b at.event) (v ∷ [])) output h.indexes
+
+pub source_out :
+    (sys : System) (at : Target) (v : ℕ) (s : Option InstanceVariable) → at.is_output ≡ true → IsOneWith sys at v s
+    → ComesFrom sys (record { instance = at.instance; variable = v; is_output = true }) s
+source_out sys at v s output h = subst (λ (b : Bool). ComesFrom sys (record { instance = at.instance; variable = v; is_output = b }) s) output h.comes
+
+-- where an event output leads
+pub leads_out :
+    (sys : System) (at : Target) (o : Option NextTarget) → at.is_output ≡ true → LeadsTo sys at 0 o
+    → LeadsTo sys (record { instance = at.instance; event = at.event; is_output = true }) 0 o
+leads_out sys at o output h = subst (λ (b : Bool). LeadsTo sys (record { instance = at.instance; event = at.event; is_output = b }) 0 o) output h
+
+-- the value that is alone
+pub only_value : (vs : List Value) (v : Value) → length vs ≡ 1 → Some v ≡ slice_get vs 0 → vs ≡ v ∷ []
+only_value [] v one h = absurd (omega arith)
+only_value (u ∷ []) v one h = let same : u ≡ v = cc in ap (λ (x : Value). x ∷ []) same
+only_value (u ∷ x ∷ vs) v one h = absurd (omega arith)

@@ -1,0 +1,57 @@
+use Rattle.std.proofs.Common.{[], ◌∷◌, ◌++◌, ◌∙◌, List, length, ap, refl, arith}
+use Rattle.fb_types.specs.Headline.{system_of}
+use Rattle.fb_types.specs.declared.run.Emission.{Emission}
+use Rattle.fb_types.specs.declared.run.Line.{Line}
+use Rattle.fb_types.specs.declared.value.Value.{Value}
+use Rattle.fb_net.specs.Emitting.{outputs_at, outputs_shown}
+use Rattle.fb_net.specs.declared.outbox.Outbox.{Outbox}
+use Rattle.fb_net.proofs.Changing.{changes_as}
+use Rattle.fb_net.proofs.Emitting.{Doing, are_carried, has_emitted, line_by}
+use Rattle.fb_net.proofs.Wholes.{kept-changed}
+use Rattle.fb_net.proofs.taking.Taking.emit_value.Goals as goal
+
+pub publish-requires-clause-variable : goal.publish-requires-clause-variable
+publish-requires-clause-variable c = record { instance = c.requires.index.number; variable = c.requires.indexes.within 0 0 (omega arith) }
+
+pub send_out-requires-clause-carried : goal.send_out-requires-clause-carried
+send_out-requires-clause-carried c =
+    are_carried (system_of c.args.self.now.system.now) c.args.instance (c.args.variable ∷ []) (c.args.value ∷ []) c.requires.index.number c.requires.indexes.within
+
+pub returns-clause-emitted : goal.returns-clause-emitted
+returns-clause-emitted c =
+    let i = c.args.self.now.system.now in
+    let sys = system_of i in
+    let key = c.args.self.now.key.now in
+    let k = c.args.instance in
+    let e : Emission = record { event = c.args.event; values = c.args.value ∷ [] } in
+    let indexes = c.args.variable ∷ [] in
+    let f = c.args.self.now.forest.now in
+    let g = c.publish.new.self in
+    let x = c.args.self.now.outbox.now in
+    let y : Outbox = record { lines = c.push_reserved.new.self; outs = c.send_out.new.outs; timer = x.timer } in
+    let done : Doing i key k f x e g y = record {
+      indexes = indexes;
+      stand = c.requires.indexes;
+      published = changes_as (outputs_shown (outputs_at sys k indexes e.values)) c.publish.ensures (λ m. refl);
+      sent = c.in_ok-send_out.ensures.sent;
+      belong = c.in_ok-send_out.ensures.outs;
+      lines =
+          c.push_reserved.ensures.items
+          ∙ ap (λ (vs : List Value). c.reserve.new.self.items ++ line_by key k (record { event = c.args.event; values = vs }) ∷ []) c.in_ok-values.ensures
+          ∙ ap (λ (ls : List Line). ls ++ line_by key k e ∷ []) c.in_ok-reserve.ensures.items;
+      timer = refl;
+    } in
+    has_emitted i key k f x e g y done c.requires.index.number c.requires.index.here c.requires.index.resource c.args.self.now.named
+    (record { event = c.requires.event; values = ap length c.requires.indexes.named })
+
+pub returns-in_err-send_out-clause-kept : goal.returns-in_err-send_out-clause-kept
+returns-in_err-send_out-clause-kept c = kept-changed c.args.self.now.system.now c.args.self.now.forest.now c.publish.new.self c.args.instance _ c.publish.ensures c.requires.index.here
+
+pub returns-in_err-values-clause-kept : goal.returns-in_err-values-clause-kept
+returns-in_err-values-clause-kept c = kept-changed c.args.self.now.system.now c.args.self.now.forest.now c.publish.new.self c.args.instance _ c.publish.ensures c.requires.index.here
+
+pub returns-in_err-reserve-clause-kept : goal.returns-in_err-reserve-clause-kept
+returns-in_err-reserve-clause-kept c = kept-changed c.args.self.now.system.now c.args.self.now.forest.now c.publish.new.self c.args.instance _ c.publish.ensures c.requires.index.here
+
+pub returns-clause-kept : goal.returns-clause-kept
+returns-clause-kept c = kept-changed c.args.self.now.system.now c.args.self.now.forest.now c.publish.new.self c.args.instance _ c.publish.ensures c.requires.index.here

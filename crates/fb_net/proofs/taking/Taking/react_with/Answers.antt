@@ -1,0 +1,47 @@
+use Rattle.std.proofs.Common.{List, ◌∙◌, subst, sym}
+use Rattle.fb_types.specs.declared.value.Value.{Value}
+use Rattle.fb_net.specs.Leaves.{ChartEnded}
+use Rattle.fb_net.proofs.Charting.{chart-reacts}
+use Rattle.fb_net.specs.Outs.{StillAreOuts}
+use Rattle.fb_net.proofs.PutOut.{blocks-changed, remembered-always}
+use Rattle.fb_net.proofs.Wholes.{kept-then, kept-world}
+use Rattle.fb_net.proofs.taking.Taking.react_with.Goals as goal
+
+pub returns-clause-reacted : goal.returns-clause-reacted
+returns-clause-reacted c =
+    let i = c.args.self.now.system.now in
+    let end = c.react_basic-end in
+    let ended = subst (λ (vs : List Value). ChartEnded i c.args.self.now.forest.now c.args.at c.args.block.now vs c.args.meter.now.left end.result end.new.forest end.new.meter.left end.new.emits)
+    c.requires.alike end.ensures.reacted in
+    chart-reacts i c.args.self.now.key.now c.args.at c.args.block.now c.requires.kind c.requires.input c.args.self.now.forest.now end.new.forest c.write_and_emit.new.self.forest.now
+    c.args.self.now.outbox.now c.write_and_emit.new.self.outbox.now c.requires.index.ready c.requires.index.here c.args.values c.requires.sampled c.args.meter.now.left end.new.meter.left end.new.emits
+    c.in_ok-write_and_emit.ensures.wrote end.result ended
+
+pub returns-clause-kept : goal.returns-clause-kept
+returns-clause-kept c =
+    let end = c.react_basic-end in
+    kept-then c.args.self.now.system.now c.args.self.now.forest.now end.new.forest c.write_and_emit.new.self.forest.now (kept-world c.args.self.now.system.now c.args.self.now.forest.now end.new.forest end.ensures.resource end.ensures.whole) c.write_and_emit.ensures.kept
+
+pub returns-in_err-write_and_emit-clause-kept : goal.returns-in_err-write_and_emit-clause-kept
+returns-in_err-write_and_emit-clause-kept c =
+    let end = c.react_basic-end in
+    kept-then c.args.self.now.system.now c.args.self.now.forest.now end.new.forest c.write_and_emit.new.self.forest.now (kept-world c.args.self.now.system.now c.args.self.now.forest.now end.new.forest end.ensures.resource end.ensures.whole) c.write_and_emit.ensures.kept
+
+pub returns-clause-fewer : goal.returns-clause-fewer
+returns-clause-fewer c = c.react_basic-end.ensures.fewer
+
+pub write_and_emit-requires-clause-index : goal.write_and_emit-requires-clause-index
+write_and_emit-requires-clause-index c =
+    let index = c.requires.index in
+    let same = c.react_basic-end.ensures.resource in
+    record {
+      port = index.port;
+      here = index.here ∙ sym same;
+      ready = record { resource = index.ready.resource ∙ sym same };
+    }
+
+pub returns-clause-outs : goal.returns-clause-outs
+returns-clause-outs c =
+    remembered-always (StillAreOuts c.args.self.now.system.now c.args.self.now.forest.now c.args.self.now.outbox.now c.write_and_emit.new.self.forest.now c.write_and_emit.new.self.outbox.now) c.react_basic-end.result
+    (λ were. c.in_ok-write_and_emit.ensures.outs
+    (blocks-changed c.args.self.now.system.now c.args.self.now.forest.now c.react_basic-end.new.forest c.args.self.now.outbox.now c.react_basic-end.ensures.resource were))
