@@ -407,3 +407,14 @@ pub above_at : (k : Key) (es : List (Key × Event)) (i : ℕ) (e : Key × Event)
     → (j : ℕ) (d : Key × Event) → i ≤ j → j < length es → key_cmp (get_or es j d).0 k ≡ Greater
 above_at k es i e within here after above j d le less =
     last_or_later i j le (λ one. subst (λ n. key_cmp (get_or es n d).0 k ≡ Greater) one (ap (λ (z : Key × Event). key_cmp z.0 k) (get_or_default es i d e within ∙ sym here) ∙ after)) (λ more. above j d more less)
+
+-- ---- The first event is taken where it is known to be there
+
+pub popped_below : (es : List (Key × Event)) (o : Option (Key × Event)) (p : Key × Event) (horizon : ℕ) → IfSome o (λ x. x ≡ get_or es 0 x) → p ≡ get_or es 0 p → 0 < length es → p.0.tick < horizon
+    → IfSome o (λ r. r.0.tick < horizon)
+popped_below es None p horizon is at some less = tt
+popped_below es (Some x) p horizon is at some less = subst (λ (y : Key × Event). y.0.tick < horizon) (at ∙ get_or_default es 0 p x some ∙ sym is) less
+
+pub never_none : (P : Type 0) (o : Option (Key × Event)) → IsSome o → IfNone o P
+never_none P None there = absurd (not_none {X = Key × Event} None there refl)
+never_none P (Some x) there = tt

@@ -1,5 +1,5 @@
 -- A calendar: its timers, and all its other events.
-use Rattle.std.proofs.Common.{◌≡◌, ◌≢◌, ◌<◌, ◌≤◌, ℕ, Bool, true, false, cond, List, [], ◌∷◌, ◌++◌, refl, sym, ap, subst, ◌∙◌, Option, Some, None, Result, Ok, Err, ◌⊎◌, inl, inr, arith}
+use Rattle.std.proofs.Common.{◌≡◌, ◌≢◌, ℕ, Bool, true, false, cond, List, [], ◌++◌, refl, sym, ap, subst, ◌∙◌, Option, Some, None, Result, Ok, Err, ◌⊎◌, inl, inr}
 use Rattle.std.specs.Prelude.{IsSome, IfSome, IfNone, OnOk, OnErr, is_some, option_to_list}
 use Rattle.std.specs.Map.{lookup}
 use Rattle.fb_types.specs.Keys.{Precedes, or_else, same_key}
@@ -12,7 +12,7 @@ use Rattle.fb_agenda.specs.Calendars.{AreKept, AreSplit, BeginsAt, Leads, Sets}
 use Rattle.fb_agenda.specs.Moments.{IsNoLater, IsQuiet}
 use Rattle.fb_agenda.specs.declared.moment.Moment.{Moment}
 use Rattle.fb_agenda.proofs.Calendars.{few_is_first, front_kept, front_left, front_sets, few_none, front_split, lookup_both, many_is_first, many_sets, many_split}
-use Rattle.fb_agenda.proofs.Moments.{quiet_gone, quiet_less, quiet_popped, quiet_put, quiet_result}
+use Rattle.fb_agenda.proofs.Moments.{quiet_gone, quiet_less, quiet_popped, quiet_put}
 use Rattle.fb_agenda.proofs.Orders.{not_none}
 use Rattle.fb_agenda.proofs.Timing.{none_sets}
 

@@ -6,4 +6,5 @@ pub mod Moments
 pub mod Calendars
 pub mod Timing
 pub mod Keeping
+pub mod Places
 pub mod Queueing

@@ -1,6 +1,6 @@
 -- The queue of the running tick, as local events with the targets that it has.
-use Rattle.std.proofs.Common.{◌≡◌, ℕ, zero, suc, ◌<◌, Bool, true, false, cond, List, [], ◌∷◌, ◌++◌, length, get_or, set, refl, sym, ap, subst, ◌∙◌, Option, Some, None, Result, Ok, Err, arith}
-use Rattle.std.specs.Prelude.{IsSome, IfSome, MatchOption, OnErr, OnOk, OnSome, map, option_map}
+use Rattle.std.proofs.Common.{◌≡◌, ◌-◌, ℕ, zero, suc, ◌<◌, Bool, true, false, cond, List, [], ◌∷◌, ◌++◌, drop, length, get_or, set, refl, sym, ap, subst, ◌∙◌, Option, Some, None, Result, Ok, Err, arith}
+use Rattle.std.specs.Prelude.{IsSome, OnErr, OnOk, OnSome, map, option_map}
 use Rattle.std.specs.BTreeMap.{insert_entry}
 use Rattle.std.specs.List.{AllByRecursion, remove}
 use Rattle.std.specs.List.Sorted.{IsStrictlySortedBy}
@@ -15,9 +15,10 @@ use Rattle.fb_types.specs.declared.run.Target.{Target}
 use Rattle.fb_types.proofs.Lookups.{cmp_equal}
 use Rattle.fb_agenda.specs.Agendas.{AreApart, AreRising, Contents, IsAt, IsFirst, IsQueue, MayFollow, event_of, keyed, local_events, waiting}
 use Rattle.fb_agenda.specs.Calendars.{IsIndexOf, Sets}
+use Rattle.fb_agenda.specs.Targets.{IsNumberAt}
 use Rattle.fb_agenda.proofs.Apart.{first_is, queue_apart, queue_class, queue_less, queue_more, queue_waits}
 use Rattle.fb_agenda.proofs.Moments.{number_less}
-use Rattle.fb_agenda.proofs.Calendars.{first_one, over_is, index_here, put_rises, put_sets, removed_rises, removed_sets}
+use Rattle.fb_agenda.proofs.Calendars.{over_is, index_here, put_rises, put_sets, removed_rises, removed_sets}
 use Rattle.fb_agenda.proofs.Orders.{AllBefore, Rise, all_before, not_none, put_last}
 
 -- ---- Targets and events
@@ -60,11 +61,14 @@ within_numbers t r es i within = let same = length-map es (keyed t r) in omega (
 pub numbers_length : (t r : ℕ) (es : List (ℕ × Target)) (ts : List (Key × Target)) → map (keyed t r) es ≡ ts → length ts ≡ length es
 numbers_length t r es ts is = ap length (sym is) ∙ length-map es (keyed t r)
 
+-- the number that is at an index
+pub number_there : (es : List (ℕ × Target)) (i : ℕ) → i < length es → IsNumberAt es i (get_or es i no_number).0
+number_there es i within = record { within = within; there = λ d. ap (λ (e : ℕ × Target). e.0) (get_or_default es i d no_number within) }
+
 -- the key of an event by its number
-pub key_of : (t r : ℕ) (es : List (ℕ × Target)) (i : ℕ) (x : ℕ × Target) (ts : List (Key × Target)) → map (keyed t r) es ≡ ts → i < length es → x ≡ get_or es i x
-    → (d : Key × Target) → (get_or ts i d).0 ≡ local_key t r x.0
-key_of t r es i x ts is within at d =
-    ap (λ l. (get_or l i d).0) (sym is) ∙ ap (λ (e : Key × Target). e.0) (get_or-map (keyed t r) es i x d within) ∙ ap (λ (e : ℕ × Target). local_key t r e.0) (sym at)
+pub key_of : (t r : ℕ) (es : List (ℕ × Target)) (i n : ℕ) (ts : List (Key × Target)) → map (keyed t r) es ≡ ts → IsNumberAt es i n → (d : Key × Target) → (get_or ts i d).0 ≡ local_key t r n
+key_of t r es i n ts is at d =
+    ap (λ l. (get_or l i d).0) (sym is) ∙ ap (λ (e : Key × Target). e.0) (get_or-map (keyed t r) es i no_number d at.within) ∙ ap (local_key t r) (at.there no_number)
 
 -- no event of the queue has the key
 pub absent_all : (k : Key) (ts : List (Key × Target)) → ((j : ℕ) (d : Key × Target) → j < length ts → same_key k (get_or ts j d).0 ≡ false) → lookup (same_key k) (local_events ts) ≡ None
@@ -74,21 +78,16 @@ absent_all k (t ∷ ts) none =
 
 -- ---- The first
 
-pub first_number : (t r : ℕ) (es : List (ℕ × Target)) (e d : ℕ × Target) → AreRising (local_events (map (keyed t r) es)) → 0 < length es → get_or es 0 d ≡ e
-    → IsFirst (local_events (map (keyed t r) es)) (local_key t r e.0)
-first_number t r [] e d rising some is = absurd (omega (arith, some))
-first_number t r (x ∷ es) e d rising some is =
-    first_is (local_events (map (keyed t r) (x ∷ es))) (local_key t r e.0) (event_of (keyed t r x)) rising (omega arith) (ap (λ (z : ℕ × Target). local_key t r z.0) (sym is))
+pub first_number : (t r : ℕ) (es : List (ℕ × Target)) (n : ℕ) → AreRising (local_events (map (keyed t r) es)) → IsNumberAt es 0 n
+    → IsFirst (local_events (map (keyed t r) es)) (local_key t r n)
+first_number t r [] n rising at = let some = at.within in absurd (omega (arith, some))
+first_number t r (x ∷ es) n rising at =
+    first_is (local_events (map (keyed t r) (x ∷ es))) (local_key t r n) (event_of (keyed t r x)) rising (omega arith) (ap (local_key t r) (sym (at.there x)))
 
-pub first_popped : (ts new : List (Key × Target)) (x : Key × Target) (k : Key) → AreRising (local_events ts) → IsFirst (local_events ts) k → ts ≡ x ∷ new → x.0 ≡ k
-first_popped ts new x k rising first is =
-    first_one (local_events ts) x.0 k
-    (subst (λ l. IsFirst (local_events l) x.0) (sym is) (first_is (local_events (x ∷ new)) x.0 (event_of x) (subst (λ l. AreRising (local_events l)) is rising) (omega arith) refl)) first
-
-pub below_popped : (ts new : List (Key × Target)) (k : Key) (horizon : ℕ) (o : Option (Key × Target)) → AreRising (local_events ts) → IsFirst (local_events ts) k → k.tick < horizon
-    → MatchOption o (ts ≡ []) (λ x. ts ≡ x ∷ new) → IfSome o (λ x. x.0.tick < horizon)
-below_popped ts new k horizon None rising first less is = tt
-below_popped ts new k horizon (Some x) rising first less is = let tick = ap (λ (z : Key). z.tick) (first_popped ts new x k rising first is) in omega (arith, tick, less)
+-- the event with which the queue begins is its first
+pub begins_first : (ts : List (Key × Target)) (e : Key × Target) → AreRising (local_events ts) → ts ≡ e ∷ drop 1 ts → IsFirst (local_events ts) e.0
+begins_first ts e rising is =
+    subst (λ l. IsFirst (local_events l) e.0) (sym is) (first_is (local_events (e ∷ drop 1 ts)) e.0 (event_of e) (subst (λ l. AreRising (local_events l)) is rising) (omega arith) refl)
 
 -- ---- What follows the last
 
@@ -115,11 +114,14 @@ follows_last ts k last n d queue local count is tick resource less =
     at e = ap (λ (t : Key × Target). t.0) (get_or_default ts n e d (omega (arith, count))) ∙ is
 
 -- an event of the same tick and resource with a later number than the last
-pub follows_number : (t r : ℕ) (es : List (ℕ × Target)) (number n : ℕ) (d : ℕ × Target) → IsQueue (local_events (map (keyed t r) es)) → length es ≡ suc n → (get_or es n d).0 < number
+pub follows_number : (t r : ℕ) (es : List (ℕ × Target)) (number last : ℕ) → IsQueue (local_events (map (keyed t r) es)) → IsNumberAt es (length es - 1) last → last < number
     → MayFollow (local_events (map (keyed t r) es)) (local_key t r number)
-follows_number t r es number n d queue count less =
-    follows_last (map (keyed t r) es) (local_key t r number) (local_key t r (get_or es n d).0) n (keyed t r d) queue refl (length-map es (keyed t r) ∙ count)
-    (ap (λ (x : Key × Target). x.0) (get_or-map (keyed t r) es n d (keyed t r d) (omega (arith, count)))) refl refl less
+follows_number t r es number last queue at less =
+    let n = length es - 1 in
+    let within = at.within in
+    let count : length es ≡ suc n = omega (arith, within) in
+    follows_last (map (keyed t r) es) (local_key t r number) (local_key t r last) n (keyed t r no_number) queue refl (length-map es (keyed t r) ∙ count)
+    (ap (λ (x : Key × Target). x.0) (get_or-map (keyed t r) es n no_number (keyed t r no_number) within) ∙ ap (local_key t r) (at.there no_number)) refl refl less
 
 pub all_at : (t r : ℕ) (es : List (ℕ × Target)) → AllByRecursion (IsAt t r) (map (keyed t r) es)
 all_at t r [] = tt

@@ -1,7 +1,8 @@
 pub mod Agendas
 pub mod Arrivals
 pub mod Calendars
-pub mod Inside
 pub mod Indexes
+pub mod Inside
 pub mod Moments
+pub mod Targets
 pub mod Timing

@@ -67,17 +67,18 @@ fn is_now_first(now: &Queue, later: &mut Calendar) -> bool
     is_now_less(now, later)
 }
 
-/// The same as `is_now_first`, by comparing the first keys of both.
+/// The same as `is_now_first`, by comparing the first keys of both. The moment of the other is noted for the next calls.
 #[inline(never)]
-fn is_now_less(now: &Queue, later: &Calendar) -> bool
+fn is_now_less(now: &Queue, later: &mut Calendar) -> bool
     requires { AreRising (local_events now.now) }
-    ensures running { OnTrue result (Leads (local_events now.now) later.now) }
-    ensures later { OnFalse result (Leads later.now (local_events now.now)) }
+    ensures running { OnTrue result (Leads (local_events now.now) later.old) }
+    ensures later { OnFalse result (Leads later.old (local_events now.now)) }
+    ensures kept { later.new ≡ later.old }
 {
     let Some(first) = now.first() else {
         return false;
     };
-    let Some(other) = later.first() else {
+    let Some(other) = later.note_first() else {
         return true;
     };
     first < other
@@ -158,8 +159,28 @@ impl Agenda {
         if !self.later.has_local && self.now.follows(tick, resource, number) {
             self.now.push(tick, resource, number, target)
         } else {
-            self.put_aside(Key::local(tick, resource, number), Event::Local(target))
+            self.put_local_aside(tick, resource, number, target)
         }
+    }
+
+    /// The same as `put_local`, wherever the event waits. It is apart so that `put_local` makes no event.
+    ///
+    /// # Errors
+    ///
+    /// As `put_local`.
+    #[inline(never)]
+    fn put_local_aside(
+        &mut self,
+        tick: u64,
+        resource: u32,
+        number: u128,
+        target: Target,
+    ) -> Result<(), AllocError>
+        ensures put { OnOk result ((j : Key) → waiting self.new j ≡ (if same_key (local_key tick resource number) j then Some (Local target) else waiting self.old j)) }
+        ensures due { self.new.due ≡ self.old.due }
+        ensures err { OnErr result (self.new ≡ self.old) }
+    {
+        self.put_aside(Key::local(tick, resource, number), Event::Local(target))
     }
 
     /// Puts an event under the key of a local event, wherever such an event waits. If the key does not fit the queue, the

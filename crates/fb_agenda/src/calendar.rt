@@ -180,27 +180,24 @@ impl Calendar {
         Some(first.tick)
     }
 
-    /// Whether no event waits at this moment or before. This looks at the first key only if `quiet` is not enough.
+    /// The first key, whose moment is noted.
     #[inline(always)]
-    pub(crate) fn is_past(&mut self, moment: Moment) -> bool
-        ensures past { OnTrue result (IsPast moment self.old) }
+    pub(crate) fn note_first(&mut self) -> Option<Key>
+        ensures some { IfSome result (IsFirst self.old) }
+        ensures none { IfNone result (self.old ≡ []) }
         ensures kept { self.new ≡ self.old }
     {
-        moment.is_before(self.quiet) || self.is_past_first(moment)
+        let first = self.first()?;
+        self.quiet = Moment::of(&first);
+        Some(first)
     }
 
-    /// The same as `is_past`, by the first key, whose moment is noted.
-    #[inline(never)]
-    fn is_past_first(&mut self, moment: Moment) -> bool
-        ensures past { OnTrue result (IsPast moment self.old) }
-        ensures kept { self.new ≡ self.old }
+    /// Whether it is noted that no event waits at this moment or before.
+    #[inline(always)]
+    pub(crate) fn is_past(&self, moment: Moment) -> bool
+        ensures { OnTrue result (IsPast moment self.now) }
     {
-        let Some(first) = self.first() else {
-            return true;
-        };
-        let first = Moment::of(&first);
-        self.quiet = first;
-        moment.is_before(first)
+        moment.is_before(self.quiet)
     }
 
     /// Takes the event with the first key, if its tick is below the horizon, and moves it into the slot. Returns whether it
@@ -217,7 +214,7 @@ impl Calendar {
         if is_timer_first(&self.timers, &self.others) {
             self.timers.pop_into(horizon, index)
         } else {
-            index.hold(self.others.pop_below(horizon))
+            self.others.pop_first_into(horizon, index)
         }
     }
 }

@@ -1,9 +1,10 @@
 //! The slot for the event that is taken.
 
 ghost use Rattle.std.specs.Prelude.{◌≡◌};
+ghost use Rattle.fb_types.specs.declared.run.Event.TheVariants.{Local};
 ghost use Rattle.fb_agenda.specs.Indexes.{taken};
 
-use fb_types::{Event, Key};
+use fb_types::{Event, Key, Target};
 
 /// An event that was taken from an agenda, with its key.
 ///
@@ -37,5 +38,19 @@ impl Least {
         self.key = key;
         self.event = event;
         true
+    }
+
+    /// Moves a local event into the slot.
+    #[inline(always)]
+    pub(crate) fn hold_local(&mut self, key: Key, target: &Target)
+        ensures key { self.new.key ≡ key }
+        ensures event { self.new.event ≡ Local target.now }
+    {
+        self.key = key;
+        // Mostly the event before was local too. Only its target is replaced then: a new event is as large as a message.
+        match &mut self.event {
+            Event::Local(place) => *place = *target,
+            _ => self.event = Event::Local(*target),
+        }
     }
 }

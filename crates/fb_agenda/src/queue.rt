@@ -4,7 +4,7 @@
 //! tick and the resource once, and of each event its number and its target. Appending one, and finding the next one,
 //! takes constant time and compares no keys.
 
-ghost use Rattle.std.specs.Prelude.{◌≡◌, ◌<◌, ◌++◌, ◌∷◌, [], None, option_to_list, IfSome, IfNone, MatchOption, OnErr, OnOk, length, option_map, slice_index_or, slice_set};
+ghost use Rattle.std.specs.Prelude.{◌≡◌, ◌<◌, ◌++◌, ◌∷◌, [], None, drop, option_to_list, IfSome, IfNone, OnErr, OnOk, length, option_map, slice_index_or, slice_set};
 ghost use Rattle.std.specs.Bool.{OnFalse, OnTrue};
 ghost use Rattle.std.specs.List.{AllByRecursion, remove};
 ghost use Rattle.std.specs.Map.{lookup};
@@ -17,10 +17,9 @@ ghost use Rattle.fb_agenda.specs.Calendars.{BeginsAt, IsIndexOf};
 ghost use Rattle.fb_agenda.specs.Indexes.{taken};
 
 use crate::least::Least;
-use crate::rising::make_room;
+use crate::targets::Targets;
 use fb_types::{Event, Key, Target};
 use std::alloc::{AllocError, Global};
-use std::collections::VecDeque;
 use std::marker::Model;
 
 /// Local events of one tick and resource, in the order of their numbers. Contracts see each with its key.
@@ -31,7 +30,7 @@ pub(crate) struct Queue {
     /// The number of the resource.
     resource: u32,
     /// The numbers of the events within the tick and the resource, and their targets.
-    waiting: VecDeque<(u128, Target)>,
+    waiting: Targets,
 }
 
 impl Model for Queue {
@@ -42,7 +41,7 @@ impl Model for Queue {
 
     ghost Value = { List (Key × Target) };
 
-    ghost view = { λ q. map (keyed q.tick q.resource) q.waiting.items };
+    ghost view = { λ q. map (keyed q.tick q.resource) q.waiting };
 }
 
 impl Queue {
@@ -53,7 +52,7 @@ impl Queue {
         Queue {
             tick: 0,
             resource: 0,
-            waiting: VecDeque::new(alloc),
+            waiting: Targets::new(alloc),
         }
     }
 
@@ -64,8 +63,8 @@ impl Queue {
         ensures some { IfSome result (IsFirst (local_events self.now)) }
         ensures none { IfNone result (local_events self.now ≡ []) }
     {
-        let (number, _) = self.waiting.front()?;
-        Some(Key::local(self.tick, self.resource, *number))
+        let number = self.waiting.first()?;
+        Some(Key::local(self.tick, self.resource, number))
     }
 
     /// Whether an event of this tick and resource may be appended: the queue is empty, or its last event has the same tick
@@ -76,10 +75,10 @@ impl Queue {
         ensures follows { OnTrue result (MayFollow (local_events self.now) (local_key tick resource number)) }
         ensures at { OnTrue result (AllByRecursion (IsAt tick resource) self.now) }
     {
-        let Some((last, _)) = self.waiting.back() else {
+        let Some(last) = self.waiting.last() else {
             return true;
         };
-        self.tick == tick && self.resource == resource && *last < number
+        self.tick == tick && self.resource == resource && last < number
     }
 
     /// Appends an event of the tick and the resource of the others.
@@ -99,10 +98,9 @@ impl Queue {
         ensures ok { OnOk result (self.new ≡ self.old ++ (local_key tick resource number, target) ∷ []) }
         ensures err { OnErr result (self.new ≡ self.old) }
     {
-        make_room(&mut self.waiting)?;
+        self.waiting.push(number, target)?;
         self.tick = tick;
         self.resource = resource;
-        self.waiting.push_back_reserved((number, target));
         Ok(())
     }
 
@@ -111,7 +109,7 @@ impl Queue {
         requires { index < length self.now }
         ensures { (d : keys.Key × Waiting) → (slice_index_or self.now index d).0 ≡ result }
     {
-        let (number, _) = self.waiting[index];
+        let number = self.waiting.number_at(index);
         Key::local(self.tick, self.resource, number)
     }
 
@@ -133,8 +131,7 @@ impl Queue {
         requires { index < length self.old }
         ensures { (k : keys.Key) → IsIndexOf (local_events self.old) k index → self.new ≡ slice_set self.old index (k, target) }
     {
-        let (number, _) = self.waiting[index];
-        self.waiting[index] = (number, target);
+        self.waiting.set(index, target);
     }
 
     /// Removes the event at an index.
@@ -145,14 +142,23 @@ impl Queue {
         self.waiting.remove(index);
     }
 
-    /// Takes the first event, and returns its key and its target.
+    /// The key and the target of the first event.
     #[inline(always)]
-    pub(crate) fn pop(&mut self) -> Option<(Key, Target)>
-        ensures taken { MatchOption result (self.old ≡ []) (λ e. self.old ≡ e ∷ self.new) }
-        ensures kept { IfNone result (self.new ≡ self.old) }
+    pub(crate) fn front(&self) -> Option<(Key, &Target)>
+        ensures some { IfSome result (λ e. self.now ≡ (e.0, e.1.now) ∷ drop 1 self.now) }
+        ensures none { IfNone result (self.now ≡ []) }
     {
-        let (number, target) = self.waiting.pop_front()?;
+        let (number, target) = self.waiting.front()?;
         Some((Key::local(self.tick, self.resource, number), target))
+    }
+
+    /// Drops the first event.
+    #[inline(always)]
+    pub(crate) fn drop_first(&mut self)
+        requires { 0 < length self.old }
+        ensures { self.new ≡ drop 1 self.old }
+    {
+        self.waiting.drop_first();
     }
 }
 
@@ -166,22 +172,6 @@ pub(crate) fn target_of(event: &Event) -> Option<Target>
     }
 }
 
-/// Takes the first event, if its tick is below the horizon.
-#[inline(always)]
-pub(crate) fn pop_below(queue: &mut Queue, horizon: u64) -> Option<(Key, Target)>
-    requires { AreRising (local_events queue.old) }
-    ensures items { local_events queue.old ≡ option_to_list (option_map event_of result) ++ local_events queue.new }
-    ensures below { IfSome result (λ e. e.0.tick < horizon) }
-    ensures none { IfNone result (BeginsAt horizon (local_events queue.old)) }
-    ensures kept { IfNone result (queue.new ≡ queue.old) }
-{
-    let first = queue.first()?;
-    if first.tick >= horizon {
-        return None;
-    }
-    queue.pop()
-}
-
 /// Takes the first event, if its tick is below the horizon, and moves it into the slot. Returns whether it did.
 #[inline(always)]
 pub(crate) fn pop_into(queue: &mut Queue, horizon: u64, index: &mut Least) -> bool
@@ -191,10 +181,13 @@ pub(crate) fn pop_into(queue: &mut Queue, horizon: u64, index: &mut Least) -> bo
     ensures none { IfNone (taken result index.new) (BeginsAt horizon (local_events queue.old)) }
     ensures kept { OnFalse result (queue.new ≡ queue.old) }
 {
-    let Some((key, target)) = pop_below(queue, horizon) else {
+    let Some((key, target)) = queue.front() else {
         return false;
     };
-    index.key = key;
-    index.event = Event::Local(target);
+    if key.tick >= horizon {
+        return false;
+    }
+    index.hold_local(key, target);
+    queue.drop_first();
     true
 }

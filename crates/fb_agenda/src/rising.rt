@@ -9,7 +9,9 @@ ghost use Rattle.std.specs.BTreeMap.{insert_entry};
 ghost use Rattle.fb_types.specs.Keys.{Precedes, key_cmp, same_key};
 ghost use Rattle.fb_agenda.specs.Agendas.{AreRising, IsFirst};
 ghost use Rattle.fb_agenda.specs.Calendars.{BeginsAt, IsBetween, IsIndexOf};
+ghost use Rattle.fb_agenda.specs.Indexes.{taken};
 
+use crate::least::Least;
 use fb_types::{Event, Key};
 use std::alloc::AllocError;
 use std::cmp::Ordering;
@@ -144,18 +146,25 @@ fn insert_within(
     }
 }
 
-/// Removes the first event, if its tick is below the horizon, and returns it.
+/// Moves the first event into the slot, if its tick is below the horizon. Returns whether it did.
 #[inline(always)]
-pub(crate) fn pop_below(events: &mut VecDeque<(Key, Event)>, horizon: u64) -> Option<(Key, Event)>
+pub(crate) fn pop_first_into(
+    events: &mut VecDeque<(Key, Event)>,
+    horizon: u64,
+    index: &mut Least,
+) -> bool
     requires { AreRising events.old.items }
-    ensures items { events.old.items ≡ option_to_list result ++ events.new.items }
-    ensures below { IfSome result (λ r. r.0.tick < horizon) }
-    ensures none { IfNone result (BeginsAt horizon events.old.items) }
-    ensures kept { IfNone result (events.new.items ≡ events.old.items) }
+    ensures items { events.old.items ≡ option_to_list (taken result index.new) ++ events.new.items }
+    ensures below { IfSome (taken result index.new) (λ r. r.0.tick < horizon) }
+    ensures none { IfNone (taken result index.new) (BeginsAt horizon events.old.items) }
+    ensures kept { IfNone (taken result index.new) (events.new.items ≡ events.old.items) }
 {
-    let (first, _) = events.front()?;
+    // Where it is known that there is a first, the compiler moves it with no `Option` in between.
+    let Some((first, _)) = events.front() else {
+        return false;
+    };
     if first.tick >= horizon {
-        return None;
+        return false;
     }
-    events.pop_front()
+    index.hold(events.pop_front())
 }

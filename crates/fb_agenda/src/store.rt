@@ -12,7 +12,9 @@ ghost use Rattle.fb_types.specs.Keys.{Precedes, same_key};
 ghost use Rattle.fb_types.specs.declared.key.Key as keys;
 ghost use Rattle.fb_agenda.specs.Agendas.{AreRising, IsFirst};
 ghost use Rattle.fb_agenda.specs.Calendars.{BeginsAt, Leads, Sets};
+ghost use Rattle.fb_agenda.specs.Indexes.{taken};
 
+use crate::least::Least;
 use crate::rising;
 use fb_types::{Event, Key};
 use std::alloc::{AllocError, Global};
@@ -171,8 +173,7 @@ impl Store {
     }
 
     /// Removes the event with the first key, if its tick is below the horizon, and returns it.
-    #[inline(always)]
-    pub(crate) fn pop_below(&mut self, horizon: u64) -> Option<(Key, Event)>
+    fn pop_below(&mut self, horizon: u64) -> Option<(Key, Event)>
         ensures value { IfSome result (λ r. lookup (same_key r.0) self.old ≡ Some r.1) }
         ensures none_before { IfSome result (λ r. (j : keys.Key) → Precedes j r.0 → lookup (same_key j) self.old ≡ None) }
         ensures left { IfSome result (λ r. Sets r.0 None self.old self.new) }
@@ -180,14 +181,41 @@ impl Store {
         ensures none { IfNone result (BeginsAt horizon self.old) }
         ensures kept { IfNone result (self.new ≡ self.old) }
     {
-        // Usually all of them are in the row.
-        if self.many.is_empty() {
-            return rising::pop_below(&mut self.few, horizon);
-        }
         let first = self.first_of_both()?;
         if first.tick >= horizon {
             return None;
         }
         self.pop_first()
+    }
+
+    /// Moves the event with the first key into the slot, if its tick is below the horizon. Returns whether it did.
+    #[inline(always)]
+    pub(crate) fn pop_first_into(&mut self, horizon: u64, index: &mut Least) -> bool
+        ensures value { IfSome (taken result index.new) (λ r. lookup (same_key r.0) self.old ≡ Some r.1) }
+        ensures none_before { IfSome (taken result index.new) (λ r. (j : keys.Key) → Precedes j r.0 → lookup (same_key j) self.old ≡ None) }
+        ensures left { IfSome (taken result index.new) (λ r. Sets r.0 None self.old self.new) }
+        ensures below { IfSome (taken result index.new) (λ r. r.0.tick < horizon) }
+        ensures none { IfNone (taken result index.new) (BeginsAt horizon self.old) }
+        ensures kept { IfNone (taken result index.new) (self.new ≡ self.old) }
+    {
+        // Usually all of them are in the row.
+        if self.many.is_empty() {
+            rising::pop_first_into(&mut self.few, horizon, index)
+        } else {
+            self.pop_any_into(horizon, index)
+        }
+    }
+
+    /// .. of the row or the map.
+    #[inline(never)]
+    fn pop_any_into(&mut self, horizon: u64, index: &mut Least) -> bool
+        ensures value { IfSome (taken result index.new) (λ r. lookup (same_key r.0) self.old ≡ Some r.1) }
+        ensures none_before { IfSome (taken result index.new) (λ r. (j : keys.Key) → Precedes j r.0 → lookup (same_key j) self.old ≡ None) }
+        ensures left { IfSome (taken result index.new) (λ r. Sets r.0 None self.old self.new) }
+        ensures below { IfSome (taken result index.new) (λ r. r.0.tick < horizon) }
+        ensures none { IfNone (taken result index.new) (BeginsAt horizon self.old) }
+        ensures kept { IfNone (taken result index.new) (self.new ≡ self.old) }
+    {
+        index.hold(self.pop_below(horizon))
     }
 }

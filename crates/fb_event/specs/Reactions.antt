@@ -1,14 +1,16 @@
 -- Reactions in the terms of the program's calls, where events are indexes in the lists of the ports (this project's profile, in the manner of IEC 61499-1, Annex A).
 use Rattle.std.specs.Prelude.{ℕ, List, [], ◌∷◌, ◌++◌, map, length, All, ◌≡◌, ◌<◌, IsTrue}
-use Rattle.fb_types.specs.Values.{fits}
-use Rattle.fb_types.specs.Blocks.{ports_of_event_block, variable_names, outputs_with, Emission}
-use Rattle.fb_types.specs.EventBlocks.{Reaction, reaction, expiry, output_of}
+use Rattle.fb_types.specs.Values.{Values, fits}
+use Rattle.fb_types.specs.Blocks.{ports_of_event_block, variable_names, inputs_with, outputs_with, Emission}
+use Rattle.fb_types.specs.EventBlocks.{Memory, Reaction, reaction, expiry, output_of}
 use Rattle.fb_types.specs.Flat.{zero_value}
 use Rattle.fb_types.specs.Numbers.{event_at, by_index, emission_of}
 use Rattle.fb_types.specs.Reactions.{emissions}
+use Rattle.fb_types.specs.Names.{Name}
 use Rattle.fb_types.specs.declared.event_kind.EventKind.{EventKind}
 use Rattle.fb_types.specs.declared.library.Variable.{Variable}
 use Rattle.fb_types.specs.declared.run.Emission as run
+use Rattle.fb_types.specs.declared.run.TimerAsk.TheVariants.{Keep}
 use Rattle.fb_types.specs.declared.value.Value.{Value}
 use Rattle.fb_event.specs.State.{State}
 
@@ -64,3 +66,11 @@ pub record EmitsAfter (k : EventKind) (r : Reaction) (old new : List run.Emissio
   pub appended : new ≡ old ++ news
   pub meant : meanings k news ≡ emissions_of k r
   pub well_formed : All (IsWellFormed k) news
+
+-- A block of this kind answers each event by one event output without values, and does nothing else. It has no data inputs.
+pub record PassesTo (k : EventKind) (out : ℕ) : Type 0 where
+  pub answers : (m : Memory) (e : Name) (tick : ℕ) (vars : Values)
+      → reaction k m e tick vars ≡ record { memory = m; emits = event_at (ports_of_event_block k).event_outputs out ∷ []; timer = Keep }
+  pub well_formed : IsWellFormed k (record { event = out; values = [] })
+  pub no_outputs : outputs_with (ports_of_event_block k) (event_at (ports_of_event_block k).event_outputs out) ≡ []
+  pub no_inputs : (e : Name) → inputs_with (ports_of_event_block k) e ≡ []

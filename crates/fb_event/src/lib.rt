@@ -2,7 +2,8 @@
 //! A; a tick is a millisecond of virtual time.
 //!
 //! Guarantees to callers: `reaction::react` and `reaction::expire` give the memory, the emissions and the timer of the
-//! definitions. They know ports by number, and nothing of the system around the block.
+//! definitions. They know ports by number, and nothing of the system around the block. `reaction::passes_to` names the
+//! kinds that only pass events on.
 //!
 //! Read in this order: `state`, what a block remembers; `reaction`; `step`, the table itself; `emission`.
 #![tactic(auto)]
@@ -15,5 +16,5 @@ mod step;
 
 pub use fb_types::{EventKind, TimerAsk};
 pub use memory::{EventMemory, memory_of};
-pub use reaction::{expire, react};
+pub use reaction::{expire, passes_to, react};
 pub use state::EventState;

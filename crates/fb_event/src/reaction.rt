@@ -1,14 +1,14 @@
 //! The reactions of event blocks, to an event and to their timer.
 
-ghost use Rattle.std.specs.Prelude.{◌≡◌, ◌++◌, ◌≤◌, ◌^◌, [], All, IfErr, IsOk, OnOk, map};
+ghost use Rattle.std.specs.Prelude.{◌≡◌, ◌++◌, ◌≤◌, ◌^◌, [], All, IfErr, IfSome, IsOk, OnOk, map};
 ghost use Rattle.fb_event.specs.Block.{state_of, IsInRange};
 ghost use Rattle.fb_event.specs.Emissions.{emission_at};
-ghost use Rattle.fb_event.specs.Reactions.{BeginsWith, EmitsAfter, FitInputs, reaction_to, expiry_of, emissions_of, first_value, meanings, IsEventOutput, IsWellFormed};
+ghost use Rattle.fb_event.specs.Reactions.{BeginsWith, EmitsAfter, FitInputs, reaction_to, expiry_of, emissions_of, first_value, meanings, IsEventOutput, IsWellFormed, PassesTo};
 
 use crate::emission::emit_all;
 use crate::state::EventState;
 use crate::step::{expiry, reaction};
-use fb_types::{Emits, Halt, TimerAsk, Value};
+use fb_types::{Emits, EventKind, Halt, TimerAsk, Value};
 
 /// The reaction of an event block to the event input at an index of its event inputs, in a tick that is at most
 /// 10^12. `inputs` are the values of all its data inputs, in the order of the declaration, as they are
@@ -52,6 +52,18 @@ pub fn react(
     emit_all(state.block, step.emits, emits)?;
     *ask = step.ask;
     Ok(())
+}
+
+/// The event output that a block of a kind emits for each event, where this is all that it ever does: it has no data, and it
+/// remembers and asks nothing. `None` says nothing of the kind.
+#[inline(always)]
+pub fn passes_to(kind: EventKind) -> Option<u32>
+    ensures { IfSome result (PassesTo kind) }
+{
+    match kind {
+        EventKind::Merge => Some(0),
+        _ => None,
+    }
 }
 
 /// The reaction of an event block to its timer, which goes off in a tick that is at most 10^12. It reads no

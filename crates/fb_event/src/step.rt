@@ -73,8 +73,10 @@ impl Step {
 
 /// The reaction to the event input at an index, with the value of the data input, if the block has one. The block is
 /// changed where it remembers something else then.
+///
+/// It is a call, since the table is large: what takes an event keeps its own hint on inlining that way.
 #[tactic(auto, using(crate::proofs::Events::indexes_of_events))]
-#[inline(always)]
+#[inline(never)]
 pub(crate) fn reaction(block: &mut KindState, event: u32, tick: u64, input: Value) -> Step
     requires early { tick ≤ 10 ^ 12 }
     requires running { IsInRange block.old }

@@ -1,5 +1,6 @@
 -- Posting goes on after a step of it, of the same system and under the same key.
-use Rattle.std.proofs.Common.{◌≡◌, ◌+◌, ◌++◌, ◌<◌, ◌≤◌, ℕ, List, [], All, length, map, refl, sym, ap, subst, ◌∙◌, append-nil, arith}
+use Rattle.std.proofs.Common.{◌≡◌, ◌+◌, ◌++◌, ◌∷◌, ◌<◌, ◌≤◌, ℕ, List, [], All, get_or, length, map, Option, Some, None, refl, sym, ap, subst, ◌∙◌, append-nil, arith}
+use Rattle.std.specs.Prelude.{IfSome}
 use Rattle.std.specs.Global.{Vec}
 use Rattle.std.proofs.lemmas.List.{map-append}
 use Rattle.fb_types.specs.Headline.{Inputs, system_of}
@@ -8,11 +9,13 @@ use Rattle.fb_types.specs.Takes.{Posts, post_all}
 use Rattle.fb_types.specs.declared.key.Key.{Key}
 use Rattle.fb_types.specs.declared.run.Event.{Event}
 use Rattle.fb_types.specs.declared.run.Message.{Message}
+use Rattle.fb_types.specs.declared.run.Target.{Target}
 use Rattle.fb_types.specs.declared.run.TimerAsk.{TimerAsk}
 use Rattle.fb_types.specs.declared.run.TimerAsk.TheVariants.{Keep}
 use Rattle.fb_agenda.specs.Agendas.{Contents}
 use Rattle.fb_net.specs.Outs.{out_of}
 use Rattle.fb_net.specs.declared.outbox.Out.{Out}
+use Rattle.fb_net.specs.declared.outbox.Out.TheVariants.{Local}
 use Rattle.fb_net.specs.declared.outbox.Outbox.{Outbox}
 use Rattle.fb_system.specs.Lines.{BelongsTo}
 use Rattle.fb_resource.specs.Posts.{ArePosted, CountsAre, IsMessage, IsPostable, arriving}
@@ -108,3 +111,10 @@ posted_after a b c ask e os same set next counts are =
       counted = set.locals;
       sends = subst (λ (v : Vec ℕ). CountsAre v.items counts) (sym set.sent) are;
     })
+
+-- of one event that was put out
+pub lone_local : (os : List Out) (x d : Out) (o : Option Target) → length os ≡ 1 → x ≡ get_or os 0 d → IfSome o (λ t. x ≡ Local t) → IfSome o (λ t. os ≡ Local t ∷ [])
+lone_local os x d None one at is = tt
+lone_local [] x d (Some t) one at is = absurd (omega (arith, one))
+lone_local (y ∷ []) x d (Some t) one at is = ap (λ z. z ∷ []) (sym at ∙ is)
+lone_local (y ∷ z ∷ os) x d (Some t) one at is = absurd (omega (arith, one))

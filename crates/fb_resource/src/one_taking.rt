@@ -70,7 +70,7 @@ fn take_in(
 {
     let mut steps = Meter { left: *left };
     let arrival = arrival_of(key, event);
-    let taken = tree.take(system, arrival, key.tick, &mut steps, outbox);
+    let taken = tree.take_under(system, arrival, key, &mut steps, outbox);
     *left = steps.left;
     match taken {
         Ok(()) => Ok(None),
@@ -87,6 +87,7 @@ fn take_in(
 ///
 /// # Errors
 /// When memory runs out, or a link has carried 2^128 messages. Nothing is said of the resource then.
+#[inline(always)]
 pub fn take(
     tree: &mut Tree,
     counts: &mut TickCounts,

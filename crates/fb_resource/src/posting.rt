@@ -1,12 +1,13 @@
 //! Posting what taking an event puts out: the timer, local events onto the agenda, messages after the mail.
 
-ghost use Rattle.std.specs.Prelude.{◌≡◌, ◌+◌, ◌<◌, ◌≤◌, ◌^◌, ◌++◌, ◌∷◌, ℕ, [], length, All, OnOk, slice_index, slice_set};
+ghost use Rattle.std.specs.Prelude.{◌≡◌, ◌+◌, ◌<◌, ◌≤◌, ◌^◌, ◌++◌, ◌∷◌, ℕ, [], length, All, IfSome, OnOk, slice_index, slice_set};
 ghost use Rattle.fb_types.specs.Headline.{system_of};
 ghost use Rattle.fb_types.specs.Keys.{local_key};
 ghost use Rattle.fb_types.specs.Numbers.{path_at};
 ghost use Rattle.fb_types.specs.States.{path_of};
 ghost use Rattle.fb_types.specs.declared.run.Event.TheVariants.{Local};
 ghost use Rattle.fb_net.specs.Events.{IsEventIn, IsNumbered, event_of};
+ghost use Rattle.fb_net.specs.declared.outbox.Out.TheVariants as put_out;
 ghost use Rattle.fb_resource.specs.Posts.{IsPostable, IsPut, message_of};
 ghost use Rattle.fb_resource.specs.Takings.{IsLater};
 
@@ -16,6 +17,7 @@ use fb_net::{Out, Outbox, OutgoingMessage};
 use fb_system::System;
 use fb_types::{Event, Key, Message, Target, TimerAsk};
 use std::alloc::AllocError;
+use std::mem::forget;
 
 /// Puts a local event on the agenda, under its number within the tick.
 #[inline(always)]
@@ -80,6 +82,28 @@ fn instance_of(system: &System, event: &Event) -> u32
         Event::Timer(instance) => *instance,
         Event::Arrival(message) => message.target.instance,
         Event::Local(target) => target.instance,
+    }
+}
+
+/// The target of an event that was put out, if it is local.
+#[inline(always)]
+fn target_of(out: &Out) -> Option<Target>
+    ensures { IfSome result (λ target. out.now ≡ put_out.Local target) }
+{
+    match out {
+        Out::Local(target) => Some(*target),
+        Out::Send(_) => None,
+    }
+}
+
+/// The target of the local event that was put out, if nothing else was.
+#[inline(always)]
+fn lone_target(outs: &[Out]) -> Option<Target>
+    ensures { IfSome result (λ target. outs.now ≡ put_out.Local target ∷ []) }
+{
+    match outs {
+        [only] => target_of(only),
+        _ => None,
     }
 }
 
@@ -152,7 +176,27 @@ impl Posting<'_> {
     ///
     /// # Errors
     /// As `post_one`.
+    #[inline(always)]
     fn post_all(&mut self, outs: &mut Vec<Out>) -> Result<(), AllocError>
+        requires may { MayPost self.old }
+        requires outs { All (IsPostable (system_in self.old) self.old.key.now.resource) outs.old.items }
+        requires room { self.old.locals.now + length outs.old.items < 2 ^ 128 }
+        ensures posted { OnOk result (HasPosted self.old outs.old.items self.new) }
+        ensures grown { OnOk result (HasGrown self.old (length outs.old.items) self.new) }
+        ensures none { OnOk result (outs.new.items ≡ []) }
+        ensures same { IsSame self.old self.new }
+    {
+        // Mostly one local event was put out. It is read where it is: to move an `Out` is to move as much as a message.
+        if let Some(target) = lone_target(outs.as_slice()) {
+            forget(outs.pop());
+            return self.post_one(Out::Local(target));
+        }
+        self.post_last(outs)
+    }
+
+    /// .. which may be anything: the last apart from those before it.
+    #[inline(always)]
+    fn post_last(&mut self, outs: &mut Vec<Out>) -> Result<(), AllocError>
         requires may { MayPost self.old }
         requires outs { All (IsPostable (system_in self.old) self.old.key.now.resource) outs.old.items }
         requires room { self.old.locals.now + length outs.old.items < 2 ^ 128 }
@@ -164,7 +208,7 @@ impl Posting<'_> {
         let Some(last) = outs.pop() else {
             return Ok(());
         };
-        // Mostly one event was put out, and there is nothing to walk over before it.
+        // Mostly it is one message, and there is nothing to walk over before it.
         self.post_others(outs)?;
         self.post_one(last)
     }
@@ -194,6 +238,7 @@ impl Posting<'_> {
     ///
     /// # Errors
     /// As `post_one`.
+    #[inline(always)]
     pub fn settle(&mut self, outbox: &mut Outbox, event: &Event) -> Result<(), AllocError>
         requires may { MayPost self.old }
         requires event { IsEventIn self.old.system.now self.old.key.now.resource event.now }

@@ -5,23 +5,27 @@ use Rattle.fb_net.specs.Events.{HasTaken, event_in, key_at}
 use Rattle.fb_resource.proofs.Alone.{came_alone}
 use Rattle.fb_resource.proofs.one_taking.take_in.Goals as goal
 
+pub take_under-taken-requires-clause-key : goal.take_under-taken-requires-clause-key
+take_under-taken-requires-clause-key c =
+    let arrival = c.arrival_of-arrival in
+    sym (ap (λ r. key_at c.args.key.now.tick r arrival.result) (sym c.requires.key) ∙ arrival.ensures.key)
+
 pub returns-in-Ok-clause-came : goal.returns-in-Ok-clause-came
 returns-in-Ok-clause-came c =
     let arrival = c.arrival_of-arrival in
     let key = c.args.key.now in
-    came_alone c.args.system.now (key_at key.tick c.args.tree.now.resource arrival.result) key (event_in arrival.result) c.args.event.now c.args.tree.now c.args.outbox.now c.args.left.now None
-    c.take-taken.new.self c.take-taken.new.meter.left c.take-taken.new.outbox (ap (λ r. key_at key.tick r arrival.result) (sym c.requires.key) ∙ arrival.ensures.key) arrival.ensures.event
+    came_alone c.args.system.now key (event_in arrival.result) c.args.event.now c.args.tree.now c.args.outbox.now c.args.left.now None
+    c.take_under-taken.new.self c.take_under-taken.new.meter.left c.take_under-taken.new.outbox arrival.ensures.event
     c.requires.none c.requires.keeps c.in-Ok.ensures.taken
 
 pub returns-in-Err-Stop-clause-came : goal.returns-in-Err-Stop-clause-came
 returns-in-Err-Stop-clause-came c =
     let arrival = c.arrival_of-arrival in
     let key = c.args.key.now in
-    let under = key_at key.tick c.args.tree.now.resource arrival.result in
     let inner = rw c.in-Err-Stop.is at c.in-Err-Stop.field-0-is in
-    let whole : c.take-taken.result ≡ Err (halt.Stop c.in-Err-Stop.reason) = c.in-Err-Stop.is ∙ ap Err inner in
-    came_alone c.args.system.now under key (event_in arrival.result) c.args.event.now c.args.tree.now c.args.outbox.now c.args.left.now (Some c.in-Err-Stop.reason)
-    c.take-taken.new.self c.take-taken.new.meter.left c.take-taken.new.outbox (ap (λ r. key_at key.tick r arrival.result) (sym c.requires.key) ∙ arrival.ensures.key) arrival.ensures.event
+    let whole : c.take_under-taken.result ≡ Err (halt.Stop c.in-Err-Stop.reason) = c.in-Err-Stop.is ∙ ap Err inner in
+    came_alone c.args.system.now key (event_in arrival.result) c.args.event.now c.args.tree.now c.args.outbox.now c.args.left.now (Some c.in-Err-Stop.reason)
+    c.take_under-taken.new.self c.take_under-taken.new.meter.left c.take_under-taken.new.outbox arrival.ensures.event
     c.requires.none c.requires.keeps
-    (subst (λ (end : Result (Unit {0}) Halt). HasTaken c.args.system.now under (event_in arrival.result) c.args.tree.now c.args.outbox.now c.args.left.now end c.take-taken.new.self c.take-taken.new.meter.left c.take-taken.new.outbox)
-    whole c.take-taken.ensures.taken)
+    (subst (λ (end : Result (Unit {0}) Halt). HasTaken c.args.system.now key (event_in arrival.result) c.args.tree.now c.args.outbox.now c.args.left.now end c.take_under-taken.new.self c.take_under-taken.new.meter.left c.take_under-taken.new.outbox)
+    whole c.take_under-taken.ensures.taken)

@@ -1,9 +1,5 @@
-use Rattle.std.proofs.Common.{◌≡◌, Some, cond, subst, refl}
-use Rattle.std.specs.Prelude.{OnOk}
-use Rattle.fb_types.specs.Keys.{local_key, same_key}
-use Rattle.fb_types.specs.declared.key.Key.{Key}
-use Rattle.fb_types.specs.declared.run.Event.TheVariants.{Local}
-use Rattle.fb_agenda.specs.Agendas.{waiting}
+use Rattle.std.proofs.Common.{refl}
+use Rattle.fb_types.specs.Keys.{local_key}
 use Rattle.fb_agenda.specs.Inside.{contents_of}
 use Rattle.fb_agenda.proofs.Queueing.{put_now_apart, put_now_waits}
 use Rattle.fb_agenda.proofs.agenda.Agenda.put_local.Goals as goal
@@ -20,7 +16,3 @@ returns-then-follows-clause-put c =
     let k = local_key c.args.tick c.args.resource c.args.number in
     rw (← c.self.view_is)
     (put_now_waits c.self.inside.now c.push.new.self v.later v.due c.self.inside.later.has_local k c.args.target c.self.invariant refl c.if-follows.ensures.follows (c.self.invariant.marked c.if-not-self.true k refl) c.push.result c.push.ensures.ok)
-
-pub returns-else-not-self-clause-put : goal.returns-else-not-self-clause-put
-returns-else-not-self-clause-put c =
-    subst (λ (z : Key). OnOk c.put_aside.result ((j : Key) → waiting c.put_aside.new.self j ≡ cond (same_key z j) (Some (Local c.args.target)) (waiting c.args.self.now j))) c.local.ensures c.put_aside.ensures.put

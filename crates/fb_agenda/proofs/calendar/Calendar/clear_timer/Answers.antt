@@ -1,5 +1,4 @@
 use Rattle.std.proofs.Common.{◌≡◌, ◌++◌, None, ap, subst}
-use Rattle.fb_types.specs.Keys.{timer_key}
 use Rattle.fb_types.specs.declared.key.Key.{Key}
 use Rattle.fb_agenda.specs.Calendars.{Sets}
 use Rattle.fb_agenda.proofs.Keeping.{cleared_kept, no_other, timer_sets}

@@ -1,5 +1,5 @@
 use Rattle.fb_agenda.proofs.Calendars.{many_is_first}
-use Rattle.fb_agenda.proofs.Keeping.{first_timer, none_first, none_other}
+use Rattle.fb_agenda.proofs.Keeping.{first_timer, none_first}
 use Rattle.fb_agenda.proofs.calendar.Calendar.first.Goals as goal
 
 pub returns-then-is_timer_first-clause-some : goal.returns-then-is_timer_first-clause-some

@@ -1,9 +1,3 @@
-use Rattle.std.proofs.Common.{◌≡◌, ◌<◌, ◌++◌, Some, None, sym, subst}
-use Rattle.std.specs.Prelude.{IfSome, IfNone}
-use Rattle.std.specs.Map.{lookup}
-use Rattle.fb_types.specs.Keys.{Precedes, same_key}
-use Rattle.fb_types.specs.declared.key.Key.{Key}
-use Rattle.fb_agenda.specs.Calendars.{BeginsAt, Sets}
 use Rattle.fb_agenda.specs.Indexes.{taken}
 use Rattle.fb_agenda.proofs.Calendars.{front_before, front_kept, front_left, front_value, many_kept, popped_left, popped_value}
 use Rattle.fb_agenda.proofs.Keeping.{begins_with_other, begins_with_timer, none_before_other, other_popped, timer_popped}
@@ -52,43 +46,35 @@ returns-then-is_timer_first-clause-kept c =
 pub invariant_of-self-else-is_timer_first : goal.invariant_of-self-else-is_timer_first
 invariant_of-self-else-is_timer_first c =
     let i = c.self.inside in
-    let pop = c.pop_below in
-    other_popped i.timers i.others i.has_timer i.quiet c.self.invariant pop.new.self pop.result pop.ensures.value pop.ensures.left pop.ensures.kept
+    let pop = c.pop_first_into in
+    other_popped i.timers i.others i.has_timer i.quiet c.self.invariant pop.new.self (taken pop.result pop.new.index) pop.ensures.value pop.ensures.left pop.ensures.kept
 
 pub returns-else-is_timer_first-clause-value : goal.returns-else-is_timer_first-clause-value
 returns-else-is_timer_first-clause-value c =
     let i = c.self.inside in
-    let pop = c.pop_below in
-    subst (λ o. IfSome o (λ r. lookup (same_key r.0) c.args.self.now ≡ Some r.1)) (sym c.hold.ensures)
-    (rw (← c.self.view_is) (popped_value i.timers i.others c.self.invariant.split c.if-is_timer_first.ensures.others pop.result pop.ensures.value))
+    let pop = c.pop_first_into in
+    rw (← c.self.view_is) (popped_value i.timers i.others c.self.invariant.split c.if-is_timer_first.ensures.others (taken pop.result pop.new.index) pop.ensures.value)
 
 pub returns-else-is_timer_first-clause-none_before : goal.returns-else-is_timer_first-clause-none_before
 returns-else-is_timer_first-clause-none_before c =
     let i = c.self.inside in
-    let pop = c.pop_below in
-    subst (λ o. IfSome o (λ r. (j : Key) → Precedes j r.0 → lookup (same_key j) c.args.self.now ≡ None)) (sym c.hold.ensures)
-    (rw (← c.self.view_is) (none_before_other i.timers i.others c.if-is_timer_first.ensures.others pop.result pop.ensures.value pop.ensures.none_before))
+    let pop = c.pop_first_into in
+    rw (← c.self.view_is) (none_before_other i.timers i.others c.if-is_timer_first.ensures.others (taken pop.result pop.new.index) pop.ensures.value pop.ensures.none_before)
 
 pub returns-else-is_timer_first-clause-left : goal.returns-else-is_timer_first-clause-left
 returns-else-is_timer_first-clause-left c =
     let i = c.self.inside in
-    let pop = c.pop_below in
-    subst (λ o. IfSome o (λ r. Sets r.0 None c.args.self.now (i.timers ++ pop.new.self))) (sym c.hold.ensures)
-    (rw (← c.self.view_is) (popped_left i.timers i.others c.self.invariant.split pop.new.self (λ p sets. sets) pop.result pop.ensures.value pop.ensures.left))
-
-pub returns-else-is_timer_first-clause-below : goal.returns-else-is_timer_first-clause-below
-returns-else-is_timer_first-clause-below c = subst (λ o. IfSome o (λ r. r.0.tick < c.args.horizon)) (sym c.hold.ensures) c.pop_below.ensures.below
+    let pop = c.pop_first_into in
+    rw (← c.self.view_is) (popped_left i.timers i.others c.self.invariant.split pop.new.self (λ p sets. sets) (taken pop.result pop.new.index) pop.ensures.value pop.ensures.left)
 
 pub returns-else-is_timer_first-clause-none : goal.returns-else-is_timer_first-clause-none
 returns-else-is_timer_first-clause-none c =
     let i = c.self.inside in
-    let pop = c.pop_below in
-    subst (λ o. IfNone o (BeginsAt c.args.horizon c.args.self.now)) (sym c.hold.ensures)
-    (rw (← c.self.view_is) (begins_with_other i.timers i.others c.if-is_timer_first.ensures.others c.args.horizon pop.result pop.ensures.none))
+    let pop = c.pop_first_into in
+    rw (← c.self.view_is) (begins_with_other i.timers i.others c.if-is_timer_first.ensures.others c.args.horizon (taken pop.result pop.new.index) pop.ensures.none)
 
 pub returns-else-is_timer_first-clause-kept : goal.returns-else-is_timer_first-clause-kept
 returns-else-is_timer_first-clause-kept c =
     let i = c.self.inside in
-    let pop = c.pop_below in
-    subst (λ o. IfNone o (i.timers ++ pop.new.self ≡ c.args.self.now)) (sym c.hold.ensures)
-    (rw (← c.self.view_is) (many_kept i.timers i.others pop.new.self pop.result pop.ensures.kept))
+    let pop = c.pop_first_into in
+    rw (← c.self.view_is) (many_kept i.timers i.others pop.new.self (taken pop.result pop.new.index) pop.ensures.kept)

@@ -1,4 +1,4 @@
-use Rattle.std.proofs.Common.{◌≡◌, List, map, refl, sym, subst, arith}
+use Rattle.std.proofs.Common.{◌≡◌, List, map, sym, subst}
 use Rattle.fb_types.specs.Keys.{local_key}
 use Rattle.fb_types.specs.declared.key.Key.{Key}
 use Rattle.fb_types.specs.declared.run.Target.{Target}
@@ -9,11 +9,10 @@ use Rattle.fb_agenda.proofs.queue.Queue.first.Goals as goal
 pub returns-clause-some : goal.returns-clause-some
 returns-clause-some c =
     let q = c.self.inside in
-    let es = q.waiting.items in
-    let e = c.in_ok-number.field-0.now in
-    let facts = c.in_ok-number.ensures in
+    let es = q.waiting in
+    let n = c.in_ok-number.number in
     let rising : AreRising (local_events (map (keyed q.tick q.resource) es)) = subst (λ (l : List (Key × Target)). AreRising (local_events l)) (sym c.self.view_is) c.requires in
-    let key : c.local.result ≡ local_key q.tick q.resource e.0 = c.local.ensures in
-    let first = first_number q.tick q.resource es e e rising (omega (arith, facts.variant.0 refl)) (sym facts.lookup) in
+    let key : c.local.result ≡ local_key q.tick q.resource n = c.local.ensures in
+    let first = first_number q.tick q.resource es n rising c.in_ok-number.ensures.some in
     subst (λ (l : List (Key × Target)). IsFirst (local_events l) c.local.result) c.self.view_is
     (subst (λ (k : Key). IsFirst (local_events (map (keyed q.tick q.resource) es)) k) (sym key) first)

@@ -1,4 +1,4 @@
-use Rattle.std.proofs.Common.{◌≡◌, ◌-◌, ℕ, List, length, map, suc, refl, sym, ap, subst, ◌∙◌, deque_len, arith}
+use Rattle.std.proofs.Common.{◌≡◌, List, map, sym, subst, ◌∙◌, arith}
 use Rattle.std.proofs.lemmas.Bool.{eqb-true, ltb-true}
 use Rattle.std.specs.List.{AllByRecursion}
 use Rattle.fb_types.specs.Keys.{local_key}
@@ -15,21 +15,16 @@ returns-then-self-resource-clause-follows c =
     elim c.if-self-tick.branch [
       | then-self-tick w ↦
           let q = c.self.inside in
-          let es = q.waiting.items in
-          let d = c.in-Some.field-0.now in
-          let facts = c.in-Some.ensures in
-          let n = deque_len q.waiting - 1 in
+          let es = q.waiting in
           let number = c.args.number in
           let tick : q.tick ≡ c.args.tick = omega (arith, w.if-self-tick.true) in
           let resource : q.resource ≡ c.args.resource = eqb-true _ _ (sym w.value-is ∙ c.if-self-resource.true) in
           let queue : IsQueue (local_events (map (keyed q.tick q.resource) es)) = subst (λ (l : List (Key × Target)). IsQueue (local_events l)) (sym c.self.view_is) c.requires in
-          let count : length es ≡ suc n = omega (arith, facts.variant.0 refl) in
-          let last = ap (λ (e : ℕ × Target). e.0) facts.lookup in
           when_true _
           (λ less. subst (λ (l : List (Key × Target)). MayFollow (local_events l) (local_key c.args.tick c.args.resource number)) c.self.view_is
           (subst (λ x. MayFollow (local_events (map (keyed q.tick q.resource) es)) (local_key x c.args.resource number)) tick
           (subst (λ x. MayFollow (local_events (map (keyed q.tick q.resource) es)) (local_key q.tick x number)) resource
-          (follows_number q.tick q.resource es number n d queue count (omega (arith, last, ltb-true _ _ less))))))
+          (follows_number q.tick q.resource es number c.in-Some.last queue c.in-Some.ensures.some (ltb-true _ _ less)))))
       | else-self-tick w ↦
           let same : c.self.inside.tick ≡ c.args.tick = eqb-true _ _ (sym w.value-is ∙ c.if-self-resource.true) in
           absurd (omega (arith, same, w.if-self-tick.false))
@@ -40,7 +35,7 @@ returns-then-self-resource-clause-at c =
     elim c.if-self-tick.branch [
       | then-self-tick w ↦
           let q = c.self.inside in
-          let es = q.waiting.items in
+          let es = q.waiting in
           let tick : q.tick ≡ c.args.tick = omega (arith, w.if-self-tick.true) in
           let resource : q.resource ≡ c.args.resource = eqb-true _ _ (sym w.value-is ∙ c.if-self-resource.true) in
           when_true _

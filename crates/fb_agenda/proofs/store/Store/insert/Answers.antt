@@ -1,9 +1,9 @@
-use Rattle.std.proofs.Common.{◌≡◌, ◌∙◌, Some, None, ap, ◌++◌}
+use Rattle.std.proofs.Common.{◌≡◌, ◌∙◌, Some, None, ap}
 use Rattle.std.specs.Prelude.{slice_set}
 use Rattle.std.specs.Map.{lookup}
 use Rattle.std.proofs.lemmas.List.{nil_from_length}
 use Rattle.fb_types.specs.Keys.{or_else, same_key}
-use Rattle.fb_agenda.proofs.Calendars.{alone, err_known, few_sets, few_split, kept_both, lookup_both, many_sets, many_split, over_is, put_absent, put_both, put_rises, put_sets, put_split}
+use Rattle.fb_agenda.proofs.Calendars.{alone, err_known, few_sets, few_split, lookup_both, many_sets, many_split, over_is, put_absent, put_both, put_rises, put_sets, put_split}
 use Rattle.fb_agenda.proofs.store.Store.insert.Goals as goal
 
 -- ---- The map is empty

@@ -1,5 +1,4 @@
-use Rattle.std.proofs.Common.{◌++◌}
-use Rattle.fb_agenda.proofs.Calendars.{front_before, front_kept, front_left, front_split, front_value, many_kept, popped_before, popped_left, popped_split, popped_value}
+use Rattle.fb_agenda.proofs.Calendars.{front_before, front_left, front_split, front_value, popped_before, popped_left, popped_split, popped_value}
 use Rattle.fb_agenda.proofs.store.Store.pop_first.Goals as goal
 
 pub invariant_of-self : goal.invariant_of-self

@@ -1,4 +1,4 @@
-use Rattle.std.proofs.Common.{None, sym, subst, ◌++◌}
+use Rattle.std.proofs.Common.{None, sym, subst}
 use Rattle.fb_agenda.specs.Agendas.{AreRising}
 use Rattle.fb_agenda.specs.Calendars.{Sets}
 use Rattle.fb_agenda.proofs.Calendars.{alone, few_sets, few_split, many_sets, many_split, removed_rises, removed_sets}

@@ -1,4 +1,4 @@
-use Rattle.std.proofs.Common.{◌≡◌, ◌-◌, deque_len, refl, sym, subst, ◌∙◌, arith}
+use Rattle.std.proofs.Common.{◌-◌, deque_len, refl, sym, subst, ◌∙◌, arith}
 use mathlib.Core.Bool.{false≢true}
 use Rattle.fb_types.specs.Keys.{Precedes, key_cmp}
 use Rattle.fb_types.specs.declared.key.Key.{Key}
