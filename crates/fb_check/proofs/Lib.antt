@@ -1,6 +1,5 @@
 mod Passed
 pub mod Verdict
-pub mod Parts
 pub mod Steps
 pub mod Found
 pub mod Sources

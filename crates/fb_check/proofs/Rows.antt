@@ -37,7 +37,7 @@ use Rattle.fb_check.specs.declared.directory.Directory.{Directory}
 use Rattle.fb_check.specs.Stimuli.{AreAllBad, AreAllBadUpTo, IsAdded, IsBadAt, IsRowOr, IsUnfit}
 use Rattle.fb_check.specs.declared.location.StimulusFault.{StimulusFault}
 use Rattle.fb_check.specs.declared.location.StimulusLocation.{StimulusLocation}
-use Rattle.fb_findings.proofs.Listing.{none_right}
+use Rattle.fb_check_names.proofs.Listing.{none_right}
 use Rattle.fb_check.proofs.Good.{IsFoundAt, Known, all-is, can_take, first_index, found_at, good_from, kind_of_ports, the_ports, unfit}
 use Rattle.fb_check.proofs.Refused.{HasRefused, refused_more}
 

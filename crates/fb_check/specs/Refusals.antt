@@ -5,6 +5,9 @@ use Rattle.fb_types.specs.Headline.{Inputs, inputs}
 use Rattle.fb_types.specs.declared.library.Library.{Library}
 use Rattle.fb_types.specs.declared.deploy.Plan.{Plan}
 use Rattle.fb_types.specs.declared.deploy.Stimulus.{Stimulus}
+use Rattle.fb_check_names.specs.TwiceLists.{twice_all}
+use Rattle.fb_check_types.specs.MisfitLists.{misfits_all}
+use Rattle.fb_check_types.specs.Unknowns.{unknown_all}
 use Rattle.fb_check_networks.specs.Heights.{IsTooHighAt}
 use Rattle.fb_check_networks.specs.Links.{unlinked_all}
 use Rattle.fb_check_networks.specs.Misjoins.{misjoins_all}
@@ -19,7 +22,7 @@ use Rattle.fb_check.specs.declared.error.CheckError.TheVariants.{Memory, Refused
 use Rattle.fb_check.specs.declared.fault.Fault.{Fault}
 use Rattle.fb_check.specs.declared.fault.Fault.TheVariants as kind
 use Rattle.fb_check.specs.declared.refusal.Refusal.{Refusal}
-use Rattle.fb_check.specs.declared.refusal.Refusal.TheVariants.{BadStimulus, NoEvent, NoLink, NotMapped, OutOfRange, OverLimit, TooHigh, TwoSources, Unlisted}
+use Rattle.fb_check.specs.declared.refusal.Refusal.TheVariants.{BadStimulus, KindWrong, NameUnknown, NoEvent, NoLink, NotMapped, OutOfRange, OverLimit, TooHigh, Twice, TwoSources}
 use Rattle.fb_check.specs.declared.refusal.Stop.{Stop}
 use Rattle.fb_check.specs.declared.refusal.Stop.TheVariants as stop
 
@@ -41,7 +44,9 @@ inputs_in c = inputs c.library.now c.plan.now c.stimuli.now
 
 -- what is refused
 abbrev pub fault_of : Refusal → Fault
-fault_of (Unlisted f) = f
+fault_of (Twice v) = kind.NameTwice
+fault_of (NameUnknown v) = kind.NameUnknown
+fault_of (KindWrong v) = kind.KindWrong
 fault_of (OutOfRange v) = kind.OutOfRange
 fault_of (TwoSources v) = kind.TwoSources
 fault_of (TooHigh d) = kind.TooHigh
@@ -51,21 +56,11 @@ fault_of (NoEvent v) = kind.NoEvent
 fault_of (BadStimulus v) = kind.BadStimulus
 fault_of (OverLimit l) = kind.OverLimit
 
--- the locations of these are listed, of others not
-abbrev pub IsUnlisted : Fault → Type 0
-IsUnlisted kind.OutOfRange = ⊥
-IsUnlisted kind.TwoSources = ⊥
-IsUnlisted kind.TooHigh = ⊥
-IsUnlisted kind.NotMapped = ⊥
-IsUnlisted kind.NoLink = ⊥
-IsUnlisted kind.NoEvent = ⊥
-IsUnlisted kind.BadStimulus = ⊥
-IsUnlisted kind.OverLimit = ⊥
-IsUnlisted _ = Unit {0}
-
 -- these are all locations at which the number applies; of types that are too high, and of limits, it is one
 abbrev pub AreAll : Library → Plan → List Stimulus → Refusal → Type 0
-AreAll lib plan stimuli (Unlisted f) = IsUnlisted f
+AreAll lib plan stimuli (Twice v) = v.items ≡ twice_all lib plan
+AreAll lib plan stimuli (NameUnknown v) = v.items ≡ unknown_all lib plan
+AreAll lib plan stimuli (KindWrong v) = v.items ≡ misfits_all lib
 AreAll lib plan stimuli (OutOfRange v) = v.items ≡ misjoins_all lib
 AreAll lib plan stimuli (TwoSources v) = v.items ≡ joined_all lib
 AreAll lib plan stimuli (TooHigh d) = IsTooHighAt lib d

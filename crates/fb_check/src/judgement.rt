@@ -16,9 +16,9 @@ use crate::mapping_checks::judge_mapping;
 use crate::network_checks::judge_networks;
 use crate::refusal::{Refusal, Stop};
 use crate::stimuli::stimulus_rows;
-use fb_check_names::{Catalog, Resolved, catalog_of, resolve};
+use fb_check_names::{Catalog, Resolved, catalog_of};
 use fb_check_networks::has_too_many_instances;
-use fb_check_types::are_parts_known;
+use fb_check_types::resolve;
 use fb_system::StimulusRow;
 use fb_types::{Items, MOST_STIMULI};
 use std::alloc::{AllocError, Global};
@@ -28,10 +28,12 @@ fn catalog<'a>(alloc: Global, case: &Case<'a>) -> Result<Catalog<'a>, Stop>
     ensures ok { IfOk result (IsCatalog case.now.library.now case.now.plan.now) }
     ensures refused { IfErr result (IsStop (inputs_in case.now)) }
 {
-    match catalog_of(alloc, case.library, case.plan)? {
-        Some(catalog) => Ok(catalog),
-        None => Err(Stop::Refused(Refusal::Unlisted(Fault::NameTwice))),
+    let mut found = Vec::new(alloc);
+    let catalog = catalog_of(alloc, &mut found, case.library, case.plan)?;
+    if !found.is_empty() {
+        return Err(Stop::Refused(Refusal::Twice(found)));
     }
+    Ok(catalog)
 }
 
 /// E21: the numbers of all names, if each is known.
@@ -40,13 +42,12 @@ fn numbers(alloc: Global, case: &Case, catalog: &Catalog) -> Result<Resolved, St
     ensures ok { IfOk result (IsResolved case.now.library.now case.now.plan.now) }
     ensures refused { IfErr result (IsStop (inputs_in case.now)) }
 {
-    if !are_parts_known(case.library, catalog) {
-        return Err(Stop::Refused(Refusal::Unlisted(Fault::NameUnknown)));
+    let mut found = Vec::new(alloc);
+    let resolved = resolve(alloc, &mut found, case.library, case.plan, catalog)?;
+    if !found.is_empty() {
+        return Err(Stop::Refused(Refusal::NameUnknown(found)));
     }
-    match resolve(alloc, case.library, case.plan, catalog)? {
-        Some(resolved) => Ok(resolved),
-        None => Err(Stop::Refused(Refusal::Unlisted(Fault::NameUnknown))),
-    }
+    Ok(resolved)
 }
 
 /// E29: the stimuli by number, if each fits.

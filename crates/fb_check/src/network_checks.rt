@@ -7,25 +7,28 @@ ghost use Rattle.fb_check.specs.Refusals.{IsStop, inputs_in};
 ghost use Rattle.fb_check.specs.Verdicts.{HasPassed};
 
 use crate::case::Case;
-use crate::fault::Fault;
 use crate::refusal::{Refusal, Stop};
 use fb_check_names::{Catalog, Resolved};
-use fb_check_networks::{
-    has_wrong_parameter, joined_locations, misjoin_locations, too_high_location,
-};
-use fb_check_types::has_wrong_part;
+use fb_check_networks::{joined_locations, misjoin_locations, too_high_location};
+use fb_check_types::misfit_locations;
 use std::alloc::Global;
 
 /// E22: expressions, statements and values of the right kind.
-fn judge_kinds(case: &Case, catalog: &Catalog, resolved: &Resolved) -> Result<(), Stop>
+fn judge_kinds(
+    alloc: Global,
+    case: &Case,
+    catalog: &Catalog,
+    resolved: &Resolved,
+) -> Result<(), Stop>
     requires catalog { IsCatalog case.now.library.now case.now.plan.now catalog.now }
     requires resolved { IsResolved case.now.library.now case.now.plan.now resolved.now }
     requires passed { HasPassed 22 case.now }
     ensures ok { IfOk result (λ _. HasPassed 23 case.now) }
     ensures refused { IfErr result (IsStop (inputs_in case.now)) }
 {
-    if has_wrong_part(case.library, catalog) || has_wrong_parameter(case.library, resolved) {
-        return Err(Stop::Refused(Refusal::Unlisted(Fault::KindWrong)));
+    let found = misfit_locations(alloc, case.library, catalog, resolved)?;
+    if !found.is_empty() {
+        return Err(Stop::Refused(Refusal::KindWrong(found)));
     }
     Ok(())
 }
@@ -82,7 +85,7 @@ pub fn judge_networks(
     ensures ok { IfOk result (λ _. HasPassed 26 case.now) }
     ensures refused { IfErr result (IsStop (inputs_in case.now)) }
 {
-    judge_kinds(case, catalog, resolved)?;
+    judge_kinds(alloc, case, catalog, resolved)?;
     judge_ranges(alloc, case, resolved)?;
     judge_sources(alloc, case)?;
     judge_heights(alloc, case, resolved)

@@ -7,15 +7,21 @@ ghost use Rattle.fb_check.specs.declared.refusal.Stop.TheVariants.{Memory};
 use crate::error::CheckError;
 use crate::fault::Fault;
 use crate::location::{Limit, StimulusLocation};
-use fb_findings::{Descent, Joined, Misjoin, Unlinked, Unmapped};
+use fb_check_names::{
+    Descent, GivenTwice, Joined, Misfit, Misjoin, UnknownName, Unlinked, Unmapped,
+};
 use std::alloc::AllocError;
 
 /// Why inputs are refused: the least number that applies, with all locations at which it does, in the order of the
 /// declaration or of the stimuli.
 #[derive(Drop)]
 pub enum Refusal {
-    /// A number whose locations are not listed.
-    Unlisted(Fault),
+    /// What is given twice (E20).
+    Twice(Vec<GivenTwice>),
+    /// Names that nothing of the required kind has (E21).
+    NameUnknown(Vec<UnknownName>),
+    /// Values, expressions and statements of a wrong kind (E22).
+    KindWrong(Vec<Misfit>),
     /// Data connections to types that do not contain all values (E23).
     OutOfRange(Vec<Misjoin>),
     /// Data connections that lead to the port of one before (E24).
@@ -40,7 +46,9 @@ impl Refusal {
         ensures { result ≡ fault_of self.now }
     {
         match self {
-            Refusal::Unlisted(fault) => *fault,
+            Refusal::Twice(_) => Fault::NameTwice,
+            Refusal::NameUnknown(_) => Fault::NameUnknown,
+            Refusal::KindWrong(_) => Fault::KindWrong,
             Refusal::OutOfRange(_) => Fault::OutOfRange,
             Refusal::TwoSources(_) => Fault::TwoSources,
             Refusal::TooHigh(_) => Fault::TooHigh,

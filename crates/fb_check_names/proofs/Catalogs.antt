@@ -1,80 +1,80 @@
--- The results of the tests of all parts together.
-use Rattle.std.proofs.Common.{◌≡◌, ℕ, List, map, Option, Result, Vec, Global, Contains, Bor, sym, subst}
-use Rattle.std.specs.Prelude.{Ok, IfOk, MatchOption}
+-- The catalog of all names, from its parts.
+use Rattle.std.proofs.Common.{◌≡◌, List, ◌++◌, map, Result, Bor, ℕ, ◌∙◌, ap, append_assoc, inl, subst, sym}
+use Rattle.std.specs.Prelude.{Ok, Err, IfOk}
 use Rattle.std.specs.BTreeMap.{BTreeMap}
-use Rattle.fb_types.specs.Names.{Name}
+use Rattle.fb_types.specs.Blocks.{event_blocks}
 use Rattle.fb_types.specs.Flat.{type_name, resource_names_of}
-use Rattle.fb_types.specs.Repeated.{NameTwice, instance_names}
+use Rattle.fb_types.specs.Names.{Name}
+use Rattle.fb_types.specs.Repeated.{NameTwice, Twice, instance_names}
 use Rattle.fb_types.specs.declared.library.Library.{Library}
 use Rattle.fb_types.specs.declared.library.BlockType.{BlockType}
 use Rattle.fb_types.specs.declared.deploy.Plan.{Plan}
-use Rattle.fb_check_names.specs.declared.catalog.BlockIndexes.{BlockIndexes}
+use Rattle.fb_types.proofs.ByIndex.{element_of_index}
+use Rattle.fb_types.proofs.TwiceLaws.{Twice-append_right}
 use Rattle.fb_check_names.specs.declared.catalog.Catalog.{Catalog}
-use Rattle.fb_check_names.specs.Both.{both_of}
 use Rattle.fb_check_names.specs.Catalog.{IsCatalog}
-use Rattle.fb_check_names.specs.GivenTwice.{Unless, AreBlocks, BlockTwice, NetworkTwice, PlanTwice, TypeTwice}
+use Rattle.fb_check_names.specs.GivenTwice.{AreBlocks, NetworkTwice}
 use Rattle.fb_check_names.specs.Indexes.{IsIndex}
-use Rattle.fb_check_names.proofs.NameTwice.{types_twice, block_twice, network_twice, plan_twice, name_once}
-use Rattle.fb_check_names.proofs.BothFound.{both_answer}
+use Rattle.fb_check_names.specs.Together.{together}
+use Rattle.fb_check_names.proofs.NameTwice.{types_twice, block_twice, network_twice, plan_twice}
+
+-- ---- Both values
+
+pub of_both :
+    {A B E : Type 0} (r : Result (A × B) E) (a : Result A E) (b : Result B E) (P : A → Type 0) (Q : B → Type 0) → r ≡ together a b → IfOk a P → IfOk b Q
+    → IfOk r (λ z. P z.0 × Q z.1)
+of_both {A} {B} {E} r a b P Q is p q = subst (λ (s : Result (A × B) E). IfOk s (λ z. P z.0 × Q z.1)) (sym is) (both a b P Q p q)
+  where
+    both : {A B E : Type 0} (a : Result A E) (b : Result B E) (P : A → Type 0) (Q : B → Type 0) → IfOk a P → IfOk b Q → IfOk (together a b) (λ z. P z.0 × Q z.1)
+    both (Err e) b P Q p q = tt
+    both (Ok x) (Err e) P Q p q = tt
+    both (Ok x) (Ok y) P Q p q = (p, q)
+
+-- all four values
+pub of_all :
+    {A B C D E : Type 0} (types : Result A E) (blocks : Result B E) (instances : Result C E) (resources : Result D E) (declared : Result (A × B) E) (located : Result (C × D) E)
+    (z : (A × B) × (C × D)) (P : A → Type 0) (Q : B → Type 0) (R : C → Type 0) (S : D → Type 0)
+    → declared ≡ together types blocks → located ≡ together instances resources → Ok z ≡ together declared located
+    → IfOk types P → IfOk blocks Q → IfOk instances R → IfOk resources S → (P z.0.0 × Q z.0.1) × (R z.1.0 × S z.1.1)
+of_all types blocks instances resources declared located z P Q R S is_declared is_located is p q r s =
+    of_both (Ok z) declared located (λ x. P x.0 × Q x.1) (λ y. R y.0 × S y.1) is
+    (of_both declared types blocks P Q is_declared p q) (of_both located instances resources R S is_located r s)
+
+-- ---- The catalog
 
 abbrev Indexes : Type 0
 Indexes = BTreeMap (Bor Name) ℕ
 
--- a block type gives something twice
-abbrev SomeBlockTwice : List BlockType → Type 0
-SomeBlockTwice ts = (t : BlockType) × Contains ts t × BlockTwice t
-
--- ---- Every part returns indices
-
-pub catalog_answer :
-    (lib : Library) (plan : Plan) (c : Catalog) (ts us : List BlockType)
-    → ts ≡ lib.blocks → ¬ (TypeTwice ts) × IsIndex (map type_name ts) c.types
-    → us ≡ lib.blocks → ¬ (SomeBlockTwice us) × AreBlocks us c.blocks.items
-    → ¬ (NetworkTwice lib.application.network) × IsIndex (instance_names lib.application.network) c.instances
-    → ¬ (PlanTwice plan) × IsIndex (resource_names_of plan) c.resources
-    → IsCatalog lib plan c
-catalog_answer lib plan c ts us same types same' blocks instances resources =
-    let are : AreBlocks lib.blocks c.blocks.items = subst (λ (us : List BlockType). AreBlocks us c.blocks.items) same' blocks.1 in
+pub catalog_made :
+    (lib : Library) (plan : Plan) (c : Catalog) (ts : List BlockType) → ts ≡ lib.blocks
+    → (¬ (Twice (map type_name ts)) → IsIndex (map type_name ts) c.types) → AreBlocks ts c.blocks.items
+    → (¬ (NetworkTwice lib.application.network) → IsIndex (instance_names lib.application.network) c.instances)
+    → (¬ (Twice (resource_names_of plan)) → IsIndex (resource_names_of plan) c.resources)
+    → ¬ (NameTwice lib plan) → IsCatalog lib plan c
+catalog_made lib plan c ts same types blocks instances resources once =
+    let named : ¬ (Twice (map type_name lib.blocks)) → IsIndex (map type_name lib.blocks) c.types =
+    subst (λ (ts : List BlockType). ¬ (Twice (map type_name ts)) → IsIndex (map type_name ts) c.types) same types in
+    let are : AreBlocks lib.blocks c.blocks.items = subst (λ (ts : List BlockType). AreBlocks ts c.blocks.items) same blocks in
     record {
-      once = name_once lib plan (record {
-        types = subst (λ (ts : List BlockType). ¬ (TypeTwice ts)) same types.0;
-        blocks = λ t h twice. blocks.0 (t, subst (λ (us : List BlockType). Contains us t) (sym same') h, twice);
-        network = instances.0;
-        deployment = resources.0;
-      });
-      types = subst (λ (ts : List BlockType). IsIndex (map type_name ts) c.types) same types.1;
+      once = once;
+      types = named (λ t. once (types_twice lib plan (Twice-append_right (map (λ e. e.0) event_blocks) (map type_name lib.blocks) t)));
       counted = are.counted;
-      blocks = are.each;
-      instances = instances.1;
-      resources = resources.1;
+      blocks = λ k t x h g. are.each k t x h g (λ twice. once (block_twice lib plan t (element_of_index lib.blocks k t h) twice));
+      instances = instances (λ t. once (network_twice lib plan t));
+      resources = resources (λ t. once (plan_twice lib plan (inl t)));
     }
 
--- ---- All parts
+-- ---- What was added
 
--- the indices of the types' names and of what is in them, and of the application's instances and the resources
-abbrev pub AreAll : Library → Plan → (Indexes × Vec BlockIndexes Global) × (Indexes × Indexes) → Type 0
-AreAll lib plan z = IsCatalog lib plan (record { types = z.0.0; blocks = z.0.1; instances = z.1.0; resources = z.1.1 })
-
-pub catalog_found :
-    {X : Type 0} (lib : Library) (plan : Plan) (ts : List BlockType) (types instances resources : Result (Option Indexes) X)
-    (blocks : Result (Option (Vec BlockIndexes Global)) X) (declared : Result (Option (Indexes × Vec BlockIndexes Global)) X)
-    (placed : Result (Option (Indexes × Indexes)) X) (o : Option ((Indexes × Vec BlockIndexes Global) × (Indexes × Indexes)))
-    → ts ≡ lib.blocks → declared ≡ both_of types blocks → placed ≡ both_of instances resources → Ok o ≡ both_of declared placed
-    → IfOk types (Unless (TypeTwice ts) (IsIndex (map type_name ts)))
-    → IfOk blocks (Unless (SomeBlockTwice ts) (λ xs. AreBlocks ts xs.items))
-    → IfOk instances (Unless (NetworkTwice lib.application.network) (IsIndex (instance_names lib.application.network)))
-    → IfOk resources (Unless (PlanTwice plan) (IsIndex (resource_names_of plan)))
-    → MatchOption o (NameTwice lib plan) (AreAll lib plan)
-catalog_found lib plan ts types instances resources blocks declared placed o same of_declared of_placed found t b i r =
-    let Fault : Type 0 = NameTwice lib plan in
-    let T : Indexes → Type 0 = λ x. ¬ (TypeTwice ts) × IsIndex (map type_name ts) x in
-    let B : Vec BlockIndexes Global → Type 0 = λ xs. ¬ (SomeBlockTwice ts) × AreBlocks ts xs.items in
-    let I : Indexes → Type 0 = λ x. ¬ (NetworkTwice lib.application.network) × IsIndex (instance_names lib.application.network) x in
-    let R : Indexes → Type 0 = λ x. ¬ (PlanTwice plan) × IsIndex (resource_names_of plan) x in
-    let first = both_answer declared types blocks (TypeTwice ts) (SomeBlockTwice ts) Fault T B (λ z. T z.0 × B z.1) of_declared
-    (λ f. types_twice lib plan (subst (λ (us : List BlockType). TypeTwice us) same f))
-    (λ f. block_twice lib plan f.0 (subst (λ (us : List BlockType). Contains us f.0) same f.1) f.2) (λ x y p q. (p, q)) t b in
-    let second = both_answer placed instances resources (NetworkTwice lib.application.network) (PlanTwice plan) Fault I R (λ z. I z.0 × R z.1) of_placed
-    (network_twice lib plan) (plan_twice lib plan) (λ x y p q. (p, q)) i r in
-    both_answer (Ok o) declared placed Fault Fault Fault (λ z. T z.0 × B z.1) (λ z. I z.0 × R z.1) (AreAll lib plan) found (λ f. f) (λ f. f)
-    (λ x y p q. catalog_answer lib plan (record { types = x.0; blocks = x.1; instances = y.0; resources = y.1 }) ts ts same p.0 same p.1 q.0 q.1) first second
+pub all_added :
+    {A : Type 0} (old events types blocks application deployed f1 f2 f3 f4 f5 : List A)
+    → f1 ≡ old ++ events → f2 ≡ f1 ++ types → f3 ≡ f2 ++ blocks → f4 ≡ f3 ++ application → f5 ≡ f4 ++ deployed
+    → f5 ≡ old ++ ((events ++ (types ++ (blocks ++ application))) ++ deployed)
+all_added {A} old events types blocks application deployed f1 f2 f3 f4 f5 e1 e2 e3 e4 e5 =
+    let third : f4 ≡ f2 ++ (blocks ++ application) = e4 ∙ ap (λ (xs : List A). xs ++ application) e3 ∙ append_assoc f2 blocks application in
+    let second : f4 ≡ f1 ++ (types ++ (blocks ++ application)) =
+    third ∙ ap (λ (xs : List A). xs ++ (blocks ++ application)) e2 ∙ append_assoc f1 types (blocks ++ application) in
+    let declared = events ++ (types ++ (blocks ++ application)) in
+    let first : f4 ≡ old ++ declared =
+    second ∙ ap (λ (xs : List A). xs ++ (types ++ (blocks ++ application))) e1 ∙ append_assoc old events (types ++ (blocks ++ application)) in
+    e5 ∙ ap (λ (xs : List A). xs ++ deployed) first ∙ append_assoc old declared deployed

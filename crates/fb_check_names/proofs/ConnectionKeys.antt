@@ -1,16 +1,12 @@
--- The names at both ends of a connection, as the key of a set or a table.
-use Rattle.std.proofs.Common.{◌≡◌, Option, Ordering, Bor, refl, sym, subst}
+-- The names at both ends of a connection, as the key of a table.
+use Rattle.std.proofs.Common.{◌≡◌, Ordering, refl, sym, subst}
 use Rattle.std.specs.Bool.{Decides}
 use Rattle.std.specs.Option.{option_cmp}
 use Rattle.std.specs.Ordering.{is_eq, ordering_then}
 use Rattle.std.specs.declared.cmp.Ordering.TheVariants as order
-use Rattle.fb_types.specs.Names.{Name, Port}
 use Rattle.fb_check_names.specs.Ends.{End}
-use Rattle.fb_check_names.proofs.Seen.{IsExact, end_cmp, name_cmp, pair_cmp-exact, pair_ports}
-
--- where a connection begins the component, if there is one, and the port, and the same where it leads
-abbrev pub Key : Type 0
-Key = Option (Bor Name) × Bor Name × Option (Bor Name) × Bor Name
+use Rattle.fb_check_names.proofs.Seen.{IsExact, end_cmp, name_cmp, pair_cmp-exact}
+use Rattle.fb_check_names.specs.Pairs.{Key, key_ports}
 
 abbrev pub key_cmp : Key → Key → Ordering
 key_cmp p q =
@@ -21,10 +17,6 @@ begins k = (k.0, k.1)
 
 abbrev leads : Key → End
 leads k = (k.2, k.3)
-
--- the two ports
-abbrev pub key_ports : Key → Port × Port
-key_ports k = pair_ports (begins k, leads k)
 
 then_assoc : (r s t : Ordering) → ordering_then (ordering_then r s) t ≡ ordering_then r (ordering_then s t)
 then_assoc order.Less s t = refl

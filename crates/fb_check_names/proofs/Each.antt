@@ -3,7 +3,6 @@ use Rattle.std.proofs.Common.{◌≡◌, ℕ, zero, suc, ◌<◌, ◌≤◌, ◌
 use Rattle.std.specs.Prelude.{slice_get, option_map, option_and_then, is_some}
 use Rattle.std.specs.List.{list_all}
 use Rattle.std.proofs.lemmas.List.{take_more, take_all}
-use Rattle.std.proofs.lemmas.Option.{slice_get_read}
 use Rattle.fb_check_names.specs.Numbers.{each_or_none}
 
 abbrev pub put_first : {B : Type 0} → B → Option (List B) → Option (List B)
@@ -34,22 +33,6 @@ pub each_more :
 each_more {A} f xs i x ys zs y h e g so_far grown =
     ap (each_or_none f) (take_more xs i x h ∙ ap (λ (z : A). take i xs ++ z ∷ []) (sym e))
     ∙ each_push f (take i xs) x ys y so_far g ∙ ap (λ ws. Some ws) (sym grown)
-
-none_at : {A B : Type 0} (f : A → Option B) (xs : List A) (i : ℕ) (x : A) → slice_get xs i ≡ Some x → f x ≡ None → each_or_none f xs ≡ None
-none_at f [] i x h g = absurd (cc)
-none_at {A} {B} f (z ∷ zs) zero x h g =
-    let same : z ≡ x = cc in
-    ap (option_and_then (λ y. put_first y (each_or_none f zs))) (ap f same ∙ g)
-none_at f (z ∷ zs) (suc i) x h g =
-    elim (f z) as (λ o. option_and_then (λ y. put_first y (each_or_none f zs)) o ≡ None) [
-      | None ↦ refl
-      | Some w ↦ ap (put_first w) (none_at f zs i x h g)
-    ]
-
--- there is no result for all if there is none for one
-pub each_stops :
-    {A B : Type 0} (f : A → Option B) (xs : List A) (i : ℕ) (x : A) → i < length xs → x ≡ get_or xs i x → f x ≡ None → each_or_none f xs ≡ None
-each_stops f xs i x h e g = none_at f xs i x (slice_get_read xs (length xs) i x refl h e) g
 
 -- the end of a loop
 pub each_all : {A B : Type 0} (f : A → Option B) (xs : List A) (i : ℕ) (ys : List B) → length xs ≤ i → each_or_none f (take i xs) ≡ Some ys → Some ys ≡ each_or_none f xs

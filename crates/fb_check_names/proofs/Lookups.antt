@@ -7,27 +7,23 @@ use Rattle.std.proofs.lemmas.Option.{slice_get_read, same_Some}
 use Rattle.fb_types.specs.Names.{Name, same_name}
 use Rattle.fb_types.specs.Blocks.{Kind, Event, named, event_blocks, event_block_named, ports_of}
 use Rattle.fb_types.specs.Flat.{kind_of, type_name, type_named, kind_of_instance}
-use Rattle.fb_types.specs.Repeated.{OwnedNetwork, instance_names, internals_of}
+use Rattle.fb_types.specs.Repeated.{internals_of}
 use Rattle.fb_types.specs.Blocks.{variable_names}
 use Rattle.fb_types.specs.Unknown.{event_ins, event_outs, data_ins, data_outs}
 use Rattle.fb_types.specs.declared.library.BlockType.{BlockType}
 use Rattle.fb_types.specs.declared.library.Instance.{Instance}
 use Rattle.fb_types.specs.declared.library.Library.{Library}
-use Rattle.fb_types.specs.declared.library.PortName.{PortName}
 use Rattle.fb_types.specs.declared.library.Ports.{Ports}
 use Rattle.fb_check_names.specs.Indexes.{IsIndex, index_in}
 use Rattle.fb_check_names.specs.declared.catalog.BlockIndexes.{BlockIndexes}
 use Rattle.fb_check_names.specs.declared.catalog.Catalog.{Catalog}
 use Rattle.fb_types.proofs.Positions.{named-position, position_is}
-use Rattle.fb_check_names.specs.Numbers.{each_or_none, index_of, type_number, kind_of_number, ports_at_index, end_at, parameter_numbers}
-use Rattle.fb_check_names.specs.Scopes.{AreTyped, component_number}
+use Rattle.fb_check_names.specs.Numbers.{each_or_none, index_of, type_number, kind_of_number, parameter_numbers}
 use Rattle.fb_check_names.specs.PortKinds.{AreIndexesOf}
 use Rattle.fb_check_names.specs.Types.{HasTypes, port_number, ports_of_block}
-use Rattle.fb_check_names.specs.declared.numbers.ConnectionEnd.{ConnectionEnd}
 use Rattle.fb_check_names.specs.declared.numbers.TypeNumber.{TypeNumber}
 use Rattle.fb_check_names.specs.declared.numbers.TypeNumber.TheVariants as number
 use Rattle.fb_types.proofs.TwiceLaws.{once_right}
-use Rattle.fb_check_names.proofs.Each.{each_at}
 use Rattle.fb_check_names.proofs.Parts.{after_part, first_part}
 
 -- ---- Ports by the indices of all names of their type
@@ -190,33 +186,3 @@ pub no_parameters : (lib : Library) (i : Instance) → type_number lib i.block_t
 no_parameters lib i h =
     ap (λ (o : Option Kind). elim o as (λ _. Option (List ℕ)) [ None ↦ None | Some k ↦ each_or_none (λ x. index_of (data_ins (ports_of k)) x.name) i.parameters ])
     (type_named-number lib i.block_type ∙ ap (option_and_then (kind_of_number lib)) h)
-
--- ---- Ends at components
-
-abbrev pub end_there : ℕ → Option ℕ → Option ConnectionEnd
-end_there i o = option_map (λ k. record { component = Some i; port = k }) o
-
-port_there :
-    (lib : Library) (n : OwnedNetwork) (port_kind : Ports → List Name) (e : PortName) (i : ℕ) (x : Instance) (t : TypeNumber)
-    → slice_get n.1.instances i ≡ Some x → type_number lib x.block_type ≡ Some t
-    → option_and_then (λ p. end_at (Some i) (port_kind p) e) (ports_at_index lib n i) ≡ end_there i (port_number lib t port_kind e.port)
-port_there lib n port_kind e i x t at is =
-    ap (λ (o : Option Instance). option_and_then (λ p. end_at (Some i) (port_kind p) e) (option_map ports_of (option_and_then (kind_of_instance lib) o))) at
-    ∙ ap (λ (o : Option Kind). option_and_then (λ p. end_at (Some i) (port_kind p) e) (option_map ports_of o)) (kind_of_numbered lib x t is)
-    ∙ (elim (kind_of_number lib t) as
-    (λ o. option_and_then (λ p. end_at (Some i) (port_kind p) e) (option_map ports_of o) ≡ end_there i (option_and_then (λ k. index_of (port_kind (ports_of k)) e.port) o)) [
-      | None ↦ refl
-      | Some k ↦ refl
-    ])
-
--- an end at a component by the number of its type
-pub component_is :
-    (lib : Library) (n : OwnedNetwork) (ts : List TypeNumber) (port_kind : Ports → List Name) (c : Name) (e : PortName) (i : ℕ)
-    → AreTyped lib n.1.instances ts → index_of (instance_names n.1) c ≡ Some i
-    → component_number lib n port_kind c e ≡ option_and_then (λ t. end_there i (port_number lib t port_kind e.port)) (slice_get ts i)
-component_is lib n ts port_kind c e i typed at =
-    let there = position_is (λ (x : Instance). x.name) c n.1.instances i at in
-    let t = each_at (λ (i : Instance). type_number lib i.block_type) n.1.instances ts i there.0 typed there.1 in
-    ap (option_and_then (λ i. option_and_then (λ p. end_at (Some i) (port_kind p) e) (ports_at_index lib n i))) at
-    ∙ port_there lib n port_kind e i there.0 t.0 there.1 t.2
-    ∙ ap (option_and_then (λ t. end_there i (port_number lib t port_kind e.port))) (sym t.1)

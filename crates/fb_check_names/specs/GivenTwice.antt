@@ -1,5 +1,5 @@
 -- E20 part by part: what a block type, a network or a deployment gives twice (IEC 61499-1, 5 to 7; the name spaces are this project's profile).
-use Rattle.std.specs.Prelude.{◌≡◌, ◌⊎◌, ℕ, List, [], ◌++◌, map, length, Option, Some, MatchOption, Contains, slice_get}
+use Rattle.std.specs.Prelude.{◌≡◌, ◌⊎◌, ℕ, List, [], ◌++◌, map, length, Some, Contains, slice_get}
 use Rattle.fb_types.specs.Names.{Name}
 use Rattle.fb_types.specs.Blocks.{event_blocks, event_names, variable_names}
 use Rattle.fb_types.specs.Flat.{type_name, resource_names_of}
@@ -38,11 +38,7 @@ TypeTwice ts = Twice (map (λ e. e.0) event_blocks ++ map type_name ts)
 abbrev pub PlanTwice : Plan → Type 0
 PlanTwice plan = Twice (resource_names_of plan) ⊎ Twice (link_pairs plan)
 
--- None exactly if something is given twice, else a value of which P holds
-abbrev pub Unless : {A : Type 0} → Type 0 → (A → Type 0) → Option A → Type 0
-Unless E P o = MatchOption o E (λ x. ¬ E × P x)
-
--- The names of each block type by their indices.
+-- The names of each block type by their indices, if it gives nothing twice.
 pub record AreBlocks (ts : List BlockType) (xs : List BlockIndexes) : Type 0 where
   pub counted : length xs ≡ length ts
-  pub each : (k : ℕ) (t : BlockType) (x : BlockIndexes) → slice_get ts k ≡ Some t → slice_get xs k ≡ Some x → IsBlock t x
+  pub each : (k : ℕ) (t : BlockType) (x : BlockIndexes) → slice_get ts k ≡ Some t → slice_get xs k ≡ Some x → ¬ (BlockTwice t) → IsBlock t x

@@ -6,6 +6,7 @@ use Rattle.std.specs.BTreeMap.{BTreeMap, get_by}
 use Rattle.std.specs.Borrow.{Bor}
 use Rattle.fb_types.specs.Names.{Name, same_name}
 use Rattle.fb_types.specs.Repeated.{Twice}
+use Rattle.fb_check_names.specs.Repeats.{last_place}
 
 -- names that are borrowed
 abbrev pub names_in : List (Bor Name) → List Name
@@ -19,3 +20,7 @@ index_in indexes n = get_by (λ k. slice_cmp nat_cmp n k.now) indexes
 pub record IsIndex (names : List Name) (indexes : BTreeMap (Bor Name) ℕ) : Type 0 where
   pub once : ¬ (Twice names)
   pub index : (n : Name) → index_in indexes n ≡ position (same_name n) names
+
+-- the map has the last place of each name
+abbrev pub ArePlaces : List Name → BTreeMap (Bor Name) ℕ → Type 0
+ArePlaces ns m = (n : Name) → index_in m n ≡ last_place (same_name n) ns

@@ -1,7 +1,7 @@
 -- E21 by its parts: names of a network, a composite type or the deployment that are unknown (IEC 61499-1, 5.3 and
 -- 7).
 use Rattle.std.specs.Prelude.{◌≡◌, ◌⊎◌, ℕ, List, ◌++◌, length, flat_map, false, Option, Some, None, Contains, slice_get}
-use Rattle.fb_types.specs.Repeated.{OwnedNetwork, networks_in}
+use Rattle.fb_types.specs.Repeated.{OwnedNetwork}
 use Rattle.fb_types.specs.Unknown.{Required, required_types, required_parameters, required_deployment, ends_known}
 use Rattle.fb_types.specs.declared.library.Library.{Library}
 use Rattle.fb_types.specs.declared.library.BasicType.{BasicType}
@@ -19,10 +19,6 @@ required_network lib n = required_types lib n.1 ++ flat_map (required_parameters
 -- A type, a parameter or an end of a connection in the network is unknown.
 abbrev pub NetworkUnknown : Library → OwnedNetwork → Type 0
 NetworkUnknown lib n = ((w : Required) × Contains (required_network lib n) w × ¬ (Contains w.1 w.0)) ⊎ (ends_known lib n ≡ false)
-
--- Something in the network of a composite type is unknown.
-abbrev pub BlockUnknown : Library → Type 0
-BlockUnknown lib = (n : OwnedNetwork) × Contains (flat_map networks_in lib.blocks) n × NetworkUnknown lib n
 
 -- A mapped instance or an end of a link is unknown.
 abbrev pub DeploymentUnknown : Library → Plan → Type 0

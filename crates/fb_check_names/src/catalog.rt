@@ -1,12 +1,18 @@
 //! The indices of all names of a declaration and a deployment.
 
-ghost use Rattle.std.specs.Prelude.{◌≡◌, IfOk, MatchOption};
+ghost use Rattle.std.specs.Prelude.{◌≡◌, ◌++◌, IfOk};
 ghost use Rattle.fb_types.specs.Repeated.{NameTwice};
 ghost use Rattle.fb_check_names.specs.Catalog.{IsCatalog};
+ghost use Rattle.fb_check_names.specs.TwiceLists.{twice_all};
 
-use crate::both::both;
+use crate::location::Site;
 use crate::placing::Indexes;
-use crate::spaces::{blocks_indexes, network_indexes, resource_indexes, type_indexes};
+use crate::repeats::NameSpace;
+use crate::spaces::{
+    blocks_indexes, called_indexes, network_indexes, push_event_blocks, resource_indexes,
+};
+use crate::together::together;
+use crate::twice::GivenTwice;
 use fb_types::{Library, Plan};
 use std::alloc::{AllocError, Global};
 
@@ -57,32 +63,35 @@ impl Drop for Catalog<'_> {
     }
 }
 
-/// The indices of all names, or `None` if a name, a connection or a link is given twice.
+/// The indices of all names, if nothing is given twice. Adds what is (E20), in the order of the declaration: the names of
+/// block types, what each block type gives twice, then the application, the resources and the links.
+///
+/// # Errors
+///
+/// When memory runs out.
 pub fn catalog_of<'a>(
     alloc: Global,
+    found: &mut Vec<GivenTwice>,
     library: &'a Library,
     plan: &'a Plan,
-) -> Result<Option<Catalog<'a>>, AllocError>
-    ensures { IfOk result (λ o. MatchOption o (NameTwice library.now plan.now) (IsCatalog library.now plan.now)) }
+) -> Result<Catalog<'a>, AllocError>
+    ensures found { IfOk result (λ _. found.new.items ≡ found.old.items ++ twice_all library.now plan.now) }
+    ensures catalog { IfOk result (λ c. ¬ (NameTwice library.now plan.now) → IsCatalog library.now plan.now c) }
 {
     let blocks = library.blocks.as_slice();
-    let declared = both(type_indexes(alloc, blocks), blocks_indexes(alloc, blocks));
-    let located = both(
-        network_indexes(alloc, &library.application.network),
-        resource_indexes(alloc, plan),
-    );
-    let found = both(declared, located)?;
-    match found {
-        Some((declared, located)) => {
-            let (types, blocks) = declared;
-            let (instances, resources) = located;
-            Ok(Some(Catalog {
-                types,
-                blocks,
-                instances,
-                resources,
-            }))
-        }
-        None => Ok(None),
-    }
+    push_event_blocks(found, blocks)?;
+    let types = called_indexes(alloc, found, NameSpace::Types, blocks);
+    let declared = together(types, blocks_indexes(alloc, found, blocks));
+    let network = &library.application.network;
+    let instances = network_indexes(alloc, found, Site::Application, network);
+    let located = together(instances, resource_indexes(alloc, found, plan));
+    let (named, placed) = together(declared, located)?;
+    let (types, blocks) = named;
+    let (instances, resources) = placed;
+    Ok(Catalog {
+        types,
+        blocks,
+        instances,
+        resources,
+    })
 }

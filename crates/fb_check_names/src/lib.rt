@@ -1,36 +1,43 @@
 //! Names: their indices in a declaration and a deployment, and the numbers of their meaning. This finds names that
-//! are given twice (E20), and names of networks and deployments that are unknown (E21).
+//! are given twice (E20).
 //!
-//! Guarantees to callers: `catalog::catalog_of` returns the index of every name, or `None` exactly if E20 applies.
-//! `resolution::resolve` returns types, ports, instances, resources and links by their indices, or `None` exactly if such
-//! nothing of the required kind has a name.
+//! Guarantees to callers: `catalog::catalog_of` lists all that is given twice, in the order of the declaration; the list is
+//! empty exactly if E20 does not apply, and then it returns the index of every name.
 //!
-//! Read in this order: `both`; `named` and `placing`, the names of one list; `spaces`, those of a type, a network or a
-//! deployment; `repeats`; `catalog`. Then `numbers`, the results; `types`, `ports` and `ends`; `networks`, `blocks` and
-//! `deployment`; `resolution`.
+//! Locations at which a number applies count what is meant by its indices in the lists of a declaration.
+//!
+//! Read in this order: `location` and `twice`, locations; `listed` and `pairs`, lists of them; `together`; `placing` and `named`, the names of one list; `repeats`, what a list gives twice; `spaces`,
+//! the names of a type, a network or a deployment; `catalog` and `laws`. Then `numbers`, the numbers of types, ports,
+//! instances, resources and links; `types` and `ports`, the meaning of names by their indices.
 #![tactic(auto)]
 
-mod blocks;
-mod both;
 pub mod catalog;
-mod deployment;
-mod ends;
+pub mod laws;
+pub mod listed;
+pub mod location;
 pub mod named;
-mod networks;
 pub mod numbers;
+pub mod pairs;
 pub mod placing;
 pub mod ports;
 pub mod repeats;
-pub mod resolution;
 mod spaces;
-mod types;
+mod together;
+pub mod twice;
+pub mod types;
 
 pub use catalog::{BlockIndexes, Catalog, catalog_of};
+pub use listed::push_unless;
+pub use location::{
+    ActionPart, Descent, Direction, FlowKind, Joined, Misfit, Misjoin, Side, Site, StatementPart,
+    TransitionPart, UnknownName, Unlinked, Unmapped, Variables,
+};
 pub use named::{Named, indexes, push_names};
 pub use numbers::{
     ConnectionEnd, LinkEnds, NetworkNumbers, NumberedConnection, Resolved, TypeNumber,
 };
-pub use placing::{Indexes, index_of, indexes_of};
+pub use pairs::{Repeat, push_pair};
+pub use placing::{Indexes, index_of, indexes_of, last_places};
 pub use ports::PortKind;
-pub use repeats::{EndNames, end_names};
-pub use resolution::resolve;
+pub use repeats::{EndNames, NameSpace, end_names};
+pub use twice::{GivenTwice, InBlock, InNetwork};

@@ -1,9 +1,12 @@
 //! Names by their indices.
 
-ghost use Rattle.std.specs.Prelude.{◌≡◌, IfOk, MatchOption};
-ghost use Rattle.fb_check_names.specs.Indexes.{IsIndex, names_in, index_in};
+ghost use Rattle.std.specs.Prelude.{◌≡◌, ◌++◌, IfOk, MatchOption};
+ghost use Rattle.fb_types.specs.Names.{same_name};
 ghost use Rattle.fb_types.specs.Repeated.{Twice};
+ghost use Rattle.fb_check_names.specs.Repeats.{repeats};
+ghost use Rattle.fb_check_names.specs.Indexes.{ArePlaces, IsIndex, names_in, index_in};
 
+use crate::pairs::{Repeat, push_pair};
 use fb_types::Name;
 use std::alloc::{AllocError, Global};
 use std::collections::BTreeMap;
@@ -11,17 +14,34 @@ use std::collections::BTreeMap;
 /// The index of each name of a list, from 0.
 pub type Indexes<'a> = BTreeMap<&'a [u8], usize, Global>;
 
+/// The last place of each name in a list. Each name that is in the list before is added, with the index of the nearest such
+/// name.
+pub fn last_places<'a>(
+    alloc: Global,
+    again: &mut Vec<Repeat>,
+    names: &[&'a Name],
+) -> Result<Indexes<'a>, AllocError>
+    ensures again { IfOk result (λ _. again.new.items ≡ again.old.items ++ repeats same_name (names_in names.now)) }
+    ensures places { IfOk result (ArePlaces (names_in names.now)) }
+{
+    let mut places = BTreeMap::new(alloc);
+    for (second, name) in names.iter().enumerate() {
+        let first = places.insert(name.as_bytes(), second)?;
+        push_pair(again, first, second)?;
+    }
+    Ok(places)
+}
+
 /// The indices of names, or `None` if a name is given twice.
 pub fn indexes_of<'a>(alloc: Global, names: &[&'a Name]) -> Result<Option<Indexes<'a>>, AllocError>
     ensures { IfOk result (λ o. MatchOption o (Twice (names_in names.now)) (IsIndex (names_in names.now))) }
 {
-    let mut indexes = BTreeMap::new(alloc);
-    for (index, name) in names.iter().enumerate() {
-        if indexes.insert(name.as_bytes(), index)?.is_some() {
-            return Ok(None);
-        }
+    let mut again = Vec::new(alloc);
+    let places = last_places(alloc, &mut again, names)?;
+    if !again.is_empty() {
+        return Ok(None);
     }
-    Ok(Some(indexes))
+    Ok(Some(places))
 }
 
 /// The index of a name, if the list has it.

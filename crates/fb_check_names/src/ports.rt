@@ -59,12 +59,7 @@ fn within(index: Option<usize>, count: usize) -> Option<usize>
 }
 
 /// The index of a port among those of its kind, from the indices of all names of the type.
-pub(crate) fn index_in(
-    ports: &Ports,
-    indexes: &Indexes,
-    port_kind: PortKind,
-    name: &Name,
-) -> Option<usize>
+pub fn index_in(ports: &Ports, indexes: &Indexes, port_kind: PortKind, name: &Name) -> Option<usize>
     requires { AreIndexesOf ports.now indexes.now }
     ensures { result ≡ spec.index_of (names_of_kind port_kind ports.now) name.now }
 {

@@ -1,53 +1,96 @@
-//! Names, connections and links that are given twice.
+//! What lists of names, connections and links give twice.
 
-ghost use Rattle.std.specs.Prelude.{◌≡◌, ◌↔◌, [], map, Contains, IfOk, IsTrue};
+ghost use Rattle.std.specs.Prelude.{◌≡◌, ◌++◌, [], map, IfOk};
+ghost use Rattle.fb_types.specs.Flat.{port_in};
+ghost use Rattle.fb_types.specs.Repeated.{event_pairs};
+ghost use Rattle.fb_check_names.specs.Repeats.{repeats};
 ghost use Rattle.fb_check_names.specs.Ends.{end_port, link_ends};
-ghost use Rattle.fb_types.specs.Flat.{pairs_in, port_in};
-ghost use Rattle.fb_types.specs.Repeated.{Twice};
-ghost use Rattle.fb_types.specs.declared.library.EventPort.{EventPort};
-ghost use Rattle.fb_types.specs.declared.library.Instance.{Instance};
+ghost use Rattle.fb_check_names.specs.Pairs.{ends_of, key_ports, link_names, same_ends, same_sides};
+ghost use Rattle.fb_check_names.specs.TwiceLists.{given_in, given_in_network, given_with, twice_by};
+ghost use Rattle.fb_check_names.specs.declared.repeats.NameSpace.TheVariants as space;
 
-use crate::named::{Named, indexes};
-use fb_types::{Connection, EventPort, Instance, Link, Name, PortName};
+use crate::location::{Direction, Site};
+use crate::pairs::{Repeat, push_pair};
+use crate::twice::{GivenTwice, InBlock, InNetwork};
+use fb_types::{Connection, Link, Network, PortName};
 use std::alloc::{AllocError, Global};
-use std::collections::BTreeSet;
+use std::collections::BTreeMap;
 
-/// Whether a name is given twice.
-fn has_name_twice<T: Named>(alloc: Global, items: &[T]) -> Result<bool, AllocError>
-    ensures { IfOk result (λ b. IsTrue b ↔ Twice (map T.called items.now)) }
-{
-    Ok(indexes(alloc, items)?.is_none())
+/// A list in which nothing may be given twice.
+#[derive(Clone, Copy)]
+pub enum NameSpace {
+    /// The block types.
+    Types,
+    /// The event inputs, event outputs, inputs, outputs and internal variables of the block type at this index.
+    Ports(usize),
+    /// The WITH list of an event of the block type, by the direction of the event and its index.
+    With(usize, Direction, usize),
+    /// The states of the block type.
+    States(usize),
+    /// The algorithms of the block type.
+    Algorithms(usize),
+    /// The instances of a network.
+    Instances(Site),
+    /// The parameters of the instance at this index of a network.
+    Parameters(Site, usize),
+    /// The event connections of a network.
+    Connections(Site),
+    /// The resources.
+    Resources,
+    /// The links.
+    Links,
 }
 
-/// Whether a list of names has one twice.
-fn is_listed_twice(alloc: Global, names: &[Name]) -> Result<bool, AllocError>
-    ensures { IfOk result (λ b. IsTrue b ↔ Twice names.now) }
+fn given_in_network(site: Site, found: InNetwork) -> GivenTwice
+    ensures { result ≡ given_in_network site found }
 {
-    has_name_twice(alloc, names)
-}
-
-/// Whether an event has a variable twice in its WITH list.
-pub(crate) fn has_with_twice(alloc: Global, events: &[EventPort]) -> Result<bool, AllocError>
-    ensures { IfOk result (λ b. IsTrue b ↔ ((e : EventPort) × Contains events.now e × Twice e.with)) }
-{
-    for event in events {
-        if is_listed_twice(alloc, event.with.as_slice())? {
-            return Ok(true);
-        }
+    match site {
+        Site::Application => GivenTwice::Application(found),
+        Site::Inside(block) => GivenTwice::Block(block, InBlock::Inside(found)),
     }
-    Ok(false)
 }
 
-/// Whether an instance gives a parameter twice.
-pub(crate) fn has_parameter_twice(alloc: Global, instances: &[Instance]) -> Result<bool, AllocError>
-    ensures { IfOk result (λ b. IsTrue b ↔ ((i : Instance) × Contains instances.now i × Twice (map (λ x. x.name) i.parameters))) }
+fn given_with(block: usize, direction: Direction, event: usize, pair: Repeat) -> GivenTwice
+    ensures { result ≡ given_with block direction event pair }
 {
-    for instance in instances {
-        if has_name_twice(alloc, instance.parameters.as_slice())? {
-            return Ok(true);
-        }
+    match direction {
+        Direction::Input => GivenTwice::Block(block, InBlock::WithInput(event, pair)),
+        Direction::Output => GivenTwice::Block(block, InBlock::WithOutput(event, pair)),
     }
-    Ok(false)
+}
+
+/// What a pair of a name space gives twice.
+fn given_in(name_space: NameSpace, pair: Repeat) -> GivenTwice
+    ensures { result ≡ given_in name_space pair }
+{
+    match name_space {
+        NameSpace::Types => GivenTwice::Type(pair),
+        NameSpace::Ports(block) => GivenTwice::Block(block, InBlock::Port(pair)),
+        NameSpace::With(block, direction, event) => given_with(block, direction, event, pair),
+        NameSpace::States(block) => GivenTwice::Block(block, InBlock::State(pair)),
+        NameSpace::Algorithms(block) => GivenTwice::Block(block, InBlock::Algorithm(pair)),
+        NameSpace::Instances(site) => given_in_network(site, InNetwork::Instance(pair)),
+        NameSpace::Parameters(site, instance) => {
+            given_in_network(site, InNetwork::Parameter(instance, pair))
+        }
+        NameSpace::Connections(site) => given_in_network(site, InNetwork::Connection(pair)),
+        NameSpace::Resources => GivenTwice::Resource(pair),
+        NameSpace::Links => GivenTwice::Link(pair),
+    }
+}
+
+/// Adds what the pairs of a name space give twice.
+pub(crate) fn push_pairs(
+    found: &mut Vec<GivenTwice>,
+    name_space: NameSpace,
+    pairs: &[Repeat],
+) -> Result<(), AllocError>
+    ensures { IfOk result (λ _. found.new.items ≡ found.old.items ++ map (given_in name_space) pairs.now) }
+{
+    for pair in pairs {
+        found.push(given_in(name_space, *pair))?;
+    }
+    Ok(())
 }
 
 /// The names at an end of a connection: the component, if there is one, and the port.
@@ -67,33 +110,71 @@ pub fn end_names(port: &PortName) -> EndNames<'_>
 /// its end.
 type ConnectionNames<'a> = (Option<&'a [u8]>, &'a [u8], Option<&'a [u8]>, &'a [u8]);
 
-/// Whether a connection is given twice.
-pub(crate) fn has_connection_twice(
-    alloc: Global,
-    connections: &[Connection],
-) -> Result<bool, AllocError>
-    ensures { IfOk result (λ b. IsTrue b ↔ Twice (pairs_in [] connections.now)) }
+/// The names at both ends of a connection.
+fn names_of(connection: &Connection) -> ConnectionNames<'_>
+    ensures { key_ports result ≡ ends_of connection.now }
 {
-    let mut seen: BTreeSet<ConnectionNames, Global> = BTreeSet::new(alloc);
-    for connection in connections {
-        let from = end_names(&connection.from);
-        let to = end_names(&connection.to);
-        if !seen.insert((from.0, from.1, to.0, to.1))? {
-            return Ok(true);
-        }
-    }
-    Ok(false)
+    let (first_component, first_port) = end_names(&connection.from);
+    let (component, port) = end_names(&connection.to);
+    (first_component, first_port, component, port)
 }
 
-/// Whether two links go from one resource to one resource.
-pub(crate) fn has_link_twice(alloc: Global, links: &[Link]) -> Result<bool, AllocError>
-    ensures { IfOk result (λ b. IsTrue b ↔ Twice (map link_ends links.now)) }
+/// Each connection that joins the same ports as one before, with the index of the nearest such connection.
+fn connection_pairs(alloc: Global, connections: &[Connection]) -> Result<Vec<Repeat>, AllocError>
+    ensures { IfOk result (λ pairs. pairs.items ≡ repeats same_ends (map ends_of connections.now)) }
 {
-    let mut seen: BTreeSet<(&[u8], &[u8]), Global> = BTreeSet::new(alloc);
-    for link in links {
-        if !seen.insert((link.from.as_bytes(), link.to.as_bytes()))? {
-            return Ok(true);
-        }
+    let mut seen = BTreeMap::new(alloc);
+    let mut pairs = Vec::new(alloc);
+    for (second, connection) in connections.iter().enumerate() {
+        let first = seen.insert(names_of(connection), second)?;
+        push_pair(&mut pairs, first, second)?;
     }
-    Ok(false)
+    Ok(pairs)
+}
+
+/// Adds the event connections that a network gives twice.
+pub(crate) fn push_connections(
+    alloc: Global,
+    found: &mut Vec<GivenTwice>,
+    site: Site,
+    network: &Network,
+) -> Result<(), AllocError>
+    ensures { IfOk result (λ _. found.new.items ≡ found.old.items ++ twice_by (space.Connections site) same_ends (event_pairs network.now)) }
+{
+    let pairs = connection_pairs(alloc, network.event_connections.as_slice())?;
+    push_pairs(found, NameSpace::Connections(site), pairs.as_slice())
+}
+
+/// The names of the resources that a link joins.
+type LinkNames<'a> = (&'a [u8], &'a [u8]);
+
+fn link_names(link: &Link) -> LinkNames<'_>
+    ensures { link_names result ≡ link_ends link.now }
+{
+    (link.from.as_bytes(), link.to.as_bytes())
+}
+
+/// Each link that goes from and to the same resources as one before, with the index of the nearest such link.
+fn link_pairs(alloc: Global, links: &[Link]) -> Result<Vec<Repeat>, AllocError>
+    ensures { IfOk result (λ pairs. pairs.items ≡ repeats same_sides (map link_ends links.now)) }
+{
+    let mut seen = BTreeMap::new(alloc);
+    let mut pairs = Vec::new(alloc);
+    for (second, link) in links.iter().enumerate() {
+        let first = seen.insert(link_names(link), second)?;
+        push_pair(&mut pairs, first, second)?;
+    }
+    Ok(pairs)
+}
+
+/// Adds the links that are given twice.
+pub(crate) fn push_links(
+    alloc: Global,
+    found: &mut Vec<GivenTwice>,
+    links: &[Link],
+) -> Result<(), AllocError>
+    ensures { IfOk result (λ _. found.new.items ≡ found.old.items ++ twice_by space.Links same_sides (map link_ends links.now)) }
+{
+    let pairs = link_pairs(alloc, links)?;
+    push_pairs(found, NameSpace::Links, pairs.as_slice())
 }

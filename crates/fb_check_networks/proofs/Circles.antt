@@ -17,10 +17,10 @@ use Rattle.fb_check_names.specs.declared.numbers.NetworkNumbers.{NetworkNumbers}
 use Rattle.fb_check_names.specs.declared.numbers.Resolved.{Resolved}
 use Rattle.fb_check_names.specs.Numbers.{IsNetwork, IsResolved, kind_of_number, type_number}
 use Rattle.fb_check_names.proofs.Each.{each_from}
-use Rattle.fb_findings.specs.declared.location.Descent.{Descent}
-use Rattle.fb_findings.specs.declared.location.Descent.TheVariants.{Circle, Height}
+use Rattle.fb_check_names.specs.declared.location.Descent.{Descent}
+use Rattle.fb_check_names.specs.declared.location.Descent.TheVariants.{Circle, Height}
 use Rattle.fb_check_networks.specs.Applies.{HeightApplies}
-use Rattle.fb_check_networks.specs.Heights.{HoldsNone, IsDescent, IsHeld, IsHolder, IsPart, IsRound, IsTooHighAt, LeadsBack, LeadsTo, Steps, below, declared_index, is_marked, marked_in, marks_after, type_inside}
+use Rattle.fb_check_networks.specs.Heights.{HoldsNone, IsDescent, IsHeld, IsPart, IsTooHighAt, LeadsBack, LeadsTo, Steps, below, declared_index, is_marked, marked_in, marks_after, type_inside}
 use Rattle.fb_check_networks.proofs.Lists.{past_both}
 use Rattle.fb_check_networks.proofs.Looking.{position_at}
 use Rattle.fb_check_networks.proofs.Marked.{AreMarks, leads_from_marked, marks_right, none_high}

@@ -1,35 +1,14 @@
 -- Elements of lists, one element at a time.
-use Rattle.std.proofs.Common.{◌≡◌, ℕ, ◌<◌, ◌≤◌, ◌+◌, Bool, true, false, cond, ◌||◌, List, [], ◌∷◌, ◌++◌, length, map, take, get_or, Contains, refl, sym, ◌∙◌, ap, subst, inl, inr}
+use Rattle.std.proofs.Common.{◌≡◌, ℕ, ◌<◌, ◌≤◌, ◌+◌, Bool, true, false, cond, ◌||◌, List, [], ◌∷◌, ◌++◌, map, Contains, refl, sym, ◌∙◌, ap, subst, inl, inr}
 use Rattle.std.specs.List.{filter, list_any}
 use Rattle.std.specs.Bool.{Decides}
 use Rattle.std.proofs.lemmas.Bool.{true≢false}
-use Rattle.std.proofs.lemmas.List.{take_more, take_all}
-use Rattle.std.proofs.lemmas.List.Elements.{Contains-push_cases, Contains-get_or}
 use Rattle.fb_types.proofs.Elements.{Contains-nil, Contains-cons_cases, Contains-here, Contains-there}
 
 -- ---- Some element of a list
 
 abbrev pub Exists : {A : Type 0} → (A → Type 0) → List A → Type 0
 Exists {A} P xs = (x : A) × Contains xs x × P x
-
-pub exists_at : {A : Type 0} (P : A → Type 0) (xs : List A) (i : ℕ) (x : A) → i < length xs → x ≡ get_or xs i x → P x → Exists P xs
-exists_at {A} P xs i x h e p = (x, subst (λ (y : A). Contains xs y) (sym e) (Contains-get_or xs i x h), p)
-
-pub exists_more :
-    {A : Type 0} (P : A → Type 0) (xs : List A) (i : ℕ) (x : A) → i < length xs → x ≡ get_or xs i x → ¬ (Exists P (take i xs)) → ¬ (P x)
-    → ¬ (Exists P (take (i + 1) xs))
-exists_more {A} P xs i x h e none not t =
-    let grown : take (i + 1) xs ≡ take i xs ++ x ∷ [] = take_more xs i x h ∙ ap (λ (y : A). take i xs ++ y ∷ []) (sym e) in
-    elim (Contains-push_cases (take i xs) x t.0 (subst (λ (ys : List A). Contains ys t.0) grown t.1)) [
-      | inl old ↦ none (t.0, old, t.2)
-      | inr same ↦ not (subst P (sym same) t.2)
-    ]
-
-pub exists_none : {A : Type 0} (P : A → Type 0) → ¬ (Exists P [])
-exists_none P t = Contains-nil t.0 t.1
-
-pub exists_all : {A : Type 0} (P : A → Type 0) (xs : List A) (i : ℕ) → length xs ≤ i → ¬ (Exists P (take i xs)) → ¬ (Exists P xs)
-exists_all {A} P xs i h none = subst (λ (ys : List A). ¬ (Exists P ys)) (take_all i xs h) none
 
 -- ---- Tests of elements
 

@@ -33,13 +33,13 @@ use Rattle.fb_types.proofs.Options.{and_then_parts, map_parts}
 use Rattle.fb_check_names.proofs.Each as numbered
 use Rattle.fb_types.proofs.ByIndex.{element_of_index}
 use Rattle.fb_types.proofs.ListTests.{passes_at}
-use Rattle.fb_findings.specs.Listed.{each_at, unless}
-use Rattle.fb_findings.specs.Sites.{inside_of, network_at}
-use Rattle.fb_findings.specs.declared.location.Misjoin.{Misjoin}
-use Rattle.fb_findings.specs.declared.location.Site.{Site}
-use Rattle.fb_findings.specs.declared.location.Site.TheVariants.{Application, Inside}
-use Rattle.fb_findings.proofs.Listing.{alike, all_each, all_unless, none_each, none_unless}
-use Rattle.fb_findings.proofs.Networks.{all_in_networks, none_in_networks, site_network}
+use Rattle.fb_check_names.specs.Listed.{each_at, unless}
+use Rattle.fb_check_names.specs.Sites.{inside_of, network_at}
+use Rattle.fb_check_names.specs.declared.location.Misjoin.{Misjoin}
+use Rattle.fb_check_names.specs.declared.location.Site.{Site}
+use Rattle.fb_check_names.specs.declared.location.Site.TheVariants.{Application, Inside}
+use Rattle.fb_check_names.proofs.Listing.{alike, all_each, all_unless, none_each, none_unless}
+use Rattle.fb_check_names.proofs.InNetworks.{all_in_networks, none_in_networks, site_network}
 use Rattle.fb_check_networks.specs.Networks.{boundary}
 use Rattle.fb_check_networks.specs.Joins.{is_out}
 use Rattle.fb_check_networks.specs.Misjoins.{IsMisjoinedAt, is_joined, misjoin_at, misjoins_all, misjoins_in, out_at, out_at_index, out_in, out_inside}

@@ -1,5 +1,5 @@
 -- Instances of the application that are mapped, and names that are mapped twice.
-use Rattle.std.proofs.Common.{◌≡◌, ℕ, true, false, cond, List, [], ◌∷◌, ◌++◌, map, None, Contains, refl, sym, ◌∙◌, ap, subst, inl, inr}
+use Rattle.std.proofs.Common.{◌≡◌, ℕ, true, false, cond, List, [], ◌∷◌, ◌++◌, map, None, Contains, sym, ◌∙◌, ap, subst, inl, inr}
 use Rattle.std.specs.Prelude.{All, position, flat_map, unwrap_or}
 use Rattle.std.specs.List.{list_all}
 use Rattle.std.proofs.lemmas.Bool.{true≢false}
@@ -18,14 +18,15 @@ use Rattle.fb_types.specs.declared.deploy.ResourceEntry.{ResourceEntry}
 use Rattle.fb_types.proofs.ByIndex.{element_of_index}
 use Rattle.fb_types.proofs.NameLaws.{contains_from_any, any_from_contains, same_name-Decides}
 use Rattle.fb_types.proofs.Elements.{Contains-here, Contains-map}
-use Rattle.fb_findings.specs.Listed.{each_at}
-use Rattle.fb_findings.specs.Repeats.{IsPair, repeats}
-use Rattle.fb_findings.specs.declared.location.Unmapped.{Unmapped}
-use Rattle.fb_findings.specs.declared.location.Unmapped.TheVariants.{Again, Unlisted}
-use Rattle.fb_findings.proofs.Listing.{all_each, all_unless, none_each, none_left, none_right, none_said, none_unless}
-use Rattle.fb_findings.proofs.Repeating.{each_pair, none_mapped, once_of, pair_twice}
+use Rattle.fb_check_names.specs.Listed.{each_at}
+use Rattle.fb_check_names.specs.Repeats.{IsPair, repeats}
+use Rattle.fb_check_names.specs.declared.location.Unmapped.{Unmapped}
+use Rattle.fb_check_names.specs.declared.location.Unmapped.TheVariants.{Again, Unlisted}
+use Rattle.fb_check_names.proofs.Listing.{all_each, all_unless, none_each, none_left, none_right, none_said, none_unless}
+use Rattle.fb_check_names.proofs.Repeating.{each_pair, none_mapped, once_of, pair_twice}
 use Rattle.fb_check_networks.specs.Applies.{UnmappedApplies}
-use Rattle.fb_check_networks.specs.Mapping.{ArePlaces, IsMapping, owned, owners_in}
+use Rattle.fb_check_names.specs.Indexes.{ArePlaces}
+use Rattle.fb_check_networks.specs.Mapping.{IsMapping, owned, owners_in}
 use Rattle.fb_check_networks.specs.Unmapped.{IsUnmappedAmong, IsUnmappedAt, unlisted_at, unmapped_all, unmapped_among}
 use Rattle.fb_check_networks.specs.declared.mapping.Listed.{Listed}
 use Rattle.fb_check_networks.specs.declared.mapping.Mapping.TheVariants as mapping

@@ -1,5 +1,5 @@
 -- The resources that list names, by the places of the names in all lists.
-use Rattle.std.proofs.Common.{◌≡◌, ◌||◌, ℕ, zero, suc, ◌+◌, Bool, true, false, cond, List, [], ◌∷◌, ◌++◌, append_assoc, length, map, Option, Some, None, Contains, Bor, refl, sym, ◌∙◌, ap, subst, arith}
+use Rattle.std.proofs.Common.{◌≡◌, ◌||◌, ℕ, zero, suc, ◌+◌, Bool, true, false, cond, List, [], ◌∷◌, ◌++◌, length, map, Option, Some, None, Bor, refl, sym, ◌∙◌, ap, arith}
 use Rattle.std.specs.Prelude.{flat_map, is_some, option_map, position, slice_get}
 use Rattle.std.specs.List.{list_any}
 use Rattle.std.specs.BTreeMap as tree
@@ -15,12 +15,13 @@ use Rattle.fb_types.proofs.Positions.{position-cons}
 use Rattle.fb_types.proofs.TwiceLaws.{Twice-append_right, Twice-both}
 use Rattle.fb_check_names.specs.Indexes.{index_in}
 use Rattle.fb_check_names.proofs.Seen.{name_cmp}
-use Rattle.fb_findings.specs.Listed.{each_at, each_from, unless}
-use Rattle.fb_findings.specs.Repeats.{further, last_place, later}
-use Rattle.fb_findings.specs.declared.location.Unmapped.TheVariants.{Unlisted}
-use Rattle.fb_findings.proofs.Listing.{alike}
-use Rattle.fb_findings.proofs.Repeating.{place_of}
-use Rattle.fb_check_networks.specs.Mapping.{ArePlaces, owned, owners_in, unlisted_by}
+use Rattle.fb_check_names.specs.Listed.{each_at, each_from, unless}
+use Rattle.fb_check_names.specs.Repeats.{further, last_place, later}
+use Rattle.fb_check_names.specs.declared.location.Unmapped.TheVariants.{Unlisted}
+use Rattle.fb_check_names.proofs.Listing.{alike}
+use Rattle.fb_check_names.proofs.Repeating.{place_of}
+use Rattle.fb_check_names.specs.Indexes.{ArePlaces}
+use Rattle.fb_check_networks.specs.Mapping.{owned, owners_in, unlisted_by}
 use Rattle.fb_check_networks.specs.Unmapped.{unlisted_at}
 
 -- ---- The last place

@@ -1,5 +1,5 @@
 -- E24: ports to which two data connections lead.
-use Rattle.std.proofs.Common.{◌≡◌, ℕ, List, [], ◌∷◌, map, Some, Ordering, refl, sym, ◌∙◌, ap, subst}
+use Rattle.std.proofs.Common.{◌≡◌, ℕ, List, [], ◌∷◌, map, Ordering, refl, sym, ◌∙◌, ap, subst}
 use Rattle.std.specs.Prelude.{All}
 use Rattle.std.specs.Ordering.{is_eq, ordering_then}
 use Rattle.std.specs.declared.cmp.Ordering.TheVariants as order
@@ -13,10 +13,10 @@ use Rattle.fb_types.specs.declared.library.Library.{Library}
 use Rattle.fb_check_names.specs.Ends.{End, end_port}
 use Rattle.fb_check_names.proofs.Seen.{IsExact, pair_cmp-exact}
 use Rattle.fb_check_names.proofs.Seen as seen
-use Rattle.fb_findings.specs.Repeats.{IsPair, repeats}
-use Rattle.fb_findings.specs.declared.location.Joined.{Joined}
-use Rattle.fb_findings.proofs.Networks.{all_in_networks, none_in_networks, site_network}
-use Rattle.fb_findings.proofs.Repeating.{IsSame, agrees, each_pair, none_mapped, once_of, pair_twice, port_Decides}
+use Rattle.fb_check_names.specs.Repeats.{IsPair, repeats}
+use Rattle.fb_check_names.specs.declared.location.Joined.{Joined}
+use Rattle.fb_check_names.proofs.InNetworks.{all_in_networks, none_in_networks, site_network}
+use Rattle.fb_check_names.proofs.Repeating.{IsSame, agrees, each_pair, none_mapped, once_of, pair_twice, port_Decides}
 use Rattle.fb_check_networks.specs.Sources.{IsJoinedAt, joined_all, joined_at, joined_in, target, targets}
 
 -- ---- A table of the ports so far

@@ -21,13 +21,13 @@ use Rattle.fb_types.proofs.Positions.{is_some-position}
 use Rattle.fb_types.proofs.NameLaws.{same_name-Decides, same_from_same_name}
 use Rattle.fb_types.proofs.Options.{none_from_is_some}
 use Rattle.fb_types.proofs.Elements.{Contains-map, map-Contains}
-use Rattle.fb_findings.specs.Listed.{each_at}
-use Rattle.fb_findings.specs.Sites.{connections_of}
-use Rattle.fb_findings.specs.declared.location.FlowKind.{FlowKind}
-use Rattle.fb_findings.specs.declared.location.FlowKind.TheVariants.{Data, Events}
-use Rattle.fb_findings.specs.declared.location.Unlinked.{Unlinked}
-use Rattle.fb_findings.proofs.Listing.{all_each, all_unless, none_each, none_left, none_right, none_unless}
-use Rattle.fb_findings.proofs.Repeating.{same_Decides}
+use Rattle.fb_check_names.specs.Listed.{each_at}
+use Rattle.fb_check_names.specs.Sites.{connections_of}
+use Rattle.fb_check_names.specs.declared.location.FlowKind.{FlowKind}
+use Rattle.fb_check_names.specs.declared.location.FlowKind.TheVariants.{Data, Events}
+use Rattle.fb_check_names.specs.declared.location.Unlinked.{Unlinked}
+use Rattle.fb_check_names.proofs.Listing.{all_each, all_unless, none_each, none_left, none_right, none_unless}
+use Rattle.fb_check_names.proofs.Repeating.{same_Decides}
 use Rattle.fb_check_networks.specs.Mapping.{IsHolding, resource_in, holder_in}
 use Rattle.fb_check_networks.specs.Links.{AreWays, IsUnlinkedAt, are_linked, is_joining, is_linked, names_of_link, pair_of, unlinked_all, unlinked_at}
 use Rattle.fb_check_networks.specs.declared.mapping.Mapping.{Mapping}

@@ -1,6 +1,6 @@
 -- Data connections that no event serves.
 use Rattle.std.proofs.Common.{◌≡◌, ◌≢◌, ◌&&◌, ◌||◌, ℕ, Bool, true, false, List, [], ◌∷◌, Option, Some, None, Contains, Bor, refl, sym, ◌∙◌, ap, subst, inl, inr, arith}
-use Rattle.std.specs.Prelude.{All, is_some, nat_eq, slice_get}
+use Rattle.std.specs.Prelude.{All, is_some, nat_eq}
 use Rattle.std.specs.List.{list_any}
 use Rattle.std.specs.Bool.{Decides}
 use Rattle.std.specs.BTreeSet as set
@@ -23,8 +23,8 @@ use Rattle.fb_types.proofs.NameLaws.{any_from_contains, contains_from_any}
 use Rattle.fb_types.proofs.PathLaws.{same_path_is, same_path_itself}
 use Rattle.fb_check_names.specs.Numbers.{IsNetwork}
 use Rattle.fb_check_names.specs.declared.numbers.NetworkNumbers.{NetworkNumbers}
-use Rattle.fb_findings.proofs.Listing.{all_each, all_unless, none_each, none_unless}
-use Rattle.fb_findings.proofs.Repeating.{same_Decides}
+use Rattle.fb_check_names.proofs.Listing.{all_each, all_unless, none_each, none_unless}
+use Rattle.fb_check_names.proofs.Repeating.{same_Decides}
 use Rattle.fb_check_networks.specs.Mapping.{IsHolding, resource_in}
 use Rattle.fb_check_networks.specs.Links.{pair_of}
 use Rattle.fb_check_networks.specs.Serving.{Lead, lead_cmp, Serves, AreServed, listed_with, withs_of}

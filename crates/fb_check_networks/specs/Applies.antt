@@ -4,11 +4,11 @@ use Rattle.fb_types.specs.Joined.{OutOfRange, TooHigh, TwoSources}
 use Rattle.fb_types.specs.Mapped.{NoEvent, NoLink, NotMapped}
 use Rattle.fb_types.specs.declared.library.Library.{Library}
 use Rattle.fb_types.specs.declared.deploy.Plan.{Plan}
-use Rattle.fb_findings.specs.declared.location.Descent.{Descent}
-use Rattle.fb_findings.specs.declared.location.Joined.{Joined}
-use Rattle.fb_findings.specs.declared.location.Misjoin.{Misjoin}
-use Rattle.fb_findings.specs.declared.location.Unlinked.{Unlinked}
-use Rattle.fb_findings.specs.declared.location.Unmapped.{Unmapped}
+use Rattle.fb_check_names.specs.declared.location.Descent.{Descent}
+use Rattle.fb_check_names.specs.declared.location.Joined.{Joined}
+use Rattle.fb_check_names.specs.declared.location.Misjoin.{Misjoin}
+use Rattle.fb_check_names.specs.declared.location.Unlinked.{Unlinked}
+use Rattle.fb_check_names.specs.declared.location.Unmapped.{Unmapped}
 use Rattle.fb_check_networks.specs.Heights.{IsTooHighAt}
 use Rattle.fb_check_networks.specs.Links.{IsUnlinkedAt}
 use Rattle.fb_check_networks.specs.Misjoins.{IsMisjoinedAt}

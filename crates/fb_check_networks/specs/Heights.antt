@@ -11,8 +11,8 @@ use Rattle.fb_types.specs.declared.library.Library.{Library}
 use Rattle.fb_check_names.specs.declared.numbers.TypeNumber.{TypeNumber}
 use Rattle.fb_check_names.specs.declared.numbers.TypeNumber.TheVariants as number
 use Rattle.fb_check_names.specs.declared.numbers.NetworkNumbers.{NetworkNumbers}
-use Rattle.fb_findings.specs.declared.location.Descent.{Descent}
-use Rattle.fb_findings.specs.declared.location.Descent.TheVariants.{Circle, Height}
+use Rattle.fb_check_names.specs.declared.location.Descent.{Descent}
+use Rattle.fb_check_names.specs.declared.location.Descent.TheVariants.{Circle, Height}
 
 -- ---- Marks, one for each block type
 

@@ -13,11 +13,11 @@ use Rattle.fb_types.specs.declared.library.Connection.{Connection}
 use Rattle.fb_types.specs.declared.library.Library.{Library}
 use Rattle.fb_types.specs.declared.deploy.Plan.{Plan}
 use Rattle.fb_types.specs.declared.deploy.Link.{Link}
-use Rattle.fb_findings.specs.Listed.{each_at, unless}
-use Rattle.fb_findings.specs.Sites.{connections_of}
-use Rattle.fb_findings.specs.declared.location.FlowKind.{FlowKind}
-use Rattle.fb_findings.specs.declared.location.FlowKind.TheVariants.{Data, Events}
-use Rattle.fb_findings.specs.declared.location.Unlinked.{Unlinked}
+use Rattle.fb_check_names.specs.Listed.{each_at, unless}
+use Rattle.fb_check_names.specs.Sites.{connections_of}
+use Rattle.fb_check_names.specs.declared.location.FlowKind.{FlowKind}
+use Rattle.fb_check_names.specs.declared.location.FlowKind.TheVariants.{Data, Events}
+use Rattle.fb_check_names.specs.declared.location.Unlinked.{Unlinked}
 
 -- the ends of a connection of the application
 abbrev pub pair_of : Connection → Port × Port

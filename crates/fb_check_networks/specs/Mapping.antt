@@ -2,7 +2,7 @@
 use Rattle.std.specs.Prelude.{◌≡◌, ℕ, List, Option, Some, None, is_some, map, slice_get, unwrap_or}
 use Rattle.std.specs.BTreeMap.{BTreeMap}
 use Rattle.std.specs.Borrow.{Bor}
-use Rattle.fb_types.specs.Names.{Name, same_name}
+use Rattle.fb_types.specs.Names.{Name}
 use Rattle.fb_types.specs.Flat.{holder}
 use Rattle.fb_types.specs.Mapped.{NotMapped}
 use Rattle.fb_types.specs.declared.library.Instance.{Instance}
@@ -11,19 +11,14 @@ use Rattle.fb_types.specs.declared.library.PortName.{PortName}
 use Rattle.fb_types.specs.declared.deploy.Plan.{Plan}
 use Rattle.fb_types.specs.declared.deploy.ResourceEntry.{ResourceEntry}
 use Rattle.fb_check_names.specs.Indexes.{index_in}
-use Rattle.fb_findings.specs.Listed.{unless}
-use Rattle.fb_findings.specs.Repeats.{last_place}
-use Rattle.fb_findings.specs.declared.location.Unmapped.{Unmapped}
-use Rattle.fb_findings.specs.declared.location.Unmapped.TheVariants.{Unlisted}
+use Rattle.fb_check_names.specs.Listed.{unless}
+use Rattle.fb_check_names.specs.declared.location.Unmapped.{Unmapped}
+use Rattle.fb_check_names.specs.declared.location.Unmapped.TheVariants.{Unlisted}
 use Rattle.fb_check_networks.specs.declared.mapping.Listed.{Listed}
 use Rattle.fb_check_networks.specs.declared.mapping.Mapping.{Mapping}
 use Rattle.fb_check_networks.specs.declared.mapping.Mapping.TheVariants as mapping
 
 -- ---- Names that are listed
-
--- the map has the last place of each name
-abbrev pub ArePlaces : List Name → BTreeMap (Bor Name) ℕ → Type 0
-ArePlaces ns m = (n : Name) → index_in m n ≡ last_place (same_name n) ns
 
 -- the number of a resource, as often as it lists a name
 abbrev pub owners_in : ℕ → ResourceEntry → List ℕ

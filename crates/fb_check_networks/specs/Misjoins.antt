@@ -12,11 +12,11 @@ use Rattle.fb_types.specs.declared.value.Ty.{Ty}
 use Rattle.fb_check_names.specs.declared.numbers.NumberedConnection.{NumberedConnection}
 use Rattle.fb_check_names.specs.declared.numbers.NetworkNumbers.{NetworkNumbers}
 use Rattle.fb_check_names.specs.declared.numbers.TypeNumber.{TypeNumber}
-use Rattle.fb_findings.specs.Listed.{each_at, unless}
-use Rattle.fb_findings.specs.Sites.{in_networks, network_at}
-use Rattle.fb_findings.specs.declared.location.Misjoin.{Misjoin}
-use Rattle.fb_findings.specs.declared.location.Site.{Site}
-use Rattle.fb_findings.specs.declared.location.Site.TheVariants.{Inside}
+use Rattle.fb_check_names.specs.Listed.{each_at, unless}
+use Rattle.fb_check_names.specs.Sites.{in_networks, network_at}
+use Rattle.fb_check_names.specs.declared.location.Misjoin.{Misjoin}
+use Rattle.fb_check_names.specs.declared.location.Site.{Site}
+use Rattle.fb_check_names.specs.declared.location.Site.TheVariants.{Inside}
 use Rattle.fb_check_networks.specs.Joins.{is_out, leads_out}
 
 -- The data connection is there, its ends are of these types, and the one does not contain all values of the other.

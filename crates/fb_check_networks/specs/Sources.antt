@@ -5,10 +5,10 @@ use Rattle.fb_types.specs.Flat.{port_in}
 use Rattle.fb_types.specs.Repeated.{OwnedNetwork}
 use Rattle.fb_types.specs.declared.library.Connection.{Connection}
 use Rattle.fb_types.specs.declared.library.Library.{Library}
-use Rattle.fb_findings.specs.Repeats.{IsPair, repeats}
-use Rattle.fb_findings.specs.Sites.{in_networks, network_at}
-use Rattle.fb_findings.specs.declared.location.Joined.{Joined}
-use Rattle.fb_findings.specs.declared.location.Site.{Site}
+use Rattle.fb_check_names.specs.Repeats.{IsPair, repeats}
+use Rattle.fb_check_names.specs.Sites.{in_networks, network_at}
+use Rattle.fb_check_names.specs.declared.location.Joined.{Joined}
+use Rattle.fb_check_names.specs.declared.location.Site.{Site}
 
 -- the port to which a connection leads
 abbrev pub target : Connection → Port

@@ -6,10 +6,10 @@ use Rattle.fb_types.specs.Mapped.{mapped}
 use Rattle.fb_types.specs.declared.library.Instance.{Instance}
 use Rattle.fb_types.specs.declared.library.Library.{Library}
 use Rattle.fb_types.specs.declared.deploy.Plan.{Plan}
-use Rattle.fb_findings.specs.Listed.{each_at, unless}
-use Rattle.fb_findings.specs.Repeats.{IsPair, repeats}
-use Rattle.fb_findings.specs.declared.location.Unmapped.{Unmapped}
-use Rattle.fb_findings.specs.declared.location.Unmapped.TheVariants.{Unlisted, Again}
+use Rattle.fb_check_names.specs.Listed.{each_at, unless}
+use Rattle.fb_check_names.specs.Repeats.{IsPair, repeats}
+use Rattle.fb_check_names.specs.declared.location.Unmapped.{Unmapped}
+use Rattle.fb_check_names.specs.declared.location.Unmapped.TheVariants.{Unlisted, Again}
 
 -- The instance is at the index, and has none of the names.
 pub record IsUnlisted (ns : List Name) (is : List Instance) (location : ℕ) : Type 0 where

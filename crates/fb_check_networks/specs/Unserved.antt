@@ -9,7 +9,7 @@ use Rattle.fb_types.specs.Mapped.{IsCut, IsServed}
 use Rattle.fb_types.specs.declared.library.Connection.{Connection}
 use Rattle.fb_types.specs.declared.library.Library.{Library}
 use Rattle.fb_types.specs.declared.deploy.Plan.{Plan}
-use Rattle.fb_findings.specs.Listed.{each_at, unless}
+use Rattle.fb_check_names.specs.Listed.{each_at, unless}
 use Rattle.fb_check_networks.specs.Links.{pair_of}
 
 -- whether an output event of the type has the variable WITH it

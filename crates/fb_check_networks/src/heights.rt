@@ -8,8 +8,7 @@ ghost use Rattle.fb_check_names.specs.Numbers.{IsResolved};
 ghost use Rattle.fb_check_networks.specs.Heights as spec;
 ghost use Rattle.fb_check_networks.specs.Heights.{IsTooHighAt};
 
-use fb_check_names::{NetworkNumbers, Resolved, TypeNumber};
-use fb_findings::Descent;
+use fb_check_names::{Descent, NetworkNumbers, Resolved, TypeNumber};
 use std::alloc::{AllocError, Global};
 
 /// The number of steps below a component's type from which its holder is too high. A composite type that contains no

@@ -8,7 +8,7 @@
 //! instances are computed in rounds over types, so no instance is made to refuse a declaration. `values::is_within` says which types contain all values of another.
 //!
 //! Read in this order: `variables` and `values`, types by number; `parameters`, `ranges`, `sources`, `heights`, `counts`.
-//! Then `places` and `mapping` (E26); `links` (E27); `interfaces`, `serving` and `uncarried` (E28); `laws`.
+//! Then `mapping` (E26); `links` (E27); `interfaces`, `serving` and `uncarried` (E28); `laws`.
 #![tactic(auto)]
 
 pub mod counts;
@@ -18,7 +18,6 @@ pub mod laws;
 pub mod links;
 pub mod mapping;
 pub mod parameters;
-pub mod places;
 pub mod ranges;
 mod serving;
 pub mod sources;
@@ -30,8 +29,7 @@ pub use counts::has_too_many_instances;
 pub use heights::too_high_location;
 pub use links::unlinked_locations;
 pub use mapping::{Listed, Mapping, holders_of, mapping_of, resource_of};
-pub use parameters::has_wrong_parameter;
-pub use places::last_places;
+pub use parameters::push_wrong_parameters;
 pub use ranges::misjoin_locations;
 pub use sources::joined_locations;
 pub use uncarried::unserved_locations;

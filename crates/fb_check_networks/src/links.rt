@@ -4,11 +4,11 @@ ghost use Rattle.std.specs.Prelude.{◌≡◌, ◌++◌, [], All, IfOk, OnOk};
 ghost use Rattle.fb_types.specs.Flat.{name_of_resource};
 ghost use Rattle.fb_types.specs.Mapped.{NoLink};
 ghost use Rattle.fb_check_networks.specs.Mapping.{IsMapping, IsHolding};
-ghost use Rattle.fb_findings.specs.Listed.{each_at};
+ghost use Rattle.fb_check_names.specs.Listed.{each_at};
 ghost use Rattle.fb_check_networks.specs.Links.{AreWays, IsUnlinkedAt, is_linked, unlinked_all, unlinked_at};
 
 use crate::mapping::{Mapping, resource_of};
-use fb_findings::{FlowKind, Unlinked, push_unless};
+use fb_check_names::{FlowKind, Unlinked, push_unless};
 use fb_types::{Connection, Library, Link, Plan};
 use std::alloc::{AllocError, Global};
 use std::collections::BTreeSet;

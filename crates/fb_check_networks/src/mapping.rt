@@ -2,15 +2,13 @@
 
 ghost use Rattle.std.specs.Prelude.{◌≡◌, ◌++◌, [], IfOk, flat_map, map, true};
 ghost use Rattle.fb_types.specs.Repeated.{NameTwice};
-ghost use Rattle.fb_check_names.specs.Indexes.{names_in};
-ghost use Rattle.fb_findings.specs.Listed.{each_at};
-ghost use Rattle.fb_findings.specs.declared.location.Unmapped.TheVariants.{Again};
-ghost use Rattle.fb_check_networks.specs.Mapping.{ArePlaces, IsMapping, holder_in, owner_of, owners_in, resource_in, unlisted_by};
+ghost use Rattle.fb_check_names.specs.Indexes.{ArePlaces, names_in};
+ghost use Rattle.fb_check_names.specs.Listed.{each_at};
+ghost use Rattle.fb_check_names.specs.declared.location.Unmapped.TheVariants.{Again};
+ghost use Rattle.fb_check_networks.specs.Mapping.{IsMapping, holder_in, owner_of, owners_in, resource_in, unlisted_by};
 ghost use Rattle.fb_check_networks.specs.Unmapped.{unmapped_all, unmapped_among};
 
-use crate::places::last_places;
-use fb_check_names::{Indexes, index_of, push_names};
-use fb_findings::{Repeat, Unmapped, push_unless};
+use fb_check_names::{Indexes, Repeat, Unmapped, index_of, last_places, push_names, push_unless};
 use fb_types::{Instance, Items, Library, Name, Plan, PortName, ResourceEntry};
 use std::alloc::{AllocError, Global};
 

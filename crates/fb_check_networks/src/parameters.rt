@@ -1,95 +1,81 @@
 //! E22: parameters that are not values of their inputs' types.
 
-ghost use Rattle.std.specs.Prelude.{◌≡◌, ◌↔◌, IsTrue};
-ghost use Rattle.fb_types.specs.declared.deploy.Plan.{Plan};
-ghost use Rattle.fb_check_names.specs.Numbers.{IsResolved};
-ghost use Rattle.fb_check_networks.specs.Networks.{inside_passes, some_inside_passes};
+ghost use Rattle.std.specs.Prelude.{◌≡◌, ◌++◌, IfOk, Some, not};
+ghost use Rattle.fb_types.specs.Repeated.{OwnedNetwork};
+ghost use Rattle.fb_check_names.specs.Numbers.{IsNetwork, parameter_numbers, type_number};
 ghost use Rattle.fb_check_networks.specs.Parameters as spec;
+ghost use Rattle.fb_check_networks.specs.Parameters.{misfit_parameters, misfits_in_network};
 
 use crate::variables::input_type;
-use fb_check_names::{NetworkNumbers, Resolved, TypeNumber};
-use fb_types::{BlockType, Instance, Library, Network, Parameter};
+use fb_check_names::{Misfit, NetworkNumbers, Site, TypeNumber, push_unless};
+use fb_types::{Instance, Library, Network, Parameter};
+use std::alloc::AllocError;
 
-/// Whether a parameter is not a value of the type of the input that it sets.
-fn is_wrong(library: &Library, number: TypeNumber, parameter: &Parameter, input: usize) -> bool
-    ensures { result ≡ spec.is_wrong library.now number parameter.now input }
+/// Whether a parameter is a value of the type of the input that it sets.
+fn is_right(library: &Library, number: TypeNumber, parameter: &Parameter, input: usize) -> bool
+    ensures { result ≡ not (spec.is_wrong library.now number parameter.now input) }
 {
     match input_type(library, number, input) {
-        Some(ty) => !ty.holds(parameter.value),
-        None => false,
+        Some(ty) => ty.holds(parameter.value),
+        None => true,
     }
 }
 
-/// Whether an instance has such a parameter.
-fn has_wrong(library: &Library, instance: &Instance, number: TypeNumber, inputs: &[usize]) -> bool
-    ensures { result ≡ spec.has_wrong library.now instance.now number inputs.now }
+/// Adds the parameters of an instance that are not, by the number of its type and the inputs that they set.
+fn push_parameters(
+    found: &mut Vec<Misfit>,
+    library: &Library,
+    site: Site,
+    instance: usize,
+    declared: &Instance,
+    number: TypeNumber,
+    inputs: &[usize],
+) -> Result<(), AllocError>
+    requires number { type_number library.now declared.now.block_type ≡ Some number }
+    requires inputs { parameter_numbers library.now declared.now ≡ Some inputs.now }
+    ensures { IfOk result (λ _. found.new.items ≡ found.old.items ++ misfit_parameters library.now site instance declared.now) }
 {
-    let parameters = instance.parameters.as_slice();
-    for (index, parameter) in parameters.iter().enumerate() {
-        let Some(input) = inputs.get(index) else {
-            return false;
+    let parameters = declared.parameters.as_slice();
+    for (parameter, set) in parameters.iter().enumerate() {
+        let Some(input) = inputs.get(parameter) else {
+            return Ok(());
         };
-        if is_wrong(library, number, parameter, *input) {
-            return true;
-        }
+        let location = Misfit::Parameter {
+            site,
+            instance,
+            parameter,
+        };
+        push_unless(found, is_right(library, number, set, *input), location)?;
     }
-    false
+    Ok(())
 }
 
-/// Whether an instance of a network has such a parameter.
-fn has_wrong_in(library: &Library, network: &Network, numbers: &NetworkNumbers) -> bool
-    ensures { result ≡ spec.has_wrong_in library.now network.now numbers.now }
+/// Adds the parameters of the instances of a network that are not values of their inputs' types. The numbers are those of the
+/// network.
+///
+/// # Errors
+///
+/// When memory runs out.
+pub fn push_wrong_parameters(
+    found: &mut Vec<Misfit>,
+    library: &Library,
+    site: Site,
+    network: &Network,
+    numbers: &NetworkNumbers,
+) -> Result<(), AllocError>
+    requires { (n : OwnedNetwork) × (n.1 ≡ network.now) × IsNetwork library.now n numbers.now }
+    ensures { IfOk result (λ _. found.new.items ≡ found.old.items ++ misfits_in_network library.now site network.now.instances) }
 {
     let instances = network.instances.as_slice();
-    for (index, instance) in instances.iter().enumerate() {
-        let Some(number) = numbers.types.get(index) else {
-            return false;
+    for (instance, declared) in instances.iter().enumerate() {
+        let Some(number) = numbers.types.get(instance) else {
+            return Ok(());
         };
-        let Some(inputs) = numbers.parameters.get(index) else {
-            return false;
+        let Some(inputs) = numbers.parameters.get(instance) else {
+            return Ok(());
         };
-        if has_wrong(library, instance, *number, inputs.as_slice()) {
-            return true;
-        }
+        let inputs = inputs.as_slice();
+        push_parameters(found, library, site, instance, declared, *number, inputs)?;
     }
-    false
-}
-
-/// Whether an instance inside a block type has such a parameter.
-fn has_wrong_inside(library: &Library, block: &BlockType, numbers: &Option<NetworkNumbers>) -> bool
-    ensures { result ≡ inside_passes (λ n x. spec.has_wrong_in library.now n.1 x) block.now numbers.now }
-{
-    match (block, numbers) {
-        (BlockType::Composite(composite), Some(numbers)) => has_wrong_in(
-            library,
-            &composite.network,
-            numbers,
-        ),
-        _ => false,
-    }
-}
-
-/// Whether an instance inside one of the block types has such a parameter.
-fn has_wrong_in_some(library: &Library, blocks: &[Option<NetworkNumbers>]) -> bool
-    ensures { result ≡ some_inside_passes (λ n x. spec.has_wrong_in library.now n.1 x) library.now.blocks blocks.now }
-{
-    let types = library.blocks.as_slice();
-    for (index, block) in types.iter().enumerate() {
-        let Some(numbers) = blocks.get(index) else {
-            return false;
-        };
-        if has_wrong_inside(library, block, numbers) {
-            return true;
-        }
-    }
-    false
-}
-
-/// Whether an instance has a parameter that is not a value of its input's type. The numbers are those of the
-/// declaration.
-pub fn has_wrong_parameter(library: &Library, numbers: &Resolved) -> bool
-    ensures { (plan : Plan) → IsResolved library.now plan numbers.now → (IsTrue result ↔ spec.ParameterWrong library.now) }
-{
-    has_wrong_in(library, &library.application.network, &numbers.application)
-        || has_wrong_in_some(library, numbers.blocks.as_slice())
+    Ok(())
 }

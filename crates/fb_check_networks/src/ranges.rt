@@ -6,14 +6,15 @@ ghost use Rattle.fb_types.specs.Joined.{OutOfRange};
 ghost use Rattle.fb_types.specs.Repeated.{NameTwice};
 ghost use Rattle.fb_types.specs.declared.deploy.Plan.{Plan};
 ghost use Rattle.fb_check_names.specs.Numbers.{IsResolved};
-ghost use Rattle.fb_findings.specs.Listed.{each_at};
+ghost use Rattle.fb_check_names.specs.Listed.{each_at};
 ghost use Rattle.fb_check_networks.specs.Joins as spec;
 ghost use Rattle.fb_check_networks.specs.Misjoins.{IsMisjoinedAt, misjoins_all, out_at_index, out_in, out_inside};
 
 use crate::values::is_within;
 use crate::variables::{source_type, target_type};
-use fb_check_names::{NetworkNumbers, NumberedConnection, Resolved, TypeNumber};
-use fb_findings::{Misjoin, Site, push_unless};
+use fb_check_names::{
+    Misjoin, NetworkNumbers, NumberedConnection, Resolved, Site, TypeNumber, push_unless,
+};
 use fb_types::{BlockType, Items, Library, Ports};
 use std::alloc::{AllocError, Global};
 

@@ -3,13 +3,12 @@
 ghost use Rattle.std.specs.Prelude.{◌≡◌, ◌++◌, [], All, IfOk, map};
 ghost use Rattle.fb_types.specs.Joined.{TwoSources};
 ghost use Rattle.fb_types.specs.Names.{same_port};
-ghost use Rattle.fb_findings.specs.Listed.{each_at};
-ghost use Rattle.fb_findings.specs.Repeats.{repeats};
-ghost use Rattle.fb_findings.specs.Sites.{inside_of};
+ghost use Rattle.fb_check_names.specs.Listed.{each_at};
+ghost use Rattle.fb_check_names.specs.Repeats.{repeats};
+ghost use Rattle.fb_check_names.specs.Sites.{inside_of};
 ghost use Rattle.fb_check_networks.specs.Sources.{IsJoinedAt, joined_all, joined_among, joined_at, joined_in, targets};
 
-use fb_check_names::{EndNames, end_names};
-use fb_findings::{Joined, Repeat, Site, push_pair};
+use fb_check_names::{EndNames, Joined, Repeat, Site, end_names, push_pair};
 use fb_types::{BlockType, Connection, Library};
 use std::alloc::{AllocError, Global};
 use std::collections::BTreeMap;

@@ -4,15 +4,14 @@ ghost use Rattle.std.specs.Prelude.{◌≡◌, ◌++◌, [], All, None, Contains
 ghost use Rattle.fb_types.specs.Repeated.{NameTwice};
 ghost use Rattle.fb_types.specs.Mapped.{NoEvent};
 ghost use Rattle.fb_check_names.specs.Numbers.{IsNetwork, IsResolved};
-ghost use Rattle.fb_findings.specs.Listed.{each_at};
+ghost use Rattle.fb_check_names.specs.Listed.{each_at};
 ghost use Rattle.fb_check_networks.specs.Mapping.{IsMapping, IsHolding};
 ghost use Rattle.fb_check_networks.specs.Serving.{AreServed};
 ghost use Rattle.fb_check_networks.specs.Unserved.{IsUnservedAt, is_served, unserved_all, unserved_at};
 
 use crate::mapping::{Mapping, resource_of};
 use crate::serving::{Leads, component_of, served_by};
-use fb_check_names::{NetworkNumbers, Resolved};
-use fb_findings::push_unless;
+use fb_check_names::{NetworkNumbers, Resolved, push_unless};
 use fb_types::{Connection, Library, Plan, all_ports};
 use std::alloc::{AllocError, Global};
 

@@ -1,5 +1,5 @@
 -- What the tests of each block type say of the whole declaration.
-use Rattle.std.proofs.Common.{◌≡◌, ◌⊎◌, ◌&&◌, Bool, true, false, not, List, [], ◌∷◌, map, Some, None, refl, sym, ◌∙◌, ap, inl, inr}
+use Rattle.std.proofs.Common.{◌≡◌, ◌⊎◌, ◌&&◌, Bool, true, false, not, List, [], ◌∷◌, map, Some, None, refl, sym, ◌∙◌, inl, inr}
 use Rattle.std.specs.Prelude.{flat_map, ◌↔◌, IsTrue}
 use Rattle.std.specs.List.{list_all}
 use Rattle.std.proofs.lemmas.Bool.{true≢false}
@@ -28,19 +28,6 @@ use Rattle.fb_check_types.specs.Checks.{is_met, all_met, with_inputs, with_outpu
 pub and_true : (b : Bool) → (b && true) ≡ b
 and_true true = refl
 and_true false = refl
-
--- the result of a function that makes two tests
-pub then_answer : {r s a c : Bool} (b : Bool) → r ≡ a → s ≡ b → c ≡ (a && b) → r ≡ true → s ≡ c
-then_answer b p q e h = q ∙ sym (e ∙ ap (λ x. x && b) (sym p ∙ h))
-
-pub else_answer : {r a c : Bool} (b : Bool) → r ≡ a → c ≡ (a && b) → r ≡ false → r ≡ c
-else_answer b p e h = h ∙ sym (e ∙ ap (λ x. x && b) (sym p ∙ h))
-
-pub and_flip : (a b : Bool) → (a && b) ≡ (b && a)
-and_flip true true = refl
-and_flip true false = refl
-and_flip false true = refl
-and_flip false false = refl
 
 and_both : {a b c d : Bool} → a ≡ c → b ≡ d → (a && b) ≡ (c && d)
 and_both p q = λ k. p k && q k

@@ -1,9 +1,25 @@
+mod NetworkTests
+mod Bodies
+mod OwnedNetwork
+mod Parts
+pub mod KindsApplying
+mod Inside
+mod NumberedKinds
+pub mod KindWitnesses
 pub mod Arguments
 pub mod Checks
 pub mod Roles
 mod Typed
 pub mod Says
 mod Sorted
-mod Tested
-mod Known
-mod Right
+pub mod Added
+pub mod NetworkLocations
+mod BlockLocations
+mod DeploymentLocations
+mod AllLocations
+mod Mentioned
+pub mod Witnesses
+pub mod AllThere
+mod BlockNumbers
+mod Numbered
+pub mod Applying

@@ -17,9 +17,7 @@ use Rattle.fb_types.specs.declared.library.Ports.{Ports}
 use Rattle.fb_types.specs.declared.library.State.{State}
 use Rattle.fb_types.specs.declared.library.Transition.{Transition}
 use Rattle.fb_check_names.specs.Catalog.{IsBlock}
-use Rattle.fb_check_names.specs.PortKinds.{names_of_kind}
 use Rattle.fb_check_names.specs.declared.catalog.BlockIndexes.{BlockIndexes}
-use Rattle.fb_check_names.specs.declared.ports.PortKind.{PortKind}
 
 -- The indices of the names of each block type, in the order of the types.
 pub record AreBlocks (ts : List BlockType) (xs : List BlockIndexes) : Type 0 where
@@ -37,10 +35,6 @@ all_met ws = list_all is_met ws
 
 abbrev pub required_action : BasicType → Action → List Required
 required_action t a = all_of (optional a.algorithm) (algorithm_names t) ++ all_of (optional a.output) (event_names t.ports.event_outputs)
-
--- only ports of a kind are WITH an event
-abbrev pub with_ports : PortKind → Ports → EventPort → Bool
-with_ports s p e = list_all (among (names_of_kind s p)) e.with
 
 -- the variables WITH an event input
 abbrev pub with_inputs : Ports → EventPort → Bool

@@ -1,3 +1,14 @@
+pub mod Insides
+pub mod Statements
+pub mod MisfitLists
+pub mod Misfits
+pub mod KindsApply
 pub mod Roles
 pub mod Trees
 pub mod Checks
+pub mod Unknown
+pub mod There
+pub mod Scopes
+pub mod Unknowns
+pub mod Mentions
+pub mod Applies

@@ -1,112 +1,202 @@
-//! Names in WITH lists and in execution control charts (IEC 61499-1, 5.1 and 5.2).
+//! Names in WITH lists and in execution control charts that are unknown (IEC 61499-1, 5.1 and 5.2).
 
-ghost use Rattle.std.specs.Prelude.{◌≡◌};
-ghost use Rattle.std.specs.List.{list_all};
-ghost use Rattle.fb_types.specs.Blocks.{among};
-ghost use Rattle.fb_types.specs.Unknown.{required_chart, required_withs};
+ghost use Rattle.std.specs.Prelude.{◌≡◌, ◌++◌, IfOk};
 ghost use Rattle.fb_check_names.specs.PortKinds.{names_of_kind};
-ghost use Rattle.fb_check_types.specs.Checks.{action_met, actions_met, all_met, transition_met, with_ports};
+ghost use Rattle.fb_check_names.specs.declared.location.ActionPart.TheVariants as actions;
+ghost use Rattle.fb_check_names.specs.declared.location.TransitionPart.TheVariants as part;
+ghost use Rattle.fb_check_names.specs.declared.location.UnknownName.TheVariants as location;
+ghost use Rattle.fb_check_names.specs.Listed.{each_at};
+ghost use Rattle.fb_check_types.specs.Unknown.{required_action, required_transition};
+ghost use Rattle.fb_check_types.specs.Unknowns.{unknown_in_action, unknown_in_state, unknown_names, unknown_variables, unmet_at};
 
 use crate::interface::Interface;
 use crate::scope::Scope;
-use fb_check_names::PortKind;
-use fb_types::{Action, EventPort, Name, State, Transition};
+use fb_check_names::{ActionPart, Direction, PortKind, TransitionPart, UnknownName, push_unless};
+use fb_types::{Action, EventPort, State, Transition};
+use std::alloc::AllocError;
 
-/// Whether each name is that of a port of the kind.
-fn are_ports(names: &[Name], value_kind: PortKind, interface: &Interface) -> bool
-    ensures { result ≡ list_all (among (names_of_kind value_kind interface.now.ports)) names.now }
+/// Adds the variables in the WITH list of an event that are not of the kind.
+fn push_variables(
+    found: &mut Vec<UnknownName>,
+    interface: &Interface,
+    port_kind: PortKind,
+    block: usize,
+    direction: Direction,
+    event: usize,
+    declared: &EventPort,
+) -> Result<(), AllocError>
+    ensures { IfOk result (λ _. found.new.items ≡ found.old.items ++ unknown_variables (names_of_kind port_kind interface.now.ports) block direction event declared.now) }
 {
-    for name in names {
-        if !interface.has_port(value_kind, name) {
-            return false;
-        }
+    let names = declared.with.as_slice();
+    for (variable, name) in names.iter().enumerate() {
+        let is_of_kind = interface.has_port(port_kind, name);
+        let location = UnknownName::With {
+            block,
+            direction,
+            event,
+            variable,
+        };
+        push_unless(found, is_of_kind, location)?;
     }
-    true
+    Ok(())
 }
 
-/// Whether only ports of the kind are WITH the events.
-fn have_ports(events: &[EventPort], value_kind: PortKind, interface: &Interface) -> bool
-    ensures { result ≡ list_all (with_ports value_kind interface.now.ports) events.now }
+/// The same for all events of one direction of a block type.
+pub fn push_in_withs(
+    found: &mut Vec<UnknownName>,
+    interface: &Interface,
+    port_kind: PortKind,
+    block: usize,
+    direction: Direction,
+    events: &[EventPort],
+) -> Result<(), AllocError>
+    ensures { IfOk result (λ _. found.new.items ≡ found.old.items ++ each_at (unknown_variables (names_of_kind port_kind interface.now.ports) block direction) events.now) }
 {
-    for event in events {
-        if !are_ports(event.with.as_slice(), value_kind, interface) {
-            return false;
-        }
+    for (event, declared) in events.iter().enumerate() {
+        push_variables(
+            found, interface, port_kind, block, direction, event, declared,
+        )?;
     }
-    true
+    Ok(())
 }
 
-/// Whether inputs are WITH event inputs and outputs WITH event outputs.
-pub fn are_withs_known(interface: &Interface) -> bool
-    ensures { result ≡ all_met (required_withs interface.now.ports) }
+/// Adds the event of a transition, if it is unknown.
+fn push_event(
+    found: &mut Vec<UnknownName>,
+    scope: &Scope,
+    block: usize,
+    transition: usize,
+    declared: &Transition,
+) -> Result<(), AllocError>
+    ensures { IfOk result (λ _. found.new.items ≡ found.old.items ++ unmet_at (required_transition scope.now declared.now part.Event) (location.Transition block transition part.Event)) }
 {
-    let ports = interface.ports();
-    have_ports(ports.event_inputs.as_slice(), PortKind::Input, interface)
-        && have_ports(ports.event_outputs.as_slice(), PortKind::Output, interface)
-}
-
-fn is_transition_known(transition: &Transition, scope: &Scope) -> bool
-    ensures { result ≡ transition_met scope.now transition.now }
-{
-    let is_event_known = match &transition.condition.event {
-        Some(event) => scope.interface().has_port(PortKind::EventInput, event),
-        None => true,
+    let Some(event) = &declared.condition.event else {
+        return Ok(());
     };
-    scope.is_state(&transition.from) && scope.is_state(&transition.to) && is_event_known
-}
-
-fn is_action_known(action: &Action, scope: &Scope) -> bool
-    ensures { result ≡ action_met scope.now action.now }
-{
-    let is_algorithm_known = match &action.algorithm {
-        Some(algorithm) => scope.is_algorithm(algorithm),
-        None => true,
+    let is_event = scope.interface().has_port(PortKind::EventInput, event);
+    let location = UnknownName::Transition {
+        block,
+        transition,
+        part: TransitionPart::Event,
     };
-    let is_output_known = match &action.output {
-        Some(output) => scope.interface().has_port(PortKind::EventOutput, output),
-        None => true,
+    push_unless(found, is_event, location)
+}
+
+/// Adds the names of a transition that are unknown.
+pub fn push_names(
+    found: &mut Vec<UnknownName>,
+    scope: &Scope,
+    block: usize,
+    transition: usize,
+    declared: &Transition,
+) -> Result<(), AllocError>
+    ensures { IfOk result (λ _. found.new.items ≡ found.old.items ++ unknown_names scope.now block transition declared.now) }
+{
+    let from = UnknownName::Transition {
+        block,
+        transition,
+        part: TransitionPart::From,
     };
-    is_algorithm_known && is_output_known
+    push_unless(found, scope.is_state(&declared.from), from)?;
+    let to = UnknownName::Transition {
+        block,
+        transition,
+        part: TransitionPart::To,
+    };
+    push_unless(found, scope.is_state(&declared.to), to)?;
+    push_event(found, scope, block, transition, declared)
 }
 
-fn are_actions_known(actions: &[Action], scope: &Scope) -> bool
-    ensures { result ≡ list_all (action_met scope.now) actions.now }
+/// Adds the algorithm of an action, if it is unknown.
+fn push_algorithm(
+    found: &mut Vec<UnknownName>,
+    scope: &Scope,
+    block: usize,
+    state: usize,
+    action: usize,
+    declared: &Action,
+) -> Result<(), AllocError>
+    ensures { IfOk result (λ _. found.new.items ≡ found.old.items ++ unmet_at (required_action scope.now declared.now actions.Algorithm) (location.Action block state action actions.Algorithm)) }
 {
-    for action in actions {
-        if !is_action_known(action, scope) {
-            return false;
-        }
+    let Some(algorithm) = &declared.algorithm else {
+        return Ok(());
+    };
+    let location = UnknownName::Action {
+        block,
+        state,
+        action,
+        part: ActionPart::Algorithm,
+    };
+    push_unless(found, scope.is_algorithm(algorithm), location)
+}
+
+/// Adds the output event of an action, if it is unknown.
+fn push_output(
+    found: &mut Vec<UnknownName>,
+    scope: &Scope,
+    block: usize,
+    state: usize,
+    action: usize,
+    declared: &Action,
+) -> Result<(), AllocError>
+    ensures { IfOk result (λ _. found.new.items ≡ found.old.items ++ unmet_at (required_action scope.now declared.now actions.Output) (location.Action block state action actions.Output)) }
+{
+    let Some(output) = &declared.output else {
+        return Ok(());
+    };
+    let is_output = scope.interface().has_port(PortKind::EventOutput, output);
+    let location = UnknownName::Action {
+        block,
+        state,
+        action,
+        part: ActionPart::Output,
+    };
+    push_unless(found, is_output, location)
+}
+
+/// Adds the names of an action that are unknown.
+fn push_in_action(
+    found: &mut Vec<UnknownName>,
+    scope: &Scope,
+    block: usize,
+    state: usize,
+    action: usize,
+    declared: &Action,
+) -> Result<(), AllocError>
+    ensures { IfOk result (λ _. found.new.items ≡ found.old.items ++ unknown_in_action scope.now block state action declared.now) }
+{
+    push_algorithm(found, scope, block, state, action, declared)?;
+    push_output(found, scope, block, state, action, declared)
+}
+
+/// The same for the actions of a state.
+fn push_in_state(
+    found: &mut Vec<UnknownName>,
+    scope: &Scope,
+    block: usize,
+    state: usize,
+    declared: &State,
+) -> Result<(), AllocError>
+    ensures { IfOk result (λ _. found.new.items ≡ found.old.items ++ unknown_in_state scope.now block state declared.now) }
+{
+    let actions = declared.actions.as_slice();
+    for (action, each) in actions.iter().enumerate() {
+        push_in_action(found, scope, block, state, action, each)?;
     }
-    true
+    Ok(())
 }
 
-fn are_transitions_known(transitions: &[Transition], scope: &Scope) -> bool
-    ensures { result ≡ list_all (transition_met scope.now) transitions.now }
+/// The same for all states of a basic type.
+pub fn push_in_states(
+    found: &mut Vec<UnknownName>,
+    scope: &Scope,
+    block: usize,
+    states: &[State],
+) -> Result<(), AllocError>
+    ensures { IfOk result (λ _. found.new.items ≡ found.old.items ++ each_at (unknown_in_state scope.now block) states.now) }
 {
-    for transition in transitions {
-        if !is_transition_known(transition, scope) {
-            return false;
-        }
+    for (state, declared) in states.iter().enumerate() {
+        push_in_state(found, scope, block, state, declared)?;
     }
-    true
-}
-
-fn are_states_known(states: &[State], scope: &Scope) -> bool
-    ensures { result ≡ list_all (actions_met scope.now) states.now }
-{
-    for state in states {
-        if !are_actions_known(state.actions.as_slice(), scope) {
-            return false;
-        }
-    }
-    true
-}
-
-/// Whether each state, event and algorithm that a chart names is one.
-pub fn is_chart_known(scope: &Scope) -> bool
-    ensures { result ≡ all_met (required_chart scope.now) }
-{
-    let block = scope.block();
-    are_transitions_known(block.transitions.as_slice(), scope)
-        && are_states_known(block.states.as_slice(), scope)
+    Ok(())
 }

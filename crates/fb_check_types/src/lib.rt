@@ -1,25 +1,38 @@
-//! Checks what the parts of block types name (E21) and which kinds they have (E22), except for networks.
+//! Names that are unknown in a declaration or a deployment (E21) and the numbers of those that are known, the meaning of the
+//! names of a block type, and the kinds of expressions.
 //!
-//! Guarantees to callers: `parts::are_parts_known` and `parts::has_wrong_part` say of every declaration whether each of
-//! the two applies. `value_kinds` has the kinds of expressions, and `variables` the types of variables if no index of names is
-//! at hand.
+//! Guarantees to callers: `resolution::resolve` lists the locations at which nothing of the required kind has a name, exactly
+//! those. If there is none, it returns types, ports, instances, resources and links by their indices. `scope` has the
+//! meaning of the names of a basic type, `value_kinds` the kinds of expressions, and `variables` the types of variables if no
+//! index of names is at hand.
 //!
-//! Read in this order: `parts`, the entry; `interface` and `scope`, the meaning of names; `charts` and `mentions`,
-//! names;
-//! `value_kinds`, `values` and `bodies`, kinds; `variables`.
+//! Read in this order: `interface` and `scope`, the meaning of names; `mentions`, `charts` and `basics`, names in basic types;
+//! `there`, `ends` and `networks`, networks; `blocks` and `deployment`; `resolution`. Then `value_kinds`, kinds; `variables`.
 #![tactic(auto)]
 
-mod bodies;
+mod basics;
+mod blocks;
 mod charts;
+mod deployment;
+pub mod ends;
 mod interface;
-mod mentions;
-pub mod parts;
-mod scope;
+pub mod kind_laws;
+pub mod laws;
+pub mod mentions;
+pub mod misfits;
+mod networks;
+pub mod resolution;
+pub mod scope;
+pub mod statements;
+mod there;
 pub mod value_kinds;
-mod values;
 pub mod variables;
 
-pub use parts::{are_parts_known, has_wrong_part};
+pub use ends::{input_of, output_of};
+pub use misfits::{internals_of, misfit_locations};
+pub use resolution::resolve;
+pub use scope::Scope;
+pub use statements::{Standing, all_statements};
 pub use value_kinds::{
     Typing, are_same, is_condition, is_step_whole, is_value_kind, is_whole, value_kind_of,
     value_kind_of_type,

@@ -1,129 +1,165 @@
-//! Variables and functions that expressions and statements mention.
+//! Variables and functions that guards and algorithms name.
 
-ghost use Rattle.std.specs.Prelude.{◌≡◌};
-ghost use Rattle.std.specs.List.{list_all};
-ghost use Rattle.fb_types.specs.Syntax.{body_of, expr_of, stmt_of, step_of};
-ghost use Rattle.fb_types.specs.Unknown.{mentions, mentions_all, mentions_body, mentions_branches, mentions_choices, mentions_in};
-ghost use Rattle.fb_check_types.specs.Checks.{all_known};
+ghost use Rattle.std.specs.Prelude.{◌≡◌, ◌∷◌, ◌++◌, [], IfOk};
+ghost use Rattle.fb_types.specs.Syntax.{body_of, expr_of, stmt_of};
+ghost use Rattle.fb_types.specs.Unknown.{is_known, mentions, mentions_all, mentions_body, mentions_branches, mentions_choices, mentions_in};
 ghost use Rattle.fb_check_types.specs.Trees.{all_of, arguments_of, branches_of, choices_of};
+ghost use Rattle.fb_check_types.specs.Mentions.{meant, meant_all, mentions_of_control, mentions_of_step};
 
 use crate::scope::Scope;
-use fb_types::{Body, Branch, Choice, Expr, Function, Stmt};
+use fb_types::{Body, Branch, Choice, Expr, Function, Name, Reference, Stmt};
+use std::alloc::{AllocError, Global};
 
-/// Whether each variable of an expression is one of the type, and each function is known.
+/// A variable or a function that a text names.
+#[derive(Clone, Copy)]
+pub enum Mention<'a> {
+    Variable(&'a Name),
+    Function(&'a Name),
+}
+
+/// Adds a variable or a function.
+fn push_mention<'a>(all: &mut Vec<Mention<'a>>, mention: Mention<'a>) -> Result<(), AllocError>
+    ensures { IfOk result (λ _. meant_all all.new.items ≡ meant_all all.old.items ++ (meant mention.entry ∷ [])) }
+{
+    all.push(mention)?;
+    Ok(())
+}
+
+/// Adds what an expression names, in the order of the text.
 #[cycle(expression)]
-pub fn is_expression_known(expr: &Expr, scope: &Scope) -> bool
-    ensures { result ≡ all_known scope.now (mentions (expr_of expr.now)) }
+pub fn push_expression<'a>(all: &mut Vec<Mention<'a>>, expr: &'a Expr) -> Result<(), AllocError>
+    ensures { IfOk result (λ _. meant_all all.new.items ≡ meant_all all.old.items ++ mentions (expr_of expr.now)) }
 {
     match expr {
-        Expr::Whole(_) | Expr::Truth(_) => true,
-        Expr::Variable(variable) => scope.is_variable(variable.name()),
-        Expr::Group(inner) => is_expression_known(inner.get(), scope),
-        Expr::Unary(_, operand) => is_expression_known(operand.get(), scope),
+        Expr::Whole(_) | Expr::Truth(_) => Ok(()),
+        Expr::Variable(variable) => push_mention(all, Mention::Variable(variable.name())),
+        Expr::Group(inner) => push_expression(all, inner.get()),
+        Expr::Unary(_, operand) => push_expression(all, operand.get()),
         Expr::Binary(_, left, right) => {
-            is_expression_known(left.get(), scope) && is_expression_known(right.get(), scope)
+            push_expression(all, left.get())?;
+            push_expression(all, right.get())
         }
         Expr::Call(name, arguments) => {
-            Function::named(name).is_some() && are_arguments_known(arguments.as_slice(), scope)
+            push_mention(all, Mention::Function(name))?;
+            push_arguments(all, arguments.as_slice())
         }
     }
 }
 
 #[cycle(expression)]
-fn are_arguments_known(arguments: &[Expr], scope: &Scope) -> bool
-    ensures { result ≡ all_known scope.now (mentions_all (arguments_of arguments.now)) }
+fn push_arguments<'a>(all: &mut Vec<Mention<'a>>, arguments: &'a [Expr]) -> Result<(), AllocError>
+    ensures { IfOk result (λ _. meant_all all.new.items ≡ meant_all all.old.items ++ mentions_all (arguments_of arguments.now)) }
 {
     for argument in arguments {
-        if !is_expression_known(argument, scope) {
-            return false;
-        }
+        push_expression(all, argument)?;
     }
-    true
+    Ok(())
 }
 
 /// The same for the step of FOR, if there is one.
-fn is_step_known(step: &Option<Expr>, scope: &Scope) -> bool
-    ensures { result ≡ all_known scope.now (mentions (step_of step.now)) }
+fn push_step<'a>(all: &mut Vec<Mention<'a>>, step: &'a Option<Expr>) -> Result<(), AllocError>
+    ensures { IfOk result (λ _. meant_all all.new.items ≡ meant_all all.old.items ++ mentions_of_step step.now) }
 {
     match step {
-        Some(step) => is_expression_known(step, scope),
-        None => true,
+        Some(step) => push_expression(all, step),
+        None => Ok(()),
     }
 }
 
-/// Whether each variable of an algorithm is one of the type, and each function is known.
-pub fn is_body_known(body: &Body, scope: &Scope) -> bool
-    ensures { result ≡ all_known scope.now (mentions_body (body_of body.now)) }
+/// The same for what controls a FOR: its variable, start, end and step.
+fn push_control<'a>(
+    all: &mut Vec<Mention<'a>>,
+    variable: &'a Reference,
+    start: &'a Expr,
+    end: &'a Expr,
+    step: &'a Option<Expr>,
+) -> Result<(), AllocError>
+    ensures { IfOk result (λ _. meant_all all.new.items ≡ meant_all all.old.items ++ mentions_of_control variable.now start.now end.now step.now) }
 {
-    are_statements_known(body.statements.as_slice(), scope)
+    push_mention(all, Mention::Variable(variable.name()))?;
+    push_expression(all, start)?;
+    push_expression(all, end)?;
+    push_step(all, step)
+}
+
+/// Adds what the statements of an algorithm name, in the order of the definitions.
+pub fn push_body<'a>(all: &mut Vec<Mention<'a>>, body: &'a Body) -> Result<(), AllocError>
+    ensures { IfOk result (λ _. meant_all all.new.items ≡ meant_all all.old.items ++ mentions_body (body_of body.now)) }
+{
+    push_statements(all, body.statements.as_slice())
 }
 
 #[cycle(statement)]
-fn is_statement_known(statement: &Stmt, scope: &Scope) -> bool
-    ensures { result ≡ all_known scope.now (mentions_in (stmt_of statement.now)) }
+fn push_statement<'a>(all: &mut Vec<Mention<'a>>, statement: &'a Stmt) -> Result<(), AllocError>
+    ensures { IfOk result (λ _. meant_all all.new.items ≡ meant_all all.old.items ++ mentions_in (stmt_of statement.now)) }
 {
     match statement {
-        Stmt::Empty | Stmt::Exit | Stmt::Return => true,
+        Stmt::Empty | Stmt::Exit | Stmt::Return => Ok(()),
         Stmt::Assign(variable, expr) => {
-            scope.is_variable(variable.name()) && is_expression_known(expr, scope)
+            push_mention(all, Mention::Variable(variable.name()))?;
+            push_expression(all, expr)
         }
         Stmt::If(choices, others) => {
-            are_choices_known(choices.as_slice(), scope)
-                && are_statements_known(others.as_slice(), scope)
+            push_choices(all, choices.as_slice())?;
+            push_statements(all, others.as_slice())
         }
         Stmt::Case(selector, branches, others) => {
-            is_expression_known(selector, scope)
-                && are_branches_known(branches.as_slice(), scope)
-                && are_statements_known(others.as_slice(), scope)
+            push_expression(all, selector)?;
+            push_branches(all, branches.as_slice())?;
+            push_statements(all, others.as_slice())
         }
         Stmt::For(variable, start, end, step, body) => {
-            scope.is_variable(variable.name())
-                && is_expression_known(start, scope)
-                && is_expression_known(end, scope)
-                && is_step_known(step, scope)
-                && are_statements_known(body.as_slice(), scope)
+            push_control(all, variable, start, end, step)?;
+            push_statements(all, body.as_slice())
         }
-        Stmt::While(condition, body) | Stmt::Repeat(body, condition) => {
-            is_expression_known(condition, scope) && are_statements_known(body.as_slice(), scope)
+        Stmt::While(condition, body) => {
+            push_expression(all, condition)?;
+            push_statements(all, body.as_slice())
+        }
+        Stmt::Repeat(body, condition) => {
+            push_statements(all, body.as_slice())?;
+            push_expression(all, condition)
         }
     }
 }
 
 #[cycle(statement)]
-fn are_statements_known(statements: &[Stmt], scope: &Scope) -> bool
-    ensures { result ≡ all_known scope.now (mentions_body (all_of statements.now)) }
+fn push_statements<'a>(all: &mut Vec<Mention<'a>>, statements: &'a [Stmt]) -> Result<(), AllocError>
+    ensures { IfOk result (λ _. meant_all all.new.items ≡ meant_all all.old.items ++ mentions_body (all_of statements.now)) }
 {
     for statement in statements {
-        if !is_statement_known(statement, scope) {
-            return false;
-        }
+        push_statement(all, statement)?;
     }
-    true
+    Ok(())
 }
 
 #[cycle(statement)]
-fn are_choices_known(choices: &[Choice], scope: &Scope) -> bool
-    ensures { result ≡ all_known scope.now (mentions_choices (choices_of choices.now)) }
+fn push_choices<'a>(all: &mut Vec<Mention<'a>>, choices: &'a [Choice]) -> Result<(), AllocError>
+    ensures { IfOk result (λ _. meant_all all.new.items ≡ meant_all all.old.items ++ mentions_choices (choices_of choices.now)) }
 {
     for choice in choices {
-        if !is_expression_known(&choice.condition, scope) {
-            return false;
-        }
-        if !are_statements_known(choice.body.as_slice(), scope) {
-            return false;
-        }
+        push_expression(all, &choice.condition)?;
+        push_statements(all, choice.body.as_slice())?;
     }
-    true
+    Ok(())
 }
 
 #[cycle(statement)]
-fn are_branches_known(branches: &[Branch], scope: &Scope) -> bool
-    ensures { result ≡ all_known scope.now (mentions_branches (branches_of branches.now)) }
+fn push_branches<'a>(all: &mut Vec<Mention<'a>>, branches: &'a [Branch]) -> Result<(), AllocError>
+    ensures { IfOk result (λ _. meant_all all.new.items ≡ meant_all all.old.items ++ mentions_branches (branches_of branches.now)) }
 {
     for branch in branches {
-        if !are_statements_known(branch.body.as_slice(), scope) {
-            return false;
-        }
+        push_statements(all, branch.body.as_slice())?;
     }
-    true
+    Ok(())
+}
+
+/// Whether a variable is one of the type, or a function is known.
+pub fn is_mention_known(scope: &Scope, mention: &Mention) -> bool
+    ensures { result ≡ is_known scope.now (meant mention.now) }
+{
+    match mention {
+        Mention::Variable(name) => scope.is_variable(name),
+        Mention::Function(name) => Function::named(name).is_some(),
+    }
 }

@@ -4,7 +4,7 @@
 //! instance, connection, link, state and transition is in it once, in the order of the texts.
 //!
 //! Read in this order: `graph`, the entry; `resource`, `network`, `block` and `connection`, the application and composite
-//! types; `chart`, basic types, with `expression`; `pieces`.
+//! types; `chart`, basic types, with `expression`; `pieces`, and `keywords`, which messages use too.
 #![tactic(auto)]
 
 mod block;
@@ -12,10 +12,12 @@ pub mod chart;
 mod connection;
 mod expression;
 pub mod graph;
+mod keywords;
 mod network;
 pub mod pieces;
 mod resource;
 
 pub use chart::put_condition;
 pub use graph::draw;
+pub use keywords::type_words;
 pub use pieces::{put_all, put_number, put_value};

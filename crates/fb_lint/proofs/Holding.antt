@@ -27,9 +27,9 @@ use Rattle.fb_check_names.specs.PortKinds.{names_of_kind}
 use Rattle.fb_check_names.specs.declared.ports.PortKind.{PortKind}
 use Rattle.fb_check_names.specs.declared.ports.PortKind.TheVariants as kind
 use Rattle.fb_check_types.specs.Checks.{guard_mentions}
-use Rattle.fb_findings.specs.Sites.{network_at, network_inside}
-use Rattle.fb_findings.specs.declared.location.Site.{Site}
-use Rattle.fb_findings.specs.declared.location.Site.TheVariants.{Application, Inside}
+use Rattle.fb_check_names.specs.Sites.{network_at, network_inside}
+use Rattle.fb_check_names.specs.declared.location.Site.{Site}
+use Rattle.fb_check_names.specs.declared.location.Site.TheVariants.{Application, Inside}
 use Rattle.fb_lint.specs.Charts as charts
 use Rattle.fb_lint.specs.Conditions.{Holds, IsAt, IsBasic, is_used_in, stimuli_at, WarningsHold}
 use Rattle.fb_lint.specs.Interfaces as ports

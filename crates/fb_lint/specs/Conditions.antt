@@ -24,9 +24,9 @@ use Rattle.fb_check_names.specs.PortKinds.{names_of_kind}
 use Rattle.fb_check_names.specs.declared.ports.PortKind.{PortKind}
 use Rattle.fb_check_names.specs.declared.ports.PortKind.TheVariants as kind
 use Rattle.fb_check_types.specs.Checks.{guard_mentions}
-use Rattle.fb_findings.specs.Sites.{network_at}
-use Rattle.fb_findings.specs.declared.location.Site.{Site}
-use Rattle.fb_findings.specs.declared.location.Site.TheVariants.{Application, Inside}
+use Rattle.fb_check_names.specs.Sites.{network_at}
+use Rattle.fb_check_names.specs.declared.location.Site.{Site}
+use Rattle.fb_check_names.specs.declared.location.Site.TheVariants.{Application, Inside}
 use Rattle.fb_lint.specs.Charts.{leaves, shadows, names_event, runs_in, emits_in}
 use Rattle.fb_lint.specs.Interfaces.{has_with, joins}
 use Rattle.fb_lint.specs.Networks.{inputs_of, is_fed, is_used_type, is_crossed}

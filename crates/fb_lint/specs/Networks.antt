@@ -19,7 +19,7 @@ use Rattle.fb_types.specs.declared.library.Ports.{Ports}
 use Rattle.fb_types.specs.declared.library.Variable.{Variable}
 use Rattle.fb_lint.specs.Charts.{is_named}
 use Rattle.fb_lint.specs.Findings.{when, each_from}
-use Rattle.fb_findings.specs.declared.location.Site.{Site}
+use Rattle.fb_check_names.specs.declared.location.Site.{Site}
 use Rattle.fb_lint.specs.declared.warning.Warning.{Warning}
 use Rattle.fb_lint.specs.declared.warning.Warning.TheVariants.{UnfedInput, UnusedType, UnusedLink}
 

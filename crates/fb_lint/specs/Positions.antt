@@ -9,8 +9,8 @@ use Rattle.fb_read_positions.specs.declared.position.NetworkPart.TheVariants.{In
 use Rattle.fb_read_positions.specs.declared.position.PortPart.{PortPart}
 use Rattle.fb_read_positions.specs.declared.position.PortPart.TheVariants as port
 use Rattle.fb_read_positions.specs.declared.position.TransitionPart.TheVariants as part
-use Rattle.fb_findings.specs.declared.location.Site.{Site}
-use Rattle.fb_findings.specs.declared.location.Site.TheVariants.{Application, Inside}
+use Rattle.fb_check_names.specs.declared.location.Site.{Site}
+use Rattle.fb_check_names.specs.declared.location.Site.TheVariants.{Application, Inside}
 use Rattle.fb_lint.specs.declared.warning.Warning.{Warning}
 use Rattle.fb_lint.specs.declared.warning.Warning.TheVariants.{UnsampledInput, UnfedInput, UnsampledInGuard, UnsampledInAlgorithm, UnreachedState, FinalState, ShadowedTransition, UnnamedEvent, UnusedAlgorithm, UnusedType, UnusedPort, UnassignedEvent, UnusedLink}
 

@@ -16,7 +16,7 @@ use Rattle.fb_lint.specs.Interfaces.{unsampled_inputs, unjoined_ports}
 use Rattle.fb_lint.specs.Networks.{unfed_in_network, unused_type, unused_links}
 use Rattle.fb_lint.specs.Reached.{unreached_states}
 use Rattle.fb_lint.specs.Reads.{unsampled_in_guards, unsampled_in_algorithms, mentions_of, unmentioned_variables, assigned, unassigned_events}
-use Rattle.fb_findings.specs.declared.location.Site.TheVariants.{Application, Inside}
+use Rattle.fb_check_names.specs.declared.location.Site.TheVariants.{Application, Inside}
 use Rattle.fb_lint.specs.declared.warning.Warning.{Warning}
 
 -- L03 and L04: what is read and not sampled

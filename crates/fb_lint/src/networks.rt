@@ -8,11 +8,11 @@ ghost use Rattle.fb_lint.specs.Networks as spec;
 use crate::findings::push_if;
 use crate::names::is_named;
 use crate::warning::Warning;
-use fb_findings::Site;
+use fb_check_names::Site;
 use fb_types::{
     BlockType, Connection, Instance, Library, Name, Parameter, Setting, Stimulus, Variable,
 };
-use fb_why_kinds::lookup::BlockTypes;
+use fb_why::lookup::BlockTypes;
 use std::alloc::AllocError;
 
 /// Whether one of the connections leads to the data input of the instance.

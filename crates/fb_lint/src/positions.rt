@@ -4,8 +4,7 @@ ghost use Rattle.std.specs.Prelude.{◌≡◌};
 ghost use Rattle.fb_lint.specs.Positions as spec;
 
 use crate::warning::Warning;
-use fb_check_names::PortKind;
-use fb_findings::Site;
+use fb_check_names::{PortKind, Site};
 use fb_read_positions::{BasicPart, NetworkPart, PortPart, Position, TransitionPart};
 
 /// The name of a port.

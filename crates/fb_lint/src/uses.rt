@@ -4,8 +4,8 @@ ghost use Rattle.std.specs.Prelude.{◌≡◌, ◌++◌, IfOk, OnOk, flat_map};
 ghost use Rattle.std.specs.List.{list_any};
 ghost use Rattle.fb_types.specs.Blocks.{among};
 ghost use Rattle.fb_check_types.specs.Checks.{guard_mentions};
-ghost use Rattle.fb_why_kinds.specs.Mentions.{meant_all};
-ghost use Rattle.fb_why_kinds.specs.Statements.{all_standing, standing_of};
+ghost use Rattle.fb_check_types.specs.Mentions.{meant_all};
+ghost use Rattle.fb_check_types.specs.Statements.{all_standing, standing_of};
 ghost use Rattle.fb_lint.specs.Reads as spec;
 ghost use Rattle.fb_lint.specs.Findings.{names_are};
 
@@ -14,9 +14,9 @@ use crate::names::is_listed;
 use crate::reads::{is_mentioned, push_guard};
 use crate::warning::Warning;
 use fb_check_names::PortKind;
+use fb_check_types::mentions::{Mention, push_body};
+use fb_check_types::{Standing, all_statements};
 use fb_types::{Algorithm, EventPort, Name, Stmt, Transition, Variable};
-use fb_why_kinds::mentions::{Mention, push_body};
-use fb_why_kinds::statements::{Standing, all_statements};
 use std::alloc::{AllocError, Global};
 
 /// Adds what algorithms name.

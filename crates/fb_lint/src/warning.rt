@@ -3,8 +3,7 @@
 ghost use Rattle.std.specs.Prelude.{◌≡◌};
 ghost use Rattle.fb_lint.specs.Numbers.{number_of};
 
-use fb_check_names::PortKind;
-use fb_findings::Site;
+use fb_check_names::{PortKind, Site};
 
 /// What is accepted and probably not meant, with its place. Items of lists are counted from 0, in the order of the text;
 /// `block` is the index of a block type.

@@ -1,12 +1,11 @@
 //! Warnings as texts: what they are about, and why they are given.
 
 use crate::warning::Warning;
-use fb_check_names::PortKind;
-use fb_findings::Site;
+use fb_check_names::{PortKind, Site};
 use fb_types::{EventPort, Library, Plan, Variable};
-use fb_why_kinds::Text;
-use fb_why_kinds::lookup::BlockTypes;
-use fb_why_kinds::site_messages::{
+use fb_why::Text;
+use fb_why::lookup::BlockTypes;
+use fb_why::site_messages::{
     instance_of, push_basic, push_block, push_instance, push_site, push_transition,
 };
 use std::alloc::{AllocError, Global};

@@ -1,10 +1,7 @@
+pub mod TextReadings
+mod TypePorts
+pub mod Typed
 mod Reading
-mod Flaws
-mod Once
-mod ConnectionKeys
-mod Repeating
-mod AllTwice
 mod Numbered
 mod Checked
-mod Applying
 mod Shown

@@ -18,7 +18,7 @@ use Rattle.fb_why.specs.declared.cause.Flaw.{Flaw}
 use Rattle.fb_why.specs.declared.listing.Findings.{Findings}
 use Rattle.fb_why.specs.declared.place.PlacedFinding.{PlacedFinding}
 use Rattle.fb_why.specs.declared.spot.Spot.{Spot}
-use Rattle.fb_findings.proofs.Repeating.{none_mapped}
+use Rattle.fb_check_names.proofs.Repeating.{none_mapped}
 
 -- ---- Locations of inputs
 

@@ -3,9 +3,9 @@ use Rattle.std.proofs.Common.{◌≡◌, ℕ, Bool, true, false, List, [], Optio
 use Rattle.std.specs.Prelude.{IfOk, MatchOption}
 use Rattle.fb_types.specs.declared.deploy.Stimulus.{Stimulus}
 use Rattle.fb_read.specs.Errors.{fault_number}
-use Rattle.fb_why_bytes.proofs.TextReadings.{finds-numbered}
-use Rattle.fb_why_bytes.specs.Faults.{IsTextRefusal}
-use Rattle.fb_why_bytes.specs.declared.find.TextRefusal.{TextRefusal}
+use Rattle.fb_why.proofs.TextReadings.{finds-numbered}
+use Rattle.fb_why.specs.Faults.{IsTextRefusal}
+use Rattle.fb_why.specs.declared.find.TextRefusal.{TextRefusal}
 use Rattle.fb_why.specs.Findings.{AreFedIf, AreNoStimuli, AreNotFedIf, AreStimuli, IsFoundAt, IsSilentOfText, FindsInText}
 use Rattle.fb_why.specs.declared.spot.Finding.{Finding}
 use Rattle.fb_why.specs.declared.spot.Spot.{Spot}

@@ -6,16 +6,14 @@ use Rattle.fb_read.specs.Whole.{IsLibraryText}
 use Rattle.fb_read.specs.declared.error.ReadError.{ReadError}
 use Rattle.fb_types.specs.Accepted.{IsLeastFault}
 use Rattle.fb_types.specs.Joined.{TooHigh}
-use Rattle.fb_types.specs.Kinds.{KindWrong}
 use Rattle.fb_types.specs.Limits.{single}
 use Rattle.fb_types.specs.Repeated.{NameTwice}
-use Rattle.fb_types.specs.Unknown.{NameUnknown}
 use Rattle.fb_types.specs.declared.deploy.Plan.{Plan}
 use Rattle.fb_types.specs.declared.deploy.Stimulus.{Stimulus}
 use Rattle.fb_types.specs.declared.library.Library.{Library}
 use Rattle.fb_why.specs.Causes.{IsCause, flaw_number, is_of_stimuli}
 use Rattle.fb_read.specs.Errors.{number_of}
-use Rattle.fb_why_kinds.specs.Unknown.{IsUnknownAt}
+use Rattle.fb_check_types.specs.Unknown.{IsUnknownAt}
 use Rattle.fb_why.specs.declared.cause.Cause.TheVariants as cause
 use Rattle.fb_why.specs.declared.cause.Cause.{Cause}
 use Rattle.fb_why.specs.declared.cause.Flaw.TheVariants as flaw
@@ -25,7 +23,7 @@ use Rattle.fb_why.specs.declared.spot.Finding.{Finding}
 use Rattle.fb_why.specs.declared.spot.Spot.{Spot}
 use Rattle.fb_check_networks.specs.Heights.{IsTooHighAt}
 use Rattle.fb_check_networks.specs.Sources.{IsJoinedAt}
-use Rattle.fb_why.specs.Twice.{IsTwiceAt}
+use Rattle.fb_check_names.specs.Twice.{IsTwiceAt}
 use Rattle.fb_check_networks.specs.Links.{IsUnlinkedAt}
 use Rattle.fb_check_networks.specs.Unmapped.{IsUnmappedAt}
 use Rattle.fb_check_networks.specs.Unserved.{IsUnservedAt}
@@ -36,11 +34,11 @@ use Rattle.fb_inputs.specs.DeployFaults as tables
 use Rattle.fb_inputs.specs.DeployFaults.{IsPlanned}
 use Rattle.fb_inputs.specs.DeployPlaces as places
 use Rattle.fb_check.specs.Stimuli.{IsBadAt, IsOver}
-use Rattle.fb_why_bytes.specs.Faults.{FindsFault}
-use Rattle.fb_why_bytes.specs.declared.text_locations.TextLocation.{TextLocation}
+use Rattle.fb_why.specs.Faults.{FindsFault}
+use Rattle.fb_why.specs.declared.text_locations.TextLocation.{TextLocation}
 use Rattle.fb_inputs.specs.declared.deploy_location.DeployLocation.{DeployLocation}
 use Rattle.fb_inputs.specs.declared.location.StimuliLocation.{StimuliLocation}
-use Rattle.fb_why_kinds.specs.Misfits.{IsMisfitAt}
+use Rattle.fb_check_types.specs.Misfits.{IsMisfitAt}
 use Rattle.fb_check_networks.specs.Misjoins.{IsMisjoinedAt}
 
 -- ---- What is found
@@ -111,8 +109,6 @@ AppliesAt _ lib plan stimuli _ = ⊥
 -- The refusal applies nowhere; for one whose locations the check lists, it is not the first that applies.
 abbrev pub AppliesNowhere : Flaw → Library → Plan → List Stimulus → Type 0
 AppliesNowhere flaw.Twice lib plan stimuli = ¬ (NameTwice lib plan)
-AppliesNowhere flaw.Unknown lib plan stimuli = ¬ (NameUnknown lib plan)
-AppliesNowhere flaw.Misfit lib plan stimuli = ¬ (KindWrong lib)
 AppliesNowhere flaw lib plan stimuli = ¬ (IsLeastFault (flaw_number flaw) lib plan stimuli)
 
 -- They were read, and the refusal applies to them at this location.

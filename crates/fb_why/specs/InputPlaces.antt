@@ -6,16 +6,16 @@ use Rattle.fb_inputs.specs.Deployments.{deploy_of}
 use Rattle.fb_inputs.specs.declared.deploy_location.DeployKey.{DeployKey}
 use Rattle.fb_inputs.specs.declared.deploy_location.DeployKey.TheVariants as key
 use Rattle.fb_inputs.specs.declared.deploy_location.TableLocation.TheVariants as table
-use Rattle.fb_inputs_positions.specs.Positions.{deploy_position, stimuli_position}
-use Rattle.fb_inputs_positions.specs.declared.position.DeployPosition.{DeployPosition}
-use Rattle.fb_inputs_positions.specs.declared.position.DeployPosition.TheVariants as in_deploy
-use Rattle.fb_inputs_positions.specs.declared.position.StimuliPosition.{StimuliPosition}
-use Rattle.fb_inputs_positions.specs.declared.position.StimuliPosition.TheVariants as in_stimuli
-use Rattle.fb_why_bytes.specs.InputPlaces.{IsDeployPlace, IsStimuliPlace}
-use Rattle.fb_findings.specs.declared.location.Side.{Side}
-use Rattle.fb_findings.specs.declared.location.Side.TheVariants as side
-use Rattle.fb_findings.specs.declared.location.UnknownName.{UnknownName}
-use Rattle.fb_findings.specs.declared.location.UnknownName.TheVariants as unknown
+use Rattle.fb_inputs.specs.Positions.{deploy_position, stimuli_position}
+use Rattle.fb_inputs.specs.declared.position.DeployPosition.{DeployPosition}
+use Rattle.fb_inputs.specs.declared.position.DeployPosition.TheVariants as in_deploy
+use Rattle.fb_inputs.specs.declared.position.StimuliPosition.{StimuliPosition}
+use Rattle.fb_inputs.specs.declared.position.StimuliPosition.TheVariants as in_stimuli
+use Rattle.fb_why.specs.InputStretches.{IsDeployPlace, IsStimuliPlace}
+use Rattle.fb_check_names.specs.declared.location.Side.{Side}
+use Rattle.fb_check_names.specs.declared.location.Side.TheVariants as side
+use Rattle.fb_check_names.specs.declared.location.UnknownName.{UnknownName}
+use Rattle.fb_check_names.specs.declared.location.UnknownName.TheVariants as unknown
 use Rattle.fb_why.specs.declared.input_place.InputPosition.{InputPosition}
 use Rattle.fb_why.specs.declared.input_place.InputPosition.TheVariants as input
 use Rattle.fb_check.specs.declared.location.Limit.TheVariants as limit
@@ -26,9 +26,9 @@ use Rattle.fb_why.specs.declared.input_place.InputFile.TheVariants as file
 use Rattle.fb_why.specs.declared.input_place.Place.{Place}
 use Rattle.fb_why.specs.declared.spot.Spot.{Spot}
 use Rattle.fb_why.specs.declared.spot.Spot.TheVariants as spot
-use Rattle.fb_why.specs.declared.twice.GivenTwice.{GivenTwice}
-use Rattle.fb_why.specs.declared.twice.GivenTwice.TheVariants as given
-use Rattle.fb_findings.specs.declared.location.Unmapped.TheVariants as unmapped
+use Rattle.fb_check_names.specs.declared.twice.GivenTwice.{GivenTwice}
+use Rattle.fb_check_names.specs.declared.twice.GivenTwice.TheVariants as given
+use Rattle.fb_check_names.specs.declared.location.Unmapped.TheVariants as unmapped
 
 abbrev pub Text : Type 0
 Text = List ℕ

@@ -1,11 +1,11 @@
+pub mod Locations
+pub mod Faults
+pub mod InputStretches
+pub mod Types
 pub mod Explained
 pub mod Causes
 pub mod Positions
 pub mod Places
 pub mod InputPlaces
 pub mod Findings
-pub mod Pairs
-pub mod Twice
-pub mod Repeats
-pub mod Applies
 pub mod Listings

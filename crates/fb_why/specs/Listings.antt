@@ -6,8 +6,8 @@ use Rattle.fb_types.specs.declared.deploy.Plan.{Plan}
 use Rattle.fb_types.specs.declared.deploy.Stimulus.{Stimulus}
 use Rattle.fb_types.specs.declared.library.Library.{Library}
 use Rattle.fb_check_networks.specs.Misjoins.{misjoins_all}
-use Rattle.fb_why_kinds.specs.MisfitLists.{misfits_all}
-use Rattle.fb_why_kinds.specs.Unknowns.{unknown_all}
+use Rattle.fb_check_types.specs.MisfitLists.{misfits_all}
+use Rattle.fb_check_types.specs.Unknowns.{unknown_all}
 use Rattle.fb_types.specs.Accepted.{IsLeastFault}
 use Rattle.fb_check.specs.Stimuli.{AreAllBad}
 use Rattle.fb_check.specs.declared.location.StimulusLocation.{StimulusLocation}
@@ -15,7 +15,7 @@ use Rattle.fb_check.specs.declared.refusal.Refusal.{Refusal}
 use Rattle.fb_check.specs.declared.refusal.Refusal.TheVariants as refusal
 use Rattle.fb_why.specs.Causes.{IsCause, flaw_number}
 use Rattle.fb_why.specs.Findings.{AppliesAt, AppliesNowhere, AreFed, Finds, FindsOf, IsPlan, IsSilent, IsSilentOf, IsUnread}
-use Rattle.fb_why.specs.Repeats.{twice_all}
+use Rattle.fb_check_names.specs.TwiceLists.{twice_all}
 use Rattle.fb_check_networks.specs.Sources.{joined_all}
 use Rattle.fb_check_networks.specs.Links.{unlinked_all}
 use Rattle.fb_check_networks.specs.Unmapped.{unmapped_all}
@@ -46,31 +46,22 @@ AreAllStimuli lib stimuli spots = (found : List StimulusLocation) × (spots ≡ 
 -- fault, and those that the check lists are all if it refuses for this flaw first
 abbrev pub AreAll : Flaw → Library → Plan → List Stimulus → List Spot → Type 0
 AreAll flaw.Twice lib plan stimuli spots = spots ≡ map (λ p. spot.Twice p) (twice_all lib plan)
-AreAll flaw.Unknown lib plan stimuli spots = spots ≡ map (λ p. spot.Unknown p) (unknown_all lib plan)
-AreAll flaw.Misfit lib plan stimuli spots = spots ≡ map (λ p. spot.Misfit p) (misfits_all lib)
 AreAll flaw.TooHigh lib plan stimuli spots = length spots ≤ 1
 AreAll flaw.OverLimit lib plan stimuli spots = length spots ≤ 1
 AreAll flaw.Unmapped lib plan stimuli spots = IsLeastFault (flaw_number flaw.Unmapped) lib plan stimuli → spots ≡ map (λ p. spot.Unmapped p) (unmapped_all lib plan)
+AreAll flaw.Unknown lib plan stimuli spots = IsLeastFault (flaw_number flaw.Unknown) lib plan stimuli → spots ≡ map (λ p. spot.Unknown p) (unknown_all lib plan)
+AreAll flaw.Misfit lib plan stimuli spots = IsLeastFault (flaw_number flaw.Misfit) lib plan stimuli → spots ≡ map (λ p. spot.Misfit p) (misfits_all lib)
 AreAll flaw.Misjoin lib plan stimuli spots = IsLeastFault (flaw_number flaw.Misjoin) lib plan stimuli → spots ≡ map (λ p. spot.Misjoin p) (misjoins_all lib)
 AreAll flaw.Joined lib plan stimuli spots = IsLeastFault (flaw_number flaw.Joined) lib plan stimuli → spots ≡ map (λ p. spot.Joined p) (joined_all lib)
 AreAll flaw.Unlinked lib plan stimuli spots = IsLeastFault (flaw_number flaw.Unlinked) lib plan stimuli → spots ≡ map (λ p. spot.Unlinked p) (unlinked_all lib plan)
 AreAll flaw.Unserved lib plan stimuli spots = IsLeastFault (flaw_number flaw.Unserved) lib plan stimuli → spots ≡ map (λ p. spot.Unserved p) (unserved_all lib plan)
 AreAll flaw.BadStimulus lib plan stimuli spots = IsLeastFault (flaw_number flaw.BadStimulus) lib plan stimuli → AreAllStimuli lib stimuli spots
 
--- The check lists the locations of these flaws.
-abbrev pub IsListed : Flaw → Type 0
-IsListed flaw.Misjoin = Unit {0}
-IsListed flaw.Joined = Unit {0}
-IsListed flaw.TooHigh = Unit {0}
-IsListed flaw.Unmapped = Unit {0}
-IsListed flaw.Unlinked = Unit {0}
-IsListed flaw.Unserved = Unit {0}
-IsListed flaw.BadStimulus = Unit {0}
-IsListed flaw.OverLimit = Unit {0}
-IsListed _ = ⊥
-
 -- the locations of a refusal, if it is one for the flaw
 abbrev pub listed_spots : Flaw → Refusal → List Spot
+listed_spots flaw.Twice (refusal.Twice v) = map (λ p. spot.Twice p) v.items
+listed_spots flaw.Unknown (refusal.NameUnknown v) = map (λ p. spot.Unknown p) v.items
+listed_spots flaw.Misfit (refusal.KindWrong v) = map (λ p. spot.Misfit p) v.items
 listed_spots flaw.Misjoin (refusal.OutOfRange v) = map (λ p. spot.Misjoin p) v.items
 listed_spots flaw.Joined (refusal.TwoSources v) = map (λ p. spot.Joined p) v.items
 listed_spots flaw.TooHigh (refusal.TooHigh d) = spot.TooHigh d ∷ []

@@ -6,8 +6,8 @@ use Rattle.fb_read.specs.Whole.{IsLibraryText}
 use Rattle.fb_read.specs.declared.token.Span.{Span}
 use Rattle.fb_read_positions.specs.Places.{IsAt}
 use Rattle.fb_read_positions.specs.declared.position.Position.{Position}
-use Rattle.fb_why_bytes.specs.Locations.{IsLocation, IsStretch}
-use Rattle.fb_why_bytes.specs.declared.text_locations.TextLocation.{TextLocation}
+use Rattle.fb_why.specs.Locations.{IsLocation, IsStretch}
+use Rattle.fb_why.specs.declared.text_locations.TextLocation.{TextLocation}
 use Rattle.fb_why.specs.Positions.{position_of}
 use Rattle.fb_why.specs.declared.place.PlacedFinding.{PlacedFinding}
 use Rattle.fb_why.specs.declared.spot.Finding.{Finding}

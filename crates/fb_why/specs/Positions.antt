@@ -28,42 +28,42 @@ use Rattle.fb_read_positions.specs.declared.position.Position.{Position}
 use Rattle.fb_read_positions.specs.declared.position.Position.TheVariants as position
 use Rattle.fb_read_positions.specs.declared.position.TransitionPart.{TransitionPart}
 use Rattle.fb_read_positions.specs.declared.position.TransitionPart.TheVariants as transition_part
-use Rattle.fb_findings.specs.declared.location.ActionPart.{ActionPart}
-use Rattle.fb_findings.specs.declared.location.ActionPart.TheVariants as action_name
-use Rattle.fb_findings.specs.declared.location.Direction.{Direction}
-use Rattle.fb_findings.specs.declared.location.Direction.TheVariants as direction
-use Rattle.fb_findings.specs.declared.location.FlowKind.{FlowKind}
-use Rattle.fb_findings.specs.declared.location.FlowKind.TheVariants as flow
-use Rattle.fb_findings.specs.declared.location.Misfit.{Misfit}
-use Rattle.fb_findings.specs.declared.location.Misfit.TheVariants as misfit
-use Rattle.fb_findings.specs.declared.location.Side.{Side}
-use Rattle.fb_findings.specs.declared.location.Side.TheVariants as side
-use Rattle.fb_findings.specs.declared.location.Site.{Site}
-use Rattle.fb_findings.specs.declared.location.Site.TheVariants as site
-use Rattle.fb_findings.specs.declared.location.StatementPart.{StatementPart}
-use Rattle.fb_findings.specs.declared.location.StatementPart.TheVariants as part
-use Rattle.fb_findings.specs.declared.location.TransitionPart.{TransitionPart as NamedPart}
-use Rattle.fb_findings.specs.declared.location.TransitionPart.TheVariants as transition_name
-use Rattle.fb_findings.specs.declared.location.UnknownName.{UnknownName}
-use Rattle.fb_findings.specs.declared.location.UnknownName.TheVariants as unknown
-use Rattle.fb_findings.specs.declared.location.Variables.{Variables}
-use Rattle.fb_findings.specs.declared.location.Variables.TheVariants as variables
-use Rattle.fb_findings.specs.declared.location.Descent.{Descent}
-use Rattle.fb_findings.specs.declared.location.Descent.TheVariants as descent
+use Rattle.fb_check_names.specs.declared.location.ActionPart.{ActionPart}
+use Rattle.fb_check_names.specs.declared.location.ActionPart.TheVariants as action_name
+use Rattle.fb_check_names.specs.declared.location.Direction.{Direction}
+use Rattle.fb_check_names.specs.declared.location.Direction.TheVariants as direction
+use Rattle.fb_check_names.specs.declared.location.FlowKind.{FlowKind}
+use Rattle.fb_check_names.specs.declared.location.FlowKind.TheVariants as flow
+use Rattle.fb_check_names.specs.declared.location.Misfit.{Misfit}
+use Rattle.fb_check_names.specs.declared.location.Misfit.TheVariants as misfit
+use Rattle.fb_check_names.specs.declared.location.Side.{Side}
+use Rattle.fb_check_names.specs.declared.location.Side.TheVariants as side
+use Rattle.fb_check_names.specs.declared.location.Site.{Site}
+use Rattle.fb_check_names.specs.declared.location.Site.TheVariants as site
+use Rattle.fb_check_names.specs.declared.location.StatementPart.{StatementPart}
+use Rattle.fb_check_names.specs.declared.location.StatementPart.TheVariants as part
+use Rattle.fb_check_names.specs.declared.location.TransitionPart.{TransitionPart as NamedPart}
+use Rattle.fb_check_names.specs.declared.location.TransitionPart.TheVariants as transition_name
+use Rattle.fb_check_names.specs.declared.location.UnknownName.{UnknownName}
+use Rattle.fb_check_names.specs.declared.location.UnknownName.TheVariants as unknown
+use Rattle.fb_check_names.specs.declared.location.Variables.{Variables}
+use Rattle.fb_check_names.specs.declared.location.Variables.TheVariants as variables
+use Rattle.fb_check_names.specs.declared.location.Descent.{Descent}
+use Rattle.fb_check_names.specs.declared.location.Descent.TheVariants as descent
 use Rattle.fb_check.specs.declared.location.Limit.{Limit}
 use Rattle.fb_check.specs.declared.location.Limit.TheVariants as limit
-use Rattle.fb_findings.specs.declared.location.Joined.{Joined}
+use Rattle.fb_check_names.specs.declared.location.Joined.{Joined}
 use Rattle.fb_why.specs.declared.spot.Spot.{Spot}
 use Rattle.fb_why.specs.declared.spot.Spot.TheVariants as spot
-use Rattle.fb_why.specs.declared.twice.GivenTwice.{GivenTwice}
-use Rattle.fb_why.specs.declared.twice.GivenTwice.TheVariants as given
-use Rattle.fb_why.specs.declared.twice.InBlock.{InBlock}
-use Rattle.fb_why.specs.declared.twice.InBlock.TheVariants as in_block
-use Rattle.fb_why.specs.declared.twice.InNetwork.{InNetwork}
-use Rattle.fb_why.specs.declared.twice.InNetwork.TheVariants as in_network
-use Rattle.fb_findings.specs.declared.location.Unlinked.{Unlinked}
-use Rattle.fb_findings.specs.declared.location.Unmapped.{Unmapped}
-use Rattle.fb_findings.specs.declared.location.Unmapped.TheVariants as unmapped
+use Rattle.fb_check_names.specs.declared.twice.GivenTwice.{GivenTwice}
+use Rattle.fb_check_names.specs.declared.twice.GivenTwice.TheVariants as given
+use Rattle.fb_check_names.specs.declared.twice.InBlock.{InBlock}
+use Rattle.fb_check_names.specs.declared.twice.InBlock.TheVariants as in_block
+use Rattle.fb_check_names.specs.declared.twice.InNetwork.{InNetwork}
+use Rattle.fb_check_names.specs.declared.twice.InNetwork.TheVariants as in_network
+use Rattle.fb_check_names.specs.declared.location.Unlinked.{Unlinked}
+use Rattle.fb_check_names.specs.declared.location.Unmapped.{Unmapped}
+use Rattle.fb_check_names.specs.declared.location.Unmapped.TheVariants as unmapped
 
 -- a part of the network of a site
 abbrev pub in_site : Site → NetworkPart → Position
@@ -184,9 +184,10 @@ variable_position block variables.Inputs k = position.InPorts block (port_part.I
 variable_position block variables.Outputs k = position.InPorts block (port_part.Output k)
 variable_position block variables.Internals k = position.InBasic block (basic_part.Internal k)
 
--- a condition of an IF at its IF or ELSIF, and anything else where the statement begins
+-- a condition of an IF at its IF or ELSIF, that of a REPEAT at UNTIL, and anything else where the statement begins
 abbrev pub statement_part : (algorithm statement : ℕ) → StatementPart → BasicPart
 statement_part algorithm statement (part.Choice k) = basic_part.Clause algorithm statement k
+statement_part algorithm statement part.Until = basic_part.Clause algorithm statement 1
 statement_part algorithm statement _ = basic_part.Statement algorithm statement
 
 abbrev pub misfit_position : Misfit → Position

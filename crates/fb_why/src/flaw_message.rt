@@ -8,9 +8,9 @@ use crate::twice_messages::push_given;
 use crate::unlinked_messages::push_unlinked;
 use crate::unmapped_messages::push_unmapped;
 use crate::unserved_messages::push_unserved;
+use crate::{Text, misfit_message, misjoin_message, unknown_message};
 use fb_check::Case;
 use fb_types::{Library, Plan};
-use fb_why_kinds::{Text, misfit_message, misjoin_message, unknown_message};
 use std::alloc::{AllocError, Global};
 
 /// Says where the refusal applies, and what is wrong there.

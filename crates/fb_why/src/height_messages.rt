@@ -1,8 +1,8 @@
 //! The text for a composite type that contains itself, or is too high (E25).
 
-use fb_findings::Descent;
+use crate::{Text, push_instance};
+use fb_check_names::Descent;
 use fb_types::{BlockType, CompositeType, Library};
-use fb_why_kinds::{Text, push_instance};
 
 /// Adds which composite type is too high, and through which of its instances.
 pub fn push_descent(text: &mut Text, library: &Library, location: Descent) {

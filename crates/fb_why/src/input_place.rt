@@ -5,13 +5,14 @@ ghost use Rattle.fb_why.specs.InputPlaces as spec;
 ghost use Rattle.fb_why.specs.InputPlaces.{IsInputPlace, IsInputPosition, IsListedIn, IsPlaceInDeploy, IsPlaceInRows};
 
 use crate::spot::Spot;
-use crate::twice::GivenTwice;
+use crate::{TextLocation, place_in_deployment, place_in_stimuli};
 use fb_check::{Limit, StimulusFault, StimulusLocation};
-use fb_findings::{Side, UnknownName, Unmapped};
-use fb_inputs::{DeployKey, InputError, TableLocation, read_deploy};
-use fb_inputs_positions::{DeployPosition, StimuliPosition, deploy_position, stimuli_position};
+use fb_check_names::{GivenTwice, Side, UnknownName, Unmapped};
+use fb_inputs::{
+    DeployKey, DeployPosition, InputError, StimuliPosition, TableLocation, deploy_position,
+    read_deploy, stimuli_position,
+};
 use fb_types::ResourceEntry;
-use fb_why_bytes::{TextLocation, place_in_deployment, place_in_stimuli};
 use std::alloc::{AllocError, Global};
 
 /// An input beside the declaration.

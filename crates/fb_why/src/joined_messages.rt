@@ -1,9 +1,9 @@
 //! The text for two data connections that lead to one port (E24).
 
-use fb_findings::{Joined, Repeat};
+use crate::Text;
+use crate::site_messages::{network_of, push_site};
+use fb_check_names::{Joined, Repeat};
 use fb_types::{Library, Network};
-use fb_why_kinds::Text;
-use fb_why_kinds::site_messages::{network_of, push_site};
 
 /// Adds which two data connections lead to one port.
 pub fn push_joined(text: &mut Text, library: &Library, location: Joined) {

@@ -4,48 +4,70 @@
 //! Guarantees to callers: `explanation::explain` has an explanation for each refusal and each reason of a stop, and for
 //! nothing else. The locations that `finding::findings_of` reports are in the bytes or in what they declare, and the refusal
 //! applies there. Each place is in the text of the declaration, and the token there is the name that the library has at
-//! this location. For E20 to E22 it reports none only if the refusal does not apply or the bytes can't be read;
-//! for the other numbers of the check only if the inputs are refused for something else. The wording of the texts is not
-//! part of any contract.
+//! this location. For the numbers of the check, whose locations the check lists, it reports none only if the inputs are
+//! refused for something else or can't be read. The wording of the texts is not part of any contract.
 //!
-//! The check itself lists the locations of E23 to E30. `twice::twice_locations` finds what is given twice (E20); its list is
-//! empty exactly if nothing is.
-//!
-//! Read in this order: `explanation` and `table`; `cause` and `spot`, what each number is about, and where. Then names:
-//! `pair`, what is in a list twice; `twice`; `laws`; the modules `.._messages`, a location as text. Then `refused` and
-//! `declared`, locations in bytes and in what they declare; `positions` and `place`, where a location is in the text of the
-//! declaration; `finding`, which reads the bytes again. All of this runs only after a refusal.
+//! Read in this order: `explanation` and `table`; `cause` and `spot`, what each number is about, and where. Then the
+//! modules `.._messages`, a location as text. Then `refused` and `declared`, locations in bytes and in what they declare;
+//! `positions` and `place`, where a location is in the text of the declaration; `finding`, which reads the bytes again. All
+//! of this runs only after a refusal.
 #![tactic(auto)]
 
 pub mod cause;
+mod comments;
 mod declared;
+pub mod deployment_messages;
 pub mod explanation;
+pub mod find;
 pub mod finding;
 mod flaw_message;
+mod fraction;
 mod height_messages;
+mod hints;
 pub mod input_place;
+pub mod input_stretches;
 mod joined_messages;
-pub mod laws;
+pub mod kind_messages;
 mod limit_messages;
 pub mod listing;
-pub mod pair;
+pub mod lookup;
 pub mod place;
 mod positions;
 mod refused;
+pub mod rules_messages;
+pub mod site_messages;
+pub mod source_line;
 pub mod spot;
+pub mod stimuli_messages;
 pub mod table;
-pub mod twice;
+mod text;
+pub mod text_locations;
+pub mod text_messages;
 mod twice_messages;
+mod types;
+pub mod unknown_messages;
 mod unlinked_messages;
 mod unmapped_messages;
 mod unserved_messages;
+pub mod words;
 
 pub use cause::{Cause, Flaw};
+pub use deployment_messages::deployment_message;
 pub use explanation::explain;
+pub use find::{TextRefusal, text_refusal};
 pub use finding::findings_of;
 pub use input_place::{InputFile, Place, place_in_inputs};
+pub use input_stretches::{place_in_deployment, place_in_stimuli};
+pub use kind_messages::{misfit_message, misjoin_message};
 pub use listing::{Findings, MOST_FINDINGS, discard_findings};
 pub use place::PlacedFinding;
+pub use rules_messages::{rules_message, unknown_key_message};
+pub use site_messages::push_instance;
+pub use source_line::excerpt;
 pub use spot::{Finding, Spot};
+pub use stimuli_messages::stimuli_message;
 pub use table::{Explanation, OF_CHECKS, OF_DECLARATIONS, OF_INPUTS};
-pub use twice::{GivenTwice, InBlock, InNetwork};
+pub use text_locations::{TextLocation, after_mark, location_at};
+pub use text_messages::text_message;
+pub use unknown_messages::unknown_message;
+pub use words::Text;

@@ -1,11 +1,11 @@
 //! Texts for stimuli that do not fit, and for limits that are exceeded.
 
+use crate::Text;
 use fb_check::{Limit, StimulusFault, StimulusLocation};
 use fb_types::{
     Connection, Library, Name, Setting, Stimulus, Ty, Variable, block_named,
     event_block_input_named, instance_named, kind_named,
 };
-use fb_why_kinds::Text;
 use std::alloc::{AllocError, Global};
 
 /// Says what is wrong with the stimulus at this location. Rows are counted from 0 after the heading, as in the keys of

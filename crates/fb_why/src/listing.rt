@@ -8,13 +8,13 @@ ghost use Rattle.fb_read.specs.Whole.{IsLibraryText, most_bytes};
 ghost use Rattle.fb_why.specs.Listings.{locations_of, most_findings};
 ghost use Rattle.fb_why.specs.Places.{IsPlacedFinding};
 
+use crate::TextLocation;
 use crate::flaw_message::flaw_message;
 use crate::place::{PlacedFinding, place_among};
 use crate::spot::{Finding, Spot};
 use fb_check::Case;
 use fb_read::token::Located;
 use fb_read_positions::{beginning, discard, tokens_of};
-use fb_why_bytes::TextLocation;
 use std::alloc::{AllocError, Global};
 
 /// The greatest number of findings that are shown.

@@ -14,10 +14,10 @@ ghost use Rattle.fb_why.specs.Places.{IsPlaceAt, IsPlacedFinding, IsShown, Keeps
 
 use crate::positions::position_of;
 use crate::spot::{Finding, Spot};
+use crate::{TextLocation, location_at};
 use fb_read::token::{Located, Span};
 use fb_read_positions::{Position, Reached, span_from, span_of};
 use fb_types::Library;
-use fb_why_bytes::{TextLocation, location_at};
 use std::alloc::{AllocError, Global};
 
 /// Where a refusal applies, and where that is in the text of the declaration.

@@ -5,11 +5,11 @@ ghost use Rattle.std.specs.Option.{option_copied};
 ghost use Rattle.fb_why.specs.Positions as spec;
 
 use crate::spot::Spot;
-use crate::twice::{GivenTwice, InBlock, InNetwork};
 use fb_check::Limit;
-use fb_findings::{
-    ActionPart, Descent, Direction, FlowKind, Joined, Misfit, Misjoin, Side, Site, StatementPart,
-    TransitionPart as NamedPart, UnknownName, Unlinked, Unmapped, Variables,
+use fb_check_names::{
+    ActionPart, Descent, Direction, FlowKind, GivenTwice, InBlock, InNetwork, Joined, Misfit,
+    Misjoin, Side, Site, StatementPart, TransitionPart as NamedPart, UnknownName, Unlinked,
+    Unmapped, Variables,
 };
 use fb_read_positions::{
     BasicPart, ConnectionPart, NetworkPart, PortPart, Position, TransitionPart,
@@ -288,12 +288,14 @@ fn variable_position(block: usize, variables: Variables, variable: usize) -> Pos
     }
 }
 
-/// A part of a statement: a condition of an IF at its IF or ELSIF, and anything else where the statement begins.
+/// A part of a statement: a condition of an IF at its IF or ELSIF, that of a REPEAT at UNTIL, and anything else where the
+/// statement begins.
 fn statement_part(algorithm: usize, statement: usize, part: StatementPart) -> BasicPart
     ensures { result ≡ spec.statement_part algorithm statement part }
 {
     match part {
         StatementPart::Choice(choice) => BasicPart::Clause(algorithm, statement, choice),
+        StatementPart::Until => BasicPart::Clause(algorithm, statement, 1),
         _ => BasicPart::Statement(algorithm, statement),
     }
 }

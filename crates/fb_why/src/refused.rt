@@ -4,8 +4,8 @@ ghost use Rattle.std.specs.Prelude.{IfOk, IfSome, MatchOption, option_map};
 ghost use Rattle.fb_why.specs.Findings.{IsDeploymentSpot, IsSilentOfBytes, IsSilentOfDeployment, IsSilentOfStimuli, IsSilentOfText, IsStimuliSpot, FindsInBytes, FindsInDeployment, FindsInStimuli, FindsInText};
 
 use crate::spot::{Finding, Spot, found};
+use crate::{deployment_message, stimuli_message, text_message, text_refusal};
 use fb_inputs::{deployment_location, stimuli_location};
-use fb_why_bytes::{deployment_message, stimuli_message, text_message, text_refusal};
 use std::alloc::{AllocError, Global};
 
 /// Where the text of a declaration is refused, if its refusal has this number.

@@ -3,11 +3,12 @@
 ghost use Rattle.std.specs.Prelude.{IfOk};
 ghost use Rattle.fb_why.specs.Findings.{IsFoundAt};
 
-use crate::twice::GivenTwice;
+use crate::TextLocation;
 use fb_check::{Limit, StimulusLocation};
-use fb_findings::{Descent, Joined, Misfit, Misjoin, UnknownName, Unlinked, Unmapped};
+use fb_check_names::{
+    Descent, GivenTwice, Joined, Misfit, Misjoin, UnknownName, Unlinked, Unmapped,
+};
 use fb_inputs::{DeployLocation, StimuliLocation};
-use fb_why_bytes::TextLocation;
 use std::alloc::AllocError;
 
 /// A location at which a refusal applies.

@@ -1,10 +1,8 @@
 //! The text for what is given twice (E20).
 
-use crate::twice::{GivenTwice, InBlock, InNetwork};
-use fb_check_names::Named;
-use fb_findings::Repeat;
+use crate::{Text, push_instance};
+use fb_check_names::{GivenTwice, InBlock, InNetwork, Named, Repeat};
 use fb_types::{BlockType, EventPort, Library, Name, Network, Plan};
-use fb_why_kinds::{Text, push_instance};
 
 const AGAIN: &str = " is given twice";
 

@@ -1,8 +1,8 @@
 //! The text for a connection between two resources without a link (E27).
 
-use fb_findings::{FlowKind, Unlinked};
+use crate::Text;
+use fb_check_names::{FlowKind, Unlinked};
 use fb_types::{Application, Connection, Name, Plan, PortName, ResourceEntry};
-use fb_why_kinds::Text;
 
 /// Adds which connection has no link, and which link it would need.
 pub fn push_unlinked(text: &mut Text, application: &Application, plan: &Plan, location: Unlinked) {

@@ -1,8 +1,8 @@
 //! The text for an instance that is not mapped to one resource (E26).
 
-use fb_findings::{Repeat, Unmapped};
+use crate::Text;
+use fb_check_names::{Repeat, Unmapped};
 use fb_types::{Application, Name, Plan, ResourceEntry};
-use fb_why_kinds::Text;
 
 /// Adds where an instance is not mapped to one resource.
 pub fn push_unmapped(text: &mut Text, application: &Application, plan: &Plan, location: Unmapped) {

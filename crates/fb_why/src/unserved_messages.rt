@@ -1,8 +1,8 @@
 //! The text for a data connection between two resources that no event serves (E28).
 
+use crate::Text;
 use crate::unlinked_messages::push_resource;
 use fb_types::{Application, Plan};
-use fb_why_kinds::Text;
 
 /// Adds which data connection no event serves, and which event could.
 pub fn push_unserved(text: &mut Text, application: &Application, plan: &Plan, location: usize) {

@@ -1,18 +1,32 @@
-use Rattle.fb_types.specs.Repeated.{NameTwice}
-use Rattle.fb_check_names.specs.Catalog.{IsCatalog}
-use Rattle.std.proofs.lemmas.Option.{MatchOption-at_some, MatchOption-at_none}
-use Rattle.fb_check.proofs.Verdict.{first, least_20}
+use Rattle.std.proofs.Common.{◌≡◌, List, ◌++◌, sym, ◌∙◌, ap, vec_len}
+use Rattle.fb_check_names.specs.declared.twice.GivenTwice.{GivenTwice}
+use Rattle.fb_check_names.proofs.Listing.{some_says}
+use Rattle.fb_check_names.specs.Twice.{IsTwiceAt}
+use Rattle.fb_check_names.specs.TwiceLists.{twice_all}
+use Rattle.fb_check_names.proofs.AllTwice.{each_twice, none_twice}
+use Rattle.fb_check_names.proofs.Applying.{twice_applies}
+use Rattle.fb_check.proofs.Verdict.{first, least_20, no_location, some_location}
 use Rattle.fb_check.proofs.judgement.catalog.Goals as goal
 
-pub returns-in-Some-clause-ok : goal.returns-in-Some-clause-ok
-returns-in-Some-clause-ok c =
-    let lib = c.args.case.now.library.now in
-    let plan = c.args.case.now.plan.now in
-    MatchOption-at_some (NameTwice lib plan) (IsCatalog lib plan) _ c.in-Some.is c.in_ok-catalog.ensures
-
-pub returns-in-None-clause-refused : goal.returns-in-None-clause-refused
-returns-in-None-clause-refused c =
+pub returns-then-not-is_empty-clause-refused : goal.returns-then-not-is_empty-clause-refused
+returns-then-not-is_empty-clause-refused c =
     let lib = c.args.case.now.library.now in
     let plan = c.args.case.now.plan.now in
     let ss = c.args.case.now.stimuli.now in
-    record { least = least_20 lib plan ss (first lib plan ss) (MatchOption-at_none (NameTwice lib plan) (IsCatalog lib plan) c.in-None.is c.in_ok-catalog.ensures); all = tt }
+    let found = c.catalog_of.new.found in
+    let all : found.items ≡ twice_all lib plan = c.in_ok-catalog.ensures.found ∙ ap (λ (ps : List GivenTwice). ps ++ twice_all lib plan) c.new-found.ensures.items in
+    record {
+      least = least_20 lib plan ss (first lib plan ss)
+          (some_says (IsTwiceAt lib plan) (twice_all lib plan) (twice_applies lib plan) (each_twice lib plan)
+          (λ none. some_location found.items (vec_len found) c.is_empty.result found.ok.0 c.is_empty.ensures c.if-not-is_empty.true (all ∙ none)));
+      all = all;
+    }
+
+pub returns-clause-ok : goal.returns-clause-ok
+returns-clause-ok c =
+    let lib = c.args.case.now.library.now in
+    let plan = c.args.case.now.plan.now in
+    let found = c.catalog_of.new.found in
+    let all : found.items ≡ twice_all lib plan = c.in_ok-catalog.ensures.found ∙ ap (λ (ps : List GivenTwice). ps ++ twice_all lib plan) c.new-found.ensures.items in
+    c.in_ok-catalog.ensures.catalog
+    (none_twice lib plan (sym all ∙ no_location found.items (vec_len found) c.is_empty.result found.ok.0 c.is_empty.ensures c.if-not-is_empty.false))

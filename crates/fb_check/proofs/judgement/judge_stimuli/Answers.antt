@@ -1,5 +1,5 @@
 use Rattle.std.proofs.Common.{arith, vec_len}
-use Rattle.fb_findings.proofs.Listing.{some_says}
+use Rattle.fb_check_names.proofs.Listing.{some_says}
 use Rattle.fb_check.specs.Stimuli.{IsBadAt}
 use Rattle.fb_check.proofs.Good.{bad_applies}
 use Rattle.fb_check.proofs.Verdict.{known, least_29, no_location, passes_29, some_location}

@@ -1,36 +1,31 @@
-use Rattle.fb_check_names.specs.Parts.{ArePartsKnown}
-use Rattle.fb_check.proofs.Verdict.{first, passes_20, least_21, not_so}
-use Rattle.fb_check.proofs.Parts.{unknown_part}
-use Rattle.fb_types.specs.Unknown.{NameUnknown}
-use Rattle.fb_check_names.specs.Numbers.{IsResolved}
-use Rattle.std.proofs.lemmas.Option.{MatchOption-at_some, MatchOption-at_none}
+use Rattle.std.proofs.Common.{◌≡◌, List, ◌++◌, sym, ◌∙◌, ap, vec_len}
+use Rattle.fb_check_names.specs.declared.location.UnknownName.{UnknownName}
+use Rattle.fb_check_names.proofs.Listing.{some_says}
+use Rattle.fb_check_types.specs.Unknown.{IsUnknownAt}
+use Rattle.fb_check_types.specs.Unknowns.{unknown_all}
+use Rattle.fb_check_types.proofs.Applying.{unknown_applies}
+use Rattle.fb_check_types.proofs.Witnesses.{each_unknown}
+use Rattle.fb_check.proofs.Verdict.{first, least_21, no_location, passes_20, some_location}
 use Rattle.fb_check.proofs.judgement.numbers.Goals as goal
 
-pub returns-then-not-are_parts_known-clause-refused : goal.returns-then-not-are_parts_known-clause-refused
-returns-then-not-are_parts_known-clause-refused c =
-    let lib = c.args.case.now.library.now in
-    record {
-      least = least_21 c.args.case.now.library.now c.args.case.now.plan.now c.args.case.now.stimuli.now (passes_20 c.args.case.now.library.now c.args.case.now.plan.now c.args.case.now.stimuli.now (first c.args.case.now.library.now c.args.case.now.plan.now c.args.case.now.stimuli.now) c.requires.once)
-          (unknown_part lib c.args.case.now.plan.now (not_so c.are_parts_known.result (ArePartsKnown lib) c.are_parts_known.ensures c.if-not-are_parts_known.true));
-      all = tt;
-    }
-
-pub resolve-requires-clause-parts : goal.resolve-requires-clause-parts
-resolve-requires-clause-parts c = c.are_parts_known.ensures.0 c.if-not-are_parts_known.false
-
-pub returns-in-Some-clause-ok : goal.returns-in-Some-clause-ok
-returns-in-Some-clause-ok c =
-    let lib = c.args.case.now.library.now in
-    let plan = c.args.case.now.plan.now in
-    MatchOption-at_some (NameUnknown lib plan) (IsResolved lib plan) _ c.in-Some.is c.in_ok-resolved.ensures
-
-pub returns-in-None-clause-refused : goal.returns-in-None-clause-refused
-returns-in-None-clause-refused c =
+pub returns-then-not-is_empty-clause-refused : goal.returns-then-not-is_empty-clause-refused
+returns-then-not-is_empty-clause-refused c =
     let lib = c.args.case.now.library.now in
     let plan = c.args.case.now.plan.now in
     let ss = c.args.case.now.stimuli.now in
+    let found = c.resolve.new.found in
+    let all : found.items ≡ unknown_all lib plan = c.in_ok-resolved.ensures.listed ∙ ap (λ (ps : List UnknownName). ps ++ unknown_all lib plan) c.new-found.ensures.items in
     record {
       least = least_21 lib plan ss (passes_20 lib plan ss (first lib plan ss) c.requires.once)
-          (MatchOption-at_none (NameUnknown lib plan) (IsResolved lib plan) c.in-None.is c.in_ok-resolved.ensures);
-      all = tt;
+          (some_says (IsUnknownAt lib plan) (unknown_all lib plan) (unknown_applies lib plan) (each_unknown lib plan)
+          (λ none. some_location found.items (vec_len found) c.is_empty.result found.ok.0 c.is_empty.ensures c.if-not-is_empty.true (all ∙ none)));
+      all = all;
     }
+
+pub returns-clause-ok : goal.returns-clause-ok
+returns-clause-ok c =
+    let lib = c.args.case.now.library.now in
+    let plan = c.args.case.now.plan.now in
+    let found = c.resolve.new.found in
+    let all : found.items ≡ unknown_all lib plan = c.in_ok-resolved.ensures.listed ∙ ap (λ (ps : List UnknownName). ps ++ unknown_all lib plan) c.new-found.ensures.items in
+    c.in_ok-resolved.ensures.numbers (sym all ∙ no_location found.items (vec_len found) c.is_empty.result found.ok.0 c.is_empty.ensures c.if-not-is_empty.false)

@@ -1,5 +1,5 @@
 use Rattle.std.proofs.Common.{arith, vec_len}
-use Rattle.fb_findings.proofs.Listing.{some_says}
+use Rattle.fb_check_names.proofs.Listing.{some_says}
 use Rattle.fb_check_networks.specs.Unserved.{IsUnservedAt}
 use Rattle.fb_check_networks.proofs.Unserved.{unserved_applies}
 use Rattle.fb_check.proofs.Verdict.{once, least_28, no_location, passes_28, some_location}

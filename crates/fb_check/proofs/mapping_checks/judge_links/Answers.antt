@@ -1,5 +1,5 @@
 use Rattle.std.proofs.Common.{vec_len}
-use Rattle.fb_findings.proofs.Listing.{some_says}
+use Rattle.fb_check_names.proofs.Listing.{some_says}
 use Rattle.fb_check_networks.specs.Links.{IsUnlinkedAt}
 use Rattle.fb_check_networks.proofs.Unlinked.{unlinked_applies}
 use Rattle.fb_check.proofs.Verdict.{least_27, no_location, passes_27, some_location}

@@ -1,6 +1,6 @@
 use Rattle.std.proofs.Common.{◌≡◌, List, ◌++◌, sym, ◌∙◌, ap, arith, vec_len}
-use Rattle.fb_findings.specs.declared.location.Unmapped.{Unmapped}
-use Rattle.fb_findings.proofs.Listing.{some_says}
+use Rattle.fb_check_names.specs.declared.location.Unmapped.{Unmapped}
+use Rattle.fb_check_names.proofs.Listing.{some_says}
 use Rattle.fb_check_networks.specs.Unmapped.{IsUnmappedAt, unmapped_all}
 use Rattle.fb_check_networks.proofs.Mapped.{each_unmapped, none_unmapped, unmapped_applies}
 use Rattle.fb_check.proofs.Verdict.{once, passes_26, least_26, no_location, some_location}

@@ -1,5 +1,5 @@
 use Rattle.std.proofs.Common.{arith, vec_len}
-use Rattle.fb_findings.proofs.Listing.{some_says}
+use Rattle.fb_check_names.proofs.Listing.{some_says}
 use Rattle.fb_check_networks.specs.Misjoins.{IsMisjoinedAt}
 use Rattle.fb_check_networks.proofs.Joined.{misjoin_applies}
 use Rattle.fb_check.proofs.Verdict.{once, least_23, no_location, passes_23, some_location}

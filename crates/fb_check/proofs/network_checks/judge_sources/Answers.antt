@@ -1,5 +1,5 @@
 use Rattle.std.proofs.Common.{vec_len}
-use Rattle.fb_findings.proofs.Listing.{some_says}
+use Rattle.fb_check_names.proofs.Listing.{some_says}
 use Rattle.fb_check_networks.specs.Sources.{IsJoinedAt}
 use Rattle.fb_check_networks.proofs.Targets.{joined_applies}
 use Rattle.fb_check.proofs.Verdict.{least_24, no_location, passes_24, some_location}

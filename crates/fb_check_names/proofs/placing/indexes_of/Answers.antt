@@ -1,24 +1,21 @@
-use Rattle.std.proofs.Common.{Bor, List, sym, ◌∙◌, subst}
-use Rattle.std.proofs.lemmas.List.{take_all}
-use Rattle.fb_types.specs.Names.{Name}
-use Rattle.fb_check_names.specs.Indexes.{IsIndex, names_in}
-use Rattle.fb_check_names.proofs.Seen.{index_none, index_more, index_twice}
+use Rattle.std.proofs.Common.{ℕ, List, ◌++◌, ◌∙◌, ap, vec_len}
+use Rattle.fb_types.specs.Names.{same_name}
+use Rattle.fb_check_names.specs.Repeats.{repeats}
+use Rattle.fb_check_names.specs.Indexes.{names_in}
+use Rattle.fb_check_names.proofs.Places.{index_of_places, no_pairs_say, pairs_say}
 use Rattle.fb_check_names.proofs.placing.indexes_of.Goals as goal
 
-pub loop-index-init : goal.loop-index-init
-loop-index-init c = index_none _ c.new-indexes.ensures.empty
-
-pub returns-then-is_some : goal.returns-then-is_some
-returns-then-is_some c =
-    index_twice (λ (n : Bor Name). n.now) _ _ _ _ c.as_bytes.result _ c.loop-index-test.true c.index-names-index.is c.as_bytes.ensures c.loop-index.invariant
-    c.in_ok-insert.ensures.old (sym c.is_some.ensures ∙ c.if-is_some.true)
-
-pub loop-index-preserved : goal.loop-index-preserved
-loop-index-preserved c =
-    index_more (λ (n : Bor Name). n.now) _ _ _ _ _ c.as_bytes.result _ c.loop-index-test.true c.index-names-index.is c.as_bytes.ensures c.loop-index.invariant
-    c.in_ok-insert.ensures.old (sym c.is_some.ensures ∙ c.if-is_some.false) c.in_ok-insert.ensures.updates.0
+pub returns-then-not-is_empty : goal.returns-then-not-is_empty
+returns-then-not-is_empty c =
+    let ns = names_in c.args.names.now in
+    let again = c.last_places.new.again in
+    pairs_say ns again.items (vec_len again) c.is_empty.result
+    (c.in_ok-places.ensures.again ∙ ap (λ (ps : List (ℕ × ℕ)). ps ++ repeats same_name ns) c.new-again.ensures.items) again.ok.0 c.is_empty.ensures c.if-not-is_empty.true
 
 pub returns : goal.returns
 returns c =
-    subst (λ (ns : List (Bor Name)). IsIndex (names_in ns) c.loop-index.indexes) (take_all c.loop-index.index c.args.names.now c.loop-index-test.false)
-    c.loop-index.invariant
+    let ns = names_in c.args.names.now in
+    let again = c.last_places.new.again in
+    index_of_places ns c.in_ok-places.places c.in_ok-places.ensures.places
+    (no_pairs_say ns again.items (vec_len again) c.is_empty.result
+    (c.in_ok-places.ensures.again ∙ ap (λ (ps : List (ℕ × ℕ)). ps ++ repeats same_name ns) c.new-again.ensures.items) again.ok.0 c.is_empty.ensures c.if-not-is_empty.false)

@@ -1,7 +1,7 @@
 use Rattle.std.proofs.Common.{sym, ◌∙◌}
 use Rattle.std.specs.Prelude.{position}
 use Rattle.fb_check_networks.specs.Heights.{is_marked}
-use Rattle.fb_findings.proofs.Repeating.{same_within}
+use Rattle.fb_check_names.proofs.Repeating.{same_within}
 use Rattle.fb_check_networks.proofs.Looking.{at_first, found_first, found_none, not_first}
 use Rattle.fb_check_networks.proofs.heights.marked_among.Goals as goal
 

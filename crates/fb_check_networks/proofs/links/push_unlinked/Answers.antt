@@ -1,4 +1,4 @@
-use Rattle.fb_findings.proofs.Listing.{added_unless, each_done, each_more}
+use Rattle.fb_check_names.proofs.Listing.{added_unless, each_done, each_more}
 use Rattle.fb_check_networks.specs.Links.{is_linked, unlinked_at}
 use Rattle.fb_check_networks.proofs.links.push_unlinked.Goals as goal
 

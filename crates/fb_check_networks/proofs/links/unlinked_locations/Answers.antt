@@ -1,8 +1,8 @@
 use Rattle.std.proofs.Common.{◌≡◌, [], List}
 use Rattle.std.specs.Prelude.{All}
 use Rattle.fb_types.specs.Mapped.{NoLink}
-use Rattle.fb_findings.specs.declared.location.Unlinked.{Unlinked}
-use Rattle.fb_findings.proofs.Listing.{of_list}
+use Rattle.fb_check_names.specs.declared.location.Unlinked.{Unlinked}
+use Rattle.fb_check_names.proofs.Listing.{of_list}
 use Rattle.fb_check_networks.specs.Links.{IsUnlinkedAt}
 use Rattle.fb_check_networks.proofs.Unlinked.{each_unlinked, none_unlinked}
 use Rattle.fb_check_networks.proofs.links.unlinked_locations.Goals as goal

@@ -2,11 +2,11 @@ use Rattle.std.proofs.Common.{◌≡◌, ◌++◌, List, ℕ, append_assoc, map,
 use Rattle.std.specs.Prelude.{flat_map}
 use Rattle.fb_types.specs.Names.{Name, same_name}
 use Rattle.fb_check_names.specs.Indexes.{names_in}
-use Rattle.fb_findings.specs.Listed.{each_at}
-use Rattle.fb_findings.specs.Repeats.{repeats}
-use Rattle.fb_findings.specs.declared.location.Unmapped.{Unmapped}
-use Rattle.fb_findings.specs.declared.location.Unmapped.TheVariants.{Again}
-use Rattle.fb_check_networks.specs.Mapping.{ArePlaces}
+use Rattle.fb_check_names.specs.Listed.{each_at}
+use Rattle.fb_check_names.specs.Repeats.{repeats}
+use Rattle.fb_check_names.specs.declared.location.Unmapped.{Unmapped}
+use Rattle.fb_check_names.specs.declared.location.Unmapped.TheVariants.{Again}
+use Rattle.fb_check_names.specs.Indexes.{ArePlaces}
 use Rattle.fb_check_networks.specs.Unmapped.{unlisted_at}
 use Rattle.fb_check_networks.proofs.Owners.{unlisted_are}
 use Rattle.fb_check_networks.proofs.mapping.list_all.Goals as goal

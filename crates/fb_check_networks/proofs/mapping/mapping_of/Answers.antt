@@ -1,7 +1,7 @@
 use Rattle.std.proofs.Common.{List, ◌++◌, ◌∙◌, ap}
 use Rattle.std.specs.Prelude.{flat_map}
 use Rattle.fb_types.specs.declared.deploy.ResourceEntry.{ResourceEntry}
-use Rattle.fb_findings.specs.declared.location.Unmapped.{Unmapped}
+use Rattle.fb_check_names.specs.declared.location.Unmapped.{Unmapped}
 use Rattle.fb_check_networks.proofs.Mapped.{all_listed, all_mapped, found_among, none_of_all}
 use Rattle.fb_check_networks.proofs.mapping.mapping_of.Goals as goal
 

@@ -1,7 +1,7 @@
 use Rattle.std.proofs.Common.{ℕ, List, [], map, refl}
 use Rattle.fb_types.specs.Names.{Name}
-use Rattle.fb_findings.proofs.Listing.{walk_done}
-use Rattle.fb_findings.proofs.Repeating.{copied_more}
+use Rattle.fb_check_names.proofs.Listing.{walk_done}
+use Rattle.fb_check_names.proofs.Repeating.{copied_more}
 use Rattle.fb_check_networks.proofs.mapping.push_owner.Goals as goal
 
 pub loop-name-preserved : goal.loop-name-preserved

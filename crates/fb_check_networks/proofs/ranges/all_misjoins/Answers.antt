@@ -1,7 +1,7 @@
 use Rattle.std.proofs.Common.{◌++◌, List, None, ◌∙◌, ap}
-use Rattle.fb_findings.specs.Listed.{each_at}
-use Rattle.fb_findings.specs.declared.location.Misjoin.{Misjoin}
-use Rattle.fb_findings.specs.declared.location.Site.TheVariants.{Application}
+use Rattle.fb_check_names.specs.Listed.{each_at}
+use Rattle.fb_check_names.specs.declared.location.Misjoin.{Misjoin}
+use Rattle.fb_check_names.specs.declared.location.Site.TheVariants.{Application}
 use Rattle.fb_check_networks.specs.Misjoins.{out_at_index, out_in}
 use Rattle.fb_check_networks.proofs.Joined.{misjoins_are}
 use Rattle.fb_check_networks.proofs.ranges.all_misjoins.Goals as goal

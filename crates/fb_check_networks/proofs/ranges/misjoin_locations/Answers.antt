@@ -1,8 +1,8 @@
 use Rattle.std.proofs.Common.{◌≡◌, [], List}
 use Rattle.std.specs.Prelude.{All}
 use Rattle.fb_types.specs.Joined.{OutOfRange}
-use Rattle.fb_findings.specs.declared.location.Misjoin.{Misjoin}
-use Rattle.fb_findings.proofs.Listing.{of_list}
+use Rattle.fb_check_names.specs.declared.location.Misjoin.{Misjoin}
+use Rattle.fb_check_names.proofs.Listing.{of_list}
 use Rattle.fb_check_networks.specs.Misjoins.{IsMisjoinedAt}
 use Rattle.fb_check_networks.proofs.Joined.{each_misjoin, none_misjoin}
 use Rattle.fb_check_networks.proofs.ranges.misjoin_locations.Goals as goal

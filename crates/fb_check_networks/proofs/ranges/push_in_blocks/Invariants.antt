@@ -1,5 +1,5 @@
 use Rattle.std.proofs.Common.{◌≡◌, ◌++◌, drop}
-use Rattle.fb_findings.specs.Listed.{each_at, each_from}
+use Rattle.fb_check_names.specs.Listed.{each_at, each_from}
 use Rattle.fb_check_networks.specs.Misjoins.{out_at_index}
 use Rattle.fb_check_networks.proofs.ranges.push_in_blocks.Given as goal
 

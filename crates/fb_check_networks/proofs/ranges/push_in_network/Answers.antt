@@ -1,9 +1,9 @@
 use Rattle.std.proofs.Common.{◌≡◌, ℕ, ◌+◌, ◌<◌, Bool, List, ◌++◌, drop, get_or, length, not, ◌∙◌, ap}
 use Rattle.std.specs.Option.{option_copied}
-use Rattle.fb_findings.specs.Listed.{each_at, each_from, unless}
-use Rattle.fb_findings.specs.declared.location.Misjoin.{Misjoin}
-use Rattle.fb_findings.proofs.Listing.{each_done, each_more}
-use Rattle.fb_findings.proofs.Repeating.{same_within}
+use Rattle.fb_check_names.specs.Listed.{each_at, each_from, unless}
+use Rattle.fb_check_names.specs.declared.location.Misjoin.{Misjoin}
+use Rattle.fb_check_names.proofs.Listing.{each_done, each_more}
+use Rattle.fb_check_names.proofs.Repeating.{same_within}
 use Rattle.fb_check_networks.specs.Misjoins.{out_at}
 use Rattle.fb_check_networks.proofs.ranges.push_in_network.Goals as goal
 

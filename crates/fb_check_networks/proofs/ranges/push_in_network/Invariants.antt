@@ -1,6 +1,6 @@
 use Rattle.std.proofs.Common.{◌≡◌, ◌++◌, drop}
 use Rattle.std.specs.Option.{option_copied}
-use Rattle.fb_findings.specs.Listed.{each_at, each_from}
+use Rattle.fb_check_names.specs.Listed.{each_at, each_from}
 use Rattle.fb_check_networks.specs.Misjoins.{out_at}
 use Rattle.fb_check_networks.proofs.ranges.push_in_network.Given as goal
 

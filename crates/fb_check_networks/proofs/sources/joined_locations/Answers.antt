@@ -1,8 +1,8 @@
 use Rattle.std.proofs.Common.{◌≡◌, [], List}
 use Rattle.std.specs.Prelude.{All}
 use Rattle.fb_types.specs.Joined.{TwoSources}
-use Rattle.fb_findings.specs.declared.location.Joined.{Joined}
-use Rattle.fb_findings.proofs.Listing.{of_list}
+use Rattle.fb_check_names.specs.declared.location.Joined.{Joined}
+use Rattle.fb_check_names.proofs.Listing.{of_list}
 use Rattle.fb_check_networks.specs.Sources.{IsJoinedAt}
 use Rattle.fb_check_networks.proofs.Targets.{each_joined, none_joined}
 use Rattle.fb_check_networks.proofs.sources.joined_locations.Goals as goal

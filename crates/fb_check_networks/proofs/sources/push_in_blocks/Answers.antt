@@ -1,5 +1,5 @@
-use Rattle.fb_findings.specs.Sites.{inside_of}
-use Rattle.fb_findings.proofs.Listing.{each_done, each_more}
+use Rattle.fb_check_names.specs.Sites.{inside_of}
+use Rattle.fb_check_names.proofs.Listing.{each_done, each_more}
 use Rattle.fb_check_networks.specs.Sources.{joined_in}
 use Rattle.fb_check_networks.proofs.sources.push_in_blocks.Goals as goal
 

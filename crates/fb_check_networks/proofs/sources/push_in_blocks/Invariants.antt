@@ -1,6 +1,6 @@
 use Rattle.std.proofs.Common.{◌≡◌, ◌++◌, drop}
-use Rattle.fb_findings.specs.Listed.{each_at, each_from}
-use Rattle.fb_findings.specs.Sites.{inside_of}
+use Rattle.fb_check_names.specs.Listed.{each_at, each_from}
+use Rattle.fb_check_names.specs.Sites.{inside_of}
 use Rattle.fb_check_networks.specs.Sources.{joined_in}
 use Rattle.fb_check_networks.proofs.sources.push_in_blocks.Given as goal
 

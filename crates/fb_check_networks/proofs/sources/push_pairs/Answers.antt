@@ -1,6 +1,6 @@
 use Rattle.std.proofs.Common.{ℕ, zero, List, map, refl}
-use Rattle.fb_findings.proofs.Listing.{walk_done}
-use Rattle.fb_findings.proofs.Repeating.{copied_more}
+use Rattle.fb_check_names.proofs.Listing.{walk_done}
+use Rattle.fb_check_names.proofs.Repeating.{copied_more}
 use Rattle.fb_check_networks.specs.Sources.{joined_at}
 use Rattle.fb_check_networks.proofs.sources.push_pairs.Goals as goal
 

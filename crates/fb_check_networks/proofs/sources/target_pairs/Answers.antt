@@ -1,9 +1,9 @@
 use Rattle.std.proofs.Common.{◌++◌, List, ℕ, ◌∙◌, ap}
 use Rattle.fb_types.specs.Names.{same_port}
 use Rattle.fb_check_names.specs.Ends.{end_port}
-use Rattle.fb_findings.specs.Listed.{each_at}
-use Rattle.fb_findings.proofs.Listing.{each_done, each_more}
-use Rattle.fb_findings.proofs.Repeating.{last_more, last_none, pair_in, pairs_are, place_in_table}
+use Rattle.fb_check_names.specs.Listed.{each_at}
+use Rattle.fb_check_names.proofs.Listing.{each_done, each_more}
+use Rattle.fb_check_names.proofs.Repeating.{last_more, last_none, pair_in, pairs_are, place_in_table}
 use Rattle.fb_check_networks.specs.Sources.{target}
 use Rattle.fb_check_networks.proofs.Targets.{end_agrees, end_cmp}
 use Rattle.fb_check_networks.proofs.sources.target_pairs.Goals as goal

@@ -1,8 +1,8 @@
 use Rattle.std.proofs.Common.{◌≡◌, ◌++◌, drop, take}
 use Rattle.fb_types.specs.Names.{same_port}
 use Rattle.fb_check_names.specs.Ends.{end_port}
-use Rattle.fb_findings.specs.Listed.{each_at, each_from}
-use Rattle.fb_findings.proofs.Repeating.{AreLast, pair_in}
+use Rattle.fb_check_names.specs.Listed.{each_at, each_from}
+use Rattle.fb_check_names.proofs.Repeating.{AreLast, pair_in}
 use Rattle.fb_check_networks.specs.Sources.{target, targets}
 use Rattle.fb_check_networks.proofs.Targets.{end_cmp}
 use Rattle.fb_check_networks.proofs.sources.target_pairs.Given as goal

@@ -1,8 +1,8 @@
 use Rattle.std.proofs.Common.{◌++◌, ℕ, List, Contains, sym, ◌∙◌, ap, subst}
 use Rattle.std.proofs.lemmas.List.Elements.{Contains-get_or}
 use Rattle.fb_types.specs.declared.library.Connection.{Connection}
-use Rattle.fb_findings.specs.Listed.{each_at}
-use Rattle.fb_findings.proofs.Listing.{added_unless, each_done, each_more}
+use Rattle.fb_check_names.specs.Listed.{each_at}
+use Rattle.fb_check_names.proofs.Listing.{added_unless, each_done, each_more}
 use Rattle.fb_check_networks.specs.Unserved.{is_served, unserved_at}
 use Rattle.fb_check_networks.proofs.uncarried.unserved_by.Goals as goal
 

@@ -1,7 +1,7 @@
 use Rattle.std.proofs.Common.{◌≡◌, ℕ, [], List}
 use Rattle.std.specs.Prelude.{All}
 use Rattle.fb_types.specs.Mapped.{NoEvent}
-use Rattle.fb_findings.proofs.Listing.{of_list}
+use Rattle.fb_check_names.proofs.Listing.{of_list}
 use Rattle.fb_check_networks.specs.Unserved.{IsUnservedAt}
 use Rattle.fb_check_networks.proofs.Unserved.{each_unserved, none_unserved}
 use Rattle.fb_check_networks.proofs.uncarried.unserved_locations.Goals as goal

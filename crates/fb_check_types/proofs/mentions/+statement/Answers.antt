@@ -1,106 +1,93 @@
-use Rattle.std.proofs.Common.{◌&&◌, refl, sym, ◌∙◌, ap}
-use Rattle.fb_types.specs.declared.text.Choice.{out-Choice}
-use Rattle.fb_check_types.proofs.Checks.{else_answer, then_answer}
-use Rattle.fb_check_types.proofs.Known.{assign_known, branch_known, branches_known, choice_known, choices_known, if_known, known, known_body, known_branch, known_branches, known_choice, known_choices, known_in, looped_known, statements_known}
-use Rattle.fb_check_types.proofs.Tested.{all_done, all_off, all_on}
+use Rattle.std.proofs.Common.{◌++◌, List, refl, sym, ◌∙◌, ap}
+use Rattle.fb_types.specs.Syntax.{stmt_of}
+use Rattle.fb_types.specs.Unknown.{mentions, mentions_body, mentions_branches, mentions_choices, mentions_in}
+use Rattle.fb_types.specs.declared.text.Branch.{Branch}
+use Rattle.fb_types.specs.declared.text.Choice.{Choice}
+use Rattle.fb_types.specs.declared.text.Stmt.{Stmt}
+use Rattle.fb_check_types.specs.Trees.{all_of, branch_of, branches_of, choice_of, choices_of}
+use Rattle.fb_check_types.specs.Mentions.{meant_all}
+use Rattle.fb_check_types.proofs.Added.{both_added, list_added, one_added, then_added}
+use Rattle.fb_check_types.proofs.Mentioned.{assign_names, branch_names, case_names, choice_names, for_names, if_names, repeat_names, while_names}
 use Rattle.fb_check_types.proofs.mentions.+statement.Goals as goal
 
-pub are_statements_known-returns-then-not-is_statement_known : goal.are_statements_known-returns-then-not-is_statement_known
-are_statements_known-returns-then-not-is_statement_known t c =
-    let s = c.args.scope.now in
-    all_off (known_body s) (known_in s) c.args.statements.now c.loop-statement.statement-index c.statement-item.result (statements_known s) c.loop-statement-test.true
-    c.statement-item.is c.loop-statement.invariant
-    (sym c.is_statement_known.ensures ∙ c.if-not-is_statement_known.true)
+pub push_branches-loop-branch-preserved : goal.push_branches-loop-branch-preserved
+push_branches-loop-branch-preserved t c =
+    let old = meant_all c.loop-branch.all.items in
+    one_added (λ (bs : List Branch). mentions_branches (branches_of bs)) (λ (b : Branch). mentions_body (branch_of b).1) c.args.branches.now
+    c.loop-branch.branch-index c.branch-item.result old (meant_all c.push_statements.new.all.items) _ (λ _ _. refl) c.loop-branch-test.true c.branch-item.is
+    (c.in_ok-push_statements.ensures ∙ ap (λ ms. old ++ ms) (sym (branch_names c.branch-item.result c.as_slice.result.now c.as_slice.ensures)))
+    c.loop-branch.invariant
 
-pub are_statements_known-loop-statement-preserved : goal.are_statements_known-loop-statement-preserved
-are_statements_known-loop-statement-preserved t c =
-    let s = c.args.scope.now in
-    all_on (known_body s) (known_in s) c.args.statements.now c.loop-statement.statement-index c.statement-item.result (statements_known s) c.loop-statement-test.true
-    c.statement-item.is c.loop-statement.invariant
-    (sym c.is_statement_known.ensures ∙ c.if-not-is_statement_known.false)
+pub push_branches-returns : goal.push_branches-returns
+push_branches-returns t c =
+    list_added (λ (bs : List Branch). mentions_branches (branches_of bs)) c.args.branches.now c.loop-branch.branch-index (meant_all c.loop-branch.all.items) _ refl
+    c.loop-branch-test.false c.loop-branch.invariant
 
-pub are_statements_known-returns : goal.are_statements_known-returns
-are_statements_known-returns t c =
-    let s = c.args.scope.now in
-    all_done (known_body s) c.args.statements.now c.loop-statement.statement-index refl c.loop-statement-test.false c.loop-statement.invariant
+pub push_choices-loop-choice-preserved : goal.push_choices-loop-choice-preserved
+push_choices-loop-choice-preserved t c =
+    let old = meant_all c.loop-choice.all.items in
+    one_added (λ (cs : List Choice). mentions_choices (choices_of cs)) (λ (c : Choice). mentions (choice_of c).0 ++ mentions_body (choice_of c).1) c.args.choices.now
+    c.loop-choice.choice-index c.choice-item.result old (meant_all c.push_statements.new.all.items) _ (λ _ _. refl) c.loop-choice-test.true c.choice-item.is
+    (both_added old (meant_all c.push_expression.new.all.items) _ _ _ c.in_ok-push_expression.ensures c.in_ok-push_statements.ensures
+    ∙ ap (λ ms. old ++ ms) (sym (choice_names c.choice-item.result c.as_slice.result.now c.as_slice.ensures)))
+    c.loop-choice.invariant
 
-pub are_choices_known-returns-then-not-are_statements_known : goal.are_choices_known-returns-then-not-are_statements_known
-are_choices_known-returns-then-not-are_statements_known t c =
-    let s = c.args.scope.now in
-    all_off (known_choices s) (known_choice s) c.args.choices.now c.loop-choice.choice-index c.choice-item.result (choices_known s) c.loop-choice-test.true
-    c.choice-item.is c.loop-choice.invariant
-    (choice_known s c.choice-item.result c.as_slice.result.now c.as_slice.ensures ∙ (λ i. (sym c.is_expression_known.ensures ∙ c.if-not-is_expression_known.false) i && (sym c.are_statements_known.ensures ∙ c.if-not-are_statements_known.true) i))
+pub push_choices-returns : goal.push_choices-returns
+push_choices-returns t c =
+    list_added (λ (cs : List Choice). mentions_choices (choices_of cs)) c.args.choices.now c.loop-choice.choice-index (meant_all c.loop-choice.all.items) _ refl
+    c.loop-choice-test.false c.loop-choice.invariant
 
-pub are_choices_known-loop-choice-preserved : goal.are_choices_known-loop-choice-preserved
-are_choices_known-loop-choice-preserved t c =
-    let s = c.args.scope.now in
-    all_on (known_choices s) (known_choice s) c.args.choices.now c.loop-choice.choice-index c.choice-item.result (choices_known s) c.loop-choice-test.true
-    c.choice-item.is c.loop-choice.invariant
-    (choice_known s c.choice-item.result c.as_slice.result.now c.as_slice.ensures ∙ (λ i. (sym c.is_expression_known.ensures ∙ c.if-not-is_expression_known.false) i && (sym c.are_statements_known.ensures ∙ c.if-not-are_statements_known.false) i))
+pub push_statement-returns-in_ok-push_mention-in-Assign : goal.push_statement-returns-in_ok-push_mention-in-Assign
+push_statement-returns-in_ok-push_mention-in-Assign t c =
+    then_added c.push_expression.result (meant_all c.args.all.now.items) (meant_all c.push_mention.new.all.items) (meant_all c.push_expression.new.all.items) _ _ _
+    (assign_names c.args.statement.now c.name.result.now c.in-Assign.variable c.in-Assign.expr c.in-Assign.is c.name.ensures)
+    c.in_ok-push_mention-in-Assign.ensures c.push_expression.ensures
 
-pub are_choices_known-returns : goal.are_choices_known-returns
-are_choices_known-returns t c =
-    let s = c.args.scope.now in
-    all_done (known_choices s) c.args.choices.now c.loop-choice.choice-index refl c.loop-choice-test.false c.loop-choice.invariant
+pub push_statement-returns-in_ok-push_choices-in-If : goal.push_statement-returns-in_ok-push_choices-in-If
+push_statement-returns-in_ok-push_choices-in-If t c =
+    then_added c.push_statements.result (meant_all c.args.all.now.items) (meant_all c.push_choices.new.all.items) (meant_all c.push_statements.new.all.items) _ _ _
+    (if_names c.args.statement.now c.as_slice.result.now c.in-If.choices c.as_slice-in-If.result.now c.in-If.others c.in-If.is c.as_slice.ensures c.as_slice-in-If.ensures)
+    c.in_ok-push_choices-in-If.ensures c.push_statements.ensures
 
-pub are_choices_known-returns-then-not-is_expression_known : goal.are_choices_known-returns-then-not-is_expression_known
-are_choices_known-returns-then-not-is_expression_known t c =
-    let s = c.args.scope.now in
-    let os = (out-Choice c.choice-item.result).body in
-    all_off (known_choices s) (known_choice s) c.args.choices.now c.loop-choice.choice-index c.choice-item.result (choices_known s) c.loop-choice-test.true
-    c.choice-item.is c.loop-choice.invariant
-    (choice_known s c.choice-item.result os refl ∙ ap (λ b. b && known_body s os) (sym c.is_expression_known.ensures ∙ c.if-not-is_expression_known.true))
+pub push_statement-returns-in_ok-push_branches-in-Case : goal.push_statement-returns-in_ok-push_branches-in-Case
+push_statement-returns-in_ok-push_branches-in-Case t c =
+    then_added c.push_statements-in-Case.result (meant_all c.args.all.now.items) (meant_all c.push_branches.new.all.items)
+    (meant_all c.push_statements-in-Case.new.all.items) _ _ _
+    (case_names c.args.statement.now c.in-Case.selector c.as_slice-in-Case.result.now c.in-Case.branches c.as_slice-in-Case-2.result.now c.in-Case.others
+    c.in-Case.is c.as_slice-in-Case.ensures c.as_slice-in-Case-2.ensures)
+    (both_added (meant_all c.args.all.now.items) (meant_all c.push_expression-in-Case.new.all.items) _ _ _
+    c.in_ok-push_expression-in-Case.ensures c.in_ok-push_branches-in-Case.ensures)
+    c.push_statements-in-Case.ensures
 
-pub are_branches_known-returns-then-not-are_statements_known : goal.are_branches_known-returns-then-not-are_statements_known
-are_branches_known-returns-then-not-are_statements_known t c =
-    let s = c.args.scope.now in
-    all_off (known_branches s) (known_branch s) c.args.branches.now c.loop-branch.branch-index c.branch-item.result (branches_known s) c.loop-branch-test.true
-    c.branch-item.is c.loop-branch.invariant
-    (branch_known s c.branch-item.result c.as_slice.result.now c.as_slice.ensures ∙ sym c.are_statements_known.ensures ∙ c.if-not-are_statements_known.true)
+pub push_statement-returns-in_ok-push_control-in-For : goal.push_statement-returns-in_ok-push_control-in-For
+push_statement-returns-in_ok-push_control-in-For t c =
+    let f = c.in-For in
+    then_added c.push_statements-in-For.result (meant_all c.args.all.now.items) (meant_all c.push_control.new.all.items)
+    (meant_all c.push_statements-in-For.new.all.items) _ _ _
+    (for_names c.args.statement.now f.variable f.start f.end f.step c.as_slice-in-For.result.now f.body f.is c.as_slice-in-For.ensures)
+    c.in_ok-push_control-in-For.ensures c.push_statements-in-For.ensures
 
-pub are_branches_known-loop-branch-preserved : goal.are_branches_known-loop-branch-preserved
-are_branches_known-loop-branch-preserved t c =
-    let s = c.args.scope.now in
-    all_on (known_branches s) (known_branch s) c.args.branches.now c.loop-branch.branch-index c.branch-item.result (branches_known s) c.loop-branch-test.true
-    c.branch-item.is c.loop-branch.invariant
-    (branch_known s c.branch-item.result c.as_slice.result.now c.as_slice.ensures ∙ sym c.are_statements_known.ensures ∙ c.if-not-are_statements_known.false)
+pub push_statement-returns-in_ok-push_expression-in-While : goal.push_statement-returns-in_ok-push_expression-in-While
+push_statement-returns-in_ok-push_expression-in-While t c =
+    then_added c.push_statements-in-While.result (meant_all c.args.all.now.items) (meant_all c.push_expression-in-While.new.all.items)
+    (meant_all c.push_statements-in-While.new.all.items) _ _ _
+    (while_names c.args.statement.now c.in-While.condition c.as_slice-in-While.result.now c.in-While.body c.in-While.is c.as_slice-in-While.ensures)
+    c.in_ok-push_expression-in-While.ensures c.push_statements-in-While.ensures
 
-pub are_branches_known-returns : goal.are_branches_known-returns
-are_branches_known-returns t c =
-    let s = c.args.scope.now in
-    all_done (known_branches s) c.args.branches.now c.loop-branch.branch-index refl c.loop-branch-test.false c.loop-branch.invariant
+pub push_statement-returns-in_ok-push_statements-in-Repeat : goal.push_statement-returns-in_ok-push_statements-in-Repeat
+push_statement-returns-in_ok-push_statements-in-Repeat t c =
+    then_added c.push_expression-in-Repeat.result (meant_all c.args.all.now.items) (meant_all c.push_statements-in-Repeat.new.all.items)
+    (meant_all c.push_expression-in-Repeat.new.all.items) _ _ _
+    (repeat_names c.args.statement.now c.as_slice-in-Repeat.result.now c.in-Repeat.body c.in-Repeat.condition c.in-Repeat.is c.as_slice-in-Repeat.ensures)
+    c.in_ok-push_statements-in-Repeat.ensures c.push_expression-in-Repeat.ensures
 
-pub is_statement_known-returns-then-is_variable : goal.is_statement_known-returns-then-is_variable
-is_statement_known-returns-then-is_variable t c =
-    then_answer (known c.args.scope.now c.in-Assign.expr) c.is_variable.ensures c.is_expression_known.ensures
-    (assign_known c.args.scope.now c.args.statement.now c.name.result.now c.in-Assign.variable c.in-Assign.expr c.in-Assign.is c.name.ensures) c.if-is_variable.true
+pub push_statements-loop-statement-preserved : goal.push_statements-loop-statement-preserved
+push_statements-loop-statement-preserved t c =
+    one_added (λ (ss : List Stmt). mentions_body (all_of ss)) (λ (s : Stmt). mentions_in (stmt_of s)) c.args.statements.now c.loop-statement.statement-index
+    c.statement-item.result (meant_all c.loop-statement.all.items) (meant_all c.push_statement.new.all.items) _ (λ _ _. refl) c.loop-statement-test.true
+    c.statement-item.is c.in_ok-push_statement.ensures c.loop-statement.invariant
 
-pub is_statement_known-returns-else-is_variable : goal.is_statement_known-returns-else-is_variable
-is_statement_known-returns-else-is_variable t c =
-    else_answer (known c.args.scope.now c.in-Assign.expr) c.is_variable.ensures
-    (assign_known c.args.scope.now c.args.statement.now c.name.result.now c.in-Assign.variable c.in-Assign.expr c.in-Assign.is c.name.ensures) c.if-is_variable.false
-
-pub is_statement_known-returns-then-are_choices_known : goal.is_statement_known-returns-then-are_choices_known
-is_statement_known-returns-then-are_choices_known t c =
-    then_answer (known_body c.args.scope.now c.as_slice-then-are_choices_known.result.now) c.are_choices_known.ensures c.are_statements_known.ensures
-    (if_known c.args.scope.now c.args.statement.now c.as_slice.result.now c.in-If.choices c.as_slice-then-are_choices_known.result.now c.in-If.others
-    c.in-If.is c.as_slice.ensures c.as_slice-then-are_choices_known.ensures) c.if-are_choices_known.true
-
-pub is_statement_known-returns-else-are_choices_known : goal.is_statement_known-returns-else-are_choices_known
-is_statement_known-returns-else-are_choices_known t c =
-    else_answer (known_body c.args.scope.now c.in-If.others) c.are_choices_known.ensures
-    (if_known c.args.scope.now c.args.statement.now c.as_slice.result.now c.in-If.choices c.in-If.others c.in-If.others c.in-If.is c.as_slice.ensures refl)
-    c.if-are_choices_known.false
-
-pub is_statement_known-returns-then-is_expression_known-4 : goal.is_statement_known-returns-then-is_expression_known-4
-is_statement_known-returns-then-is_expression_known-4 t c =
-    then_answer (known_body c.args.scope.now c.as_slice-then-is_expression_known-4.result.now) c.is_expression_known-in-While.ensures
-    c.are_statements_known-then-is_expression_known-4.ensures
-    (looped_known c.args.scope.now c.args.statement.now c.in-While.condition c.as_slice-then-is_expression_known-4.result.now c.in-While.body
-    c.in-While.is c.as_slice-then-is_expression_known-4.ensures) c.if-is_expression_known-4.true
-
-pub is_statement_known-returns-else-is_expression_known-4 : goal.is_statement_known-returns-else-is_expression_known-4
-is_statement_known-returns-else-is_expression_known-4 t c =
-    else_answer (known_body c.args.scope.now c.in-While.body) c.is_expression_known-in-While.ensures
-    (looped_known c.args.scope.now c.args.statement.now c.in-While.condition c.in-While.body c.in-While.body c.in-While.is refl)
-    c.if-is_expression_known-4.false
+pub push_statements-returns : goal.push_statements-returns
+push_statements-returns t c =
+    list_added (λ (ss : List Stmt). mentions_body (all_of ss)) c.args.statements.now c.loop-statement.statement-index (meant_all c.loop-statement.all.items) _ refl
+    c.loop-statement-test.false c.loop-statement.invariant

@@ -5,7 +5,7 @@ use Rattle.std.proofs.lemmas.List.Elements.{All-nil, All-push}
 use Rattle.fb_why.specs.Places.{IsPlacedFinding}
 use Rattle.fb_why.specs.declared.place.PlacedFinding.{PlacedFinding}
 use Rattle.fb_why.specs.declared.spot.Spot.{Spot}
-use Rattle.fb_findings.proofs.Repeating.{same_within}
+use Rattle.fb_check_names.proofs.Repeating.{same_within}
 use Rattle.fb_why.proofs.Shown.{located, placed_at}
 use Rattle.fb_why.proofs.listing.findings_at.Goals as goal
 

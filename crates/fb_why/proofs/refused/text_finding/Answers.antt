@@ -4,7 +4,7 @@ use Rattle.std.proofs.lemmas.Option.{MatchOption-at_some, MatchOption-at_none}
 use Rattle.fb_types.specs.declared.library.Library.{Library}
 use Rattle.fb_read.specs.Errors.{fault_number}
 use Rattle.fb_read.specs.Whole.{IsLibraryText}
-use Rattle.fb_why_bytes.specs.Faults.{IsTextRefusal}
+use Rattle.fb_why.specs.Faults.{IsTextRefusal}
 use Rattle.fb_why.proofs.Reading.{text_found, text_unfound}
 use Rattle.fb_why.proofs.refused.text_finding.Goals as goal
 

@@ -1,0 +1,5 @@
+use Rattle.fb_check_names.proofs.Applying.{twice_applies}
+use Rattle.fb_check_names.proofs.laws.locations_apply.Goals as goal
+
+pub returns : goal.returns
+returns c = twice_applies

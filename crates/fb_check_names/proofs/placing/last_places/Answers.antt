@@ -1,0 +1,43 @@
+use Rattle.std.proofs.Common.{◌++◌, List, ℕ, refl, ◌∙◌, ap, map, subst}
+use Rattle.std.specs.Borrow.{Bor}
+use Rattle.std.proofs.lemmas.List.{take_all}
+use Rattle.fb_types.specs.Names.{Name, same_name}
+use Rattle.fb_types.proofs.NameLaws.{same_name-Decides}
+use Rattle.fb_check_names.proofs.Seen.{name_cmp, name_cmp-exact}
+use Rattle.fb_check_names.proofs.Listing.{each_done, each_more}
+use Rattle.fb_check_names.proofs.Repeating.{AreLast, IsSame, agrees, last_more, last_none, pair_in, pairs_are, place_in_table}
+use Rattle.fb_check_names.proofs.placing.last_places.Goals as goal
+
+name_agrees : IsSame name_cmp (λ (n : Bor Name). n.now) same_name
+name_agrees = agrees name_cmp (λ (n : Bor Name). n.now) same_name name_cmp-exact same_name-Decides
+
+pub loop-second-init : goal.loop-second-init
+loop-second-init c = (last_none name_cmp (λ (n : Bor Name). n.now) same_name c.new-places.result c.new-places.ensures.empty, refl)
+
+pub loop-second-preserved : goal.loop-second-preserved
+loop-second-preserved c =
+    let xs = c.args.names.now in
+    let i = c.loop-second.second in
+    let x = c.index-names-second.result in (
+      last_more name_cmp (λ (n : Bor Name). n.now) same_name (λ (n : Bor Name). n.now) xs i x c.loop-second.places c.insert.new.self c.as_bytes.result name_agrees c.loop-second-test.true
+          c.index-names-second.is c.as_bytes.ensures c.loop-second.invariant.0 c.in_ok-first.ensures.updates.0,
+      each_more (pair_in same_name (λ (n : Bor Name). n.now) xs) xs i x c.loop-second.again.items c.push_pair.new.pairs.items _ c.loop-second-test.true c.index-names-second.is
+          (c.in_ok-push_pair.ensures
+          ∙ ap (λ (ps : List (ℕ × ℕ)). c.loop-second.again.items ++ ps)
+          (place_in_table name_cmp (λ (n : Bor Name). n.now) same_name (λ (n : Bor Name). n.now) xs i x c.loop-second.places c.as_bytes.result _ c.as_bytes.ensures c.loop-second.invariant.0
+          c.in_ok-first.ensures.old))
+          c.loop-second.invariant.1,
+    )
+
+pub returns-clause-again : goal.returns-clause-again
+returns-clause-again c =
+    let xs = c.args.names.now in
+    each_done (pair_in same_name (λ (n : Bor Name). n.now) xs) xs c.loop-second.second c.loop-second.again.items _ c.loop-second-test.false c.loop-second.invariant.1
+    ∙ ap (λ (ps : List (ℕ × ℕ)). c.args.again.now.items ++ ps) (pairs_are same_name (λ (n : Bor Name). n.now) xs)
+
+pub returns-clause-places : goal.returns-clause-places
+returns-clause-places c = λ n.
+    let all : AreLast name_cmp (λ (n : Bor Name). n.now) same_name (map (λ (n : Bor Name). n.now) c.args.names.now) c.loop-second.places =
+    subst (λ (ns : List (Bor Name)). AreLast name_cmp (λ (n : Bor Name). n.now) same_name (map (λ (n : Bor Name). n.now) ns) c.loop-second.places)
+    (take_all c.loop-second.second c.args.names.now c.loop-second-test.false) c.loop-second.invariant.0 in
+    all (record { ref_ptr = (0, 0); now = n })

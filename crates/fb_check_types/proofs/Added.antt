@@ -1,0 +1,45 @@
+-- Lists to which functions add, one after another.
+use Rattle.std.proofs.Common.{◌≡◌, ℕ, ◌+◌, ◌<◌, ◌≤◌, List, [], ◌∷◌, ◌++◌, drop, get_or, length, Result, Ok, Err, append_assoc, sym, ◌∙◌, ap}
+use Rattle.std.specs.Prelude.{IfOk}
+use Rattle.std.proofs.lemmas.List.{append-nil, at_drop_all, at_drop_more}
+use Rattle.std.proofs.lemmas.Result.{IfOk-equal}
+
+-- what two calls add
+pub both_added : {X : Type 0} (a b c p q : List X) → b ≡ a ++ p → c ≡ b ++ q → c ≡ a ++ (p ++ q)
+both_added {X} a b c p q first last = last ∙ ap (λ (xs : List X). xs ++ q) first ∙ append_assoc a p q
+
+-- the same, if the last call may fail, and if what is added is known by another name
+pub then_added :
+    {X T E : Type 0} (r : Result T E) (a b c p q w : List X) → w ≡ p ++ q → b ≡ a ++ p → IfOk r (λ _. c ≡ b ++ q) → IfOk r (λ _. c ≡ a ++ w)
+then_added {X} r a b c p q w shown first last =
+    IfOk-equal r c (b ++ q) (a ++ w) last (ap (λ (xs : List X). xs ++ q) first ∙ append_assoc a p q ∙ ap (λ (xs : List X). a ++ xs) (sym shown))
+
+-- one call alone
+pub all_added : {X T E : Type 0} (r : Result T E) (a c q w : List X) → w ≡ q → IfOk r (λ _. c ≡ a ++ q) → IfOk r (λ _. c ≡ a ++ w)
+all_added {X} r a c q w shown last = IfOk-equal r c (a ++ q) (a ++ w) last (ap (λ (xs : List X). a ++ xs) (sym shown))
+
+-- one element of a list adds its part of what the whole list is to add
+pub one_added :
+    {A X : Type 0} (F : List A → List X) (f : A → List X) (xs : List A) (i : ℕ) (x : A) (old new all : List X) → ((y : A) (ys : List A) → F (y ∷ ys) ≡ f y ++ F ys)
+    → i < length xs → x ≡ get_or xs i x → new ≡ old ++ f x → old ++ F (drop i xs) ≡ all → new ++ F (drop (i + 1) xs) ≡ all
+one_added {A} {X} F f xs i x old new all parts within is added before =
+    let rest = drop (i + 1) xs in
+    let here : F (drop i xs) ≡ f x ++ F rest = at_drop_more F xs i x within ∙ ap (λ (y : A). F (y ∷ rest)) (sym is) ∙ parts x rest in
+    ap (λ (ys : List X). ys ++ F rest) added ∙ append_assoc old (f x) (F rest) ∙ ap (λ (ys : List X). old ++ ys) (sym here) ∙ before
+
+-- no element is left
+pub list_added :
+    {A X : Type 0} (F : List A → List X) (xs : List A) (i : ℕ) (new all : List X) → F [] ≡ [] → length xs ≤ i → new ++ F (drop i xs) ≡ all → new ≡ all
+list_added {A} {X} F xs i new all none past before =
+    sym (append-nil new) ∙ ap (λ (ys : List X). new ++ ys) (sym (at_drop_all F xs i past ∙ none)) ∙ before
+
+-- what three calls add
+pub three_added : {X : Type 0} (a b c d p q r : List X) → b ≡ a ++ p → c ≡ b ++ q → d ≡ c ++ r → d ≡ a ++ (p ++ (q ++ r))
+three_added {X} a b c d p q r first second last =
+    last ∙ ap (λ (xs : List X). xs ++ r) second ∙ append_assoc b q r
+    ∙ ap (λ (xs : List X). xs ++ (q ++ r)) first ∙ append_assoc a p (q ++ r)
+
+-- what holds of a value that is made
+pub if_ok : {T E : Type 0} {P Q : T → Type 0} (r : Result T E) → ((x : T) → P x → Q x) → IfOk r P → IfOk r Q
+if_ok (Ok x) f h = f x h
+if_ok (Err e) f h = tt

@@ -1,7 +1,0 @@
-use Rattle.std.proofs.Common.{◌≡◌, drop}
-use Rattle.std.specs.List.{list_all}
-use Rattle.fb_check_types.specs.Checks.{algorithm_right}
-use Rattle.fb_check_types.proofs.parts.are_bodies_right.Given as goal
-
-abbrev pub invariant-loop-algorithm : goal.invariant-loop-algorithm
-invariant-loop-algorithm l = list_all (algorithm_right l.scope) l.algorithms ≡ list_all (algorithm_right l.scope) (drop l.algorithm-index l.algorithms)

@@ -1,0 +1,17 @@
+//! Lists of numbers, without those that are not there.
+
+ghost use Rattle.std.specs.Prelude.{◌≡◌, ◌++◌, IfOk};
+ghost use Rattle.fb_check_types.specs.There.{some_of};
+
+use fb_types::Items;
+use std::alloc::AllocError;
+
+/// Adds an item, if it is there.
+pub(crate) fn push_some<T: Copy>(items: &mut Items<T>, item: Option<T>) -> Result<(), AllocError>
+    ensures { IfOk result (λ _. items.new ≡ items.old ++ some_of item) }
+{
+    match item {
+        Some(item) => items.push(item),
+        None => Ok(()),
+    }
+}

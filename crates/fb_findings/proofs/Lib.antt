@@ -1,3 +1,0 @@
-pub mod Listing
-pub mod Repeating
-pub mod Networks

@@ -1,3 +1,0 @@
-pub mod Sites
-pub mod Listed
-pub mod Repeats

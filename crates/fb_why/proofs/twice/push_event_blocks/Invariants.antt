@@ -1,7 +1,0 @@
-use Rattle.std.proofs.Common.{◌≡◌, ◌++◌, drop}
-use Rattle.fb_why.specs.Repeats.{event_block_at}
-use Rattle.fb_findings.specs.Listed.{each_at, each_from}
-use Rattle.fb_why.proofs.twice.push_event_blocks.Given as goal
-
-abbrev pub invariant-loop-block : goal.invariant-loop-block
-invariant-loop-block l = l.found.items ++ each_from event_block_at l.block (drop l.block l.blocks) ≡ l.fn.found.items ++ each_at event_block_at l.blocks

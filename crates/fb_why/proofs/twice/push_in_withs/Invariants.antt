@@ -1,7 +1,0 @@
-use Rattle.std.proofs.Common.{◌≡◌, ◌++◌, drop}
-use Rattle.fb_why.specs.Repeats.{with_twice}
-use Rattle.fb_findings.specs.Listed.{each_at, each_from}
-use Rattle.fb_why.proofs.twice.push_in_withs.Given as goal
-
-abbrev pub invariant-loop-event : goal.invariant-loop-event
-invariant-loop-event l = l.found.items ++ each_from (with_twice l.block l.direction) l.event (drop l.event l.events) ≡ l.fn.found.items ++ each_at (with_twice l.block l.direction) l.events

@@ -1,8 +1,0 @@
-use Rattle.std.proofs.Common.{◌≡◌, ◌++◌, drop}
-use Rattle.fb_why_kinds.specs.MisfitLists.{misfit_parameters}
-use Rattle.fb_findings.specs.Listed.{each_at, each_from}
-use Rattle.fb_why_kinds.proofs.parameters.push_in_instances.Given as goal
-
-abbrev pub invariant-loop-instance : goal.invariant-loop-instance
-invariant-loop-instance l =
-    l.found.items ++ each_from (misfit_parameters l.library l.site) l.instance (drop l.instance l.instances) ≡ l.fn.found.items ++ each_at (misfit_parameters l.library l.site) l.instances

@@ -1,9 +1,0 @@
-pub mod Sites
-pub mod Unknown
-pub mod Unknowns
-pub mod Mentions
-pub mod Types
-pub mod Statements
-pub mod Misfits
-pub mod MisfitLists
-pub mod Applies
