@@ -36,7 +36,7 @@ use Rattle.fb_inspect.specs.declared.charts.ChartTaking.{ChartTaking}
 use Rattle.fb_inspect.specs.declared.trail.Trail.{Trail}
 use Rattle.fb_inspect.proofs.Emitted.{emissions_are, emits_text, shown_pieces}
 use Rattle.fb_inspect.proofs.Marked.{emits_mark, pieces_append, ran_marks, rest_marks, stop_marks}
-use Rattle.fb_inspect.proofs.Moving.{aside_none, goes_as, goes_note, goes_then, shown-nil}
+use Rattle.fb_inspect.proofs.Moving.{alone_from, alone_on, aside_none, goes_as, goes_note, goes_then, shown-nil}
 use Rattle.fb_inspect.proofs.Showing.{act_shown, acts_before, acts_next, acts_stop, before, chain_before, chain_fails, chain_goes_on, chain_rests, chain_stops, emits_pieces, ran_pieces}
 
 ran_text_is :
@@ -47,7 +47,7 @@ ran_text_is form sys l t (Some n) zero b a kind = refl
 ran_text_is form sys l t (Some n) (suc left) b a kind =
     append-nil (ran_by (sys.kind l.at) n b a) ∙ ap (λ (k : Option Kind). ran_by k n b a) kind
 
-abbrev ports_by : Option Kind → Ports
+abbrev pub ports_by : Option Kind → Ports
 ports_by o = elim o [ None ↦ ports [] [] [] [] | Some k ↦ ports_of k ]
 
 -- ---- Parts
@@ -77,6 +77,7 @@ module _ (x : ChartTaking) where
     goes = goes_note (sys_of x) x.fixed.form x.line.now.key.tick old old (shown_text old.is_shown []) left (aside_none old) refl
         (sym (ap (λ (t : List ℕ). old.page.text.items ++ t) (shown-nil old.is_shown) ∙ append-nil old.page.text.items));
     marked = refl;
+    alone = λ alone. alone;
   }
 
   pub step_then :
@@ -98,6 +99,7 @@ module _ (x : ChartTaking) where
         (shown_two a.is_shown b.is_shown first.pieces second.pieces first.goes.kept)
         (goes_then (sys_of x) x.fixed.form x.line.now.key.tick a b c first.lines second.lines _ _ l k j first.goes second.goes);
     marked = mark_two first.pieces second.pieces a.marks.charts b.marks.charts c.marks.charts first.marked second.marked;
+    alone = λ alone. second.alone (first.alone alone);
   }
 
   pub step_ends :
@@ -116,6 +118,7 @@ module _ (x : ChartTaking) where
         (shown_two a.is_shown b.is_shown first.pieces second.pieces first.goes.kept)
         (goes_then (sys_of x) x.fixed.form x.line.now.key.tick a b c first.lines second.lines _ _ l k j first.goes second.goes);
     marked = mark_two first.pieces second.pieces a.marks.charts b.marks.charts c.marks.charts first.marked second.marked;
+    alone = λ alone. second.alone (first.alone alone);
   }
 
   -- an action by itself, as the first of those that are left
@@ -135,6 +138,7 @@ module _ (x : ChartTaking) where
     are = goes.are;
     goes = goes.goes;
     marked = goes.marked;
+    alone = goes.alone;
   }
 
   -- .. and where a reason ends it
@@ -149,6 +153,7 @@ module _ (x : ChartTaking) where
     are = goes.are;
     goes = goes.goes;
     marked = goes.marked;
+    alone = goes.alone;
   }
 
   -- no action is left
@@ -162,6 +167,7 @@ module _ (x : ChartTaking) where
     goes = goes_note (sys_of x) x.fixed.form x.line.now.key.tick b b (shown_text b.is_shown []) l (aside_none b) refl
         (sym (ap (λ (t : List ℕ). b.page.text.items ++ t) (shown-nil b.is_shown) ∙ append-nil b.page.text.items));
     marked = refl;
+    alone = λ alone. alone;
   }
 
   -- an action, from its algorithm, its note and its emissions
@@ -197,11 +203,12 @@ module _ (x : ChartTaking) where
         marked = mark_two ran (emits_pieces outs) b.marks.charts c.marks.charts d.marks.charts
             (subst (all_mark ran b.marks.charts) (sym ran_marked) (ran_marks x.block.now x.number x.line.now.event a.algorithm p.left p.vars q.vars b.marks.charts))
             (subst (all_mark (emits_pieces outs) c.marks.charts) (sym charts_are) (emits_mark x.block.now x.number x.line.now.event outs c.marks.charts));
+        alone = alone_from b c d l k line goes.alone;
       }
 
 -- ---- All actions of a state
 
-rest_at : {A : Type 0} (xs : List A) (i : ℕ) (x : A) → slice_get xs i ≡ Some x → drop i xs ≡ x ∷ drop (i + 1) xs
+pub rest_at : {A : Type 0} (xs : List A) (i : ℕ) (x : A) → slice_get xs i ≡ Some x → drop i xs ≡ x ∷ drop (i + 1) xs
 rest_at xs i x at = cut_at xs i x (slice_get_within xs i x at) (sym (get_or_from_slice_get xs i x x at))
 
 module _ (x : ChartTaking) (t : BasicType) (all : List Action) where
@@ -267,6 +274,7 @@ module _ (x : ChartTaking) (present : Option Name) where
         goes = goes_as (sys_of x) x.fixed.form x.line.now.key.tick b d goes.lines _ _ l k (shown_two x b.is_shown c.is_shown (Clears_by y ∷ []) goes.pieces aside_is.kept)
             (goes_then (sys_of x) x.fixed.form x.line.now.key.tick b c d [] goes.lines _ _ l l k (cleared_goes y b c l aside_is line noted) goes.goes);
         marked = (c.marks.charts, mark, goes.marked);
+        alone = alone_from b c d l k line goes.alone;
       }
 
   -- .. and all actions of its target were performed
@@ -292,6 +300,7 @@ module _ (x : ChartTaking) (present : Option Name) where
         goes = goes_as (sys_of x) x.fixed.form x.line.now.key.tick b d goes.lines _ _ l k (shown_two x b.is_shown c.is_shown (Clears_by y ∷ []) goes.pieces aside_is.kept)
             (goes_then (sys_of x) x.fixed.form x.line.now.key.tick b c d [] goes.lines _ _ l l k (cleared_goes y b c l aside_is line noted) goes.goes);
         marked = (c.marks.charts, mark, goes.marked);
+        alone = alone_from b c d l k line goes.alone;
       }
 
   -- no transition cleared
@@ -311,6 +320,7 @@ module _ (x : ChartTaking) (present : Option Name) where
     goes = goes_note (sys_of x) x.fixed.form x.line.now.key.tick b c _ l aside_is line
         (noted ∙ ap (λ (z : List ℕ). b.page.text.items ++ shown_text b.is_shown z) (lost_text present p.state left));
     marked = rest_marks own_type x.number x.line.now.event left present p.state b.marks.charts c.marks.charts charts_are;
+    alone = alone_on b b c l l line (λ alone. alone);
   }
     where
       lost_text : (o : Option Name) (s : Name) (left : ℕ) → lost_if o s ≡ text_of x (rest_pieces (NoneClears left) o s)
@@ -332,6 +342,7 @@ module _ (x : ChartTaking) (present : Option Name) where
     goes = goes_note (sys_of x) x.fixed.form x.line.now.key.tick b b (shown_text b.is_shown []) l (aside_none b) refl
         (sym (ap (λ (t : List ℕ). b.page.text.items ++ t) (shown-nil b.is_shown) ∙ append-nil b.page.text.items));
     marked = refl;
+    alone = λ alone. alone;
   }
 
 -- ---- The reaction
@@ -359,6 +370,7 @@ module _ (x : ChartTaking) (e : Name) where
         (noted ∙ ap (λ (z : List ℕ). c.page.text.items ++ shown_text c.is_shown z) (stop_text stop)))));
     marked = mark_two x chain.pieces (stop_pieces stop) b.marks.charts c.marks.charts d.marks.charts chain.marked
         (stop_marks x.block.now x.number x.line.now.event stop c.marks.charts d.marks.charts charts_are);
+    alone = alone_on b c d l k line chain.alone;
   }
 
 -- the position of a chart that has sampled its inputs

@@ -16,7 +16,7 @@ use Rattle.fb_types.specs.declared.run.Line.{Line}
 use Rattle.fb_types.specs.declared.value.Value.{Value}
 use Rattle.fb_inspect.specs.Chains.{Piece}
 use Rattle.fb_inspect.specs.Looks.{emission_line, piece_text, pieces_text}
-use Rattle.fb_inspect.specs.Moves.{AreEmissions, EmitsGo, Goes, IsEmission, shown_text}
+use Rattle.fb_inspect.specs.Moves.{AreEmissions, EmitsGo, Goes, IsEmission, StaysAlone, shown_text}
 use Rattle.fb_inspect.specs.declared.trail.Trail.{Trail}
 use Rattle.fb_inspect.proofs.Moving.{aside_none, goes_as, goes_note, goes_then, lines-append, shown-append, shown-nil}
 use Rattle.fb_inspect.proofs.Showing.{emits_pieces}
@@ -89,14 +89,15 @@ emits_none sys form line b l = record {
   are = tt;
   goes = goes_note sys form line.key.tick b b (shown_text b.is_shown []) l (aside_none b) refl
       (sym (ap (λ (t : List ℕ). b.page.text.items ++ t) (shown-nil b.is_shown) ∙ append-nil b.page.text.items));
+  alone = λ alone. alone;
 }
 
 -- .. and one more
 pub emits_one :
     (sys : System) (form : Form) (line : Line) (es : List run.Emission) (e : run.Emission) (y : Line) (b c d : Trail) (l k j : Option (List ℕ)) → EmitsGo sys form line es b c l k → IsEmission y line e
-    → Goes sys form line.key.tick (y ∷ []) (shown_text c.is_shown (line_text form sys (line_of sys y))) c d k j
+    → Goes sys form line.key.tick (y ∷ []) (shown_text c.is_shown (line_text form sys (line_of sys y))) c d k j → StaysAlone c.reading d.reading k j
     → EmitsGo sys form line (es ++ e ∷ []) b d l j
-emits_one sys form line es e y b c d l k j before one goes =
+emits_one sys form line es e y b c d l k j before one goes stays =
     let L : List model.Line = map (line_of sys) before.lines in
     let here : List ℕ = line_text form sys (line_of sys y) in
     record {
@@ -109,6 +110,7 @@ emits_one sys form line es e y b c d l k j before one goes =
           (ap (λ (z : List ℕ). lines_text form sys L ++ z) (sym (append-nil here))
           ∙ sym (ap (lines_text form sys) (map-append (line_of sys) before.lines (y ∷ [])) ∙ lines-append form sys L (line_of sys y ∷ []))))
           (goes_then sys form line.key.tick b c d before.lines (y ∷ []) _ _ l k j before.goes goes);
+      alone = λ alone. stays (before.alone alone);
     }
   where
     are_more :

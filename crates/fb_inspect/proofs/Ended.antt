@@ -356,11 +356,12 @@ none_cut_sent walk old = record { got = []; rest = walk.trail.page.text.items ++
 -- a walk that was begun starts with a line that was judged
 pub starts_of :
     (sys : System) (form : Form) (only : List Name) (marks : Marks) (reading : Reading) (walk : Walk) → Begins sys only marks reading walk → IsNext sys form 0 reading.line.items reading.next
-    → Starts sys form only walk
-starts_of sys form only marks reading walk begins next = record {
+    → reading.number ≡ 1 → Starts sys form only walk
+starts_of sys form only marks reading walk begins next number = record {
   blocks = begins.blocks;
   steps = begins.steps;
   shown = begins.shown;
   empty = begins.empty;
   next = subst (λ (r : Reading). IsNext sys form 0 r.line.items r.next) (sym begins.reading_is) next;
+  first = ap (λ (r : Reading). r.number) begins.reading_is ∙ number;
 }

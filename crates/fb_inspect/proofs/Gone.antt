@@ -1,5 +1,5 @@
 -- Takings of a walk through a trace, one after another.
-use Rattle.std.proofs.Common.{◌≡◌, ◌<◌, ◌≤◌, ℕ, suc, Bool, List, [], ◌∷◌, ◌++◌, length, map, Option, Some, None, refl, sym, ◌∙◌, ap, subst, inl, append_assoc, append-nil, arith}
+use Rattle.std.proofs.Common.{◌≡◌, ◌<◌, ◌≤◌, ℕ, suc, Bool, List, [], ◌∷◌, ◌++◌, length, map, Option, Some, None, refl, sym, ◌∙◌, ap, subst, inl, append_assoc, append-nil, arith, length-append}
 use Rattle.std.specs.Prelude.{All, if◌then◌else◌}
 use Rattle.std.specs.Io.KnownBytes.{Consumes}
 use Rattle.std.proofs.KnownBytes.{Appends-nil, Appends-trans, Consumes-trans}
@@ -28,7 +28,7 @@ use Rattle.fb_inspect.specs.Pages.{IsFlushed}
 use Rattle.fb_inspect.specs.Walking.{AreMarked, HasCovered, HasGone, IsGone, Starts, TurnGoes, flag_at}
 use Rattle.fb_inspect.specs.declared.page.Page.{Page}
 use Rattle.fb_inspect.specs.declared.walk.Walk.{Walk}
-use Rattle.fb_inspect.proofs.Moving.{lines-append, marked-append}
+use Rattle.fb_inspect.proofs.Moving.{lines-append, marked-append, next_line}
 
 -- ---- One more taking
 
@@ -47,7 +47,7 @@ pub look_more : (look : Look) (xs : List Turn) (x : Turn) → last_look look (xs
 look_more look [] x = refl
 look_more look (y ∷ ys) x = look_more y.after ys x
 
-lines_more : (xs : List Turn) (x : Turn) → all_lines (xs ++ x ∷ []) ≡ all_lines xs ++ turn_lines x
+pub lines_more : (xs : List Turn) (x : Turn) → all_lines (xs ++ x ∷ []) ≡ all_lines xs ++ turn_lines x
 lines_more [] x = append-nil (turn_lines x)
 lines_more (y ∷ ys) x = ap (λ (ls : List model.Line). turn_lines y ++ ls) (lines_more ys x) ∙ sym (append_assoc (turn_lines y) (all_lines ys) (turn_lines x))
 
@@ -103,7 +103,7 @@ last_here : (sys : System) (tick t : ℕ) (l : Line) (ls : List Line) → All (I
 last_here sys tick t l [] all = (one_at sys tick l [] all).tick_is
 last_here sys tick t l (m ∷ ls) all = last_here sys tick l.key.tick m ls (rest_at sys tick l (m ∷ ls) all)
 
-last_more : (sys : System) (tick t : ℕ) (ks ls : List Line) (x : model.Line) (rest : List model.Line) → map (line_of sys) ls ≡ x ∷ rest → All (IsLineAt sys tick) ls → last_tick t (ks ++ ls) ≡ tick
+pub last_more : (sys : System) (tick t : ℕ) (ks ls : List Line) (x : model.Line) (rest : List model.Line) → map (line_of sys) ls ≡ x ∷ rest → All (IsLineAt sys tick) ls → last_tick t (ks ++ ls) ≡ tick
 last_more sys tick t ks [] x rest some all = absurd (cc)
 last_more sys tick t [] (l ∷ ls) x rest some all = last_here sys tick t l ls all
 last_more sys tick t (k ∷ ks) (l ∷ ls) x rest some all = last_more sys tick k.key.tick ks (l ∷ ls) x rest some all
@@ -134,12 +134,13 @@ module _ (sys : System) (form : Form) (only : List Name) (steps : ℕ) where
       lines = [];
       lines_are = refl;
       are = record { each = All-nil (IsLineOf sys); rise = tt };
+      numbered = starts.first;
       read = read;
       sent = [];
       got = Appends-nil old;
       text = starts.empty;
     };
-    next = starts.next;
+    next = next_line sys form 0 walk.trail.reading.line.items walk.trail.reading.next starts.next;
   }
 
   -- .. and nothing is marked
@@ -182,6 +183,7 @@ module _ (sys : System) (form : Form) (only : List Name) (steps : ℕ) where
             each = All-append (IsLineOf sys) gone.lines goes.lines gone.are.each (each_of sys line.key.tick goes.lines goes.goes.each);
             rise = rise_more sys line.key.tick 0 gone.lines goes.lines gone.are.rise later goes.goes.each;
           };
+          numbered = let before = gone.numbered in let passed = goes.goes.numbered in omega (arith, before, passed, length-append gone.lines goes.lines);
           read = subst (Consumes input rest)
               (append_assoc L walk.trail.reading.line.items goes.goes.taken
               ∙ ap (λ (t : List ℕ). L ++ t) goes.goes.read
@@ -227,6 +229,7 @@ module _ (sys : System) (form : Form) (only : List Name) (steps : ℕ) where
             lines = gone.lines;
             lines_are = gone.lines_are;
             are = gone.are;
+            numbered = gone.numbered;
             read = gone.read;
             sent = gone.sent ++ flushed.sent;
             got = Appends-trans old mid out gone.sent flushed.sent gone.got flushed.got;

@@ -1,5 +1,5 @@
 -- The marks of takings are those of what they do.
-use Rattle.std.proofs.Common.{◌≡◌, ◌≢◌, ◌<◌, ◌⊎◌, ℕ, zero, suc, Bool, true, false, List, [], ◌∷◌, ◌++◌, map, Contains, Option, Some, None, inl, inr, refl, sym, ◌∙◌, ap, subst, arith}
+use Rattle.std.proofs.Common.{◌≡◌, ◌⊎◌, ℕ, zero, suc, Bool, true, false, List, [], ◌∷◌, ◌++◌, map, Contains, Option, Some, None, inl, inr, refl, sym, ◌∙◌, ap, subst}
 use Rattle.std.specs.Prelude.{flat_map, slice_get}
 use Rattle.std.proofs.lemmas.Bool.{cases_order, true≢false}
 use Rattle.std.proofs.lemmas.List.Elements.{Contains-append_cases, Contains-append_left, Contains-append_right}
@@ -20,7 +20,7 @@ use Rattle.fb_types.proofs.ByIndex.{element_of_index}
 use Rattle.fb_types.proofs.Elements.{Contains-cons_cases, Contains-here, Contains-map, Contains-nil, Contains-there}
 use Rattle.fb_types.proofs.TwiceLaws.{Twice-append_right}
 use Rattle.fb_coverage.specs.Additions.{AddsFlags}
-use Rattle.fb_coverage.specs.Sets.{with_cleared, with_lost, with_port, with_ran, with_taken}
+use Rattle.fb_coverage.specs.Sets.{with_port, with_taken}
 use Rattle.fb_coverage.specs.declared.marks.ChartMarks.{ChartMarks}
 use Rattle.fb_coverage.specs.declared.marks.Marks.{Marks}
 use Rattle.fb_coverage.specs.declared.marks.PortMarks.{PortMarks}
@@ -29,7 +29,7 @@ use Rattle.fb_coverage.proofs.Added.{adds_both, adds_by, adds_none, adds_one}
 use Rattle.fb_inspect.specs.Chains.{Piece, Clears_by, Is_lost, Ran, Stops_by, Has, Emits}
 use Rattle.fb_inspect.specs.Happenings.{AreMarkedBy, Clears, ClearsSome, ClearsTransition, Does, Enters, EntersState, Happens, History, IsAtPort, IsOfPort, KeepsEvent, MarkCharts, MarkPorts, Runs, RunsAlgorithm, TakesEvent, together}
 use Rattle.fb_inspect.specs.Looks.{Turn}
-use Rattle.fb_inspect.specs.Markings.{ChartMarked, IsFirstLike, PieceMarks, PiecesMark, TurnMarks, TurnMarksAt, TurnsMark, algorithm_number, event_number, lines_marked, state_number}
+use Rattle.fb_inspect.specs.Markings.{ChartMarked, IsFirstLike, PieceMarks, PiecesMark, TurnMarksAt, TurnsMark, algorithm_number, event_number, lines_marked, state_number}
 
 -- ---- Lists
 

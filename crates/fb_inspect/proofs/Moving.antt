@@ -1,5 +1,5 @@
 -- Lines that are gone through one after another.
-use Rattle.std.proofs.Common.{◌≡◌, ℕ, Bool, true, false, List, [], ◌∷◌, ◌++◌, map, Option, refl, sym, ◌∙◌, ap, subst, append_assoc, append-nil}
+use Rattle.std.proofs.Common.{◌≡◌, ℕ, Bool, true, false, List, [], ◌∷◌, ◌++◌, ◌+◌, map, length, Option, refl, sym, ◌∙◌, ap, subst, append_assoc, append-nil, arith, length-append}
 use Rattle.std.specs.Prelude.{All}
 use Rattle.std.specs.Io.KnownBytes.{Consumes}
 use Rattle.std.proofs.KnownBytes.{Consumes-nil, Consumes-trans}
@@ -14,8 +14,11 @@ use Rattle.fb_types.specs.declared.run.Line.{Line}
 use Rattle.fb_wave.specs.Lines.{IsLineOf, IsTextOf}
 use Rattle.fb_coverage.specs.Sets.{with_port}
 use Rattle.fb_coverage.specs.declared.marks.PortMarks.{PortMarks}
+use Rattle.fb_inspect.specs.Lines.{IsAlone, IsNext, IsNextLine}
+use Rattle.fb_inspect.specs.declared.reading.Next.{Next}
+use Rattle.fb_inspect.specs.declared.reading.Next.TheVariants as next
 use Rattle.fb_inspect.specs.Markings.{lines_marked}
-use Rattle.fb_inspect.specs.Moves.{Goes, HavePassed, IsAside, IsLineAt, lines_kept, shown_text}
+use Rattle.fb_inspect.specs.Moves.{Goes, HavePassed, IsAside, IsLineAt, StaysAlone, lines_kept, shown_text}
 use Rattle.fb_inspect.specs.declared.trail.PassedLines.{PassedLines}
 use Rattle.fb_inspect.specs.declared.trail.Trail.{Trail}
 
@@ -39,11 +42,12 @@ marked-append [] ks m = refl
 marked-append (l ∷ ls) ks m = marked-append ls ks (with_port l.instance l.taken l.event m)
 
 -- nothing but the text differs, if that
-pub aside : (old new : Trail) → new.is_shown ≡ old.is_shown → new.marks.ports ≡ old.marks.ports → new.passed ≡ old.passed → IsAside old new
-aside old new kept ported passed = record { kept = kept; ported = ported; passed = passed }
+pub aside :
+    (old new : Trail) → new.is_shown ≡ old.is_shown → new.marks.ports ≡ old.marks.ports → new.passed ≡ old.passed → new.reading.number ≡ old.reading.number → IsAside old new
+aside old new kept ported passed number = record { kept = kept; ported = ported; passed = passed; number = number }
 
 pub aside_none : (t : Trail) → IsAside t t
-aside_none t = record { kept = refl; ported = refl; passed = refl }
+aside_none t = record { kept = refl; ported = refl; passed = refl; number = refl }
 
 -- no line was passed, and some one after another
 passed_none : (b : Bool) (ls : List Line) → ls ≡ lines_kept b ls []
@@ -69,6 +73,13 @@ then_passed ls ks a b c first second = record {
       ∙ passed_then a.are_kept a.lines.items ls ks;
 }
 
+pub plus_none : (n : ℕ) → n ≡ n + 0
+plus_none n = omega arith
+
+-- lines after others, counted
+pub counted_then : {A : Type 0} (ls ks : List A) (a b c : ℕ) → b ≡ a + length ls → c ≡ b + length ks → c ≡ a + length (ls ++ ks)
+counted_then ls ks a b c first second = omega (arith, first, second, length-append ls ks)
+
 module _ (sys : System) (form : Form) (tick : ℕ) where
   -- text is added, and no line is read
   pub goes_note :
@@ -83,6 +94,7 @@ module _ (sys : System) (form : Form) (tick : ℕ) where
     text = text;
     ported = aside.ported;
     passed = none_passed old.passed new.passed aside.passed;
+    numbered = aside.number ∙ plus_none old.reading.number;
   }
 
   pub goes_then :
@@ -105,6 +117,7 @@ module _ (sys : System) (form : Form) (tick : ℕ) where
         text = second.text ∙ ap (λ (x : List ℕ). x ++ cs) first.text ∙ append_assoc a.page.text.items bs cs;
         ported = second.ported ∙ ap (lines_marked ks) first.ported ∙ sym (marked-append ls ks a.marks.ports);
         passed = then_passed ls ks a.passed b.passed c.passed first.passed second.passed;
+        numbered = counted_then ls ks a.reading.number b.reading.number c.reading.number first.numbered second.numbered;
       }
 
   -- the same text by another name
@@ -112,13 +125,29 @@ module _ (sys : System) (form : Form) (tick : ℕ) where
       (a b : Trail) (ls : List Line) (bs cs : List ℕ) (l m : Option (List ℕ)) → bs ≡ cs → Goes sys form tick ls bs a b l m → Goes sys form tick ls cs a b l m
   goes_as a b ls bs cs l m same goes = subst (λ (x : List ℕ). Goes sys form tick ls x a b l m) same goes
 
+-- the next line, where nothing is said of one that cannot come there
+pub next_line : (sys : System) (form : Form) (tick : ℕ) (text : List ℕ) (n : Next) → IsNext sys form tick text n → IsNextLine sys form tick text n
+next_line sys form tick text (next.Event l) is = (is.0, is.1)
+next_line sys form tick text (next.End e) is = is
+next_line sys form tick text next.Bad is = tt
+
+-- the next line is the same as at another place
+pub alone_from :
+    (a b c : Trail) (l m : Option (List ℕ)) → b.reading.line.items ≡ a.reading.line.items → StaysAlone b.reading c.reading l m → StaysAlone a.reading c.reading l m
+alone_from a b c l m line stays = λ alone. stays (subst (λ (t : List ℕ). IsAlone t l) (sym line) alone)
+
+pub alone_on :
+    (a b c : Trail) (l m : Option (List ℕ)) → c.reading.line.items ≡ b.reading.line.items → StaysAlone a.reading b.reading l m → StaysAlone a.reading c.reading l m
+alone_on a b c l m line stays = λ alone. subst (λ (t : List ℕ). IsAlone t m) (sym line) (stays alone)
+
 -- one line is read, and added where it is shown
 pub goes_pass :
     (sys : System) (form : Form) (line : Line) (a c : Trail) (l m : Option (List ℕ)) → IsTextOf sys form line a.reading.line.items
     → c.page.text.items ≡ a.page.text.items ++ shown_text a.is_shown a.reading.line.items → c.is_shown ≡ a.is_shown
     → c.marks.ports ≡ with_port line.instance line.taken line.event a.marks.ports → HavePassed (line ∷ []) a.passed c.passed → Consumes l m c.reading.line.items
+    → c.reading.number ≡ a.reading.number + 1
     → Goes sys form line.key.tick (line ∷ []) (shown_text a.is_shown (line_text form sys (line_of sys line))) a c l m
-goes_pass sys form line a c l m is put shown ported passed took = record {
+goes_pass sys form line a c l m is put shown ported passed took number = record {
   each = All-one sys line is.line;
   kept = shown;
   taken = c.reading.line.items;
@@ -127,6 +156,7 @@ goes_pass sys form line a c l m is put shown ported passed took = record {
   text = put ∙ ap (λ (x : List ℕ). a.page.text.items ++ shown_text a.is_shown x) is.is;
   ported = ported;
   passed = passed;
+  numbered = number;
 }
   where
     All-one : (sys : System) (line : Line) → IsLineOf sys line → All (IsLineAt sys line.key.tick) (line ∷ [])
@@ -145,4 +175,5 @@ goes_same sys form tick ls bytes a b c l m aside line text goes = record {
   text = goes.text ∙ ap (λ (x : List ℕ). x ++ bytes) text;
   ported = goes.ported ∙ ap (lines_marked ls) aside.ported;
   passed = subst (λ (p : PassedLines). HavePassed ls p c.passed) aside.passed goes.passed;
+  numbered = goes.numbered ∙ ap (λ (n : ℕ). n + length ls) aside.number;
 }

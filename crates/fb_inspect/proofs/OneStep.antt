@@ -12,7 +12,6 @@ use Rattle.fb_types.specs.declared.value.Reason.{Reason}
 use Rattle.fb_types.specs.declared.value.Reason.TheVariants.{Steps}
 use Rattle.fb_trace.specs.declared.last.Outcome.{Outcome}
 use Rattle.fb_coverage.specs.declared.marks.Marks.{Marks}
-use Rattle.fb_inspect.specs.Counted.{left_of}
 use Rattle.fb_inspect.specs.Inspections.{KeepSteps, limited}
 use Rattle.fb_inspect.specs.Lines.{IsNext}
 use Rattle.fb_inspect.specs.Looks.{Left, Look, left_at, most}

@@ -9,7 +9,6 @@ use Rattle.fb_types.specs.Names.{Name}
 use Rattle.fb_types.specs.declared.library.BasicType.{BasicType}
 use Rattle.fb_st.specs.declared.frame.Slot.{Slot}
 use Rattle.fb_ecc.specs.Indexes.{index, state_at}
-use Rattle.fb_wave.specs.Tables.{IsTable}
 use Rattle.fb_wave.specs.declared.table.PortTable.{PortTable}
 use Rattle.fb_coverage.specs.declared.marks.ChartMarks.{ChartMarks}
 use Rattle.fb_inspect.specs.Markings.{with_lost_if}
@@ -40,6 +39,10 @@ pub ok_then : {A E : Type 0} (r : Result A E) (P Q : A → Type 0) → IfOk r P 
 ok_then (Ok x) P Q h f = f x h
 ok_then (Err e) P Q h f = tt
 
+pub ok_on : {A E : Type 0} (r : Result A E) (P : A → Type 0) (Q : Type 0) → IfOk r P → ((x : A) → P x → Q) → OnOk r Q
+ok_on (Ok x) P Q h f = f x h
+ok_on (Err e) P Q h f = tt
+
 -- where a call fails
 pub err_then : {A E : Type 0} (r : Result A E) (P Q : Type 0) → OnErr r P → (P → Q) → OnErr r Q
 err_then (Ok x) P Q h f = tt
@@ -64,5 +67,5 @@ item_is xs i x within is =
     one.1 ∙ ap Some (sym (is ∙ get_or_from_slice_get xs i one.0 x one.1))
 
 -- the table of a system
-pub of_table : (o : Option PortTable) (t : PortTable) (s : Inputs) → o ≡ Some t → IfSome o (λ t. IsTable t × (t.system.now ≡ s)) → t.system.now ≡ s
-of_table o t s is are = (subst (λ (o : Option PortTable). IfSome o (λ t. IsTable t × (t.system.now ≡ s))) is are).1
+pub of_table : (o : Option PortTable) (t : PortTable) (s : Inputs) → o ≡ Some t → IfSome o (λ t. t.system.now ≡ s) → t.system.now ≡ s
+of_table o t s is are = subst (λ (o : Option PortTable). IfSome o (λ t. t.system.now ≡ s)) is are

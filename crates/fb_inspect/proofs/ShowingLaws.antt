@@ -56,7 +56,7 @@ emission-one b o S d m s t q u ps qs h i =
       pieces_are = h.1 ∙ ap (λ (l : List Piece). emission_pieces b o m ++ l) one.pieces_are ∙ sym i.1;
     }
 
-acts-one : (b : BasicType) (actions : List Action) (left : ℕ) → OneShown (ShowsActs b actions left) (ShowsActs b actions left)
+pub acts-one : (b : BasicType) (actions : List Action) (left : ℕ) → OneShown (ShowsActs b actions left) (ShowsActs b actions left)
 acts-one b [] left p = silent-one None p
 acts-one b (a ∷ others) zero p = silent-one (Some Steps) p
 acts-one b (a ∷ others) (suc left) p =
@@ -156,7 +156,7 @@ or-shows None M S d p s q h = d p s q h
 or-shows (Some r) M S d p s q h = ([], (h.0, h.1, refl))
 
 -- where a transition clears there is a first true one
-first_clears :
+pub first_clears :
     (ts : List Transition) (present : Option Name) (vars : Values) (left : ℕ) (target : Name) (less : ℕ) → trial_of ts present vars left ≡ Clears target less
     → (x : Transition) × (first_true ts present vars ≡ Some x)
 first_clears [] present vars left target less h = absurd (cc)

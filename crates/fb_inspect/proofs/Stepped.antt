@@ -31,7 +31,7 @@ use Rattle.fb_coverage.specs.declared.marks.Marks.{Marks}
 use Rattle.fb_net.proofs.Others.{get_set_other, get_set_same}
 use Rattle.fb_inspect.specs.Counted.{left_of}
 use Rattle.fb_inspect.specs.Inspections.{AreLimited, AreTaken, AreTurns, EndsBySteps, EndsByStop, EndsSo, KeepSteps, KeepsLimit, NoneStops, RunsOut, all_text, is_kept, last_look, limited, stop_of}
-use Rattle.fb_inspect.specs.Lines.{IsNext}
+use Rattle.fb_inspect.specs.Lines.{IsNext, IsNextLine}
 use Rattle.fb_inspect.specs.Markings.{TurnMarks}
 use Rattle.fb_inspect.specs.Looks.{Left, Look, Turn, Turns, left_at, most, opening_look, turn_text}
 use Rattle.fb_inspect.specs.Moves.{Goes, IsLineAt, shown_text}
@@ -43,7 +43,7 @@ use Rattle.fb_inspect.specs.declared.steps.TickSteps.{TickSteps}
 use Rattle.fb_inspect.specs.declared.trail.Trail.{Trail}
 use Rattle.fb_inspect.specs.declared.walk.Walk.{Walk}
 use Rattle.fb_inspect.proofs.Gone.{chain_more, each_of, gone_more, last_is, look_more, more_marked, none_more, nothing, rise_more, shown_if, stop_by, stop_more}
-use Rattle.fb_inspect.proofs.Moving.{lines-append}
+use Rattle.fb_inspect.proofs.Moving.{lines-append, next_line}
 use Rattle.fb_inspect.proofs.Walked.{one_or_other}
 
 -- ---- Limits
@@ -175,6 +175,7 @@ module _ (types : List BlockType) (sys : System) (form : Form) (limit : ℕ) (lo
       text = goes.goes.text;
       ported = goes.goes.ported;
       passed = goes.goes.passed;
+      numbered = goes.goes.numbered;
     };
     marked = goes.marked;
   }
@@ -206,6 +207,7 @@ module _ (types : List BlockType) (sys : System) (form : Form) (limit : ℕ) (lo
       text = goes.goes.text;
       ported = goes.goes.ported;
       passed = goes.goes.passed;
+      numbered = goes.goes.numbered;
     };
     marked = goes.marked;
   }
@@ -233,6 +235,7 @@ module _ (types : List BlockType) (sys : System) (form : Form) (limit : ℕ) (lo
       text = goes.goes.text;
       ported = goes.goes.ported;
       passed = goes.goes.passed;
+      numbered = goes.goes.numbered;
     };
     marked = goes.marked;
   }
@@ -304,6 +307,7 @@ module _ (types : List BlockType) (first : Marks) (sys : System) (form : Form) (
               lines = gone.lines;
               lines_are = gone.lines_are;
               are = gone.are;
+              numbered = gone.numbered;
               read = on _ gone.read;
               sent = gone.sent;
               got = gone.got;
@@ -336,12 +340,13 @@ module _ (types : List BlockType) (first : Marks) (sys : System) (form : Form) (
               lines = gone.lines;
               lines_are = gone.lines_are;
               are = gone.are;
+              numbered = gone.numbered;
               read = gone.read;
               sent = gone.sent;
               got = gone.got;
               text = gone.text;
             };
-            next = subst (λ (n : Next). IsNext sys form (last_tick 0 gone.lines) w.trail.reading.line.items n) (sym is) tt;
+            next = subst (λ (n : Next). IsNextLine sys form (last_tick 0 gone.lines) w.trail.reading.line.items n) (sym is) tt;
           };
           marked = covered.marked;
         },
@@ -361,6 +366,7 @@ module _ (types : List BlockType) (first : Marks) (sys : System) (form : Form) (
           lines = gone.lines;
           lines_are = gone.lines_are;
           are = gone.are;
+          numbered = gone.numbered;
           read = gone.read;
           sent = gone.sent;
           got = gone.got;
@@ -417,7 +423,7 @@ module _ (types : List BlockType) (first : Marks) (sys : System) (form : Form) (
             chain = chained;
             look = subst (λ (k : Look). IsLookOf sys done.blocks.items done.steps.items k) (sym (look_more (opening_look sys) covered.gone.turns goes.turn)) goes.look_after;
             gone = more;
-            next = subst (λ (t : ℕ). IsNext sys form t done.trail.reading.line.items done.trail.reading.next) (sym tick_is) next_is;
+            next = subst (λ (t : ℕ). IsNextLine sys form t done.trail.reading.line.items done.trail.reading.next) (sym tick_is) (next_line sys form line.key.tick done.trail.reading.line.items done.trail.reading.next next_is);
           };
           marked = marks_are;
         }

@@ -4,7 +4,7 @@ use Rattle.std.specs.Prelude.{◌&&◌, if◌then◌else◌}
 use Rattle.fb_types.specs.Blocks.{Emission, Event, inputs_with, outputs_with, ports_of_event_block, variable_names}
 use Rattle.fb_types.specs.EventBlocks as blocks
 use Rattle.fb_types.specs.Names.{Name, Path}
-use Rattle.fb_types.specs.Numbers.{by_index, event_at, line_of, pair_up, path_at, ports_at}
+use Rattle.fb_types.specs.Numbers.{by_index, emission_of, event_at, line_of, pair_up, path_at, ports_at}
 use Rattle.fb_types.specs.Reactions.{memory_of, with_values}
 use Rattle.fb_types.specs.States as model
 use Rattle.fb_types.specs.Systems.{System}
@@ -27,13 +27,13 @@ use Rattle.fb_wave.specs.Lines.{line_side}
 use Rattle.fb_wave.specs.Reading.{fit_each, type_at}
 use Rattle.fb_inspect.specs.Looks.{Seen, due_after, due_of, emission_line, emissions_by, memory_pieces, pieces_text, reacted, same_memory, same_tick}
 use Rattle.fb_inspect.specs.Chains.{Piece, Has}
-use Rattle.fb_inspect.specs.Moves.{EmitsGo, Goes, IsAside, shown_text}
+use Rattle.fb_inspect.specs.Moves.{EmitsGo, Goes, IsAside, StaysAlone, shown_text}
 use Rattle.fb_inspect.specs.Notes.{memory_note}
 use Rattle.fb_inspect.specs.Timing.{BlockGoes, HasExpired, HasReacted, IsBlockKept, IsBlockLine, TimerGoes, inputs_after, taken_reaction, taken_variables, timer_reaction}
 use Rattle.fb_inspect.specs.declared.blocks.EventBlock.{EventBlock}
 use Rattle.fb_inspect.specs.declared.trail.Trail.{Trail}
 use Rattle.fb_inspect.proofs.Emitted.{emission_is, emissions_are, emits_text, shown_pieces}
-use Rattle.fb_inspect.proofs.Moving.{goes_as, goes_note, goes_then, shown-append}
+use Rattle.fb_inspect.proofs.Moving.{alone_from, alone_on, goes_as, goes_note, goes_then, shown-append}
 use Rattle.fb_inspect.proofs.Showing.{emits_pieces}
 use Rattle.fb_inspect.proofs.Sampled.{all_or_none, sampled_are, sampled_fit}
 
@@ -173,6 +173,12 @@ module _ (sys : System) (b : EventBlock) (l : Line) (line : IsBlockLine sys b l)
         → HasReacted reaction b.due taken_block c es
     answered c es h = subst (λ (r : blocks.Reaction). HasReacted r b.due taken_block c es) reaction_is h
 
+    -- the emissions are those of the definitions
+    pub emitted_as :
+        (c : EventBlock) (es : List run.Emission) → HasReacted (reaction_to b.state l.event l.key.tick (inputs_after b.inputs l.values)) b.due taken_block c es
+        → map (emission_of (ports_at sys (path_at sys l.instance))) es ≡ emissions_by b.state.kind reaction
+    emitted_as c es has = ap (λ (x : Ports). map (emission_of x) es) its_are ∙ (answered c es has).emitted
+
     answered_kept : (c : EventBlock) (es : List run.Emission) → HasReacted reaction b.due taken_block c es
         → IsBlockKept b.state.kind c (reacted s reaction (taken_variables sys s l) s.due)
     answered_kept c es h = record {
@@ -211,11 +217,12 @@ module _ (sys : System) (b : EventBlock) (l : Line) (line : IsBlockLine sys b l)
           are = are;
           goes = goes_as sys form l.key.tick a z goes.lines _ _ left after (shown_pieces form sys at a.is_shown y.is_shown changes (emits_pieces outs) aside_is.kept)
               (goes_then sys form l.key.tick a y z [] goes.lines _ _ left left after first second);
+          alone = alone_from a y z left after line_is goes.alone;
         }
 
 -- ---- The reaction to the timer
 
-abbrev shown_emission : model.Line → Emission
+abbrev pub shown_emission : model.Line → Emission
 shown_emission x = record { event = x.event; values = x.values }
 
 module _ (sys : System) (b : EventBlock) (l : Line) (line : IsBlockLine sys b l) (s : Seen) (kept : IsBlockKept b.state.kind b s) where
@@ -250,10 +257,10 @@ module _ (sys : System) (b : EventBlock) (l : Line) (line : IsBlockLine sys b l)
   -- the line, and the note of what the block remembers then
   pub timer_goes :
       (form : Form) (c : EventBlock) (m n : blocks.Memory) (d e : Option ℕ) (a y z : Trail) (left after : Option (List ℕ)) → HasExpired l b c → IsSeenAs b m d → IsSeenAs c n e
-      → Goes sys form l.key.tick (l ∷ []) (shown_text a.is_shown (line_text form sys (line_of sys l))) a y left after
+      → Goes sys form l.key.tick (l ∷ []) (shown_text a.is_shown (line_text form sys (line_of sys l))) a y left after → StaysAlone a.reading y.reading left after
       → IsAside y z → z.reading.line.items ≡ y.reading.line.items → z.page.text.items ≡ y.page.text.items ++ shown_text y.is_shown (note_text m n d e)
       → TimerGoes sys form b.state.kind l s c a z left after
-  timer_goes form c m n d e a y z left after has before now passed aside_is line_is text =
+  timer_goes form c m n d e a y z left after has before now passed stays aside_is line_is text =
       let h = expired c has.emits has.reacted in
       let is_kept = expired_kept c has.emits h in
       let at : model.Line = line_of sys l in
@@ -272,4 +279,5 @@ module _ (sys : System) (b : EventBlock) (l : Line) (line : IsBlockLine sys b l)
             ∙ sym (shown-append a.is_shown (line_text form sys at) (pieces_text form sys at changes))
             ∙ ap (λ (ps : List Piece). shown_text a.is_shown (line_text form sys at ++ pieces_text form sys at ps)) (sym (append-nil changes)))
             (goes_then sys form l.key.tick a y z (l ∷ []) [] _ _ left after after passed noted_is);
+        alone = alone_on a y z left after line_is stays;
       }

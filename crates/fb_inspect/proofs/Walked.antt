@@ -34,7 +34,6 @@ use Rattle.fb_event.specs.Reactions.{FitInputs}
 use Rattle.fb_net.proofs.Others.{get_set_other, get_set_same}
 use Rattle.fb_net.proofs.Sampling.{ports-of_kind}
 use Rattle.fb_wave.specs.Lines.{IsLineOf}
-use Rattle.fb_wave.specs.Tables.{IsTable}
 use Rattle.fb_coverage.specs.Sets.{with_taken}
 use Rattle.fb_coverage.specs.declared.marks.ChartMarks.{ChartMarks}
 use Rattle.fb_coverage.specs.declared.marks.Marks.{Marks}
@@ -43,7 +42,7 @@ use Rattle.fb_inspect.specs.Charting.{ChartGoes, IsChartOf, IsChartTaking, place
 use Rattle.fb_inspect.specs.Counted.{left_of}
 use Rattle.fb_inspect.specs.Looks.{BlockTurns, ChartTurns, Left, Look, Seen, TimerTurns, Turn, Turns, TurnsAt, TurnsWith, emissions_by, emits_pieces, left_at, memory_pieces, pieces_text, reacted, turn_text, with_left, with_seen}
 use Rattle.fb_inspect.specs.Markings.{ChartMarked, PiecesMark, TurnMarks, TurnMarksAt, event_number}
-use Rattle.fb_inspect.specs.Moves.{Goes, shown_text}
+use Rattle.fb_inspect.specs.Moves.{Goes, StaysAlone, shown_text}
 use Rattle.fb_inspect.specs.Timing.{BlockGoes, IsBlockKept, IsBlockLine, TimerGoes, taken_reaction, taken_variables, timer_reaction}
 use Rattle.fb_inspect.specs.Walking.{AreKept, CanReact, HasStepped, IsChartKept, IsKept, IsLookOf, KeptGoes, ReactGoes, TurnGoes, flag_at, with_steps}
 use Rattle.fb_inspect.specs.declared.blocks.Chart.{Chart}
@@ -137,11 +136,10 @@ events_if sys l t = let own = ports_at sys (path_at sys l.instance) in if t then
 
 -- a line of a basic block that takes an event
 pub chart_taking :
-    (x : ChartTaking) → IsTable x.fixed.table.now → IsLineOf (sys_of x) x.line.now → x.line.now.taken ≡ true
+    (x : ChartTaking) → IsLineOf (sys_of x) x.line.now → x.line.now.taken ≡ true
     → (sys_of x).kind (path_at (sys_of x) x.line.now.instance) ≡ Some (Basic x.block.now) → IsSound x.block.now
     → slice_get x.fixed.table.now.system.now.library.blocks x.number ≡ Some (declared.Basic x.block.now) → IsChartTaking x
-chart_taking x table line taken kind sound number = record {
-  table = table;
+chart_taking x line taken kind sound number = record {
   line = line;
   taken = taken;
   kind = kind;
@@ -152,22 +150,22 @@ chart_taking x table line taken kind sound number = record {
 }
 
 module _ (x : ChartTaking) (look : Look) (c d : Chart) (left steps : ℕ) (stop : Option Reason) where
-  abbrev basic : BasicType
+  abbrev pub basic : BasicType
   basic = x.block.now
 
-  abbrev line : Line
+  abbrev pub line : Line
   line = x.line.now
 
-  abbrev path : Path
+  abbrev pub path : Path
   path = path_at (sys_of x) line.instance
 
-  abbrev before : Seen
+  abbrev pub before : Seen
   before = look.blocks path
 
-  abbrev begun : Position
+  abbrev pub begun : Position
   begun = record (place basic c left) { vars = sampled basic line.event line.values (values_of c.state.frame) }
 
-  abbrev started : Position
+  abbrev pub started : Position
   started = record {
     state = state_of before.memory;
     vars = with_values (line_of (sys_of x) line).values before.variables;
@@ -175,7 +173,7 @@ module _ (x : ChartTaking) (look : Look) (c d : Chart) (left steps : ℕ) (stop 
     emitted = [];
   }
 
-  starts : IsChartTaking x → IsChartKept basic c before → begun ≡ started
+  pub starts : IsChartTaking x → IsChartKept basic c before → begun ≡ started
   starts taking is =
       let here = taken_is (sys_of x) basic.ports line taking.taken (ports-of_kind (sys_of x) path (Basic basic) taking.kind) in
       let all : before.variables ≡ values_of c.state.frame = (λ i. λ n. is.variables_are n i) in
@@ -187,9 +185,10 @@ module _ (x : ChartTaking) (look : Look) (c d : Chart) (left steps : ℕ) (stop 
       (a y z : Trail) (m : ChartMarks) (l k j : Option (List ℕ)) → IsChartTaking x → IsChartKept basic c before → y.marks.charts ≡ a.marks.charts
       → m ≡ with_taken x.number line.event y.marks.charts
       → Goes (sys_of x) x.fixed.form line.key.tick (line ∷ []) (shown_text a.is_shown (line_text x.fixed.form (sys_of x) (line_of (sys_of x) line))) a y l k
+      → StaysAlone a.reading y.reading l k
       → ChartGoes x (ShowsReaction basic (event_at basic.ports.event_inputs line.event)) begun stop (place basic d steps) (record y { marks = record (y.marks) { charts = m } }) z k j
       → IsChartOf basic d → KeptGoes x.fixed.table.now.system.now.library.blocks (sys_of x) x.fixed.form look left line stop (kept.Basic d) steps a z l j
-  chart_goes a y z m l k j taking is charts_are taken_marked passed goes chart =
+  chart_goes a y z m l k j taking is charts_are taken_marked passed stays goes chart =
       let end : Position = record (place basic d steps) { emitted = goes.emits } in
       let after_seen : Seen = record before { memory = model.InState end.state; variables = end.vars } in
       let here = taken_is (sys_of x) basic.ports line taking.taken (ports-of_kind (sys_of x) path (Basic basic) taking.kind) in
@@ -236,8 +235,9 @@ module _ (x : ChartTaking) (look : Look) (c d : Chart) (left steps : ℕ) (stop 
         lines_are = ap (λ (ls : List model.Line). line_of (sys_of x) line ∷ ls) goes.are;
         goes = turn_goes (sys_of x) x.fixed.form line a y z goes.lines goes.pieces l k j passed
             (goes_same (sys_of x) x.fixed.form line.key.tick goes.lines (shown_text y.is_shown (pieces_text x.fixed.form (sys_of x) (line_of (sys_of x) line) goes.pieces)) marked_trail y z k j
-            (aside y marked_trail refl refl refl) refl refl goes.goes);
+            (aside y marked_trail refl refl refl refl) refl refl goes.goes);
         marked = subst (λ (o : Option Kind). TurnMarksAt x.fixed.table.now.system.now.library.blocks o it a.marks.charts z.marks.charts) (sym taking.kind) marked;
+        alone = λ alone. goes.alone (stays alone);
       }
 
 -- ---- An event block
@@ -260,9 +260,10 @@ module _ (types : List BlockType) (sys : System) (form : Form) (look : Look) (le
   pub event_goes :
       (a y z : Trail) (l k j : Option (List ℕ)) → own.taken ≡ true → z.marks.charts ≡ a.marks.charts
       → Goes sys form own.key.tick (own ∷ []) (shown_text a.is_shown (line_text form sys (line_of sys own))) a y l k
+      → StaysAlone a.reading y.reading l k
       → BlockGoes sys form b.state.kind own (taken_reaction sys b.state.kind was own) (taken_variables sys was own) was.due was d y z k j
       → KeptGoes types sys form look left own None (kept.Event d) left a z l j
-  event_goes a y z l k j taken charts_are passed goes =
+  event_goes a y z l k j taken charts_are passed stays goes =
       let r = taken_reaction sys b.state.kind was own in
       let after_seen : Seen = reacted was r (taken_variables sys was own) was.due in
       let outs : List Emission = emissions_by b.state.kind r in
@@ -287,6 +288,7 @@ module _ (types : List BlockType) (sys : System) (form : Form) (look : Look) (le
         lines_are = ap (λ (ls : List model.Line). line_of sys own ∷ ls) goes.are;
         goes = turn_goes sys form own a y z goes.lines ps l k j passed goes.goes;
         marked = subst (λ (o : Option Kind). TurnMarksAt types o it a.marks.charts z.marks.charts) (sym kind_is) charts_are;
+        alone = λ alone. goes.alone (stays alone);
       }
 
   pub expired_goes :
@@ -315,6 +317,7 @@ module _ (types : List BlockType) (sys : System) (form : Form) (look : Look) (le
         lines_are = refl;
         goes = goes.goes;
         marked = subst (λ (o : Option Kind). TurnMarksAt types o it a.marks.charts z.marks.charts) (sym kind_is) charts_are;
+        alone = goes.alone;
       }
 
 -- ---- A composite
@@ -323,8 +326,9 @@ pub composite_goes :
     (types : List BlockType) (sys : System) (form : Form) (look : Look) (left : ℕ) (line : Line) (a y : Trail) (l j : Option (List ℕ)) → y.marks.charts ≡ a.marks.charts
     → IsKept (sys.kind (path_at sys line.instance)) kept.Composite (look.blocks (path_at sys line.instance))
     → Goes sys form line.key.tick (line ∷ []) (shown_text a.is_shown (line_text form sys (line_of sys line))) a y l j
+    → StaysAlone a.reading y.reading l j
     → KeptGoes types sys form look left line None kept.Composite left a y l j
-composite_goes types sys form look left line a y l j charts_are is passed =
+composite_goes types sys form look left line a y l j charts_are is passed stays =
     let p : Path = path_at sys line.instance in
     let one = kept_composite (sys.kind p) (look.blocks p) is in
     let it : Turn = record { first = line_of sys line; emits = []; pieces = []; stop = None; after = with_left line.key left look } in
@@ -340,6 +344,7 @@ composite_goes types sys form look left line a y l j charts_are is passed =
       lines_are = refl;
       goes = goes_as sys form line.key.tick a y (line ∷ []) _ _ l j (ap (shown_text a.is_shown) (sym (append-nil (line_text form sys (line_of sys line))))) passed;
       marked = subst (λ (o : Option Kind). TurnMarksAt types o it a.marks.charts y.marks.charts) (sym one.1) charts_are;
+      alone = stays;
     }
 
 -- ---- All instances
@@ -451,9 +456,9 @@ module _ (types : List BlockType) (sys : System) (form : Form) (limit : ℕ) (lo
       (line : Line) (stop : Option Reason) (old mid new : Walk) (remaining rest : Option (List ℕ)) → line.instance < length sys.paths
       → IsLookOf sys old.blocks.items old.steps.items look → line.key.tick ≤ 10 ^ 12 → HasStepped limit line.key old.steps.items mid.steps.items
       → mid.blocks.items ≡ old.blocks.items → mid.shown ≡ old.shown → mid.trail.marks ≡ old.trail.marks → mid.trail.passed ≡ old.trail.passed → mid.trail.is_shown ≡ flag_at old.shown.items line.instance
-      → mid.trail.reading.line.items ≡ old.trail.reading.line.items → mid.trail.page.text.items ≡ old.trail.page.text.items
+      → mid.trail.reading.line.items ≡ old.trail.reading.line.items → mid.trail.page.text.items ≡ old.trail.page.text.items → mid.trail.reading.number ≡ old.trail.reading.number
       → ReactGoes types sys form look line stop mid new remaining rest → TurnGoes types sys form limit look line stop old new remaining rest
-  turn_taken line stop old mid new remaining rest within look_is early stepped blocks_same shown_same marks_same passed_same flag line_same text_same goes =
+  turn_taken line stop old mid new remaining rest within look_is early stepped blocks_same shown_same marks_same passed_same flag line_same text_same number_same goes =
       let x = goes.goes.turn in
       let mine : goes.own ≡ stepped.after =
       own_is sys limit line.key look x.after old.steps.items mid.steps.items new.steps.items stepped goes.own goes.stood goes.left goes.steps_are goes.goes.steps_are in
@@ -476,7 +481,7 @@ module _ (types : List BlockType) (sys : System) (form : Form) (limit : ℕ) (lo
         lines_are = goes.goes.lines_are;
         goes = goes_same sys form line.key.tick goes.goes.lines (shown_text (flag_at old.shown.items line.instance) (turn_text form sys x)) mid.trail
             (record (old.trail) { is_shown = flag_at old.shown.items line.instance }) new.trail remaining rest
-            (aside (record (old.trail) { is_shown = flag_at old.shown.items line.instance }) mid.trail flag (ap (λ (m : Marks). m.ports) marks_same) passed_same) line_same text_same
+            (aside (record (old.trail) { is_shown = flag_at old.shown.items line.instance }) mid.trail flag (ap (λ (m : Marks). m.ports) marks_same) passed_same number_same) line_same text_same
             (goes_as sys form line.key.tick mid.trail new.trail goes.goes.lines _ _ remaining rest (ap (λ (b : Bool). shown_text b (turn_text form sys x)) flag) goes.goes.goes);
         marked = subst (λ (m : Marks). TurnMarks types sys x m.charts new.trail.marks.charts) marks_same goes.goes.marked;
       }

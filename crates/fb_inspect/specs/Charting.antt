@@ -13,11 +13,10 @@ use Rattle.fb_types.specs.declared.value.Reason.{Reason}
 use Rattle.fb_ecc.specs.Indexes.{IsBlockOf, index}
 use Rattle.fb_ecc.specs.Sound.{IsSound}
 use Rattle.fb_wave.specs.Lines.{IsLineOf}
-use Rattle.fb_wave.specs.Tables.{IsTable}
 use Rattle.fb_inspect.specs.Chains.{Piece, Showing, ShowsChain}
 use Rattle.fb_inspect.specs.Looks.{emission_line, pieces_text}
 use Rattle.fb_inspect.specs.Markings.{PiecesMark}
-use Rattle.fb_inspect.specs.Moves.{Goes, shown_text}
+use Rattle.fb_inspect.specs.Moves.{Goes, StaysAlone, shown_text}
 use Rattle.fb_inspect.specs.Notes.{own_variables}
 use Rattle.fb_inspect.specs.declared.blocks.Chart.{Chart}
 use Rattle.fb_inspect.specs.declared.charts.ChartTaking.{ChartTaking}
@@ -31,7 +30,6 @@ sys_of x = system_of x.fixed.table.now.system.now
 
 -- A block of the type takes an event in a line of the system.
 pub record IsChartTaking (x : ChartTaking) : Type 0 where
-  pub table : IsTable x.fixed.table.now
   pub line : IsLineOf (sys_of x) x.line.now
   pub taken : x.line.now.taken ≡ true
   pub kind : (sys_of x).kind (path_at (sys_of x) x.line.now.instance) ≡ Some (Basic x.block.now)
@@ -58,6 +56,7 @@ pub record ChartGoes (x : ChartTaking) (S : Showing) (p : Position) (stop : Opti
   pub are : map (line_of (sys_of x)) lines ≡ map (emission_line (line_of (sys_of x) x.line.now)) emits
   pub goes : Goes (sys_of x) x.fixed.form x.line.now.key.tick lines (shown_text old.is_shown (pieces_text x.fixed.form (sys_of x) (line_of (sys_of x) x.line.now) pieces)) old new left after
   pub marked : PiecesMark x.block.now x.number x.line.now.event pieces old.marks.charts new.marks.charts
+  pub alone : StaysAlone old.reading new.reading left after
 
 -- ---- Links
 
@@ -72,6 +71,7 @@ pub record StepGoes (x : ChartTaking) (S : Showing) (p : Position) (R : Showing)
   pub are : map (line_of (sys_of x)) lines ≡ map (emission_line (line_of (sys_of x) x.line.now)) emits
   pub goes : Goes (sys_of x) x.fixed.form x.line.now.key.tick lines (shown_text old.is_shown (pieces_text x.fixed.form (sys_of x) (line_of (sys_of x) x.line.now) pieces)) old new left after
   pub marked : PiecesMark x.block.now x.number x.line.now.event pieces old.marks.charts new.marks.charts
+  pub alone : StaysAlone old.reading new.reading left after
 
 abbrev pub HasLinked : ChartTaking → (present : Option Name) → (p m : Position) → (old new : Trail) → (left after : Option (List ℕ)) → Linked → Type 0
 HasLinked x present p m old new left after Went = StepGoes x (ShowsChain x.block.now present) p (ShowsChain x.block.now None) m old new left after

@@ -1,8 +1,113 @@
--- Laws of what traces cover.
-use Rattle.std.specs.Prelude.{List, ◌∷◌}
-use Rattle.fb_types.specs.Headline.{Inputs}
+-- Laws of takings, and of what traces cover.
+use Rattle.std.specs.Prelude.{◌≡◌, ◌<◌, ◌≤◌, ◌^◌, ℕ, ◌+◌, List, ◌∷◌, ◌++◌, Option, Some, true}
+use Rattle.fb_types.specs.Blocks.{Emission, Kind}
+use Rattle.fb_types.specs.Charts.{Position}
+use Rattle.fb_types.specs.Headline.{AreAccepted, Inputs, IsTrace, stimuli_of, system_of}
+use Rattle.fb_types.specs.Names.{Name}
+use Rattle.fb_types.specs.Reactions.{Outcome, Reacts, World}
+use Rattle.fb_types.specs.Simulation.{Ending, IsSimulation, Taken, ending_of, lines_of}
+use Rattle.fb_types.specs.States.{Event as AnEvent, Line, path_of}
+use Rattle.fb_types.specs.Systems.{System}
+use Rattle.fb_types.specs.declared.key.Key.{Key}
+use Rattle.fb_types.specs.declared.library.BasicType.{BasicType}
+use Rattle.fb_types.specs.declared.run.Form.{Form}
+use Rattle.fb_types.specs.declared.run.Line as run
+use Rattle.fb_types.specs.declared.value.Reason.{Reason}
+use Rattle.fb_types.specs.declared.value.Reason.TheVariants.{Steps}
+use Rattle.fb_laws.specs.Sound.{AreGood}
+use Rattle.fb_system.specs.Networks.{AreNarrow}
+use Rattle.fb_wave.specs.Lines.{IsTextOf}
+use Rattle.fb_wave.specs.Named.{HasNames}
 use Rattle.fb_coverage.specs.declared.marks.Marks.{Marks}
+use Rattle.fb_inspect.specs.Chains.{Piece, ShowsReaction}
 use Rattle.fb_inspect.specs.Happenings.{AreMarkedBy, History, together}
+use Rattle.fb_inspect.specs.Inspections.{AreTurns, EndsSo, all_lines, last_look}
+use Rattle.fb_inspect.specs.Looks.{Look, Turn, Turns, TurnsAt, most, opening_look}
+use Rattle.fb_inspect.specs.Refusals.{IsAccepted, IsWrongAt}
+use Rattle.fb_inspect.specs.RunLines.{HaveRoom}
+use Rattle.fb_inspect.specs.RunTurns.{BeginsSo, CanReact, GoesOn, IsSeenIn, IsTurnOf, MayHaveMore, due_before}
+use Rattle.fb_inspect.specs.SameLines.{IsSameLine}
+
+-- ---- Lines
+
+-- A text is that of one line at most, as far as the form shows it.
+abbrev pub OneLine : Type 0
+OneLine =
+    (i : Inputs) → AreAccepted i → HasNames (system_of i) → (form : Form) (l m : run.Line) (text : List ℕ) → IsTextOf (system_of i) form l text → IsTextOf (system_of i) form m text
+    → IsSameLine form l m
+
+-- ---- Takings
+
+-- What the blocks remember and its first line determine a taking.
+abbrev pub OneTaking : Type 0
+OneTaking = (sys : System) (limit : ℕ) (look : Look) (x y : Turn) → Turns sys limit look x → Turns sys limit look y → x.first ≡ y.first → x ≡ y
+
+-- Each line of an event that an instance takes begins a taking.
+abbrev pub SomeTaking : Type 0
+SomeTaking = (left : ℕ) (look : Look) (k : Kind) (l : Line) → l.taken ≡ true → (x : Turn) × (x.first ≡ l) × TurnsAt left look (Some k) x
+
+-- The lines determine the takings: those of a text begin with those of a text that it begins with.
+abbrev pub OneRow : Type 0
+OneRow =
+    (sys : System) (limit : ℕ) (look : Look) (xs ys : List Turn) (more : List Line) → AreTurns sys limit look xs → AreTurns sys limit look ys
+    → all_lines ys ≡ all_lines xs ++ more → (zs : List Turn) × (ys ≡ xs ++ zs) × (all_lines zs ≡ more)
+
+-- A reaction that does not run out of steps is the same with more of them, and it is shown alike.
+abbrev pub MoreSteps : Type 0
+MoreSteps =
+    (t : BasicType) (e : Name) (p q : Position) (stop : Option Reason) (ps : List Piece) (more : ℕ) → ShowsReaction t e p stop q ps → (stop ≡ Some Steps → ⊥)
+    → ShowsReaction t e (record p { left = p.left + more }) stop (record q { left = q.left + more }) ps
+
+-- A reaction emits the first of what it emits with more steps.
+abbrev pub FewerSteps : Type 0
+FewerSteps =
+    (t : BasicType) (e : Name) (p q u : Position) (s r : Option Reason) (ps qs : List Piece) (more : ℕ) → ShowsReaction t e p s q ps
+    → ShowsReaction t e (record p { left = p.left + more }) r u qs → (rest : List Emission) × (u.emitted ≡ q.emitted ++ rest)
+
+-- Each reaction of a run is a taking with the same lines, also where more steps are left, if it does not stop for them.
+abbrev pub ReactionsAreTurns : Type 0
+ReactionsAreTurns =
+    (sys : System) (k : Key) (w : World) (event : AnEvent) (left more : ℕ) (look : Look) (o : Outcome) → IsSeenIn sys look w → CanReact sys look k event → Reacts sys k w event left o
+    → MayHaveMore more o.stop → (x : Turn) × IsTurnOf sys k (path_of event) left more look (due_before look event) o x
+
+-- The takings of a run of what was accepted, to any horizon and with any limit, are those of a walk through its trace, which ends as the
+-- run.
+abbrev pub RunsAreTurns : Type 0
+RunsAreTurns =
+    (i : Inputs) → AreAccepted i → (horizon limit : ℕ) → horizon ≤ 10 ^ 12 → limit ≤ most → (ts : List Taken) → IsSimulation (system_of i) (stimuli_of i) horizon limit ts
+    → (turns : List Turn) × (all_lines turns ≡ lines_of ts) × EndsSo (system_of i) limit turns (ending_of horizon ts)
+
+-- Where the lines of a run begin with those of takings of a walk and the first line of one more, they go on with the emissions of that
+-- taking, or the run stops in them for its steps.
+abbrev pub RunsGoOn : Type 0
+RunsGoOn =
+    (i : Inputs) → AreAccepted i → (horizon limit : ℕ) → horizon ≤ 10 ^ 12 → limit ≤ most → (ts : List Taken) → IsSimulation (system_of i) (stimuli_of i) horizon limit ts
+    → (xs : List Turn) (x : Turn) (more : List Line) → AreTurns (system_of i) most (opening_look (system_of i)) xs → Turns (system_of i) most (last_look (opening_look (system_of i)) xs) x
+    → lines_of ts ≡ all_lines xs ++ x.first ∷ more → GoesOn x more (ending_of horizon ts)
+
+-- Where the lines of a run go on after those of takings of a walk, the next one begins a taking.
+abbrev pub RunsBegin : Type 0
+RunsBegin =
+    (i : Inputs) → AreAccepted i → (horizon limit : ℕ) → horizon ≤ 10 ^ 12 → limit ≤ most → (ts : List Taken) → IsSimulation (system_of i) (stimuli_of i) horizon limit ts
+    → (xs : List Turn) (l : Line) (more : List Line) → AreTurns (system_of i) most (opening_look (system_of i)) xs → lines_of ts ≡ all_lines xs ++ l ∷ more
+    → BeginsSo (system_of i) limit xs l (ending_of horizon ts)
+
+-- ---- What is accepted
+
+-- Each trace of each run of what was accepted, to any horizon and with any limit, is one that `inspect` accepts with that limit. In form Two
+-- its keys are ones that lines have room for.
+abbrev pub TracesAreAccepted : Type 0
+TracesAreAccepted =
+    (i : Inputs) → AreGood i → AreNarrow i.library.blocks → (form : Form) (horizon limit : ℕ) (bytes : List ℕ) (end : Ending) → 0 < horizon → horizon ≤ 10 ^ 12 → limit ≤ most
+    → (trace : IsTrace i form horizon limit bytes end) → HaveRoom form (lines_of trace.takings) → IsAccepted (system_of i) limit bytes
+
+-- A text that is wrong at a line is no trace of any run with that limit, whatever the stimuli, the horizon and the form are.
+abbrev pub RefusedIsNoRun : Type 0
+RefusedIsNoRun =
+    (i : Inputs) → AreGood i → AreNarrow i.library.blocks → HasNames (system_of i) → (limit n : ℕ) (text : List ℕ) → limit ≤ most → IsWrongAt (system_of i) limit n text
+    → (form : Form) (horizon : ℕ) (end : Ending) → 0 < horizon → horizon ≤ 10 ^ 12 → (trace : IsTrace i form horizon limit text end) → HaveRoom form (lines_of trace.takings) → ⊥
+
+-- ---- Marks
 
 -- Marks of one trace after another are those of all their takings.
 abbrev pub AddsUp : Type 0

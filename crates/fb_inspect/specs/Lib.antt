@@ -1,4 +1,14 @@
+pub mod LineFaults
+pub mod Inner
+pub mod Heads
+pub mod StateDumps
+pub mod Saved
+pub mod Dumping
+pub mod StateWaves
+pub mod Waving
+pub mod StateLaws
 pub mod Lines
+pub mod SameLines
 pub mod Pages
 pub mod Notes
 pub mod Chains
@@ -8,6 +18,8 @@ pub mod Counted
 pub mod Markings
 pub mod Happenings
 pub mod Covering
+pub mod RunTurns
+pub mod RunLines
 pub mod Laws
 pub mod Moves
 pub mod Charting
@@ -15,3 +27,5 @@ pub mod Timing
 pub mod Walking
 pub mod Stepping
 pub mod Faults
+pub mod Refusals
+pub mod Standing

@@ -1,5 +1,5 @@
 -- How a trace is gone through, line by line: lines are read, and text is added for them (this project's own).
-use Rattle.std.specs.Prelude.{◌≡◌, ℕ, List, [], ◌∷◌, ◌++◌, map, All, Bool, false, true, if◌then◌else◌, Option}
+use Rattle.std.specs.Prelude.{◌≡◌, ℕ, ◌+◌, List, [], ◌∷◌, ◌++◌, length, map, All, Bool, false, true, if◌then◌else◌, Option}
 use Rattle.std.specs.Io.KnownBytes.{Consumes}
 use Rattle.fb_types.specs.Numbers.{line_of}
 use Rattle.fb_types.specs.Systems.{System}
@@ -8,7 +8,9 @@ use Rattle.fb_types.specs.declared.run.Emission.{Emission}
 use Rattle.fb_types.specs.declared.run.Form.{Form}
 use Rattle.fb_types.specs.declared.run.Line.{Line}
 use Rattle.fb_wave.specs.Lines.{IsLineOf}
+use Rattle.fb_inspect.specs.Lines.{IsAlone}
 use Rattle.fb_inspect.specs.Markings.{lines_marked}
+use Rattle.fb_inspect.specs.declared.reading.Reading.{Reading}
 use Rattle.fb_inspect.specs.declared.trail.PassedLines.{PassedLines}
 use Rattle.fb_inspect.specs.declared.trail.Trail.{Trail}
 
@@ -37,12 +39,18 @@ pub record Goes (sys : System) (form : Form) (tick : ℕ) (ls : List Line) (byte
   pub text : new.page.text.items ≡ old.page.text.items ++ bytes
   pub ported : new.marks.ports ≡ lines_marked ls old.marks.ports
   pub passed : HavePassed ls old.passed new.passed
+  pub numbered : new.reading.number ≡ old.reading.number + length ls
+
+-- The next line still ends before what is left of the text.
+abbrev pub StaysAlone : (old new : Reading) → (left after : Option (List ℕ)) → Type 0
+StaysAlone old new left after = IsAlone old.line.items left → IsAlone new.line.items after
 
 -- Text is added or marks of charts are set, and nothing else changes.
 pub record IsAside (old new : Trail) : Type 0 where
   pub kept : new.is_shown ≡ old.is_shown
   pub ported : new.marks.ports ≡ old.marks.ports
   pub passed : new.passed ≡ old.passed
+  pub number : new.reading.number ≡ old.reading.number
 
 -- what is written of a text of an instance that is shown, or not
 abbrev pub shown_text : Bool → List ℕ → List ℕ
@@ -68,3 +76,4 @@ pub record EmitsGo (sys : System) (form : Form) (line : Line) (es : List Emissio
   pub lines : List Line
   pub are : AreEmissions lines line es
   pub goes : Goes sys form line.key.tick lines (shown_text old.is_shown (lines_text form sys (map (line_of sys) lines))) old new left after
+  pub alone : StaysAlone old.reading new.reading left after

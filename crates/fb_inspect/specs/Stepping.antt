@@ -64,6 +64,7 @@ pub record EndsHere (sys : System) (steps : ℕ) (look : Look) (end : Outcome) (
   pub is : next.End end ≡ old.trail.reading.next
   pub may : MayEnd sys steps look (ending_of end)
   pub left : rest ≡ remaining
+  pub number : new.trail.reading.number ≡ old.trail.reading.number
 
 -- The next line is that of an event.
 pub record GoesWith (blocks : List BlockType) (sys : System) (form : Form) (steps : ℕ) (look : Look) (old new : Walk) (ahead : Ahead) (remaining rest : Option (List ℕ)) (step : Step) : Type 0 where

@@ -1,5 +1,5 @@
 -- How the reaction of an event block is gone through in a trace (this project's own).
-use Rattle.std.specs.Prelude.{◌≡◌, ◌≤◌, ◌^◌, ℕ, List, [], ◌∷◌, ◌++◌, map, false, Option, Some, None}
+use Rattle.std.specs.Prelude.{◌≡◌, ◌<◌, ◌≤◌, ◌⊎◌, ◌^◌, ℕ, List, [], ◌∷◌, ◌++◌, map, All, false, Option, Some, None}
 use Rattle.fb_types.specs.Blocks.{Event, ports_of_event_block, variable_names}
 use Rattle.fb_types.specs.EventBlocks as blocks
 use Rattle.fb_types.specs.Numbers.{line_of, path_at}
@@ -13,10 +13,10 @@ use Rattle.fb_types.specs.declared.run.Emission as run
 use Rattle.fb_types.specs.declared.run.Form.{Form}
 use Rattle.fb_types.specs.declared.run.Line.{Line}
 use Rattle.fb_types.specs.declared.value.Value.{Value}
-use Rattle.fb_event.specs.Reactions.{FitInputs, emissions_of, meanings}
+use Rattle.fb_event.specs.Reactions.{FitInputs, IsWellFormed, emissions_of, meanings}
 use Rattle.fb_wave.specs.Lines.{IsLineOf}
 use Rattle.fb_inspect.specs.Looks.{Seen, due_after, emission_line, emissions_by, emits_pieces, memory_pieces, pieces_text, reacted}
-use Rattle.fb_inspect.specs.Moves.{Goes, IsEmission, shown_text}
+use Rattle.fb_inspect.specs.Moves.{Goes, IsEmission, StaysAlone, shown_text}
 use Rattle.fb_inspect.specs.declared.blocks.EventBlock.{EventBlock}
 use Rattle.fb_inspect.specs.declared.trail.Trail.{Trail}
 
@@ -61,6 +61,17 @@ pub record HasExpired (l : Line) (old new : EventBlock) : Type 0 where
   pub reacted : HasReacted (blocks.expiry old.state.kind old.state.memory l.key.tick) None old new emits
   pub only : IsOnly l emits
 
+-- Where there is one emission alone, the line is not that of it.
+abbrev pub IsNotOnly : Line → List run.Emission → Type 0
+IsNotOnly l es = (e : run.Emission) → es ≡ e ∷ [] → (e.event < 2 ^ 32) × (IsEmission l l e → ⊥)
+
+-- The timer does not go off in the tick of the line, or something else is emitted.
+abbrev pub IsNoExpiry : Line → EventBlock → Type 0
+IsNoExpiry l b =
+    (b.due ≡ Some l.key.tick → ⊥)
+    ⊎ ((es : List run.Emission) × (meanings b.state.kind es ≡ emissions_of b.state.kind (blocks.expiry b.state.kind b.state.memory l.key.tick))
+    × All (IsWellFormed b.state.kind) es × IsNotOnly l es)
+
 -- ---- The reaction
 
 -- the variables of a block after it has sampled what a line says
@@ -79,6 +90,7 @@ pub record BlockGoes (sys : System) (form : Form) (kind : EventKind) (line : Lin
   pub lines : List Line
   pub are : map (line_of sys) lines ≡ map (emission_line (line_of sys line)) (emissions_by kind r)
   pub goes : Goes sys form line.key.tick lines (shown_text old.is_shown (pieces_text form sys (line_of sys line) (memory_pieces s (reacted s r vars due) ++ emits_pieces (emissions_by kind r)))) old new left after
+  pub alone : StaysAlone old.reading new.reading left after
 
 -- The timer of an event block went off at a line, which was passed.
 pub record TimerGoes (sys : System) (form : Form) (kind : EventKind) (line : Line) (s : Seen) (b : EventBlock) (old new : Trail) (left after : Option (List ℕ)) : Type 0 where
@@ -91,3 +103,4 @@ pub record TimerGoes (sys : System) (form : Form) (kind : EventKind) (line : Lin
       Goes sys form line.key.tick (line ∷ [])
       (shown_text old.is_shown (line_text form sys here ++ pieces_text form sys here (memory_pieces s (reacted s (timer_reaction kind s line) s.variables None) ++ [])))
       old new left after
+  pub alone : StaysAlone old.reading new.reading left after

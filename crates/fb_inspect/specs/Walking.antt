@@ -30,17 +30,15 @@ use Rattle.fb_coverage.specs.declared.marks.Marks.{Marks}
 use Rattle.fb_inspect.specs.Charting.{IsChartOf}
 use Rattle.fb_inspect.specs.Counted.{left_of}
 use Rattle.fb_inspect.specs.Inspections.{AreOfOne, AreTaken, AreTurns, EndsSo, IsOwnLine, KeepSteps, NoneStops, all_lines, all_text, cut_note, is_kept, last_look, one_text}
-use Rattle.fb_inspect.specs.Lines.{IsNext}
+use Rattle.fb_inspect.specs.Lines.{IsNext, IsNextLine}
 use Rattle.fb_inspect.specs.Looks.{Look, Seen, Turn, Turns, TurnsAt, left_at, most, opening_look, turn_lines, turn_text, with_left}
 use Rattle.fb_inspect.specs.Markings.{TurnMarks, TurnsMark, lines_marked}
-use Rattle.fb_inspect.specs.Moves.{Goes, shown_text}
+use Rattle.fb_inspect.specs.Moves.{Goes, StaysAlone, shown_text}
 use Rattle.fb_inspect.specs.Timing.{IsBlockKept}
 use Rattle.fb_inspect.specs.declared.ahead.Ahead.{Ahead}
 use Rattle.fb_inspect.specs.declared.blocks.Chart.{Chart}
 use Rattle.fb_inspect.specs.declared.blocks.Remembered.{Remembered}
 use Rattle.fb_inspect.specs.declared.blocks.Remembered.TheVariants as kept
-use Rattle.fb_inspect.specs.declared.reading.Next.{Next}
-use Rattle.fb_inspect.specs.declared.reading.Next.TheVariants as next
 use Rattle.fb_inspect.specs.declared.reading.Reading.{Reading}
 use Rattle.fb_inspect.specs.declared.steps.TickSteps.{TickSteps}
 use Rattle.fb_inspect.specs.declared.trail.Trail.{Trail}
@@ -65,6 +63,10 @@ IsKept (Some (Basic t)) (kept.Basic c) s = IsChartKept t c s
 IsKept (Some (Event k)) (kept.Event b) s = IsBlockKept k b s
 IsKept (Some (Composite t)) kept.Composite s = Unit {0}
 IsKept _ _ s = ⊥
+
+abbrev pub keeps_chart : Option Remembered → Bool
+keeps_chart (Some (kept.Basic c)) = true
+keeps_chart _ = false
 
 -- ---- Before the first event
 
@@ -105,6 +107,7 @@ pub record KeptGoes (blocks : List BlockType) (sys : System) (form : Form) (look
   pub lines_are : map (line_of sys) lines ≡ turn_lines turn
   pub goes : Goes sys form line.key.tick lines (shown_text old.is_shown (turn_text form sys turn)) old new remaining rest
   pub marked : TurnMarks blocks sys turn old.marks.charts new.marks.charts
+  pub alone : StaysAlone old.reading new.reading remaining rest
 
 -- An instance can react to a line.
 pub record CanReact (sys : System) (form : Form) (b : Remembered) (line : Line) (text : List ℕ) : Type 0 where
@@ -182,6 +185,7 @@ pub record IsGone (sys : System) (form : Form) (only : List Name) (steps : ℕ) 
   pub lines : List Line
   pub lines_are : map (line_of sys) lines ≡ all_lines turns
   pub are : AreLinesOf sys lines
+  pub numbered : walk.trail.reading.number ≡ length lines + 1
   pub read : Consumes input remaining (lines_text form sys (map (line_of sys) lines) ++ walk.trail.reading.line.items)
   pub sent : List ℕ
   pub got : Appends old new sent
@@ -194,7 +198,7 @@ pub record HasGone (sys : System) (form : Form) (only : List Name) (steps : ℕ)
   pub chain : AreTurns sys most (opening_look sys) turns
   pub look : IsLookOf sys walk.blocks.items walk.steps.items (last_look (opening_look sys) turns)
   pub gone : IsGone sys form only steps walk turns input remaining old new
-  pub next : IsNext sys form (last_tick 0 gone.lines) walk.trail.reading.line.items walk.trail.reading.next
+  pub next : IsNextLine sys form (last_tick 0 gone.lines) walk.trail.reading.line.items walk.trail.reading.next
 
 -- What takings cover was marked, next to what others covered.
 pub record AreMarked (blocks : List BlockType) (sys : System) (turns : List Turn) (lines : List Line) (first last : Marks) : Type 0 where
@@ -301,6 +305,7 @@ pub record Starts (sys : System) (form : Form) (only : List Name) (walk : Walk) 
   pub shown : ShowsOf sys only walk.shown.items
   pub empty : walk.trail.page.text.items ≡ []
   pub next : IsNext sys form 0 walk.trail.reading.line.items walk.trail.reading.next
+  pub first : walk.trail.reading.number ≡ 1
 
 -- The last line was passed, nothing is left, and all that waited was sent.
 pub record Finishes (walk : Walk) (remaining old new : Option (List ℕ)) : Type 0 where

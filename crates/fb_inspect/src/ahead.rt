@@ -1,9 +1,13 @@
 //! Lines that are read ahead.
 
-ghost use Rattle.std.specs.Prelude.{◌≡◌, ◌∷◌, ◌++◌, [], IfOk, IfSome, IsTrue, OnOk, true, false};
+ghost use Rattle.std.specs.Prelude.{◌≡◌, ◌∷◌, ◌++◌, ◌||◌, [], IfErr, IfNone, IfOk, IfSome, IsTrue, List, OnOk, true, false};
 ghost use Rattle.std.specs.Io.KnownBytes.{Consumes};
 ghost use Rattle.fb_types.specs.Headline.{system_of};
-ghost use Rattle.fb_wave.specs.Tables.{IsTable};
+ghost use Rattle.fb_types.specs.declared.run.Line as run;
+ghost use Rattle.fb_wave.specs.Lines.{IsTextOf};
+ghost use Rattle.fb_wave.specs.Named.{HasNames};
+ghost use Rattle.fb_inspect.specs.Refusals.{IsNoRefusal};
+ghost use Rattle.fb_inspect.specs.Standing.{AreAhead, IsLeft, MayBeAhead};
 ghost use Rattle.fb_inspect.specs.Walking.{AreCutOff, AreGathered, IsOwnRow, IsReadOn, unread};
 
 use crate::error::InspectError;
@@ -44,14 +48,16 @@ struct EventLine {
 
 /// Whether a line is one of an emission of the block of another line, in its tick.
 fn is_own(line: &Line, first: &Line) -> bool
-    ensures { IsTrue result → IsOwnRow line.now first.now }
+    ensures own { IsTrue result → IsOwnRow line.now first.now }
+    ensures other { result ≡ false → IsOwnRow line.now first.now → ⊥ }
 {
     !line.taken && line.instance == first.instance && line.key.tick == first.key.tick
 }
 
 /// The line that was read, if it is one of an emission of the block of another line, in its tick.
 fn own_row(next: Next, first: &Line) -> Option<Line>
-    ensures { IfSome result (λ line. (next ≡ Next.Event line) × IsOwnRow line first.now) }
+    ensures own { IfSome result (λ line. (next ≡ Next.Event line) × IsOwnRow line first.now) }
+    ensures none { IfNone result ((line : run.Line) → next ≡ Next.Event line → IsOwnRow line first.now → ⊥) }
 {
     let Next::Event(line) = next else {
         return None;
@@ -75,8 +81,8 @@ impl Ahead {
     /// # Errors
     /// When memory runs out.
     pub fn new(alloc: Global, table: &PortTable<'_>) -> Result<Ahead, AllocError>
-        requires { IsTable table.now }
-        ensures { IfOk result (λ ahead. ahead.text.items ≡ []) }
+        ensures empty { IfOk result (λ ahead. ahead.text.items ≡ []) }
+        ensures watched { IfOk result (λ ahead. ahead.watched.is_excess ≡ false) }
     {
         Ok(Ahead {
             text: Vec::new(alloc),
@@ -97,6 +103,10 @@ impl Ahead {
     pub(crate) fn watch(&mut self, reading: &Reading) -> Result<(), AllocError>
         ensures text { self.new.text ≡ self.old.text }
         ensures rows { self.new.rows ≡ self.old.rows }
+        ensures last { self.new.last ≡ self.old.last }
+        ensures kept { self.old.watched.is_excess ≡ true → self.new.watched ≡ self.old.watched }
+        ensures watched { OnOk result (self.old.watched.is_excess ≡ false
+            → (self.new.watched.is_excess ≡ false) × (self.new.watched.number ≡ reading.now.number) × (self.new.watched.text.items ≡ reading.now.line.items)) }
     {
         let watched = &mut self.watched;
         if watched.is_excess {
@@ -112,12 +122,18 @@ impl Ahead {
     pub(crate) fn note(&mut self, is_excess: bool)
         ensures text { self.new.text ≡ self.old.text }
         ensures rows { self.new.rows ≡ self.old.rows }
+        ensures last { self.new.last ≡ self.old.last }
+        ensures watched { self.new.watched ≡ record self.old.watched { is_excess = self.old.watched.is_excess || is_excess } }
     {
         self.watched.is_excess = self.watched.is_excess || is_excess;
     }
 
     /// Goes back to the first event after which its resource had used too many steps. Answers `false` where there is none.
-    pub(crate) fn go_back(&mut self, reading: &mut Reading) -> bool {
+    pub(crate) fn go_back(&mut self, reading: &mut Reading) -> bool
+        ensures excess { result ≡ self.old.watched.is_excess }
+        ensures back { IsTrue result → reading.new.number ≡ self.old.watched.number }
+        ensures none { result ≡ false → reading.new ≡ reading.old }
+    {
         if !self.watched.is_excess {
             return false;
         }
@@ -134,8 +150,10 @@ impl Ahead {
         first: &Line,
         input: &mut R,
     ) -> Result<(), InspectError>
-        requires { IsTable fixed.now.table.now }
-        ensures { OnOk result (AreGathered (system_of fixed.now.table.now.system.now) fixed.now.form first.now self.new.rows.items self.new.text.items self.new.last.items (R.remaining input.old) (R.remaining input.new)) }
+        ensures gathered { OnOk result (AreGathered (system_of fixed.now.table.now.system.now) fixed.now.form first.now self.new.rows.items self.new.text.items self.new.last.items (R.remaining input.old) (R.remaining input.new)) }
+        ensures watched { OnOk result (self.new.watched ≡ self.old.watched) }
+        ensures other { HasNames (system_of fixed.now.table.now.system.now) → OnOk result ((m : run.Line) → IsTextOf (system_of fixed.now.table.now.system.now) fixed.now.form m self.new.last.items → IsOwnRow m first.now → ⊥) }
+        ensures fault { IfErr result IsNoRefusal }
     {
         self.text.clear();
         self.rows.clear();
@@ -169,9 +187,13 @@ impl Ahead {
         first: &Line,
         input: &mut R,
     ) -> Result<bool, InspectError>
-        requires { IsTable fixed.now.table.now }
         ensures whole { IfOk result (λ is_cut. is_cut ≡ false → Consumes (R.remaining input.old) (R.remaining input.new) self.new.text.items) }
         ensures cut { IfOk result (λ is_cut. is_cut ≡ true → (cut ≡ Cut.Allowed) × AreCutOff (system_of fixed.now.table.now.system.now) fixed.now.form first.now self.new.rows.items self.new.text.items (R.remaining input.old)) }
+        ensures watched { OnOk result (self.new.watched ≡ self.old.watched) }
+        ensures ahead { HasNames (system_of fixed.now.table.now.system.now) → IfOk result (λ is_cut. is_cut ≡ false
+            → IfSome (R.remaining input.old) (λ before. IsLeft (R.remaining input.new) (λ rest. (before ≡ self.new.text.items ++ rest)
+            × AreAhead (system_of fixed.now.table.now.system.now) fixed.now.form first.now self.new.rows.items self.new.text.items self.new.last.items rest))) }
+        ensures fault { IfErr result IsNoRefusal }
     {
         self.gather(fixed, first, input)?;
         if cut == Cut::Allowed && is_unended(self.last.as_slice()) {
@@ -183,7 +205,8 @@ impl Ahead {
 
     /// Whether all lines that were read ahead were gone through.
     fn is_passed(&self) -> bool
-        ensures { IsTrue result → self.now.text.items ≡ [] }
+        ensures passed { IsTrue result → self.now.text.items ≡ [] }
+        ensures more { result ≡ false → self.now.text.items ≡ [] → ⊥ }
     {
         match self.text.as_slice() {
             [] => true,
@@ -200,8 +223,13 @@ impl Ahead {
         first: &Line,
         input: &mut R,
     ) -> Result<bool, InspectError>
-        requires { IsTable fixed.now.table.now }
         ensures whole { IfOk result (λ is_cut. is_cut ≡ false → IsReadOn (unread self.old (R.remaining input.old)) (unread self.new (R.remaining input.new))) }
+        ensures watched { OnOk result (self.new.watched ≡ self.old.watched) }
+        ensures ahead { HasNames (system_of fixed.now.table.now.system.now) → IfOk result (λ is_cut. is_cut ≡ false
+            → IfSome (R.remaining input.old) (λ before. MayBeAhead (system_of fixed.now.table.now.system.now) fixed.now.form first.now self.old.text.items self.old.last.items before
+            → IsLeft (R.remaining input.new) (λ rest. (self.old.text.items ++ before ≡ self.new.text.items ++ rest)
+            × ((rows : List run.Line) × AreAhead (system_of fixed.now.table.now.system.now) fixed.now.form first.now rows self.new.text.items self.new.last.items rest)))) }
+        ensures fault { IfErr result IsNoRefusal }
         ensures cut { IfOk result (λ is_cut. is_cut ≡ true → (cut ≡ Cut.Allowed) × (self.old.text.items ≡ []) × AreCutOff (system_of fixed.now.table.now.system.now) fixed.now.form first.now self.new.rows.items self.new.text.items (R.remaining input.old)) }
     {
         if !self.is_passed() {
@@ -212,7 +240,9 @@ impl Ahead {
 
     /// Keeps what was not gone through of the text: the rest.
     pub(crate) fn keep(&mut self, rest: Vec<u8>) -> Result<(), AllocError>
-        ensures { OnOk result (self.new.text.items ≡ rest.items) }
+        ensures text { OnOk result (self.new.text.items ≡ rest.items) }
+        ensures last { self.new.last ≡ self.old.last }
+        ensures watched { self.new.watched ≡ self.old.watched }
     {
         self.text.clear();
         self.text.extend_from_slice(rest.as_slice())

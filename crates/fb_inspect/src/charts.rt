@@ -1,6 +1,6 @@
 //! The reactions of basic blocks, step by step.
 
-ghost use Rattle.std.specs.Prelude.{◌≡◌, ◌<◌, ◌≤◌, ◌∷◌, ◌++◌, [], IfOk, IfSome, IsSome, OnOk, Some, length, map, option_map, slice_get};
+ghost use Rattle.std.specs.Prelude.{◌≡◌, ◌<◌, ◌≤◌, ◌∷◌, ◌++◌, [], All, IfErr, IfOk, IfSome, IsSome, List, OnOk, Some, length, map, option_map, slice_get};
 ghost use Rattle.std.specs.List.{position};
 ghost use Rattle.fb_types.specs.Charts.{Acts, actions_of};
 ghost use Rattle.fb_types.specs.Names.{same_name};
@@ -8,15 +8,17 @@ ghost use Rattle.fb_types.specs.Numbers.{event_at};
 ghost use Rattle.fb_types.specs.Values.{Values};
 ghost use Rattle.fb_types.specs.declared.library.Action.{Action};
 ghost use Rattle.fb_st.specs.Frames.{values_of};
-ghost use Rattle.fb_ecc.specs.Indexes.{IsBlockOf, IsStateOf, index, sampled, state_at};
+ghost use Rattle.fb_ecc.specs.Indexes.{IsBlockOf, IsStateOf, IsWellFormed, index, sampled, state_at};
 ghost use Rattle.fb_ecc.specs.Sound.{IsSound};
 ghost use Rattle.fb_ecc.specs.Trials.{transition_at};
 ghost use Rattle.fb_inspect.specs.Chains.{Acting, ShowsChain, ShowsReaction};
 ghost use Rattle.fb_inspect.specs.Charting.{ChartGoes, HasLinked, IsChartOf, IsChartTaking, place, sys_of};
-ghost use Rattle.fb_inspect.specs.Lines.{IsNext};
+ghost use Rattle.fb_wave.specs.Named.{HasNames};
+ghost use Rattle.fb_inspect.specs.Lines.{IsNext, IsPlain};
 ghost use Rattle.fb_inspect.specs.Markings as marking;
 ghost use Rattle.fb_inspect.specs.Moves.{shown_text};
 ghost use Rattle.fb_inspect.specs.Notes.{cleared_note, lost_if, ran_by_action, ran_text, stop_note};
+ghost use Rattle.fb_inspect.specs.Refusals.{ChartFails, IsNoRefusal, OfRefusal};
 ghost use Rattle.fb_inspect.specs.declared.charts.Linked.TheVariants.{Went};
 
 use crate::blocks::{Chart, keep_values};
@@ -161,6 +163,8 @@ fn acted(
     ensures block { IsBlockOf block.now state.new }
     ensures state { state.new.state ≡ state.old.state }
     ensures fewer { meter.new.left ≤ meter.old.left }
+    ensures fit { emits.old ≡ [] → All (IsWellFormed block.now) emits.new }
+    ensures fault { IfErr result IsNoRefusal }
 {
     match act(state, block, action, meter, emits) {
         Ok(()) => Ok(None),
@@ -186,6 +190,9 @@ fn perform<R: BufRead>(
     ensures shown { (a : Action) → slice_get (actions_of taking.now.block.now (state_at taking.now.block.now chart.old.state.state)) action ≡ Some a →
         IfOk result (λ stop. let t = taking.now.block.now in
         ChartGoes taking.now (Acting t (a ∷ [])) (place t chart.old meter.old.left) stop (place t chart.new meter.new.left) trail.old trail.new (R.remaining input.old) (R.remaining input.new)) }
+    ensures refused { (a : Action) (others : List Action) → slice_get (actions_of taking.now.block.now (state_at taking.now.block.now chart.old.state.state)) action ≡ Some a
+        → HasNames (sys_of taking.now) → IsPlain taking.now.fixed.form taking.now.line.now.key → let t = taking.now.block.now in
+        IfErr result (OfRefusal (λ n. ChartFails taking.now (Acting t (a ∷ others)) (place t chart.old meter.old.left) trail.old.reading trail.new.reading (R.remaining input.old) (R.remaining input.new) n)) }
     ensures chart { OnOk result (IsChartOf taking.now.block.now chart.new) }
     ensures state { chart.new.state.state ≡ chart.old.state.state }
     ensures fewer { meter.new.left ≤ meter.old.left }
@@ -225,6 +232,8 @@ fn perform_all<R: BufRead>(
     requires next { IsNext (sys_of taking.now) taking.now.fixed.form taking.now.line.now.key.tick trail.old.reading.line.items trail.old.reading.next }
     ensures shown { IfOk result (λ stop. let t = taking.now.block.now in
         ChartGoes taking.now (Acting t (actions_of t (state_at t chart.old.state.state))) (place t chart.old meter.old.left) stop (place t chart.new meter.new.left) trail.old trail.new (R.remaining input.old) (R.remaining input.new)) }
+    ensures refused { HasNames (sys_of taking.now) → IsPlain taking.now.fixed.form taking.now.line.now.key → let t = taking.now.block.now in
+        IfErr result (OfRefusal (λ n. ChartFails taking.now (Acting t (actions_of t (state_at t chart.old.state.state))) (place t chart.old meter.old.left) trail.old.reading trail.new.reading (R.remaining input.old) (R.remaining input.new) n)) }
     ensures chart { OnOk result (IsChartOf taking.now.block.now chart.new) }
     ensures fewer { meter.new.left ≤ meter.old.left }
     ensures next { OnOk result (IsNext (sys_of taking.now) taking.now.fixed.form taking.now.line.now.key.tick trail.new.reading.line.items trail.new.reading.next) }
@@ -313,6 +322,8 @@ fn link<R: BufRead>(
     requires next { IsNext (sys_of taking.now) taking.now.fixed.form taking.now.line.now.key.tick trail.old.reading.line.items trail.old.reading.next }
     ensures linked { let event = option_map (event_at taking.now.block.now.ports.event_inputs) present in let t = taking.now.block.now in
         IfOk result (HasLinked taking.now event (place t chart.old meter.old.left) (place t chart.new meter.new.left) trail.old trail.new (R.remaining input.old) (R.remaining input.new)) }
+    ensures refused { HasNames (sys_of taking.now) → IsPlain taking.now.fixed.form taking.now.line.now.key → let t = taking.now.block.now in
+        IfErr result (OfRefusal (λ n. ChartFails taking.now (ShowsChain t (option_map (event_at t.ports.event_inputs) present)) (place t chart.old meter.old.left) trail.old.reading trail.new.reading (R.remaining input.old) (R.remaining input.new) n)) }
     ensures chart { OnOk result (IsChartOf taking.now.block.now chart.new) }
     ensures less { IfOk result (λ how. how ≡ Went → meter.new.left < meter.old.left) }
     ensures fewer { meter.new.left ≤ meter.old.left }
@@ -354,6 +365,8 @@ fn follow<R: BufRead>(
     requires next { IsNext (sys_of taking.now) taking.now.fixed.form taking.now.line.now.key.tick trail.old.reading.line.items trail.old.reading.next }
     ensures shown { let t = taking.now.block.now in
         IfOk result (λ stop. ChartGoes taking.now (ShowsChain t (Some (event_at t.ports.event_inputs taking.now.line.now.event))) (place t chart.old meter.old.left) stop (place t chart.new meter.new.left) trail.old trail.new (R.remaining input.old) (R.remaining input.new)) }
+    ensures refused { HasNames (sys_of taking.now) → IsPlain taking.now.fixed.form taking.now.line.now.key → let t = taking.now.block.now in
+        IfErr result (OfRefusal (λ n. ChartFails taking.now (ShowsChain t (Some (event_at t.ports.event_inputs taking.now.line.now.event))) (place t chart.old meter.old.left) trail.old.reading trail.new.reading (R.remaining input.old) (R.remaining input.new) n)) }
     ensures chart { OnOk result (IsChartOf taking.now.block.now chart.new) }
     ensures next { OnOk result (IsNext (sys_of taking.now) taking.now.fixed.form taking.now.line.now.key.tick trail.new.reading.line.items trail.new.reading.next) }
 {
@@ -392,6 +405,9 @@ pub(crate) fn react_chart<R: BufRead>(
     ensures shown { let t = taking.now.block.now in let l = taking.now.line.now in
         let begun = record (place t chart.old meter.old.left) { vars = sampled t l.event l.values (values_of chart.old.state.frame) } in
         IfOk result (λ stop. ChartGoes taking.now (ShowsReaction t (event_at t.ports.event_inputs l.event)) begun stop (place t chart.new meter.new.left) trail.old trail.new (R.remaining input.old) (R.remaining input.new)) }
+    ensures refused { HasNames (sys_of taking.now) → IsPlain taking.now.fixed.form taking.now.line.now.key → let t = taking.now.block.now in let l = taking.now.line.now in
+        let begun = record (place t chart.old meter.old.left) { vars = sampled t l.event l.values (values_of chart.old.state.frame) } in
+        IfErr result (OfRefusal (λ n. ChartFails taking.now (ShowsReaction t (event_at t.ports.event_inputs l.event)) begun trail.old.reading trail.new.reading (R.remaining input.old) (R.remaining input.new) n)) }
     ensures chart { OnOk result (IsChartOf taking.now.block.now chart.new) }
     ensures next { OnOk result (IsNext (sys_of taking.now) taking.now.fixed.form taking.now.line.now.key.tick trail.new.reading.line.items trail.new.reading.next) }
 {

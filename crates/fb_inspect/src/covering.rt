@@ -1,8 +1,11 @@
 //! What traces cover.
 
-ghost use Rattle.std.specs.Prelude.{◌≡◌, IfOk, IfSome};
-ghost use Rattle.fb_wave.specs.Tables.{IsTable};
+ghost use Rattle.std.specs.Prelude.{◌≡◌, ◌≤◌, IfErr, IfOk, IfSome};
+ghost use Rattle.fb_types.specs.Headline.{system_of};
+ghost use Rattle.fb_wave.specs.Named.{HasNames};
 ghost use Rattle.fb_inspect.specs.Covering.{Covers};
+ghost use Rattle.fb_inspect.specs.Looks.{most};
+ghost use Rattle.fb_inspect.specs.Refusals.{IsWrongAt, OfRefusal};
 
 use crate::ahead::Ahead;
 use crate::error::InspectError;
@@ -65,8 +68,9 @@ fn cover_with<R: BufRead>(
     refused: &mut RefusedLine,
     input: &mut R,
 ) -> Result<Covered, InspectError>
-    requires { IsTable table.now }
-    ensures { IfOk result (λ covered. IfSome (R.remaining input.old) (λ text. Covers terms.cut table.now.system.now terms.steps text marks covered.marks covered.extent)) }
+    ensures covered { IfOk result (λ covered. IfSome (R.remaining input.old) (λ text. Covers terms.cut table.now.system.now terms.steps text marks covered.marks covered.extent)) }
+    ensures refused { HasNames (system_of table.now.system.now) → terms.steps ≤ most
+        → IfErr result (OfRefusal (λ n. IfSome (R.remaining input.old) (IsWrongAt (system_of table.now.system.now) terms.steps n))) }
 {
     table.system.facts();
     let mut line = Vec::new(alloc);
@@ -109,7 +113,9 @@ pub fn cover<R: BufRead>(
     refused: &mut RefusedLine,
     input: &mut R,
 ) -> Result<Covered, InspectError>
-    ensures { IfOk result (λ covered. IfSome (R.remaining input.old) (λ text. Covers terms.cut system.now terms.steps text marks covered.marks covered.extent)) }
+    ensures covered { IfOk result (λ covered. IfSome (R.remaining input.old) (λ text. Covers terms.cut system.now terms.steps text marks covered.marks covered.extent)) }
+    ensures refused { HasNames (system_of system.now) → terms.steps ≤ most
+        → IfErr result (OfRefusal (λ n. IfSome (R.remaining input.old) (IsWrongAt (system_of system.now) terms.steps n))) }
 {
     let ports = ports_of(alloc, system)?;
     let texts = texts_of(alloc, system, ports.as_slice())?;

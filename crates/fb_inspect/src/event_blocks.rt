@@ -1,17 +1,18 @@
 //! The reactions of event blocks.
 
-ghost use Rattle.std.specs.Prelude.{◌≡◌, ◌≤◌, ◌^◌, ◌++◌, ◌&&◌, [], IfOk, IsTrue, None, OnOk, if◌then◌else◌, true};
+ghost use Rattle.std.specs.Prelude.{◌≡◌, ◌≤◌, ◌^◌, ◌++◌, ◌&&◌, [], All, IfErr, IfOk, IsTrue, None, OnOk, false, if◌then◌else◌, true};
 ghost use Rattle.fb_types.specs.Headline.{system_of};
-ghost use Rattle.fb_event.specs.Reactions.{FitInputs, expiry_of, reaction_to};
+ghost use Rattle.fb_event.specs.Reactions.{FitInputs, IsWellFormed, expiry_of, reaction_to};
 ghost use Rattle.fb_event.specs.Seen.{seen_memory};
 ghost use Rattle.fb_wave.specs.Lines.{IsTextOf};
-ghost use Rattle.fb_wave.specs.Tables.{IsTable};
-ghost use Rattle.fb_inspect.specs.Lines.{IsNext};
+ghost use Rattle.fb_wave.specs.Named.{HasNames};
+ghost use Rattle.fb_inspect.specs.Lines.{IsNext, IsPlain};
 ghost use Rattle.fb_inspect.specs.Looks as spec;
-ghost use Rattle.fb_inspect.specs.Looks.{Seen};
+ghost use Rattle.fb_inspect.specs.Looks.{Seen, emissions_by};
 ghost use Rattle.fb_inspect.specs.Moves.{shown_text};
 ghost use Rattle.fb_inspect.specs.Notes.{memory_note};
-ghost use Rattle.fb_inspect.specs.Timing.{BlockGoes, HasExpired, HasReacted, IsBlockKept, IsBlockLine, IsOnly, TimerGoes, inputs_after, taken_reaction, taken_variables};
+ghost use Rattle.fb_inspect.specs.Refusals.{EmitsFail, IsNoRefusal, IsNotDue, OfRefusal};
+ghost use Rattle.fb_inspect.specs.Timing.{BlockGoes, HasExpired, HasReacted, IsBlockKept, IsBlockLine, IsNoExpiry, IsNotOnly, IsOnly, TimerGoes, inputs_after, taken_reaction, taken_variables};
 
 use crate::blocks::EventBlock;
 use crate::error::InspectError;
@@ -128,7 +129,9 @@ fn answer(block: &mut EventBlock, line: &Line, emits: &mut Emits) -> Result<(), 
     requires early { line.now.key.tick ≤ 10 ^ 12 }
     requires typed { FitInputs block.old.state.kind block.old.inputs }
     requires fresh { emits.old ≡ [] }
-    ensures { OnOk result (HasReacted (reaction_to block.old.state line.now.event line.now.key.tick block.old.inputs) block.old.due block.old block.new emits.new) }
+    ensures reacted { OnOk result (HasReacted (reaction_to block.old.state line.now.event line.now.key.tick block.old.inputs) block.old.due block.old block.new emits.new) }
+    ensures fit { OnOk result (All (IsWellFormed block.old.state.kind) emits.new) }
+    ensures fault { IfErr result IsNoRefusal }
 {
     let mut ask = TimerAsk::Keep;
     let inputs = block.inputs.as_slice();
@@ -159,10 +162,12 @@ pub(crate) fn react_block<R: BufRead>(
 ) -> Result<(), InspectError>
     requires line { IsBlockLine (system_of fixed.now.table.now.system.now) block.old line.now }
     requires taken { line.now.taken ≡ true }
-    requires table { IsTable fixed.now.table.now }
     requires next { IsNext (system_of fixed.now.table.now.system.now) fixed.now.form line.now.key.tick trail.old.reading.line.items trail.old.reading.next }
     ensures turned { (s : Seen) → IsBlockKept block.old.state.kind block.old s → OnOk result (let sys = system_of fixed.now.table.now.system.now in
         BlockGoes sys fixed.now.form block.old.state.kind line.now (taken_reaction sys block.old.state.kind s line.now) (taken_variables sys s line.now) s.due s block.new trail.old trail.new (R.remaining input.old) (R.remaining input.new)) }
+    ensures refused { (s : Seen) → IsBlockKept block.old.state.kind block.old s → let sys = system_of fixed.now.table.now.system.now in
+        HasNames sys → IsPlain fixed.now.form line.now.key
+        → IfErr result (OfRefusal (λ n. EmitsFail sys fixed.now.form line.now (emissions_by block.old.state.kind (taken_reaction sys block.old.state.kind s line.now)) trail.old.reading trail.new.reading (R.remaining input.old) (R.remaining input.new) n)) }
     ensures next { OnOk result (IsNext (system_of fixed.now.table.now.system.now) fixed.now.form line.now.key.tick trail.new.reading.line.items trail.new.reading.next) }
     ensures charts { trail.new.marks.charts ≡ trail.old.marks.charts }
 {
@@ -179,19 +184,25 @@ pub(crate) fn react_block<R: BufRead>(
 
 /// Whether a line is that of the first of some emissions, which is the only one.
 fn is_only(line: &Line, emits: &mut Emits) -> bool
-    ensures { IsTrue result → IsOnly line.now emits.old }
+    ensures only { IsTrue result → IsOnly line.now emits.old }
+    ensures other { result ≡ false → IsNotOnly line.now emits.old }
 {
-    match emits.pop_first() {
-        Some(emission) => emits.is_empty() && is_emission(line, line, &emission),
-        None => false,
+    let Some(emission) = emits.pop_first() else {
+        return false;
+    };
+    if !emits.is_empty() {
+        return false;
     }
+    is_emission(line, line, &emission)
 }
 
 /// The reaction of an event block to its timer.
 fn expire_at(block: &mut EventBlock, tick: u64, emits: &mut Emits) -> Result<(), InspectError>
     requires early { tick ≤ 10 ^ 12 }
     requires fresh { emits.old ≡ [] }
-    ensures { OnOk result (HasReacted (expiry_of block.old.state tick) None block.old block.new emits.new) }
+    ensures reacted { OnOk result (HasReacted (expiry_of block.old.state tick) None block.old block.new emits.new) }
+    ensures fit { OnOk result (All (IsWellFormed block.old.state.kind) emits.new) }
+    ensures fault { IfErr result IsNoRefusal }
 {
     let mut ask = TimerAsk::Keep;
     match expire(&mut block.state, tick, emits, &mut ask) {
@@ -207,7 +218,9 @@ fn expire_at(block: &mut EventBlock, tick: u64, emits: &mut Emits) -> Result<(),
 /// its only emission.
 fn expire_to(alloc: Global, block: &mut EventBlock, line: &Line) -> Result<bool, InspectError>
     requires early { line.now.key.tick ≤ 10 ^ 12 }
-    ensures { IfOk result (λ is_only. IsTrue is_only → HasExpired line.now block.old block.new) }
+    ensures only { IfOk result (λ is_only. IsTrue is_only → HasExpired line.now block.old block.new) }
+    ensures other { IfOk result (λ is_only. is_only ≡ false → IsNoExpiry line.now block.old) }
+    ensures fault { IfErr result IsNoRefusal }
 {
     if block.due != Some(line.key.tick) {
         return Ok(false);
@@ -226,10 +239,12 @@ pub(crate) fn expire_block<R: BufRead>(
     input: &mut R,
 ) -> Result<(), InspectError>
     requires line { IsBlockLine (system_of fixed.now.table.now.system.now) block.old line.now }
-    requires table { IsTable fixed.now.table.now }
     requires text { IsTextOf (system_of fixed.now.table.now.system.now) fixed.now.form line.now trail.old.reading.line.items }
     ensures turned { (s : Seen) → IsBlockKept block.old.state.kind block.old s → OnOk result (let sys = system_of fixed.now.table.now.system.now in
         TimerGoes sys fixed.now.form block.old.state.kind line.now s block.new trail.old trail.new (R.remaining input.old) (R.remaining input.new)) }
+    ensures refused { (s : Seen) → IsBlockKept block.old.state.kind block.old s → let sys = system_of fixed.now.table.now.system.now in
+        HasNames sys → IsPlain fixed.now.form line.now.key
+        → IfErr result (OfRefusal (λ n. IsNotDue sys block.old.state.kind s line.now trail.old.reading trail.new.reading n)) }
     ensures next { OnOk result (IsNext (system_of fixed.now.table.now.system.now) fixed.now.form line.now.key.tick trail.new.reading.line.items trail.new.reading.next) }
     ensures charts { trail.new.marks.charts ≡ trail.old.marks.charts }
 {

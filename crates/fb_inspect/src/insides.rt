@@ -1,15 +1,17 @@
 //! What happens inside the blocks of a trace.
 
-ghost use Rattle.std.specs.Prelude.{◌≡◌, IfOk, IfSome, IsTrue, OnErr, OnOk, length, true};
+ghost use Rattle.std.specs.Prelude.{◌≡◌, ◌≤◌, IfErr, IfOk, IfSome, IsTrue, OnErr, OnOk, length, true};
 ghost use Rattle.std.specs.List.{list_any};
 ghost use Rattle.fb_types.specs.Headline.{system_of};
 ghost use Rattle.fb_types.specs.Names.{Path};
 ghost use Rattle.fb_types.specs.Text.{path_text};
 ghost use Rattle.fb_wave.specs.CutOff.{is_unended};
-ghost use Rattle.fb_wave.specs.Tables.{IsTable};
 ghost use Rattle.fb_inspect.specs.Inspections as spec;
 ghost use Rattle.fb_inspect.specs.Inspections.{IsShownBy, ShowsFront};
+ghost use Rattle.fb_wave.specs.Named.{HasNames};
 ghost use Rattle.fb_inspect.specs.Lines.{IsNext};
+ghost use Rattle.fb_inspect.specs.Looks.{most};
+ghost use Rattle.fb_inspect.specs.Refusals.{IsWrongAt, OfRefusal};
 ghost use Rattle.fb_inspect.specs.Walking.{AreUnused, Begins, ShowsOf};
 
 use crate::ahead::Ahead;
@@ -134,9 +136,9 @@ pub fn first_reading(
     form: Form,
     line: Vec<u8>,
 ) -> Result<Reading, AllocError>
-    requires { IsTable table.now }
     ensures line { IfOk result (λ r. r.line.items ≡ line.items) }
     ensures next { IfOk result (λ r. IsNext (system_of table.now.system.now) form 0 r.line.items r.next) }
+    ensures number { IfOk result (λ r. r.number ≡ 1) }
 {
     let mut guess = Guess::new(alloc, table)?;
     let next = judged(alloc, table, &mut guess, form, 0, line.as_slice())?;
@@ -209,9 +211,10 @@ fn inspect_with<R: BufRead, W: Write>(
     input: &mut R,
     out: &mut W,
 ) -> Result<(), InspectError>
-    requires { IsTable table.now }
     ensures whole { OnOk result (IfSome (R.remaining input.old) (λ text. IsShownBy inspection.entry.terms.cut (system_of table.now.system.now) inspection.entry.only.now inspection.entry.terms.steps text (W.contents out.old) (W.contents out.new))) }
     ensures fault { OnErr result (ShowsFront (system_of table.now.system.now) inspection.entry.only.now inspection.entry.terms.steps (W.contents out.old) (W.contents out.new)) }
+    ensures refused { HasNames (system_of table.now.system.now) → inspection.entry.terms.steps ≤ most
+        → IfErr result (OfRefusal (λ n. IfSome (R.remaining input.old) (IsWrongAt (system_of table.now.system.now) inspection.entry.terms.steps n))) }
 {
     let mut line = Vec::new(alloc);
     next_line(input, &mut line)?;
@@ -260,6 +263,8 @@ pub fn inspect<R: BufRead, W: Write>(
 ) -> Result<(), InspectError>
     ensures whole { OnOk result (IfSome (R.remaining input.old) (λ text. IsShownBy inspection.entry.terms.cut (system_of system.now) inspection.entry.only.now inspection.entry.terms.steps text (W.contents out.old) (W.contents out.new))) }
     ensures fault { OnErr result (ShowsFront (system_of system.now) inspection.entry.only.now inspection.entry.terms.steps (W.contents out.old) (W.contents out.new)) }
+    ensures refused { HasNames (system_of system.now) → inspection.entry.terms.steps ≤ most
+        → IfErr result (OfRefusal (λ n. IfSome (R.remaining input.old) (IsWrongAt (system_of system.now) inspection.entry.terms.steps n))) }
 {
     if !have_paths(system, inspection.only) {
         return Err(InspectError::Unknown);

@@ -1,14 +1,16 @@
 //! The lines of a trace, with a look at the next one.
 
-ghost use Rattle.std.specs.Prelude.{IfOk, OnOk, ◌≡◌};
+ghost use Rattle.std.specs.Prelude.{IfErr, IfOk, OnOk, ◌≡◌, ◌+◌};
 ghost use Rattle.std.specs.Io.KnownBytes.{Consumes};
+ghost use Rattle.fb_wave.specs.Copying.{IsFirstLine};
 ghost use Rattle.fb_types.specs.Headline.{system_of};
-ghost use Rattle.fb_wave.specs.Tables.{IsTable};
-ghost use Rattle.fb_inspect.specs.Lines.{IsNext};
+ghost use Rattle.fb_inspect.specs.Lines.{IsNext, IsPlain};
+ghost use Rattle.fb_inspect.specs.Refusals.{IsNoRefusal, OfRefusal};
+ghost use Rattle.fb_inspect.specs.declared.error.InspectError.TheVariants.{Refused};
 
 use crate::error::InspectError;
 use fb_trace::Outcome;
-use fb_types::{Form, Line};
+use fb_types::{Form, Key, Line};
 use fb_wave::{Guess, PortTable, can_end, next_line, read_last, read_line};
 use std::alloc::{AllocError, Global};
 use std::io::BufRead;
@@ -39,6 +41,25 @@ pub struct Reading {
     pub after_end: bool,
 }
 
+/// A key with 0 for what a form does not show of it.
+fn plain_key(form: Form, key: Key) -> Key
+    ensures tick { result.tick ≡ key.tick }
+    ensures resource { result.resource ≡ key.resource }
+    ensures plain { IsPlain form result }
+    ensures two { form ≡ Form.Two → result ≡ key }
+{
+    match form {
+        Form::One => Key {
+            tick: key.tick,
+            resource: key.resource,
+            class: 0,
+            a: 0,
+            b: 0,
+        },
+        Form::Two => key,
+    }
+}
+
 /// What a line is that comes after one of this tick.
 pub(crate) fn judged(
     alloc: Global,
@@ -48,7 +69,6 @@ pub(crate) fn judged(
     tick: u64,
     line: &[u8],
 ) -> Result<Next, AllocError>
-    requires { IsTable table.now }
     ensures { IfOk result (IsNext (system_of table.now.system.now) form tick line.now) }
 {
     if let Some(end) = read_last(table.system, line) {
@@ -57,12 +77,13 @@ pub(crate) fn judged(
         }
         return Ok(Next::End(end));
     }
-    let Some(event) = read_line(alloc, table, guess, form, line)? else {
+    let Some(mut event) = read_line(alloc, table, guess, form, line)? else {
         return Ok(Next::Bad);
     };
     if event.key.tick < tick {
         return Ok(Next::Bad);
     }
+    event.key = plain_key(form, event.key);
     Ok(Next::Event(event))
 }
 
@@ -76,9 +97,11 @@ impl Reading {
         tick: u64,
         input: &mut R,
     ) -> Result<(), InspectError>
-        requires { IsTable table.now }
         ensures next { OnOk result (IsNext (system_of table.now.system.now) form tick self.new.line.items self.new.next) }
         ensures read { OnOk result (Consumes (R.remaining input.old) (R.remaining input.new) self.new.line.items) }
+        ensures first { OnOk result (IsFirstLine self.new.line.items (R.remaining input.old)) }
+        ensures number { OnOk result (self.new.number ≡ self.old.number + 1) }
+        ensures fault { IfErr result IsNoRefusal }
     {
         next_line(input, &mut self.line)?;
         // No reader has more lines than that.
@@ -93,7 +116,20 @@ impl Reading {
     }
 
     /// The refusal of the next line.
-    pub fn refusal(&self) -> InspectError {
+    pub fn refusal(&self) -> InspectError
+        ensures { result ≡ Refused self.now.number }
+    {
         InspectError::Refused(self.number)
+    }
+
+    /// The refusal of the line after the next one.
+    pub fn refusal_after(&self) -> InspectError
+        ensures { OfRefusal (λ n. n ≡ self.now.number + 1) result }
+    {
+        // No reader has more lines than that.
+        match self.number.checked_add(1) {
+            Some(number) => InspectError::Refused(number),
+            None => InspectError::Read,
+        }
     }
 }

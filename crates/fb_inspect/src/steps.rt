@@ -1,6 +1,6 @@
 //! The steps of a resource in a tick.
 
-ghost use Rattle.std.specs.Prelude.{◌≡◌, ◌≤◌, ◌+◌, ◌-◌, suc, min, IsTrue, Some, None};
+ghost use Rattle.std.specs.Prelude.{◌≡◌, ◌<◌, ◌≤◌, ◌+◌, ◌-◌, suc, min, IfNone, IfSome, IsTrue, Some, None, false};
 ghost use Rattle.std.specs.Bool.{OnFalse, OnTrue};
 ghost use Rattle.fb_inspect.specs.Counted.{left_of};
 ghost use Rattle.fb_inspect.specs.Looks.{most};
@@ -16,6 +16,20 @@ pub struct TickSteps {
     pub meter: Meter,
     /// The fewest steps that were left after an event, of the greatest limit.
     pub least: u64,
+}
+
+/// What is left of these steps where this is left of the greatest limit. `None` where more were used, or what is left of
+/// more steps than that limit is not below 2^64.
+fn limited(left: u64, steps: u64) -> Option<u64>
+    ensures within { IfSome result (λ n. most ≤ left + steps) }
+    ensures left { IfSome result (λ n. n ≡ (left + steps) - most) }
+    ensures none { IfNone result (steps ≤ most → left + steps < most) }
+{
+    if steps <= MOST_STEPS {
+        left.checked_sub(MOST_STEPS - steps)
+    } else {
+        left.checked_add(steps - MOST_STEPS)
+    }
 }
 
 impl TickSteps {
@@ -66,18 +80,14 @@ impl TickSteps {
     pub(crate) fn limit(&mut self, steps: u64, tick: u64) -> bool
         ensures within { OnTrue result (most ≤ spec.left_at most tick (left_of self.old) + steps) }
         ensures left { OnTrue result (left_of self.new ≡ record { tick = Some tick; left = (spec.left_at most tick (left_of self.old) + steps) - most; least = self.old.least }) }
+        ensures none { OnFalse result (steps ≤ most → spec.left_at most tick (left_of self.old) + steps < most) }
     {
-        let Some(all) = self.left_at(MOST_STEPS, tick).checked_add(steps) else {
+        let Some(left) = limited(self.left_at(MOST_STEPS, tick), steps) else {
             return false;
         };
-        if all < MOST_STEPS {
-            return false;
-        }
         *self = TickSteps {
             tick: Some(tick),
-            meter: Meter {
-                left: all - MOST_STEPS,
-            },
+            meter: Meter { left },
             least: self.least,
         };
         true
@@ -92,7 +102,8 @@ impl TickSteps {
 
     /// Whether no more than these steps were used in a tick, of the greatest limit.
     pub(crate) fn keeps(&self, steps: u64) -> bool
-        ensures { IsTrue result → most ≤ self.now.least + steps }
+        ensures kept { IsTrue result → most ≤ self.now.least + steps }
+        ensures more { result ≡ false → most ≤ self.now.least + steps → ⊥ }
     {
         self.least.saturating_add(steps) >= MOST_STEPS
     }

@@ -1,14 +1,16 @@
 //! How far a trace was gone through: its lines, and the text that is written of them.
 
-ghost use Rattle.std.specs.Prelude.{◌≡◌, [], ◌∷◌, ◌++◌, IsTrue, OnOk};
+ghost use Rattle.std.specs.Prelude.{◌≡◌, [], ◌∷◌, ◌++◌, ◌<◌, ◌^◌, All, IfErr, IsTrue, OnOk, false, map};
 ghost use Rattle.fb_types.specs.Headline.{system_of};
-ghost use Rattle.fb_types.specs.Numbers.{line_of};
+ghost use Rattle.fb_types.specs.Numbers.{emission_of, line_of, path_at, ports_at};
 ghost use Rattle.fb_types.specs.Text.{line_text};
 ghost use Rattle.fb_types.specs.declared.run.Line as run;
 ghost use Rattle.fb_wave.specs.Lines.{IsTextOf};
-ghost use Rattle.fb_wave.specs.Tables.{IsTable};
 ghost use Rattle.fb_inspect.specs.Lines.{IsNext};
-ghost use Rattle.fb_inspect.specs.Moves.{EmitsGo, Goes, HavePassed, IsEmission, shown_text};
+ghost use Rattle.fb_system.specs.Lines.{IsEmission as IsEmissionOf};
+ghost use Rattle.fb_inspect.specs.Refusals.{EmitsFail, IsNoRefusal, IsPlainLine, OfRefusal};
+ghost use Rattle.fb_inspect.specs.declared.error.InspectError.TheVariants.{Refused};
+ghost use Rattle.fb_inspect.specs.Moves.{EmitsGo, Goes, HavePassed, IsEmission, StaysAlone, shown_text};
 
 use crate::error::InspectError;
 use crate::finding::Finding;
@@ -85,7 +87,8 @@ impl PassedLines {
 
 /// Whether this is the stop of a resource at a tick, for this reason.
 pub fn is_stop(next: &Next, key: &Key, reason: Reason) -> bool
-    ensures { IsTrue result → next.now ≡ Next.End (Outcome.Stop (record { tick = key.now.tick; resource = key.now.resource; reason = reason })) }
+    ensures other { result ≡ false → next.now ≡ Next.End (Outcome.Stop (record { tick = key.now.tick; resource = key.now.resource; reason = reason })) → ⊥ }
+    ensures stop { IsTrue result → next.now ≡ Next.End (Outcome.Stop (record { tick = key.now.tick; resource = key.now.resource; reason = reason })) }
 {
     match next {
         Next::End(Outcome::Stop(mark)) => {
@@ -95,9 +98,18 @@ pub fn is_stop(next: &Next, key: &Key, reason: Reason) -> bool
     }
 }
 
+/// The number of the event of an emission.
+fn event_of(emission: &Emission) -> u32
+    ensures is { result ≡ emission.now.event }
+    ensures small { emission.now.event < 2 ^ 32 }
+{
+    emission.event
+}
+
 /// Whether the values of two rows are the same.
 fn have_same_values(left: &[Value], right: &[Value]) -> bool
-    ensures { IsTrue result → left.now ≡ right.now }
+    ensures same { IsTrue result → left.now ≡ right.now }
+    ensures other { result ≡ false → ¬ (left.now ≡ right.now) }
 {
     if left.len() != right.len() {
         return false;
@@ -112,15 +124,18 @@ fn have_same_values(left: &[Value], right: &[Value]) -> bool
 
 /// Whether a line is that of an emission of the block of another line.
 pub(crate) fn is_emission(next: &Line, line: &Line, emission: &Emission) -> bool
-    ensures { IsTrue result → IsEmission next.now line.now emission.now }
+    ensures same { IsTrue result → IsEmission next.now line.now emission.now }
+    ensures other { result ≡ false → ¬ (IsEmission next.now line.now emission.now) }
+    ensures small { emission.now.event < 2 ^ 32 }
 {
+    let event = emission.event;
     if next.taken {
         return false;
     }
     if next.instance != line.instance {
         return false;
     }
-    if next.event != emission.event {
+    if next.event != event {
         return false;
     }
     if next.key != line.key {
@@ -142,7 +157,9 @@ pub(crate) fn put_line(text: &mut Vec<u8>, line: &[u8], is_shown: bool) -> Resul
 impl Trail {
     /// The refusal of the next line, for what was found.
     pub(crate) fn refusal(&mut self, finding: Finding) -> InspectError
-        ensures { self.new.marks ≡ self.old.marks }
+        ensures marks { self.new.marks ≡ self.old.marks }
+        ensures reading { self.new.reading ≡ self.old.reading }
+        ensures refused { result ≡ Refused self.old.reading.number }
     {
         self.finding = finding;
         self.reading.refusal()
@@ -150,17 +167,18 @@ impl Trail {
 
     /// The refusal of the next line, where the block of a line makes this emission.
     fn refusal_for(&mut self, alloc: Global, line: &Line, emission: &Emission) -> InspectError
-        ensures { self.new.marks ≡ self.old.marks }
+        ensures marks { self.new.marks ≡ self.old.marks }
+        ensures reading { self.new.reading ≡ self.old.reading }
+        ensures refused { OfRefusal (λ n. n ≡ self.old.reading.number) result }
+        ensures small { emission.now.event < 2 ^ 32 }
     {
+        let event = event_of(emission);
         let Ok(values) = Values::from_slice(alloc, emission.values.as_slice()) else {
             return InspectError::Memory;
         };
         self.refusal(Finding::Emits {
             instance: line.instance,
-            emission: Emission {
-                event: emission.event,
-                values,
-            },
+            emission: Emission { event, values },
         })
     }
 
@@ -171,12 +189,13 @@ impl Trail {
         line: &Line,
         input: &mut R,
     ) -> Result<(), InspectError>
-        requires table { IsTable fixed.now.table.now }
-        requires line { IsTextOf (system_of fixed.now.table.now.system.now) fixed.now.form line.now self.old.reading.line.items }
+        requires { IsTextOf (system_of fixed.now.table.now.system.now) fixed.now.form line.now self.old.reading.line.items }
         ensures goes { OnOk result (let sys = system_of fixed.now.table.now.system.now in
             Goes sys fixed.now.form line.now.key.tick (line.now ∷ []) (shown_text self.old.is_shown (line_text fixed.now.form sys (line_of sys line.now))) self.old self.new (R.remaining input.old) (R.remaining input.new)) }
         ensures next { OnOk result (IsNext (system_of fixed.now.table.now.system.now) fixed.now.form line.now.key.tick self.new.reading.line.items self.new.reading.next) }
         ensures charts { self.new.marks.charts ≡ self.old.marks.charts }
+        ensures alone { OnOk result (StaysAlone self.old.reading self.new.reading (R.remaining input.old) (R.remaining input.new)) }
+        ensures fault { IfErr result IsNoRefusal }
     {
         let whole = self.reading.line.as_slice();
         put_line(&mut self.page.text, whole, self.is_shown)?;
@@ -194,12 +213,15 @@ impl Trail {
         emission: &Emission,
         input: &mut R,
     ) -> Result<(), InspectError>
-        requires table { IsTable fixed.now.table.now }
-        requires next { IsNext (system_of fixed.now.table.now.system.now) fixed.now.form line.now.key.tick self.old.reading.line.items self.old.reading.next }
+        requires { IsNext (system_of fixed.now.table.now.system.now) fixed.now.form line.now.key.tick self.old.reading.line.items self.old.reading.next }
         ensures goes { OnOk result (let sys = system_of fixed.now.table.now.system.now in (l : run.Line) × IsEmission l line.now emission.now
             × Goes sys fixed.now.form line.now.key.tick (l ∷ []) (shown_text self.old.is_shown (line_text fixed.now.form sys (line_of sys l))) self.old self.new (R.remaining input.old) (R.remaining input.new)) }
         ensures next { OnOk result (IsNext (system_of fixed.now.table.now.system.now) fixed.now.form line.now.key.tick self.new.reading.line.items self.new.reading.next) }
         ensures charts { self.new.marks.charts ≡ self.old.marks.charts }
+        ensures alone { OnOk result (StaysAlone self.old.reading self.new.reading (R.remaining input.old) (R.remaining input.new)) }
+        ensures refused { let sys = system_of fixed.now.table.now.system.now in let its = ports_at sys (path_at sys line.now.instance) in
+            IsPlainLine sys fixed.now.form line.now → IsEmissionOf its emission.now
+            → IfErr result (OfRefusal (λ n. EmitsFail sys fixed.now.form line.now (emission_of its emission.now ∷ []) self.old.reading self.new.reading (R.remaining input.old) (R.remaining input.new) n)) }
     {
         let next = mem::replace(&mut self.reading.next, Next::Bad);
         let Next::Event(next) = next else {
@@ -219,11 +241,13 @@ impl Trail {
         emits: &mut Emits,
         input: &mut R,
     ) -> Result<(), InspectError>
-        requires table { IsTable fixed.now.table.now }
-        requires next { IsNext (system_of fixed.now.table.now.system.now) fixed.now.form line.now.key.tick self.old.reading.line.items self.old.reading.next }
+        requires { IsNext (system_of fixed.now.table.now.system.now) fixed.now.form line.now.key.tick self.old.reading.line.items self.old.reading.next }
         ensures goes { OnOk result (EmitsGo (system_of fixed.now.table.now.system.now) fixed.now.form line.now emits.old self.old self.new (R.remaining input.old) (R.remaining input.new)) }
         ensures next { OnOk result (IsNext (system_of fixed.now.table.now.system.now) fixed.now.form line.now.key.tick self.new.reading.line.items self.new.reading.next) }
         ensures charts { self.new.marks.charts ≡ self.old.marks.charts }
+        ensures refused { let sys = system_of fixed.now.table.now.system.now in let its = ports_at sys (path_at sys line.now.instance) in
+            IsPlainLine sys fixed.now.form line.now → All (IsEmissionOf its) emits.old
+            → IfErr result (OfRefusal (λ n. EmitsFail sys fixed.now.form line.now (map (emission_of its) emits.old) self.old.reading self.new.reading (R.remaining input.old) (R.remaining input.new) n)) }
     {
         while let Some(emission) = emits.pop_first() {
             self.emit(fixed, line, &emission, input)?;

@@ -1,24 +1,30 @@
 //! Through a trace, line by line.
 
-ghost use Rattle.std.specs.Prelude.{◌≡◌, ◌<◌, ◌≤◌, ◌^◌, ◌⊎◌, ◌++◌, ℕ, ◌+◌, List, [], IfOk, IfSome, IsTrue, OnErr, OnOk, All, Option, Some, None, length, true, false};
-ghost use Rattle.std.specs.Bool.{OnTrue};
+ghost use Rattle.std.specs.Prelude.{◌≡◌, ◌<◌, ◌≤◌, ◌^◌, ◌⊎◌, ◌↔◌, ◌++◌, ℕ, ◌+◌, List, [], IfErr, IfOk, IfSome, IsTrue, OnErr, OnOk, All, Option, Some, None, length, slice_get, true, false};
+ghost use Rattle.std.specs.Bool.{OnFalse, OnTrue};
 ghost use Rattle.std.specs.Io.KnownBytes.{Consumes};
+ghost use Rattle.fb_types.specs.Blocks.{Basic};
 ghost use Rattle.fb_types.specs.Headline.{system_of};
 ghost use Rattle.fb_types.specs.Names.{Name};
 ghost use Rattle.fb_types.specs.Numbers.{path_at};
 ghost use Rattle.fb_types.specs.Systems.{System};
+ghost use Rattle.fb_types.specs.declared.library.BasicType.{BasicType};
 ghost use Rattle.fb_types.specs.declared.run.Line as run;
 ghost use Rattle.fb_coverage.specs.declared.marks.Marks.{Marks};
 ghost use Rattle.fb_trace.specs.End.{ending_of};
 ghost use Rattle.fb_wave.specs.Dumps.{last_tick};
-ghost use Rattle.fb_wave.specs.Lines.{IsTextOf};
-ghost use Rattle.fb_wave.specs.Tables.{IsTable};
+ghost use Rattle.fb_wave.specs.Lines.{IsEndOf, IsLineOf, IsTextOf};
+ghost use Rattle.fb_wave.specs.Named.{HasNames};
+ghost use Rattle.fb_inspect.specs.Counted.{left_of};
 ghost use Rattle.fb_inspect.specs.Covering.{IsCoveredBy};
 ghost use Rattle.fb_inspect.specs.Inspections.{IsShownBy, KeepSteps, ShowsFront};
-ghost use Rattle.fb_inspect.specs.Lines.{IsNext};
-ghost use Rattle.fb_inspect.specs.Looks.{Look, left_at, most};
+ghost use Rattle.fb_inspect.specs.Lines.{IsAlone, IsNext, IsNextLine, IsPlain};
+ghost use Rattle.fb_inspect.specs.Looks.{Look, Turn, Turns, TurnsAt, left_at, most};
 ghost use Rattle.fb_inspect.specs.Walking as spec;
 ghost use Rattle.fb_inspect.specs.Moves.{shown_text};
+ghost use Rattle.fb_inspect.specs.Refusals.{FailsBy, IsNoRefusal, IsWrongAt, OfRefusal};
+ghost use Rattle.fb_inspect.specs.declared.error.InspectError.TheVariants.{Refused};
+ghost use Rattle.fb_inspect.specs.Standing.{AreAhead, AreApart, BeginsText, GoesAfter, IsNear, IsNotNear, IsStepsStop, StandsAfter, StandsAt, StandsWell, Watches};
 ghost use Rattle.fb_inspect.specs.Stepping.{LineGoes, StepGoes};
 ghost use Rattle.fb_inspect.specs.Walking.{AreKept, CanReact, Finishes, FinishesCut, HasAdvanced, HasCovered, HasLimited, HasStepped, IsKept, IsLookOf, KeptGoes, MayEnd, ReactGoes, SendsCutPart, SendsPart, Starts, TurnGoes, unread};
 ghost use Rattle.fb_inspect.specs.declared.blocks.Remembered.TheVariants as kept;
@@ -61,11 +67,13 @@ fn react_basic<R: BufRead>(
     line: &Line,
     input: &mut R,
 ) -> Result<Option<Reason>, InspectError>
-    requires table { IsTable fixed.now.table.now }
-    requires can { CanReact (system_of fixed.now.table.now.system.now) fixed.now.form (kept.Basic chart.old) line.now trail.old.reading.line.items }
+    requires { CanReact (system_of fixed.now.table.now.system.now) fixed.now.form (kept.Basic chart.old) line.now trail.old.reading.line.items }
     ensures goes { (look : Look) → let sys = system_of fixed.now.table.now.system.now in let p = path_at sys line.now.instance in
         IsKept (sys.kind p) (kept.Basic chart.old) (look.blocks p) → IfOk result (λ stop.
         KeptGoes fixed.now.table.now.system.now.library.blocks sys fixed.now.form look meter.old.left line.now stop (kept.Basic chart.new) meter.new.left trail.old trail.new (R.remaining input.old) (R.remaining input.new)) }
+    ensures refused { (look : Look) → let sys = system_of fixed.now.table.now.system.now in let p = path_at sys line.now.instance in
+        HasNames sys → IsPlain fixed.now.form line.now.key → IsKept (sys.kind p) (kept.Basic chart.old) (look.blocks p)
+        → IfErr result (OfRefusal (FailsBy (TurnsAt meter.old.left look (sys.kind p)) sys fixed.now.form line.now trail.old.reading trail.new.reading (R.remaining input.old) (R.remaining input.new))) }
     ensures next { OnOk result (IsNext (system_of fixed.now.table.now.system.now) fixed.now.form line.now.key.tick trail.new.reading.line.items trail.new.reading.next) }
 {
     let Some(block) = basic_type(fixed.table.system, line.instance) else {
@@ -95,11 +103,13 @@ fn react_event<R: BufRead>(
     line: &Line,
     input: &mut R,
 ) -> Result<(), InspectError>
-    requires table { IsTable fixed.now.table.now }
-    requires can { CanReact (system_of fixed.now.table.now.system.now) fixed.now.form (kept.Event block.old) line.now trail.old.reading.line.items }
+    requires { CanReact (system_of fixed.now.table.now.system.now) fixed.now.form (kept.Event block.old) line.now trail.old.reading.line.items }
     ensures goes { (look : Look) (left : ℕ) → let sys = system_of fixed.now.table.now.system.now in let p = path_at sys line.now.instance in
         IsKept (sys.kind p) (kept.Event block.old) (look.blocks p) → OnOk result
         (KeptGoes fixed.now.table.now.system.now.library.blocks sys fixed.now.form look left line.now None (kept.Event block.new) left trail.old trail.new (R.remaining input.old) (R.remaining input.new)) }
+    ensures refused { (look : Look) (left : ℕ) → let sys = system_of fixed.now.table.now.system.now in let p = path_at sys line.now.instance in
+        HasNames sys → IsPlain fixed.now.form line.now.key → IsKept (sys.kind p) (kept.Event block.old) (look.blocks p)
+        → IfErr result (OfRefusal (FailsBy (TurnsAt left look (sys.kind p)) sys fixed.now.form line.now trail.old.reading trail.new.reading (R.remaining input.old) (R.remaining input.new))) }
     ensures next { OnOk result (IsNext (system_of fixed.now.table.now.system.now) fixed.now.form line.now.key.tick trail.new.reading.line.items trail.new.reading.next) }
 {
     if !line.taken {
@@ -118,11 +128,13 @@ fn react_kept<R: BufRead>(
     line: &Line,
     input: &mut R,
 ) -> Result<Option<Reason>, InspectError>
-    requires table { IsTable fixed.now.table.now }
-    requires can { CanReact (system_of fixed.now.table.now.system.now) fixed.now.form block.old line.now trail.old.reading.line.items }
+    requires { CanReact (system_of fixed.now.table.now.system.now) fixed.now.form block.old line.now trail.old.reading.line.items }
     ensures goes { (look : Look) → let sys = system_of fixed.now.table.now.system.now in let p = path_at sys line.now.instance in
         IsKept (sys.kind p) block.old (look.blocks p) → IfOk result (λ stop.
         KeptGoes fixed.now.table.now.system.now.library.blocks sys fixed.now.form look meter.old.left line.now stop block.new meter.new.left trail.old trail.new (R.remaining input.old) (R.remaining input.new)) }
+    ensures refused { (look : Look) → let sys = system_of fixed.now.table.now.system.now in let p = path_at sys line.now.instance in
+        HasNames sys → IsPlain fixed.now.form line.now.key → IsKept (sys.kind p) block.old (look.blocks p)
+        → IfErr result (OfRefusal (FailsBy (TurnsAt meter.old.left look (sys.kind p)) sys fixed.now.form line.now trail.old.reading trail.new.reading (R.remaining input.old) (R.remaining input.new))) }
     ensures next { OnOk result (IsNext (system_of fixed.now.table.now.system.now) fixed.now.form line.now.key.tick trail.new.reading.line.items trail.new.reading.next) }
 {
     match block {
@@ -141,7 +153,8 @@ fn react_kept<R: BufRead>(
 /// Uses a step of the resource of a key, of this limit. Answers `false` where no step is left.
 fn use_step(steps: &mut Vec<TickSteps>, limit: u64, key: &Key) -> bool
     requires { key.now.resource < length steps.old.items }
-    ensures { OnTrue result (HasStepped limit key.now steps.old.items steps.new.items) }
+    ensures used { OnTrue result (HasStepped limit key.now steps.old.items steps.new.items) }
+    ensures none { OnFalse result ((own : TickSteps) → slice_get steps.old.items key.now.resource ≡ Some own → left_at limit key.now.tick (left_of own) ≡ 0) }
 {
     match steps.get_mut(key.resource as usize) {
         Some(own) => own.step(limit, key.tick),
@@ -161,7 +174,8 @@ fn flag_at(flags: &[bool], instance: u32) -> bool
 
 /// Whether no resource used more than these steps in a tick so far, of the greatest limit.
 fn all_keep(all: &[TickSteps], steps: u64) -> bool
-    ensures { IsTrue result → All (λ s. most ≤ s.least + steps) all.now }
+    ensures kept { IsTrue result → All (λ s. most ≤ s.least + steps) all.now }
+    ensures more { result ≡ false → (k : ℕ) × ((s : TickSteps) × (slice_get all.now k ≡ Some s) × (most ≤ s.least + steps → ⊥)) }
 {
     for own in all {
         if !own.keeps(steps) {
@@ -201,12 +215,15 @@ pub struct Terms {
 }
 
 /// Whether a stop is one of the resource and the tick of a key, for its steps.
-fn is_steps_of(mark: StopMark, key: &Key) -> bool {
+fn is_steps_of(mark: StopMark, key: &Key) -> bool
+    ensures { IsTrue result ↔ (mark ≡ record { tick = key.now.tick; resource = key.now.resource; reason = Reason.Steps }) }
+{
     mark.tick == key.tick && mark.resource == key.resource && mark.reason == Reason::Steps
 }
 
 fn is_for_steps(reason: Reason) -> bool
-    ensures { result ≡ false → reason ≡ Reason.Steps → ⊥ }
+    ensures steps { IsTrue result → reason ≡ Reason.Steps }
+    ensures other { result ≡ false → reason ≡ Reason.Steps → ⊥ }
 {
     match reason {
         Reason::Steps => true,
@@ -241,13 +258,15 @@ impl Walk {
         line: &Line,
         input: &mut R,
     ) -> Result<Option<Reason>, InspectError>
-        requires table { IsTable fixed.now.table.now }
         requires is { IsTextOf (system_of fixed.now.table.now.system.now) fixed.now.form line.now self.old.trail.reading.line.items }
         requires early { line.now.key.tick ≤ 10 ^ 12 }
         requires blocks { (look : Look) × AreKept (system_of fixed.now.table.now.system.now) self.old.blocks.items look }
         requires steps { length self.old.steps.items ≡ length (system_of fixed.now.table.now.system.now).resource_names }
         ensures goes { (look : Look) → let sys = system_of fixed.now.table.now.system.now in AreKept sys self.old.blocks.items look
             → IfOk result (λ stop. ReactGoes fixed.now.table.now.system.now.library.blocks sys fixed.now.form look line.now stop self.old self.new (R.remaining input.old) (R.remaining input.new)) }
+        ensures refused { (look : Look) (own : TickSteps) → let sys = system_of fixed.now.table.now.system.now in let p = path_at sys line.now.instance in
+            HasNames sys → IsPlain fixed.now.form line.now.key → AreKept sys self.old.blocks.items look → slice_get self.old.steps.items line.now.key.resource ≡ Some own
+            → IfErr result (OfRefusal (FailsBy (TurnsAt own.meter.left look (sys.kind p)) sys fixed.now.form line.now self.old.trail.reading self.new.trail.reading (R.remaining input.old) (R.remaining input.new))) }
         ensures next { OnOk result (IsNext (system_of fixed.now.table.now.system.now) fixed.now.form line.now.key.tick self.new.trail.reading.line.items self.new.trail.reading.next) }
     {
         let Some(steps) = self.steps.get_mut(line.key.resource as usize) else {
@@ -272,11 +291,14 @@ impl Walk {
         line: &Line,
         input: &mut R,
     ) -> Result<Option<Reason>, InspectError>
-        requires table { IsTable fixed.now.table.now }
         requires is { IsTextOf (system_of fixed.now.table.now.system.now) fixed.now.form line.now self.old.trail.reading.line.items }
         requires look { (look : Look) × IsLookOf (system_of fixed.now.table.now.system.now) self.old.blocks.items self.old.steps.items look }
         ensures goes { (look : Look) → let sys = system_of fixed.now.table.now.system.now in IsLookOf sys self.old.blocks.items self.old.steps.items look
             → IfOk result (λ stop. TurnGoes fixed.now.table.now.system.now.library.blocks sys fixed.now.form fixed.now.limit look line.now stop self.old self.new (R.remaining input.old) (R.remaining input.new)) }
+        ensures alone { OnOk result (IsAlone self.old.trail.reading.line.items (R.remaining input.old) → IsAlone self.new.trail.reading.line.items (R.remaining input.new)) }
+        ensures refused { (look : Look) → let sys = system_of fixed.now.table.now.system.now in
+            HasNames sys → IsPlain fixed.now.form line.now.key → IsLookOf sys self.old.blocks.items self.old.steps.items look
+            → IfErr result (OfRefusal (FailsBy (Turns sys fixed.now.limit look) sys fixed.now.form line.now self.old.trail.reading self.new.trail.reading (R.remaining input.old) (R.remaining input.new))) }
         ensures next { OnOk result (IsNext (system_of fixed.now.table.now.system.now) fixed.now.form line.now.key.tick self.new.trail.reading.line.items self.new.trail.reading.next) }
     {
         fixed.table.system.facts();
@@ -292,7 +314,8 @@ impl Walk {
 
     /// Whether a trace may end so where no reaction was stopped: at a horizon, or where a resource has used up these steps.
     pub fn may_end(&self, steps: u64, end: Outcome) -> bool
-        ensures { (sys : System) (look : Look) → IsLookOf sys self.now.blocks.items self.now.steps.items look → IsTrue result → MayEnd sys steps look (ending_of end) }
+        ensures may { (sys : System) (look : Look) → IsLookOf sys self.now.blocks.items self.now.steps.items look → IsTrue result → MayEnd sys steps look (ending_of end) }
+        ensures other { (sys : System) (look : Look) → IsLookOf sys self.now.blocks.items self.now.steps.items look → IsEndOf sys (ending_of end) → result ≡ false → MayEnd sys steps look (ending_of end) → ⊥ }
     {
         match end {
             Outcome::End(_) => true,
@@ -306,13 +329,17 @@ impl Walk {
 
     /// Whether no resource used more than these steps in a tick so far, of the greatest limit.
     fn keep_steps(&self, steps: u64) -> bool
-        ensures { (sys : System) (look : Look) → IsLookOf sys self.now.blocks.items self.now.steps.items look → IsTrue result → KeepSteps sys steps look }
+        ensures kept { (sys : System) (look : Look) → IsLookOf sys self.now.blocks.items self.now.steps.items look → IsTrue result → KeepSteps sys steps look }
+        ensures more { (sys : System) (look : Look) → IsLookOf sys self.now.blocks.items self.now.steps.items look → result ≡ false → KeepSteps sys steps look → ⊥ }
     {
         all_keep(self.steps.as_slice(), steps)
     }
 
     /// Whether a resource used more than these steps in a tick so far, of the greatest limit.
-    fn exceeds(&self, steps: u64, resource: u32) -> bool {
+    fn exceeds(&self, steps: u64, resource: u32) -> bool
+        ensures over { (sys : System) (look : Look) → IsLookOf sys self.now.blocks.items self.now.steps.items look → IsTrue result → (resource < length sys.resource_names) × (most ≤ (look.steps resource).least + steps → ⊥) }
+        ensures kept { (sys : System) (look : Look) → IsLookOf sys self.now.blocks.items self.now.steps.items look → result ≡ false → resource < length sys.resource_names → most ≤ (look.steps resource).least + steps }
+    {
         match self.steps.get(resource as usize) {
             Some(own) => !own.keeps(steps),
             None => false,
@@ -321,7 +348,10 @@ impl Walk {
 
     /// The refusal of a trace that stops where a resource has used up its steps: of the first event after which a resource
     /// had used too many, or else of the next line, for what was found.
-    fn refusal_for_steps(&mut self, ahead: &mut Ahead, finding: Finding) -> InspectError {
+    fn refusal_for_steps(&mut self, ahead: &mut Ahead, finding: Finding) -> InspectError
+        ensures back { ahead.old.watched.is_excess ≡ true → result ≡ Refused ahead.old.watched.number }
+        ensures none { ahead.old.watched.is_excess ≡ false → result ≡ Refused self.old.trail.reading.number }
+    {
         if ahead.go_back(&mut self.trail.reading) {
             return self.trail.refusal(Finding::NoStep);
         }
@@ -329,7 +359,11 @@ impl Walk {
     }
 
     /// The refusal of the last line, which ends the trace so.
-    fn refusal_of_end(&mut self, ahead: &mut Ahead, end: Outcome) -> InspectError {
+    fn refusal_of_end(&mut self, ahead: &mut Ahead, end: Outcome) -> InspectError
+        ensures back { ahead.old.watched.is_excess ≡ true → IsStepsStop end → result ≡ Refused ahead.old.watched.number }
+        ensures none { ahead.old.watched.is_excess ≡ false → result ≡ Refused self.old.trail.reading.number }
+        ensures other { (IsStepsStop end → ⊥) → result ≡ Refused self.old.trail.reading.number }
+    {
         match end {
             Outcome::Stop(mark) if mark.reason == Reason::Steps => {
                 self.refusal_for_steps(ahead, Finding::Runs)
@@ -340,7 +374,8 @@ impl Walk {
 
     /// Whether a resource has used these steps in a tick, of the greatest limit.
     fn has_used(&self, steps: u64, tick: u64, resource: u32) -> bool
-        ensures { (sys : System) (look : Look) → IsLookOf sys self.now.blocks.items self.now.steps.items look → IsTrue result → left_at most tick (look.steps resource) + steps ≡ most }
+        ensures used { (sys : System) (look : Look) → IsLookOf sys self.now.blocks.items self.now.steps.items look → IsTrue result → left_at most tick (look.steps resource) + steps ≡ most }
+        ensures other { (sys : System) (look : Look) → IsLookOf sys self.now.blocks.items self.now.steps.items look → resource < length sys.resource_names → result ≡ false → left_at most tick (look.steps resource) + steps ≡ most → ⊥ }
     {
         match self.steps.get(resource as usize) {
             Some(own) => own.left_at(MOST_STEPS, tick).checked_add(steps) == Some(MOST_STEPS),
@@ -350,7 +385,8 @@ impl Walk {
 
     /// Whether a resource has no step left in a tick, of this limit.
     fn is_used_up(&self, limit: u64, tick: u64, resource: u32) -> bool
-        ensures { (sys : System) (look : Look) → IsLookOf sys self.now.blocks.items self.now.steps.items look → IsTrue result → left_at limit tick (look.steps resource) ≡ 0 }
+        ensures used { (sys : System) (look : Look) → IsLookOf sys self.now.blocks.items self.now.steps.items look → IsTrue result → left_at limit tick (look.steps resource) ≡ 0 }
+        ensures other { (sys : System) (look : Look) → IsLookOf sys self.now.blocks.items self.now.steps.items look → resource < length sys.resource_names → result ≡ false → left_at limit tick (look.steps resource) ≡ 0 → ⊥ }
     {
         match self.steps.get(resource as usize) {
             Some(steps) => steps.left_at(limit, tick) == 0,
@@ -363,6 +399,7 @@ impl Walk {
     fn limit(&mut self, steps: u64, key: &Key) -> bool
         requires { key.now.resource < length self.old.steps.items }
         ensures limited { IsTrue result → HasLimited steps key.now self.old.steps.items self.new.steps.items }
+        ensures more { result ≡ false → steps ≤ most → (own : TickSteps) → slice_get self.old.steps.items key.now.resource ≡ Some own → left_at most key.now.tick (left_of own) + steps < most }
         ensures blocks { self.new.blocks ≡ self.old.blocks }
         ensures trail { self.new.trail ≡ self.old.trail }
         ensures shown { self.new.shown ≡ self.old.shown }
@@ -374,7 +411,9 @@ impl Walk {
     }
 
     /// Whether an instance is a basic block.
-    fn is_basic(&self, instance: u32) -> bool {
+    fn is_basic(&self, instance: u32) -> bool
+        ensures { result ≡ spec.keeps_chart (slice_get self.now.blocks.items instance) }
+    {
         match self.blocks.get(instance as usize) {
             Some(Remembered::Basic(_)) => true,
             Some(Remembered::Event(_) | Remembered::Composite) | None => false,
@@ -382,13 +421,21 @@ impl Walk {
     }
 
     /// Whether the taking of the event of a line may end by its steps: the line that was read ahead is that of such a stop.
-    fn is_near(&self, fixed: &Fixed<'_, '_>, ahead: &Ahead, line: &Line) -> bool {
+    fn is_near(&self, fixed: &Fixed<'_, '_>, ahead: &Ahead, line: &Line) -> bool
+        requires { line.now.instance < length self.now.blocks.items }
+        ensures near { (look : Look) → let sys = system_of fixed.now.table.now.system.now in AreKept sys self.now.blocks.items look → IsTrue result → IsNear sys line.now ahead.now.last.items }
+        ensures other { (look : Look) → let sys = system_of fixed.now.table.now.system.now in AreKept sys self.now.blocks.items look → HasNames sys → AreApart sys → IsLineOf sys line.now
+            → result ≡ false → IsNotNear sys line.now ahead.now.last.items }
+    {
         if !self.is_basic(line.instance) {
             return false;
         }
-        match read_last(fixed.table.system, ahead.last.as_slice()) {
-            Some(Outcome::Stop(mark)) => is_steps_of(mark, &line.key),
-            Some(Outcome::End(_)) | None => false,
+        let Some(end) = read_last(fixed.table.system, ahead.last.as_slice()) else {
+            return false;
+        };
+        match end {
+            Outcome::Stop(mark) => is_steps_of(mark, &line.key),
+            Outcome::End(_) => false,
         }
     }
 
@@ -400,11 +447,16 @@ impl Walk {
         line: &Line,
         ahead: &mut Ahead,
     ) -> Result<Option<Reason>, InspectError>
-        requires table { IsTable fixed.now.table.now }
         requires is { IsTextOf (system_of fixed.now.table.now.system.now) fixed.now.form line.now self.old.trail.reading.line.items }
         requires look { (look : Look) × IsLookOf (system_of fixed.now.table.now.system.now) self.old.blocks.items self.old.steps.items look }
         ensures goes { (look : Look) (remaining : Option (List ℕ)) → let sys = system_of fixed.now.table.now.system.now in IsLookOf sys self.old.blocks.items self.old.steps.items look
             → IfOk result (λ stop. TurnGoes fixed.now.table.now.system.now.library.blocks sys fixed.now.form fixed.now.limit look line.now stop self.old self.new (unread ahead.old remaining) (unread ahead.new remaining)) }
+        ensures alone { OnOk result (IsAlone self.old.trail.reading.line.items (Some ahead.old.text.items) → IsAlone self.new.trail.reading.line.items (Some ahead.new.text.items)) }
+        ensures last { OnOk result (ahead.new.last ≡ ahead.old.last) }
+        ensures watched { ahead.new.watched ≡ ahead.old.watched }
+        ensures refused { (look : Look) → let sys = system_of fixed.now.table.now.system.now in
+            HasNames sys → IsPlain fixed.now.form line.now.key → IsLookOf sys self.old.blocks.items self.old.steps.items look
+            → IfErr result (OfRefusal (λ n. (rest : List ℕ) × FailsBy (Turns sys fixed.now.limit look) sys fixed.now.form line.now self.old.trail.reading self.new.trail.reading (Some ahead.old.text.items) (Some rest) n)) }
         ensures next { OnOk result (IsNext (system_of fixed.now.table.now.system.now) fixed.now.form line.now.key.tick self.new.trail.reading.line.items self.new.trail.reading.next) }
     {
         let mut rest = ahead.text.as_slice();
@@ -421,7 +473,6 @@ impl Walk {
         line: &Line,
         ahead: &mut Ahead,
     ) -> Result<Step, InspectError>
-        requires table { IsTable fixed.now.table.now }
         requires is { IsTextOf (system_of fixed.now.table.now.system.now) fixed.now.form line.now self.old.trail.reading.line.items }
         requires look { (look : Look) × IsLookOf (system_of fixed.now.table.now.system.now) self.old.blocks.items self.old.steps.items look }
         requires limit { fixed.now.limit ≡ most }
@@ -431,6 +482,10 @@ impl Walk {
         ensures turned { (look : Look) (steps : ℕ) (remaining : Option (List ℕ)) → let sys = system_of fixed.now.table.now.system.now in let types = fixed.now.table.now.system.now.library.blocks in
             IsLookOf sys self.old.blocks.items self.old.steps.items look
             → IfOk result (LineGoes types sys fixed.now.form steps look line.now self.old self.new ahead.new (unread ahead.old remaining) (unread ahead.new remaining)) }
+        ensures stands { (steps : ℕ) (turns : List Turn) (rest text : List ℕ) (rows : List run.Line) → let sys = system_of fixed.now.table.now.system.now in StandsAt sys fixed.now.form turns self.old ahead.old.text.items ahead.old.last.items line.now rest text
+            → AreAhead sys fixed.now.form line.now rows ahead.old.text.items ahead.old.last.items rest → IsNotNear sys line.now ahead.old.last.items
+            → StandsAfter sys fixed.now.form steps turns self.new ahead.new.text.items ahead.new.last.items line.now rest text result }
+        ensures watched { ahead.new.watched ≡ ahead.old.watched }
         ensures whole { IfOk result (λ step. step ≡ Step.CutOff → ⊥) }
     {
         let Some(reason) = self.take_ahead(fixed, line, ahead)? else {
@@ -455,7 +510,6 @@ impl Walk {
         line: &Line,
         ahead: &mut Ahead,
     ) -> Result<Step, InspectError>
-        requires table { IsTable fixed.now.table.now }
         requires is { IsTextOf (system_of fixed.now.table.now.system.now) fixed.now.form line.now self.old.trail.reading.line.items }
         requires look { (look : Look) × IsLookOf (system_of fixed.now.table.now.system.now) self.old.blocks.items self.old.steps.items look }
         requires limit { fixed.now.limit ≡ most }
@@ -465,6 +519,10 @@ impl Walk {
         ensures turned { (look : Look) (remaining : Option (List ℕ)) → let sys = system_of fixed.now.table.now.system.now in let types = fixed.now.table.now.system.now.library.blocks in
             IsLookOf sys self.old.blocks.items self.old.steps.items look
             → IfOk result (LineGoes types sys fixed.now.form steps look line.now self.old self.new ahead.new (unread ahead.old remaining) (unread ahead.new remaining)) }
+        ensures stands { (turns : List Turn) (rest text : List ℕ) (rows : List run.Line) → let sys = system_of fixed.now.table.now.system.now in StandsAt sys fixed.now.form turns self.old ahead.old.text.items ahead.old.last.items line.now rest text
+            → Watches sys fixed.now.form steps turns ahead.old.watched.number ahead.old.watched.text.items ahead.old.watched.is_excess
+            → AreAhead sys fixed.now.form line.now rows ahead.old.text.items ahead.old.last.items rest → IsNotNear sys line.now ahead.old.last.items
+            → GoesAfter sys fixed.now.form steps self.new ahead.new (Some rest) text result }
         ensures whole { IfOk result (λ step. step ≡ Step.CutOff → ⊥) }
     {
         ahead.watch(&self.trail.reading)?;
@@ -482,7 +540,6 @@ impl Walk {
         line: &Line,
         ahead: &mut Ahead,
     ) -> Result<Step, InspectError>
-        requires table { IsTable fixed.now.table.now }
         requires is { IsTextOf (system_of fixed.now.table.now.system.now) fixed.now.form line.now self.old.trail.reading.line.items }
         requires look { (look : Look) × IsLookOf (system_of fixed.now.table.now.system.now) self.old.blocks.items self.old.steps.items look }
         ensures goes { (first : Marks) (only : List Name) (known remaining old new : Option (List ℕ)) → let sys = system_of fixed.now.table.now.system.now in
@@ -491,6 +548,10 @@ impl Walk {
         ensures turned { (look : Look) (remaining : Option (List ℕ)) → let sys = system_of fixed.now.table.now.system.now in let types = fixed.now.table.now.system.now.library.blocks in
             IsLookOf sys self.old.blocks.items self.old.steps.items look
             → IfOk result (LineGoes types sys fixed.now.form steps look line.now self.old self.new ahead.new (unread ahead.old remaining) (unread ahead.new remaining)) }
+        ensures stands { (turns : List Turn) (rest text : List ℕ) (rows : List run.Line) → let sys = system_of fixed.now.table.now.system.now in steps ≤ most → StandsAt sys fixed.now.form turns self.old ahead.old.text.items ahead.old.last.items line.now rest text
+            → Watches sys fixed.now.form steps turns ahead.old.watched.number ahead.old.watched.text.items ahead.old.watched.is_excess
+            → AreAhead sys fixed.now.form line.now rows ahead.old.text.items ahead.old.last.items rest → IsNear sys line.now ahead.old.last.items
+            → GoesAfter sys fixed.now.form steps self.new ahead.new (Some rest) text result }
         ensures whole { IfOk result (λ step. step ≡ Step.CutOff → ⊥) }
     {
         fixed.table.system.facts();
@@ -518,7 +579,9 @@ impl Walk {
 
     /// Whether a resource has run out of steps in a taking that ended so, or just after it.
     fn has_run_out(&self, limit: u64, key: &Key, stop: Option<Reason>) -> bool
-        ensures { (sys : System) (look : Look) → IsLookOf sys self.now.blocks.items self.now.steps.items look → IsTrue result
+        ensures other { (sys : System) (look : Look) → IsLookOf sys self.now.blocks.items self.now.steps.items look → key.now.resource < length sys.resource_names → result ≡ false
+            → ((stop ≡ Some Reason.Steps) ⊎ ((stop ≡ None) × (left_at limit key.now.tick (look.steps key.now.resource) ≡ 0))) → ⊥ }
+        ensures out { (sys : System) (look : Look) → IsLookOf sys self.now.blocks.items self.now.steps.items look → IsTrue result
             → (stop ≡ Some Reason.Steps) ⊎ ((stop ≡ None) × (left_at limit key.now.tick (look.steps key.now.resource) ≡ 0)) }
     {
         match stop {
@@ -547,7 +610,6 @@ impl Walk {
         ahead: &mut Ahead,
         input: &mut R,
     ) -> Result<Step, InspectError>
-        requires table { IsTable fixed.now.table.now }
         requires is { IsTextOf (system_of fixed.now.table.now.system.now) fixed.now.form line.now self.old.trail.reading.line.items }
         requires look { (look : Look) × IsLookOf (system_of fixed.now.table.now.system.now) self.old.blocks.items self.old.steps.items look }
         requires limit { fixed.now.limit ≡ most }
@@ -557,6 +619,10 @@ impl Walk {
         ensures turned { (look : Look) → let sys = system_of fixed.now.table.now.system.now in let types = fixed.now.table.now.system.now.library.blocks in
             IsLookOf sys self.old.blocks.items self.old.steps.items look
             → IfOk result (LineGoes types sys fixed.now.form terms.steps look line.now self.old self.new ahead.new (unread ahead.old (R.remaining input.old)) (unread ahead.new (R.remaining input.new))) }
+        ensures stands { (turns : List Turn) (rest text : List ℕ) → let sys = system_of fixed.now.table.now.system.now in terms.steps ≤ most → R.remaining input.old ≡ Some rest
+            → StandsAt sys fixed.now.form turns self.old ahead.old.text.items ahead.old.last.items line.now rest text
+            → Watches sys fixed.now.form terms.steps turns ahead.old.watched.number ahead.old.watched.text.items ahead.old.watched.is_excess
+            → GoesAfter sys fixed.now.form terms.steps self.new ahead.new (R.remaining input.new) text result }
         ensures cut { IfOk result (λ step. step ≡ Step.CutOff → terms.cut ≡ Cut.Allowed) }
     {
         let is_cut = ahead.look(fixed, terms.cut, line, input)?;
@@ -581,9 +647,8 @@ impl Walk {
         ahead: &mut Ahead,
         input: &mut R,
     ) -> Result<Step, InspectError>
-        requires table { IsTable fixed.now.table.now }
         requires look { (look : Look) × IsLookOf (system_of fixed.now.table.now.system.now) self.old.blocks.items self.old.steps.items look }
-        requires next { (tick : ℕ) × IsNext (system_of fixed.now.table.now.system.now) fixed.now.form tick self.old.trail.reading.line.items self.old.trail.reading.next }
+        requires next { (tick : ℕ) × IsNextLine (system_of fixed.now.table.now.system.now) fixed.now.form tick self.old.trail.reading.line.items self.old.trail.reading.next }
         requires limit { fixed.now.limit ≡ most }
         ensures goes { (first : Marks) (only : List Name) (known old new : Option (List ℕ)) → let sys = system_of fixed.now.table.now.system.now in
             let types = fixed.now.table.now.system.now.library.blocks in HasCovered types first sys fixed.now.form only terms.steps self.old known (unread ahead.old (R.remaining input.old)) old new
@@ -591,8 +656,11 @@ impl Walk {
         ensures turned { (look : Look) → let sys = system_of fixed.now.table.now.system.now in let types = fixed.now.table.now.system.now.library.blocks in
             IsLookOf sys self.old.blocks.items self.old.steps.items look
             → IfOk result (StepGoes types sys fixed.now.form terms.steps look self.old self.new ahead.new (unread ahead.old (R.remaining input.old)) (unread ahead.new (R.remaining input.new))) }
+        ensures stands { (rest text : List ℕ) → let sys = system_of fixed.now.table.now.system.now in terms.steps ≤ most → HasNames sys → R.remaining input.old ≡ Some rest
+            → StandsWell sys fixed.now.form terms.steps self.old ahead.old rest text → GoesAfter sys fixed.now.form terms.steps self.new ahead.new (R.remaining input.new) text result }
         ensures cut { IfOk result (λ step. step ≡ Step.CutOff → terms.cut ≡ Cut.Allowed) }
     {
+        fixed.table.system.facts();
         match mem::replace(&mut self.trail.reading.next, Next::Bad) {
             Next::Event(line) => match self.step_on(fixed, terms, &line, ahead, input)? {
                 // Nothing was taken, so it is the next line again.
@@ -619,16 +687,17 @@ impl Walk {
         ensures finishes { OnOk result (Finishes self.old (unread ahead.now (R.remaining input.old)) (W.contents out.old) (W.contents out.new)) }
         ensures marks { self.new.trail.marks ≡ self.old.trail.marks }
         ensures fault { OnErr result (SendsPart self.old (W.contents out.old) (W.contents out.new)) }
+        ensures refused { IfErr result (OfRefusal (λ n. (n ≡ self.old.trail.reading.number + 1) × IfSome (unread ahead.now (R.remaining input.old)) (λ rest. 0 < length rest))) }
     {
         let line = self.trail.reading.line.as_slice();
         put_line(&mut self.trail.page.text, line, true)?;
         self.trail.reading.after_end = true;
         if !ahead.text.is_empty() {
-            return Err(InspectError::Refused(self.trail.reading.number.saturating_add(1)));
+            return Err(self.trail.reading.refusal_after());
         }
         match is_over(input, &mut self.trail.reading.line) {
             Ok(true) => self.trail.page.flush(out),
-            Ok(false) => Err(InspectError::Refused(self.trail.reading.number.saturating_add(1))),
+            Ok(false) => Err(self.trail.reading.refusal_after()),
             Err(fault) => Err(InspectError::from(fault)),
         }
     }
@@ -638,6 +707,7 @@ impl Walk {
         ensures finishes { OnOk result (FinishesCut self.old (W.contents out.old) (W.contents out.new)) }
         ensures marks { self.new.trail.marks ≡ self.old.trail.marks }
         ensures fault { OnErr result (SendsCutPart self.old (W.contents out.old) (W.contents out.new)) }
+        ensures none { IfErr result IsNoRefusal }
     {
         put_cut(&mut self.trail.page.text)?;
         self.trail.page.flush(out)
@@ -652,7 +722,6 @@ impl Walk {
         input: &mut R,
         out: &mut W,
     ) -> Result<Extent, InspectError>
-        requires table { IsTable fixed.now.table.now }
         requires starts { (only : List Name) × Starts (system_of fixed.now.table.now.system.now) fixed.now.form only self.old }
         requires limit { fixed.now.limit ≡ most }
         requires empty { ahead.old.text.items ≡ [] }
@@ -664,6 +733,9 @@ impl Walk {
             → IfOk result (λ extent. IfSome known (λ text. IsCoveredBy terms.cut fixed.now.table.now.system.now only terms.steps text self.old.trail.marks self.new.trail.marks extent)) }
         ensures fault { (only : List Name) → let sys = system_of fixed.now.table.now.system.now in
             Starts sys fixed.now.form only self.old → OnErr result (ShowsFront sys only terms.steps (W.contents out.old) (W.contents out.new)) }
+        ensures refused { (only : List Name) (rest text : List ℕ) → let sys = system_of fixed.now.table.now.system.now in
+            terms.steps ≤ most → HasNames sys → Starts sys fixed.now.form only self.old → R.remaining input.old ≡ Some rest → BeginsText sys fixed.now.form self.old.trail.reading.line.items ahead.old.watched.is_excess rest text
+            → IfErr result (OfRefusal (λ n. IsWrongAt sys terms.steps n text)) }
     {
         for _ in 0..u64::MAX {
             match self.step(fixed, terms, ahead, input)? {

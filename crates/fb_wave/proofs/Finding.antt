@@ -18,7 +18,8 @@ use Rattle.fb_types.proofs.Positions.{is_some-position, position_is}
 use Rattle.fb_check_names.specs.Indexes.{index_in}
 use Rattle.fb_wave.specs.Named.{AreNames, HasNames}
 use Rattle.fb_wave.specs.Ports.{BeginsWith, IsPortOf, holder_name, port_text, side}
-use Rattle.fb_wave.specs.Tables.{IsTable}
+use Rattle.std.proofs.Math.Logic.{∥∥₁_elim}
+use Rattle.std.proofs.Props.{props}
 use Rattle.fb_wave.specs.Words.{AreThree, HasNoThree, HasThree, IsCut, is_ended, is_word, three}
 use Rattle.fb_wave.specs.declared.ports.Port.{Port}
 use Rattle.fb_wave.specs.declared.table.PortTable.{PortTable}
@@ -131,38 +132,44 @@ one_index (m ∷ ms) once (suc j) (suc k) n e f = ap suc (one_index ms (λ t. on
 text_there : (sys : System) (ports : List Port) (k : ℕ) (p : Port) → slice_get ports k ≡ Some p → slice_get (map (port_text sys) ports) k ≡ Some (port_text sys p)
 text_there sys ports k p at = slice_get-map (port_text sys) ports k ∙ ap (option_map (port_text sys)) at
 
--- two ports of a table that are written alike are one
-pub same_port : (t : PortTable) → IsTable t → (p q : Port) → IsPortOf (system_of t.system.now) p → IsPortOf (system_of t.system.now) q → port_text (system_of t.system.now) p ≡ port_text (system_of t.system.now) q → p ≡ q
-same_port t table p q is other e =
+same_at :
+    (t : PortTable) (p q : Port) → Contains t.ports.now p → Contains t.ports.now q → port_text (system_of t.system.now) p ≡ port_text (system_of t.system.now) q → p ≡ q
+same_at t p q there other e =
     let sys = system_of t.system.now in
     let ports = t.ports.now in
-    let a = index_of_element ports p (table.all p is) in
-    let b = index_of_element ports q (table.all q other) in
-    let same = one_index (map (port_text sys) ports) table.index.once a.0 b.0 (port_text sys q)
+    let a = index_of_element ports p there in
+    let b = index_of_element ports q other in
+    let same = one_index (map (port_text sys) ports) t.index.once a.0 b.0 (port_text sys q)
     (text_there sys ports a.0 p a.1 ∙ ap (λ (n : Name). Some n) e) (text_there sys ports b.0 q b.1)
     in
     same_Some p q (sym a.1 ∙ ap (slice_get ports) same ∙ b.1)
 
+-- two ports of a table that are written alike are one
+pub same_port : (t : PortTable) → (p q : Port) → IsPortOf (system_of t.system.now) p → IsPortOf (system_of t.system.now) q → port_text (system_of t.system.now) p ≡ port_text (system_of t.system.now) q → p ≡ q
+same_port t p q is other e =
+    ∥∥₁_elim (t.all p is) (hlevel props) (λ a. ∥∥₁_elim (t.all q other) (hlevel props) (λ b. same_at t p q a b e))
+
 -- the port at the index of a port's text is that port
-pub port_there : (t : PortTable) → IsTable t → (p : Port) (k : ℕ) → IsPortOf (system_of t.system.now) p → index_in t.indexes (port_text (system_of t.system.now) p) ≡ Some k → slice_get t.ports.now k ≡ Some p
-port_there t table p k is found =
+pub port_there : (t : PortTable) → (p : Port) (k : ℕ) → IsPortOf (system_of t.system.now) p → index_in t.indexes (port_text (system_of t.system.now) p) ≡ Some k → slice_get t.ports.now k ≡ Some p
+port_there t p k is found =
     let sys = system_of t.system.now in
     let ports = t.ports.now in
-    let at = position_is (port_text sys) (port_text sys p) ports k (sym (table.index.index (port_text sys p)) ∙ found) in
-    let same = same_port t table p at.0 is (all_at (IsPortOf sys) ports k at.0 table.ports_are at.1) (sym at.2) in
+    let at = position_is (port_text sys) (port_text sys p) ports k (sym (t.index.index (port_text sys p)) ∙ found) in
+    let same = same_port t p at.0 is (all_at (IsPortOf sys) ports k at.0 t.ports_are at.1) (sym at.2) in
     at.1 ∙ ap (λ (q : Port). Some q) (sym same)
 
 -- the text of each port has an index
-pub port_placed : (t : PortTable) → IsTable t → (p : Port) → IsPortOf (system_of t.system.now) p → index_in t.indexes (port_text (system_of t.system.now) p) ≡ None → ⊥
-port_placed t table p is none =
+pub port_placed : (t : PortTable) → (p : Port) → IsPortOf (system_of t.system.now) p → index_in t.indexes (port_text (system_of t.system.now) p) ≡ None → ⊥
+port_placed t p is none =
     let sys = system_of t.system.now in
     let names = map (port_text sys) t.ports.now in
     let n = port_text sys p in
+    let gone : is_some (position (same_name n) names) ≡ false = ap is_some (sym (t.index.index n) ∙ none) in
+    ∥∥₁_elim (t.all p is) (λ x y. absurd x) (λ there.
     let some : is_some (position (same_name n) names) ≡ true =
-    is_some-position (same_name n) names ∙ any_from_contains n names (Contains-map (port_text sys) t.ports.now p (table.all p is))
+    is_some-position (same_name n) names ∙ any_from_contains n names (Contains-map (port_text sys) t.ports.now p there)
     in
-    let gone : is_some (position (same_name n) names) ≡ false = ap is_some (sym (table.index.index n) ∙ none) in
-    true≢false (sym some ∙ gone)
+    true≢false (sym some ∙ gone))
 
 -- the front of a text as long as its three words is the text of the port that it begins with
 pub front_is_port :

@@ -16,7 +16,7 @@ use Rattle.fb_system.specs.Lines.{BelongsTo, line_variables}
 use Rattle.fb_wave.specs.Lines.{line_side}
 use Rattle.fb_wave.specs.LineSignals.{fired, pairs, index_of, set_by, changed_signals, touched}
 use Rattle.fb_wave.specs.Writing.{AreFirsts, AreMarks}
-use Rattle.fb_wave.specs.declared.dump.Marks.{Marks}
+use Rattle.fb_wave.specs.declared.system_signals.Marks.{Marks}
 use Rattle.fb_wave.proofs.Numbering.{signals_within}
 use Rattle.fb_wave.proofs.Known.{inputs_once, outputs_once}
 use Rattle.fb_wave.proofs.Placing.{names_shown}

@@ -1,6 +1,6 @@
 -- What signals show after one more event or value, and which are marked.
 use Rattle.std.proofs.Common.{◌≡◌, ◌≢◌, ℕ, ◌+◌, ◌%◌, ◌^◌, ◌<◌, Bool, true, false, cond, ◌||◌, List, [], ◌∷◌, ◌++◌, length, Option, Some, None, get_or, set, refl, sym, ap, subst, ◌∙◌, arith, inl, inr}
-use Rattle.std.specs.Prelude.{◌==◌, count_by}
+use Rattle.std.specs.Prelude.{◌==◌, All, count_by}
 use Rattle.std.proofs.lemmas.Bool.{cases_lt}
 use Rattle.std.proofs.lemmas.List.{get_or-set_other, get_or-set_same, get_or_append_left, get_or_push, length-set, length_push}
 use Rattle.std.proofs.lemmas.List.Folds.{list_any-append}
@@ -45,6 +45,10 @@ fresh = record { shown = Count 0; is_marked = false }
 
 is_fresh : (s : ℕ) → IsCell [] [] [] s fresh
 is_fresh s = record { shown = refl; is_marked = refl }
+
+-- the same number of signals
+pub counted_as : (n m : ℕ) (x : code.Levels) → n ≡ m → AreLevels n [] [] [] x → AreLevels m [] [] [] x
+counted_as n m x same are = subst (λ (k : ℕ). AreLevels k [] [] [] x) same are
 
 -- a signal of which no line shown
 pub one_more_signal :
@@ -137,6 +141,21 @@ marked_new n f t u x y s d all within is cells listed =
     or_true : (b : Bool) → (b || (true || false)) ≡ true
     or_true true = refl
     or_true false = refl
+
+-- one more marked signal is within the cells
+pub within_more :
+    (cells : List Cell) (ss new : List ℕ) (s : ℕ) (x : Cell) → All (λ k. k < length cells) ss → s < length cells → new ≡ ss ++ s ∷ []
+    → All (λ k. k < length (set cells s x)) new
+within_more cells ss new s x are one is =
+    let long = length-set cells s x in
+    subst (All (λ k. k < length (set cells s x))) (sym is)
+    (λ k d h.
+    elim (cases_lt k (length ss)) [
+      | inl less ↦ subst (λ (m : ℕ). m < length (set cells s x)) (sym (get_or_append_left ss (s ∷ []) d k less)) (let w = are k d less in omega (arith, w, long))
+      | inr past ↦
+          (let last : length ss ≡ k = omega (arith, h, past, length_push ss s) in
+          subst (λ (m : ℕ). m < length (set cells s x)) (sym (get_or_push ss s d k last)) (omega (arith, one, long)))
+    ])
 
 -- ---- Values and events
 

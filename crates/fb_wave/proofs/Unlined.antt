@@ -19,7 +19,6 @@ use Rattle.fb_wave.specs.Lines.{AreInRange, AreNoValuesOf, AreValuesOf, HasNoHea
 use Rattle.fb_wave.specs.Named.{HasNames}
 use Rattle.fb_wave.specs.Ports.{BeginsWith, HasNoPort}
 use Rattle.fb_wave.specs.Reading.{AreRead, AreUnread, HasNoNumber, fit_each, number_text, type_at}
-use Rattle.fb_wave.specs.Tables.{IsTable}
 use Rattle.fb_wave.specs.declared.line.Parts.{Parts}
 use Rattle.fb_wave.specs.declared.ports.Port.{Port}
 use Rattle.fb_wave.specs.declared.table.PortTable.{PortTable}
@@ -106,14 +105,14 @@ values_of_line sys l is = by l.taken is
     by false is = record { indexes = is.indexes; stand = is.stand; typed = is.typed; counted = is.belongs.values; parts = refl }
 
 pub valueless :
-    (t : PortTable) → IsTable t → HasNames (system_of t.system.now) → (form : Form) (text rest more last : List ℕ) (p : Parts) (tick : ℕ) (q : Port)
+    (t : PortTable) → HasNames (system_of t.system.now) → (form : Form) (text rest more last : List ℕ) (p : Parts) (tick : ℕ) (q : Port)
     → IsHead form text p rest → AreInRange p → rest ≡ number_text tick ++ more → tick < 2 ^ 64 → BeginsWith (system_of t.system.now) more q last
     → AreNoValuesOf (system_of t.system.now) q last → IsNoTextOf (system_of t.system.now) form text
-valueless t table names form text rest more last p tick q head range numbered small begun none l is =
+valueless t names form text rest more last p tick q head range numbered small begun none l is =
     let sys = system_of t.system.now in
     let other = begins sys form text rest p head range tick more small numbered l is in
     let once = begins_once sys more q (port_of_line l) last (line_end sys l) names begun other in
-    let same = same_port t table q (port_of_line l) begun.port other.port once.0 in
+    let same = same_port t q (port_of_line l) begun.port other.port once.0 in
     none l.values (subst (λ (r : Port). AreValuesOf sys r last l.values) (sym same) (subst (λ (u : List ℕ). AreValuesOf sys (port_of_line l) u l.values) (sym once.1) (values_of_line sys l is.line)))
 
 plain_sums : (ks : List ℕ) → map (λ k. 0 + k) ks ≡ ks

@@ -6,7 +6,6 @@ pub mod Changes
 pub mod Signals
 pub mod Scopes
 pub mod Ports
-pub mod Tables
 pub mod Lines
 pub mod Words
 pub mod Named

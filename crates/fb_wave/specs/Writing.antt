@@ -10,7 +10,8 @@ use Rattle.fb_wave.specs.declared.levels.Levels.{Levels}
 use Rattle.fb_wave.specs.Scopes.{head_text}
 use Rattle.fb_wave.specs.Dumps.{last_tick, ticks_text}
 use Rattle.fb_wave.specs.declared.dump.Dump.{Dump}
-use Rattle.fb_wave.specs.declared.dump.Marks.{Marks}
+use Rattle.fb_wave.specs.declared.system_signals.Signals.{Signals}
+use Rattle.fb_wave.specs.declared.system_signals.Marks.{Marks}
 use Rattle.fb_wave.specs.Lines.{line_side}
 use Rattle.fb_wave.specs.LineSignals.{fired, fires_of, has_signal, touches_of}
 
@@ -20,10 +21,10 @@ pub record AreFirsts (sys : System) (firsts : List ℕ) : Type 0 where
   pub each : (i : ℕ) → i ≤ length sys.paths → slice_index firsts i ≡ first_signal sys i
   pub small : sizes_of sys sys.paths < 2 ^ 64
 
--- A cell for each signal of the system, and the marked ones are among them.
-pub record AreFit (sys : System) (x : Levels) : Type 0 where
-  pub counted : length x.cells.items ≡ sizes_of sys sys.paths
-  pub within : All (λ s. s < length x.cells.items) x.marked.items
+-- The signals of the system: their numbers, and a cell for each.
+pub record AreSignals (sys : System) (x : Signals) : Type 0 where
+  pub firsts : AreFirsts sys x.firsts.items
+  pub counted : length x.levels.cells.items ≡ sizes_of sys sys.paths
 
 -- The signals of a line are those of the system.
 pub record AreMarks (sys : System) (l : Line) (x : Marks) : Type 0 where
@@ -33,10 +34,9 @@ pub record AreMarks (sys : System) (l : Line) (x : Marks) : Type 0 where
   pub indexes_are : AreIndexes (line_side sys l) (line_variables sys l) x.indexes.now
   pub within : All (λ k. x.first + k < sizes_of sys sys.paths) x.indexes.now
 
--- The dump's numbers are those of the system.
-pub record IsDump (sys : System) (x : Dump) : Type 0 where
-  pub firsts_are : AreFirsts sys x.firsts.items
-  pub fit : AreFit sys x.levels
+-- The signals of the dump are those of the system.
+abbrev pub IsDump : System → Dump → Type 0
+IsDump sys x = AreSignals sys x.signals
 
 -- Lines were written: the text so far is that of their dump, but for what the last tick changes. Whatever lines come, it grows
 -- to the dump of all.
@@ -60,4 +60,4 @@ pub record Turns (sys : System) (ls : List Line) (shown : List ℕ) (next : ℕ)
 
 -- A dump has shown these lines, and this is its text so far.
 abbrev pub HasShown : System → List Line → List ℕ → Dump → Type 0
-HasShown sys ls shown x = Shows sys ls shown x.tick x.levels
+HasShown sys ls shown x = Shows sys ls shown x.tick x.signals.levels

@@ -1,6 +1,6 @@
 //! The changes of signals.
 
-ghost use Rattle.std.specs.Prelude.{◌≡◌, ◌<◌, ℕ, List, [], ◌++◌, All, OnOk, length, decimal};
+ghost use Rattle.std.specs.Prelude.{◌≡◌, ℕ, List, [], ◌++◌, OnOk, length, decimal};
 ghost use Rattle.fb_wave.specs.Changes.{changed, changes, event_changed, in_bits, number_changed, time_text, value_changed};
 ghost use Rattle.fb_wave.specs.Levels.{AreLevels};
 
@@ -72,7 +72,6 @@ pub fn put_time(text: &mut Vec<u8>, shown: u64, tick: u64) -> Result<(), AllocEr
 
 /// Appends the changes of a tick, and unmarks its signals for the next tick.
 pub fn put_changes(text: &mut Vec<u8>, levels: &mut Levels) -> Result<(), AllocError>
-    requires { All (λ s. s < length levels.old.cells.items) levels.old.marked.items }
     ensures counted { length levels.new.cells.items ≡ length levels.old.cells.items }
     ensures none { OnOk result (levels.new.marked.items ≡ []) }
     ensures text { (n : ℕ) (fires : List ℕ) (sets : List (ℕ × Value)) (touches : List ℕ) → AreLevels n fires sets touches levels.old

@@ -1,11 +1,10 @@
 //! From the lines of a trace to its dump.
 
-ghost use Rattle.std.specs.Prelude.{◌≡◌, ◌<◌, ◌↔◌, ℕ, ◌+◌, ◌^◌, List, [], ◌∷◌, ◌++◌, true, false, length, if◌then◌else◌, All, IfErr, IfOk, IfSome, OnOk, IsTrue};
+ghost use Rattle.std.specs.Prelude.{◌≡◌, ◌<◌, ◌↔◌, ℕ, ◌+◌, ◌^◌, List, [], ◌∷◌, ◌++◌, true, false, length, if◌then◌else◌, IfErr, IfOk, IfSome, OnOk, IsTrue};
 ghost use Rattle.std.specs.Io.KnownBytes.{Consumes, IsAtEnd};
 ghost use Rattle.fb_types.specs.Headline.{system_of};
 ghost use Rattle.fb_types.specs.Systems.{System as Flat};
 ghost use Rattle.fb_wave.specs.Lines.{IsLast};
-ghost use Rattle.fb_wave.specs.Tables.{IsTable};
 ghost use Rattle.fb_wave.specs.Writing.{HasShown, IsDump};
 ghost use Rattle.fb_wave.specs.Copying.{IsAfter, IsCutFinished, IsCutUnfinished, IsFinished, IsFirstLine, IsNoWriteFault, IsRefusedAt, IsTaken, IsUnfinished, RefusesEnd, RefusesLine};
 ghost use Rattle.fb_wave.specs.CutOff.{BlamesShown, FailsShown, IsShown};
@@ -111,8 +110,7 @@ impl Progress {
         number: u64,
         line: &[u8],
     ) -> Result<(), WaveError>
-        requires table { IsTable table.now }
-        requires dump { IsDump (system_of table.now.system.now) self.old.dump }
+        requires { IsDump (system_of table.now.system.now) self.old.dump }
         ensures taken { OnOk result (IsTaken (system_of table.now.system.now) form line.now self.old self.new) }
         ensures fault { IfErr result IsNoWriteFault }
         ensures tick { IfErr result (λ e. self.new.tick ≡ self.old.tick) }
@@ -140,7 +138,6 @@ impl Progress {
         input: &mut R,
         out: &mut W,
     ) -> Result<(), WaveError>
-        requires dump { IsDump (system_of system.now) self.old.dump }
         requires number { number + 1 < 2 ^ 64 }
         requires end { IsLast (system_of system.now) current.old.text.items end }
         ensures whole { OnOk result (IsFinished (system_of system.now) end self.old (R.remaining input.old) (W.contents out.old) (W.contents out.new)) }
@@ -162,7 +159,6 @@ impl Progress {
 
     /// Shows that the trace is cut off, and writes all that waits.
     fn finish_cut<W: Write>(&mut self, out: &mut W) -> Result<(), WaveError>
-        requires { All (λ s. s < length self.old.dump.levels.cells.items) self.old.dump.levels.marked.items }
         ensures whole { (sys : Flat) → OnOk result (IsCutFinished sys self.old (W.contents out.old) (W.contents out.new)) }
         ensures part { (sys : Flat) → IfErr result (IsCutUnfinished sys self.old (W.contents out.old) (W.contents out.new)) }
     {
@@ -180,7 +176,6 @@ impl Progress {
         input: &mut R,
         out: &mut W,
     ) -> Result<(), WaveError>
-        requires table { IsTable table.now }
         requires dump { IsDump (system_of table.now.system.now) self.old.dump }
         requires tick { self.old.tick ≡ 0 }
         requires shown { HasShown (system_of table.now.system.now) [] self.old.page.text.items self.old.dump }

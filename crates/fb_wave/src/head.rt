@@ -1,10 +1,10 @@
 //! The head of a dump: scopes, signals and their initial state.
 
-ghost use Rattle.std.specs.Prelude.{◌≡◌, ◌<◌, ◌≤◌, ◌+◌, ◌-◌, ◌^◌, ◌++◌, IfOk, OnOk, drop, length};
+ghost use Rattle.std.specs.Prelude.{◌≡◌, ◌<◌, ◌≤◌, ◌+◌, ◌-◌, ◌++◌, IfOk, OnOk, drop, length};
 ghost use Rattle.fb_types.specs.Headline.{system_of};
 ghost use Rattle.fb_types.specs.Numbers.{path_at, ports_at};
 ghost use Rattle.fb_wave.specs.Scopes as spec;
-ghost use Rattle.fb_wave.specs.Signals.{size_of};
+ghost use Rattle.fb_wave.specs.Signals.{first_signal};
 ghost use Rattle.fb_wave.specs.Writing.{AreFirsts};
 
 use crate::begun;
@@ -39,15 +39,15 @@ pub(crate) fn own_name(system: &System, instance: u32) -> &[u8]
 pub fn put_instance(
     text: &mut Vec<u8>,
     system: &System,
-    first: usize,
+    firsts: &[usize],
     depth: usize,
     instance: u32,
 ) -> Result<usize, AllocError>
+    requires firsts { AreFirsts (system_of system.now) firsts.now }
     requires instance { instance < length (system_of system.now).paths }
-    requires first { first + size_of (ports_at (system_of system.now) (path_at (system_of system.now) instance)) < 2 ^ 64 }
     ensures height { IfOk result (λ h. h ≡ length (path_at (system_of system.now) instance)) }
     ensures text { OnOk result (let sys = system_of system.now in let p = path_at sys instance in
-        text.new.items ≡ text.old.items ++ (spec.closed (depth + 1 - length p) ++ spec.opened (spec.own_name p) ++ spec.ports_declared first (ports_at sys p))) }
+        text.new.items ≡ text.old.items ++ (spec.closed (depth + 1 - length p) ++ spec.opened (spec.own_name p) ++ spec.ports_declared (first_signal sys instance) (ports_at sys p))) }
 {
     system.facts();
     let height = system.route(instance).len();
@@ -55,6 +55,7 @@ pub fn put_instance(
     let ended = depth.saturating_sub(outside);
     put_closed(text, ended)?;
     put_opened(text, own_name(system, instance))?;
+    let first = firsts[instance as usize];
     put_ports(text, first, system.ports(instance))?;
     Ok(height)
 }
@@ -74,7 +75,7 @@ fn put_instances(
     let mut depth = 0;
     for index in 0..system.count() {
         if system.resource(index as u32) == resource {
-            let height = put_instance(text, system, firsts[index], depth, index as u32)?;
+            let height = put_instance(text, system, firsts, depth, index as u32)?;
             depth = height;
         }
     }

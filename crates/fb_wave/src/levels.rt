@@ -1,8 +1,6 @@
 //! What signals show after the lines that were read.
 
 ghost use Rattle.std.specs.Prelude.{◌≡◌, ◌<◌, ℕ, ◌+◌, ◌^◌, List, ◌++◌, [], ◌∷◌, All, OnOk, length};
-ghost use Rattle.fb_wave.specs.Levels as spec;
-ghost use Rattle.fb_wave.specs.Levels.{AreLevels};
 
 use fb_types::Value;
 use std::alloc::{AllocError, Global};
@@ -32,21 +30,28 @@ pub struct Levels {
     pub cells: Vec<Cell>,
     /// The numbers of the marked ones.
     pub marked: Vec<usize>,
+    pub ghost within: { All (λ s. s < length cells.items) marked.items },
 }
 
-/// What is shown after one more event.
-fn after_event(shown: Level) -> Level
-    ensures { result ≡ spec.after_event shown }
-{
-    match shown {
-        Level::Count(count) => Level::Count(count.wrapping_add(1)),
-        shown => shown,
+impl Level {
+    ghost use Rattle.fb_wave.specs.Levels as spec;
+
+    /// What is shown after one more event.
+    fn after_event(self) -> Level
+        ensures { result ≡ spec.after_event self }
+    {
+        match self {
+            Level::Count(count) => Level::Count(count.wrapping_add(1)),
+            shown => shown,
+        }
     }
 }
 
 impl Levels {
+    ghost use Rattle.fb_wave.specs.Levels.{AreLevels};
+
     /// No signals.
-    pub fn new(alloc: Global) -> Levels
+    pub(crate) fn new(alloc: Global) -> Levels
         ensures { AreLevels 0 [] [] [] result }
     {
         Levels {
@@ -56,7 +61,7 @@ impl Levels {
     }
 
     /// The count of signals.
-    pub fn count(&self) -> usize
+    pub(crate) fn count(&self) -> usize
         ensures counted { result ≡ length self.now.cells.items }
         ensures fits { result < 2 ^ 64 }
     {
@@ -64,7 +69,7 @@ impl Levels {
     }
 
     /// Adds this count of signals that no line has yet.
-    pub fn add(&mut self, count: usize) -> Result<(), AllocError>
+    pub(crate) fn add(&mut self, count: usize) -> Result<(), AllocError>
         ensures { (n : ℕ) → AreLevels n [] [] [] self.old → OnOk result (AreLevels (n + count) [] [] [] self.new) }
     {
         let mut left = count;
@@ -80,10 +85,8 @@ impl Levels {
 
     /// Marks a signal of a line of this tick.
     fn mark(&mut self, signal: usize) -> Result<(), AllocError>
-        requires signal { signal < length self.old.cells.items }
-        requires within { All (λ s. s < length self.old.cells.items) self.old.marked.items }
+        requires { signal < length self.old.cells.items }
         ensures counted { length self.new.cells.items ≡ length self.old.cells.items }
-        ensures within { All (λ s. s < length self.new.cells.items) self.new.marked.items }
         ensures levels { (n : ℕ) (fires : List ℕ) (sets : List (ℕ × Value)) (touches : List ℕ) → AreLevels n fires sets touches self.old
             → OnOk result (AreLevels n fires sets (touches ++ signal ∷ []) self.new) }
     {
@@ -96,25 +99,21 @@ impl Levels {
     }
 
     /// Counts an event of a port.
-    pub fn fire(&mut self, signal: usize) -> Result<(), AllocError>
-        requires signal { signal < length self.old.cells.items }
-        requires within { All (λ s. s < length self.old.cells.items) self.old.marked.items }
+    pub(crate) fn fire(&mut self, signal: usize) -> Result<(), AllocError>
+        requires { signal < length self.old.cells.items }
         ensures counted { length self.new.cells.items ≡ length self.old.cells.items }
-        ensures within { All (λ s. s < length self.new.cells.items) self.new.marked.items }
         ensures levels { (n : ℕ) (fires : List ℕ) (sets : List (ℕ × Value)) (touches : List ℕ) → AreLevels n fires sets touches self.old
             → OnOk result (AreLevels n (fires ++ signal ∷ []) sets (touches ++ signal ∷ []) self.new) }
     {
-        let shown = after_event(self.cells[signal].shown);
+        let shown = self.cells[signal].shown.after_event();
         self.cells[signal].shown = shown;
         self.mark(signal)
     }
 
     /// Gives a variable its last value.
-    pub fn show(&mut self, signal: usize, value: Value) -> Result<(), AllocError>
-        requires signal { signal < length self.old.cells.items }
-        requires within { All (λ s. s < length self.old.cells.items) self.old.marked.items }
+    pub(crate) fn show(&mut self, signal: usize, value: Value) -> Result<(), AllocError>
+        requires { signal < length self.old.cells.items }
         ensures counted { length self.new.cells.items ≡ length self.old.cells.items }
-        ensures within { All (λ s. s < length self.new.cells.items) self.new.marked.items }
         ensures levels { (n : ℕ) (fires : List ℕ) (sets : List (ℕ × Value)) (touches : List ℕ) → AreLevels n fires sets touches self.old
             → OnOk result (AreLevels n fires (sets ++ (signal, value) ∷ []) (touches ++ signal ∷ []) self.new) }
     {

@@ -13,7 +13,7 @@
 //! `page`, where text waits. Then how lines are read: `names`, which texts are names; `words`, the words of a line; `number`
 //! and `values`, the meaning of words; `ports`, the event ports of a system; `table`, which finds a port by its text;
 //! `line`; `last`. Then how they are shown: `levels` and `change`, what signals show and how changes are written; `scopes`,
-//! `declared`, `begun` and `signals`, the parts of the head; `digits`; `firsts` and `head`; `dump`.
+//! `declared`, `begun` and `signals`, the parts of the head; `digits`; `system_signals` and `head`; `dump`.
 #![tactic(auto)]
 
 mod begun;
@@ -24,7 +24,6 @@ mod declared;
 pub mod digits;
 pub mod dump;
 pub mod error;
-pub mod firsts;
 pub mod head;
 pub mod last;
 pub mod levels;
@@ -35,6 +34,7 @@ mod page;
 pub mod ports;
 pub mod scopes;
 mod signals;
+pub mod system_signals;
 pub mod table;
 pub mod truncation;
 pub mod values;

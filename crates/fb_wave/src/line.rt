@@ -7,7 +7,6 @@ ghost use Rattle.fb_types.specs.Text.{key_text};
 ghost use Rattle.fb_wave.specs.Lines.{AreInRange, AreNoValuesOf, AreValuesOf, HasNoHead, IsHead, IsNoTextOf, IsTextOf};
 ghost use Rattle.fb_wave.specs.Named.{HasNames};
 ghost use Rattle.fb_wave.specs.Ports.{IsPortOf};
-ghost use Rattle.fb_wave.specs.Tables.{IsTable};
 
 use crate::number::{number, tick};
 use crate::ports::{Port, holder_of};
@@ -93,7 +92,6 @@ pub fn read_line(
     form: Form,
     text: &[u8],
 ) -> Result<Option<Line>, AllocError>
-    requires { IsTable table.now }
     ensures line { IfOk result (λ o. IfSome o (λ l. IsTextOf (system_of table.now.system.now) form l text.now)) }
     ensures none { HasNames (system_of table.now.system.now) → IfOk result (λ o. IfNone o (IsNoTextOf (system_of table.now.system.now) form text.now)) }
 {

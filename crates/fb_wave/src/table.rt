@@ -1,13 +1,14 @@
 //! Finds the ports of a system by their text in lines.
 
 ghost use Rattle.std.specs.Prelude.{◌≡◌, ◌≤◌, ℕ, List, ◌++◌, All, Contains, IfNone, IfOk, IfSome, MatchOption, Some, slice_get, length, map};
-ghost use Rattle.fb_types.specs.Headline.{system_of};
+ghost use Rattle.fb_types.specs.Headline.{AreAccepted, system_of};
+ghost use Rattle.fb_types.specs.Limits.{IsWithinLimits};
 ghost use Rattle.fb_types.specs.Repeated.{Twice};
-ghost use Rattle.fb_check_names.specs.Indexes.{names_in};
+ghost use Rattle.fb_check_names.specs.Indexes.{IsIndex, names_in};
 ghost use Rattle.fb_wave.specs.Ports as spec;
 ghost use Rattle.fb_wave.specs.Named.{HasNames};
 ghost use Rattle.fb_wave.specs.Ports.{BeginsWith, HasNoPort, IsPortOf};
-ghost use Rattle.fb_wave.specs.Tables.{IsTable};
+ghost use Rattle.fb_wave.specs.declared.ports.Port as declared;
 ghost use Rattle.fb_wave.specs.Words.{HasNoThree, HasThree, is_ended};
 
 use crate::ports::{Port, port_text};
@@ -25,6 +26,13 @@ pub struct PortTable<'a> {
     ports: &'a [Port],
     texts: &'a [Name],
     indexes: Indexes<'a>,
+    // The ports are those of the system. Each has its text, and the map has the indexes of the texts.
+    ghost accepted: { AreAccepted system.now },
+    ghost limits: { IsWithinLimits system.now.plan },
+    ghost ports_are: { All (IsPortOf (system_of system.now)) ports.now },
+    ghost all: { (p : declared.Port) → IsPortOf (system_of system.now) p → ∥ Contains ports.now p ∥₁ },
+    ghost texts_are: { texts.now ≡ map (spec.port_text (system_of system.now)) ports.now },
+    ghost index: { IsIndex (map (spec.port_text (system_of system.now)) ports.now) indexes },
 }
 
 /// A guess of the port of the next line: the port that came last after the port of this line. A wrong guess only costs
@@ -118,7 +126,7 @@ impl<'a> PortTable<'a> {
         requires ports { All (IsPortOf (system_of system.now)) ports.now }
         requires all { (p : Port) → IsPortOf (system_of system.now) p → Contains ports.now p }
         requires texts { texts.now ≡ map (spec.port_text (system_of system.now)) ports.now }
-        ensures table { IfOk result (λ o. IfSome o (λ t. IsTable t × (t.system.now ≡ system.now))) }
+        ensures system { IfOk result (λ o. IfSome o (λ t. t.system.now ≡ system.now)) }
         ensures alike { IfOk result (λ o. IfNone o (Twice texts.now)) }
     {
         system.facts();
@@ -136,7 +144,6 @@ impl<'a> PortTable<'a> {
 
     /// The port at an index, if a text begins with its text, and what comes after it.
     fn at<'b>(&self, index: usize, text: &'b [u8]) -> Option<(Port, &'b [u8])>
-        requires { IsTable self.now }
         ensures found { IfSome result (λ p. BeginsWith (system_of self.now.system.now) text.now p.0 p.1.now) }
         ensures none { IfNone result ((p : Port) (rest : List ℕ) → slice_get self.now.ports.now index ≡ Some p
             → BeginsWith (system_of self.now.system.now) text.now p rest → ⊥) }
@@ -153,7 +160,6 @@ impl<'a> PortTable<'a> {
     /// The port whose text is the beginning of a text, and what comes after it. Its index is guessed, and looked up if the
     /// guess is wrong.
     pub fn find<'b>(&self, guess: &mut Guess, text: &'b [u8]) -> Option<(Port, &'b [u8])>
-        requires { IsTable self.now }
         ensures found { IfSome result (λ p. BeginsWith (system_of self.now.system.now) text.now p.0 p.1.now) }
         ensures none { HasNames (system_of self.now.system.now) → IfNone result (HasNoPort (system_of self.now.system.now) text.now) }
     {

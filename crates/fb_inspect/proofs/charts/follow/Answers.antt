@@ -6,6 +6,9 @@ use Rattle.fb_inspect.specs.Chains.{ShowsChain}
 use Rattle.fb_inspect.specs.Charting.{HasLinked, place}
 use Rattle.fb_inspect.specs.declared.charts.Linked.{Linked}
 use Rattle.fb_inspect.proofs.Charted.{step_ends, step_none, step_then}
+use Rattle.fb_inspect.specs.Refusals.{ChartFails}
+use Rattle.fb_inspect.proofs.ChartFailing.{fails_after}
+use Rattle.fb_inspect.proofs.Refused.{err_passed}
 use Rattle.fb_inspect.proofs.charts.follow.Goals as goal
 
 pub loop-reason-init : goal.loop-reason-init
@@ -66,3 +69,18 @@ loop-reason-preserved g c =
           (g.R.Read.remaining c.args.input.now) middle after c.loop-reason.invariant.came
           (subst (λ (h : Linked). HasLinked x present m q c.loop-reason.trail c.link.new.trail middle after h) c.in-Went.is c.in_ok-link.ensures.linked);
     }
+
+pub returns-in_err-link-clause-refused : goal.returns-in_err-link-clause-refused
+returns-in_err-link-clause-refused g c = λ names plain.
+    let x = c.args.taking.now in
+    let t = x.block.now in
+    let whole = ShowsChain t (Some (event_at t.ports.event_inputs x.line.now.event)) in
+    let present = option_map (event_at t.ports.event_inputs) c.loop-reason.present in
+    let p : Position = place t c.args.chart.now c.args.meter.now.left in
+    let m : Position = place t c.loop-reason.chart c.loop-reason.meter.left in
+    let left = g.R.Read.remaining c.args.input.now in
+    let middle = g.R.Read.remaining c.loop-reason.input in
+    let after = g.R.Read.remaining c.link.new.input in
+    err_passed _ _ (λ n. ChartFails x (ShowsChain t present) m c.loop-reason.trail.reading c.link.new.trail.reading middle after n)
+    (λ n. ChartFails x whole p c.args.trail.now.reading c.link.new.trail.reading left after n) c.from_residual.ensures.1 (c.in_err-link.ensures.refused names plain)
+    (λ n fails. fails_after x whole (ShowsChain t present) p m c.args.trail.now c.loop-reason.trail c.link.new.trail.reading left middle after n c.loop-reason.invariant.came fails)

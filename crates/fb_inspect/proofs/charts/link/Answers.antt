@@ -9,7 +9,7 @@ use Rattle.fb_coverage.specs.Sets.{with_cleared}
 use Rattle.fb_ecc.specs.Indexes.{state_at}
 use Rattle.fb_ecc.specs.Steps.{IsFirst, clearing_index, trial_by}
 use Rattle.fb_ecc.specs.Trials.{transition_at}
-use Rattle.fb_inspect.specs.Chains.{Acting, Clears_by}
+use Rattle.fb_inspect.specs.Chains.{Acting, Clears_by, ShowsChain}
 use Rattle.fb_inspect.specs.Charting.{ChartGoes, place}
 use Rattle.fb_inspect.specs.Markings.{PieceMarks}
 use Rattle.fb_inspect.specs.Moves.{shown_text}
@@ -20,6 +20,10 @@ use Rattle.fb_inspect.proofs.Charted.{link_failed, link_rested, link_stopped, li
 use Rattle.fb_inspect.proofs.Marked.{first_like, state_entered}
 use Rattle.fb_inspect.proofs.Moving.{aside}
 use Rattle.fb_inspect.proofs.Placed.{entered_at, lost_any, marks_any, moved_at}
+use Rattle.fb_inspect.specs.Refusals.{ChartFails}
+use Rattle.fb_inspect.specs.declared.reading.Reading.{Reading}
+use Rattle.fb_inspect.proofs.ChartFailing.{link_fails}
+use Rattle.fb_inspect.proofs.Refused.{err_passed}
 use Rattle.fb_inspect.proofs.charts.link.Goals as goal
 
 pub returns-in-Err-clause-linked : goal.returns-in-Err-clause-linked
@@ -49,7 +53,7 @@ returns-in_ok-note_lost-in-Ok-None-clause-linked g c =
     let stays = subst (λ (o : Option ℕ). IfNone o (now.state ≡ was.state)) c.in-Ok-None.field-0-is c.in-Ok-None.ensures.stays in
     let tried = subst (λ (o : Option ℕ). trial_at t (option_map f c.args.present) p ≡ trial_by t (Ok o) c.clear.new.meter.left) c.in-Ok-None.field-0-is c.in-Ok-None.ensures.trial in
     let at = moved_at t was.state now.state was.frame now.frame c.args.meter.now.left c.clear.new.meter.left stays c.in-Ok-None.ensures.frame in
-    link_rested x (option_map f c.args.present) c.clear.new.meter.left p (place t cleared c.clear.new.meter.left) trail noted (g.R.Read.remaining c.args.input.now) tried at refl (aside trail noted refl refl refl)
+    link_rested x (option_map f c.args.present) c.clear.new.meter.left p (place t cleared c.clear.new.meter.left) trail noted (g.R.Read.remaining c.args.input.now) tried at refl (aside trail noted refl refl refl refl)
     (c.mark_lost.ensures ∙ marks_any c.args.present f trail.marks.charts) refl
     (c.in_ok-note_lost-in-Ok-None.ensures
     ∙ ap (λ (n : Name). old ++ shown_text trail.is_shown (lost_if c.args.present n)) (c.state_name-state.ensures ∙ ap (state_at t) stays)
@@ -81,7 +85,7 @@ returns-in-Some-clause-linked g c =
     let mark : PieceMarks t x.number x.line.now.event (Clears_by y) trail.marks.charts noted.marks.charts =
     (c.in-Ok-Some.index, like, c.mark_cleared.ensures ∙ ap (λ (s : ℕ). with_cleared x.number c.in-Ok-Some.index s x.line.now.event trail.marks.charts) (sym target)) in
     let at = entered_at t was.state now.state was.frame now.frame c.args.meter.now.left c.clear.new.meter.left y.to entered c.in-Ok-Some.ensures.frame in
-    link_stopped x present y y.to c.clear.new.meter.left c.in-Some.reason p m q trail noted c.perform_all.new.trail left after tried first (aside trail noted refl refl refl) mark refl c.in_ok-note_cleared-in-Ok-Some.ensures at
+    link_stopped x present y y.to c.clear.new.meter.left c.in-Some.reason p m q trail noted c.perform_all.new.trail left after tried first (aside trail noted refl refl refl refl) mark refl c.in_ok-note_cleared-in-Ok-Some.ensures at
     (subst (λ (n : Name). ChartGoes x (Acting t (actions_of t n)) m (Some c.in-Some.reason) q noted c.perform_all.new.trail left after) entered
     (subst (λ (o : Option Reason). ChartGoes x (Acting t (actions_of t (state_at t now.state))) m o q noted c.perform_all.new.trail left after) c.in-Some.is
     c.in_ok-reason-in-Ok-Some.ensures.shown))
@@ -112,7 +116,31 @@ returns-in-None-clause-linked g c =
     let mark : PieceMarks t x.number x.line.now.event (Clears_by y) trail.marks.charts noted.marks.charts =
     (c.in-Ok-Some.index, like, c.mark_cleared.ensures ∙ ap (λ (s : ℕ). with_cleared x.number c.in-Ok-Some.index s x.line.now.event trail.marks.charts) (sym target)) in
     let at = entered_at t was.state now.state was.frame now.frame c.args.meter.now.left c.clear.new.meter.left y.to entered c.in-Ok-Some.ensures.frame in
-    link_went x present y y.to c.clear.new.meter.left p m q trail noted c.perform_all.new.trail left after tried first (aside trail noted refl refl refl) mark refl c.in_ok-note_cleared-in-Ok-Some.ensures at refl
+    link_went x present y y.to c.clear.new.meter.left p m q trail noted c.perform_all.new.trail left after tried first (aside trail noted refl refl refl refl) mark refl c.in_ok-note_cleared-in-Ok-Some.ensures at refl
     (subst (λ (n : Name). ChartGoes x (Acting t (actions_of t n)) m None q noted c.perform_all.new.trail left after) entered
     (subst (λ (o : Option Reason). ChartGoes x (Acting t (actions_of t (state_at t now.state))) m o q noted c.perform_all.new.trail left after) c.in-None.is
     c.in_ok-reason-in-Ok-Some.ensures.shown))
+
+pub returns-in_err-reason-in-Ok-Some-clause-refused : goal.returns-in_err-reason-in-Ok-Some-clause-refused
+returns-in_err-reason-in-Ok-Some-clause-refused g c = λ names plain.
+    let x = c.args.taking.now in
+    let t = x.block.now in
+    let was = c.args.chart.now.state in
+    let now = c.clear.new.state in
+    let trail : Trail = c.args.trail.now in
+    let present = option_map (event_at t.ports.event_inputs) c.args.present in
+    let p : Position = place t c.args.chart.now c.args.meter.now.left in
+    let cleared : Chart = record (c.args.chart.now) { state = now } in
+    let y = transition_at t c.in-Ok-Some.index in
+    let m : Position = place t cleared c.clear.new.meter.left in
+    let new : Reading = c.perform_all.new.trail.reading in
+    let left = g.R.Read.remaining c.args.input.now in
+    let after = g.R.Read.remaining c.perform_all.new.input in
+    let tried = subst (λ (o : Option ℕ). trial_at t present p ≡ trial_by t (Ok o) c.clear.new.meter.left) c.in-Ok-Some.field-0-is c.in-Ok-Some.ensures.trial in
+    let first = subst (λ (o : Option ℕ). IfSome o (IsFirst t (state_at t was.state) present (values_of was.frame))) c.in-Ok-Some.field-0-is c.in-Ok-Some.ensures.first in
+    let entered = subst (λ (o : Option ℕ). IfSome o (λ k. state_at t now.state ≡ (transition_at t k).to)) c.in-Ok-Some.field-0-is c.in-Ok-Some.ensures.entered in
+    let at = entered_at t was.state now.state was.frame now.frame c.args.meter.now.left c.clear.new.meter.left y.to entered c.in-Ok-Some.ensures.frame in
+    err_passed _ _ (λ n. ChartFails x (Acting t (actions_of t (state_at t now.state))) m trail.reading new left after n)
+    (λ n. ChartFails x (ShowsChain t present) p trail.reading new left after n) c.from_residual-in_err-reason-in-Ok-Some.ensures.1 (c.in_err-reason-in-Ok-Some.ensures.refused names plain)
+    (λ n fails. link_fails x present y y.to c.clear.new.meter.left p m trail.reading new left after n tried first at
+    (subst (λ (s : Name). ChartFails x (Acting t (actions_of t s)) m trail.reading new left after n) entered fails))

@@ -2,16 +2,21 @@ use Rattle.std.proofs.Common.{◌++◌, ℕ, List, [], ◌∷◌, length, map, O
 use Rattle.std.proofs.lemmas.List.{length-map}
 use Rattle.fb_types.specs.Charts.{Acts, Position}
 use Rattle.fb_types.specs.Names.{Name}
+use Rattle.fb_types.specs.Numbers.{emission_of, path_at, ports_at}
 use Rattle.fb_types.specs.declared.run.Emission as run
 use Rattle.fb_st.specs.Frames.{values_of}
 use Rattle.fb_ecc.specs.Indexes.{index}
-use Rattle.fb_inspect.specs.Charting.{place}
+use Rattle.fb_inspect.specs.Charting.{place, sys_of}
 use Rattle.fb_inspect.specs.Moves.{shown_text}
 use Rattle.fb_inspect.specs.Notes.{ran_by_action}
 use Rattle.fb_inspect.specs.Markings.{with_ran_by}
 use Rattle.fb_inspect.specs.declared.trail.Trail.{Trail}
 use Rattle.fb_inspect.proofs.Charted.{act_goes}
 use Rattle.fb_inspect.proofs.Moving.{aside}
+use Rattle.fb_inspect.specs.Chains.{Acting}
+use Rattle.fb_inspect.specs.Refusals.{ChartFails, EmitsFail, IsPlainLine}
+use Rattle.fb_inspect.proofs.ChartFailing.{act_fails, emitted_fails, fit_chart}
+use Rattle.fb_inspect.proofs.Refused.{err_passed, none_passed}
 use Rattle.fb_inspect.proofs.charts.perform.Goals as goal
 
 pub note_ran-requires : goal.note_ran-requires
@@ -37,6 +42,30 @@ returns-clause-shown g c = λ a at.
     ∙ ap (λ (ns : List Name). c.args.trail.now.page.text.items ++ shown_text c.args.trail.now.is_shown (ran_by_action a.algorithm left before after ns)) c.requires.chart.own in
     let trail : Trail = c.args.trail.now in
     let marked : Trail = record trail { page = record (trail.page) { text = c.note_ran.new.text }; marks = record (trail.marks) { charts = c.mark_algorithm.new.marks } } in
-    act_goes x t a p q c.acted.new.emits _ trail marked _ _ _ c.requires.taking.kind refl refl acts (aside trail marked refl refl refl)
+    act_goes x t a p q c.acted.new.emits _ trail marked _ _ _ c.requires.taking.kind refl refl acts (aside trail marked refl refl refl refl)
     (c.mark_algorithm.ensures ∙ ap (λ (n : Option Name). with_ran_by t x.number n left trail.marks.charts) (c.algorithm_of-algorithm.ensures a at))
     c.in_ok-emit_all.ensures.charts refl noted c.in_ok-emit_all.ensures.goes
+
+pub returns-in_err-emit_all-clause-refused : goal.returns-in_err-emit_all-clause-refused
+returns-in_err-emit_all-clause-refused g c = λ a others at names plain.
+    let x = c.args.taking.now in
+    let t = x.block.now in
+    let left : ℕ = c.args.meter.now.left in
+    let p : Position = place t c.args.chart.now left in
+    let es : List run.Emission = c.acted.new.emits in
+    let q : Position = index t c.acted.new.state.state c.acted.new.state.frame c.acted.new.meter.left es in
+    let acts = subst (λ (es : List run.Emission). Acts t (a ∷ []) left (index t c.args.chart.now.state.state c.args.chart.now.state.frame left es) c.in_ok-end.end q) c.new-emits.ensures
+    (c.in_ok-end.ensures.acted a at) in
+    let before = g.R.Read.remaining c.args.input.now in
+    let after = g.R.Read.remaining c.emit_all.new.input in
+    let own : IsPlainLine (sys_of x) x.fixed.form x.line.now = record { names = names; line = c.requires.taking.line; plain = plain } in
+    err_passed _ _
+    (λ n. EmitsFail (sys_of x) x.fixed.form x.line.now (map (emission_of (ports_at (sys_of x) (path_at (sys_of x) x.line.now.instance))) es) c.args.trail.now.reading c.emit_all.new.self.reading before after n)
+    (λ n. ChartFails x (Acting t (a ∷ others)) p c.args.trail.now.reading c.emit_all.new.self.reading before after n) c.from_residual-in_err-emit_all.ensures.1
+    (c.in_err-emit_all.ensures.refused own (fit_chart x t es c.requires.taking.kind (c.in_ok-end.ensures.fit c.new-emits.ensures)))
+    (λ n fails. act_fails x t a others p q c.in_ok-end.end c.args.trail.now.reading c.emit_all.new.self.reading before after n refl acts
+    (emitted_fails x t es c.args.trail.now.reading c.emit_all.new.self.reading before after n c.requires.taking.kind fails))
+
+pub returns-in_err-end-clause-refused : goal.returns-in_err-end-clause-refused
+returns-in_err-end-clause-refused g c = λ a others at names plain.
+    none_passed _ _ _ c.from_residual-in_err-end.ensures.1 c.in_err-end.ensures.fault

@@ -1,4 +1,4 @@
-use Rattle.std.proofs.Common.{◌≡◌, ◌<◌, ℕ, List, [], ◌∷◌, length, Option, Some, refl, subst, ◌∙◌, sym, arith}
+use Rattle.std.proofs.Common.{◌≡◌, ◌<◌, ℕ, List, [], ◌∷◌, ◌+◌, drop, length, Option, Some, refl, subst, ◌∙◌, sym, arith}
 use Rattle.std.specs.Prelude.{slice_get}
 use Rattle.fb_types.specs.Charts.{actions_of, Position}
 use Rattle.fb_types.specs.declared.library.Action.{Action}
@@ -8,6 +8,9 @@ use Rattle.fb_ecc.specs.Indexes.{state_at}
 use Rattle.fb_inspect.specs.Chains.{Acting}
 use Rattle.fb_inspect.specs.Charting.{ChartGoes, place}
 use Rattle.fb_inspect.proofs.Charted.{acts_done, acts_more, acts_stopped, step_none}
+use Rattle.fb_inspect.specs.Refusals.{ChartFails}
+use Rattle.fb_inspect.proofs.ChartFailing.{acts_fail}
+use Rattle.fb_inspect.proofs.Refused.{err_passed}
 use Rattle.fb_inspect.proofs.charts.perform_all.Goals as goal
 
 pub loop-action-init : goal.loop-action-init
@@ -77,3 +80,22 @@ returns-clause-shown g c =
     let counted = c.action_count-action-end.ensures t c.requires.taking.sound c.requires.chart.block in
     let past = c.loop-action-test.false in
     acts_done c.args.taking.now t all c.loop-action.action _ _ _ _ _ _ (omega (arith, counted, past)) refl c.loop-action.invariant.came
+
+pub returns-in_err-reason-clause-refused : goal.returns-in_err-reason-clause-refused
+returns-in_err-reason-clause-refused g c = λ names plain.
+    let x = c.args.taking.now in
+    let t = x.block.now in
+    let all : List Action = actions_of t (state_at t c.args.chart.now.state.state) in
+    let i : ℕ = c.loop-action.action in
+    let inv = c.loop-action.invariant in
+    let counted = c.action_count-action-end.ensures t c.requires.taking.sound c.requires.chart.block in
+    let one = element_at all i (subst (λ (n : ℕ). i < n) counted c.loop-action-test.true) in
+    let here = subst (λ (n : ℕ). slice_get (actions_of t (state_at t n)) i ≡ Some one.0) (sym inv.state) one.1 in
+    let p : Position = place t c.args.chart.now c.args.meter.now.left in
+    let m : Position = place t c.loop-action.chart c.loop-action.meter.left in
+    let left = g.R.Read.remaining c.args.input.now in
+    let middle = g.R.Read.remaining c.loop-action.input in
+    let after = g.R.Read.remaining c.perform.new.input in
+    err_passed _ _ (λ n. ChartFails x (Acting t (one.0 ∷ drop (i + 1) all)) m c.loop-action.trail.reading c.perform.new.trail.reading middle after n)
+    (λ n. ChartFails x (Acting t all) p c.args.trail.now.reading c.perform.new.trail.reading left after n) c.from_residual.ensures.1 (c.in_err-reason.ensures.refused one.0 (drop (i + 1) all) here names plain)
+    (λ n fails. acts_fail x t all i one.0 p m c.args.trail.now c.loop-action.trail c.perform.new.trail.reading left middle after n one.1 inv.came fails)

@@ -1,15 +1,35 @@
-use Rattle.std.proofs.Common.{refl}
+use Rattle.std.proofs.Common.{refl, rules, subst, sym}
 use Rattle.fb_types.specs.Headline.{system_of}
 use Rattle.fb_event.specs.Seen.{seen_memory}
 use Rattle.fb_inspect.proofs.Moving.{aside}
 use Rattle.fb_inspect.proofs.Timed.{timer_goes}
+use Rattle.fb_inspect.specs.Refusals.{IsNotDue, OfRefusal}
+use Rattle.fb_inspect.specs.declared.error.InspectError.{InspectError}
+use Rattle.fb_inspect.proofs.NotDue.{not_due}
+use Rattle.fb_inspect.proofs.Refused.{none_passed}
 use Rattle.fb_inspect.proofs.event_blocks.expire_block.Goals as goal
 
 pub returns-clause-turned : goal.returns-clause-turned
 returns-clause-turned g c = λ s kept.
     timer_goes (system_of c.args.fixed.now.table.now.system.now) c.args.block.now c.args.line.now c.requires.line s kept c.args.fixed.now.form c.expire_to.new.block
     (seen_memory c.seen_of-before.result.memory) (seen_memory c.seen_of-after.result.memory) c.seen_of-before.result.due c.seen_of-after.result.due c.args.trail.now c.pass.new.self _ _ _
-    (c.in_ok-expire_to.ensures c.if-not-branch.false)
+    (c.in_ok-expire_to.ensures.only c.if-not-branch.false)
     (record { memory_is = c.seen_of-before.ensures.memory; due_is = c.seen_of-before.ensures.due })
     (record { memory_is = c.seen_of-after.ensures.memory; due_is = c.seen_of-after.ensures.due })
-    c.in_ok-pass.ensures.goes (aside _ _ refl refl refl) refl c.in_ok-note_change.ensures
+    c.in_ok-pass.ensures.goes c.in_ok-pass.ensures.alone (aside _ _ refl refl refl refl) refl c.in_ok-note_change.ensures
+
+pub returns-then-not-branch-clause-refused : goal.returns-then-not-branch-clause-refused
+returns-then-not-branch-clause-refused g c = λ s kept names plain.
+    let sys = system_of c.args.fixed.now.table.now.system.now in
+    subst (λ (e : InspectError). OfRefusal (λ n. IsNotDue sys c.args.block.now.state.kind s c.args.line.now c.args.trail.now.reading c.refusal.new.self.reading n) e) (sym c.refusal.ensures.refused)
+    (record {
+      same = c.refusal.ensures.reading;
+      number_is = refl;
+      other = not_due c.args.fixed.now.table.now c.args.block.now c.args.line.now c.requires.line names s kept (c.in_ok-expire_to.ensures.other (search rules));
+    })
+
+pub returns-in_err-expire_to-clause-refused : goal.returns-in_err-expire_to-clause-refused
+returns-in_err-expire_to-clause-refused g c = λ s kept names plain. none_passed _ _ _ c.from_residual.ensures.1 c.in_err-expire_to.ensures.fault
+
+pub returns-in_err-pass-clause-refused : goal.returns-in_err-pass-clause-refused
+returns-in_err-pass-clause-refused g c = λ s kept names plain. none_passed _ _ _ c.from_residual-in_err-pass.ensures.1 c.in_err-pass.ensures.fault

@@ -7,7 +7,14 @@ use Rattle.fb_wave.proofs.Handing.{on_ok}
 use Rattle.fb_inspect.specs.Timing.{HasReacted, inputs_after}
 use Rattle.fb_inspect.specs.declared.trail.Trail.{Trail}
 use Rattle.fb_inspect.proofs.Moving.{aside}
-use Rattle.fb_inspect.proofs.Timed.{block_goes, fits_after}
+use Rattle.fb_inspect.proofs.Timed.{block_goes, emitted_as, fits_after}
+use Rattle.fb_types.specs.Blocks.{Emission, Event}
+use Rattle.fb_types.specs.Numbers.{path_at, ports_at}
+use Rattle.fb_types.specs.declared.run.Emission as run
+use Rattle.fb_net.proofs.Sampling.{ports-of_kind}
+use Rattle.fb_inspect.specs.Refusals.{EmitsFail, IsPlainLine}
+use Rattle.fb_inspect.proofs.NotDue.{fit_block}
+use Rattle.fb_inspect.proofs.Refused.{err_refused, none_passed}
 use Rattle.fb_inspect.proofs.event_blocks.react_block.Goals as goal
 
 pub answer-requires-clause-typed : goal.answer-requires-clause-typed
@@ -24,7 +31,7 @@ returns-clause-turned g c = λ s kept.
     let trail : Trail = c.args.trail.now in
     let noted : Trail = record trail { page = record (trail.page) { text = c.note_change.new.text } } in
     let sampled_is = c.in_ok-sample.ensures ∙ ap (inputs_after b.inputs) c.as_slice.ensures in
-    let has = subst (λ (vs : List Value). HasReacted (reaction_to b.state l.event l.key.tick vs) b.due (record b { inputs = vs }) c.answer.new.block c.answer.new.emits) sampled_is c.in_ok-answer.ensures in
+    let has = subst (λ (vs : List Value). HasReacted (reaction_to b.state l.event l.key.tick vs) b.due (record b { inputs = vs }) c.answer.new.block c.answer.new.emits) sampled_is c.in_ok-answer.ensures.reacted in
     let before = c.seen_of-before in
     let after = c.seen_of-after in
     on_ok c.emit_all.result _ _ c.emit_all.ensures.goes
@@ -34,4 +41,24 @@ returns-clause-turned g c = λ s kept.
     (g.R.Read.remaining c.args.input.now) (g.R.Read.remaining c.emit_all.new.input) has
     (record { memory_is = before.ensures.memory; due_is = before.ensures.due })
     (record { memory_is = after.ensures.memory; due_is = after.ensures.due })
-    (aside trail noted refl refl refl) refl c.in_ok-note_change.ensures goes)
+    (aside trail noted refl refl refl refl) refl c.in_ok-note_change.ensures goes)
+
+pub returns-clause-refused : goal.returns-clause-refused
+returns-clause-refused g c = λ s kept names plain.
+    let sys = system_of c.args.fixed.now.table.now.system.now in
+    let form = c.args.fixed.now.form in
+    let b = c.args.block.now in
+    let l = c.args.line.now in
+    let sampled_is = c.in_ok-sample.ensures ∙ ap (inputs_after b.inputs) c.as_slice.ensures in
+    let has = subst (λ (vs : List Value). HasReacted (reaction_to b.state l.event l.key.tick vs) b.due (record b { inputs = vs }) c.answer.new.block c.answer.new.emits) sampled_is c.in_ok-answer.ensures.reacted in
+    let es : List run.Emission = c.answer.new.emits in
+    let own : IsPlainLine sys form l = record { names = names; line = c.requires.line.line; plain = plain } in
+    let fit = fit_block b.state.kind (ports_at sys (path_at sys l.instance)) es (ports-of_kind sys (path_at sys l.instance) (Event b.state.kind) c.requires.line.kind) c.in_ok-answer.ensures.fit in
+    let left = g.R.Read.remaining c.args.input.now in
+    let after = g.R.Read.remaining c.emit_all.new.input in
+    err_refused c.emit_all.result _ _ (c.emit_all.ensures.refused own fit)
+    (λ n fails. subst (λ (xs : List Emission). EmitsFail sys form l xs c.args.trail.now.reading c.emit_all.new.self.reading left after n)
+    (emitted_as sys b l c.requires.line c.requires.taken s kept c.answer.new.block es has) fails)
+
+pub returns-in_err-answer-clause-refused : goal.returns-in_err-answer-clause-refused
+returns-in_err-answer-clause-refused g c = λ s kept names plain. none_passed _ _ _ c.from_residual-in_err-answer.ensures.1 c.in_err-answer.ensures.fault

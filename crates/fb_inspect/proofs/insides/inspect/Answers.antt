@@ -1,9 +1,12 @@
 use Rattle.std.proofs.Common.{subst}
-use Rattle.std.specs.Prelude.{IfSome, OnErr, OnOk}
+use Rattle.std.specs.Prelude.{IfErr, IfSome, OnErr, OnOk, ◌≤◌}
 use Rattle.fb_types.specs.Headline.{Inputs, system_of}
 use Rattle.fb_inspect.specs.Inspections.{IsShownBy, ShowsFront}
 use Rattle.fb_inspect.proofs.Ended.{front_none}
 use Rattle.fb_inspect.proofs.Placed.{err_any, of_table}
+use Rattle.fb_wave.specs.Named.{HasNames}
+use Rattle.fb_inspect.specs.Looks.{most}
+use Rattle.fb_inspect.specs.Refusals.{IsWrongAt, OfRefusal}
 use Rattle.fb_inspect.proofs.insides.inspect.Goals as goal
 
 pub returns-then-not-have_paths-clause-fault : goal.returns-then-not-have_paths-clause-fault
@@ -31,7 +34,7 @@ returns-clause-whole g c =
     let old = g.W.Write.contents c.args.out.now in
     let new = g.W.Write.contents c.inspect_with.new.out in
     subst (λ (s : Inputs). OnOk c.inspect_with.result (IfSome (g.R.Read.remaining c.args.input.now) (λ text. IsShownBy x.terms.cut (system_of s) x.only.now x.terms.steps text old new)))
-    (of_table _ c.in-Some.table c.args.system.now c.in-Some.is c.in_ok-table.ensures.table) c.inspect_with.ensures.whole
+    (of_table _ c.in-Some.table c.args.system.now c.in-Some.is c.in_ok-table.ensures.system) c.inspect_with.ensures.whole
 
 pub returns-clause-fault : goal.returns-clause-fault
 returns-clause-fault g c =
@@ -39,4 +42,11 @@ returns-clause-fault g c =
     let old = g.W.Write.contents c.args.out.now in
     let new = g.W.Write.contents c.inspect_with.new.out in
     subst (λ (s : Inputs). OnErr c.inspect_with.result (ShowsFront (system_of s) x.only.now x.terms.steps old new))
-    (of_table _ c.in-Some.table c.args.system.now c.in-Some.is c.in_ok-table.ensures.table) c.inspect_with.ensures.fault
+    (of_table _ c.in-Some.table c.args.system.now c.in-Some.is c.in_ok-table.ensures.system) c.inspect_with.ensures.fault
+
+pub returns-clause-refused : goal.returns-clause-refused
+returns-clause-refused g c =
+    let x = c.args.inspection in
+    subst
+    (λ (s : Inputs). HasNames (system_of s) → x.terms.steps ≤ most → IfErr c.inspect_with.result (OfRefusal (λ n. IfSome (g.R.Read.remaining c.args.input.now) (IsWrongAt (system_of s) x.terms.steps n))))
+    (of_table _ c.in-Some.table c.args.system.now c.in-Some.is c.in_ok-table.ensures.system) c.inspect_with.ensures.refused

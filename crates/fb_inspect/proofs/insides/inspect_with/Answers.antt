@@ -6,6 +6,13 @@ use Rattle.fb_wave.proofs.Handing.{on_ok}
 use Rattle.fb_inspect.specs.declared.reading.Reading.{Reading}
 use Rattle.fb_inspect.proofs.Ended.{front_none, severed_none, severed_part, severed_shown, shown_cut, starts_of}
 use Rattle.fb_inspect.proofs.Placed.{err_any, err_then}
+use Rattle.std.proofs.lemmas.Result.{err_from_is_err_and}
+use Rattle.fb_wave.proofs.Forming.{ShowsForm}
+use Rattle.fb_inspect.specs.Refusals.{IsWrongAt}
+use Rattle.fb_inspect.specs.Standing.{BeginsText}
+use Rattle.fb_inspect.proofs.Going.{text_begins}
+use Rattle.fb_inspect.proofs.Errors.{of_known, read_refuses}
+use Rattle.fb_inspect.proofs.Refused.{none_refused}
 use Rattle.fb_inspect.proofs.insides.inspect_with.Goals as goal
 
 pub returns-in_err-next_line-clause-fault : goal.returns-in_err-next_line-clause-fault
@@ -59,14 +66,14 @@ pub go-gone-requires-clause-starts : goal.go-gone-requires-clause-starts
 go-gone-requires-clause-starts g c =
     let sys = system_of c.args.table.now.system.now in (
       c.args.inspection.only.now,
-      starts_of sys _ c.args.inspection.only.now _ c.in_ok-reading.reading c.in_ok-walk.walk c.in_ok-walk.ensures c.in_ok-reading.ensures.next,
+      starts_of sys _ c.args.inspection.only.now _ c.in_ok-reading.reading c.in_ok-walk.walk c.in_ok-walk.ensures c.in_ok-reading.ensures.next c.in_ok-reading.ensures.number,
     )
 
 pub returns-clause-whole : goal.returns-clause-whole
 returns-clause-whole g c =
     let sys = system_of c.args.table.now.system.now in
     let only = c.args.inspection.only.now in
-    let starts = starts_of sys _ only _ c.in_ok-reading.reading c.in_ok-walk.walk c.in_ok-walk.ensures c.in_ok-reading.ensures.next in
+    let starts = starts_of sys _ only _ c.in_ok-reading.reading c.in_ok-walk.walk c.in_ok-walk.ensures c.in_ok-reading.ensures.next c.in_ok-reading.ensures.number in
     c.in_ok-gone.ensures.whole only (g.R.Read.remaining c.args.input.now) starts
     (subst (Consumes (g.R.Read.remaining c.args.input.now) (g.R.Read.remaining c.next_line.new.input))
     (sym (ap (λ (r : Reading). r.line.items) c.in_ok-walk.ensures.reading_is ∙ c.in_ok-reading.ensures.line)) c.in_ok-next_line.ensures.read)
@@ -76,4 +83,25 @@ returns-in_err-gone-clause-fault g c =
     let sys = system_of c.args.table.now.system.now in
     let only = c.args.inspection.only.now in
     err_any c.from_residual-in_err-gone.result _
-    (c.in_err-gone.ensures.fault only (starts_of sys _ only _ c.in_ok-reading.reading c.in_ok-walk.walk c.in_ok-walk.ensures c.in_ok-reading.ensures.next))
+    (c.in_err-gone.ensures.fault only (starts_of sys _ only _ c.in_ok-reading.reading c.in_ok-walk.walk c.in_ok-walk.ensures c.in_ok-reading.ensures.next c.in_ok-reading.ensures.number))
+
+pub returns-in_err-next_line-clause-refused : goal.returns-in_err-next_line-clause-refused
+returns-in_err-next_line-clause-refused g c = λ names few.
+    let q = err_from_is_err_and c.from_residual.result c.from_residual.ensures.1 in
+    rw q.1 (none_refused _ _ (read_refuses c.in_err-next_line.field-0.0 _ c.in_err-next_line.ensures.fault q.2))
+
+pub returns-in_err-gone-clause-refused : goal.returns-in_err-gone-clause-refused
+returns-in_err-gone-clause-refused g c = λ names few.
+    let sys = system_of c.args.table.now.system.now in
+    let only = c.args.inspection.only.now in
+    let steps = c.args.inspection.terms.steps in
+    let starts = starts_of sys _ only _ c.in_ok-reading.reading c.in_ok-walk.walk c.in_ok-walk.ensures c.in_ok-reading.ensures.next c.in_ok-reading.ensures.number in
+    let line_is : c.next_line.new.line.items ≡ c.in_ok-walk.walk.trail.reading.line.items = sym (ap (λ (r : Reading). r.line.items) c.in_ok-walk.ensures.reading_is ∙ c.in_ok-reading.ensures.line) in
+    let q = err_from_is_err_and c.from_residual-in_err-gone.result c.from_residual-in_err-gone.ensures.1 in
+    rw (q.1, q.2)
+    (of_known (g.R.Read.remaining c.args.input.now) (λ n. IsWrongAt sys steps n) c.in_err-gone.field-0.0
+    (λ text known.
+    let begins = text_begins sys c.form_of-form.result c.next_line.new.line.items c.in_ok-ahead.ahead.watched.is_excess text (g.R.Read.remaining c.args.input.now) (g.R.Read.remaining c.next_line.new.input) names known
+    c.in_ok-next_line.ensures.read c.in_ok-next_line.ensures.line (subst (λ (u : List ℕ). ShowsForm c.form_of-form.result u) c.as_slice-2.ensures.value c.form_of-form.ensures) c.in_ok-ahead.ensures.watched in
+    c.in_err-gone.ensures.refused only begins.0 text few names starts begins.1
+    (subst (λ (u : List ℕ). BeginsText sys c.form_of-form.result u c.in_ok-ahead.ahead.watched.is_excess begins.0 text) line_is begins.2)))

@@ -17,7 +17,7 @@ loop-index-preserved c =
     let within : p < length from.marked.items = omega (arith, c.len-index-end.ensures, from.marked.ok.0, c.loop-index-test.true) in
     let at : s ≡ get_or from.marked.items p s = c.index-signal.ensures ∙ ap (λ (l : List ℕ). get_or l p s) turned.marked in
     turned_more c.args.text.now.items c.loop-index.text.items c.put_change.new.text.items from to _ p s c.index.result.now c.index_mut.result.now turned within at
-    (subst (λ (k : ℕ). k < length from.cells.items) (sym at) (c.requires p s within)) c.index.ensures c.in_ok-put_change.ensures
+    (subst (λ (k : ℕ). k < length from.cells.items) (sym at) (from.within p s within)) c.index.ensures c.in_ok-put_change.ensures
     (ap (λ (x : Cell). set to.cells.items s (record { shown = x.shown; is_marked = false })) c.index_mut.ensures.value) refl
 
 pub returns-clause-text : goal.returns-clause-text
@@ -25,7 +25,7 @@ returns-clause-text c n f t u are =
     let from = c.args.levels.now in
     let past : length from.marked.items ≤ c.loop-index.index = omega (arith, c.len-index-end.ensures, from.marked.ok.0, c.loop-index-test.false) in
     let none : Cell = record { shown = Count 0; is_marked = false } in
-    turned_text n f t u c.args.text.now.items c.loop-index.text.items from c.loop-index.levels c.loop-index.index none are c.requires c.loop-index.invariant past
+    turned_text n f t u c.args.text.now.items c.loop-index.text.items from c.loop-index.levels c.loop-index.index none are from.within c.loop-index.invariant past
 
 pub returns-clause-levels : goal.returns-clause-levels
 returns-clause-levels c n f t u are =

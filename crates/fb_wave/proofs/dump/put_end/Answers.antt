@@ -16,9 +16,9 @@ returns-in_ok-put_time-in-Stop c =
     let mid = c.put_time-in-Stop.new.text.items in
     let new = c.put_stop.new.text.items in
     let time : List ℕ = time_text c.args.shown m.tick in
-    let stop : List ℕ = stop_comment c.resource_name-resource.result.now m.reason in
+    let stop : List ℕ = stop_comment c.name_of.result.now m.reason in
     on_ok c.put_stop.result (new ≡ mid ++ stop) (new ≡ old ++ end_text sys c.args.shown (ending_of c.args.end)) c.put_stop.ensures
     (λ e.
     e ∙ ap (λ (t : List ℕ). t ++ stop) c.in_ok-put_time-in-Stop.ensures ∙ append_assoc old time stop
-    ∙ ap (λ (n : Name). old ++ (time ++ stop_comment n m.reason)) c.resource_name-resource.ensures
+    ∙ ap (λ (n : Name). old ++ (time ++ stop_comment n m.reason)) c.name_of.ensures
     ∙ ap (λ (x : Outcome). old ++ end_text sys c.args.shown (ending_of x)) (sym c.in-Stop.is))

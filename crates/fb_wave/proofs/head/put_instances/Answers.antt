@@ -1,18 +1,10 @@
 use Rattle.std.proofs.Common.{◌<◌, ℕ, ◌+◌, ◌++◌, drop, length, sym, ap, ◌∙◌, arith}
 use Rattle.fb_types.specs.Headline.{system_of}
-use Rattle.fb_types.specs.Numbers.{path_at}
 use Rattle.fb_wave.specs.Scopes.{instances_declared}
 use Rattle.fb_wave.specs.Signals.{first_signal}
-use Rattle.fb_wave.proofs.Heading.{declared_on, declared_past, instance_declared}
-use Rattle.fb_wave.proofs.Numbering.{signals_fit}
+use Rattle.fb_wave.proofs.Heading.{declared_on, declared_past}
 use Rattle.fb_wave.proofs.head.put_instances.Goals as goal
 use Rattle.fb_wave.proofs.head.put_instances.Goals.{then-resource+in_ok-height, else-resource}
-
-pub put_instance-requires-clause-first : goal.put_instance-requires-clause-first
-put_instance-requires-clause-first c =
-    let sys = system_of c.args.system.now in
-    let within : c.loop-index.index < length sys.paths = omega arith in
-    signals_fit sys c.args.firsts.now c.loop-index.index within c.requires
 
 pub loop-index-preserved : goal.loop-index-preserved
 loop-index-preserved c =
@@ -21,14 +13,13 @@ loop-index-preserved c =
     let r = c.args.resource in
     let depth = c.loop-index.depth in
     let text = c.loop-index.text.items in
-    let p = path_at sys i in
     let within : i < length sys.paths = omega arith in
     elim c.if-resource.branch [
       | then-resource+in_ok-height w ↦
           rw (w.text-is, w.depth-is)
           (ap (λ (k : ℕ). w.put_instance.new.text.items ++ instances_declared sys r k (first_signal sys (i + 1)) (drop (i + 1) sys.paths)) w.in_ok-height.ensures.height
           ∙ declared_on sys r depth i text w.put_instance.new.text.items _ within (sym c.resource.ensures ∙ w.if-resource.true)
-          (w.in_ok-height.ensures.text ∙ ap (λ (s : ℕ). text ++ instance_declared sys depth s p) (c.requires.each i (omega (arith, within))))
+          w.in_ok-height.ensures.text
           c.loop-index.invariant)
       | else-resource w ↦
           rw (w.text-is, w.depth-is)

@@ -35,6 +35,6 @@ returns-in_default-2-clause-none c names =
     let sys = system_of c.args.table.now.system.now in
     let port = c.in-Some-find.found.0 in
     let rest = c.in-Some-find.found.1.now in
-    valueless c.args.table.now c.requires names c.args.form c.args.text.now c.in-Some.head.1.now c.in-Some-tick.tick.1.now rest c.in-Some.head.0 c.in-Some-tick.tick.0 port
+    valueless c.args.table.now names c.args.form c.args.text.now c.in-Some.head.1.now c.in-Some-tick.tick.1.now rest c.in-Some.head.0 c.in-Some-tick.tick.0 port
     c.in-Some.ensures.head c.in-Some.ensures.range c.in-Some-tick.ensures.tick c.in-Some-tick.ensures.range c.in-Some-find.ensures.found
-    (subst (λ (o : Option (List Value)). IfNone o (AreNoValuesOf sys port rest)) c.in_default-2.is (c.in_ok-values.ensures.none c.requires.accepted))
+    (subst (λ (o : Option (List Value)). IfNone o (AreNoValuesOf sys port rest)) c.in_default-2.is (c.in_ok-values.ensures.none c.args.table.now.accepted))

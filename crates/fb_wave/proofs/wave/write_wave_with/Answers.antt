@@ -5,7 +5,6 @@ use Rattle.fb_types.specs.Names.{Name}
 use Rattle.fb_types.specs.Repeated.{Twice}
 use Rattle.fb_wave.specs.Ports.{port_text}
 use Rattle.fb_wave.specs.Writing.{HasShown, IsDump}
-use Rattle.fb_wave.specs.Tables.{IsTable}
 use Rattle.fb_wave.specs.declared.error.WaveError.TheVariants.{Names}
 use Rattle.fb_wave.specs.declared.table.PortTable.{PortTable}
 use Rattle.fb_wave.specs.Named.{HasNames}
@@ -17,8 +16,8 @@ use Rattle.fb_wave.proofs.Handing.{on_passed}
 use Rattle.fb_wave.specs.CurrentLines.{IsRefusedLine}
 use Rattle.fb_wave.proofs.wave.write_wave_with.Goals as goal
 
-of_table : (o : Option PortTable) (t : PortTable) (s : Inputs) → o ≡ Some t → IfSome o (λ t. IsTable t × (t.system.now ≡ s)) → t.system.now ≡ s
-of_table o t s is are = (subst (λ (o : Option PortTable). IfSome o (λ t. IsTable t × (t.system.now ≡ s))) is are).1
+of_table : (o : Option PortTable) (t : PortTable) (s : Inputs) → o ≡ Some t → IfSome o (λ t. t.system.now ≡ s) → t.system.now ≡ s
+of_table o t s is are = subst (λ (o : Option PortTable). IfSome o (λ t. t.system.now ≡ s)) is are
 
 -- after the test of the names
 names_so : {P : Type 0} (b : Bool) → b ≡ true → (IsTrue b → P) → P
@@ -26,11 +25,11 @@ names_so b is so = so is
 
 pub copy-written-requires-clause-dump : goal.copy-written-requires-clause-dump
 copy-written-requires-clause-dump g c =
-    subst (λ (s : Inputs). IsDump (system_of s) c.in_ok-dump.dump) (sym (of_table _ c.in-Some.table c.args.system.now c.in-Some.is c.in_ok-table.ensures.table)) c.in_ok-dump.ensures.numbers
+    subst (λ (s : Inputs). IsDump (system_of s) c.in_ok-dump.dump) (sym (of_table _ c.in-Some.table c.args.system.now c.in-Some.is c.in_ok-table.ensures.system)) c.in_ok-dump.ensures.numbers
 
 pub copy-written-requires-clause-shown : goal.copy-written-requires-clause-shown
 copy-written-requires-clause-shown g c =
-    subst (λ (s : Inputs). HasShown (system_of s) [] c.begin.new.text.items c.in_ok-dump.dump) (sym (of_table _ c.in-Some.table c.args.system.now c.in-Some.is c.in_ok-table.ensures.table))
+    subst (λ (s : Inputs). HasShown (system_of s) [] c.begin.new.text.items c.in_ok-dump.dump) (sym (of_table _ c.in-Some.table c.args.system.now c.in-Some.is c.in_ok-table.ensures.system))
     (c.in_ok-dump.ensures.shown c.new-page.ensures.empty)
 
 pub returns-clause-whole : goal.returns-clause-whole
@@ -39,13 +38,13 @@ returns-clause-whole g c =
     (λ (s : Inputs).
     OnOk c.copy-written.result
     (IfSome (g.R.Read.remaining c.args.input.now) (λ text. IsShown c.args.cut (system_of s) text (g.W.Write.contents c.args.out.now) (g.W.Write.contents c.copy-written.new.out))))
-    (of_table _ c.in-Some.table c.args.system.now c.in-Some.is c.in_ok-table.ensures.table) c.copy-written.ensures.whole
+    (of_table _ c.in-Some.table c.args.system.now c.in-Some.is c.in_ok-table.ensures.system) c.copy-written.ensures.whole
 
 pub returns-clause-part : goal.returns-clause-part
 returns-clause-part g c =
     subst
     (λ (s : Inputs). IfErr c.copy-written.result (FailsShown c.args.cut (system_of s) (g.W.Write.contents c.args.out.now) (g.W.Write.contents c.copy-written.new.out)))
-    (of_table _ c.in-Some.table c.args.system.now c.in-Some.is c.in_ok-table.ensures.table) c.copy-written.ensures.part
+    (of_table _ c.in-Some.table c.args.system.now c.in-Some.is c.in_ok-table.ensures.system) c.copy-written.ensures.part
 
 pub returns-in_err-ports-clause-part : goal.returns-in_err-ports-clause-part
 returns-in_err-ports-clause-part g c = on_passed _ _ _ c.from_residual.ensures.1 (fails_in c.args.cut (system_of c.args.system.now) _ _ _ (front_none _ _))
@@ -73,7 +72,7 @@ returns-clause-refused g c =
     subst
     (λ (s : Inputs).
     HasNames (system_of s) → IfErr c.copy-written.result (BlamesShown c.args.cut (system_of s) (g.R.Read.remaining c.args.input.now)))
-    (of_table _ c.in-Some.table c.args.system.now c.in-Some.is c.in_ok-table.ensures.table) c.copy-written.ensures.refused
+    (of_table _ c.in-Some.table c.args.system.now c.in-Some.is c.in_ok-table.ensures.system) c.copy-written.ensures.refused
     (names_so c.has_names.result c.if-not-has_names.false c.has_names.ensures.named)
 
 pub returns-in_err-ports-clause-refused : goal.returns-in_err-ports-clause-refused
@@ -105,7 +104,7 @@ returns-clause-current g c =
     subst
     (λ (s : Inputs).
     HasNames (system_of s) → IfErr c.copy-written.result (IsRefusedLine (system_of s) (g.R.Read.remaining c.args.input.now) (record c.copy-written.new.current { tick = c.copy-written.new.self.tick })))
-    (of_table _ c.in-Some.table c.args.system.now c.in-Some.is c.in_ok-table.ensures.table) c.copy-written.ensures.current
+    (of_table _ c.in-Some.table c.args.system.now c.in-Some.is c.in_ok-table.ensures.system) c.copy-written.ensures.current
     (names_so c.has_names.result c.if-not-has_names.false c.has_names.ensures.named)
 
 pub returns-in_err-ports-clause-current : goal.returns-in_err-ports-clause-current

@@ -1,4 +1,4 @@
-use Rattle.std.proofs.Common.{List, ℕ, Option, subst, sym}
+use Rattle.std.proofs.Common.{List, ℕ, ◌<◌, ◌+◌, length, inl, Option, subst, sym}
 use Rattle.std.specs.Prelude.{IfSome}
 use Rattle.fb_types.specs.Headline.{system_of}
 use Rattle.fb_coverage.specs.declared.marks.Marks.{Marks}
@@ -13,36 +13,47 @@ use Rattle.fb_inspect.proofs.Gone.{covered_none, flushed_on}
 use Rattle.fb_inspect.proofs.Placed.{err_any}
 use Rattle.fb_inspect.proofs.Severing.{on_some}
 use Rattle.fb_inspect.proofs.Stepped.{none_ahead}
+use Rattle.std.proofs.Common.{◌≡◌, Ok, Some}
+use Rattle.std.specs.Io.KnownBytes.{Consumes}
+use Rattle.std.proofs.lemmas.Result.{err_from_is_err_and}
+use Rattle.fb_inspect.specs.Refusals.{IsWrongAt, IsWrongLine}
+use Rattle.fb_inspect.specs.Standing.{GoesAfter}
+use Rattle.fb_inspect.proofs.Going.{after_last, cut_short_none, well_first, well_flushed}
+use Rattle.fb_inspect.proofs.Refused.{none_refused, refused_then}
 use Rattle.fb_inspect.proofs.walk.Walk.go.Goals as goal
 
 pub loop-init : goal.loop-init
-loop-init g c = λ only known starts read.
-    let fixed = c.args.fixed.now in
-    let types = fixed.table.now.system.now.library.blocks in
-    let sys = system_of fixed.table.now.system.now in
-    let w = c.args.self.now in
-    let o = g.R.Read.remaining c.args.input.now in
-    let out = g.W.Write.contents c.args.out.now in
-    subst (λ (p : Option (List ℕ)). HasCovered types w.trail.marks sys fixed.form only c.args.terms.steps w known p out out) (sym (none_ahead c.args.ahead.now.text.items o c.requires.empty))
-    (covered_none sys fixed.form only c.args.terms.steps types w known o out starts read)
+loop-init g c = (
+  λ only known starts read.
+      let fixed = c.args.fixed.now in
+      let types = fixed.table.now.system.now.library.blocks in
+      let sys = system_of fixed.table.now.system.now in
+      let w = c.args.self.now in
+      let o = g.R.Read.remaining c.args.input.now in
+      let out = g.W.Write.contents c.args.out.now in
+      subst (λ (p : Option (List ℕ)). HasCovered types w.trail.marks sys fixed.form only c.args.terms.steps w known p out out) (sym (none_ahead c.args.ahead.now.text.items o c.requires.empty))
+      (covered_none sys fixed.form only c.args.terms.steps types w known o out starts read),
+  λ only rest text few names starts known begins.
+      (rest, known, well_first (system_of c.args.fixed.now.table.now.system.now) c.args.fixed.now.form only c.args.terms.steps c.args.self.now c.args.ahead.now rest text starts c.requires.empty begins),
+)
 
 pub step-requires-clause-look : goal.step-requires-clause-look
 step-requires-clause-look g c =
     let known = some_text (g.R.Read.remaining c.args.input.now) c.args.self.now.trail.reading.line.items in
-    let covered = c.loop.invariant c.requires.starts.0 known.0 c.requires.starts.1 known.1 in
+    let covered = c.loop.invariant.0 c.requires.starts.0 known.0 c.requires.starts.1 known.1 in
     (last_look (opening_look (system_of c.args.fixed.now.table.now.system.now)) covered.gone.turns, covered.gone.look)
 
 pub step-requires-clause-next : goal.step-requires-clause-next
 step-requires-clause-next g c =
     let known = some_text (g.R.Read.remaining c.args.input.now) c.args.self.now.trail.reading.line.items in
-    let covered = c.loop.invariant c.requires.starts.0 known.0 c.requires.starts.1 known.1 in
+    let covered = c.loop.invariant.0 c.requires.starts.0 known.0 c.requires.starts.1 known.1 in
     (last_tick 0 covered.gone.gone.lines, covered.gone.next)
 
 pub returns-in_err-step-clause-fault : goal.returns-in_err-step-clause-fault
 returns-in_err-step-clause-fault g c = λ only starts.
     let fixed = c.args.fixed.now in
     let known = some_text (g.R.Read.remaining c.args.input.now) c.args.self.now.trail.reading.line.items in
-    let covered = c.loop.invariant only known.0 starts known.1 in
+    let covered = c.loop.invariant.0 only known.0 starts known.1 in
     err_any c.from_residual.result _
     (front_gone (system_of fixed.table.now.system.now) fixed.form only c.args.terms.steps c.loop.self covered.gone.turns known.0 (unread c.loop.ahead (g.R.Read.remaining c.loop.input))
     (g.W.Write.contents c.args.out.now) (g.W.Write.contents c.loop.out) covered.gone.gone)
@@ -60,24 +71,33 @@ returns-in_err-flush_much-in-Taken-clause-fault g c = λ only starts.
     let r = unread c.step.new.ahead (g.R.Read.remaining c.step.new.input) in
     let known = some_text (g.R.Read.remaining c.args.input.now) c.args.self.now.trail.reading.line.items in
     let next = subst (λ (s : Step). HasAdvanced types first sys fixed.form only steps c.step.new.self known.0 r old mid s) c.in-Taken.is
-    (c.in_ok-step.ensures.goes first only known.0 old mid (c.loop.invariant only known.0 starts known.1)) in
+    (c.in_ok-step.ensures.goes first only known.0 old mid (c.loop.invariant.0 only known.0 starts known.1)) in
     err_any c.from_residual-in_err-flush_much-in-Taken.result _
     (front_flush sys fixed.form only steps c.step.new.self next.gone.turns known.0 r old mid (g.W.Write.contents c.flush_much.new.out) c.in_err-flush_much-in-Taken.field-0.0 next.gone.gone
     c.in_err-flush_much-in-Taken.ensures.part)
 
 pub loop-preserved : goal.loop-preserved
-loop-preserved g c = λ only known starts read.
-    let fixed = c.args.fixed.now in
-    let types = fixed.table.now.system.now.library.blocks in
-    let sys = system_of fixed.table.now.system.now in
-    let first = c.args.self.now.trail.marks in
-    let steps = c.args.terms.steps in
-    let old = g.W.Write.contents c.args.out.now in
-    let mid = g.W.Write.contents c.loop.out in
-    let r = unread c.step.new.ahead (g.R.Read.remaining c.step.new.input) in
-    let next = subst (λ (s : Step). HasAdvanced types first sys fixed.form only steps c.step.new.self known r old mid s) c.in-Taken.is
-    (c.in_ok-step.ensures.goes first only known old mid (c.loop.invariant only known starts read)) in
-    flushed_on sys fixed.form only steps types first c.step.new.self c.flush_much.new.self known r old mid (g.W.Write.contents c.flush_much.new.out) next c.in_ok-flush_much-in-Taken.ensures.whole
+loop-preserved g c = (
+  λ only known starts read.
+      let fixed = c.args.fixed.now in
+      let types = fixed.table.now.system.now.library.blocks in
+      let sys = system_of fixed.table.now.system.now in
+      let first = c.args.self.now.trail.marks in
+      let steps = c.args.terms.steps in
+      let old = g.W.Write.contents c.args.out.now in
+      let mid = g.W.Write.contents c.loop.out in
+      let r = unread c.step.new.ahead (g.R.Read.remaining c.step.new.input) in
+      let next = subst (λ (s : Step). HasAdvanced types first sys fixed.form only steps c.step.new.self known r old mid s) c.in-Taken.is
+      (c.in_ok-step.ensures.goes first only known old mid (c.loop.invariant.0 only known starts read)) in
+      flushed_on sys fixed.form only steps types first c.step.new.self c.flush_much.new.self known r old mid (g.W.Write.contents c.flush_much.new.out) next c.in_ok-flush_much-in-Taken.ensures.whole,
+  λ only rest text few names starts known begins.
+      let fixed = c.args.fixed.now in
+      let sys = system_of fixed.table.now.system.now in
+      let before = c.loop.invariant.1 only rest text few names starts known begins in
+      let after = subst (λ (s : Step). GoesAfter sys fixed.form c.args.terms.steps c.step.new.self c.step.new.ahead (g.R.Read.remaining c.step.new.input) text (Ok s)) c.in-Taken.is
+      (c.in_ok-step.ensures.stands before.0 text few names before.1 before.2) in
+      (after.0, after.1, well_flushed sys fixed.form c.args.terms.steps c.step.new.self c.flush_much.new.self c.step.new.ahead after.0 text after.2),
+)
 
 pub returns-in_err-finish-in-Ended-clause-fault : goal.returns-in_err-finish-in-Ended-clause-fault
 returns-in_err-finish-in-Ended-clause-fault g c = λ only starts.
@@ -90,7 +110,7 @@ returns-in_err-finish-in-Ended-clause-fault g c = λ only starts.
     let r = unread c.step.new.ahead (g.R.Read.remaining c.step.new.input) in
     let known = some_text (g.R.Read.remaining c.args.input.now) c.args.self.now.trail.reading.line.items in
     let next = subst (λ (s : Step). HasAdvanced i.library.blocks first (system_of i) fixed.form only steps c.step.new.self known.0 r old mid s) c.in-Ended.is
-    (c.in_ok-step.ensures.goes first only known.0 old mid (c.loop.invariant only known.0 starts known.1)) in
+    (c.in_ok-step.ensures.goes first only known.0 old mid (c.loop.invariant.0 only known.0 starts known.1)) in
     err_any c.from_residual-in_err-finish-in-Ended.result _
     (complete_part i fixed.form only steps first c.step.new.self c.in-Ended.field-0 known.0 r old mid next (g.W.Write.contents c.finish.new.out) c.in_err-finish-in-Ended.ensures.fault)
 
@@ -105,7 +125,7 @@ returns-in-Ended-clause-whole g c = λ only known starts read.
     let new = g.W.Write.contents c.finish.new.out in
     let r = unread c.step.new.ahead (g.R.Read.remaining c.step.new.input) in
     let next = subst (λ (s : Step). HasAdvanced i.library.blocks first (system_of i) fixed.form only steps c.step.new.self known r old mid s) c.in-Ended.is
-    (c.in_ok-step.ensures.goes first only known old mid (c.loop.invariant only known starts read)) in
+    (c.in_ok-step.ensures.goes first only known old mid (c.loop.invariant.0 only known starts read)) in
     shown_whole c.args.terms.cut (system_of i) only steps known old new
     (complete_shown i fixed.form only steps first c.step.new.self c.in-Ended.field-0 known r old mid next new c.in_ok-finish-in-Ended.ensures.finishes)
 
@@ -119,7 +139,7 @@ returns-in-Ended-clause-covered g c = λ only known starts read.
     let mid = g.W.Write.contents c.loop.out in
     let r = unread c.step.new.ahead (g.R.Read.remaining c.step.new.input) in
     let next = subst (λ (s : Step). HasAdvanced i.library.blocks first (system_of i) fixed.form only steps c.step.new.self known r old mid s) c.in-Ended.is
-    (c.in_ok-step.ensures.goes first only known old mid (c.loop.invariant only known starts read)) in
+    (c.in_ok-step.ensures.goes first only known old mid (c.loop.invariant.0 only known starts read)) in
     subst (λ (m : Marks). IfSome known (λ text. IsCovered i only steps text first m)) (sym c.finish.ensures.marks)
     (complete_covered i fixed.form only steps first c.step.new.self c.in-Ended.field-0 known r old mid next c.in_ok-finish-in-Ended.ensures.finishes.over)
 
@@ -135,7 +155,7 @@ returns-in_err-finish_cut-in-CutOff-clause-fault g c = λ only starts.
     let r = unread c.step.new.ahead (g.R.Read.remaining c.step.new.input) in
     let known = some_text (g.R.Read.remaining c.args.input.now) c.args.self.now.trail.reading.line.items in
     let next = subst (λ (s : Step). HasAdvanced i.library.blocks first (system_of i) fixed.form only steps c.step.new.self known.0 r old mid s) c.in-CutOff.is
-    (c.in_ok-step.ensures.goes first only known.0 old mid (c.loop.invariant only known.0 starts known.1)) in
+    (c.in_ok-step.ensures.goes first only known.0 old mid (c.loop.invariant.0 only known.0 starts known.1)) in
     err_any c.from_residual-in_err-finish_cut-in-CutOff.result _
     (severed_part i fixed.form only steps first c.step.new.self known.0 old mid next (g.W.Write.contents c.finish_cut.new.out) c.in_err-finish_cut-in-CutOff.ensures.fault)
 
@@ -150,7 +170,7 @@ returns-in-CutOff-clause-whole g c = λ only known starts read.
     let new = g.W.Write.contents c.finish_cut.new.out in
     let r = unread c.step.new.ahead (g.R.Read.remaining c.step.new.input) in
     let next = subst (λ (s : Step). HasAdvanced i.library.blocks first (system_of i) fixed.form only steps c.step.new.self known r old mid s) c.in-CutOff.is
-    (c.in_ok-step.ensures.goes first only known old mid (c.loop.invariant only known starts read)) in
+    (c.in_ok-step.ensures.goes first only known old mid (c.loop.invariant.0 only known starts read)) in
     shown_cut c.args.terms.cut (system_of i) only steps known old new (c.in_ok-step.ensures.cut c.in-CutOff.is)
     (severed_shown i fixed.form only steps first c.step.new.self known old mid next new c.in_ok-finish_cut-in-CutOff.ensures.finishes)
 
@@ -164,7 +184,7 @@ returns-in-CutOff-clause-covered g c = λ only known starts read.
     let mid = g.W.Write.contents c.loop.out in
     let r = unread c.step.new.ahead (g.R.Read.remaining c.step.new.input) in
     let next = subst (λ (s : Step). HasAdvanced i.library.blocks first (system_of i) fixed.form only steps c.step.new.self known r old mid s) c.in-CutOff.is
-    (c.in_ok-step.ensures.goes first only known old mid (c.loop.invariant only known starts read)) in
+    (c.in_ok-step.ensures.goes first only known old mid (c.loop.invariant.0 only known starts read)) in
     let allowed = c.in_ok-step.ensures.cut c.in-CutOff.is in
     let covered = subst (λ (m : Marks). IfSome known (λ text. IsCutCovered i only text first m)) (sym c.finish_cut.ensures.marks)
     (severed_covered i fixed.form only steps first c.step.new.self known old mid next) in
@@ -174,6 +194,46 @@ pub returns-clause-fault : goal.returns-clause-fault
 returns-clause-fault g c = λ only starts.
     let fixed = c.args.fixed.now in
     let known = some_text (g.R.Read.remaining c.args.input.now) c.args.self.now.trail.reading.line.items in
-    let covered = c.loop.invariant only known.0 starts known.1 in
+    let covered = c.loop.invariant.0 only known.0 starts known.1 in
     front_gone (system_of fixed.table.now.system.now) fixed.form only c.args.terms.steps c.loop.self covered.gone.turns known.0 (unread c.loop.ahead (g.R.Read.remaining c.loop.input))
     (g.W.Write.contents c.args.out.now) (g.W.Write.contents c.loop.out) covered.gone.gone
+
+pub returns-in_err-step-clause-refused : goal.returns-in_err-step-clause-refused
+returns-in_err-step-clause-refused g c = λ only rest text few names starts known begins.
+    let fixed = c.args.fixed.now in
+    let sys = system_of fixed.table.now.system.now in
+    let before = c.loop.invariant.1 only rest text few names starts known begins in
+    let q = err_from_is_err_and c.from_residual.result c.from_residual.ensures.1 in
+    rw (q.1, q.2)
+    (refused_then c.in_err-step.field-0.0 (λ n. IsWrongLine sys c.args.terms.steps n text) (λ n. IsWrongAt sys c.args.terms.steps n text) (c.in_err-step.ensures.stands before.0 text few names before.1 before.2) (λ n wrong. inl wrong))
+
+pub returns-in_err-flush_much-in-Taken-clause-refused :
+    goal.returns-in_err-flush_much-in-Taken-clause-refused
+returns-in_err-flush_much-in-Taken-clause-refused g c = λ only rest text few names starts known begins.
+    let q = err_from_is_err_and c.from_residual-in_err-flush_much-in-Taken.result c.from_residual-in_err-flush_much-in-Taken.ensures.1 in
+    rw (q.1, q.2) (none_refused _ _ (cut_short_none (g.W.Write.contents c.loop.out) (g.W.Write.contents c.flush_much.new.out) c.step.new.self.trail.page c.in_err-flush_much-in-Taken.field-0.0 c.in_err-flush_much-in-Taken.ensures.part))
+
+pub returns-in_err-finish-in-Ended-clause-refused :
+    goal.returns-in_err-finish-in-Ended-clause-refused
+returns-in_err-finish-in-Ended-clause-refused g c = λ only rest text few names starts known begins.
+    let fixed = c.args.fixed.now in
+    let i = fixed.table.now.system.now in
+    let sys = system_of i in
+    let first = c.args.self.now.trail.marks in
+    let steps = c.args.terms.steps in
+    let old = g.W.Write.contents c.args.out.now in
+    let mid = g.W.Write.contents c.loop.out in
+    let r = unread c.step.new.ahead (g.R.Read.remaining c.step.new.input) in
+    let read = subst (λ (o : Option (List ℕ)). Consumes (Some text) o c.args.self.now.trail.reading.line.items) (sym known) begins.is in
+    let next = subst (λ (s : Step). HasAdvanced i.library.blocks first sys fixed.form only steps c.step.new.self (Some text) r old mid s) c.in-Ended.is
+    (c.in_ok-step.ensures.goes first only (Some text) old mid (c.loop.invariant.0 only (Some text) starts read)) in
+    let q = err_from_is_err_and c.from_residual-in_err-finish-in-Ended.result c.from_residual-in_err-finish-in-Ended.ensures.1 in
+    rw (q.1, q.2)
+    (refused_then c.in_err-finish-in-Ended.field-0.0 (λ n. (n ≡ c.step.new.self.trail.reading.number + 1) × IfSome r (λ rest. 0 < length rest)) (λ n. IsWrongAt sys steps n text) c.in_err-finish-in-Ended.ensures.refused
+    (λ n over. after_last i.library.blocks first sys fixed.form only steps c.step.new.self c.in-Ended.field-0 text r old mid n next over.0 over.1))
+
+pub returns-in_err-finish_cut-in-CutOff-clause-refused :
+    goal.returns-in_err-finish_cut-in-CutOff-clause-refused
+returns-in_err-finish_cut-in-CutOff-clause-refused g c = λ only rest text few names starts known begins.
+    let q = err_from_is_err_and c.from_residual-in_err-finish_cut-in-CutOff.result c.from_residual-in_err-finish_cut-in-CutOff.ensures.1 in
+    rw (q.1, q.2) (none_refused _ _ c.in_err-finish_cut-in-CutOff.ensures.none)

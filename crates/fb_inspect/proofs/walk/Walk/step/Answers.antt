@@ -1,7 +1,7 @@
 use Rattle.std.proofs.Common.{inl, refl, subst, sym}
 use Rattle.fb_types.specs.Headline.{system_of}
 use Rattle.fb_inspect.specs.Inspections.{last_look}
-use Rattle.fb_inspect.specs.Lines.{IsNext}
+use Rattle.fb_inspect.specs.Lines.{IsNextLine}
 use Rattle.fb_inspect.specs.Looks.{opening_look}
 use Rattle.fb_inspect.specs.Stepping.{LineGoes}
 use Rattle.fb_inspect.specs.Walking.{HasAdvanced, unread}
@@ -10,6 +10,14 @@ use Rattle.fb_inspect.specs.declared.reading.Next.TheVariants as next
 use Rattle.fb_wave.specs.Dumps.{last_tick}
 use Rattle.fb_inspect.proofs.OneStep.{ended_whole, line_next, severed_next, step_over, taken_whole}
 use Rattle.fb_inspect.proofs.Stepped.{bad_on, complete_bad, ended_here}
+use Rattle.std.proofs.Common.{Ok}
+use Rattle.std.proofs.lemmas.Result.{err_from_is_err_and}
+use Rattle.fb_inspect.specs.Refusals.{IsWrongLine}
+use Rattle.fb_inspect.specs.Standing.{GoesAfter}
+use Rattle.fb_inspect.specs.declared.walk.Step.{Step}
+use Rattle.fb_inspect.proofs.Judging.{bad_line, event_at, wrong_end}
+use Rattle.fb_inspect.proofs.OneEnd.{names_apart}
+use Rattle.fb_inspect.proofs.Errors.{of_number}
 use Rattle.fb_inspect.proofs.walk.Walk.step.Goals as goal
 
 pub returns-in-CutOff-clause-goes : goal.returns-in-CutOff-clause-goes
@@ -17,7 +25,7 @@ returns-in-CutOff-clause-goes g c = λ first only known old new covered.
     let fixed = c.args.fixed.now in
     let types = fixed.table.now.system.now.library.blocks in
     let sys = system_of fixed.table.now.system.now in
-    let here = subst (λ (n : Next). IsNext sys fixed.form (last_tick 0 covered.gone.gone.lines) c.args.self.now.trail.reading.line.items n) (sym c.in-Event.ensures.value) covered.gone.next in
+    let here = subst (λ (n : Next). IsNextLine sys fixed.form (last_tick 0 covered.gone.gone.lines) c.args.self.now.trail.reading.line.items n) (sym c.in-Event.ensures.value) covered.gone.next in
     let past = bad_on types first sys fixed.form only c.args.terms.steps c.args.self.now c.replace.new.dest known (unread c.args.ahead.now (g.R.Read.remaining c.args.input.now)) old new
     c.replace.ensures.after covered c.in-Event.line.key.tick here.1 in
     severed_next types first sys fixed.form only c.step_on.new.self (next.Event c.in-Event.line) known old new
@@ -46,7 +54,7 @@ returns-in-Taken-clause-goes g c = λ first only known old new covered.
     let fixed = c.args.fixed.now in
     let types = fixed.table.now.system.now.library.blocks in
     let sys = system_of fixed.table.now.system.now in
-    let here = subst (λ (n : Next). IsNext sys fixed.form (last_tick 0 covered.gone.gone.lines) c.args.self.now.trail.reading.line.items n) (sym c.in-Event.ensures.value) covered.gone.next in
+    let here = subst (λ (n : Next). IsNextLine sys fixed.form (last_tick 0 covered.gone.gone.lines) c.args.self.now.trail.reading.line.items n) (sym c.in-Event.ensures.value) covered.gone.next in
     let past = bad_on types first sys fixed.form only c.args.terms.steps c.args.self.now c.replace.new.dest known (unread c.args.ahead.now (g.R.Read.remaining c.args.input.now)) old new
     c.replace.ensures.after covered c.in-Event.line.key.tick here.1 in
     subst (HasAdvanced types first sys fixed.form only c.args.terms.steps c.step_on.new.self known (unread c.step_on.new.ahead (g.R.Read.remaining c.step_on.new.input)) old new) c.in-Taken.is
@@ -69,7 +77,7 @@ returns-in-Ended-clause-goes g c = λ first only known old new covered.
     let fixed = c.args.fixed.now in
     let types = fixed.table.now.system.now.library.blocks in
     let sys = system_of fixed.table.now.system.now in
-    let here = subst (λ (n : Next). IsNext sys fixed.form (last_tick 0 covered.gone.gone.lines) c.args.self.now.trail.reading.line.items n) (sym c.in-Event.ensures.value) covered.gone.next in
+    let here = subst (λ (n : Next). IsNextLine sys fixed.form (last_tick 0 covered.gone.gone.lines) c.args.self.now.trail.reading.line.items n) (sym c.in-Event.ensures.value) covered.gone.next in
     let past = bad_on types first sys fixed.form only c.args.terms.steps c.args.self.now c.replace.new.dest known (unread c.args.ahead.now (g.R.Read.remaining c.args.input.now)) old new
     c.replace.ensures.after covered c.in-Event.line.key.tick here.1 in
     subst (HasAdvanced types first sys fixed.form only c.args.terms.steps c.step_on.new.self known (unread c.step_on.new.ahead (g.R.Read.remaining c.step_on.new.input)) old new) c.in-Ended.is
@@ -93,11 +101,45 @@ returns-in-End-clause-goes g c = λ first only known old new covered.
     let types = fixed.table.now.system.now.library.blocks in
     let sys = system_of fixed.table.now.system.now in
     let r = unread c.args.ahead.now (g.R.Read.remaining c.args.input.now) in
-    let here = subst (λ (n : Next). IsNext sys fixed.form (last_tick 0 covered.gone.gone.lines) c.args.self.now.trail.reading.line.items n) (sym c.in-End.ensures.value) covered.gone.next in
+    let here = subst (λ (n : Next). IsNextLine sys fixed.form (last_tick 0 covered.gone.gone.lines) c.args.self.now.trail.reading.line.items n) (sym c.in-End.ensures.value) covered.gone.next in
     complete_bad types first sys fixed.form only c.args.terms.steps c.args.self.now c.replace.new.dest c.in-End.end known r old new
     (ended_here types first sys fixed.form only c.args.terms.steps c.args.self.now known r old new covered c.in-End.end here
-    (c.may_end.ensures sys (last_look (opening_look sys) covered.gone.turns) covered.gone.look c.if-may_end.true))
+    (c.may_end.ensures.may sys (last_look (opening_look sys) covered.gone.turns) covered.gone.look c.if-may_end.true))
 
 pub returns-in-End-clause-turned : goal.returns-in-End-clause-turned
 returns-in-End-clause-turned g c = λ look is.
-    inl (record { is = c.in-End.ensures.value; may = c.may_end.ensures (system_of c.args.fixed.now.table.now.system.now) look is c.if-may_end.true; left = refl })
+    inl (record { is = c.in-End.ensures.value; may = c.may_end.ensures.may (system_of c.args.fixed.now.table.now.system.now) look is c.if-may_end.true; left = refl; number = refl })
+
+pub returns-in_err-step_on-in-Event-clause-stands : goal.returns-in_err-step_on-in-Event-clause-stands
+returns-in_err-step_on-in-Event-clause-stands g c = λ rest text few names known well.
+    let fixed = c.args.fixed.now in
+    let sys = system_of fixed.table.now.system.now in
+    let q = err_from_is_err_and c.from_residual.result c.from_residual.ensures.1 in
+    rw (q.1, q.2)
+    (c.in_err-step_on-in-Event.ensures.stands well.turns rest text few known
+    (event_at sys fixed.form well.turns c.args.self.now c.replace.new.dest c.args.ahead.now.text.items c.args.ahead.now.last.items rest text names c.facts.ensures.numbered (names_apart fixed.table.now.system.now c.facts.ensures.accepted)
+    well.on c.in-Event.line c.in-Event.ensures.value) well.watched)
+
+pub returns-in-Taken-clause-stands : goal.returns-in-Taken-clause-stands
+returns-in-Taken-clause-stands g c = λ rest text few names known well.
+    let fixed = c.args.fixed.now in
+    let sys = system_of fixed.table.now.system.now in
+    subst (λ (s : Step). GoesAfter sys fixed.form c.args.terms.steps c.step_on.new.self c.step_on.new.ahead (g.R.Read.remaining c.step_on.new.input) text (Ok s)) c.in-Taken.is
+    (c.in_ok-step_on-in-Event.ensures.stands well.turns rest text few known
+    (event_at sys fixed.form well.turns c.args.self.now c.replace.new.dest c.args.ahead.now.text.items c.args.ahead.now.last.items rest text names c.facts.ensures.numbered (names_apart fixed.table.now.system.now c.facts.ensures.accepted)
+    well.on c.in-Event.line c.in-Event.ensures.value) well.watched)
+
+pub returns-in-End-2-clause-stands : goal.returns-in-End-2-clause-stands
+returns-in-End-2-clause-stands g c = λ rest text few names known well.
+    let fixed = c.args.fixed.now in
+    let sys = system_of fixed.table.now.system.now in
+    let seen = last_look (opening_look sys) well.turns in
+    wrong_end sys fixed.form c.args.terms.steps c.args.self.now c.args.ahead.now rest text names well c.in-End.end c.in-End.ensures.value
+    (λ can may. c.may_end.ensures.other sys seen well.on.stands.look can c.if-may_end.false may) c.refusal_of_end.result c.refusal_of_end.ensures.back c.refusal_of_end.ensures.none c.refusal_of_end.ensures.other
+
+pub returns-in-Bad-clause-stands : goal.returns-in-Bad-clause-stands
+returns-in-Bad-clause-stands g c = λ rest text few names known well.
+    let fixed = c.args.fixed.now in
+    let sys = system_of fixed.table.now.system.now in
+    of_number (λ n. IsWrongLine sys c.args.terms.steps n text) c.refusal.result c.args.self.now.trail.reading.number c.refusal.ensures.refused
+    (bad_line sys fixed.form c.args.terms.steps c.args.self.now c.args.ahead.now rest text names well c.in-Bad.ensures.value)

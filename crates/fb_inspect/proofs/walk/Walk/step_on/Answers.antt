@@ -1,10 +1,17 @@
-use Rattle.std.proofs.Common.{List, ℕ, Option, subst, sym}
+use Rattle.std.proofs.Common.{List, ℕ, ◌<◌, Option, subst, sym}
 use Rattle.std.specs.Io.KnownBytes.{Consumes}
 use Rattle.fb_types.specs.Headline.{system_of}
 use Rattle.fb_inspect.specs.Walking.{AreCutOff, unread}
 use Rattle.fb_inspect.proofs.OneStep.{line_reread, ok_both}
 use Rattle.fb_inspect.proofs.Placed.{ok_then}
 use Rattle.fb_inspect.proofs.Stepped.{none_ahead, reread_on, severed_on}
+use Rattle.std.proofs.lemmas.Result.{err_from_is_err_and}
+use Rattle.fb_inspect.specs.Inspections.{last_look}
+use Rattle.fb_inspect.specs.Looks.{opening_look}
+use Rattle.fb_inspect.specs.Standing.{Watches}
+use Rattle.fb_inspect.specs.declared.ahead.EventLine.{EventLine}
+use Rattle.fb_inspect.proofs.Refused.{none_refused}
+use Rattle.fb_inspect.proofs.Stood.{at_look, goes_left, look_ahead}
 use Rattle.fb_inspect.proofs.walk.Walk.step_on.Goals as goal
 
 pub returns-then-is_cut-clause-goes : goal.returns-then-is_cut-clause-goes
@@ -79,3 +86,38 @@ returns-clause-turned g c = λ look is.
 
 pub returns-clause-cut : goal.returns-clause-cut
 returns-clause-cut g c = ok_then c.take_watched.result _ _ c.take_watched.ensures.whole (λ step never same. absurd (never same))
+
+pub is_near-requires : goal.is_near-requires
+is_near-requires g c = subst (λ (n : ℕ). c.args.line.now.instance < n) (sym c.requires.look.1.are.all) c.requires.is.line.belongs.instance
+
+pub returns-in_err-is_cut-clause-stands : goal.returns-in_err-is_cut-clause-stands
+returns-in_err-is_cut-clause-stands g c = λ turns rest text few known at watches.
+    let q = err_from_is_err_and c.from_residual.result c.from_residual.ensures.1 in rw (q.1, q.2) (none_refused _ _ c.in_err-is_cut.ensures.fault)
+
+pub returns-then-is_near-clause-stands : goal.returns-then-is_near-clause-stands
+returns-then-is_near-clause-stands g c = λ turns rest text few known at watches.
+    let fixed = c.args.fixed.now in
+    let sys = system_of fixed.table.now.system.now in
+    let l = c.args.line.now in
+    let a = c.args.ahead.now in
+    let b = c.look.new.self in
+    let all = look_ahead sys fixed.form l a.text.items a.last.items b.text.items b.last.items rest (g.R.Read.remaining c.args.input.now) (g.R.Read.remaining c.look.new.input) known
+    (c.in_ok-is_cut.ensures.ahead at.names c.if-is_cut.false) (at.stands.after l at.is) in
+    goes_left sys fixed.form c.args.terms.steps c.take_last.new.self c.take_last.new.ahead all.0 text (g.R.Read.remaining c.look.new.input) c.take_last.result all.1
+    (c.take_last.ensures.stands turns all.0 text all.2.1.0 few (at_look fixed.table.now fixed.form turns c.args.self.now l a.text.items a.last.items rest text at all.2.1.0 b.text.items b.last.items all.0 all.2.0 all.2.1.1)
+    (subst (λ (e : EventLine). Watches sys fixed.form c.args.terms.steps turns e.number e.text.items e.is_excess) (sym c.in_ok-is_cut.ensures.watched) watches) all.2.1.1
+    (c.is_near.ensures.near (last_look (opening_look sys) turns) at.stands.look.are c.if-is_near.true))
+
+pub returns-clause-stands : goal.returns-clause-stands
+returns-clause-stands g c = λ turns rest text few known at watches.
+    let fixed = c.args.fixed.now in
+    let sys = system_of fixed.table.now.system.now in
+    let l = c.args.line.now in
+    let a = c.args.ahead.now in
+    let b = c.look.new.self in
+    let all = look_ahead sys fixed.form l a.text.items a.last.items b.text.items b.last.items rest (g.R.Read.remaining c.args.input.now) (g.R.Read.remaining c.look.new.input) known
+    (c.in_ok-is_cut.ensures.ahead at.names c.if-is_cut.false) (at.stands.after l at.is) in
+    goes_left sys fixed.form c.args.terms.steps c.take_watched.new.self c.take_watched.new.ahead all.0 text (g.R.Read.remaining c.look.new.input) c.take_watched.result all.1
+    (c.take_watched.ensures.stands turns all.0 text all.2.1.0 (at_look fixed.table.now fixed.form turns c.args.self.now l a.text.items a.last.items rest text at all.2.1.0 b.text.items b.last.items all.0 all.2.0 all.2.1.1)
+    (subst (λ (e : EventLine). Watches sys fixed.form c.args.terms.steps turns e.number e.text.items e.is_excess) (sym c.in_ok-is_cut.ensures.watched) watches) all.2.1.1
+    (c.is_near.ensures.other (last_look (opening_look sys) turns) at.stands.look.are at.names at.apart at.is.line c.if-is_near.false))

@@ -39,11 +39,8 @@ loop-number-preserved g c =
       inside = c.loop-number.invariant.inside;
     }
 
-pub finish-requires-clause-dump : goal.finish-requires-clause-dump
-finish-requires-clause-dump g c = c.loop-number.invariant.copied.numbers
-
-pub take-requires-clause-dump : goal.take-requires-clause-dump
-take-requires-clause-dump g c = c.loop-number.invariant.copied.numbers
+pub take-requires : goal.take-requires
+take-requires g c = c.loop-number.invariant.copied.numbers
 
 pub returns-in-Some-clause-whole : goal.returns-in-Some-clause-whole
 returns-in-Some-clause-whole g c =
@@ -98,7 +95,7 @@ returns-in-Some-clause-refused g c names =
     (λ e refuses.
     blames_in c.args.cut sys _ e
     (end_blamed sys c.form_of-form.result c.loop-number.number c.loop-number.self c.loop-number.current.text.items (g.R.Read.remaining c.args.input.now) (g.R.Read.remaining c.loop-number.input)
-    (g.W.Write.contents c.args.out.now) (g.W.Write.contents c.loop-number.out) c.loop-number.invariant.copied names (some_resource c.args.table.now.system.now c.requires.table.limits) c.in-Some.end last e refuses)
+    (g.W.Write.contents c.args.out.now) (g.W.Write.contents c.loop-number.out) c.loop-number.invariant.copied names (some_resource c.args.table.now.system.now c.args.table.now.limits) c.in-Some.end last e refuses)
     (λ same. end_no_cut sys c.form_of-form.result c.loop-number.number c.loop-number.self c.loop-number.current.text.items (g.R.Read.remaining c.args.input.now) (g.R.Read.remaining c.loop-number.input)
     (g.W.Write.contents c.args.out.now) (g.W.Write.contents c.loop-number.out) c.loop-number.invariant.copied names c.in-Some.end last e refuses))
 
@@ -112,7 +109,7 @@ returns-in_err-take-clause-refused g c names =
     on_passed _ _ _ c.from_residual-in_err-take.ensures.1
     (blames_in c.args.cut sys _ e
     (line_blamed sys c.form_of-form.result c.loop-number.number c.loop-number.self c.loop-number.current.text.items (g.R.Read.remaining c.args.input.now) (g.R.Read.remaining c.loop-number.input)
-    (g.W.Write.contents c.args.out.now) (g.W.Write.contents c.loop-number.out) c.loop-number.invariant.copied names (some_resource c.args.table.now.system.now c.requires.table.limits)
+    (g.W.Write.contents c.args.out.now) (g.W.Write.contents c.loop-number.out) c.loop-number.invariant.copied names (some_resource c.args.table.now.system.now c.args.table.now.limits)
     (subst (λ (l : List ℕ). IsNoLast sys l) c.as_slice-in-loop-number.ensures.value (c.in_default.ensures.none names)) e refuses)
     (λ same.
     line_no_cut sys c.form_of-form.result c.loop-number.number c.loop-number.self c.loop-number.current.text.items (g.R.Read.remaining c.args.input.now) (g.R.Read.remaining c.loop-number.input)
@@ -137,9 +134,6 @@ returns-in_err-flush_much-clause-refused g c names =
     let input = g.R.Read.remaining c.args.input.now in
     on_passed _ _ (BlamesShown c.args.cut sys input) c.from_residual-in_err-flush_much.ensures.1
     (write_blames c.args.cut sys input _ _ c.take.new.self.page c.in_err-flush_much.field-0.0 c.in_err-flush_much.ensures.part)
-
-pub finish_cut-requires : goal.finish_cut-requires
-finish_cut-requires g c = c.loop-number.invariant.copied.numbers.fit.within
 
 pub returns-then-is_cut-clause-whole : goal.returns-then-is_cut-clause-whole
 returns-then-is_cut-clause-whole g c =

@@ -8,5 +8,5 @@ use Rattle.fb_wave.proofs.dump.Dump.cut_off.Goals as goal
 pub returns : goal.returns
 returns c sys ls sent t =
     on_put c.extend_from_slice.result _ _ _ _ c.extend_from_slice.ensures.items
-    (sets_cut sys ls sent c.args.text.now.items c.put_changes.new.text.items _ cut_comment c.args.self.now.tick c.args.self.now.levels t
+    (sets_cut sys ls sent c.args.text.now.items c.put_changes.new.text.items _ cut_comment c.args.self.now.tick c.args.self.now.signals.levels t
     (c.in_ok-put_changes.ensures.text (sizes_of sys sys.paths) (fires_of sys ls) (has_signal sys ls) (touches_of sys t.now) t.levels))

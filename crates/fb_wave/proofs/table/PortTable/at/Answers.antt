@@ -21,9 +21,9 @@ returns-clause-found c =
     let is : slice_get texts k ≡ Some name = slice_get_read texts (length texts) k name refl c.in_ok-name.ensures.lookup.3.0 c.in_ok-name.ensures.lookup.1 in
     let parts : c.args.text.now ≡ name ++ rest = c.in_ok-rest.ensures ∙ ap (λ (n : List ℕ). n ++ rest) c.as_bytes.ensures in
     record {
-      port = subst (IsPortOf sys) (sym found.1) (c.requires.ports_are k c.in_ok-port.port.now found.3.0);
+      port = subst (IsPortOf sys) (sym found.1) (c.args.self.now.ports_are k c.in_ok-port.port.now found.3.0);
       ended = sym c.ends_word.ensures ∙ c.if-not-ends_word.false;
-      parts = parts ∙ ap (λ (n : List ℕ). n ++ rest) (port_named sys ports texts k port name c.requires.texts_are at is);
+      parts = parts ∙ ap (λ (n : List ℕ). n ++ rest) (port_named sys ports texts k port name c.args.self.now.texts_are at is);
     }
 
 pub returns-then-not-ends_word-clause-none : goal.returns-then-not-ends_word-clause-none
@@ -36,5 +36,5 @@ returns-then-not-ends_word-clause-none c p rest0 at0 begins =
     let rest = c.in_ok-rest.rest.now in
     let is : slice_get texts k ≡ Some name = slice_get_read texts (length texts) k name refl c.in_ok-name.ensures.lookup.3.0 c.in_ok-name.ensures.lookup.1 in
     let parts : c.args.text.now ≡ name ++ rest = c.in_ok-rest.ensures ∙ ap (λ (n : List ℕ). n ++ rest) c.as_bytes.ensures in
-    unended_port sys c.args.text.now rest p rest0 (parts ∙ ap (λ (n : List ℕ). n ++ rest) (port_named sys ports texts k p name c.requires.texts_are at0 is)) begins
+    unended_port sys c.args.text.now rest p rest0 (parts ∙ ap (λ (n : List ℕ). n ++ rest) (port_named sys ports texts k p name c.args.self.now.texts_are at0 is)) begins
     (sym c.ends_word.ensures ∙ c.if-not-ends_word.true)

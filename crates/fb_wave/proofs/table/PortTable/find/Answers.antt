@@ -17,7 +17,7 @@ returns-in_err-index-clause-none c names =
     let t = c.args.self.now in
     rw c.from_residual-in_err-index.ensures
     (λ p rest begins.
-    port_placed t c.requires p begins.port
+    port_placed t p begins.port
     (ap (λ (n : Name). index_in t.indexes n) (sym (front_is_port sys c.args.text.now p rest c.in_ok-length.length names begins c.in_ok-length.ensures.three)) ∙ sym c.in_err-index.ensures))
 
 pub returns-clause-none : goal.returns-clause-none
@@ -27,6 +27,6 @@ returns-clause-none c names =
     none_then c.at-2.result _ _ c.at-2.ensures.none
     (λ none p rest begins.
     none p rest
-    (port_there t c.requires p c.in_ok-index.index begins.port
+    (port_there t p c.in_ok-index.index begins.port
     (ap (λ (n : Name). index_in t.indexes n) (sym (front_is_port sys c.args.text.now p rest c.in_ok-length.length names begins c.in_ok-length.ensures.three)) ∙ sym c.in_ok-index.ensures))
     begins)

@@ -1,0 +1,7 @@
+use Rattle.fb_types.specs.Headline.{system_of}
+use Rattle.fb_inspect.proofs.OneLine.{line_once_by}
+use Rattle.fb_inspect.proofs.OnePort.{one_port}
+use Rattle.fb_inspect.proofs.laws.lines_are_determined.Goals as goal
+
+pub returns : goal.returns
+returns c = λ i accepted names. line_once_by (system_of i) names (one_port i accepted names)

@@ -1,0 +1,5 @@
+use Rattle.fb_inspect.proofs.RunAccepted.{trace_accepted}
+use Rattle.fb_inspect.proofs.laws.traces_are_accepted.Goals as goal
+
+pub returns : goal.returns
+returns c = trace_accepted

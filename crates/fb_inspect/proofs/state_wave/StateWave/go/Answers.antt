@@ -1,0 +1,143 @@
+use Rattle.std.proofs.Common.{List, ℕ, Option, subst, sym}
+use Rattle.std.specs.Io.KnownBytes.{Consumes}
+use Rattle.fb_types.specs.Headline.{system_of}
+use Rattle.fb_inspect.specs.Inspections.{last_look}
+use Rattle.fb_inspect.specs.Looks.{opening_look}
+use Rattle.fb_inspect.specs.Walking.{unread}
+use Rattle.fb_inspect.proofs.Placed.{err_any, err_then}
+use Rattle.fb_inspect.proofs.Stepped.{none_ahead}
+use Rattle.fb_wave.specs.Dumps.{last_tick}
+use Rattle.fb_wave.proofs.Handing.{on_ok}
+use Rattle.fb_inspect.specs.StateDumps.{lines_of, turns_of}
+use Rattle.fb_inspect.specs.Waving.{HasGoneOn, HasWaved}
+use Rattle.fb_inspect.proofs.Ending.{cut_done, cut_part, front_flush, front_waved, shown_cut, shown_whole, some_text, whole_done, whole_part}
+use Rattle.fb_inspect.proofs.Waved.{flushed_on, waved_none}
+use Rattle.fb_inspect.proofs.state_wave.StateWave.go.Goals as goal
+
+pub loop-init : goal.loop-init
+loop-init g c = λ known read.
+    let fixed = c.args.fixed.now in
+    let sys = system_of fixed.table.now.system.now in
+    let o = g.R.Read.remaining c.args.input.now in
+    let out = g.W.Write.contents c.args.out.now in
+    subst (λ (p : Option (List ℕ)). HasWaved sys fixed.form c.args.terms.steps c.args.self.now known p out out) (sym (none_ahead c.args.ahead.now.text.items o c.requires.empty))
+    (waved_none sys fixed.form c.args.terms.steps c.args.self.now known o out c.requires.starts read)
+
+pub step-requires-clause-look : goal.step-requires-clause-look
+step-requires-clause-look g c =
+    let known = some_text (g.R.Read.remaining c.args.input.now) c.args.self.now.walk.trail.reading.line.items in
+    let have = c.loop.invariant known.0 known.1 in
+    (last_look (opening_look (system_of c.args.fixed.now.table.now.system.now)) (turns_of have.takings), have.look)
+
+pub step-requires-clause-next : goal.step-requires-clause-next
+step-requires-clause-next g c =
+    let known = some_text (g.R.Read.remaining c.args.input.now) c.args.self.now.walk.trail.reading.line.items in
+    let have = c.loop.invariant known.0 known.1 in
+    (last_tick 0 (lines_of have.takings), have.next)
+
+pub step-requires-clause-kept : goal.step-requires-clause-kept
+step-requires-clause-kept g c =
+    let known = some_text (g.R.Read.remaining c.args.input.now) c.args.self.now.walk.trail.reading.line.items in
+    let have = c.loop.invariant known.0 known.1 in
+    have.kept
+
+pub step-requires-clause-dump : goal.step-requires-clause-dump
+step-requires-clause-dump g c =
+    let known = some_text (g.R.Read.remaining c.args.input.now) c.args.self.now.walk.trail.reading.line.items in
+    let have = c.loop.invariant known.0 known.1 in
+    have.waved.numbers
+
+pub returns-in_err-step-clause-fault : goal.returns-in_err-step-clause-fault
+returns-in_err-step-clause-fault g c =
+    let fixed = c.args.fixed.now in
+    let known = some_text (g.R.Read.remaining c.args.input.now) c.args.self.now.walk.trail.reading.line.items in
+    let have = c.loop.invariant known.0 known.1 in
+    err_any c.from_residual.result _
+    (front_waved (system_of fixed.table.now.system.now) fixed.form c.args.terms.steps c.loop.self known.0 (unread c.loop.ahead (g.R.Read.remaining c.loop.input)) (g.W.Write.contents c.args.out.now)
+    (g.W.Write.contents c.loop.out) have)
+
+pub returns-in_err-flush_much-in-Taken-clause-fault : goal.returns-in_err-flush_much-in-Taken-clause-fault
+returns-in_err-flush_much-in-Taken-clause-fault g c =
+    let fixed = c.args.fixed.now in
+    let sys = system_of fixed.table.now.system.now in
+    let steps = c.args.terms.steps in
+    let old = g.W.Write.contents c.args.out.now in
+    let mid = g.W.Write.contents c.loop.out in
+    let known = some_text (g.R.Read.remaining c.args.input.now) c.args.self.now.walk.trail.reading.line.items in
+    let have = c.loop.invariant known.0 known.1 in
+    let r = unread c.step.new.ahead (g.R.Read.remaining c.step.new.input) in
+    let next = subst (HasGoneOn sys fixed.form steps c.step.new.self known.0 r old mid) c.in-Taken.is (c.in_ok-step.ensures.goes known.0 old mid have) in
+    err_any c.from_residual-in_err-flush_much-in-Taken.result _
+    (front_flush sys fixed.form steps c.step.new.self known.0 r old mid (g.W.Write.contents c.flush_much.new.out) c.in_err-flush_much-in-Taken.field-0.0 next c.in_err-flush_much-in-Taken.ensures.part)
+
+pub loop-preserved : goal.loop-preserved
+loop-preserved g c = λ known read.
+    let fixed = c.args.fixed.now in
+    let sys = system_of fixed.table.now.system.now in
+    let steps = c.args.terms.steps in
+    let old = g.W.Write.contents c.args.out.now in
+    let mid = g.W.Write.contents c.loop.out in
+    let r = unread c.step.new.ahead (g.R.Read.remaining c.step.new.input) in
+    let next = subst (HasGoneOn sys fixed.form steps c.step.new.self known r old mid) c.in-Taken.is (c.in_ok-step.ensures.goes known old mid (c.loop.invariant known read)) in
+    flushed_on sys fixed.form steps c.step.new.self c.flush_much.new.self known r old mid (g.W.Write.contents c.flush_much.new.out) next c.in_ok-flush_much-in-Taken.ensures.whole
+
+pub returns-in-Ended-clause-whole : goal.returns-in-Ended-clause-whole
+returns-in-Ended-clause-whole g c = λ known read.
+    let fixed = c.args.fixed.now in
+    let sys = system_of fixed.table.now.system.now in
+    let steps = c.args.terms.steps in
+    let old = g.W.Write.contents c.args.out.now in
+    let mid = g.W.Write.contents c.loop.out in
+    let r = unread c.step.new.ahead (g.R.Read.remaining c.step.new.input) in
+    let next = subst (HasGoneOn sys fixed.form steps c.step.new.self known r old mid) c.in-Ended.is (c.in_ok-step.ensures.goes known old mid (c.loop.invariant known read)) in
+    let new = g.W.Write.contents c.finish.new.out in
+    on_ok c.finish.result _ _ c.finish.ensures.finishes
+    (λ finished. shown_whole c.args.terms.cut sys steps known old new (whole_done sys fixed.form steps c.step.new.self c.in-Ended.end known r old mid next new finished))
+
+pub returns-in-Ended-clause-fault : goal.returns-in-Ended-clause-fault
+returns-in-Ended-clause-fault g c =
+    let fixed = c.args.fixed.now in
+    let sys = system_of fixed.table.now.system.now in
+    let steps = c.args.terms.steps in
+    let old = g.W.Write.contents c.args.out.now in
+    let mid = g.W.Write.contents c.loop.out in
+    let known = some_text (g.R.Read.remaining c.args.input.now) c.args.self.now.walk.trail.reading.line.items in
+    let have = c.loop.invariant known.0 known.1 in
+    let r = unread c.step.new.ahead (g.R.Read.remaining c.step.new.input) in
+    let next = subst (HasGoneOn sys fixed.form steps c.step.new.self known.0 r old mid) c.in-Ended.is (c.in_ok-step.ensures.goes known.0 old mid have) in
+    err_then c.finish.result _ _ c.finish.ensures.fault
+    (λ part. whole_part sys fixed.form steps c.step.new.self c.in-Ended.end known.0 r old mid next (g.W.Write.contents c.finish.new.out) part)
+
+pub returns-in-CutOff-clause-whole : goal.returns-in-CutOff-clause-whole
+returns-in-CutOff-clause-whole g c = λ known read.
+    let fixed = c.args.fixed.now in
+    let sys = system_of fixed.table.now.system.now in
+    let steps = c.args.terms.steps in
+    let old = g.W.Write.contents c.args.out.now in
+    let mid = g.W.Write.contents c.loop.out in
+    let r = unread c.step.new.ahead (g.R.Read.remaining c.step.new.input) in
+    let next = subst (HasGoneOn sys fixed.form steps c.step.new.self known r old mid) c.in-CutOff.is (c.in_ok-step.ensures.goes known old mid (c.loop.invariant known read)) in
+    let new = g.W.Write.contents c.finish_cut.new.out in
+    on_ok c.finish_cut.result _ _ (c.finish_cut.ensures.finishes sys)
+    (λ finished. shown_cut c.args.terms.cut sys steps known old new (c.in_ok-step.ensures.cut c.in-CutOff.is) (cut_done sys fixed.form steps c.step.new.self known old mid next new finished))
+
+pub returns-in-CutOff-clause-fault : goal.returns-in-CutOff-clause-fault
+returns-in-CutOff-clause-fault g c =
+    let fixed = c.args.fixed.now in
+    let sys = system_of fixed.table.now.system.now in
+    let steps = c.args.terms.steps in
+    let old = g.W.Write.contents c.args.out.now in
+    let mid = g.W.Write.contents c.loop.out in
+    let known = some_text (g.R.Read.remaining c.args.input.now) c.args.self.now.walk.trail.reading.line.items in
+    let have = c.loop.invariant known.0 known.1 in
+    let r = unread c.step.new.ahead (g.R.Read.remaining c.step.new.input) in
+    let next = subst (HasGoneOn sys fixed.form steps c.step.new.self known.0 r old mid) c.in-CutOff.is (c.in_ok-step.ensures.goes known.0 old mid have) in
+    err_then c.finish_cut.result _ _ (c.finish_cut.ensures.fault sys) (λ part. cut_part sys fixed.form steps c.step.new.self known.0 old mid next (g.W.Write.contents c.finish_cut.new.out) part)
+
+pub returns-clause-fault : goal.returns-clause-fault
+returns-clause-fault g c =
+    let fixed = c.args.fixed.now in
+    let known = some_text (g.R.Read.remaining c.args.input.now) c.args.self.now.walk.trail.reading.line.items in
+    let have = c.loop.invariant known.0 known.1 in
+    front_waved (system_of fixed.table.now.system.now) fixed.form c.args.terms.steps c.loop.self known.0 (unread c.loop.ahead (g.R.Read.remaining c.loop.input)) (g.W.Write.contents c.args.out.now)
+    (g.W.Write.contents c.loop.out) have

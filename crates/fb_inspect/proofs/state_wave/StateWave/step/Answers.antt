@@ -1,0 +1,104 @@
+use Rattle.std.proofs.Common.{◌≡◌, Option, None, refl, sym, ap, subst, ◌∙◌}
+use Rattle.fb_types.specs.Headline.{system_of}
+use Rattle.fb_inspect.specs.Inspections.{last_look}
+use Rattle.fb_inspect.specs.Lines.{IsNext}
+use Rattle.fb_inspect.proofs.Moving.{next_line}
+use Rattle.fb_inspect.specs.Looks.{Look, opening_look}
+use Rattle.fb_inspect.specs.Stepping.{StepGoes}
+use Rattle.fb_inspect.specs.Walking.{unread}
+use Rattle.fb_inspect.specs.declared.reading.Next.{Next}
+use Rattle.fb_inspect.specs.declared.walk.Step.{Step}
+use Rattle.fb_inspect.specs.declared.walk.Step.TheVariants as step
+use Rattle.fb_inspect.specs.declared.walk.Walk.{Walk}
+use Rattle.fb_inspect.specs.StateDumps.{turns_of}
+use Rattle.fb_inspect.specs.Waving.{HasGoneOn, IsEventKept, IsNextKept}
+use Rattle.fb_inspect.specs.declared.state_wave.EventAt.{EventAt}
+use Rattle.fb_inspect.proofs.GoneOn.{can_show, gone_cut, gone_none, gone_on, own_rows, ready_of, rows_belong, within_of}
+use Rattle.fb_inspect.proofs.state_wave.StateWave.step.Goals as goal
+
+pub keep_next-requires-clause-next : goal.keep_next-requires-clause-next
+keep_next-requires-clause-next g c = λ line is.
+    let sys = system_of c.args.fixed.now.table.now.system.now in
+    (subst (IsNext sys c.args.fixed.now.form c.requires.next.0 c.args.self.now.walk.trail.reading.line.items) is c.requires.next.1).0.line.belongs.instance
+
+pub keep_next-requires-clause-kept : goal.keep_next-requires-clause-kept
+keep_next-requires-clause-kept g c = (c.requires.look.0, c.requires.look.1.are)
+
+pub step-requires-clause-look : goal.step-requires-clause-look
+step-requires-clause-look g c = c.requires.look
+
+pub step-requires-clause-next : goal.step-requires-clause-next
+step-requires-clause-next g c =
+    let reading = c.args.self.now.walk.trail.reading in
+    (c.requires.next.0, next_line (system_of c.args.fixed.now.table.now.system.now) c.args.fixed.now.form c.requires.next.0 reading.line.items reading.next c.requires.next.1)
+
+pub show_untaken-requires-clause-next : goal.show_untaken-requires-clause-next
+show_untaken-requires-clause-next g c =
+    let fixed = c.args.fixed.now in
+    let sys = system_of fixed.table.now.system.now in
+    let x = subst (StepGoes fixed.table.now.system.now.library.blocks sys fixed.form c.args.terms.steps c.requires.look.0 _ _ _ _ _) (c.is_cut_off.ensures.yes c.if-is_cut_off.true)
+    (c.in_ok-step.ensures.turned c.requires.look.0 c.requires.look.1) in
+    (x.0.line, x.1 ∙ sym x.0.is, (subst (IsNext sys fixed.form c.requires.next.0 c.args.self.now.walk.trail.reading.line.items) (sym x.0.is) c.requires.next.1).0.line.belongs)
+
+pub show_untaken-requires-clause-rows : goal.show_untaken-requires-clause-rows
+show_untaken-requires-clause-rows g c =
+    let fixed = c.args.fixed.now in
+    let sys = system_of fixed.table.now.system.now in
+    let x = subst (StepGoes fixed.table.now.system.now.library.blocks sys fixed.form c.args.terms.steps c.requires.look.0 _ _ _ _ _) (c.is_cut_off.ensures.yes c.if-is_cut_off.true)
+    (c.in_ok-step.ensures.turned c.requires.look.0 c.requires.look.1) in
+    rows_belong sys fixed.form x.0.line _ _ _ x.0.goes
+
+pub returns-then-is_cut_off-clause-goes : goal.returns-then-is_cut_off-clause-goes
+returns-then-is_cut_off-clause-goes g c = λ known old new have.
+    let fixed = c.args.fixed.now in
+    let types = fixed.table.now.system.now.library.blocks in
+    let sys = system_of fixed.table.now.system.now in
+    let steps = c.args.terms.steps in
+    let seen : Look = last_look (opening_look sys) (turns_of have.takings) in
+    let r = unread c.args.ahead.now (g.R.Read.remaining c.args.input.now) in
+    let rest = unread c.step.new.ahead (g.R.Read.remaining c.step.new.input) in
+    let x = subst (StepGoes types sys fixed.form steps seen _ _ _ _ _) (c.is_cut_off.ensures.yes c.if-is_cut_off.true) (c.in_ok-step.ensures.turned seen have.look) in
+    subst (HasGoneOn sys fixed.form steps c.show_untaken.new.self known rest old new) (sym (c.is_cut_off.ensures.yes c.if-is_cut_off.true))
+    (gone_cut types sys fixed.form steps c.args.self.now known r old new have _ c.step.new.self c.step.new.ahead rest c.show_untaken.new.self (ready_of c.args.self.now c.clear.new.self have.kept c.clear.ensures.items)
+    x.0 c.in_ok-show_untaken.ensures.numbers
+    (λ sent shows. c.in_ok-show_untaken.ensures.shown x.0.line have.takings sent (x.1 ∙ sym x.0.is) (own_rows sys fixed.form x.0.line _ _ _ x.0.goes) shows))
+
+pub returns-in_default-clause-goes : goal.returns-in_default-clause-goes
+returns-in_default-clause-goes g c = λ known old new have.
+    let fixed = c.args.fixed.now in
+    let types = fixed.table.now.system.now.library.blocks in
+    let sys = system_of fixed.table.now.system.now in
+    let steps = c.args.terms.steps in
+    let seen : Look = last_look (opening_look sys) (turns_of have.takings) in
+    let r = unread c.args.ahead.now (g.R.Read.remaining c.args.input.now) in
+    let rest = unread c.step.new.ahead (g.R.Read.remaining c.step.new.input) in
+    gone_none types sys fixed.form steps c.args.self.now known r old new have _ c.step.new.self c.keep_next.new.before (ready_of c.args.self.now c.clear.new.self have.kept c.clear.ensures.items)
+    rest c.step.new.ahead _ (subst (IsNextKept sys c.args.self.now.walk c.keep_next.new.before) c.in_default.is c.in_ok-kept.ensures) (c.is_cut_off.ensures.no c.if-is_cut_off.false)
+    (c.in_ok-step.ensures.turned seen have.look)
+
+pub show-requires : goal.show-requires
+show-requires g c =
+    let fixed = c.args.fixed.now in
+    let types = fixed.table.now.system.now.library.blocks in
+    let sys = system_of fixed.table.now.system.now in
+    let event = subst (IsNextKept sys c.args.self.now.walk c.keep_next.new.before) c.in-Some.is c.in_ok-kept.ensures in
+    let r = unread c.args.ahead.now (g.R.Read.remaining c.args.input.now) in
+    let rest = unread c.step.new.ahead (g.R.Read.remaining c.step.new.input) in
+    can_show types sys fixed.form c.args.terms.steps c.args.self.now c.requires.look.0 _ c.step.new.self c.keep_next.new.before c.in-Some.event c.step.new.ahead r rest _
+    (ready_of c.args.self.now c.clear.new.self c.requires.kept c.clear.ensures.items) event c.requires.dump c.requires.look.1.are
+    (within_of sys fixed.form c.requires.next.0 c.args.self.now.walk c.keep_next.new.before c.in-Some.event event c.requires.next.1) (c.is_cut_off.ensures.no c.if-is_cut_off.false)
+    (c.in_ok-step.ensures.turned c.requires.look.0 c.requires.look.1)
+
+pub returns-clause-goes : goal.returns-clause-goes
+returns-clause-goes g c = λ known old new have.
+    let fixed = c.args.fixed.now in
+    let types = fixed.table.now.system.now.library.blocks in
+    let sys = system_of fixed.table.now.system.now in
+    let steps = c.args.terms.steps in
+    let seen : Look = last_look (opening_look sys) (turns_of have.takings) in
+    let event = subst (IsNextKept sys c.args.self.now.walk c.keep_next.new.before) c.in-Some.is c.in_ok-kept.ensures in
+    let r = unread c.args.ahead.now (g.R.Read.remaining c.args.input.now) in
+    let rest = unread c.step.new.ahead (g.R.Read.remaining c.step.new.input) in
+    gone_on types sys fixed.form steps c.args.self.now known r old new have _ c.step.new.self c.keep_next.new.before c.show.new.self c.in-Some.event rest
+    (ready_of c.args.self.now c.clear.new.self have.kept c.clear.ensures.items) event c.in_ok-show.ensures.walk c.in_ok-show.ensures.numbers
+    (λ look after before are. c.in_ok-show.ensures.shown look after before are) c.step.new.ahead _ (c.is_cut_off.ensures.no c.if-is_cut_off.false) (c.in_ok-step.ensures.turned seen have.look)

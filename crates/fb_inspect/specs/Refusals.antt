@@ -1,0 +1,297 @@
+-- Texts that a walk goes through, and the line at which another one is wrong: that is not what the reactions give.
+use Rattle.std.specs.Prelude.{◌≡◌, ◌<◌, ◌≤◌, ◌⊎◌, ℕ, ◌+◌, List, [], ◌∷◌, ◌++◌, map, length, All, false, Option, Some}
+use Rattle.std.specs.Io.BufRead.{take_through}
+use Rattle.std.specs.Io.KnownBytes.{Consumes}
+use Rattle.fb_types.specs.Blocks.{Basic, Emission}
+use Rattle.fb_types.specs.Charts.{Position}
+use Rattle.fb_types.specs.Numbers.{line_of, path_at}
+use Rattle.fb_types.specs.Simulation.{Ending, AtStop}
+use Rattle.fb_types.specs.States.{Line}
+use Rattle.fb_types.specs.Systems.{System}
+use Rattle.fb_types.specs.Text.{last_line, lines_text}
+use Rattle.fb_types.specs.declared.event_kind.EventKind.{EventKind}
+use Rattle.fb_types.specs.declared.library.BasicType.{BasicType}
+use Rattle.fb_types.specs.declared.run.Form.{Form}
+use Rattle.fb_types.specs.declared.run.Line as run
+use Rattle.fb_types.specs.declared.value.Reason.{Reason}
+use Rattle.fb_types.specs.declared.value.Reason.TheVariants.{Steps}
+use Rattle.fb_wave.specs.Dumps.{last_tick}
+use Rattle.fb_wave.specs.Lines.{IsEndOf, IsLineOf, IsTextOf}
+use Rattle.fb_wave.specs.Named.{HasNames}
+use Rattle.fb_wave.specs.Waves.{AreLinesOf, IsTraceOf}
+use Rattle.fb_inspect.specs.Chains.{Piece, Showing}
+use Rattle.fb_inspect.specs.Charting.{sys_of}
+use Rattle.fb_inspect.specs.Inspections.{AreTurns, EndsSo, IsOwnLine, KeepSteps, KeepsLimit, NoneStops, RunsOut, all_lines, last_look, limited}
+use Rattle.fb_inspect.specs.Lines.{IsNoEndFrom, IsPlain}
+use Rattle.fb_inspect.specs.Looks.{Look, Seen, Turn, Turns, emission_line, emissions_by, most, opening_look, turn_lines}
+use Rattle.fb_inspect.specs.Moves.{IsLineAt, StaysAlone}
+use Rattle.fb_inspect.specs.Timing.{timer_reaction}
+use Rattle.fb_inspect.specs.Walking.{MayEnd}
+use Rattle.fb_inspect.specs.declared.charts.ChartTaking.{ChartTaking}
+use Rattle.fb_inspect.specs.declared.error.InspectError.{InspectError}
+use Rattle.fb_inspect.specs.declared.error.InspectError.TheVariants.{Refused, Names, Unknown, Memory, Read, Write}
+use Rattle.fb_inspect.specs.declared.reading.Reading.{Reading}
+
+-- ---- Errors
+
+-- what is said of the number of the line, where the error is the refusal of a line
+abbrev pub OfRefusal : (ℕ → Type 0) → InspectError → Type 0
+OfRefusal P (Refused n) = P n
+OfRefusal P Names = Unit {0}
+OfRefusal P Unknown = Unit {0}
+OfRefusal P Memory = Unit {0}
+OfRefusal P Read = Unit {0}
+OfRefusal P (Write n) = Unit {0}
+
+-- No line is refused.
+abbrev pub IsNoRefusal : InspectError → Type 0
+IsNoRefusal e = OfRefusal (λ n. ⊥) e
+
+-- ---- Texts
+
+-- The text is a trace of the system in which each block emits what its reaction gives.
+pub record IsAccepted (sys : System) (steps : ℕ) (text : List ℕ) : Type 0 where
+  pub form : Form
+  pub lines : List run.Line
+  pub end : Ending
+  pub trace : IsTraceOf sys form text lines end
+  pub turns : List Turn
+  pub lines_are : map (line_of sys) lines ≡ all_lines turns
+  pub ends : EndsSo sys steps turns end
+
+-- The text is that of this line in no way.
+abbrev pub IsOther : System → Form → List ℕ → Line → Type 0
+IsOther sys form text l = (m : run.Line) → IsTextOf sys form m text → line_of sys m ≡ l → ⊥
+
+-- ---- Lines that were read
+
+-- Names distinguish the lines of the system, and this is one of them, as the form shows it.
+pub record IsPlainLine (sys : System) (form : Form) (l : run.Line) : Type 0 where
+  pub names : HasNames sys
+  pub line : IsLineOf sys l
+  pub plain : IsPlain form l.key
+
+-- These lines, all of one tick, were read, and the line after them.
+pub record HasRead (sys : System) (form : Form) (tick : ℕ) (ls : List run.Line) (old new : Reading) (left after : Option (List ℕ)) : Type 0 where
+  pub each : All (IsLineAt sys tick) ls
+  pub taken : List ℕ
+  pub took : Consumes left after taken
+  pub read : old.line.items ++ taken ≡ lines_text form sys (map (line_of sys) ls) ++ new.line.items
+  pub numbered : new.number ≡ old.number + length ls
+  pub alone : StaysAlone old new left after
+
+-- The lines that were read are those of these emissions of the block of a line, and the line after them, which has this number, is not that
+-- of the next one.
+pub record IsOtherwise (sys : System) (form : Form) (line : run.Line) (passed : List Emission) (next : Emission) (old new : Reading) (left after : Option (List ℕ)) (n : ℕ) : Type 0 where
+  pub lines : List run.Line
+  pub are : map (line_of sys) lines ≡ map (emission_line (line_of sys line)) passed
+  pub reads : HasRead sys form line.key.tick lines old new left after
+  pub number_is : n ≡ new.number
+  pub other : IsOther sys form new.line.items (emission_line (line_of sys line) next)
+
+-- One of these emissions of the block of a line is not in the line of this number, where it has to be.
+pub record EmitsFail (sys : System) (form : Form) (line : run.Line) (es : List Emission) (old new : Reading) (left after : Option (List ℕ)) (n : ℕ) : Type 0 where
+  pub passed : List Emission
+  pub next : Emission
+  pub more : List Emission
+  pub parts : es ≡ passed ++ next ∷ more
+  pub otherwise : IsOtherwise sys form line passed next old new left after n
+
+-- ---- Reactions
+
+-- A movement of a chart emits something that is not in the line of this number, where it has to be.
+pub record ChartFails (x : ChartTaking) (S : Showing) (p : Position) (old new : Reading) (left after : Option (List ℕ)) (n : ℕ) : Type 0 where
+  pub stop : Option Reason
+  pub end : Position
+  pub pieces : List Piece
+  pub shows : S p stop end pieces
+  pub fails : EmitsFail (sys_of x) x.fixed.form x.line.now end.emitted old new left after n
+
+-- The timer of an event block goes off with this line, and the reaction emits these after it.
+pub record IsOfTimer (sys : System) (kind : EventKind) (s : Seen) (line : run.Line) (emits : List Emission) : Type 0 where
+  pub emitted : line.taken ≡ false
+  pub due : s.due ≡ Some line.key.tick
+  pub is : record { event = (line_of sys line).event; values = (line_of sys line).values } ∷ emits ≡ emissions_by kind (timer_reaction kind s line)
+
+-- The line, which has this number, is not one with which the timer goes off.
+pub record IsNotDue (sys : System) (kind : EventKind) (s : Seen) (line : run.Line) (old new : Reading) (n : ℕ) : Type 0 where
+  pub same : new ≡ old
+  pub number_is : n ≡ old.number
+  pub other : (emits : List Emission) → IsOfTimer sys kind s line emits → ⊥
+
+-- ---- Takings
+
+-- No such taking begins with the line, which has this number.
+pub record IsNoTurn (T : Turn → Type 0) (sys : System) (line : run.Line) (old new : Reading) (n : ℕ) : Type 0 where
+  pub same : new ≡ old
+  pub number_is : n ≡ old.number
+  pub none : (x : Turn) → x.first ≡ line_of sys line → T x → ⊥
+
+-- Such a taking begins with the line of an event and the lines that were read after it, and goes on with another line than the next one, which
+-- has this number.
+pub record TurnFails (T : Turn → Type 0) (sys : System) (form : Form) (line : run.Line) (old new : Reading) (left after : Option (List ℕ)) (n : ℕ) : Type 0 where
+  pub turn : Turn
+  pub turns : T turn
+  pub passed : List run.Line
+  pub next : Line
+  pub more : List Line
+  pub parts : turn_lines turn ≡ map (line_of sys) (line ∷ passed) ++ next ∷ more
+  pub reads : HasRead sys form line.key.tick (line ∷ passed) old new left after
+  pub number_is : n ≡ new.number
+  pub other : IsOther sys form new.line.items next
+
+-- The line of an event is refused, or one after it.
+abbrev pub FailsBy : (T : Turn → Type 0) (sys : System) (form : Form) (line : run.Line) (old new : Reading) (left after : Option (List ℕ)) (n : ℕ) → Type 0
+FailsBy T sys form line old new left after n = IsNoTurn T sys line old new n ⊎ TurnFails T sys form line old new left after n
+
+-- ---- The place of a line
+
+-- The line of this number, from 1, comes after these lines of the system in this form.
+pub record IsLineAfter (sys : System) (form : Form) (number : ℕ) (text : List ℕ) (before : List run.Line) (line : List ℕ) : Type 0 where
+  pub are : AreLinesOf sys before
+  pub numbered : number ≡ length before + 1
+  pub rest : List ℕ
+  pub is : text ≡ lines_text form sys (map (line_of sys) before) ++ (line ++ rest)
+  pub alone : line ≡ take_through 10 (line ++ rest)
+  pub formed : before ≡ [] → (f : Form) (m : run.Line) → IsTextOf sys f m line → f ≡ form
+
+-- .. and these are the lines of takings, and some more
+pub record HaveTaken (sys : System) (before : List run.Line) (turns : List Turn) (more : List Line) : Type 0 where
+  pub chain : AreTurns sys most (opening_look sys) turns
+  pub goes_on : NoneStops turns
+  pub lines_are : map (line_of sys) before ≡ all_lines turns ++ more
+
+-- ---- Why a line is wrong
+
+-- the stop for its steps of the resource of a taking
+abbrev pub steps_stop : System → Line → List ℕ
+steps_stop sys l = last_line sys (AtStop l.key.tick l.key.resource Steps)
+
+-- Where the taking is one of a basic block, the line is not the stop of its resource for its steps.
+abbrev pub IsNoStepsStop : System → Line → List ℕ → Type 0
+IsNoStepsStop sys l line = (t : BasicType) → sys.kind l.at ≡ Some (Basic t) → line ≡ steps_stop sys l → ⊥
+
+-- No such taking begins with the line, as the form shows it, and it says of no end that comes after this tick.
+pub record BeginsNothing (T : Turn → Type 0) (sys : System) (form : Form) (tick : ℕ) (line : List ℕ) : Type 0 where
+  pub no_turn : (m : run.Line) → IsTextOf sys form m line → IsPlain form m.key → tick ≤ m.key.tick → (x : Turn) → x.first ≡ line_of sys m → T x → ⊥
+  pub no_end : IsNoEndFrom sys tick line
+
+-- .. nor where it comes after these takings, of which it is the last
+abbrev pub IsNoLastStop : System → List Turn → List ℕ → Type 0
+IsNoLastStop sys turns line = (front : List Turn) (x : Turn) → turns ≡ front ++ x ∷ [] → IsNoStepsStop sys x.first line
+
+-- The line says that a resource stops, but none of these takings stopped it, and the steps are not used up there, or were not kept before.
+pub record EndsNothing (sys : System) (steps : ℕ) (turns : List Turn) (line : List ℕ) : Type 0 where
+  pub end : Ending
+  pub can : IsEndOf sys end
+  pub is : line ≡ last_line sys end
+  pub other : MayEnd sys steps (last_look (opening_look sys) turns) end → ⊥
+  pub near : IsNoLastStop sys turns line
+
+-- Such a taking begins with these lines, of which there are some, and goes on with another one.
+pub record GoesOtherwise (T : Turn → Type 0) (sys : System) (form : Form) (begun : List Line) (line : List ℕ) : Type 0 where
+  pub turn : Turn
+  pub turns : T turn
+  pub passed : List Line
+  pub begins : begun ≡ turn.first ∷ passed
+  pub next : Line
+  pub more : List Line
+  pub parts : turn_lines turn ≡ begun ++ next ∷ more
+  pub other : IsOther sys form line next
+
+-- Such a taking with these lines stops its resource, and the line says something else.
+pub record StopsOtherwise (T : Turn → Type 0) (sys : System) (lines : List Line) (line : List ℕ) : Type 0 where
+  pub turn : Turn
+  pub turns : T turn
+  pub lines_are : turn_lines turn ≡ lines
+  pub reason : Reason
+  pub stop : turn.stop ≡ Some reason
+  pub other : line ≡ last_line sys (AtStop turn.first.key.tick turn.first.key.resource reason) → ⊥
+
+-- Such a taking with these lines does not use up the steps, or the line is not the stop that says so.
+pub record GoesOnAfter (T : Turn → Type 0) (sys : System) (steps : ℕ) (look : Look) (lines : List Line) (line : List ℕ) : Type 0 where
+  pub turn : Turn
+  pub turns : T turn
+  pub lines_are : turn_lines turn ≡ lines
+  pub other : line ≡ steps_stop sys turn.first → RunsOut steps turn.first.key.tick turn.first.key.resource look (turn ∷ []) → ⊥
+
+-- After takings comes this line of an event of a basic block, lines of emissions of the block in its tick, and a stop of its resource in
+-- that tick for its steps.
+pub record StopsSoon (sys : System) (form : Form) (turns : List Turn) (first : run.Line) (text : List ℕ) : Type 0 where
+  pub line : IsLineOf sys first
+  pub block : BasicType
+  pub kind : sys.kind (path_at sys first.instance) ≡ Some (Basic block)
+  pub rows : List run.Line
+  pub own : All (IsOwnLine sys first) rows
+  pub rest : List ℕ
+  pub is : text ≡ lines_text form sys (all_lines turns ++ map (line_of sys) (first ∷ rows)) ++ (steps_stop sys (line_of sys first) ++ rest)
+
+-- After one of the takings that go on from these, the first, a resource had used more than these steps in a tick, and a stop for steps comes later.
+pub record UsesTooMany (sys : System) (form : Form) (steps : ℕ) (turns : List Turn) (text : List ℕ) : Type 0 where
+  pub turn : Turn
+  pub later : List Turn
+  pub chain : AreTurns sys most (opening_look sys) (turns ++ turn ∷ later)
+  pub goes_on : NoneStops (turns ++ turn ∷ later)
+  pub kept : KeepSteps sys steps (last_look (opening_look sys) turns)
+  pub over : KeepSteps sys steps turn.after → ⊥
+  pub read : List run.Line
+  pub read_are : map (line_of sys) read ≡ all_lines (turns ++ turn ∷ later)
+  pub untaken : List run.Line
+  pub are : All (IsLineOf sys) (read ++ untaken)
+  pub tick : ℕ
+  pub resource : ℕ
+  pub can : IsEndOf sys (AtStop tick resource Steps)
+  pub near : later ≡ [] → untaken ≡ [] → IsNoStepsStop sys turn.first (last_line sys (AtStop tick resource Steps))
+  pub rest : List ℕ
+  pub is : text ≡ lines_text form sys (all_lines (turns ++ turn ∷ later) ++ map (line_of sys) untaken) ++ (last_line sys (AtStop tick resource Steps) ++ rest)
+
+-- A line is wrong where a trace goes on, each resource with the greatest limit.
+abbrev pub IsWrongFreely : System → Form → (steps tick : ℕ) → (turns : List Turn) → (begun : List Line) → (line : List ℕ) → Type 0
+IsWrongFreely sys form steps tick turns begun line =
+    let T = Turns sys most (last_look (opening_look sys) turns) in
+    ((begun ≡ []) × BeginsNothing T sys form tick line)
+    ⊎ ((begun ≡ []) × EndsNothing sys steps turns line)
+    ⊎ ((other : GoesOtherwise T sys form begun line) × IsNoStepsStop sys other.turn.first line)
+    ⊎ ((other : StopsOtherwise T sys begun line) × IsNoStepsStop sys other.turn.first line)
+
+-- .. or where it stops for its steps after the event of a line, whose resource has what is left of these steps
+abbrev pub IsWrongLast : System → Form → (steps tick : ℕ) → (turns : List Turn) → (first : run.Line) → (begun : List Line) → (line : List ℕ) → Type 0
+IsWrongLast sys form steps tick turns first begun line =
+    let look = last_look (opening_look sys) turns in
+    let less = limited steps first.key.tick first.key.resource look in
+    let T = Turns sys steps less in
+    ((begun ≡ []) × (KeepsLimit steps first.key.tick first.key.resource look → ⊥))
+    ⊎ ((begun ≡ []) × BeginsNothing T sys form tick line)
+    ⊎ GoesOtherwise T sys form begun line
+    ⊎ GoesOnAfter T sys steps less begun line
+
+-- After these takings, and after lines with which another one begins, the line is wrong.
+abbrev pub IsWrongAfter : System → Form → (steps tick : ℕ) → (turns : List Turn) → (begun : List Line) → (line text : List ℕ) → Type 0
+IsWrongAfter sys form steps tick turns begun line text =
+    IsWrongFreely sys form steps tick turns begun line
+    ⊎ ((first : run.Line) × StopsSoon sys form turns first text × IsWrongLast sys form steps tick turns first begun line)
+    ⊎ ((begun ≡ []) × UsesTooMany sys form steps turns text)
+
+-- The line of this number is not what comes after the lines before it.
+pub record IsWrongLine (sys : System) (steps number : ℕ) (text : List ℕ) : Type 0 where
+  pub form : Form
+  pub before : List run.Line
+  pub line : List ℕ
+  pub at : IsLineAfter sys form number text before line
+  pub turns : List Turn
+  pub begun : List Line
+  pub taken : HaveTaken sys before turns begun
+  pub wrong : IsWrongAfter sys form steps (last_tick 0 before) turns begun line text
+
+-- The line of this number comes after the last one of a trace.
+pub record IsAfterLast (sys : System) (steps number : ℕ) (text : List ℕ) : Type 0 where
+  pub front : List ℕ
+  pub accepted : IsAccepted sys steps front
+  pub numbered : number ≡ length accepted.lines + 2
+  pub rest : List ℕ
+  pub more : 0 < length rest
+  pub is : text ≡ front ++ rest
+
+-- The line of this number, from 1, is not what the reactions give.
+abbrev pub IsWrongAt : System → (steps number : ℕ) → (text : List ℕ) → Type 0
+IsWrongAt sys steps number text = IsWrongLine sys steps number text ⊎ IsAfterLast sys steps number text

@@ -1,0 +1,60 @@
+-- What comes of a trace: its dump with the inside of basic blocks, or a front of one.
+use Rattle.std.specs.Prelude.{◌≡◌, ◌⊎◌, ℕ, List, ◌++◌, true, Option}
+use Rattle.std.specs.Io.KnownBytes.{Appends}
+use Rattle.fb_types.specs.Simulation.{Ending}
+use Rattle.fb_types.specs.Systems.{System}
+use Rattle.fb_types.specs.declared.run.Form.{Form}
+use Rattle.fb_types.specs.declared.run.Line.{Line}
+use Rattle.fb_wave.specs.CutOff.{IsCutTrace}
+use Rattle.fb_wave.specs.Waves.{AreLinesOf, IsTraceOf}
+use Rattle.fb_wave.specs.declared.truncation.Cut.{Cut}
+use Rattle.fb_wave.specs.declared.truncation.Cut.TheVariants as cut
+use Rattle.fb_inspect.specs.Inspections.{AreOfOne, AreTaken, AreTurns, EndsSo, NoneStops, most}
+use Rattle.fb_inspect.specs.Looks.{opening_look}
+use Rattle.fb_inspect.specs.StateDumps.{HaveLines, Taken, cut_dump, lines_of, state_dump, turns_of}
+
+-- The text is a trace whose takings are gone through, each from what the blocks remember, and the writer got the dump of these. A trace
+-- that stops for its steps stops where these are used up in a tick, and another one may use up to the greatest limit.
+pub record IsStateWave (sys : System) (steps : ℕ) (text : List ℕ) (old new : Option (List ℕ)) : Type 0 where
+  pub form : Form
+  pub takings : List Taken
+  pub end : Ending
+  pub trace : IsTraceOf sys form text (lines_of takings) end
+  pub lines : HaveLines sys takings
+  pub ends : EndsSo sys steps (turns_of takings) end
+  pub got : Appends old new (state_dump true sys takings end)
+
+-- .. and it is cut off. The event is not taken after which only lines of its own block come in its tick, since some of them may be missing.
+pub record IsCutStateWave (sys : System) (text : List ℕ) (old new : Option (List ℕ)) : Type 0 where
+  pub form : Form
+  pub takings : List Taken
+  pub untaken : List Line
+  pub trace : IsCutTrace sys form text (lines_of takings ++ untaken)
+  pub of_one : AreOfOne sys untaken
+  pub lines : HaveLines sys takings
+  pub chain : AreTurns sys most (opening_look sys) (turns_of takings)
+  pub goes_on : NoneStops (turns_of takings)
+  pub got : Appends old new (cut_dump true sys takings untaken)
+
+-- .. where a trace may be cut off or not
+abbrev pub IsShownWith : Cut → System → (steps : ℕ) → (text : List ℕ) → (old new : Option (List ℕ)) → Type 0
+IsShownWith cut.Refused sys steps text old new = IsStateWave sys steps text old new
+IsShownWith cut.Allowed sys steps text old new = IsStateWave sys steps text old new ⊎ IsCutStateWave sys text old new
+
+-- the dump of takings with some end, or with lines in which a trace is cut off
+abbrev pub IsDumpOf : System → List Taken → List ℕ → Type 0
+IsDumpOf sys xs text =
+    ((end : Ending) × (text ≡ state_dump true sys xs end)) ⊎ ((us : List Line) × AreOfOne sys us × (text ≡ cut_dump true sys xs us))
+
+-- A writer got the first bytes of a dump of takings that were gone through.
+pub record WritesFront (sys : System) (steps : ℕ) (old new : Option (List ℕ)) : Type 0 where
+  pub takings : List Taken
+  pub are : AreLinesOf sys (lines_of takings)
+  pub lines : HaveLines sys takings
+  pub taken : AreTaken sys steps (turns_of takings)
+  pub dump : List ℕ
+  pub is : IsDumpOf sys takings dump
+  pub bytes : List ℕ
+  pub rest : List ℕ
+  pub parts : bytes ++ rest ≡ dump
+  pub got : Appends old new bytes

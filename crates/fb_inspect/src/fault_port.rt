@@ -1,0 +1,70 @@
+//! What is wrong with a line after its tick.
+
+ghost use Rattle.std.specs.Prelude.{◌≡◌, List, ℕ, IfErr, IfOk, MatchOption};
+ghost use Rattle.fb_types.specs.Headline.{system_of};
+ghost use Rattle.fb_wave.specs.Ports.{IsPortOf};
+ghost use Rattle.fb_wave.specs.Words.{AreThree};
+ghost use Rattle.fb_inspect.specs.LineFaults.{IsOfPort, IsPortFault, path_event, sign_text};
+
+use crate::fault_names::{event_of, events_of, instance_of, taken_of};
+use crate::fault_values::port_values_fault;
+use crate::fault_words::{ThreeWords, halves, three_words};
+use crate::line_fault::PortFault;
+use fb_system::System;
+use fb_wave::Port;
+use fb_wave::last::resource_of;
+use fb_wave::ports::holder_of;
+
+/// The port of the second and the third word of a line.
+fn port_of<'a>(system: &System, words: &ThreeWords<'a>) -> Result<Port, PortFault<'a>>
+    ensures port { IfOk result (IsPortOf (system_of system.now)) }
+    ensures sign { IfOk result (λ p. words.now.sign.now ≡ sign_text p.taken) }
+    ensures named { IfOk result (λ p. words.now.port.now ≡ path_event (system_of system.now) p) }
+    ensures fault { (text : List ℕ) → AreThree text words.now.resource.now words.now.sign.now words.now.port.now words.now.rest.now
+        → IfErr result (IsPortFault (system_of system.now) text) }
+{
+    let Some(taken) = taken_of(words.sign) else {
+        return Err(PortFault::Sign(words.sign));
+    };
+    let Some(parts) = halves(words.port, b'.') else {
+        return Err(PortFault::NoEvent(words.port));
+    };
+    let Some(instance) = instance_of(system, parts.0) else {
+        return Err(PortFault::Instance(parts.0));
+    };
+    match event_of(events_of(system.ports(instance), taken), parts.1) {
+        Some(event) => Ok(Port {
+            instance,
+            event,
+            taken,
+        }),
+        None => Err(PortFault::Event {
+            instance,
+            taken,
+            name: parts.1,
+        }),
+    }
+}
+
+/// What is wrong after the tick of a line.
+pub(crate) fn port_fault<'a>(system: &System, text: &'a [u8]) -> Option<PortFault<'a>>
+    ensures { MatchOption result (IsOfPort (system_of system.now) text.now) (IsPortFault (system_of system.now) text.now) }
+{
+    let Some(words) = three_words(text) else {
+        return Some(PortFault::Short);
+    };
+    let Some(_resource) = resource_of(system, words.resource) else {
+        return Some(PortFault::Resource(words.resource));
+    };
+    let port = match port_of(system, &words) {
+        Ok(port) => port,
+        Err(fault) => return Some(fault),
+    };
+    if system.resource_name(holder_of(system, port) as usize) != words.resource {
+        return Some(PortFault::Elsewhere(port));
+    }
+    match port_values_fault(system, port, words.rest) {
+        Some(fault) => Some(PortFault::Values(port, fault)),
+        None => None,
+    }
+}

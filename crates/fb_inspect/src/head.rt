@@ -1,0 +1,142 @@
+//! The head of a dump with the inside of basic blocks.
+
+ghost use Rattle.std.specs.Prelude.{◌≡◌, ◌<◌, ◌+◌, ◌-◌, ◌++◌, true, IfOk, OnOk, length};
+ghost use Rattle.fb_types.specs.Headline.{system_of};
+ghost use Rattle.fb_types.specs.Numbers.{path_at, ports_at};
+ghost use Rattle.fb_wave.specs.Scopes as ports;
+ghost use Rattle.fb_wave.specs.Signals.{first_signal};
+ghost use Rattle.fb_wave.specs.Writing.{AreFirsts};
+ghost use Rattle.fb_inspect.specs.Looks.{opening_look};
+ghost use Rattle.fb_inspect.specs.Walking.{AreKept};
+ghost use Rattle.fb_inspect.specs.Heads as spec;
+ghost use Rattle.fb_inspect.specs.Inner.{inner_begun, inner_declared};
+
+use crate::before::{inside_of, put_inside};
+use crate::blocks::{Remembered, basic_type};
+use crate::inner::put_chart;
+use fb_system::System;
+use fb_wave::head::{put_begun, put_instance};
+use fb_wave::scopes::{put_closed, put_opened};
+use std::alloc::{AllocError, Global};
+
+/// Declares the inside of an instance.
+fn put_inner(text: &mut Vec<u8>, system: &System, instance: u32) -> Result<(), AllocError>
+    requires { instance < length (system_of system.now).paths }
+    ensures { OnOk result (text.new.items ≡ text.old.items ++ inner_declared (system_of system.now) (path_at (system_of system.now) instance)) }
+{
+    system.facts();
+    match basic_type(system, instance) {
+        Some(block) => put_chart(text, instance, block),
+        None => Ok(()),
+    }
+}
+
+/// Puts the scope of an instance with its inside, where the given number of scopes of instances are open, and returns how many
+/// are open then.
+fn put_whole(
+    text: &mut Vec<u8>,
+    system: &System,
+    firsts: &[usize],
+    depth: usize,
+    instance: u32,
+) -> Result<usize, AllocError>
+    requires firsts { AreFirsts (system_of system.now) firsts.now }
+    requires instance { instance < length (system_of system.now).paths }
+    ensures height { IfOk result (λ h. h ≡ length (path_at (system_of system.now) instance)) }
+    ensures text { OnOk result (let sys = system_of system.now in let p = path_at sys instance in
+        text.new.items ≡ text.old.items ++ (ports.closed (depth + 1 - length p) ++ ports.opened (ports.own_name p) ++ ports.ports_declared (first_signal sys instance) (ports_at sys p) ++ inner_declared sys p)) }
+{
+    let height = put_instance(text, system, firsts, depth, instance)?;
+    put_inner(text, system, instance)?;
+    Ok(height)
+}
+
+/// Puts the scopes of the instances of a resource.
+fn put_instances(
+    text: &mut Vec<u8>,
+    system: &System,
+    firsts: &[usize],
+    resource: usize,
+) -> Result<(), AllocError>
+    requires { AreFirsts (system_of system.now) firsts.now }
+    ensures { OnOk result (text.new.items ≡ text.old.items
+        ++ spec.instances_opened true (system_of system.now) resource 0 0 (system_of system.now).paths) }
+{
+    system.facts();
+    let mut depth = 0;
+    for index in 0..system.count() {
+        if system.resource(index as u32) == resource {
+            let height = put_whole(text, system, firsts, depth, index as u32)?;
+            depth = height;
+        }
+    }
+    put_closed(text, depth)
+}
+
+/// Puts the scopes of all resources.
+fn put_resources(text: &mut Vec<u8>, system: &System, firsts: &[usize]) -> Result<(), AllocError>
+    requires { AreFirsts (system_of system.now) firsts.now }
+    ensures { OnOk result (text.new.items ≡ text.old.items
+        ++ spec.resources_opened true (system_of system.now) 0 (system_of system.now).resource_names) }
+{
+    for resource in 0..system.resources() {
+        put_opened(text, system.resource_name(resource))?;
+        put_instances(text, system, firsts, resource)?;
+        put_closed(text, 1)?;
+    }
+    Ok(())
+}
+
+/// Puts what the inside of an instance begins with.
+fn put_inner_begun(
+    text: &mut Vec<u8>,
+    system: &System,
+    blocks: &[Remembered],
+    instance: u32,
+) -> Result<(), AllocError>
+    requires instance { instance < length (system_of system.now).paths }
+    requires blocks { AreKept (system_of system.now) blocks.now (opening_look (system_of system.now)) }
+    ensures { OnOk result (text.new.items ≡ text.old.items ++ inner_begun (system_of system.now) (path_at (system_of system.now) instance)) }
+{
+    system.facts();
+    match inside_of(system, blocks, instance) {
+        Some(inside) => put_inside(text, instance, &inside),
+        None => Ok(()),
+    }
+}
+
+/// Puts what the inside of all instances begins with.
+fn put_insides_begun(
+    text: &mut Vec<u8>,
+    system: &System,
+    blocks: &[Remembered],
+) -> Result<(), AllocError>
+    requires { AreKept (system_of system.now) blocks.now (opening_look (system_of system.now)) }
+    ensures { OnOk result (text.new.items ≡ text.old.items ++ spec.insides_begun true (system_of system.now) (system_of system.now).paths) }
+{
+    system.facts();
+    for index in 0..system.count() {
+        put_inner_begun(text, system, blocks, index as u32)?;
+    }
+    Ok(())
+}
+
+/// Puts the head of a dump: the time scale, the scopes of the resources, the first time and what signals begin with.
+pub(crate) fn put_head(
+    alloc: Global,
+    text: &mut Vec<u8>,
+    system: &System,
+    firsts: &[usize],
+    blocks: &[Remembered],
+) -> Result<(), AllocError>
+    requires firsts { AreFirsts (system_of system.now) firsts.now }
+    requires blocks { AreKept (system_of system.now) blocks.now (opening_look (system_of system.now)) }
+    ensures { OnOk result (text.new.items ≡ text.old.items ++ spec.state_head true (system_of system.now)) }
+{
+    text.extend_from_slice(b"$timescale 1 ms $end\n")?;
+    put_resources(text, system, firsts)?;
+    text.extend_from_slice(b"$enddefinitions $end\n#0\n$dumpvars\n")?;
+    put_begun(alloc, text, system, firsts)?;
+    put_insides_begun(text, system, blocks)?;
+    text.extend_from_slice(b"$end\n")
+}

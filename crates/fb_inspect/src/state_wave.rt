@@ -1,0 +1,231 @@
+//! Through a trace, taking by taking.
+
+ghost use Rattle.std.specs.Prelude.{◌≡◌, ◌<◌, ◌∷◌, ◌++◌, ℕ, List, Option, [], All, IfOk, IfSome, IsTrue, OnErr, OnOk, length, true, false};
+ghost use Rattle.std.specs.Io.KnownBytes.{Consumes, IsAtEnd};
+ghost use Rattle.fb_types.specs.Headline.{system_of};
+ghost use Rattle.fb_types.specs.Numbers.{path_at};
+ghost use Rattle.fb_types.specs.Systems.{System as Flat};
+ghost use Rattle.fb_types.specs.declared.run.Line as run;
+ghost use Rattle.fb_system.specs.Lines.{BelongsTo};
+ghost use Rattle.fb_inspect.specs.Inspections.{most};
+ghost use Rattle.fb_inspect.specs.Lines.{IsNext};
+ghost use Rattle.fb_inspect.specs.Looks.{Look};
+ghost use Rattle.fb_inspect.specs.Moves.{IsLineAt};
+ghost use Rattle.fb_inspect.specs.Walking.{AreKept, IsLookOf, unread};
+ghost use Rattle.fb_inspect.specs.Dumping.{IsPortDump, Shows, ShowsUntaken};
+ghost use Rattle.fb_inspect.specs.Saved.{IsBefore};
+ghost use Rattle.fb_inspect.specs.StateDumps.{Taken};
+ghost use Rattle.fb_inspect.specs.StateWaves.{IsShownWith, WritesFront};
+ghost use Rattle.fb_inspect.specs.Waving.{CanShow, Finishes, FinishesCut, HasGoneOn, HasWaved, IsNextKept, SendsCutPart, SendsPart, ShowsTaking, WaveStarts};
+
+use crate::Terms;
+use crate::ahead::Ahead;
+use crate::before::Before;
+use crate::error::InspectError;
+use crate::page::Page;
+use crate::port_dump::PortDump;
+use crate::reading::{Next, Reading};
+use crate::trail::Fixed;
+use crate::walk::{Step, Walk};
+use fb_system::System;
+use fb_trace::Outcome;
+use fb_wave::{Cut, is_over};
+use std::alloc::AllocError;
+use std::io::{BufRead, Write};
+
+/// A dump, as far as a trace was gone through.
+#[derive(Drop)]
+pub(crate) struct StateWave {
+    pub(crate) walk: Walk,
+    pub(crate) dump: PortDump,
+    pub(crate) page: Page,
+    pub(crate) before: Before,
+}
+
+/// An event of an instance, in a tick.
+#[derive(Clone, Copy)]
+pub(crate) struct EventAt {
+    instance: u32,
+    /// The tick, in milliseconds.
+    tick: u64,
+}
+
+/// Keeps the inside of the instance of the next line, if that is the line of an event.
+fn keep_next(
+    before: &mut Before,
+    system: &System,
+    walk: &Walk,
+) -> Result<Option<EventAt>, AllocError>
+    requires next { (line : run.Line) → walk.now.trail.reading.next ≡ Next.Event line → line.instance < length (system_of system.now).paths }
+    requires kept { (look : Look) × AreKept (system_of system.now) walk.now.blocks.items look }
+    ensures { IfOk result (IsNextKept (system_of system.now) walk.now before.new) }
+{
+    let Next::Event(line) = &walk.trail.reading.next else {
+        return Ok(None);
+    };
+    let at = EventAt {
+        instance: line.instance,
+        tick: line.key.tick,
+    };
+    before.keep(system, walk.blocks.as_slice(), at.instance)?;
+    Ok(Some(at))
+}
+
+/// Whether a trace is cut off there.
+fn is_cut_off(step: Step) -> bool
+    ensures yes { IsTrue result → step ≡ Step.CutOff }
+    ensures no { result ≡ false → step ≡ Step.CutOff → ⊥ }
+{
+    match step {
+        Step::CutOff => true,
+        Step::Taken | Step::Ended(_) => false,
+    }
+}
+
+/// Whether nothing comes after the last line. Otherwise it was read ahead, or this reads it.
+fn is_at_end<R: BufRead>(
+    ahead: &Ahead,
+    reading: &mut Reading,
+    input: &mut R,
+) -> Result<bool, InspectError>
+    ensures { IfOk result (λ over. IsTrue over → IsAtEnd (unread ahead.now (R.remaining input.old))) }
+{
+    if !ahead.text.is_empty() {
+        return Ok(false);
+    }
+    Ok(is_over(input, &mut reading.line)?)
+}
+
+impl StateWave {
+    /// Shows the taking of an event that was gone through.
+    fn show(&mut self, system: &System, at: EventAt) -> Result<(), AllocError>
+        requires { CanShow (system_of system.now) at self.old }
+        ensures numbers { OnOk result (IsPortDump (system_of system.now) self.new.dump) }
+        ensures walk { self.new.walk ≡ self.old.walk }
+        ensures shown { (look after : Look) → let p = path_at (system_of system.now) at.instance in
+            IsBefore ((system_of system.now).kind p) self.old.before (look.blocks p)
+            → AreKept (system_of system.now) self.old.walk.blocks.items after
+            → OnOk result (ShowsTaking (system_of system.now) at look after self.old self.new) }
+    {
+        system.facts();
+        let text = &mut self.page.text;
+        self.dump.turn(at.tick, text)?;
+        let is_lost = self.walk.trail.marks.charts.lost;
+        let blocks = self.walk.blocks.as_slice();
+        self.before
+            .put_changes(text, system, blocks, at.instance, is_lost)?;
+        let lines = self.walk.trail.passed.lines.as_slice();
+        self.dump.show_lines(system, lines)
+    }
+
+    /// Shows the line of the event in which the trace is cut off, and those of its block that come after it.
+    fn show_untaken(&mut self, system: &System, ahead: &Ahead) -> Result<(), AllocError>
+        requires dump { IsPortDump (system_of system.now) self.old.dump }
+        requires next { (line : run.Line) × (self.old.walk.trail.reading.next ≡ Next.Event line) × BelongsTo (system_of system.now) line }
+        requires rows { All (BelongsTo (system_of system.now)) ahead.now.rows.items }
+        ensures numbers { OnOk result (IsPortDump (system_of system.now) self.new.dump) }
+        ensures shown { (line : run.Line) (xs : List Taken) (sent : List ℕ) → self.old.walk.trail.reading.next ≡ Next.Event line
+            → All (IsLineAt (system_of system.now) line.key.tick) ahead.now.rows.items
+            → Shows (system_of system.now) xs (sent ++ self.old.page.text.items) self.old.dump
+            → OnOk result (ShowsUntaken (system_of system.now) xs (line ∷ ahead.now.rows.items) (sent ++ self.new.page.text.items) self.new.dump) }
+    {
+        let Next::Event(line) = &self.walk.trail.reading.next else {
+            unreachable!()
+        };
+        self.dump.turn(line.key.tick, &mut self.page.text)?;
+        self.dump.show_line(system, line)?;
+        self.dump.show_lines(system, ahead.rows.as_slice())
+    }
+
+    /// Goes on by one event, or to the end of the trace, and shows what was taken.
+    fn step<R: BufRead>(
+        &mut self,
+        fixed: &Fixed<'_, '_>,
+        terms: Terms,
+        ahead: &mut Ahead,
+        input: &mut R,
+    ) -> Result<Step, InspectError>
+        requires look { (look : Look) × IsLookOf (system_of fixed.now.table.now.system.now) self.old.walk.blocks.items self.old.walk.steps.items look }
+        requires next { (tick : ℕ) × IsNext (system_of fixed.now.table.now.system.now) fixed.now.form tick self.old.walk.trail.reading.line.items self.old.walk.trail.reading.next }
+        requires limit { fixed.now.limit ≡ most }
+        requires kept { self.old.walk.trail.passed.are_kept ≡ true }
+        requires dump { IsPortDump (system_of fixed.now.table.now.system.now) self.old.dump }
+        ensures goes { (known old new : Option (List ℕ)) → let sys = system_of fixed.now.table.now.system.now in
+            HasWaved sys fixed.now.form terms.steps self.old known (unread ahead.old (R.remaining input.old)) old new
+            → IfOk result (HasGoneOn sys fixed.now.form terms.steps self.new known (unread ahead.new (R.remaining input.new)) old new) }
+        ensures cut { IfOk result (λ step. step ≡ Step.CutOff → terms.cut ≡ Cut.Allowed) }
+    {
+        let system = fixed.table.system;
+        let kept = keep_next(&mut self.before, system, &self.walk)?;
+        self.walk.trail.passed.lines.clear();
+        self.walk.trail.marks.charts.lost = false;
+        let step = self.walk.step(fixed, terms, ahead, input)?;
+        if is_cut_off(step) {
+            self.show_untaken(system, ahead)?;
+            return Ok(step);
+        }
+        let Some(event) = kept else {
+            return Ok(step);
+        };
+        self.show(system, event)?;
+        Ok(step)
+    }
+
+    /// Puts the end, and writes all that waits, if nothing is left after the last line.
+    fn finish<R: BufRead, W: Write>(
+        &mut self,
+        system: &System,
+        end: Outcome,
+        ahead: &Ahead,
+        input: &mut R,
+        out: &mut W,
+    ) -> Result<(), InspectError>
+        ensures finishes { OnOk result (Finishes (system_of system.now) end self.old (unread ahead.now (R.remaining input.old)) (W.contents out.old) (W.contents out.new)) }
+        ensures fault { OnErr result (SendsPart (system_of system.now) end self.old (W.contents out.old) (W.contents out.new)) }
+    {
+        self.dump.end(system, end, &mut self.page.text)?;
+        let reading = &mut self.walk.trail.reading;
+        reading.after_end = true;
+        if !is_at_end(ahead, reading, input)? {
+            return Err(InspectError::Refused(reading.number.saturating_add(1)));
+        }
+        self.page.flush(out)
+    }
+
+    /// Puts that the trace is cut off, and writes all that waits.
+    pub(crate) fn finish_cut<W: Write>(&mut self, out: &mut W) -> Result<(), InspectError>
+        ensures finishes { (sys : Flat) → OnOk result (FinishesCut sys self.old (W.contents out.old) (W.contents out.new)) }
+        ensures fault { (sys : Flat) → OnErr result (SendsCutPart sys self.old (W.contents out.old) (W.contents out.new)) }
+    {
+        self.dump.cut_off(&mut self.page.text)?;
+        self.page.flush(out)
+    }
+
+    /// Goes through a trace to its end.
+    pub(crate) fn go<R: BufRead, W: Write>(
+        &mut self,
+        fixed: &Fixed<'_, '_>,
+        terms: Terms,
+        ahead: &mut Ahead,
+        input: &mut R,
+        out: &mut W,
+    ) -> Result<(), InspectError>
+        requires starts { WaveStarts (system_of fixed.now.table.now.system.now) fixed.now.form self.old }
+        requires limit { fixed.now.limit ≡ most }
+        requires empty { ahead.old.text.items ≡ [] }
+        ensures whole { (known : Option (List ℕ)) → Consumes known (R.remaining input.old) self.old.walk.trail.reading.line.items
+            → OnOk result (IfSome known (λ text. IsShownWith terms.cut (system_of fixed.now.table.now.system.now) terms.steps text (W.contents out.old) (W.contents out.new))) }
+        ensures fault { OnErr result (WritesFront (system_of fixed.now.table.now.system.now) terms.steps (W.contents out.old) (W.contents out.new)) }
+    {
+        for _ in 0..u64::MAX {
+            match self.step(fixed, terms, ahead, input)? {
+                Step::Taken => self.page.flush_much(out)?,
+                Step::Ended(end) => {
+                    return self.finish(fixed.table.system, end, ahead, input, out);
+                }
+                Step::CutOff => return self.finish_cut(out),
+            }
+        }
+        Err(InspectError::Read)
+    }
+}

@@ -1,0 +1,108 @@
+//! The dump of a trace with the inside of basic blocks.
+
+ghost use Rattle.std.specs.Prelude.{IfOk, IfSome, OnErr, OnOk};
+ghost use Rattle.fb_types.specs.Headline.{system_of};
+ghost use Rattle.fb_inspect.specs.StateWaves.{IsShownWith, WritesFront};
+ghost use Rattle.fb_inspect.specs.Waving.{Begins};
+
+use crate::ahead::Ahead;
+use crate::before::Before;
+use crate::covering::none_shown;
+use crate::error::InspectError;
+use crate::insides::{begun, first_reading, is_severed, lend};
+use crate::page::Page;
+use crate::port_dump::PortDump;
+use crate::reading::Reading;
+use crate::state_wave::StateWave;
+use crate::trail::Fixed;
+use crate::{RefusedLine, Terms};
+use fb_coverage::Marks;
+use fb_system::System;
+use fb_types::MOST_STEPS;
+use fb_wave::{PortTable, form_of, next_line, ports_of, texts_of};
+use std::alloc::{AllocError, Global};
+use std::io::{BufRead, Write};
+
+/// A dump that was begun, with the first line of a trace.
+fn begin(alloc: Global, system: &System, reading: Reading) -> Result<StateWave, AllocError>
+    ensures { IfOk result (Begins (system_of system.now) reading) }
+{
+    let only = none_shown(alloc)?;
+    let mut walk = begun(alloc, system, only.as_slice(), Marks::none(alloc), reading)?;
+    walk.trail.passed.are_kept = true;
+    let mut page = Page::new(alloc);
+    let blocks = walk.blocks.as_slice();
+    let dump = PortDump::begin(alloc, system, blocks, &mut page.text)?;
+    Ok(StateWave {
+        walk,
+        dump,
+        page,
+        before: Before::new(alloc),
+    })
+}
+
+/// Reads a trace of the system of a table, and writes its dump with the inside of basic blocks.
+fn write_with<R: BufRead, W: Write>(
+    alloc: Global,
+    table: &PortTable<'_>,
+    terms: Terms,
+    refused: &mut RefusedLine,
+    input: &mut R,
+    out: &mut W,
+) -> Result<(), InspectError>
+    ensures whole { OnOk result (IfSome (R.remaining input.old) (λ text. IsShownWith terms.cut (system_of table.now.system.now) terms.steps text (W.contents out.old) (W.contents out.new))) }
+    ensures fault { OnErr result (WritesFront (system_of table.now.system.now) terms.steps (W.contents out.old) (W.contents out.new)) }
+{
+    let mut line = Vec::new(alloc);
+    next_line(input, &mut line)?;
+    let is_short = is_severed(terms.cut, line.as_slice());
+    let form = form_of(line.as_slice());
+    let reading = first_reading(alloc, table, form, line)?;
+    let mut wave = begin(alloc, table.system, reading)?;
+    if is_short {
+        return wave.finish_cut(out);
+    }
+    let fixed = Fixed {
+        alloc,
+        table,
+        form,
+        limit: MOST_STEPS,
+    };
+    let mut ahead = Ahead::new(alloc, table)?;
+    let gone = wave.go(&fixed, terms, &mut ahead, input, out);
+    lend(alloc, form, &mut wave.walk.trail, refused);
+    gone
+}
+
+/// Reads a trace of the system, in either form, and writes its value change dump with the inside of basic blocks: in the scope
+/// of each, after its ports, its state, by name, its internal variables, and the events that it lost.
+///
+/// A time of the dump is a tick, in milliseconds. In a tick each signal of a port changes once, at most. What changes inside
+/// a block comes where its taking is, so a state changes as often as takings change it. All memory is that of the blocks and
+/// the signals, of the lines that an event brings about, and of a page.
+///
+/// A trace that ends where a resource has used up its steps is gone through with the limit of the terms, and another one
+/// with the greatest that a run may have. The dump of one that is cut off ends in a comment that says so, if the terms allow
+/// it. Before that, lines that may be only a part of what an event brings about are shown at ports alone.
+///
+/// # Errors
+/// As those of `crate::inspect`: the line is lent at which the trace is refused. What was written then is the beginning of
+/// a dump of takings that were gone through.
+pub fn write_states<R: BufRead, W: Write>(
+    alloc: Global,
+    system: &System,
+    terms: Terms,
+    refused: &mut RefusedLine,
+    input: &mut R,
+    out: &mut W,
+) -> Result<(), InspectError>
+    ensures whole { OnOk result (IfSome (R.remaining input.old) (λ text. IsShownWith terms.cut (system_of system.now) terms.steps text (W.contents out.old) (W.contents out.new))) }
+    ensures fault { OnErr result (WritesFront (system_of system.now) terms.steps (W.contents out.old) (W.contents out.new)) }
+{
+    let ports = ports_of(alloc, system)?;
+    let texts = texts_of(alloc, system, ports.as_slice())?;
+    let Some(table) = PortTable::of(alloc, system, ports.as_slice(), texts.as_slice())? else {
+        return Err(InspectError::Names);
+    };
+    write_with(alloc, &table, terms, refused, input, out)
+}

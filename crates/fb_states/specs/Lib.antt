@@ -1,8 +1,0 @@
-pub mod Inner
-pub mod Heads
-pub mod StateDumps
-pub mod Saved
-pub mod Dumping
-pub mod StateWaves
-pub mod Waving
-pub mod Laws

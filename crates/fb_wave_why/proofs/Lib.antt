@@ -1,5 +1,0 @@
-pub mod Three
-pub mod Halving
-pub mod Ported
-pub mod Bound
-pub mod Named
