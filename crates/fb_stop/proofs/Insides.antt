@@ -19,8 +19,8 @@ use Rattle.fb_st.specs.declared.frame.Slot.{Slot}
 use Rattle.fb_ecc.specs.Indexes.{state_at}
 use Rattle.fb_ecc.specs.Sound.{IsSound, declared_by}
 use Rattle.fb_ecc.proofs.Actions.{types_declared}
-use Rattle.fb_fault.specs.Operations.{FaultIn}
-use Rattle.fb_fault.specs.declared.operation.Operation.{Operation}
+use Rattle.fb_stop.specs.Operations.{FaultIn}
+use Rattle.fb_stop.specs.declared.operation.Operation.{Operation}
 use Rattle.fb_stop.specs.Places.{IsNth}
 use Rattle.fb_stop.specs.Sites.{FailsInGuard, StopsInBody, StopsInStatements}
 use Rattle.fb_stop.specs.declared.site.Inside.{Inside}

@@ -1,3 +1,10 @@
+pub mod Runs
+pub mod Defined
+pub mod Operating
+pub mod Placing
+pub mod Otherwise
+pub mod Alone
+pub mod Missing
 pub mod Failing
 pub mod Stopping
 pub mod Takings
@@ -9,3 +16,4 @@ pub mod Locating
 pub mod Spending
 pub mod CopiedSlots
 pub mod Insides
+pub mod Unsaid

@@ -1,3 +1,9 @@
+pub mod Numbers
+pub mod Blamed
+pub mod Ends
+pub mod Tokens
+pub mod Operations
+pub mod Statements
 pub mod Sites
 pub mod Links
 pub mod Runs

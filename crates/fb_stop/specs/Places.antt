@@ -17,10 +17,10 @@ use Rattle.fb_read_positions.specs.declared.position.BasicPart.{BasicPart}
 use Rattle.fb_read_positions.specs.declared.position.BasicPart.TheVariants as part
 use Rattle.fb_read_positions.specs.declared.position.Position.{Position}
 use Rattle.fb_read_positions.specs.declared.position.Position.TheVariants as position
-use Rattle.fb_fault.specs.declared.operation.Operation.{Operation}
-use Rattle.fb_fault.specs.declared.statement.Anchor.{Anchor}
-use Rattle.fb_fault.specs.declared.statement.Anchor.TheVariants.{Beginning, Elsif, Until}
-use Rattle.fb_fault.specs.declared.statement.Placed.{Placed}
+use Rattle.fb_stop.specs.declared.operation.Operation.{Operation}
+use Rattle.fb_stop.specs.declared.statement.Anchor.{Anchor}
+use Rattle.fb_stop.specs.declared.statement.Anchor.TheVariants.{Beginning, Elsif, Until}
+use Rattle.fb_stop.specs.declared.statement.Placed.{Placed}
 use Rattle.fb_read_positions.specs.declared.position.TransitionPart.{TransitionPart}
 use Rattle.fb_read_positions.specs.declared.position.TransitionPart.TheVariants.{Condition, Guard}
 use Rattle.fb_stop.specs.declared.found.EventSite.TheVariants.{Port}

@@ -2,7 +2,7 @@
 use Rattle.std.specs.Prelude.{◌≡◌, ℕ, ◌+◌, ◌-◌, List, drop, slice_get, Option, Some, None}
 use Rattle.fb_types.specs.Headline.{Inputs}
 use Rattle.fb_types.specs.declared.library.Library.{Library}
-use Rattle.fb_fault.specs.declared.operation.Operation.{Operation}
+use Rattle.fb_stop.specs.declared.operation.Operation.{Operation}
 use Rattle.fb_read.specs.Blank.{Text}
 use Rattle.fb_read.specs.Located.{AreLocated}
 use Rattle.fb_read.specs.Refusals.{IsNext}
@@ -11,7 +11,7 @@ use Rattle.fb_read.specs.declared.token.Located.{Located}
 use Rattle.fb_read.specs.declared.token.Span.{Span}
 use Rattle.fb_read_positions.specs.Places.{IsAt}
 use Rattle.fb_read_positions.specs.declared.position.Position.{Position}
-use Rattle.fb_fault.specs.declared.statement.Placed.{Placed}
+use Rattle.fb_stop.specs.declared.statement.Placed.{Placed}
 use Rattle.fb_stop.specs.Places.{IsStopPosition}
 use Rattle.fb_stop.specs.declared.found.FoundStop.{FoundStop}
 use Rattle.fb_stop.specs.declared.found.StopSite.{StopSite}

@@ -1,19 +1,21 @@
 //! What the variables of a basic block hold before an action, and the statement at which a reason comes from there.
 
-ghost use Rattle.std.specs.Prelude.{◌≡◌, ◌++◌, IfOk, IfSome, OnOk, Some, map, slice_get};
+ghost use Rattle.std.specs.Prelude.{◌≡◌, ◌≢◌, ◌++◌, IfNone, IfOk, IfSome, OnOk, Some, map, slice_get};
 ghost use Rattle.std.specs.List.{find};
 ghost use Rattle.std.specs.Option.{option_copied};
 ghost use Rattle.fb_types.specs.Charts.{actions_of, leaving};
 ghost use Rattle.fb_types.specs.Names.{same_name};
+ghost use Rattle.fb_types.specs.Syntax.{body_of};
 ghost use Rattle.fb_types.specs.declared.library.Action.{Action};
 ghost use Rattle.fb_st.specs.Frames.{declared_in, types_in, values_of};
-ghost use Rattle.fb_ecc.specs.Indexes.{state_at};
+ghost use Rattle.fb_st.specs.Known.{AllKnown};
+ghost use Rattle.fb_ecc.specs.Indexes.{IsStateOf, state_at};
 ghost use Rattle.fb_ecc.specs.Sound.{IsSound, declared_by};
-ghost use Rattle.fb_stop.specs.Sites.{FailsInGuard, StopsInBody, StopsInStatements, slot_in};
+ghost use Rattle.fb_stop.specs.Sites.{AreOtherwise, FailsInGuard, IsActionOtherwise, IsGuardOtherwise, StopsInBody, StopsInStatements, slot_in};
 
 use crate::place::transition_index;
 use crate::site::Inside;
-use fb_fault::{Fault, Operation, operation_in, operation_of, run_body};
+use crate::{Fault, Operation, operation_in, operation_of, run_body};
 use fb_st::{Frame, Meter, Slot, SlotList};
 use fb_types::{Algorithm, BasicType, Body, Name, Reason, Reference, Variable};
 use std::alloc::{AllocError, Global};
@@ -71,7 +73,8 @@ fn algorithm_named<'a>(algorithms: &'a [Algorithm], name: &Name) -> Option<&'a A
 
 /// The statement to blame, if the reason is this one.
 fn statement_of(fault: Fault, reason: Reason) -> Option<usize>
-    ensures { IfSome result (λ n. fault ≡ record { reason = reason; number = n }) }
+    ensures found { IfSome result (λ n. fault ≡ record { reason = reason; number = n }) }
+    ensures none { IfNone result (fault.reason ≢ reason) }
 {
     if fault.reason == reason {
         Some(fault.number)
@@ -81,9 +84,11 @@ fn statement_of(fault: Fault, reason: Reason) -> Option<usize>
 }
 
 /// The statement of a body at which a reason comes, and the operation, from these variables and with that many steps left
-/// before the action.
+/// before the action. `None` if no step is left for the action, or the body does not stop for this reason.
 fn inside_body(body: &Body, frame: &mut Frame, left: u64, reason: Reason) -> Option<Inside>
-    ensures { IfSome result (StopsInStatements (types_in (declared_in frame.old)) body.now (values_of frame.old) left reason) }
+    requires { AllKnown (declared_in frame.old) (body_of body.now) }
+    ensures found { IfSome result (StopsInStatements (types_in (declared_in frame.old)) body.now (values_of frame.old) left reason) }
+    ensures none { IfNone result (AreOtherwise (types_in (declared_in frame.old)) body.now (values_of frame.old) left reason) }
 {
     if left == 0 {
         return None;
@@ -103,7 +108,7 @@ fn inside_body(body: &Body, frame: &mut Frame, left: u64, reason: Reason) -> Opt
 }
 
 /// The statement at which a reason comes that stops the action at an index of a state, from these variables and with that
-/// many steps left before it.
+/// many steps left before it. `None` if no step is left for the action, or it does not stop for this reason.
 pub(crate) fn inside_action(
     block: &BasicType,
     state: usize,
@@ -114,8 +119,11 @@ pub(crate) fn inside_action(
 ) -> Option<Inside>
     requires sound { IsSound block.now }
     requires declared { declared_in frame.old ≡ declared_by block.now }
-    ensures { (a : Action) → slice_get (actions_of block.now (state_at block.now state)) action ≡ Some a →
+    requires state { IsStateOf block.now state }
+    ensures found { (a : Action) → slice_get (actions_of block.now (state_at block.now state)) action ≡ Some a →
         IfSome result (StopsInBody block.now a (values_of frame.old) left reason) }
+    ensures none { (a : Action) → slice_get (actions_of block.now (state_at block.now state)) action ≡ Some a →
+        IfNone result (IsActionOtherwise block.now a (values_of frame.old) left reason) }
 {
     let found = block.states.get(state)?.actions.get(action)?;
     match &found.algorithm {
@@ -128,7 +136,7 @@ pub(crate) fn inside_action(
 }
 
 /// The operation at which the guard of a transition has no value for a reason. The transition is the one at an index among
-/// those that leave a state.
+/// those that leave a state. `None` if the guard has a value, or none for another reason.
 pub(crate) fn inside_guard(
     block: &BasicType,
     state: usize,
@@ -136,7 +144,10 @@ pub(crate) fn inside_guard(
     frame: &Frame,
     reason: Reason,
 ) -> Option<Operation>
-    ensures { IfSome result (FailsInGuard (leaving block.now (state_at block.now state)) nth (values_of frame.now) reason) }
+    requires sound { IsSound block.now }
+    requires state { IsStateOf block.now state }
+    ensures found { IfSome result (FailsInGuard (leaving block.now (state_at block.now state)) nth (values_of frame.now) reason) }
+    ensures none { IfNone result (IsGuardOtherwise (leaving block.now (state_at block.now state)) nth (values_of frame.now) reason) }
 {
     let from = &block.states.get(state)?.name;
     let index = transition_index(block, from, nth)?;

@@ -1,21 +1,24 @@
 //! Where a stop is shown in the declaration.
 
-ghost use Rattle.std.specs.Prelude.{◌≡◌, ◌<◌, IfSome, IsTrue, length};
+ghost use Rattle.std.specs.Prelude.{◌≡◌, ◌<◌, ◌≤◌, IfNone, IfSome, IsTrue, length};
+ghost use Rattle.std.specs.List.{filter};
 ghost use Rattle.fb_types.specs.Headline.{system_of};
+ghost use Rattle.fb_types.specs.Names.{same_name};
 ghost use Rattle.fb_stop.specs.Places as spec;
 ghost use Rattle.fb_stop.specs.Places.{IsActionPart, IsAlgorithmAt, IsAlgorithmPart, IsNth, IsShown, IsSitePart, IsStopPosition, shown_part};
 
 use crate::found::{EventSite, FoundStop, StopSite};
 use crate::site::{Inside, Site};
+use crate::{Anchor, Operation, Placed};
 use fb_check_names::TypeNumber;
-use fb_fault::{Anchor, Operation, Placed};
 use fb_read_positions::{BasicPart, Position, TransitionPart};
 use fb_system::System;
 use fb_types::{BasicType, BlockType, Name};
 
 /// The index among all transitions of a type of the one that has an index among those that leave a state.
 pub(crate) fn transition_index(block: &BasicType, state: &Name, nth: usize) -> Option<usize>
-    ensures { IfSome result (IsNth block.now state.now nth) }
+    ensures found { IfSome result (IsNth block.now state.now nth) }
+    ensures none { IfNone result (length (filter (λ x. same_name x.from state.now) block.now.transitions) ≤ nth) }
 {
     let mut left = nth;
     for (index, transition) in block.transitions.as_slice().iter().enumerate() {

@@ -8,10 +8,10 @@ ghost use Rattle.fb_read.specs.declared.token.Located.{Located as Token};
 ghost use Rattle.fb_stop.specs.Shown as spec;
 ghost use Rattle.fb_stop.specs.Shown.{IsShownAmong, IsShownIn, IsStopShown, IsTokenAt};
 
+use crate::Operation;
 use crate::found::{FoundStop, StopSite};
 use crate::place::position_of;
 use crate::site::Site;
-use fb_fault::Operation;
 use fb_read::read::span_before;
 use fb_read::token::{Located, Span};
 use fb_read_positions::{Position, discard, span_of, tokens_of};

@@ -1,6 +1,6 @@
 //! Where the reaction of a basic block stops.
 
-use fb_fault::{Operation, Placed};
+use crate::{Operation, Placed};
 use fb_types::Reason;
 
 /// The statement of an algorithm at which a reason comes.

@@ -6,8 +6,9 @@ use Rattle.fb_st.specs.Frames.{values_of}
 use Rattle.fb_st.specs.declared.frame.Slot.{Slot}
 use Rattle.fb_ecc.specs.Indexes.{index, state_at}
 use Rattle.fb_types.specs.Values.{Values}
-use Rattle.fb_stop.specs.Sites.{FailsAt, FailsInGuard}
+use Rattle.fb_stop.specs.Sites.{FailsAt, FailsInGuard, IsGuardOtherwise}
 use Rattle.fb_stop.proofs.Failing.{fails_at}
+use Rattle.fb_stop.proofs.Unsaid.{guard_alone, if_none_map}
 use Rattle.fb_stop.proofs.reaction.link.Goals as goal
 
 pub returns-in-Err-clause-link : goal.returns-in-Err-clause-link
@@ -23,7 +24,14 @@ returns-in-Err-clause-link c =
       state = refl;
       here = subst (λ (j : ℕ). FailsAt ts event (values_of state.frame) c.args.meter.now.left c.in-Err.reason j) (sym c.failing-transition.ensures)
           (fails_at event (values_of state.frame) ts c.args.meter.now.left c.in-Err.reason left c.in-Err.ensures.trial);
-      within = subst (λ (vs : Values). IfSome c.inside_guard-operation.result (FailsInGuard ts c.failing-transition.result vs c.in-Err.reason)) (ap values_of c.clear.ensures.frame) c.inside_guard-operation.ensures;
+      within = subst (λ (vs : Values). IfSome c.inside_guard-operation.result (FailsInGuard ts c.failing-transition.result vs c.in-Err.reason)) (ap values_of c.clear.ensures.frame) c.inside_guard-operation.ensures.found;
+      alone = if_none_map c.inside_guard-operation.result
+          (λ other.
+          guard_alone ts event (values_of state.frame) c.args.meter.now.left c.in-Err.reason c.failing-transition.result
+          (subst (λ (j : ℕ). FailsAt ts event (values_of state.frame) c.args.meter.now.left c.in-Err.reason j) (sym c.failing-transition.ensures)
+          (fails_at event (values_of state.frame) ts c.args.meter.now.left c.in-Err.reason left c.in-Err.ensures.trial))
+          (subst (λ (vs : Values). IsGuardOtherwise ts c.failing-transition.result vs c.in-Err.reason) (ap values_of c.clear.ensures.frame) other))
+          c.inside_guard-operation.ensures.none;
       tried = c.in-Err.ensures.trial;
       stays = ap (λ (n : ℕ). index block n new.frame left emits) c.in-Err.ensures.stopped ∙ ap (λ (f : List Slot). index block state.state f left emits) c.clear.ensures.frame;
     }

@@ -8,9 +8,11 @@ use Rattle.fb_types.specs.declared.run.Halt.TheVariants as halt
 use Rattle.fb_types.specs.declared.value.Reason.{Reason}
 use Rattle.fb_types.proofs.ByIndex.{element_at}
 use Rattle.fb_ecc.specs.Indexes.{Ended, index, state_at}
-use Rattle.fb_stop.specs.Sites.{StopsInBody}
+use Rattle.fb_stop.specs.Sites.{IsActionOtherwise, StopsInBody}
 use Rattle.fb_stop.specs.declared.site.Site.TheVariants as site
+use Rattle.fb_st.specs.Frames.{values_of}
 use Rattle.fb_stop.proofs.Stopping.{acts_more}
+use Rattle.fb_stop.proofs.Unsaid.{if_none_map}
 use Rattle.fb_stop.proofs.reaction.perform.Goals as goal
 
 stop_of : (h : Halt) (r : Reason) (moves : Moving) (p q : Position) → h ≡ halt.Stop r → Ended (Err h) moves p q → moves p (Some r) q
@@ -41,7 +43,12 @@ returns-in-Err-Stop-clause-performed c =
         stops = rw c.in-Err-Stop.field-0-is (stop_of _ c.in-Err-Stop.reason (Acts block (a.0 ∷ []) c.loop-action.meter.left) m q c.in-Err-Stop.field-0-is (c.in-Err-Stop.ensures.performed a.0 at));
         within = rw c.in-Err-Stop.field-0-is
             (subst (λ (vs : Values). IfSome c.inside_action-inside.result (StopsInBody block a.0 vs c.loop-action.meter.left c.in-Err-Stop.reason)) c.in_ok-before.ensures.values
-            (rw c.in-Err-Stop.field-0-is at (c.inside_action-inside.ensures a.0 there)));
+            (rw c.in-Err-Stop.field-0-is at (c.inside_action-inside.ensures.found a.0 there)));
+        alone = if_none_map c.inside_action-inside.result
+            (λ (other : IsActionOtherwise block a.0 (values_of c.in_ok-before.before) c.loop-action.meter.left c.in-Err-Stop.reason).
+            other m q (sym c.in_ok-before.ensures.values)
+            (stop_of _ c.in-Err-Stop.reason (Acts block (a.0 ∷ []) c.loop-action.meter.left) m q c.in-Err-Stop.field-0-is (c.in-Err-Stop.ensures.performed a.0 at)))
+            (rw c.in-Err-Stop.field-0-is at (c.inside_action-inside.ensures.none a.0 there));
       },
     )
 

@@ -1,6 +1,0 @@
-pub mod Numbers
-pub mod Blamed
-pub mod Ends
-pub mod Tokens
-pub mod Operations
-pub mod Statements

@@ -1,0 +1,19 @@
+use Rattle.std.proofs.Common.{List, None, subst}
+use Rattle.fb_types.specs.Bodies.{Point}
+use Rattle.fb_types.specs.Syntax.{body_of}
+use Rattle.fb_types.specs.Values.{Types}
+use Rattle.fb_types.specs.declared.text.Stmt.{Stmt}
+use Rattle.fb_st.specs.Flows.{all_of, point}
+use Rattle.fb_st.specs.Frames.{declared_in, types_in}
+use Rattle.fb_stop.specs.Blamed.{End, RunsAll}
+use Rattle.fb_stop.specs.Ends.{end_of}
+use Rattle.fb_stop.proofs.Defined.{all_plainly}
+use Rattle.fb_stop.proofs.body.run_body.Goals as goal
+
+pub returns-clause-defined : goal.returns-clause-defined
+returns-clause-defined c =
+    let T : Types = types_in (declared_in c.args.frame.now) in
+    let p : Point = point c.args.frame.now c.args.meter.now in
+    let q : Point = point c.run_each.new.frame c.run_each.new.meter in
+    let e : End = end_of c.run_each.result in
+    all_plainly T None 0 (body_of c.args.body.now) p e q (subst (λ (ss : List Stmt). RunsAll T None 0 (all_of ss) p e q) c.as_slice.ensures c.run_each.ensures.run)
