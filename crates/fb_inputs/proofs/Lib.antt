@@ -1,3 +1,5 @@
+pub mod Counting
+pub mod Around
 pub mod Each
 pub mod Parts
 pub mod Fields

@@ -1,3 +1,10 @@
+pub mod Counts
+pub mod Positions
+pub mod Records
+pub mod Lines
+pub mod Arrays
+pub mod Passing
+pub mod NearPlaces
 pub mod Refusals
 pub mod Places
 pub mod DeployPlaces

@@ -9,15 +9,23 @@
 //! `text`, `number`, `keyword` and `error`.
 #![tactic(auto)]
 
+mod arrays;
+mod csv_records;
 pub mod deploy_location;
 pub mod deployment;
 mod document;
 pub mod error;
 mod keyword;
+mod lines;
 pub mod location;
+pub mod near_deployment;
+pub mod near_stimuli;
 mod number;
 mod paired;
+pub mod position;
 mod row;
+mod row_positions;
+mod scan;
 pub mod stimuli;
 mod table;
 pub mod text;
@@ -26,5 +34,8 @@ pub use deploy_location::{DeployFault, DeployKey, DeployLocation, TableFault, Ta
 pub use deployment::{deployment_location, locate_deploy, read_deploy};
 pub use error::InputError;
 pub use location::{RowFault, StimuliFault, StimuliLocation};
+pub use near_deployment::{nearest_in_deployment, span_in_deployment};
+pub use near_stimuli::{nearest_in_stimuli, span_in_stimuli};
+pub use position::{DeployPosition, StimuliPosition, deploy_position, stimuli_position};
 pub use stimuli::{locate_stimuli, read_stimuli, records_of, stimuli_location};
 pub use text::name;

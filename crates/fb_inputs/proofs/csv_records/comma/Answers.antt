@@ -1,0 +1,18 @@
+use Rattle.std.proofs.Common.{refl, sym, ◌∙◌, arith, below_more}
+use Rattle.fb_inputs.specs.Counts.{count_below}
+use Rattle.fb_inputs.specs.Records.{is_comma, is_quote}
+use Rattle.fb_inputs.proofs.Counting.{counts, fits}
+use Rattle.fb_inputs.proofs.csv_records.comma.Goals as goal
+
+pub loop-at-init : goal.loop-at-init
+unfolding count_below
+loop-at-init c = record { quotes = refl; before = refl; inside = λ k lt. absurd (omega arith); quotes_fit = omega arith; before_fits = omega arith }
+
+pub loop-at-preserved : goal.loop-at-preserved
+loop-at-preserved c = record {
+  quotes = counts (is_quote c.args.rest.now) c.loop-at.at c.loop-at.quotes _ _ c.loop-at.invariant.quotes refl c.counted-quotes.ensures;
+  before = counts (is_comma c.args.rest.now) c.loop-at.at c.loop-at.before _ _ c.loop-at.invariant.before c.is_comma-parts.ensures c.counted-before.ensures;
+  inside = below_more _ _ c.loop-at.invariant.inside (sym c.ends_record.ensures ∙ c.if-ends_record.false);
+  quotes_fit = fits c.loop-at.at c.loop-at.quotes _ _ c.counted-quotes.ensures c.loop-at.invariant.quotes_fit;
+  before_fits = fits c.loop-at.at c.loop-at.before _ _ c.counted-before.ensures c.loop-at.invariant.before_fits;
+}

@@ -1,0 +1,13 @@
+use Rattle.std.proofs.Common.{◌≡◌, ◌≤◌}
+use Rattle.fb_inputs.specs.Counts.{count_below}
+use Rattle.fb_inputs.specs.Records.{IsInRecord, is_comma, is_quote}
+use Rattle.fb_inputs.proofs.csv_records.comma.Given as goal
+
+abbrev pub invariant-loop-at : goal.invariant-loop-at
+invariant-loop-at l = record {
+  quotes : l.quotes ≡ count_below (is_quote l.rest) l.at;
+  before : l.before ≡ count_below (is_comma l.rest) l.at;
+  inside : IsInRecord l.rest l.at;
+  quotes_fit : l.quotes ≤ l.at;
+  before_fits : l.before ≤ l.at;
+}

@@ -1,0 +1,16 @@
+use Rattle.std.proofs.Common.{refl, sym, ◌∙◌, arith, below_more}
+use Rattle.fb_inputs.specs.Counts.{count_below}
+use Rattle.fb_inputs.specs.Records.{is_quote}
+use Rattle.fb_inputs.proofs.Counting.{counts, fits}
+use Rattle.fb_inputs.proofs.csv_records.field_len.Goals as goal
+
+pub loop-at-init : goal.loop-at-init
+unfolding count_below
+loop-at-init c = record { quotes = refl; inside = λ k lt. absurd (omega arith); quotes_fit = omega arith }
+
+pub loop-at-preserved : goal.loop-at-preserved
+loop-at-preserved c = record {
+  quotes = counts (is_quote c.args.field.now) c.loop-at.at c.loop-at.quotes _ _ c.loop-at.invariant.quotes refl c.counted-quotes.ensures;
+  inside = below_more _ _ c.loop-at.invariant.inside (sym c.ends_field.ensures ∙ c.if-ends_field.false);
+  quotes_fit = fits c.loop-at.at c.loop-at.quotes _ _ c.counted-quotes.ensures c.loop-at.invariant.quotes_fit;
+}

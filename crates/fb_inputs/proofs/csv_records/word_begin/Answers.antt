@@ -1,0 +1,15 @@
+use Rattle.std.proofs.Common.{refl, arith}
+use Rattle.fb_inputs.specs.Counts.{count_below}
+use Rattle.fb_inputs.specs.Records.{begins_word}
+use Rattle.fb_inputs.proofs.Counting.{counts, fits}
+use Rattle.fb_inputs.proofs.csv_records.word_begin.Goals as goal
+
+pub loop-at-init : goal.loop-at-init
+unfolding count_below
+loop-at-init c = record { before = refl; before_fits = omega arith }
+
+pub loop-at-preserved : goal.loop-at-preserved
+loop-at-preserved c = record {
+  before = counts (begins_word c.args.said.now) c.loop-at.at c.loop-at.before _ _ c.loop-at.invariant.before c.begins_word-begins.ensures c.counted-before.ensures;
+  before_fits = fits c.loop-at.at c.loop-at.before _ _ c.counted-before.ensures c.loop-at.invariant.before_fits;
+}

@@ -1,0 +1,11 @@
+use Rattle.std.proofs.Common.{sym, ◌∙◌}
+use Rattle.fb_inputs.specs.Lines.{begins_any, begins_key}
+use Rattle.fb_inputs.proofs.Counting.{first_more, none_more}
+use Rattle.fb_inputs.proofs.lines.key_from.Goals as goal
+
+pub loop-at-preserved : goal.loop-at-preserved
+loop-at-preserved c = record {
+  first = first_more c.args.text.now c.loop-at.at c.loop-at.first _ c.loop-at.invariant.first c.is_first_after-first.ensures;
+  no_key = none_more (begins_key c.args.name.now c.args.text.now) c.args.from c.loop-at.at c.loop-at.invariant.no_key (sym c.begins_key.ensures ∙ c.if-begins_key.false);
+  no_heading = none_more (begins_any c.args.text.now) c.args.from c.loop-at.at c.loop-at.invariant.no_heading (sym c.begins_any.ensures ∙ c.if-begins_any.false);
+}

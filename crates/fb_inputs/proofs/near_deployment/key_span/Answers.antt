@@ -1,0 +1,7 @@
+use Rattle.std.proofs.Common.{refl}
+use Rattle.fb_inputs.specs.Lines.{is_first}
+use Rattle.fb_inputs.proofs.near_deployment.key_span.Goals as goal
+
+pub key_from-requires-clause-known : goal.key_from-requires-clause-known
+unfolding is_first
+key_from-requires-clause-known c = refl

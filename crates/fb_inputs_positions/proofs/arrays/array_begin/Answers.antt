@@ -1,9 +1,0 @@
-use Rattle.std.proofs.Common.{◌==◌, ◌||◌, ℕ, sym, ◌∙◌}
-use Rattle.fb_inputs_positions.specs.Counts.{at}
-use Rattle.fb_inputs_positions.specs.Lines.{is_blank}
-use Rattle.fb_inputs_positions.proofs.Counting.{all_more}
-use Rattle.fb_inputs_positions.proofs.arrays.array_begin.Goals as goal
-
-pub loop-at-preserved : goal.loop-at-preserved
-loop-at-preserved c =
-    all_more (λ (k : ℕ). at c.args.text.now k == 61 || is_blank (at c.args.text.now k)) c.args.from c.loop-at.at c.loop-at.invariant (sym c.is_lead.ensures ∙ c.if-not-is_lead.false)

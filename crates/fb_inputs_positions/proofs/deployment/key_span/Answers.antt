@@ -1,7 +1,0 @@
-use Rattle.std.proofs.Common.{refl}
-use Rattle.fb_inputs_positions.specs.Lines.{is_first}
-use Rattle.fb_inputs_positions.proofs.deployment.key_span.Goals as goal
-
-pub key_from-requires-clause-known : goal.key_from-requires-clause-known
-unfolding is_first
-key_from-requires-clause-known c = refl
