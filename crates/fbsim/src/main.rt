@@ -4,8 +4,7 @@
 #![tactic(auto)]
 
 use fbsim_command::{Failure, Files, command_with_clock};
-pub use fbsim_command::{Source, SourceFault, Streams, command};
-pub use fbsim_line::{Call, LineFault, parse};
+pub use fbsim_command::{Call, LineFault, Source, SourceFault, Streams, command, parse};
 use std::process::ExitCode;
 use std::sync::Wait;
 use std::thread::Threads;

@@ -10,15 +10,15 @@ use Rattle.fb_wave.specs.CurrentLines.{IsRefusedLine}
 use Rattle.fb_wave.specs.declared.current_line.CurrentLine.{CurrentLine}
 use Rattle.fb_wave.specs.declared.error.WaveError.{WaveError}
 use Rattle.fb_wave.specs.declared.error.WaveError.TheVariants as wave
-use Rattle.fb_wave_why.specs.Faults.{Applies}
-use Rattle.fb_wave_why.specs.declared.fault.LineFault.{LineFault}
+use Rattle.fb_inspect.specs.LineFaults.{Applies}
+use Rattle.fb_inspect.specs.declared.line_fault.LineFault.{LineFault}
 use Rattle.fbsim_command.specs.Failures.{failure_of_wave}
 use Rattle.fbsim_command.specs.LineNotes.{NotesLine, SaysFault}
 use Rattle.fbsim_command.specs.Notes.{NotesOf}
 use Rattle.fbsim_command.specs.Outcomes.{End, Held}
 use Rattle.fbsim_command.specs.Showing.{NotesAs, files_of}
 use Rattle.fbsim_command.specs.declared.failure.Failure.{Failure}
-use Rattle.fbsim_line.specs.declared.line.Wave.{Wave}
+use Rattle.fbsim_command.specs.declared.line.Wave.{Wave}
 
 -- a note of a check, or of a line
 pub noted_in :

@@ -6,7 +6,7 @@ use Rattle.std.proofs.lemmas.List.{append-nil, take_more}
 use Rattle.fb_sim.specs.Given.{Given}
 use Rattle.fbsim_command.specs.Expecting.{IsNoteAt, input_names_of, own_of, types_of}
 use Rattle.fbsim_command.specs.Texts.{given_of, lines_of, may_lines_of}
-use Rattle.fbsim_line.specs.declared.bench_line.Expect.{Expect}
+use Rattle.fbsim_command.specs.declared.bench_line.Expect.{Expect}
 use Rattle.fbsim_command.specs.declared.texts.Texts.{Texts}
 use Rattle.fbsim_command.specs.Notes.{AreNotesFrom, AreNotesOf, IsNote, IsNoteBy, IsNoteIn, IsNoteOfFindings, IsNoteOfNumber, Notes, more_line, number_of, on_line}
 use Rattle.fbsim_command.specs.InputNotes.{FileNames}
@@ -15,7 +15,7 @@ use Rattle.fb_why.specs.Listings.{AreFound}
 use Rattle.fb_why.specs.declared.listing.Findings.{Findings}
 use Rattle.fb_why.specs.declared.place.PlacedFinding.{PlacedFinding}
 use Rattle.fb_why.specs.Places.{IsPlacedFinding}
-use Rattle.fb_why_bytes.specs.declared.text_locations.TextLocation.{TextLocation}
+use Rattle.fb_why.specs.declared.text_locations.TextLocation.{TextLocation}
 use Rattle.fbsim_command.specs.declared.failure.Failure.{Failure}
 
 pub noted :

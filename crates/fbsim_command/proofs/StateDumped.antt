@@ -14,7 +14,7 @@ use Rattle.fb_sim.specs.declared.outcome.Refusal.TheVariants as of
 use Rattle.fb_sim.specs.declared.outcome.RunError.{RunError}
 use Rattle.fb_sim.specs.declared.outcome.RunError.TheVariants as run
 use Rattle.fb_wave.specs.declared.truncation.Cut.{Cut}
-use Rattle.fb_states.specs.StateWaves.{WritesFront}
+use Rattle.fb_inspect.specs.StateWaves.{WritesFront}
 use Rattle.fbsim_command.specs.Failures.{failure_of, failure_of_inspection, numbered_input}
 use Rattle.fbsim_command.specs.Outcomes.{Held}
 use Rattle.fbsim_command.specs.StateDumping.{DumpsStates}

@@ -1,3 +1,4 @@
+pub mod Line
 pub mod Files
 pub mod Joining
 pub mod Failures

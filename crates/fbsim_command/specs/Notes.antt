@@ -1,13 +1,13 @@
 -- What is reported after the line of a failure (this project's own).
 use Rattle.std.specs.Prelude.{◌≡◌, ◌≢◌, ℕ, List, [], ◌∷◌, ◌++◌, All, Bool, true, false, IsTrue, Option, Some, None, Ok, Err, option_map, slice_get, codes, string_bytes}
-use Rattle.fbsim_line.specs.declared.line.Task.{Task}
+use Rattle.fbsim_command.specs.declared.line.Task.{Task}
 use Rattle.fb_sim.specs.Given.{Given}
 use Rattle.fb_why.specs.Listings.{AreFound}
 use Rattle.fb_why.specs.declared.listing.Findings.{Findings}
 use Rattle.fb_why.specs.declared.place.PlacedFinding.{PlacedFinding}
 use Rattle.fb_why.specs.Places.{IsPlacedFinding}
 use Rattle.fb_why.specs.declared.spot.Spot.{Spot}
-use Rattle.fb_why_bytes.specs.declared.text_locations.TextLocation.{TextLocation}
+use Rattle.fb_why.specs.declared.text_locations.TextLocation.{TextLocation}
 use Rattle.fbsim_command.specs.InputNotes.{FileNames, IsNoteThere}
 use Rattle.fbsim_command.specs.OwnLines.{IsPlaced}
 use Rattle.fbsim_command.specs.declared.failure.Failure.{Failure}

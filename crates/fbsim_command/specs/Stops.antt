@@ -11,13 +11,13 @@ use Rattle.fb_stop.specs.Shown.{IsStopShown}
 use Rattle.fb_stop.specs.declared.found.FoundStop.{FoundStop}
 use Rattle.fb_stop.specs.declared.shown.Shown.{Shown}
 use Rattle.fb_why.specs.Places.{IsPlaceAt}
-use Rattle.fb_why_bytes.specs.Locations.{IsLocation, IsStretch}
-use Rattle.fb_why_bytes.specs.declared.text_locations.TextLocation.{TextLocation}
+use Rattle.fb_why.specs.Locations.{IsLocation, IsStretch}
+use Rattle.fb_why.specs.declared.text_locations.TextLocation.{TextLocation}
 use Rattle.fbsim_command.specs.Outcomes.{End}
 use Rattle.fbsim_command.specs.OwnLines.{IsPlaced}
-use Rattle.fbsim_line.specs.declared.line.Action.{Action}
-use Rattle.fbsim_line.specs.declared.line.Action.TheVariants.{Check, Run}
-use Rattle.fbsim_line.specs.declared.line.Task.{Task}
+use Rattle.fbsim_command.specs.declared.line.Action.{Action}
+use Rattle.fbsim_command.specs.declared.line.Action.TheVariants.{Check, Run}
+use Rattle.fbsim_command.specs.declared.line.Task.{Task}
 use Rattle.fbsim_command.specs.declared.statuses.Done.TheVariants.{Stopped}
 
 -- The place is that of the operator of the operation at which the simulation stops.

@@ -9,17 +9,17 @@ use Rattle.fb_lint.specs.Warnings.{warnings}
 use Rattle.fb_lint.specs.declared.warning.Warning.{Warning}
 use Rattle.fb_lint.specs.declared.warning.Warning.TheVariants.{UnusedLink}
 use Rattle.fb_inputs.specs.declared.deploy_location.TableLocation.TheVariants as table
-use Rattle.fb_inputs_positions.specs.declared.position.DeployPosition.TheVariants as position
+use Rattle.fb_inputs.specs.declared.position.DeployPosition.TheVariants as position
 use Rattle.fb_read_positions.specs.declared.position.Position.{Position}
 use Rattle.fb_why.specs.Places.{IsPlaceAt}
-use Rattle.fb_why_bytes.specs.InputPlaces.{IsDeployPlace}
-use Rattle.fb_why_bytes.specs.declared.text_locations.TextLocation.{TextLocation}
+use Rattle.fb_why.specs.InputStretches.{IsDeployPlace}
+use Rattle.fb_why.specs.declared.text_locations.TextLocation.{TextLocation}
 use Rattle.fb_sim.specs.Given.{Given}
 use Rattle.fb_sim.specs.Serial.{Declares}
 use Rattle.fbsim_command.specs.Joining.{IsLineOf, name_at}
 use Rattle.fbsim_command.specs.OwnLines.{IsInNone}
 use Rattle.fbsim_command.specs.Outcomes.{End}
-use Rattle.fbsim_line.specs.declared.line.Task.{Task}
+use Rattle.fbsim_command.specs.declared.line.Task.{Task}
 use Rattle.fbsim_command.specs.declared.call_names.Naming as code
 
 -- The names that a call gives to its files, and how many lines each file of the declaration has, if there are several.

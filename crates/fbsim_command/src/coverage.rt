@@ -15,12 +15,12 @@ use crate::own_lines::end_with;
 use crate::sources::{Source, Streams};
 use crate::statuses::Done;
 use crate::texts::read_files;
+use crate::{Action, Coverage, Task};
 use fb_coverage::{Marks, report_of};
 use fb_inspect::{Extent, InspectError, RefusedLine, Terms, cover};
 use fb_sim::{Inputs, discard, open};
 use fb_system::System;
 use fb_wave::Cut;
-use fbsim_line::{Action, Coverage, Task};
 use std::alloc::{AllocError, Global};
 use std::io::Write;
 

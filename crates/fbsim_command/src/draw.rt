@@ -10,10 +10,10 @@ use crate::own_lines::end_with;
 use crate::sources::Source;
 use crate::statuses::Done;
 use crate::texts::read_files;
+use crate::{Action, Draw, Task};
 use fb_inputs::name;
 use fb_sim::{Inputs, discard, open};
 use fb_system::System;
-use fbsim_line::{Action, Draw, Task};
 use std::alloc::{AllocError, Global};
 use std::io::Write;
 

@@ -7,9 +7,8 @@ ghost use Rattle.fbsim_command.specs.Notes.{Notes};
 
 use crate::notes::note_of_name;
 use crate::sources::SourceFault;
-use fb_inspect::{InspectError, RefusedLine, finding_message};
+use fb_inspect::{InspectError, RefusedLine, fault_of, finding_message, line_message};
 use fb_system::System;
-use fb_wave_why::{fault_of, line_message};
 use std::alloc::Global;
 
 /// What is wrong with a line at which a trace is refused: as a line of the system, or else as one that the reactions give.

@@ -14,12 +14,12 @@ use crate::own_lines::end_with;
 use crate::sources::{Source, Streams};
 use crate::statuses::Done;
 use crate::texts::read_files;
+use crate::{Action, Inspect, Task};
 use fb_inspect::{InspectError, Inspection, RefusedLine, Terms};
 use fb_sim::{Inputs, discard, open};
 use fb_system::System;
 use fb_types::Name;
 use fb_wave::Cut;
-use fbsim_line::{Action, Inspect, Task};
 use std::alloc::{AllocError, Global};
 use std::io::{BufRead, Write};
 

@@ -7,7 +7,7 @@ ghost use Rattle.fbsim_command.specs.Joining.{IsLineOf};
 ghost use Rattle.fbsim_command.specs.Texts.{texts_of};
 
 use fb_types::MOST_BYTES;
-use fb_why_bytes::after_mark;
+use fb_why::after_mark;
 use std::alloc::{AllocError, Global};
 
 /// What the next byte is in.

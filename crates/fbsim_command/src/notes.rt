@@ -6,14 +6,13 @@ ghost use Rattle.fbsim_command.specs.InputNotes.{IsNoteThere, names_of};
 ghost use Rattle.fbsim_command.specs.OwnLines.{IsPlaced};
 ghost use Rattle.fbsim_command.specs.Texts.{given_of, lines_of};
 
+use crate::Task;
 use crate::failure::{Failure, RefusalLine};
 use crate::input_notes::{InputNames, note_there};
 use crate::own_lines::note_at;
 use crate::sources::SourceFault;
 use crate::texts::{Part, Texts, Unread};
-use fb_why::{Findings, PlacedFinding, discard_findings, findings_of};
-use fb_why_bytes::{TextLocation, excerpt};
-use fbsim_line::Task;
+use fb_why::{Findings, PlacedFinding, TextLocation, discard_findings, excerpt, findings_of};
 use std::alloc::{AllocError, Global};
 
 /// The number of a fault of the grammar, whose line says where it is also.

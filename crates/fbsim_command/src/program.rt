@@ -27,13 +27,13 @@ use crate::sources::{Source, Streams};
 use crate::statuses::{Done, ExitStatus, status};
 use crate::texts::{Texts, read_files};
 use crate::wave::show;
+use crate::{Action, Call, LineFault, Task, parse};
 use fb_phase::OpenGate;
 use fb_sim::{
     Inputs, NoClock, Options, Outcome, ReportedRun, check, run_serial, run_with_clock,
     run_with_progress,
 };
 use fb_why::{Explanation, explain};
-use fbsim_line::{Action, Call, LineFault, Task, parse};
 use std::alloc::{AllocError, Global};
 use std::io;
 use std::io::Write;

@@ -9,6 +9,7 @@ ghost use Rattle.fbsim_command.specs.Known.{IsUnknownAt};
 ghost use Rattle.fbsim_command.specs.Notes.{IsNoteOfNumber, Notes};
 ghost use Rattle.fbsim_command.specs.Texts.{given_of, lines_of, may_lines_of};
 
+use crate::Expect;
 use crate::expect::{files_of, own_name};
 use crate::failure::Failure;
 use crate::input_notes::InputNames;
@@ -19,8 +20,7 @@ use crate::statuses::Done;
 use crate::texts::{Texts, Unread};
 use fb_expect::{Rule, RuleKey, UNKNOWN_NAME, read_rules, rules_place};
 use fb_sim::{discard, open};
-use fb_why_bytes::{rules_message, unknown_key_message};
-use fbsim_line::Expect;
+use fb_why::{rules_message, unknown_key_message};
 use std::alloc::Global;
 
 /// The first number of a refusal of rules. Those below are of declarations, deployments and stimuli.

@@ -7,9 +7,8 @@ ghost use Rattle.fbsim_command.specs.StateDumping.{DumpsStates};
 use crate::failure::Failure;
 use crate::inside_notes::note_of_gone;
 use crate::statuses::Done;
-use fb_inspect::{RefusedLine, Terms};
+use fb_inspect::{RefusedLine, Terms, write_states};
 use fb_sim::{Inputs, discard, open};
-use fb_states::write_states;
 use std::alloc::Global;
 use std::io::{BufRead, Write};
 

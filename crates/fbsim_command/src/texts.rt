@@ -7,10 +7,10 @@ ghost use Rattle.fbsim_command.specs.Reading.{AreRead, AreTextsRead, IsDeclarati
 ghost use Rattle.fbsim_command.specs.Texts.{contents_of, given_of, lines_of, may_lines_of, texts_of};
 ghost use Rattle.fbsim_command.specs.declared.texts.Part.TheVariants.{BlockTypes, Declaration};
 
+use crate::Task;
 use crate::join::{line_counts, text_of};
 use crate::sources::{Source, SourceFault};
 use fb_sim::Inputs;
-use fbsim_line::Task;
 use std::alloc::{AllocError, Global};
 
 /// One byte more than a declaration or a deployment may have, so that one that is too long shows.

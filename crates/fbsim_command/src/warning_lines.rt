@@ -5,13 +5,12 @@ ghost use Rattle.fbsim_command.specs.WarningLines.{AreLines, IsAdded, IsLinkPlac
 
 use crate::call_names::Naming;
 use crate::join::{file_name, line_in_file};
-use fb_inputs::TableLocation;
-use fb_inputs_positions::DeployPosition;
+use fb_inputs::{DeployPosition, TableLocation};
 use fb_lint::{Warning, line_of, position_of};
 use fb_sim::Inputs;
 use fb_types::{Library, Plan};
 use fb_why::place::place_at;
-use fb_why_bytes::{TextLocation, place_in_deployment};
+use fb_why::{TextLocation, place_in_deployment};
 use std::alloc::{AllocError, Global};
 
 /// A file, a line and a column, as editors take them.

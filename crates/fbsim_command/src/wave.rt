@@ -13,10 +13,10 @@ use crate::sources::{Source, SourceFault, Streams};
 use crate::state_dump::dump_states;
 use crate::statuses::Done;
 use crate::texts::read_files;
+use crate::{Action, Task, Wave};
 use fb_inspect::Terms;
 use fb_sim::{Inputs, discard, open};
 use fb_wave::{CurrentLine, Cut, write_wave_with};
-use fbsim_line::{Action, Task, Wave};
 use std::alloc::Global;
 use std::io::{BufRead, Write};
 

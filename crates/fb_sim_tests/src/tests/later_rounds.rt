@@ -12,7 +12,7 @@ use std::thread::Threads;
 /// The tick at which the runs end.
 pub const HORIZON: u64 = 40;
 
-/// In each resource a cycle of one tick goes to a burst of sixty events, and from there to a merge `T` of the next resource,
+/// In each resource a cycle of one tick goes to a burst of sixty events, and from there to a merge of the next resource,
 /// from which nothing goes on.
 pub static DECLARATION: &str = concat!(
     "FUNCTION_BLOCK BURST\n",
@@ -29,35 +29,35 @@ pub static DECLARATION: &str = concat!(
     "EC_TRANSITIONS IDLE TO RUN := GO; RUN TO IDLE := 1; END_TRANSITIONS\n",
     "END_FUNCTION_BLOCK\n",
     "APPLICATION A FBS\n",
-    "S0 : E_RESTART; C0 : E_CYCLE(DT := T#1ms); B0 : BURST; T0 : E_MERGE;\n",
-    "S1 : E_RESTART; C1 : E_CYCLE(DT := T#1ms); B1 : BURST; T1 : E_MERGE;\n",
-    "S2 : E_RESTART; C2 : E_CYCLE(DT := T#1ms); B2 : BURST; T2 : E_MERGE;\n",
-    "S3 : E_RESTART; C3 : E_CYCLE(DT := T#1ms); B3 : BURST; T3 : E_MERGE;\n",
+    "POWER0 : E_RESTART; BEAT0 : E_CYCLE(DT := T#1ms); SHOTS0 : BURST; JOIN0 : E_MERGE;\n",
+    "POWER1 : E_RESTART; BEAT1 : E_CYCLE(DT := T#1ms); SHOTS1 : BURST; JOIN1 : E_MERGE;\n",
+    "POWER2 : E_RESTART; BEAT2 : E_CYCLE(DT := T#1ms); SHOTS2 : BURST; JOIN2 : E_MERGE;\n",
+    "POWER3 : E_RESTART; BEAT3 : E_CYCLE(DT := T#1ms); SHOTS3 : BURST; JOIN3 : E_MERGE;\n",
     "END_FBS\n",
     "EVENT_CONNECTIONS\n",
-    "S0.COLD TO C0.START; C0.EO TO B0.GO; B0.DONE TO T1.EI1;\n",
-    "S1.COLD TO C1.START; C1.EO TO B1.GO; B1.DONE TO T2.EI1;\n",
-    "S2.COLD TO C2.START; C2.EO TO B2.GO; B2.DONE TO T3.EI1;\n",
-    "S3.COLD TO C3.START; C3.EO TO B3.GO; B3.DONE TO T0.EI1;\n",
+    "POWER0.COLD TO BEAT0.START; BEAT0.EO TO SHOTS0.GO; SHOTS0.DONE TO JOIN1.EI1;\n",
+    "POWER1.COLD TO BEAT1.START; BEAT1.EO TO SHOTS1.GO; SHOTS1.DONE TO JOIN2.EI1;\n",
+    "POWER2.COLD TO BEAT2.START; BEAT2.EO TO SHOTS2.GO; SHOTS2.DONE TO JOIN3.EI1;\n",
+    "POWER3.COLD TO BEAT3.START; BEAT3.EO TO SHOTS3.GO; SHOTS3.DONE TO JOIN0.EI1;\n",
     "END_CONNECTIONS END_APPLICATION"
 );
 
 /// The resources, each with a link to the next, over which a message takes five ticks. So a round is of five ticks.
 pub static DEPLOYMENT: &str = "resource = [\n\
-    { device = 'D', name = 'R0', instances = ['S0', 'C0', 'B0', 'T0'] },\n\
-    { device = 'D', name = 'R1', instances = ['S1', 'C1', 'B1', 'T1'] },\n\
-    { device = 'D', name = 'R2', instances = ['S2', 'C2', 'B2', 'T2'] },\n\
-    { device = 'D', name = 'R3', instances = ['S3', 'C3', 'B3', 'T3'] },\n\
+    { device = 'D', name = 'CELL0', instances = ['POWER0', 'BEAT0', 'SHOTS0', 'JOIN0'] },\n\
+    { device = 'D', name = 'CELL1', instances = ['POWER1', 'BEAT1', 'SHOTS1', 'JOIN1'] },\n\
+    { device = 'D', name = 'CELL2', instances = ['POWER2', 'BEAT2', 'SHOTS2', 'JOIN2'] },\n\
+    { device = 'D', name = 'CELL3', instances = ['POWER3', 'BEAT3', 'SHOTS3', 'JOIN3'] },\n\
     ]\n\
     link = [\n\
-    { from = 'R0', to = 'R1', latency = 5 },\n\
-    { from = 'R1', to = 'R2', latency = 5 },\n\
-    { from = 'R2', to = 'R3', latency = 5 },\n\
-    { from = 'R3', to = 'R0', latency = 5 },\n\
+    { from = 'CELL0', to = 'CELL1', latency = 5 },\n\
+    { from = 'CELL1', to = 'CELL2', latency = 5 },\n\
+    { from = 'CELL2', to = 'CELL3', latency = 5 },\n\
+    { from = 'CELL3', to = 'CELL0', latency = 5 },\n\
     ]\n";
 
 /// Where the trace ends: an arrival is taken before the event of its tick that the cycle sent to the burst.
-static LAST_LINES: &str = "\n39 R3 < B3.TICKED\n39 R3 < B3.DONE\nend 40\n";
+static LAST_LINES: &str = "\n39 CELL3 < SHOTS3.TICKED\n39 CELL3 < SHOTS3.DONE\nend 40\n";
 
 /// How many lines a trace has.
 pub fn lines_in(trace: &[u8]) -> u32 {

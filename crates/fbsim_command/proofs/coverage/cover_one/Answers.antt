@@ -20,7 +20,7 @@ returns-in_err-cut-in-Ok-clause-stopped g c =
 pub returns-in-Ok-clause-covered : goal.returns-in-Ok-clause-covered
 returns-in-Ok-clause-covered g c =
     goes-through g.S.Streams.opens c.args.system.now c.args.coverage.now c.args.name.now c.args.source.now c.open.new.self _ c.cut_of.result c.args.gleaned c.parts-marks.result.0 c.in-Ok.covered.marks
-    c.in-Ok.covered.extent c.parts-marks.result.1 _ _ c.in_ok-trace.ensures c.cut_of.ensures c.parts-marks.ensures.marks c.parts-marks.ensures.cut c.in-Ok.ensures c.in_ok-cut-in-Ok.ensures.count c.into_marks.ensures refl
+    c.in-Ok.covered.extent c.parts-marks.result.1 _ _ c.in_ok-trace.ensures c.cut_of.ensures c.parts-marks.ensures.marks c.parts-marks.ensures.cut c.in-Ok.ensures.covered c.in_ok-cut-in-Ok.ensures.count c.into_marks.ensures refl
 
 pub returns-in-Err-Refused-clause-stopped : goal.returns-in-Err-Refused-clause-stopped
 returns-in-Err-Refused-clause-stopped g c =

@@ -1,8 +1,8 @@
 use Rattle.std.proofs.Common.{Bor, List, [], ℕ, Option, Err, map, option_map, string_bytes, inl, inr, refl, sym, subst}
 use Rattle.clap.specs.Words.{Text}
-use Rattle.fbsim_line.specs.Line.{AreCall, IsFault, IsHelp}
-use Rattle.fbsim_line.specs.declared.line.LineFault.{LineFault}
-use Rattle.fbsim_line.specs.declared.line.Call.{Call}
+use Rattle.fbsim_command.specs.Line.{AreCall, IsFault, IsHelp}
+use Rattle.fbsim_command.specs.declared.line.LineFault.{LineFault}
+use Rattle.fbsim_command.specs.declared.line.Call.{Call}
 use Rattle.fbsim_command.specs.Command.{Does, Performs}
 use Rattle.fbsim_command.specs.Drawing.{Draws}
 use Rattle.fbsim_command.specs.Covering.{ReportsCoverage}

@@ -1,7 +1,7 @@
 use Rattle.std.proofs.Common.{Err, string_bytes, subst, sym}
 use Rattle.std.specs.Prelude.{IfSome, OnErr, OnOk}
 use Rattle.fb_types.specs.Headline.{system_of}
-use Rattle.fb_states.specs.StateWaves.{IsShownWith, WritesFront}
+use Rattle.fb_inspect.specs.StateWaves.{IsShownWith, WritesFront}
 use Rattle.fbsim_command.specs.StateDumping.{DumpsStates}
 use Rattle.fbsim_command.specs.declared.failure.Failure.{Failure}
 use Rattle.fbsim_command.proofs.Inspecting.{line_noted_inside, none_noted_inside}

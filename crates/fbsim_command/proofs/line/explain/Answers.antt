@@ -1,0 +1,7 @@
+use Rattle.fbsim_command.proofs.line.explain.Goals as goal
+
+pub returns-clause-app : goal.returns-clause-app
+returns-clause-app c = c.begun.ensures.app
+
+pub returns-clause-globals : goal.returns-clause-globals
+returns-clause-globals c = c.begun.ensures.globals

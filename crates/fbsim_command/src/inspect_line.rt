@@ -1,0 +1,109 @@
+//! The call that inspects a trace.
+
+ghost use Rattle.std.specs.Prelude.{◌≡◌, IfNone, IfOk, IfSome, codes, false, map};
+ghost use Rattle.clap.specs.Words.{all_of, app_of, found_of, rows_of};
+ghost use Rattle.clap.specs.declared.builder.command.Command.TheViews.{out-Command as fields_of};
+ghost use Rattle.fbsim_command.specs.Line as spec;
+ghost use Rattle.fbsim_command.specs.Line.{AsksInspect, IsCall, call_name, or_none};
+ghost use Rattle.fbsim_command.specs.declared.inspect_line.Inspect.{Inspect};
+
+use crate::line::{
+    Call, WHY_HELP, deployed, flag, has_flag, limited, number, repeated, required, types_of, up_to,
+    with_arg,
+};
+use clap::{ArgMatches, Command};
+use fb_types::MOST_STEPS;
+use std::alloc::{AllocError, Global};
+
+/// A trace that is inspected, with its declaration and deployment.
+#[derive(Drop)]
+pub struct Inspect<'a> {
+    /// The name of the declaration's file; `-` is standard input, here and below.
+    pub declaration: &'a str,
+    /// The name of the deployment's file, if one is given.
+    pub deploy: Option<&'a str>,
+    /// The name of the file with the trace.
+    pub trace: &'a str,
+    /// The paths of the instances that are shown, in any letter case. Without any, all are shown.
+    pub only: Vec<&'a str>,
+    /// The most steps of a resource in one tick, in a run that stops for them.
+    pub steps: u64,
+    /// Whether the trace may be cut off.
+    pub is_cut: bool,
+    /// Whether a refusal is reported with its place.
+    pub why: bool,
+}
+
+const ABOUT: &str =
+    "Writes a trace to standard output with what happens inside the blocks between its lines.";
+
+const EXAMPLE: &str = "Example: fbsim inspect cell.iec --deploy cell.toml cell.trace";
+
+const TRACE_HELP: &str =
+    "The file with the trace, of any length and in either form, as run writes it of these files.";
+
+const ONLY_HELP: &str =
+    "The path of an instance: only its lines are shown, and those of its components; may be repeated.";
+
+const STEPS_HELP: &str =
+    "The limit of steps of the run that wrote the trace, 1 to 10000000, if it stopped for them.";
+
+const CUT_HELP: &str =
+    "Accepts a trace that is cut off, without a last line or within a line; the output says so at its end.";
+
+/// The command that inspects a trace.
+pub(crate) fn inspect_command<'a>(alloc: Global) -> Result<Command<'a>, AllocError>
+    ensures app { IfOk result (λ c. app_of c ≡ spec.inspect) }
+    ensures globals { IfOk result (λ c. (fields_of c).has_globals ≡ false) }
+{
+    let command = deployed(alloc, "inspect", ABOUT, EXAMPLE);
+    let command = with_arg(command, required(alloc, "TRACE", TRACE_HELP));
+    let command = with_arg(command, repeated(alloc, "only", ONLY_HELP));
+    let steps = limited(alloc, "steps", up_to(MOST_STEPS), STEPS_HELP).default_value("10000");
+    let command = with_arg(command, steps);
+    let command = with_arg(command, flag(alloc, "cut", CUT_HELP));
+    with_arg(command, flag(alloc, "why", WHY_HELP))
+}
+
+/// The paths of the instances that are shown.
+fn only_of<'a>(alloc: Global, found: &ArgMatches<'a>) -> Result<Vec<&'a str>, AllocError>
+    ensures { IfOk result (λ paths. or_none (all_of (codes "only") (rows_of (found_of found.now))) ≡ map (λ t. t.now) paths.items) }
+{
+    match found.get_strs("only") {
+        Some(paths) => Vec::from_slice(alloc, paths),
+        None => Ok(Vec::new(alloc)),
+    }
+}
+
+/// The call that inspects a trace, from the parser's matches.
+pub(crate) fn inspect_of<'a>(
+    alloc: Global,
+    found: &ArgMatches<'a>,
+) -> Result<Option<Call<'a>>, AllocError>
+    ensures name { IfOk result (λ o. IfSome o (λ r. codes "inspect" ≡ call_name r)) }
+    ensures rows { IfOk result (λ o. IfSome o (IsCall (rows_of (found_of found.now)))) }
+    ensures none { IfOk result (λ o. IfNone o ((x : Inspect) → AsksInspect (rows_of (found_of found.now)) x → ⊥)) }
+{
+    let Some(declaration) = found.get_str("DECL") else {
+        return Ok(None);
+    };
+    let deploy = found.get_str("deploy");
+    let Some(trace) = found.get_str("TRACE") else {
+        return Ok(None);
+    };
+    let Some(steps) = number(found, "steps") else {
+        return Ok(None);
+    };
+    let only = only_of(alloc, found)?;
+    let types = types_of(alloc, found)?;
+    let inspect = Inspect {
+        declaration,
+        deploy,
+        trace,
+        only,
+        steps,
+        is_cut: has_flag(found, "cut"),
+        why: has_flag(found, "why"),
+    };
+    Ok(Some(Call::Inspect(inspect, types)))
+}

@@ -1,0 +1,653 @@
+//! The command line.
+
+ghost use Rattle.std.specs.Prelude.{◌≡◌, ◌≢◌, ℕ, Ok, IfOk, IfErr, IfSome, IfNone, None, OnOk, map, codes, false};
+ghost use Rattle.fbsim_command.specs.Line as spec;
+ghost use Rattle.fbsim_command.specs.Line.{AreCall, AreNoCall, AreTypes, AskHelp, AsksWave, AreForms, IsTask, IsFault, IsFlag, IsForm, IsHelp, IsText, IsNumber, IsAction, IsCall, IsCallOf, IsTaken, command_name, call_name};
+ghost use Rattle.fbsim_command.specs.declared.line.LineFault.TheVariants.{Memory};
+ghost use Rattle.fbsim_command.specs.declared.line.Task.{Task};
+ghost use Rattle.fbsim_command.specs.declared.line.Action.{Action};
+ghost use Rattle.fbsim_command.specs.declared.line.Call.{Call};
+ghost use Rattle.fbsim_command.specs.declared.line.Wave.{Wave};
+ghost use Rattle.fb_types.specs.declared.run.Form.{Form};
+ghost use Rattle.clap.specs.Words.{AddsArg, AddsSubcommand, app_of, first_of, rows_of, found_of, rule_of, kind_of, subcommand_rows_of};
+ghost use Rattle.clap.specs.declared.builder.command.Command.{Command as Cmd};
+ghost use Rattle.clap.specs.declared.builder.command.Command.TheViews.{out-Command as fields_of};
+
+use crate::bench_line::{Diff, Expect, diff_command, diff_of, expect_command, expect_of};
+use crate::coverage_line::{Coverage, coverage_command, coverage_of};
+use crate::draw_line::{Draw, draw_command, draw_of};
+use crate::inspect_line::{Inspect, inspect_command, inspect_of};
+use clap::builder::ValueParser;
+use clap::error::ErrorKind;
+use clap::{Arg, ArgAction, ArgMatches, Command, Error};
+use fb_types::{Form, LATEST_TICK, MOST_STEPS, MOST_WORKERS};
+use std::alloc::{AllocError, Global};
+
+/// One call of the program: its subcommand with the file names, numbers and flags.
+#[derive(Drop)]
+pub enum Call<'a> {
+    /// Explains the refusal or the reason with this name, such as `E21` or `divide`, in any letter case.
+    Explain(&'a str),
+    /// Checks or runs an application. The names are those of the files of block types that are read before the declaration,
+    /// in their order, here and below.
+    Task(Task<'a>, Vec<&'a str>),
+    /// Shows a trace as waveforms.
+    Wave(Wave<'a>, Vec<&'a str>),
+    /// Checks rules against traces.
+    Expect(Expect<'a>),
+    /// Compares two traces.
+    Diff(Diff<'a>),
+    /// Draws what is declared.
+    Draw(Draw<'a>, Vec<&'a str>),
+    /// Shows what happens inside the blocks of a trace.
+    Inspect(Inspect<'a>, Vec<&'a str>),
+    /// Reports what traces cover.
+    Coverage(Coverage<'a>, Vec<&'a str>),
+}
+
+/// A trace that is shown as waveforms, with its declaration and deployment.
+#[derive(Clone, Copy)]
+pub struct Wave<'a> {
+    /// The name of the declaration's file; `-` is standard input, here and below.
+    pub declaration: &'a str,
+    /// The name of the deployment's file, where one is given.
+    pub deploy: Option<&'a str>,
+    /// The name of the file with the trace.
+    pub trace: &'a str,
+    /// Whether the trace may be cut off.
+    pub is_cut: bool,
+    /// Whether the waveforms have the inside of basic blocks.
+    pub has_states: bool,
+    /// The most steps of a resource in one tick, in a run that stops for them.
+    pub steps: u64,
+    /// Whether a refusal is reported with its place, where that is known.
+    pub why: bool,
+}
+
+/// What to do with an application, and the files that it is in.
+#[derive(Clone, Copy)]
+pub struct Task<'a> {
+    pub action: Action,
+    /// The name of the declaration's file; `-` is standard input, here and below.
+    pub declaration: &'a str,
+    /// The name of the deployment's file, where one is given.
+    pub deploy: Option<&'a str>,
+    /// The name of the file with the stimuli, where one is given.
+    pub stimuli: Option<&'a str>,
+    /// Whether a refusal is reported with its place, where that is known.
+    pub why: bool,
+}
+
+/// What to do with an application.
+#[derive(Clone, Copy)]
+pub enum Action {
+    /// Say whether the inputs are accepted.
+    Check {
+        /// Whether warnings about inputs that are accepted are reported.
+        lint: bool,
+    },
+    /// Run it, and write its trace.
+    Run {
+        /// The tick at which the run ends, 1 to 10^12.
+        horizon: u64,
+        /// The most steps that a resource makes in one tick, 1 to 10,000,000.
+        steps: u64,
+        /// The number of workers, 1 to 64.
+        workers: u64,
+        /// Whether one agenda and one thread are used, whatever the number of workers.
+        serial: bool,
+        /// The form of the trace.
+        form: Form,
+        /// Whether the progress of the run is reported.
+        progress: bool,
+    },
+}
+
+/// Why the words name no call.
+#[derive(Drop)]
+pub enum LineFault {
+    Memory,
+    /// Help or the version was asked for, and this is its text.
+    Help(String),
+    /// The words are no call, for what this text says.
+    Fault(String),
+}
+
+impl From<AllocError> for LineFault {
+    ghost from_gives = { λ _ e. e ≡ Memory };
+
+    fn from(_error: AllocError) -> LineFault {
+        LineFault::Memory
+    }
+}
+
+/// The text for words that the parser accepts and that still name no call.
+const NO_CALL: &str = "error: the words name no call\n";
+
+/// The version of the program, that of CHANGELOG.md.
+const VERSION: &str = "1.1.0";
+
+const ABOUT: &str =
+    "Simulates IEC 61499-1 control applications in virtual time; one tick is a millisecond of it.";
+
+const EXAMPLE: &str =
+    "Example: fbsim run cell.iec --deploy cell.toml --stim cell.csv --horizon 1000";
+
+const RUN_ABOUT: &str = "Runs an application and writes its trace to standard output.";
+
+const RUN_EXAMPLE: &str =
+    "Example: fbsim run cell.iec --deploy cell.toml --stim cell.csv --horizon 1000 --workers 4";
+
+const CHECK_ABOUT: &str =
+    "Prints `accepted` if a run would accept these files, otherwise the first fault.";
+
+const CHECK_EXAMPLE: &str =
+    "Example: fbsim check cell.iec --deploy cell.toml --stim cell.csv --why";
+
+const WAVE_ABOUT: &str = "Converts a trace to a value change dump, which waveform viewers read.";
+
+const WAVE_EXAMPLE: &str = "Example: fbsim wave cell.iec --deploy cell.toml cell.trace";
+
+const STATES_HELP: &str =
+    "Adds the state of each basic block, its internal variables and the events that it lost.";
+
+const WAVE_STEPS_HELP: &str =
+    "With --states: the limit of steps of the run that wrote the trace, 1 to 10000000, if it stopped for them.";
+
+const EXPLAIN_ABOUT: &str =
+    "Prints what a refusal or the reason of a stop means, two examples, and what to look at.";
+
+const EXPLAIN_EXAMPLE: &str = "Example: fbsim explain E21";
+
+const NAME_HELP: &str =
+    "The name of the refusal in its line, E01 to E45; \"file fault\", as one word; of a warning, L01 to L13; or the reason of a stop: steps, divide or range. Letter case makes no difference.";
+
+const DECLARATION_HELP: &str =
+    "The file with the declaration of the types and the application, at most 1 MiB; `-` is standard input, here and below.";
+
+pub(crate) const TYPES_HELP: &str =
+    "A file with block types that is read before the declaration; give the option once for each file. All these texts together have at most 1 MiB.";
+
+const TRACE_FILE_HELP: &str =
+    "The file with the trace, of any length and in either form, of a run of these files.";
+
+const CUT_TRACE_HELP: &str =
+    "Accepts a trace that is cut off, without a last line or within a line; the dump says so at its end.";
+
+const DEPLOY_HELP: &str =
+    "The file with the deployment, in TOML, at most 1 MiB; without it one resource MAIN has every instance.";
+
+const STIMULI_HELP: &str =
+    "The file with the stimuli, in CSV, at most 16 MiB; without it there are none.";
+
+const HORIZON_HELP: &str = "The tick, in milliseconds, at which the run ends, 1 to 1000000000000.";
+
+const STEPS_HELP: &str =
+    "The greatest number of steps of a resource in one tick, 1 to 10000000; at the next step it stops.";
+
+const WORKERS_HELP: &str = "The number of threads, 1 to 64; the trace does not depend on it.";
+
+const SERIAL_HELP: &str =
+    "Runs all resources from one agenda on one thread; the trace is the same.";
+
+const PROGRESS_HELP: &str =
+    "Reports each hundredth of the horizon on standard error, with the count of lines; not with --serial.";
+
+const TRACE_HELP: &str =
+    "The form of the trace; in form 2 each line except the last begins with the class, a and b of its event.";
+
+pub(crate) const WHY_HELP: &str =
+    "Prints the locations of a refusal, a file fault or a stop on further lines, if they are known.";
+
+const LINT_HELP: &str =
+    "Reports warnings about files that are accepted on standard error, a line each; explain L01 explains the first.";
+
+/// The names of the forms of the trace.
+const FORM_WORDS: &[&str] = &["1", "2"];
+
+/// A required argument, by its position among the words.
+pub(crate) fn required<'a>(alloc: Global, id: &'a str, help: &'a str) -> Arg<'a>
+    ensures rule { rule_of result ≡ spec.required id.entry.now }
+    ensures local { result.global ≡ false }
+{
+    Arg::new(alloc, id).required(true).help(help)
+}
+
+/// An option that takes a value, such as the name of a file.
+pub(crate) fn option<'a>(alloc: Global, id: &'a str, help: &'a str) -> Arg<'a>
+    ensures rule { rule_of result ≡ spec.file id.entry.now }
+    ensures local { result.global ≡ false }
+{
+    Arg::new(alloc, id).long(id).help(help)
+}
+
+/// An option that takes the name of a file, and may be given several times.
+pub(crate) fn repeated<'a>(alloc: Global, id: &'a str, help: &'a str) -> Arg<'a>
+    ensures rule { rule_of result ≡ spec.repeated id.entry.now }
+    ensures local { result.global ≡ false }
+{
+    option(alloc, id, help).action(ArgAction::Append)
+}
+
+/// An option that takes a value of this kind.
+pub(crate) fn limited<'a>(
+    alloc: Global,
+    id: &'a str,
+    values: ValueParser<'a>,
+    help: &'a str,
+) -> Arg<'a>
+    ensures rule { rule_of result ≡ spec.limited id.entry.now values.entry }
+    ensures local { result.global ≡ false }
+{
+    option(alloc, id, help).value_parser(values)
+}
+
+/// An option without a value.
+pub(crate) fn flag<'a>(alloc: Global, id: &'a str, help: &'a str) -> Arg<'a>
+    ensures rule { rule_of result ≡ spec.flag id.entry.now }
+    ensures local { result.global ≡ false }
+{
+    option(alloc, id, help).action(ArgAction::SetTrue)
+}
+
+/// The command with one more argument, if there was memory for it.
+pub(crate) fn with_arg<'a>(
+    command: Result<Command<'a>, AllocError>,
+    arg: Arg<'a>,
+) -> Result<Command<'a>, AllocError>
+    ensures { IfOk result (λ new. (old : Cmd) × (command.entry ≡ Ok old) × AddsArg old arg.entry new) }
+{
+    match command {
+        Ok(command) => command.arg(arg),
+        Err(error) => {
+            // Dropped by one call: the end of its scope would prove the drop part by part.
+            drop(arg);
+            Err(error)
+        }
+    }
+}
+
+/// A command with a required argument, and the help texts of both.
+pub(crate) fn begun<'a>(
+    alloc: Global,
+    name: &'a str,
+    about: &'a str,
+    example: &'a str,
+    id: &'a str,
+    help: &'a str,
+) -> Result<Command<'a>, AllocError>
+    ensures app { IfOk result (λ c. app_of c ≡ spec.begun name.entry.now id.entry.now) }
+    ensures globals { IfOk result (λ c. (fields_of c).has_globals ≡ false) }
+{
+    Command::new(alloc, name)
+        .about(about)
+        .after_help(example)
+        .arg(required(alloc, id, help))
+}
+
+/// A command with the names of a declaration, of the files of block types before it, and of its deployment, and its help
+/// text.
+pub(crate) fn deployed<'a>(
+    alloc: Global,
+    name: &'a str,
+    about: &'a str,
+    example: &'a str,
+) -> Result<Command<'a>, AllocError>
+    ensures app { IfOk result (λ c. app_of c ≡ spec.deployed name.entry.now) }
+    ensures globals { IfOk result (λ c. (fields_of c).has_globals ≡ false) }
+{
+    let command = begun(alloc, name, about, example, "DECL", DECLARATION_HELP);
+    let command = with_arg(command, repeated(alloc, "types", TYPES_HELP));
+    with_arg(command, option(alloc, "deploy", DEPLOY_HELP))
+}
+
+/// A command with the names of its files, and its help text.
+fn files<'a>(
+    alloc: Global,
+    name: &'a str,
+    about: &'a str,
+    example: &'a str,
+) -> Result<Command<'a>, AllocError>
+    ensures app { IfOk result (λ c. app_of c ≡ spec.files name.entry.now) }
+    ensures globals { IfOk result (λ c. (fields_of c).has_globals ≡ false) }
+{
+    let command = deployed(alloc, name, about, example);
+    let command = with_arg(command, option(alloc, "stim", STIMULI_HELP));
+    with_arg(command, flag(alloc, "why", WHY_HELP))
+}
+
+/// The command that checks.
+fn check_command<'a>(alloc: Global) -> Result<Command<'a>, AllocError>
+    ensures app { IfOk result (λ c. app_of c ≡ spec.check) }
+    ensures globals { IfOk result (λ c. (fields_of c).has_globals ≡ false) }
+{
+    let command = files(alloc, "check", CHECK_ABOUT, CHECK_EXAMPLE);
+    with_arg(command, flag(alloc, "lint", LINT_HELP))
+}
+
+/// Whole numbers from 1 to the most.
+pub(crate) fn up_to<'a>(most: u64) -> ValueParser<'a>
+    ensures { result ≡ spec.up_to most }
+{
+    ValueParser::Unsigned(1, most)
+}
+
+/// The words of the forms of the trace, and no others.
+fn forms<'a>() -> ValueParser<'a>
+    ensures { AreForms result }
+{
+    ValueParser::Names(FORM_WORDS)
+}
+
+/// The command `run`, with the options that are numbers: horizon, steps and workers.
+fn run_numbers<'a>(alloc: Global) -> Result<Command<'a>, AllocError>
+    ensures app { IfOk result (λ c. app_of c ≡ spec.with_numbers (spec.files (codes "run"))) }
+    ensures globals { IfOk result (λ c. (fields_of c).has_globals ≡ false) }
+{
+    let command = files(alloc, "run", RUN_ABOUT, RUN_EXAMPLE);
+    let horizon = limited(alloc, "horizon", up_to(LATEST_TICK), HORIZON_HELP).required(true);
+    let command = with_arg(command, horizon);
+    let steps = limited(alloc, "steps", up_to(MOST_STEPS), STEPS_HELP).default_value("10000");
+    let command = with_arg(command, steps);
+    let workers = limited(alloc, "workers", up_to(MOST_WORKERS), WORKERS_HELP).default_value("1");
+    with_arg(command, workers)
+}
+
+/// The command `run` with all its options.
+fn run<'a>(alloc: Global, forms: ValueParser<'a>) -> Result<Command<'a>, AllocError>
+    ensures app { IfOk result (λ c. app_of c ≡ spec.with_run_options forms.entry (spec.files (codes "run"))) }
+    ensures globals { IfOk result (λ c. (fields_of c).has_globals ≡ false) }
+{
+    let command = run_numbers(alloc);
+    let command = with_arg(command, flag(alloc, "serial", SERIAL_HELP));
+    let command = with_arg(command, flag(alloc, "progress", PROGRESS_HELP));
+    let trace = limited(alloc, "trace", forms, TRACE_HELP).default_value("1");
+    with_arg(command, trace)
+}
+
+/// The command that shows a trace.
+fn wave_command<'a>(alloc: Global) -> Result<Command<'a>, AllocError>
+    ensures app { IfOk result (λ c. app_of c ≡ spec.wave) }
+    ensures globals { IfOk result (λ c. (fields_of c).has_globals ≡ false) }
+{
+    let command = deployed(alloc, "wave", WAVE_ABOUT, WAVE_EXAMPLE);
+    let command = with_arg(command, required(alloc, "TRACE", TRACE_FILE_HELP));
+    let command = with_arg(command, flag(alloc, "cut", CUT_TRACE_HELP));
+    let command = with_arg(command, flag(alloc, "states", STATES_HELP));
+    let steps = limited(alloc, "steps", up_to(MOST_STEPS), WAVE_STEPS_HELP).default_value("10000");
+    let command = with_arg(command, steps);
+    with_arg(command, flag(alloc, "why", WHY_HELP))
+}
+
+/// The command that explains a refusal or a reason.
+fn explain<'a>(alloc: Global) -> Result<Command<'a>, AllocError>
+    ensures app { IfOk result (λ c. app_of c ≡ spec.explain) }
+    ensures globals { IfOk result (λ c. (fields_of c).has_globals ≡ false) }
+{
+    begun(
+        alloc,
+        "explain",
+        EXPLAIN_ABOUT,
+        EXPLAIN_EXAMPLE,
+        "NAME",
+        NAME_HELP,
+    )
+}
+
+/// Both of two values, if there was memory for both. It takes values of any types: dropping a known type on the way is
+/// proved part by part, dropping a type parameter in one step.
+fn both<F: Drop, S: Drop>(
+    first: Result<F, AllocError>,
+    second: Result<S, AllocError>,
+) -> Result<(F, S), AllocError>
+    ensures first { IfOk result (λ pair. first ≡ Ok pair.0) }
+    ensures second { IfOk result (λ pair. second ≡ Ok pair.1) }
+{
+    Ok((first?, second?))
+}
+
+/// The command with one more subcommand, if there was memory for both.
+fn with_subcommand<'a>(
+    command: Result<Command<'a>, AllocError>,
+    subcommand: Result<Command<'a>, AllocError>,
+) -> Result<Command<'a>, AllocError>
+    ensures { IfOk result (λ new. (old : Cmd) × (sub : Cmd) × (command.entry ≡ Ok old) × (subcommand.entry ≡ Ok sub) × AddsSubcommand old sub new) }
+{
+    let (command, subcommand) = both(command, subcommand)?;
+    command.subcommand(subcommand)
+}
+
+fn simulator<'a>(alloc: Global, forms: ValueParser<'a>) -> Result<Command<'a>, AllocError>
+    ensures { IfOk result (λ c. app_of c ≡ spec.simulator_with forms.entry) }
+{
+    let command = Command::new(alloc, "fbsim")
+        .version(VERSION)
+        .about(ABOUT)
+        .after_help(EXAMPLE)
+        .subcommand_required(true);
+    let command = with_subcommand(Ok(command), run(alloc, forms));
+    let command = with_subcommand(command, check_command(alloc));
+    let command = with_subcommand(command, wave_command(alloc));
+    let command = with_subcommand(command, expect_command(alloc));
+    let command = with_subcommand(command, diff_command(alloc));
+    let command = with_subcommand(command, draw_command(alloc));
+    let command = with_subcommand(command, inspect_command(alloc));
+    let command = with_subcommand(command, coverage_command(alloc));
+    with_subcommand(command, explain(alloc))
+}
+
+pub(crate) fn number(found: &ArgMatches<'_>, id: &str) -> Option<u64>
+    ensures number { IfSome result (IsNumber (rows_of (found_of found.now)) id.now) }
+    ensures none { IfNone result ((n : ℕ) → IsNumber (rows_of (found_of found.now)) id.now n → ⊥) }
+{
+    found.get_one::<u64>(id)
+}
+
+/// Whether an option without a value is given.
+pub(crate) fn has_flag(found: &ArgMatches<'_>, id: &str) -> bool
+    ensures { IsFlag (rows_of (found_of found.now)) id.now result }
+{
+    let Some(word) = found.get_str(id) else {
+        return false;
+    };
+    matches!(word, "true")
+}
+
+/// The form of the trace that is asked for.
+fn form_of(found: &ArgMatches<'_>) -> Option<Form>
+    ensures form { IfSome result (IsForm (rows_of (found_of found.now))) }
+    ensures none { IfNone result ((f : Form) → IsForm (rows_of (found_of found.now)) f → ⊥) }
+{
+    match found.get_str("trace")? {
+        "1" => Some(Form::One),
+        "2" => Some(Form::Two),
+        _ => None,
+    }
+}
+
+/// A run with the options that were found.
+fn run_of(found: &ArgMatches<'_>) -> Option<Action>
+    ensures name { IfSome result (λ o. codes "run" ≡ command_name o) }
+    ensures options { IfSome result (λ o. IsAction (rows_of (found_of found.now)) o) }
+    ensures none { IfNone result ((o : Action) → codes "run" ≡ command_name o → IsAction (rows_of (found_of found.now)) o → ⊥) }
+{
+    Some(Action::Run {
+        horizon: number(found, "horizon")?,
+        steps: number(found, "steps")?,
+        workers: number(found, "workers")?,
+        serial: has_flag(found, "serial"),
+        form: form_of(found)?,
+        progress: has_flag(found, "progress"),
+    })
+}
+
+fn action_of(name: &str, found: &ArgMatches<'_>) -> Option<Action>
+    ensures name { IfSome result (λ o. name.now ≡ command_name o) }
+    ensures options { IfSome result (λ o. IsAction (rows_of (found_of found.now)) o) }
+    ensures none { IfNone result ((o : Action) → name.now ≡ command_name o → IsAction (rows_of (found_of found.now)) o → ⊥) }
+{
+    match name {
+        "check" => Some(Action::Check {
+            lint: has_flag(found, "lint"),
+        }),
+        "run" => run_of(found),
+        _ => None,
+    }
+}
+
+/// The names of the files of block types, in their order.
+pub(crate) fn types_of<'a>(
+    alloc: Global,
+    found: &ArgMatches<'a>,
+) -> Result<Vec<&'a str>, AllocError>
+    ensures { IfOk result (λ names. AreTypes (rows_of (found_of found.now)) names.items) }
+{
+    match found.get_strs("types") {
+        Some(names) => Vec::from_slice(alloc, names),
+        None => Ok(Vec::new(alloc)),
+    }
+}
+
+/// The files and the action of a run or a check, if the command has such a name.
+fn task_of<'a>(name: &str, found: &ArgMatches<'a>) -> Option<Task<'a>>
+    ensures name { IfSome result (λ c. name.now ≡ command_name c.action) }
+    ensures rows { IfSome result (IsTask (rows_of (found_of found.now))) }
+    ensures none { IfNone result ((c : Task) → name.now ≡ command_name c.action → IsTask (rows_of (found_of found.now)) c → ⊥) }
+{
+    let declaration = found.get_str("DECL")?;
+    let deploy = found.get_str("deploy");
+    let stimuli = found.get_str("stim");
+    let why = has_flag(found, "why");
+    let action = action_of(name, found)?;
+    Some(Task {
+        action,
+        declaration,
+        deploy,
+        stimuli,
+        why,
+    })
+}
+
+/// The call for a run or a check, from the parser's matches, if the command has such a name.
+fn task_call<'a>(
+    alloc: Global,
+    name: &str,
+    found: &ArgMatches<'a>,
+) -> Result<Option<Call<'a>>, AllocError>
+    ensures name { IfOk result (λ o. IfSome o (λ r. name.now ≡ call_name r)) }
+    ensures rows { IfOk result (λ o. IfSome o (IsCall (rows_of (found_of found.now)))) }
+    ensures none { IfOk result (λ o. IfNone o ((c : Task) → name.now ≡ command_name c.action → IsTask (rows_of (found_of found.now)) c → ⊥)) }
+{
+    let Some(task) = task_of(name, found) else {
+        return Ok(None);
+    };
+    let types = types_of(alloc, found)?;
+    Ok(Some(Call::Task(task, types)))
+}
+
+/// The call for waveforms, from the parser's matches.
+fn wave_of<'a>(alloc: Global, found: &ArgMatches<'a>) -> Result<Option<Call<'a>>, AllocError>
+    ensures name { IfOk result (λ o. IfSome o (λ r. codes "wave" ≡ call_name r)) }
+    ensures rows { IfOk result (λ o. IfSome o (IsCall (rows_of (found_of found.now)))) }
+    ensures none { IfOk result (λ o. IfNone o ((w : Wave) → AsksWave (rows_of (found_of found.now)) w → ⊥)) }
+{
+    let Some(declaration) = found.get_str("DECL") else {
+        return Ok(None);
+    };
+    let deploy = found.get_str("deploy");
+    let Some(trace) = found.get_str("TRACE") else {
+        return Ok(None);
+    };
+    let Some(steps) = number(found, "steps") else {
+        return Ok(None);
+    };
+    let types = types_of(alloc, found)?;
+    let wave = Wave {
+        declaration,
+        deploy,
+        trace,
+        is_cut: has_flag(found, "cut"),
+        has_states: has_flag(found, "states"),
+        steps,
+        why: has_flag(found, "why"),
+    };
+    Ok(Some(Call::Wave(wave, types)))
+}
+
+/// The call that explains a refusal or a reason, with its name.
+fn explain_of<'a>(found: &ArgMatches<'a>) -> Option<Call<'a>>
+    ensures name { IfSome result (λ r. codes "explain" ≡ call_name r) }
+    ensures rows { IfSome result (IsCall (rows_of (found_of found.now))) }
+    ensures none { IfNone result (first_of (codes "NAME") (rows_of (found_of found.now)) ≡ None) }
+{
+    Some(Call::Explain(found.get_str("NAME")?))
+}
+
+fn call_of<'a>(
+    alloc: Global,
+    name: &str,
+    found: &ArgMatches<'a>,
+) -> Result<Option<Call<'a>>, AllocError>
+    ensures name { IfOk result (λ o. IfSome o (λ r. name.now ≡ call_name r)) }
+    ensures rows { IfOk result (λ o. IfSome o (IsCall (rows_of (found_of found.now)))) }
+    ensures none { IfOk result (λ o. IfNone o ((r : Call) → name.now ≡ call_name r → IsCall (rows_of (found_of found.now)) r → ⊥)) }
+{
+    match name {
+        "explain" => Ok(explain_of(found)),
+        "wave" => wave_of(alloc, found),
+        "expect" => expect_of(alloc, found),
+        "diff" => Ok(diff_of(found)),
+        "draw" => draw_of(alloc, found),
+        "inspect" => inspect_of(alloc, found),
+        "coverage" => coverage_of(alloc, found),
+        _ => task_call(alloc, name, found),
+    }
+}
+
+fn fault(alloc: Global, error: &Error) -> LineFault
+    ensures help { IsHelp result → IsText (kind_of error.now) }
+    ensures fault { IsFault result → kind_of error.now ≢ ErrorKind.OutOfMemory }
+    ensures no_help { IsFault result → ¬ (IsText (kind_of error.now)) }
+{
+    let kind = error.kind();
+    if kind == ErrorKind::OutOfMemory {
+        return LineFault::Memory;
+    }
+    match format!(in alloc; "{error}") {
+        Err(_) => LineFault::Memory,
+        Ok(text) if kind == ErrorKind::DisplayHelp => LineFault::Help(text),
+        Ok(text) if kind == ErrorKind::DisplayVersion => LineFault::Help(text),
+        Ok(text) => LineFault::Fault(text),
+    }
+}
+
+/// The call that the matches of the words name.
+fn call_in<'a>(alloc: Global, matches: &ArgMatches<'a>) -> Result<Call<'a>, LineFault>
+    ensures call { IfOk result (IsCallOf (subcommand_rows_of matches.now)) }
+    ensures none { IfErr result (λ e. IsFault e → (r : Call) → IsCallOf (subcommand_rows_of matches.now) r → ⊥) }
+    ensures help { IfErr result (λ e. ¬ (IsHelp e)) }
+{
+    if let Some((name, found)) = matches.subcommand() {
+        if let Some(call) = call_of(alloc, name, found)? {
+            return Ok(call);
+        }
+    }
+    Err(LineFault::Fault(String::from_str(alloc, NO_CALL)?))
+}
+
+/// The call that the words name, the program's own name first.
+///
+/// # Errors
+/// `Help` if help or the version is asked for, `Fault` if the words are no call, and `Memory`.
+pub fn parse<'a>(alloc: Global, words: &'a [&'a str]) -> Result<Call<'a>, LineFault>
+    ensures call { IfOk result (AreCall (map (λ w. w.now) words.entry.now)) }
+    ensures taken { OnOk result (IsTaken (map (λ w. w.now) words.entry.now)) }
+    ensures help { IfErr result (λ e. IsHelp e → AskHelp (map (λ w. w.now) words.entry.now)) }
+    ensures none { IfErr result (λ e. IsFault e → AreNoCall (map (λ w. w.now) words.entry.now)) }
+{
+    let command = simulator(alloc, forms())?;
+    match command.try_get_matches_from(words) {
+        Ok(matches) => call_in(alloc, &matches),
+        Err(error) => Err(fault(alloc, &error)),
+    }
+}

@@ -1,7 +1,0 @@
-use Rattle.fbsim_line.proofs.line.explain.Goals as goal
-
-pub returns-clause-app : goal.returns-clause-app
-returns-clause-app c = c.begun.ensures.app
-
-pub returns-clause-globals : goal.returns-clause-globals
-returns-clause-globals c = c.begun.ensures.globals
