@@ -1,12 +1,19 @@
-//! The readers of deployments and stimuli.
+//! The readers of deployments and stimuli, and where what they read is in its text.
 //!
 //! Guarantees to callers: `read_deploy` returns the plan that the definitions make of the TOML reader's document, and
 //! `read_stimuli` the stimuli that they make of the CSV reader's records, or the number of the refusal. `locate_deploy` and
 //! `locate_stimuli` return where they are refused, and what is wrong there; `deployment_location` and `stimuli_location`
 //! return that alone, or `None` exactly if they are accepted.
 //!
+//! The bytes that `span_in_stimuli` and `span_in_deployment` return for a position are in the text. Those of a field begin
+//! the field with its index, in the record with its index, and the reader of CSV reads there what they say. Those of a table
+//! or a key are its heading or its name, the first thing on its line. That of an element of an array begins it.
+//! `nearest_in_stimuli` and `nearest_in_deployment` return those of the nearest position around that is found. No second
+//! reader of TOML is here: a document in another form than by headings of tables, or with keys in quotes, has no bytes.
+//!
 //! Read in this order: `deployment`, `deploy_location`, `document` and `table`; `stimuli`, `location` and `row`; `paired`;
-//! `text`, `number`, `keyword` and `error`.
+//! `text`, `number`, `keyword` and `error`. Then what runs only after a refusal, and for warnings: `position`; `scan`;
+//! `csv_records`, `row_positions` and `near_stimuli`; `lines`, `arrays` and `near_deployment`.
 #![tactic(auto)]
 
 mod arrays;

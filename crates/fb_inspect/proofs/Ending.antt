@@ -1,11 +1,13 @@
 -- How a dump ends, and what the writer got where it does not.
-use Rattle.std.proofs.Common.{◌≡◌, ℕ, true, List, [], ◌++◌, map, Option, Some, None, Result, Ok, Err, refl, sym, ◌∙◌, ap, subst, inl, inr, append_assoc, append-nil}
+use Rattle.std.proofs.Common.{◌≡◌, ◌<◌, ◌+◌, ℕ, true, List, [], ◌∷◌, ◌++◌, length, map, Option, Some, None, Result, Ok, Err, refl, sym, ◌∙◌, ap, subst, inl, inr, append_assoc, append-nil, arith}
 use Rattle.std.specs.Prelude.{IfErr, IfSome, OnErr}
 use Rattle.std.specs.Io.KnownBytes.{Appends, Consumes, IsAtEnd}
 use Rattle.std.proofs.KnownBytes.{Appends-nil, Appends-trans}
+use Rattle.std.proofs.lemmas.List.{map-append}
 use Rattle.std.proofs.lemmas.List.Elements.{All-nil}
 use Rattle.fb_types.specs.Numbers.{line_of}
 use Rattle.fb_types.specs.Simulation.{AtHorizon}
+use Rattle.fb_types.specs.States as model
 use Rattle.fb_types.specs.Systems.{System}
 use Rattle.fb_types.specs.Text.{lines_text, trace_text}
 use Rattle.fb_types.specs.declared.run.Form.{Form}
@@ -19,14 +21,17 @@ use Rattle.fb_wave.specs.Lines.{IsLineOf}
 use Rattle.fb_wave.specs.declared.truncation.Cut.{Cut}
 use Rattle.fb_wave.specs.declared.truncation.Cut.TheVariants as cut
 use Rattle.fb_wave.proofs.Copied.{ends_after}
+use Rattle.fb_inspect.specs.Inspections.{all_lines}
+use Rattle.fb_inspect.specs.Looks.{turn_lines}
 use Rattle.fb_inspect.specs.Pages.{IsCutShort}
+use Rattle.fb_inspect.specs.Refusals.{IsWrongAt}
 use Rattle.fb_inspect.specs.declared.error.InspectError.{InspectError}
 use Rattle.fb_inspect.specs.declared.error.InspectError.TheVariants.{Refused, Names, Unknown, Memory, Read, Write}
 use Rattle.fb_inspect.specs.declared.page.Page.{Page}
 use Rattle.fb_inspect.specs.declared.reading.Reading.{Reading}
 use Rattle.fb_inspect.proofs.Severing.{cut_whole, on_some}
 use Rattle.fb_inspect.specs.Dumping.{Shows, ShowsUntaken}
-use Rattle.fb_inspect.specs.StateDumps.{Taken, cut_dump, lines_of, state_dump}
+use Rattle.fb_inspect.specs.StateDumps.{HaveLines, Taken, cut_dump, lines_of, state_dump, turns_of}
 use Rattle.fb_inspect.specs.StateWaves.{IsCutStateWave, IsShownWith, IsStateWave, WritesFront}
 use Rattle.fb_inspect.specs.Waving.{Begins, Finishes, FinishesCut, HasWaved, IsCut, IsWhole, SendsCutPart, SendsPart}
 use Rattle.fb_inspect.specs.declared.state_wave.StateWave.{StateWave}
@@ -285,3 +290,40 @@ pub shown_cut :
     → IfSome input (λ text. IsShownWith may sys steps text old new)
 shown_cut cut.Refused sys steps input old new same shown = absurd (cc)
 shown_cut cut.Allowed sys steps input old new same shown = on_some input _ _ shown (λ text is. inr is)
+
+-- the lines are those of the takings
+lines_are_of : (sys : System) (xs : List Taken) → HaveLines sys xs → map (line_of sys) (lines_of xs) ≡ all_lines (turns_of xs)
+lines_are_of sys [] have = refl
+lines_are_of sys (x ∷ xs) have =
+    map-append (line_of sys) x.lines (lines_of xs) ∙ ap (λ (ls : List model.Line). ls ++ map (line_of sys) (lines_of xs)) have.0 ∙ ap (λ (ls : List model.Line). turn_lines x.turn ++ ls) (lines_are_of sys xs have.1)
+
+-- more than the last line is left
+pub after_last :
+    (sys : System) (form : Form) (steps : ℕ) (x : StateWave) (end : Outcome) (text : List ℕ) (remaining old mid : Option (List ℕ)) (n : ℕ) → IsWhole sys form steps x end (Some text) remaining old mid
+    → n ≡ x.walk.trail.reading.number + 1 → IfSome remaining (λ rest. 0 < length rest) → IsWrongAt sys steps n text
+after_last sys form steps x end text None old mid n whole number more = absurd whole.waved.read
+after_last sys form steps x end text (Some rest) old mid n whole number more =
+    let counted = whole.waved.numbered in
+    let ls = lines_of whole.takings in
+    inr
+    (record {
+      front = lines_text form sys (map (line_of sys) ls) ++ whole.line;
+      accepted = record {
+        form = form;
+        lines = ls;
+        end = ending_of end;
+        trace = record {
+          lines = whole.waved.are;
+          last = whole.last.can;
+          ends = ends_after (last_tick 0 ls) (last_tick 0 ls) end refl whole.after;
+          is = ap (λ (u : List ℕ). lines_text form sys (map (line_of sys) ls) ++ u) whole.last.is;
+        };
+        turns = turns_of whole.takings;
+        lines_are = lines_are_of sys whole.takings whole.waved.lines;
+        ends = whole.ends;
+      };
+      numbered = omega (arith, number, counted);
+      rest = rest;
+      more = more;
+      is = whole.waved.read;
+    })

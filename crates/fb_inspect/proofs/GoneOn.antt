@@ -1,5 +1,5 @@
 -- One step of a dump: what was taken was shown, or the trace is over.
-use Rattle.std.proofs.Common.{◌≡◌, ◌<◌, ◌≤◌, ◌⊎◌, ℕ, true, false, List, [], ◌∷◌, ◌++◌, length, map, Option, Some, None, refl, sym, ◌∙◌, ap, subst, inl, inr, append_assoc}
+use Rattle.std.proofs.Common.{◌≡◌, ◌<◌, ◌≤◌, ◌⊎◌, ℕ, ◌+◌, true, false, List, [], ◌∷◌, ◌++◌, length, map, Option, Some, None, refl, sym, ◌∙◌, ap, subst, inl, inr, append_assoc}
 use Rattle.std.specs.Global.{Vec}
 use Rattle.std.specs.Prelude.{All, IfSome}
 use Rattle.std.specs.Io.KnownBytes.{Consumes}
@@ -160,6 +160,7 @@ module _ (types : List BlockType) (sys : System) (form : Form) (steps : ℕ) (w 
           took = goes.goes.took;
           read = ap (λ v. v.line.items ++ goes.goes.taken) (sym ready.reading) ∙ goes.goes.read
               ∙ ap (λ (v : Walk). lines_text form sys (map (line_of sys) goes.lines) ++ v.trail.reading.line.items) (sym own);
+          numbered = ap (λ (v : Walk). v.trail.reading.number) own ∙ goes.goes.numbered ∙ ap (λ v. v.number + length goes.lines) ready.reading;
           numbers = numbers;
           shown = λ sent shows.
               (by seen goes.turn.after (event.saved seen have.look.are) goes.look_after.are).shown xs taken sent shows refl at_is
@@ -269,6 +270,7 @@ module _ (types : List BlockType) (sys : System) (form : Form) (steps : ℕ) (w 
             taken = have.waved.taken;
             lines = have.waved.lines;
             are = have.waved.are;
+            numbered = x.number ∙ ap (λ v. v.number) ready.reading ∙ have.waved.numbered;
             read = subst (λ (o : Option (List ℕ)). Consumes known o (lines_text form sys (map (line_of sys) (lines_of xs)) ++ w.walk.trail.reading.line.items)) (sym x.left) have.waved.read;
             numbers = have.waved.numbers;
             sent = have.waved.sent;

@@ -10,6 +10,7 @@ pub mod Growing
 pub mod Waved
 pub mod GoneOn
 pub mod Ending
+pub mod Refusing
 pub mod Showing
 pub mod ShowingLaws
 pub mod Marked

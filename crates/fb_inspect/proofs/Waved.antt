@@ -1,5 +1,5 @@
 -- Takings that are gone through and shown, one after another.
-use Rattle.std.proofs.Common.{◌≡◌, ◌≤◌, ℕ, Bool, true, false, List, [], ◌∷◌, ◌++◌, ◌||◌, length, map, Option, Some, None, sym, ◌∙◌, ap, subst, inl, append_assoc}
+use Rattle.std.proofs.Common.{◌≡◌, ◌≤◌, ℕ, ◌+◌, Bool, true, false, List, [], ◌∷◌, ◌++◌, ◌||◌, length, map, Option, Some, None, sym, ◌∙◌, ap, subst, inl, append_assoc, arith, length-append}
 use Rattle.std.specs.Prelude.{All}
 use Rattle.std.specs.List.{list_any}
 use Rattle.std.specs.Io.KnownBytes.{Appends, Consumes}
@@ -86,6 +86,7 @@ module _ (sys : System) (form : Form) (steps : ℕ) where
       taken = inl tt;
       lines = tt;
       are = record { each = All-nil (IsLineOf sys); rise = tt };
+      numbered = starts.first;
       read = read;
       numbers = starts.numbers;
       sent = [];
@@ -121,6 +122,7 @@ module _ (sys : System) (form : Form) (steps : ℕ) where
             each = subst (All (IsLineOf sys)) (sym one) (All-append (IsLineOf sys) (lines_of xs) goes.taken.lines waved.are.each (each_of sys line.key.tick goes.taken.lines goes.each));
             rise = subst (RiseFrom 0) (sym one) (rise_more sys line.key.tick 0 (lines_of xs) goes.taken.lines waved.are.rise later goes.each);
           };
+          numbered = let before = waved.numbered in let passed = goes.numbered in omega (arith, before, passed, ap length one, length-append (lines_of xs) goes.taken.lines);
           read = subst (Consumes input rest)
               (append_assoc L x.walk.trail.reading.line.items goes.bytes
               ∙ ap (λ (t : List ℕ). L ++ t) goes.read
@@ -149,6 +151,7 @@ module _ (sys : System) (form : Form) (steps : ℕ) where
           taken = waved.taken;
           lines = waved.lines;
           are = waved.are;
+          numbered = waved.numbered;
           read = waved.read;
           numbers = waved.numbers;
           sent = waved.sent ++ flushed.sent;

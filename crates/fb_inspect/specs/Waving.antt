@@ -1,5 +1,5 @@
 -- How a dump is written while a trace is gone through, taking by taking (this project's own).
-use Rattle.std.specs.Prelude.{◌≡◌, ◌<◌, ℕ, List, [], ◌∷◌, ◌++◌, length, map, true, All, IfSome, Option, Some, None}
+use Rattle.std.specs.Prelude.{◌≡◌, ◌<◌, ℕ, ◌+◌, List, [], ◌∷◌, ◌++◌, length, map, true, All, IfSome, Option, Some, None}
 use Rattle.std.specs.List.{list_any}
 use Rattle.std.specs.Io.KnownBytes.{Appends, Consumes, IsAtEnd}
 use Rattle.fb_types.specs.Blocks.{Basic}
@@ -83,6 +83,7 @@ pub record TakingGoes (sys : System) (form : Form) (limit : ℕ) (look : Look) (
   pub bytes : List ℕ
   pub took : Consumes remaining rest bytes
   pub read : old.walk.trail.reading.line.items ++ bytes ≡ lines_text form sys (map (line_of sys) taken.lines) ++ new.walk.trail.reading.line.items
+  pub numbered : new.walk.trail.reading.number ≡ old.walk.trail.reading.number + length taken.lines
   pub numbers : IsPortDump sys new.dump
   pub shown : (sent : List ℕ) → Shows sys xs (sent ++ old.page.text.items) old.dump → Shows sys (xs ++ taken ∷ []) (sent ++ new.page.text.items) new.dump
 
@@ -93,6 +94,7 @@ pub record IsWaved (sys : System) (form : Form) (steps : ℕ) (x : StateWave) (l
   pub taken : AreTaken sys steps (turns_of xs)
   pub lines : HaveLines sys xs
   pub are : AreLinesOf sys (lines_of xs)
+  pub numbered : x.walk.trail.reading.number ≡ length (lines_of xs) + 1
   pub read : Consumes input remaining (lines_text form sys (map (line_of sys) (lines_of xs)) ++ line)
   pub numbers : IsPortDump sys x.dump
   pub sent : List ℕ
@@ -155,6 +157,7 @@ pub record WaveStarts (sys : System) (form : Form) (x : StateWave) : Type 0 wher
   pub numbers : IsPortDump sys x.dump
   pub shown : Shows sys [] x.page.text.items x.dump
   pub next : IsNext sys form 0 x.walk.trail.reading.line.items x.walk.trail.reading.next
+  pub first : x.walk.trail.reading.number ≡ 1
 
 -- ---- The end
 

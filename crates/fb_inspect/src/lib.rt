@@ -5,6 +5,8 @@
 //! - A text that `insides::inspect` inspects to its end is a trace of the system in which each block emits exactly what its
 //!   reaction gives. The writer gets it with the transitions, algorithms and memory of these reactions between its lines.
 //!   After an error it has the first bytes of that.
+//! - The line for which `insides::inspect` or `covering::cover` refuses a trace is not what the reactions give: no trace of
+//!   a run is refused (`laws`).
 //! - `states::write_states` writes the value change dump of such a trace. In it are the state of each basic block by name,
 //!   its internal variables, and a mark for each event that it lost. Without the lines of the inside of blocks that is, byte
 //!   for byte, the dump that `fb_wave` writes. After an error the writer has the first bytes of such a dump.

@@ -1,6 +1,6 @@
 //! Through a trace, taking by taking.
 
-ghost use Rattle.std.specs.Prelude.{◌≡◌, ◌<◌, ◌∷◌, ◌++◌, ℕ, List, Option, [], All, IfOk, IfSome, IsTrue, OnErr, OnOk, length, true, false};
+ghost use Rattle.std.specs.Prelude.{◌≡◌, ◌<◌, ◌≤◌, ◌+◌, ◌∷◌, ◌++◌, ℕ, List, Option, Some, [], All, IfErr, IfOk, IfSome, IsTrue, OnErr, OnOk, length, true, false};
 ghost use Rattle.std.specs.Io.KnownBytes.{Consumes, IsAtEnd};
 ghost use Rattle.fb_types.specs.Headline.{system_of};
 ghost use Rattle.fb_types.specs.Numbers.{path_at};
@@ -11,7 +11,10 @@ ghost use Rattle.fb_inspect.specs.Inspections.{most};
 ghost use Rattle.fb_inspect.specs.Lines.{IsNext};
 ghost use Rattle.fb_inspect.specs.Looks.{Look};
 ghost use Rattle.fb_inspect.specs.Moves.{IsLineAt};
+ghost use Rattle.fb_inspect.specs.Refusals.{IsNoRefusal, IsWrongAt, OfRefusal};
+ghost use Rattle.fb_inspect.specs.Standing.{GoesAfter, StandsWell};
 ghost use Rattle.fb_inspect.specs.Walking.{AreKept, IsLookOf, unread};
+ghost use Rattle.fb_wave.specs.Named.{HasNames};
 ghost use Rattle.fb_inspect.specs.Dumping.{IsPortDump, Shows, ShowsUntaken};
 ghost use Rattle.fb_inspect.specs.Saved.{IsBefore};
 ghost use Rattle.fb_inspect.specs.StateDumps.{Taken};
@@ -88,7 +91,10 @@ fn is_at_end<R: BufRead>(
     reading: &mut Reading,
     input: &mut R,
 ) -> Result<bool, InspectError>
-    ensures { IfOk result (λ over. IsTrue over → IsAtEnd (unread ahead.now (R.remaining input.old))) }
+    ensures over { IfOk result (λ over. IsTrue over → IsAtEnd (unread ahead.now (R.remaining input.old))) }
+    ensures more { IfOk result (λ over. over ≡ false → IfSome (unread ahead.now (R.remaining input.old)) (λ rest. 0 < length rest)) }
+    ensures number { reading.new.number ≡ reading.old.number }
+    ensures fault { IfErr result IsNoRefusal }
 {
     if !ahead.text.is_empty() {
         return Ok(false);
@@ -153,6 +159,8 @@ impl StateWave {
         ensures goes { (known old new : Option (List ℕ)) → let sys = system_of fixed.now.table.now.system.now in
             HasWaved sys fixed.now.form terms.steps self.old known (unread ahead.old (R.remaining input.old)) old new
             → IfOk result (HasGoneOn sys fixed.now.form terms.steps self.new known (unread ahead.new (R.remaining input.new)) old new) }
+        ensures stands { (rest text : List ℕ) → let sys = system_of fixed.now.table.now.system.now in terms.steps ≤ most → HasNames sys → R.remaining input.old ≡ Some rest
+            → StandsWell sys fixed.now.form terms.steps self.old.walk ahead.old rest text → GoesAfter sys fixed.now.form terms.steps self.new.walk ahead.new (R.remaining input.new) text result }
         ensures cut { IfOk result (λ step. step ≡ Step.CutOff → terms.cut ≡ Cut.Allowed) }
     {
         let system = fixed.table.system;
@@ -182,12 +190,13 @@ impl StateWave {
     ) -> Result<(), InspectError>
         ensures finishes { OnOk result (Finishes (system_of system.now) end self.old (unread ahead.now (R.remaining input.old)) (W.contents out.old) (W.contents out.new)) }
         ensures fault { OnErr result (SendsPart (system_of system.now) end self.old (W.contents out.old) (W.contents out.new)) }
+        ensures refused { IfErr result (OfRefusal (λ n. (n ≡ self.old.walk.trail.reading.number + 1) × IfSome (unread ahead.now (R.remaining input.old)) (λ rest. 0 < length rest))) }
     {
         self.dump.end(system, end, &mut self.page.text)?;
         let reading = &mut self.walk.trail.reading;
         reading.after_end = true;
         if !is_at_end(ahead, reading, input)? {
-            return Err(InspectError::Refused(reading.number.saturating_add(1)));
+            return Err(reading.refusal_after());
         }
         self.page.flush(out)
     }
@@ -196,6 +205,7 @@ impl StateWave {
     pub(crate) fn finish_cut<W: Write>(&mut self, out: &mut W) -> Result<(), InspectError>
         ensures finishes { (sys : Flat) → OnOk result (FinishesCut sys self.old (W.contents out.old) (W.contents out.new)) }
         ensures fault { (sys : Flat) → OnErr result (SendsCutPart sys self.old (W.contents out.old) (W.contents out.new)) }
+        ensures none { IfErr result IsNoRefusal }
     {
         self.dump.cut_off(&mut self.page.text)?;
         self.page.flush(out)
@@ -216,6 +226,9 @@ impl StateWave {
         ensures whole { (known : Option (List ℕ)) → Consumes known (R.remaining input.old) self.old.walk.trail.reading.line.items
             → OnOk result (IfSome known (λ text. IsShownWith terms.cut (system_of fixed.now.table.now.system.now) terms.steps text (W.contents out.old) (W.contents out.new))) }
         ensures fault { OnErr result (WritesFront (system_of fixed.now.table.now.system.now) terms.steps (W.contents out.old) (W.contents out.new)) }
+        ensures refused { (rest text : List ℕ) → let sys = system_of fixed.now.table.now.system.now in
+            terms.steps ≤ most → HasNames sys → R.remaining input.old ≡ Some rest → StandsWell sys fixed.now.form terms.steps self.old.walk ahead.old rest text → text ≡ self.old.walk.trail.reading.line.items ++ rest
+            → IfErr result (OfRefusal (λ n. IsWrongAt sys terms.steps n text)) }
     {
         for _ in 0..u64::MAX {
             match self.step(fixed, terms, ahead, input)? {

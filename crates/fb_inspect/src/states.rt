@@ -1,7 +1,10 @@
 //! The dump of a trace with the inside of basic blocks.
 
-ghost use Rattle.std.specs.Prelude.{IfOk, IfSome, OnErr, OnOk};
+ghost use Rattle.std.specs.Prelude.{◌≤◌, IfErr, IfOk, IfSome, OnErr, OnOk};
 ghost use Rattle.fb_types.specs.Headline.{system_of};
+ghost use Rattle.fb_wave.specs.Named.{HasNames};
+ghost use Rattle.fb_inspect.specs.Looks.{most};
+ghost use Rattle.fb_inspect.specs.Refusals.{IsWrongAt, OfRefusal};
 ghost use Rattle.fb_inspect.specs.StateWaves.{IsShownWith, WritesFront};
 ghost use Rattle.fb_inspect.specs.Waving.{Begins};
 
@@ -52,6 +55,8 @@ fn write_with<R: BufRead, W: Write>(
 ) -> Result<(), InspectError>
     ensures whole { OnOk result (IfSome (R.remaining input.old) (λ text. IsShownWith terms.cut (system_of table.now.system.now) terms.steps text (W.contents out.old) (W.contents out.new))) }
     ensures fault { OnErr result (WritesFront (system_of table.now.system.now) terms.steps (W.contents out.old) (W.contents out.new)) }
+    ensures refused { HasNames (system_of table.now.system.now) → terms.steps ≤ most
+        → IfErr result (OfRefusal (λ n. IfSome (R.remaining input.old) (IsWrongAt (system_of table.now.system.now) terms.steps n))) }
 {
     let mut line = Vec::new(alloc);
     next_line(input, &mut line)?;
@@ -98,6 +103,8 @@ pub fn write_states<R: BufRead, W: Write>(
 ) -> Result<(), InspectError>
     ensures whole { OnOk result (IfSome (R.remaining input.old) (λ text. IsShownWith terms.cut (system_of system.now) terms.steps text (W.contents out.old) (W.contents out.new))) }
     ensures fault { OnErr result (WritesFront (system_of system.now) terms.steps (W.contents out.old) (W.contents out.new)) }
+    ensures refused { HasNames (system_of system.now) → terms.steps ≤ most
+        → IfErr result (OfRefusal (λ n. IfSome (R.remaining input.old) (IsWrongAt (system_of system.now) terms.steps n))) }
 {
     let ports = ports_of(alloc, system)?;
     let texts = texts_of(alloc, system, ports.as_slice())?;

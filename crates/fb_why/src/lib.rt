@@ -5,12 +5,17 @@
 //! nothing else. The locations that `finding::findings_of` reports are in the bytes or in what they declare, and the refusal
 //! applies there. Each place is in the text of the declaration, and the token there is the name that the library has at
 //! this location. For the numbers of the check, whose locations the check lists, it reports none only if the inputs are
-//! refused for something else or can't be read. The wording of the texts is not part of any contract.
+//! refused for something else or can't be read. `find::text_refusal` returns a location in the text, with its line and
+//! column, at which a declaration is refused. The wording of the texts, and what `excerpt` shows, is not part of any
+//! contract.
 //!
-//! Read in this order: `explanation` and `table`; `cause` and `spot`, what each number is about, and where. Then the
-//! modules `.._messages`, a location as text. Then `refused` and `declared`, locations in bytes and in what they declare;
-//! `positions` and `place`, where a location is in the text of the declaration; `finding`, which reads the bytes again. All
-//! of this runs only after a refusal.
+//! Read in this order: `explanation` and `table`; `cause` and `spot`, what each number is about, and where. Then the bytes:
+//! `text_locations`; `find`, the refusal of a text and its location; `source_line`, the source line of a location;
+//! `input_stretches`, positions in deployments and stimuli. Then a location as text: `words` and `text`, texts that grow;
+//! `lookup` and `types`, the meaning of names; the modules `.._messages`, with `hints`, `fraction` and `comments`, and
+//! `flaw_message`. Then `refused` and `declared`, locations in bytes and in what they declare; `positions`, `place` and
+//! `input_place`, where a location is in its text; `listing` and `finding`, which reads the bytes again. All of this runs
+//! only after a refusal.
 #![tactic(auto)]
 
 pub mod cause;

@@ -4,6 +4,10 @@ use Rattle.fb_types.specs.Headline.{Inputs, system_of}
 use Rattle.fb_inspect.proofs.Placed.{err_any, of_table}
 use Rattle.fb_inspect.specs.StateWaves.{IsShownWith, WritesFront}
 use Rattle.fb_inspect.proofs.Ending.{front_none}
+use Rattle.std.specs.Prelude.{IfErr, ◌≤◌}
+use Rattle.fb_wave.specs.Named.{HasNames}
+use Rattle.fb_inspect.specs.Looks.{most}
+use Rattle.fb_inspect.specs.Refusals.{IsWrongAt, OfRefusal}
 use Rattle.fb_inspect.proofs.states.write_states.Goals as goal
 
 pub returns-in_err-ports-clause-fault : goal.returns-in_err-ports-clause-fault
@@ -34,3 +38,9 @@ returns-clause-fault g c =
     let new = g.W.Write.contents c.write_with.new.out in
     subst (λ (s : Inputs). OnErr c.write_with.result (WritesFront (system_of s) c.args.terms.steps old new))
     (of_table _ c.in-Some.table c.args.system.now c.in-Some.is c.in_ok-table.ensures.system) c.write_with.ensures.fault
+
+pub returns-clause-refused : goal.returns-clause-refused
+returns-clause-refused g c =
+    subst
+    (λ (s : Inputs). HasNames (system_of s) → c.args.terms.steps ≤ most → IfErr c.write_with.result (OfRefusal (λ n. IfSome (g.R.Read.remaining c.args.input.now) (IsWrongAt (system_of s) c.args.terms.steps n))))
+    (of_table _ c.in-Some.table c.args.system.now c.in-Some.is c.in_ok-table.ensures.system) c.write_with.ensures.refused

@@ -2,7 +2,6 @@ use Rattle.std.proofs.Common.{◌≡◌, Option, None, refl, sym, ap, subst, ◌
 use Rattle.fb_types.specs.Headline.{system_of}
 use Rattle.fb_inspect.specs.Inspections.{last_look}
 use Rattle.fb_inspect.specs.Lines.{IsNext}
-use Rattle.fb_inspect.proofs.Moving.{next_line}
 use Rattle.fb_inspect.specs.Looks.{Look, opening_look}
 use Rattle.fb_inspect.specs.Stepping.{StepGoes}
 use Rattle.fb_inspect.specs.Walking.{unread}
@@ -14,6 +13,12 @@ use Rattle.fb_inspect.specs.StateDumps.{turns_of}
 use Rattle.fb_inspect.specs.Waving.{HasGoneOn, IsEventKept, IsNextKept}
 use Rattle.fb_inspect.specs.declared.state_wave.EventAt.{EventAt}
 use Rattle.fb_inspect.proofs.GoneOn.{can_show, gone_cut, gone_none, gone_on, own_rows, ready_of, rows_belong, within_of}
+use Rattle.std.proofs.Common.{Some, Result, Ok, false}
+use Rattle.std.proofs.lemmas.Result.{err_from_is_err_and}
+use Rattle.fb_inspect.specs.Standing.{GoesAfter}
+use Rattle.fb_inspect.specs.declared.error.InspectError.{InspectError}
+use Rattle.fb_inspect.proofs.Going.{well_aside}
+use Rattle.fb_inspect.proofs.Moving.{next_line}
 use Rattle.fb_inspect.proofs.state_wave.StateWave.step.Goals as goal
 
 pub keep_next-requires-clause-next : goal.keep_next-requires-clause-next
@@ -29,8 +34,8 @@ step-requires-clause-look g c = c.requires.look
 
 pub step-requires-clause-next : goal.step-requires-clause-next
 step-requires-clause-next g c =
-    let reading = c.args.self.now.walk.trail.reading in
-    (c.requires.next.0, next_line (system_of c.args.fixed.now.table.now.system.now) c.args.fixed.now.form c.requires.next.0 reading.line.items reading.next c.requires.next.1)
+    let fixed = c.args.fixed.now in
+    (c.requires.next.0, next_line (system_of fixed.table.now.system.now) fixed.form c.requires.next.0 c.args.self.now.walk.trail.reading.line.items c.args.self.now.walk.trail.reading.next c.requires.next.1)
 
 pub show_untaken-requires-clause-next : goal.show_untaken-requires-clause-next
 show_untaken-requires-clause-next g c =
@@ -102,3 +107,33 @@ returns-clause-goes g c = λ known old new have.
     gone_on types sys fixed.form steps c.args.self.now known r old new have _ c.step.new.self c.keep_next.new.before c.show.new.self c.in-Some.event rest
     (ready_of c.args.self.now c.clear.new.self have.kept c.clear.ensures.items) event c.in_ok-show.ensures.walk c.in_ok-show.ensures.numbers
     (λ look after before are. c.in_ok-show.ensures.shown look after before are) c.step.new.ahead _ (c.is_cut_off.ensures.no c.if-is_cut_off.false) (c.in_ok-step.ensures.turned seen have.look)
+
+pub returns-in_err-step-clause-stands : goal.returns-in_err-step-clause-stands
+returns-in_err-step-clause-stands g c = λ rest text few names known well.
+    let fixed = c.args.fixed.now in
+    let sys = system_of fixed.table.now.system.now in
+    let w = c.args.self.now.walk in
+    let q = err_from_is_err_and c.from_residual-in_err-step.result c.from_residual-in_err-step.ensures.1 in
+    rw (q.1, q.2) (c.in_err-step.ensures.stands rest text few names known (well_aside sys fixed.form c.args.terms.steps w (record (w.trail.passed) { lines = c.clear.new.self }) (record (w.trail.marks) { charts = record (w.trail.marks.charts) { lost = false } }) c.args.ahead.now rest text well))
+
+pub returns-then-is_cut_off-clause-stands : goal.returns-then-is_cut_off-clause-stands
+returns-then-is_cut_off-clause-stands g c = λ rest text few names known well.
+    let fixed = c.args.fixed.now in
+    let sys = system_of fixed.table.now.system.now in
+    let w = c.args.self.now.walk in
+    subst (λ (s : Step). GoesAfter sys fixed.form c.args.terms.steps c.show_untaken.new.self.walk c.step.new.ahead (g.R.Read.remaining c.step.new.input) text (Ok s)) (sym (c.is_cut_off.ensures.yes c.if-is_cut_off.true)) tt
+
+pub returns-in_default-clause-stands : goal.returns-in_default-clause-stands
+returns-in_default-clause-stands g c = λ rest text few names known well.
+    let fixed = c.args.fixed.now in
+    let sys = system_of fixed.table.now.system.now in
+    let w = c.args.self.now.walk in
+    c.in_ok-step.ensures.stands rest text few names known (well_aside sys fixed.form c.args.terms.steps w (record (w.trail.passed) { lines = c.clear.new.self }) (record (w.trail.marks) { charts = record (w.trail.marks.charts) { lost = false } }) c.args.ahead.now rest text well)
+
+pub returns-clause-stands : goal.returns-clause-stands
+returns-clause-stands g c = λ rest text few names known well.
+    let fixed = c.args.fixed.now in
+    let sys = system_of fixed.table.now.system.now in
+    let w = c.args.self.now.walk in
+    subst (λ (w : Walk). GoesAfter sys fixed.form c.args.terms.steps w c.step.new.ahead (g.R.Read.remaining c.step.new.input) text (Ok c.in_ok-step.step)) (sym c.in_ok-show.ensures.walk)
+    (c.in_ok-step.ensures.stands rest text few names known (well_aside sys fixed.form c.args.terms.steps w (record (w.trail.passed) { lines = c.clear.new.self }) (record (w.trail.marks) { charts = record (w.trail.marks.charts) { lost = false } }) c.args.ahead.now rest text well))
