@@ -6,7 +6,7 @@ ghost use Rattle.fb_check.specs.Faults.{number_of};
 use thiserror::Error;
 
 /// Why inputs are not accepted. Each refusal has a number.
-#[derive(Clone, Copy, Debug, Error, PartialEq, Eq)]
+#[derive(Clone, Copy, Debug, Error)]
 pub enum Fault {
     #[error("a name or a connection is given twice")]
     NameTwice,

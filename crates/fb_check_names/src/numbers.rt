@@ -11,7 +11,7 @@ pub enum TypeNumber {
 
 /// An end of a connection: the index of the component, or none at the boundary, and the index of the port among the ports
 /// of its kind and direction.
-#[derive(Clone, Copy, PartialEq, Eq)]
+#[derive(Clone, Copy)]
 pub struct ConnectionEnd {
     /// The index among the instances of the network, or none at the boundary.
     pub component: Option<usize>,

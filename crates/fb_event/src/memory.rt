@@ -7,7 +7,7 @@ ghost use Rattle.fb_event.specs.Seen.{seen_memory};
 use crate::state::{EventState, KindState, Timer};
 
 /// What an event block remembers from one reaction to the next.
-#[derive(Clone, Copy, PartialEq, Eq)]
+#[derive(Clone, Copy)]
 pub enum EventMemory {
     /// Nothing, or no timer runs.
     Idle,

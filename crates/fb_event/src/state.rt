@@ -7,7 +7,7 @@ use fb_types::EventKind;
 use std::marker::Model;
 
 /// The timer of an event block.
-#[derive(Clone, Copy, Debug, PartialEq, Eq)]
+#[derive(Clone, Copy)]
 pub(crate) enum Timer {
     Idle,
     /// It runs, for this many ticks at a time.
@@ -15,7 +15,7 @@ pub(crate) enum Timer {
 }
 
 /// An event block of each kind, with what it remembers.
-#[derive(Clone, Copy, Debug, PartialEq, Eq)]
+#[derive(Clone, Copy)]
 pub(crate) enum KindState {
     Restart,
     Split,
@@ -40,7 +40,7 @@ pub(crate) enum KindState {
 }
 
 /// An event block: its kind, and what it remembers from one reaction to the next.
-#[derive(Clone, Debug, Drop)]
+#[derive(Drop)]
 pub struct EventState {
     pub(crate) block: KindState,
 }

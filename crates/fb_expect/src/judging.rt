@@ -42,7 +42,7 @@ pub struct Judged {
 }
 
 /// Whether a trace may be cut off: end without a last line, or within a line, which then does not count.
-#[derive(Clone, Copy, PartialEq, Eq)]
+#[derive(Clone, Copy)]
 pub enum Cut {
     Refused,
     Allowed,

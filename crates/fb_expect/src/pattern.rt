@@ -43,7 +43,6 @@ pub struct Condition {
 }
 
 /// Which lines are meant.
-#[derive(Drop)]
 pub struct Pattern {
     /// The resource, or none where it may be any.
     pub resource: Option<Name>,
@@ -52,6 +51,18 @@ pub struct Pattern {
     pub conditions: Items<Condition>,
     /// The pattern as it is written, in upper case.
     pub text: Items<u8>,
+}
+
+impl Drop for Pattern {
+    fn drop(self) {
+        let Pattern {
+            resource: _,
+            way: _,
+            port: _,
+            conditions: _,
+            text: _,
+        } = self;
+    }
 }
 
 /// The sign that a word is.

@@ -31,7 +31,6 @@ pub enum Need {
 }
 
 /// A rule: what it demands of the lines that match its patterns.
-#[derive(Drop)]
 pub struct Rule {
     /// Its name, in UTF-8.
     pub name: Items<u8>,
@@ -39,4 +38,16 @@ pub struct Rule {
     pub first: Pattern,
     pub second: Option<Pattern>,
     pub third: Option<Pattern>,
+}
+
+impl Drop for Rule {
+    fn drop(self) {
+        let Rule {
+            name: _,
+            need: _,
+            first: _,
+            second: _,
+            third: _,
+        } = self;
+    }
 }

@@ -22,7 +22,6 @@ use std::mem;
 
 /// The lines after that of an event: those of emissions of its block in its tick, and the line after them. They are read
 /// before the event is taken, since that last line decides whether the trace ends with it.
-#[derive(Drop)]
 pub struct Ahead {
     /// The lines that were not gone through yet.
     pub text: Vec<u8>,
@@ -33,6 +32,18 @@ pub struct Ahead {
     guess: Guess,
     /// The event that is taken, or the first one after which its resource had used too many steps.
     watched: EventLine,
+}
+
+impl Drop for Ahead {
+    fn drop(self) {
+        let Ahead {
+            text: _,
+            rows: _,
+            last: _,
+            guess: _,
+            watched: _,
+        } = self;
+    }
 }
 
 /// The line of an event.

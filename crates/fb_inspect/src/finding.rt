@@ -31,12 +31,20 @@ pub enum Finding {
 }
 
 /// The line at which a trace is refused, and why.
-#[derive(Drop)]
 pub struct RefusedLine {
     /// The line, and what was known before it.
     pub current: CurrentLine,
     /// Why no run gives it.
     pub finding: Finding,
+}
+
+impl Drop for RefusedLine {
+    fn drop(self) {
+        let RefusedLine {
+            current: _,
+            finding: _,
+        } = self;
+    }
 }
 
 impl RefusedLine {

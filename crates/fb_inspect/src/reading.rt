@@ -26,7 +26,6 @@ pub enum Next {
 }
 
 /// How far a trace was read.
-#[derive(Drop)]
 pub struct Reading {
     pub guess: Guess,
     /// The number of the next line, from 1.
@@ -39,6 +38,19 @@ pub struct Reading {
     pub tick: u64,
     /// Whether it comes after a last line.
     pub after_end: bool,
+}
+
+impl Drop for Reading {
+    fn drop(self) {
+        let Reading {
+            guess: _,
+            number: _,
+            line: _,
+            next: _,
+            tick: _,
+            after_end: _,
+        } = self;
+    }
 }
 
 /// A key with 0 for what a form does not show of it.

@@ -37,12 +37,22 @@ use std::alloc::AllocError;
 use std::io::{BufRead, Write};
 
 /// A dump, as far as a trace was gone through.
-#[derive(Drop)]
 pub(crate) struct StateWave {
     pub(crate) walk: Walk,
     pub(crate) dump: PortDump,
     pub(crate) page: Page,
     pub(crate) before: Before,
+}
+
+impl Drop for StateWave {
+    fn drop(self) {
+        let StateWave {
+            walk: _,
+            dump: _,
+            page: _,
+            before: _,
+        } = self;
+    }
 }
 
 /// An event of an instance, in a tick.

@@ -45,7 +45,6 @@ pub struct PassedLines {
 }
 
 /// How far a trace was gone through.
-#[derive(Drop)]
 pub struct Trail {
     pub reading: Reading,
     pub page: Page,
@@ -57,6 +56,19 @@ pub struct Trail {
     pub finding: Finding,
     /// The lines that were passed.
     pub passed: PassedLines,
+}
+
+impl Drop for Trail {
+    fn drop(self) {
+        let Trail {
+            reading: _,
+            page: _,
+            is_shown: _,
+            marks: _,
+            finding: _,
+            passed: _,
+        } = self;
+    }
 }
 
 impl PassedLines {

@@ -48,7 +48,6 @@ use std::io::{BufRead, Write};
 use std::mem;
 
 /// What the blocks of a system remember at a line, and the steps of its resources.
-#[derive(Drop)]
 pub struct Walk {
     pub blocks: Vec<Remembered>,
     /// For each resource the steps that it has left.
@@ -56,6 +55,17 @@ pub struct Walk {
     pub trail: Trail,
     /// For each instance whether it is shown.
     pub shown: Vec<bool>,
+}
+
+impl Drop for Walk {
+    fn drop(self) {
+        let Walk {
+            blocks: _,
+            steps: _,
+            trail: _,
+            shown: _,
+        } = self;
+    }
 }
 
 /// The reaction of a basic block to the event of the next line.
@@ -186,7 +196,7 @@ fn all_keep(all: &[TickSteps], steps: u64) -> bool
 }
 
 /// How a walk goes on.
-#[derive(Clone, Copy, PartialEq, Eq)]
+#[derive(Clone, Copy)]
 pub enum Step {
     /// An event was taken, and the trace goes on.
     Taken,
@@ -197,7 +207,7 @@ pub enum Step {
 }
 
 /// How much of a trace there is.
-#[derive(Clone, Copy, PartialEq, Eq)]
+#[derive(Clone, Copy)]
 pub enum Extent {
     /// All of it.
     Whole,

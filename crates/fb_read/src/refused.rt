@@ -7,7 +7,7 @@ use crate::expected::Expected;
 use std::alloc::AllocError;
 
 /// What is wrong with a declaration text.
-#[derive(Clone, Copy, PartialEq, Eq)]
+#[derive(Clone, Copy)]
 pub enum TextFault {
     /// E01: a byte that may occur only in comments.
     Byte,

@@ -14,7 +14,7 @@ use fb_types::{BinaryOperator, Boxed, Expr, Function, Name, Reference, Ty, Unary
 use std::alloc::{AllocError, Global};
 
 /// Why a text has no compiled form.
-#[derive(Clone, Copy, Debug, PartialEq, Eq)]
+#[derive(Clone, Copy)]
 pub enum CompileError {
     /// Memory ran out.
     Memory,

@@ -16,7 +16,7 @@ use fb_types::{Reason, StopMark};
 use std::io::Write;
 
 /// How a run ends.
-#[derive(Clone, Copy, Debug, PartialEq, Eq)]
+#[derive(Clone, Copy, PartialEq, Eq)]
 pub enum Outcome {
     /// It reached its horizon, the tick in milliseconds at which it had to end.
     End(u64),

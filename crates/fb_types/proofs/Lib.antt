@@ -36,4 +36,3 @@ pub mod ExamplesAccepted
 pub mod AllKinds
 pub mod EventCounts
 pub mod EventNames
-pub mod EventRowLaws

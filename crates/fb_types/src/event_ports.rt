@@ -1,7 +1,6 @@
 //! The type names and the interfaces of the event blocks.
 
 ghost use Rattle.std.specs.Prelude.{◌≡◌, IfOk, map};
-ghost use Rattle.std.specs.List.{list_any};
 ghost use Rattle.fb_types.specs.Blocks as spec;
 ghost use Rattle.fb_types.specs.EventPorts.{ArePortsOfKinds};
 ghost use Rattle.fb_types.specs.EventRows as row;
@@ -189,32 +188,6 @@ fn type_named(mut rows: &[VariableRow], name: &[u8]) -> Option<Ty>
     None
 }
 
-/// Whether a name is among the texts.
-fn is_among(mut texts: &[&str], name: &[u8]) -> bool
-    ensures { result ≡ spec.among (map (λ t. t.now) texts.entry.now) name.now }
-{
-    while let [text, rest @ ..] = texts {
-        if name == text.as_bytes() {
-            return true;
-        }
-        texts = rest;
-    }
-    false
-}
-
-/// Whether an event with the name has the variable WITH it.
-fn has_event(mut rows: &[EventRow], event: &[u8], variable: &[u8]) -> bool
-    ensures { result ≡ list_any (spec.goes_with event.now variable.now) (map row.event_of rows.entry.now) }
-{
-    while let [entry, rest @ ..] = rows {
-        if is(event, entry.0) && is_among(entry.1, variable) {
-            return true;
-        }
-        rows = rest;
-    }
-    false
-}
-
 /// The type of the data input of an event block at an index.
 pub fn event_block_input(kind: EventKind, index: usize) -> Option<Ty>
     ensures { result ≡ spec.type_at (spec.ports_of_event_block kind).inputs index }
@@ -241,14 +214,6 @@ pub fn event_block_output_named(kind: EventKind, name: &[u8]) -> Option<Ty>
     ensures { result ≡ spec.type_named (spec.ports_of_event_block kind).outputs name.now }
 {
     type_named(interface_rows(kind).outputs, name)
-}
-
-/// Whether an output event of an event block has a variable WITH it. The names are in upper case.
-pub fn event_block_carries(kind: EventKind, event: &[u8], variable: &[u8]) -> bool
-    ensures { result ≡ spec.among (spec.outputs_with (spec.ports_of_event_block kind) event.now) variable.now }
-{
-    let rows = interface_rows(kind);
-    type_named(rows.outputs, variable).is_some() && has_event(rows.event_outputs, event, variable)
 }
 
 fn event(alloc: Global, name: &str, with: &[&str]) -> Result<EventPort, AllocError>

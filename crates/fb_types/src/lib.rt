@@ -35,7 +35,7 @@ pub use boxed::Boxed;
 pub use deploy::{Deploy, Link, Plan, ResourceEntry, Setting, Stimulus};
 pub use event_kind::EventKind;
 pub use event_ports::{
-    all_ports, event_block_carries, event_block_input, event_block_input_named, event_block_output,
+    all_ports, event_block_input, event_block_input_named, event_block_output,
     event_block_output_named, kind_named, ports_of,
 };
 pub use few::{Few, Held};
@@ -46,7 +46,7 @@ pub use latency::{Entry, Latency};
 pub use library::{
     Action, Algorithm, Application, BasicType, BlockType, CompositeType, Condition, Connection,
     EventPort, Instance, Library, Network, Parameter, PortName, Ports, State, Transition, Variable,
-    block_named, has_variable, instance_named,
+    block_named, instance_named,
 };
 pub use limits::{
     LATEST_TICK, MOST_BYTES, MOST_ENTRIES, MOST_LATENCY, MOST_LINKS, MOST_NESTING, MOST_RESOURCES,

@@ -1,7 +1,7 @@
 //! Block types and the application, as they are read (IEC 61499-1, 5 to 7).
 
 ghost use Rattle.std.specs.Prelude.{◌≡◌};
-ghost use Rattle.std.specs.List.{find, list_any};
+ghost use Rattle.std.specs.List.{find};
 ghost use Rattle.std.specs.Option.{option_copied};
 ghost use Rattle.fb_types.specs.Blocks.{initial_of, ports_of};
 ghost use Rattle.fb_types.specs.Flat.{kind_of, type_name};
@@ -405,16 +405,4 @@ pub fn instance_named<'a>(instances: &'a [Instance], name: &Name) -> Option<&'a 
         }
     }
     None
-}
-
-/// Whether one of the variables has the name.
-pub fn has_variable(variables: &[Variable], name: &Name) -> bool
-    ensures { result ≡ list_any (λ v. same_name name.now v.name) variables.now }
-{
-    for variable in variables {
-        if name.is(&variable.name) {
-            return true;
-        }
-    }
-    false
 }

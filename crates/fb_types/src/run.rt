@@ -166,7 +166,7 @@ impl From<Reason> for Halt {
 }
 
 /// Where and why a simulation stops.
-#[derive(Clone, Copy, Debug, PartialEq, Eq)]
+#[derive(Clone, Copy, PartialEq, Eq)]
 pub struct StopMark {
     /// In milliseconds.
     pub tick: u64,

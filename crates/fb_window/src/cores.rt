@@ -112,7 +112,7 @@ pub enum Settled {
 }
 
 /// No memory was left.
-#[derive(Clone, Copy, Debug, PartialEq, Eq)]
+#[derive(Clone, Copy, Debug)]
 pub struct Failed;
 
 impl From<AllocError> for Failed {
