@@ -12,6 +12,10 @@ FUNCTION = re.compile(r"^(\s*)(?:pub(?:\([a-z]+\))? )?(?:const )?fn (\w+)")
 BLOCK = re.compile(r"(impl|(?:pub(?:\([a-z]+\))? )?trait)\b")
 TYPE = re.compile(r"^(?:pub(?:\([a-z]+\))? )?(?:struct|enum) (\w+)", re.M)
 CYCLE = re.compile(r"\s*#\[cycle\((\w+)\)\]$")
+# An item that brings names, but for one of clauses, a comment, and a word.
+USE = re.compile(r"^(?:pub(?:\([a-z]+\))? )?use [^;]*;", re.M)
+COMMENT = re.compile(r"^\s*//.*", re.M)
+WORD = re.compile(r"\w+")
 # A path's last word, and the path of the first type that its brackets hold.
 PATH = re.compile(r"(?:\w+::)*(\w+)(?:<((?:\w+::)*\w+))?")
 
@@ -169,3 +173,48 @@ def without_body(lines, function):
     head = ["" if CYCLE.match(it) else it for it in lines[function.first - 1 : begin]]
     gone = ["unreachable!()", *[""] * (function.last - begin - 2)]
     return [*lines[: function.first - 1], *head, *gone, *lines[function.last - 1 :]]
+
+
+def blank(text):
+    """Returns as many lines that are empty."""
+    return "\n" * text.count("\n")
+
+
+def words_of(text):
+    """Returns the words of a text, without those of its comments and of the items that bring names."""
+    return {*WORD.findall(COMMENT.sub("", USE.sub("", text)))}
+
+
+def unnamed(texts, functions, other_words):
+    """Returns those of these functions that are named neither by these other words nor in the texts, but by those that are returned."""
+    lines = {path: text.split("\n") for path, text in texts.items()}
+    own = {it: words_of("\n".join(lines[it.path][it.first - 1 : it.last])) for it in functions}
+    for it in functions:
+        lines[it.path][it.first - 1 : it.last] = [""] * (it.last - it.first + 1)
+    named = other_words.union(*(words_of("\n".join(it)) for it in lines.values()))
+    left, found = {*functions}, True
+    while found:
+        found = {it for it in left if it.name in named}
+        left -= found
+        named = named.union(*(own[it] for it in found))
+    return left
+
+
+def without(texts, functions):
+    """Returns the texts, with as many lines as before, without these functions and without what brings their names."""
+    lines = {path: text.split("\n") for path, text in texts.items()}
+    for it in functions:
+        lines[it.path][it.first - 1 : it.last] = [""] * (it.last - it.first + 1)
+    gone = {it.name for it in functions}
+    return {path: USE.sub(lambda item: without_names(item[0], gone), "\n".join(it)) for path, it in lines.items()}
+
+
+def without_names(item, names):
+    """Returns an item that brings names without some of these, or as many empty lines where it brings no other."""
+    head, is_list, inside = item.partition("{")
+    if "{" in inside:
+        return item
+    if not is_list:
+        return blank(item) if re.split(r"::| ", item.rstrip(";"))[-1] in names else item
+    kept = [it for it in re.split(r",\s*", inside.rstrip("};\n ").strip()) if it and it not in names]
+    return f"{head}{{{', '.join(kept)}}};{blank(item)}" if kept else blank(item)

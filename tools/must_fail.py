@@ -4,7 +4,7 @@ Each check loads the libraries below the crate, which takes most of its time. So
 after what it refuses. Each has a function of its own: of several edits of one function the first is in the function itself, and each
 other in a copy of it, with its contract and a copy of its proof under another name. The proof of every function that is not edited is
 a hole, which antt takes by its statement: that they are proved is shown elsewhere, and an implementation is refused by what it calls
-states, not by how that is proved.
+states, not by how that is proved. A function of which the rest does not speak is left out, since rattle takes time for it too.
 
 An edit is refused where one of its own function's goals is. Another function's goal does not count, in the same cycle of calls or
 not, nor does a name that is no longer there, nor a hole. If anything else is refused over holes, the check is made once more with
@@ -18,7 +18,7 @@ import re
 import shutil
 import tempfile
 
-from functions import Sources, without_body
+from functions import WORD, Sources, unnamed, without, without_body
 from kit import KEEPS, rt, rtlib
 
 # A proof that antt takes by its statement.
@@ -31,6 +31,8 @@ pub {name}_spec : {{M : Type 1}} → stated.statement M
 SAID = re.compile(
     r"(?P<note>note: )?(?:\./)?(?P<file>(?:src|specs|proofs)/\S+?):(?P<line>\d+):\d+: (?P<error>error: )?(?P<text>(?:`(?P<name>[^`]+)`: )?.*)"
 )
+# What rattle says at a place in a source text that it cannot take.
+UNTAKEN = re.compile(r"(?:\./)?(?P<file>src/\S+?):(?P<line>\d+):\d+: error\[")
 # What antt says of text that names something which is no longer there: that shows nothing about a contract.
 NAMES_WHAT_IS_GONE = re.compile(r"has no field|is not in scope|has no `|was not admitted")
 # What it says of an answer whose goal has another name now. A goal of its kind may be unproved only because this answer is missing.
@@ -116,6 +118,8 @@ class Trial:
 
     def __init__(self, crate, sources, edits):
         self.crate, self.copies, self.names, texts, of_home = crate, [], {}, dict(sources.texts), {}
+        # (whether a check found an edited function that it cannot take, with or without holes elsewhere)
+        self.is_untaken = False
         for edit in edits:
             if edit.home not in of_home or may_be_copied(crate, edit.home):
                 of_home.setdefault(edit.home, []).append(edit)
@@ -135,7 +139,7 @@ class Trial:
 
     def write(self, room, has_holes):
         """Writes the crate with these edits into a folder, and returns it."""
-        texts, holes = self.with_holes() if has_holes else (self.sources.texts, [])
+        texts, holes, unneeded = self.with_holes() if has_holes else (self.sources.texts, [], [])
         for part in rtlib.PARTS:
             if os.path.isdir(f"{self.crate.folder}/{part}"):
                 shutil.copytree(f"{self.crate.folder}/{part}", f"{room}/{part}")
@@ -143,9 +147,10 @@ class Trial:
             write_text(f"{room}/{path}", text)
         for it in self.copies:
             it.write_proof(room)
-        for it in holes:
+        for it in [*holes, *unneeded]:
             for gone in filter(None, (it.proof(), it.cycle_proof)):
                 shutil.rmtree(f"{room}/{gone}", ignore_errors=True)
+        for it in holes:
             os.makedirs(f"{room}/{it.proof()}")
             write_text(f"{room}/{it.proof()}/Proof.antt", HOLE.format(crate=self.crate.name, path=it.proof().replace("/", "."), name=it.name))
         copied = copy.copy(self.crate)
@@ -153,8 +158,9 @@ class Trial:
         return copied
 
     def with_holes(self):
-        """Returns the texts with no body in the functions that can have a hole for a proof, and these functions: all but the
-        edited ones, those in a cycle of calls with them, and those of which rattle proves one for each of several types."""
+        """Returns the texts with no body in the functions that can have a hole for a proof, these functions, and those that were left
+        out. All can have one but the edited functions, those in a cycle of calls with them, and those of which rattle proves one for
+        each of several types. Those are left out of which none of the rest speaks."""
         texts, holes = dict(self.sources.texts), []
         edited = {it.path_in_crate() for it in self.functions.values()}
         cycles = {it.cycle_proof for it in self.functions.values() if it.cycle}
@@ -168,7 +174,16 @@ class Trial:
                 lines = short or lines
                 holes += [it] if short else []
             texts[path] = "\n".join(lines)
-        return texts, holes
+        unneeded = self.unneeded(texts, holes)
+        return {**texts, **without(texts, unneeded)}, [it for it in holes if it not in unneeded], unneeded
+
+    def unneeded(self, texts, holes):
+        """Returns those of these functions of which neither the texts nor the definitions and proofs of the rest speak."""
+        own = {gone for it in holes for gone in (it.proof(), it.cycle_proof)}
+        files = [it for it in rtlib.files_of(self.crate.folder) if it.endswith(".antt")]
+        kept = [it for it in files if os.path.relpath(os.path.dirname(it), self.crate.folder) not in own]
+        words = {word for it in kept for word in WORD.findall(rtlib.text_of(it))}
+        return unnamed(texts, [it for it in holes if it.kind in ("free", "own")], words)
 
     def check(self, has_holes):
         """Checks the edited functions, and returns the lines that the check says, or None where it settles nothing."""
@@ -180,9 +195,13 @@ class Trial:
         why = next((it for it in lines if rt.unread(it, self.sources.texts)), "" if has_ended else lines[-1])
         # (what else is refused over holes may be refused because of them, and so may what depends on it)
         why = why or next((it for it in lines if has_holes and self.is_of_another(it)), "")
+        self.is_untaken = any(self.is_at_an_edit(it) for it in map(UNTAKEN.match, lines) if it)
         if why:
             rt.say(f"note: {self.crate.name}: a check of {len(self.functions)} edits settles none of them: {why[:200]}")
         return None if why else lines
+
+    def is_at_an_edit(self, said):
+        return any(it.has(said["file"], int(said["line"])) for it in self.functions.values())
 
     def is_of_another(self, line):
         """Says whether this line reports an error that is in the proof of no edited function."""
@@ -232,7 +251,9 @@ def try_together(crate, sources, edits):
     """Tries edits in one check. Returns the line by which each is refused, for those that are, and the edits that do not fit into
     this check, since others of their functions are there."""
     trial = Trial(crate, sources, edits)
-    lines = trial.check(has_holes=True) or trial.check(has_holes=False)
+    lines = trial.check(has_holes=True)
+    if not lines and not trial.is_untaken:
+        lines = trial.check(has_holes=False)
     tried, refused = [*trial.functions], trial.refused(lines or [])
     if not lines and len(tried) > 1:
         half = len(tried) // 2

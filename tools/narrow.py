@@ -10,17 +10,14 @@ This shows what no contract says:
 
 ./gate runs this when it has run the program. Without ./gate it uses the program that ./simulate built."""
 
-import os
-import subprocess
 import sys
 from typing import NamedTuple
 
 import refuse
 from calls import CYCLE, FILES, INSIDE_TO_8, KEYED_TO_8, LONG_TRACE, LONG_WAVE, MOST_OF_A_TEXT, TO_8, TOLD_TO_8, WAVE_TO_8
-from kit import TOP, rtlib
+from kit import TOP
 from program import Room, side_by_side
 
-HERE = os.path.dirname(os.path.realpath(__file__))
 PROGRAM = "fbsim"
 STEPS = (1, 2, 3, 7, 1000)
 # The number of bytes that are gathered before they are written, and a number greater than any text's length.
@@ -188,23 +185,14 @@ def all_calls(help_text):
         yield Call(words, {"STEP": 1}, 4, b"", b"out of memory\n")
 
 
-def built(room):
-    """Compiles narrow.c."""
-    before = f"{room.folder}/narrow.so"
-    words = [f"{rtlib.KIT}/toolchain/bin/clang", "-shared", "-fPIC", "-O1", "-nostdlib", "-fuse-ld=lld", "-o", before]
-    subprocess.run([*words, f"{HERE}/narrow.c"], check=True)
-    os.chmod(before, 0o755)
-    return before
-
-
 def made_in(program, files, calls_of):
     """Makes the calls of the program with these files, and returns how many had the expected result, and how many there are."""
     with Room(program, files) as room:
-        before = built(room)
+        before = room.before("narrow")
         made = [*calls_of(room)]
 
         def try_one(call):
-            ran = room.call(call.words, settings=[f"LD_PRELOAD={before}", *(f"NARROW_{name}={value}" for name, value in call.settings.items())])
+            ran = room.call(call.words, settings=[before, *(f"NARROW_{name}={value}" for name, value in call.settings.items())])
             is_well = (ran.returncode, ran.stdout) == (call.status, call.out) and call.err in (ran.stderr, len(ran.stderr))
             if not is_well:
                 print(f"{PROGRAM} {call.words}, {call.settings}: status {ran.returncode}, {ran.stdout[:300]!r}, {ran.stderr[:300]!r}")

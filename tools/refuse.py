@@ -19,18 +19,17 @@ memory is 101 if it answers that as a failure, or if it ends itself and says so 
 
 (The kit's `rt try --fail-alloc N` does the same for one N, with an unproved program that it builds again each time.)"""
 
+import itertools
 import os
 import re
 import signal
-import subprocess
 import sys
 from typing import NamedTuple
 
 import hostile
-from kit import TOP, rtlib
-from program import Room, side_by_side
+from kit import TOP, rt, rtlib
+from program import SECONDS, Room, side_by_side
 
-HERE = os.path.dirname(os.path.realpath(__file__))
 PROGRAM = "fbsim"
 OUT_OF_MEMORY = 4
 # The status of a test that answers a failure.
@@ -43,8 +42,8 @@ TESTS = {
     "fb_parts_tests": ["tests::messages::messages_come_after_out_of_memory"],
     "fb_sim_tests": ["tests::advances::after_out_of_memory_nothing_is_written", "tests::rounds::rounds_write_what_has_become_final"],
 }
-# The number of requests that are refused at once before this checks whether the run made that many.
-AT_ONCE = 64
+# The number of runs that one call of refuse.c makes.
+AT_ONCE = 16
 WAYS = [["--serial"], ["--workers", "1"], ["--workers", "2"]]
 
 
@@ -180,22 +179,30 @@ class Refusals:
 
     def __init__(self, room, words, memory, ends=None):
         self.room, self.words, self.memory, self.ends = room, words, memory, ends
-        self.before = f"{room.folder}/refuse.so"
-        if not os.path.exists(self.before):
-            words = [f"{rtlib.KIT}/toolchain/bin/clang", "-shared", "-fPIC", "-O1", "-nostdlib", "-fuse-ld=lld", "-o", self.before]
-            subprocess.run([*words, f"{HERE}/refuse.c"], check=True)
-            os.chmod(self.before, 0o755)
 
-    def run(self, number):
-        """Runs it with the request of this number refused, if there is one. Returns its status, its output, and whether one was refused."""
-        report = f"{self.room.folder}/refused-{number}"
-        ran = self.room.call(self.words, settings=[f"LD_PRELOAD={self.before}", f"REFUSE={number}", f"REFUSE_TELL={report}"])
-        refused = os.path.exists(report)
-        if refused:
-            os.remove(report)
-        if ran.returncode == -signal.SIGABRT and GAVE_UP.fullmatch(ran.stderr) and STOPPED.fullmatch(ran.stdout):
-            return FAILED_TEST, b"", refused
-        return ran.returncode, ran.stdout, refused
+    def runs(self, numbers):
+        """Runs it once for each of these numbers, which follow each other, with the request of that number refused, if there is one. Returns
+        of each run the number, the status, the output, and whether a request was refused."""
+        settings = [self.room.before("refuse"), f"REFUSE_FIRST={numbers[0]}", f"REFUSE_LAST={numbers[-1]}"]
+        ran = self.room.call(self.words, settings=settings, seconds=SECONDS * (len(numbers) + 1))
+        if ran.returncode:
+            rtlib.stop(f"the runs with a request refused could not be made: status {ran.returncode}, {ran.stderr[:300]!r}")
+        return [self.result(*map(int, line.split())) for line in ran.stdout.splitlines()]
+
+    def result(self, number, status, has_refused):
+        """Returns what a run came to, of which refuse.c reports this status."""
+        status, (output, errors) = os.waitstatus_to_exitcode(status), (self.taken(f"{name}-{number}") for name in ("out", "err"))
+        if status == -signal.SIGABRT and GAVE_UP.fullmatch(errors) and STOPPED.fullmatch(output):
+            status, output = FAILED_TEST, b""
+        return number, status, output, bool(has_refused)
+
+    def taken(self, name):
+        """Returns what a file holds that a run wrote, and removes it."""
+        path = f"{self.room.folder}/{name}"
+        with open(path, "rb") as it:
+            text = it.read()
+        os.remove(path)
+        return text
 
     def is_beginning(self, part, whole):
         """Whether it is a beginning that ends with a line, and at the end of a round if these are known."""
@@ -206,14 +213,14 @@ class Refusals:
         """Refuses each request once. Returns the faults, a line each, and the number of refused requests."""
         faults, first = [], 1
         while True:
-            numbers = range(first, first + AT_ONCE)
-            for number, (ended, wrote, refused) in zip(numbers, side_by_side(self.run, numbers)):
-                if not refused:
+            parts = [range(at, at + AT_ONCE) for at in range(first, first + AT_ONCE * rt.processors(), AT_ONCE)]
+            for number, ended, wrote, has_refused in itertools.chain(*side_by_side(self.runs, parts)):
+                if not has_refused:
                     return faults, number - 1
                 is_whole = (ended, wrote) == (status, output)
                 if not is_whole and not (ended == self.memory and self.is_beginning(wrote, output)):
                     faults.append(f"request {number} refused: status {ended}, {len(wrote)} wrong bytes")
-            first += AT_ONCE
+            first = parts[-1].stop
 
 
 def tell(name, faults, made):
@@ -229,7 +236,7 @@ def try_run(program, it, way):
     ends = ends_of(it.rounds) if it.is_known_by_rounds else None
     with Room(program, {name: text.encode() for name, text in it.texts.items()}) as room:
         refusals = Refusals(room, ["run", "d.iec", *it.words, *way], OUT_OF_MEMORY, ends)
-        status, output, _ = refusals.run(0)
+        [(_, status, output, _)] = refusals.runs([0])
         if (status, output) != (it.status, expected):
             return tell(name, [f"with memory: status {status}, {output[:300]!r}"], 0)
         return tell(name, *refusals.faults(status, output))
@@ -255,7 +262,7 @@ def try_command(program, command, it):
     texts = {**it.texts, "trace": trace, "changed": trace[:-1] + "0\n", "rules": RULES}
     with Room(program, {name: text.encode() for name, text in texts.items()}) as room:
         refusals = Refusals(room, words_of(command, it), OUT_OF_MEMORY)
-        status, output, _ = refusals.run(0)
+        [(_, status, output, _)] = refusals.runs([0])
         if status != COMMANDS[command]:
             return tell(name, [f"with memory: status {status}, {output[:300]!r}"], 0)
         return tell(name, *refusals.faults(status, output))
@@ -271,7 +278,7 @@ def try_alone(program, words, memory):
     """Refuses each request of a program with these arguments."""
     with Room(program) as room:
         refusals = Refusals(room, words, memory)
-        status, output, _ = refusals.run(0)
+        [(_, status, output, _)] = refusals.runs([0])
         return tell(" ".join([os.path.basename(program), *words]), *refusals.faults(status, output))
 
 
