@@ -5,7 +5,7 @@
 - docs/PROOFS.md has each crate, except those of tests, in a row for each promise, and names only functions, clauses and definitions
   that exist.
 - Each block of docs/READING.md is word for word in the file named before it.
-- docs/DEFINITIONS.md has every file of definitions.
+- docs/DEFINITIONS.md has every file of definitions, and names only clauses that its functions have.
 - The example in the comment of a public item is the body of the test that it names.
 - Every function like `fb_sim::run::run` and every file like `docs/FORMATS.md` that a page names exists, and so does every type or
   definition like `HasTaken`. If a page says in which file a definition is, it is there.
@@ -14,6 +14,7 @@
 
 It prints what is wrong and then ends with status 1. ./gate runs it."""
 
+import functools
 import glob
 import os
 import re
@@ -36,6 +37,7 @@ def text_of(place):
         return it.read()
 
 
+@functools.cache
 def sources(crate, kind):
     """Returns the text of all files of a kind in a crate: `src/*.rt` or `specs/*.antt`."""
     folder, ending = {"src": ("src", "rt"), "specs": ("specs", "antt")}[kind]
@@ -113,6 +115,19 @@ def definition_faults():
             if name not in ("Lib", "formers") and "" not in names and name not in known:
                 faults.append(f"{page}: {crate}/specs/{name} is not named")
         faults += [f"{page}: there is no {crate}/specs/{it}" for it in sorted(names - {""}) if not os.path.exists(f"{TOP}/crates/{crate}/specs/{it}.antt")]
+    return faults
+
+
+def clause_faults(page):
+    """Returns the clauses that a page names in parentheses after functions of which none has them."""
+    faults, crate = [], None
+    for named, inside in re.findall(r"((?:`[\w:]+`(?:, | and )?)+) \(([^()]*)\)", text_of(page)):
+        crate = ([it.split("::")[0] for it in TEXTS.findall(named) if it.startswith("fb_")] or [crate])[-1]
+        clauses = [it.strip() for it in inside.split(";")[0].split(",") if re.fullmatch(r"\s*[a-z_]+\s*", it)]
+        names = "|".join(re.escape(it.split("::")[-1]) for it in TEXTS.findall(named))
+        heads = re.findall(rf"\bfn (?:{names})\b.*?(?=\bfn |\Z)", sources(crate, "src"), re.S) if crate else []
+        if heads:
+            faults += [f"{page}: {named.strip()} has no clause {it}" for it in clauses if not re.search(rf"ensures {it} ", "".join(heads))]
     return faults
 
 
@@ -209,7 +224,8 @@ def main():
     pages = ["README.md", "CONTRIBUTING.md", "CHANGELOG.md", *[f"docs/{it}" for it in sorted(os.listdir(f"{TOP}/docs")) if it.endswith(".md")], "bench/README.md", "examples/README.md"]
     proved = [it for it in crates() if it != "fbsim" and not it.endswith("_tests")]
     faults = has_all("docs/ARCHITECTURE.md", crates()) + has_all("docs/PROOFS.md", proved, may_repeat=True)
-    faults += module_faults() + proof_faults() + definition_faults() + comment_faults() + block_faults() + example_faults() + length_faults()
+    faults += module_faults() + proof_faults() + definition_faults() + clause_faults("docs/DEFINITIONS.md")
+    faults += comment_faults() + block_faults() + example_faults() + length_faults()
     places = [it for kind in ("src/**/*.rt", "specs/**/*.antt", "proofs/**/*.antt") for it in glob.glob(f"{TOP}/crates/*/{kind}", recursive=True)]
     known = {word for it in places for word in re.findall(r"[A-Z]\w+", text_of(os.path.relpath(it, TOP)))}
     known |= {os.path.basename(it).removesuffix(".antt") for it in places}
