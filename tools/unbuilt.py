@@ -17,7 +17,7 @@ TABLE = f"{TOP}/crates/fb_why/src/table.rt"
 NEEDS_PROGRAM = 64
 TEXT = r'("(?:[^"\\]|\\.)*")'
 ENTRY = re.compile(
-    r"Explanation \{\s*name: TEXT,\s*meaning:\s*TEXT,\s*examples: \[\s*TEXT,\s*TEXT,?\s*\],\s*look:\s*TEXT,\s*\}".replace("TEXT", TEXT)
+    r"Explanation \{\s*name: TEXT,\s*meaning:\s*TEXT,\s*example:\s*TEXT,\s*other:\s*TEXT,\s*look:\s*TEXT,\s*\}".replace("TEXT", TEXT)
 )
 
 

@@ -16,8 +16,8 @@ use crate::reads::push_unsampled_in_guards;
 use crate::uses::{assigned, mentions_of, push_unassigned_events, push_unmentioned};
 use crate::warning::Warning;
 use fb_check_names::{PortKind, Site};
+use fb_read_positions::BlockTypes;
 use fb_types::{BasicType, BlockType, CompositeType, Library, Plan, Stimulus};
-use fb_why::lookup::BlockTypes;
 use std::alloc::{AllocError, Global};
 
 /// Adds the data inputs that a basic type reads and that events do not sample.

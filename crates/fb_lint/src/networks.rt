@@ -9,10 +9,10 @@ use crate::findings::push_if;
 use crate::names::is_named;
 use crate::warning::Warning;
 use fb_check_names::Site;
+use fb_read_positions::BlockTypes;
 use fb_types::{
     BlockType, Connection, Instance, Library, Name, Parameter, Setting, Stimulus, Variable,
 };
-use fb_why::lookup::BlockTypes;
 use std::alloc::AllocError;
 
 /// Whether one of the connections leads to the data input of the instance.

@@ -1,13 +1,11 @@
 //! Warnings as texts: what they are about, and why they are given.
 
+use crate::positions::position_of;
 use crate::warning::Warning;
-use fb_check_names::{PortKind, Site};
-use fb_types::{EventPort, Library, Plan, Variable};
-use fb_why::Text;
-use fb_why::lookup::BlockTypes;
-use fb_why::site_messages::{
-    instance_of, push_basic, push_block, push_instance, push_site, push_transition,
-};
+use fb_check_names::Site;
+use fb_read_positions::headings::{network_at, push_item, push_position};
+use fb_read_positions::{BlockTypes, Text};
+use fb_types::{Library, Plan};
 use std::alloc::{AllocError, Global};
 
 /// Says what a warning is about, and why it is given.
@@ -22,30 +20,10 @@ pub fn warning_message(
     warning: &Warning,
 ) -> Result<String, AllocError> {
     let mut text = Text::new(alloc);
-    match *warning {
-        Warning::UnfedInput {
-            site,
-            instance,
-            input,
-        } => push_unfed(alloc, &mut text, library, (site, instance), input)?,
-        Warning::UnusedType { block } => push_block(&mut text, library, block),
-        Warning::UnsampledInput { block, input } => {
-            push_port(&mut text, library, block, (PortKind::Input, input));
-        }
-        Warning::UnusedPort {
-            block,
-            port_kind,
-            port,
-        } => push_port(&mut text, library, block, (port_kind, port)),
-        Warning::UnnamedEvent { block, event } => {
-            push_port(&mut text, library, block, (PortKind::EventInput, event));
-        }
-        Warning::UnassignedEvent { block, event } => {
-            push_port(&mut text, library, block, (PortKind::EventOutput, event));
-        }
-        Warning::UnusedLink { link } => push_link(&mut text, plan, link),
-        _ => push_in_chart(&mut text, library, warning),
+    if let Some(position) = position_of(warning) {
+        push_position(&mut text, library, position);
     }
+    push_rest(alloc, &mut text, library, plan, warning);
     text.words(reason(warning));
     text.into_string()
 }
@@ -71,135 +49,52 @@ fn reason(warning: &Warning) -> &'static str {
     }
 }
 
-/// Adds words for a part of the chart of a block type.
-fn push_in_chart(text: &mut Text, library: &Library, warning: &Warning) {
+/// Adds what a warning is about, as far as the words for its position do not say it.
+fn push_rest(alloc: Global, text: &mut Text, library: &Library, plan: &Plan, warning: &Warning) {
     match *warning {
-        Warning::UnsampledInGuard {
-            block,
-            transition,
+        Warning::UnfedInput {
+            site,
+            instance,
             input,
         } => {
-            push_transition_at(text, library, block, transition);
+            push_unfed(alloc, text, library, (site, instance), input);
+        }
+        Warning::UnsampledInGuard { block, input, .. } => {
             push_input(text, ", guard: it reads ", library, block, input);
         }
-        Warning::UnsampledInAlgorithm {
-            block,
-            algorithm,
-            input,
-        } => {
-            push_algorithm(text, library, block, algorithm);
+        Warning::UnsampledInAlgorithm { block, input, .. } => {
             push_input(text, ": it reads ", library, block, input);
         }
-        Warning::UnreachedState { block, state } | Warning::FinalState { block, state } => {
-            push_state(text, library, block, state);
-        }
-        Warning::ShadowedTransition { block, transition } => {
-            push_transition_at(text, library, block, transition);
-        }
-        Warning::UnusedAlgorithm { block, algorithm } => {
-            push_algorithm(text, library, block, algorithm);
-        }
+        Warning::UnusedLink { link } => push_link(text, plan, link),
         _ => {}
-    }
-}
-
-/// Adds words for a block type and one of its transitions.
-fn push_transition_at(text: &mut Text, library: &Library, block: usize, transition: usize) {
-    let Some(basic) = push_basic(text, library, block) else {
-        return;
-    };
-    if let Some(transition) = basic.transitions.get(transition) {
-        push_transition(text, transition);
-    }
-}
-
-/// Adds words for a block type and one of its algorithms.
-fn push_algorithm(text: &mut Text, library: &Library, block: usize, algorithm: usize) {
-    let Some(basic) = push_basic(text, library, block) else {
-        return;
-    };
-    if let Some(algorithm) = basic.algorithms.get(algorithm) {
-        text.named(": algorithm ", &algorithm.name);
-    }
-}
-
-/// Adds words for a block type and one of its states.
-fn push_state(text: &mut Text, library: &Library, block: usize, state: usize) {
-    let Some(basic) = push_basic(text, library, block) else {
-        return;
-    };
-    if let Some(state) = basic.states.get(state) {
-        text.named(": state ", &state.name);
     }
 }
 
 /// Adds words and the name of a data input of a block type.
 fn push_input(text: &mut Text, words: &str, library: &Library, block: usize, input: usize) {
-    let Some(block) = library.blocks.get(block) else {
-        return;
-    };
-    push_variable(text, words, block.ports().inputs.as_slice(), input);
-}
-
-fn push_variable(text: &mut Text, words: &str, variables: &[Variable], index: usize) {
-    if let Some(variable) = variables.get(index) {
-        text.named(words, &variable.name);
+    if let Some(block) = library.blocks.get(block) {
+        push_item(text, words, block.ports().inputs.as_slice(), input);
     }
 }
 
-fn push_event(text: &mut Text, words: &str, events: &[EventPort], index: usize) {
-    if let Some(event) = events.get(index) {
-        text.named(words, &event.name);
-    }
-}
-
-/// Adds words for a block type and one of its ports.
-fn push_port(
-    text: &mut Text,
-    library: &Library,
-    block: usize,
-    (port_kind, port): (PortKind, usize),
-) {
-    push_block(text, library, block);
-    let Some(block) = library.blocks.get(block) else {
-        return;
-    };
-    let ports = block.ports();
-    match port_kind {
-        PortKind::EventInput => {
-            push_event(text, ": event input ", ports.event_inputs.as_slice(), port);
-        }
-        PortKind::EventOutput => {
-            push_event(
-                text,
-                ": event output ",
-                ports.event_outputs.as_slice(),
-                port,
-            );
-        }
-        PortKind::Input => push_variable(text, ": data input ", ports.inputs.as_slice(), port),
-        PortKind::Output => push_variable(text, ": data output ", ports.outputs.as_slice(), port),
-    }
-}
-
-/// Adds words for an instance and one of its data inputs.
+/// Adds the type of an instance and one of its data inputs.
 fn push_unfed(
     alloc: Global,
     text: &mut Text,
     library: &Library,
     (site, instance): (Site, usize),
     input: usize,
-) -> Result<(), AllocError> {
-    push_site(text, library, site);
-    let Some(instance) = instance_of(library, site, instance) else {
-        return Ok(());
-    };
-    push_instance(text, instance);
-    let types = BlockTypes::new(alloc, library)?;
-    if let Some(ports) = types.ports_named(&instance.block_type) {
-        push_variable(text, ", data input ", ports.inputs.as_slice(), input);
+) -> Option<()> {
+    let instance = network_at(library, site)?.instances.get(instance)?;
+    text.named(" : ", &instance.block_type);
+    match BlockTypes::new(alloc, library) {
+        Ok(types) => {
+            let ports = types.ports_named(&instance.block_type)?;
+            push_item(text, ", data input ", ports.inputs.as_slice(), input);
+        }
+        Err(_) => text.give_up(),
     }
-    Ok(())
+    Some(())
 }
 
 /// Adds words for a link.

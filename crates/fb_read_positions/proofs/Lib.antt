@@ -1,3 +1,5 @@
 pub mod Steps
 pub mod Named
 mod Resuming
+mod TypePorts
+mod Placed

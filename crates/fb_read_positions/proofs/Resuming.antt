@@ -3,8 +3,10 @@ use Rattle.std.proofs.Common.{◌≡◌, ◌-◌, ◌+◌, ◌≤◌, ℕ, zero,
 use Rattle.std.proofs.lemmas.List.{length-append, length-map}
 use Rattle.std.proofs.lemmas.Option.{same_Some}
 use Rattle.fb_read.specs.Blocks.{block}
-use Rattle.fb_read.specs.Network.{application}
-use Rattle.fb_read.specs.Parser.{Outcome, Parser, Reads, RuleFault, ◌>>◌, and_then, name, pure, run_after, sees, syntax, too_deep}
+use Rattle.fb_types.specs.Names.{Name}
+use Rattle.fb_read.specs.Network.{application, connection, instance, parameters}
+use Rattle.fb_read.specs.Nodes.{instance_of}
+use Rattle.fb_read.specs.Parser.{Outcome, Parser, Reads, RuleFault, ◌>>=◌, ◌>>◌, and_then, expect, many, name, pure, run_after, section, sees, syntax, too_deep}
 use Rattle.fb_read.specs.declared.fault.ParseFault.{ParseFault}
 use Rattle.fb_read.specs.Tokens.{Tokens, tokens_of}
 use Rattle.fb_read.specs.declared.token.Located.{Located}
@@ -12,16 +14,19 @@ use Rattle.fb_read.specs.declared.token.Mark.TheVariants as mark
 use Rattle.fb_read.specs.declared.token.Token.{Token}
 use Rattle.fb_read.proofs.Local.{Local, local-bind, local-if, local-pure, shape, is_read, is_stuck, is_deep}
 use Rattle.fb_read.proofs.LocalLibrary.{advances-block, local-block}
-use Rattle.fb_read.proofs.LocalLoops.{local-run_after, sees-head}
-use Rattle.fb_read.proofs.LocalRules.{local-application}
-use Rattle.fb_read.proofs.LocalSteps.{local-expect, local-name}
+use Rattle.fb_read.proofs.LocalLoops.{IsNoneAtEnd, local-many, local-run_after, local-section, sees-head}
+use Rattle.fb_read.proofs.LocalRules.{advances-bind, advances-connection, advances-name, local-application, local-connection, local-instance, local-parameters, none-bind, none-connection, none-name}
+use Rattle.fb_read.proofs.LocalSteps.{Advances, local-expect, local-name}
+use Rattle.fb_read.proofs.Steps.{both_ok}
 use Rattle.fb_read_positions.specs.Resumed.{IsReached, Leaves, block_of}
-use Rattle.fb_read_positions.specs.Walks.{Walk, from_block, pass_blocks, past_application, skip, to_application, to_block, to_network, to_network_part, to_position}
+use Rattle.fb_read_positions.specs.Walks.{Walk, from_block, from_item, index_of, list_of, pass, pass_blocks, pass_listed, past_application, skip, to_application, to_block, to_item, to_list, to_network, to_network_part, to_position}
+use Rattle.fb_read_positions.specs.declared.network.NetworkList.{NetworkList}
+use Rattle.fb_read_positions.specs.declared.network.NetworkList.TheVariants as network_list
 use Rattle.fb_read_positions.specs.declared.position.NetworkPart.{NetworkPart}
 use Rattle.fb_read_positions.specs.declared.position.Position.{Position}
 use Rattle.fb_read_positions.specs.declared.position.Position.TheVariants as position
 use Rattle.fb_read_positions.specs.declared.resume.Reached.{Reached}
-use Rattle.fb_read_positions.proofs.Steps.{blocks_more, then_on}
+use Rattle.fb_read_positions.proofs.Steps.{blocks_more, pass_more, then_on}
 
 -- ---- What walks leave
 
@@ -38,12 +43,54 @@ unfolding pass_blocks
 local-blocks zero = local-pure tt
 local-blocks (suc n) = local-bind past_application _ local-past (λ _. local-bind (skip block) _ (local-skip block local-block) (λ _. local-blocks n))
 
-pub local-network : Local to_network
+local-network : Local to_network
 unfolding to_network to_application
 local-network =
     local-bind _ _
     (local-bind (skip (run_after block mark.FunctionBlock [])) _ (local-skip _ (local-run_after block mark.FunctionBlock local-block advances-block [])) (λ _. local-expect mark.Application))
     (λ _. local-skip name local-name)
+
+-- what follows the name of an instance
+typed : (first : Name) → Local (expect mark.Colon >>= (λ _. name >>= (λ t. parameters >>= (λ given. expect mark.Semicolon >>= (λ _. pure (instance_of first t given))))))
+typed first =
+    local-bind (expect mark.Colon) _ (local-expect mark.Colon) (λ _. local-bind name _ local-name (λ t. local-bind parameters _ local-parameters (λ given.
+    local-bind (expect mark.Semicolon) _ (local-expect mark.Semicolon) (λ _. local-pure (instance_of first t given)))))
+
+advances-instance : Advances instance
+unfolding instance
+advances-instance = advances-bind name _ advances-name (λ first. typed first)
+
+none-instance : IsNoneAtEnd instance
+unfolding instance
+none-instance = none-bind name _ none-name
+
+local-instances : Local (skip (many instance mark.EndFbs))
+local-instances = local-skip _ (local-many instance mark.EndFbs local-instance advances-instance none-instance)
+
+local-events : Local (skip (section connection mark.EventConnections mark.EndConnections))
+local-events = local-skip _ (local-section connection mark.EventConnections mark.EndConnections local-connection advances-connection none-connection)
+
+local-list : (list : NetworkList) → Local (to_list list)
+unfolding to_list
+local-list network_list.Instances = local-expect mark.Fbs
+local-list network_list.EventConnections =
+    local-bind (expect mark.Fbs) _ (local-expect mark.Fbs) (λ _. local-bind _ _ local-instances (λ _. local-expect mark.EventConnections))
+local-list network_list.DataConnections =
+    local-bind (expect mark.Fbs) _ (local-expect mark.Fbs) (λ _. local-bind _ _ local-instances (λ _. local-bind _ _ local-events (λ _. local-expect mark.DataConnections)))
+
+local-pass : {A : Type 0} (item : Parser A) → Local item → (n : ℕ) → Local (pass item n)
+unfolding pass
+local-pass item l zero = local-pure tt
+local-pass item l (suc n) = local-bind (skip item) _ (local-skip item l) (λ _. local-pass item l n)
+
+local-listed : (list : NetworkList) (n : ℕ) → Local (pass_listed list n)
+local-listed network_list.Instances n = local-pass instance local-instance n
+local-listed network_list.EventConnections n = local-pass connection local-connection n
+local-listed network_list.DataConnections n = local-pass connection local-connection n
+
+local-item : (list : NetworkList) (n : ℕ) → Local (to_item list n)
+unfolding to_item
+local-item list n = local-bind to_network _ local-network (λ _. local-bind (to_list list) _ (local-list list) (λ _. local-listed list n))
 
 -- ---- The tokens that are left
 
@@ -114,14 +161,14 @@ more_blocks (suc j) m ts mid e =
 pub was_read : (o : Outcome (Unit {0})) (new : Tokens) (r : Result (Unit {0}) ParseFault) → Reads o r new → r ≡ Ok tt → o ≡ Ok (tt, new)
 was_read o new r reads ok = subst (λ (x : Result (Unit {0}) ParseFault). Reads o x new) ok reads
 
-pub reached_none : (ps : List Located) → IsReached ps (record { blocks = 0; left = length ps; network = None })
+pub reached_none : (ps : List Located) → IsReached ps (record { blocks = 0; left = length ps; listed = None })
 unfolding pass_blocks
 reached_none ps =
     let f : Located → Token = λ p. p.token in
-    record { blocks = (tokens_of ps, refl, length-map ps f); network = tt }
+    record { blocks = (tokens_of ps, refl, length-map ps f); listed = tt }
 
-pub reached_again : (ps : List Located) (r : Reached) → IsReached ps r → IsReached ps (record { blocks = 0; left = length ps; network = r.network })
-reached_again ps r is = record { blocks = (reached_none ps).blocks; network = is.network }
+pub reached_again : (ps : List Located) (r : Reached) → IsReached ps r → IsReached ps (record { blocks = 0; left = length ps; listed = r.listed })
+reached_again ps r is = record { blocks = (reached_none ps).blocks; listed = is.listed }
 
 -- from the tokens that a walk left
 pub from_left : {w : Walk} (ps : List Located) (n : ℕ) (ts : Tokens) → Local w → (there : Leaves w ps n) → ts ≡ tokens_of (drop (length ps - n) ps) → ts ≡ there.0
@@ -154,11 +201,57 @@ in_block ps (position.InPorts j part) k new here is passed e = then_on (pass_blo
 in_block ps (position.InBasic j part) k new here is passed e = then_on (pass_blocks j (tokens_of ps)) (λ x. from_block (position.InBasic j part)) tt new (at_block ps j k new is passed) ∙ e
 in_block ps (position.InComposite j part) k new here is passed e = then_on (pass_blocks j (tokens_of ps)) (λ x. from_block (position.InComposite j part)) tt new (at_block ps j k new is passed) ∙ e
 
--- a part of the network of the application, which was reached
+-- ---- Items of a list
+
+-- the walk over some items, and then over others, is one over all
+pass_further : {A : Type 0} (item : Parser A) (j m : ℕ) (ts mid : Tokens) → pass item j ts ≡ Ok (tt, mid) → pass item (j + m) ts ≡ pass item m mid
+unfolding pass
+pass_further item zero m ts mid e = ap (λ n. pass item n ts) (let n : 0 + m ≡ m = omega arith in n) ∙ ap (pass item m) (rest_is ts mid e)
+  where
+    rest_or : Tokens → Outcome (Unit {0}) → Tokens
+    rest_or us (Ok p) = p.1
+    rest_or us (Err f) = us
+
+    rest_is : (us mid : Tokens) → pass item 0 us ≡ Ok (tt, mid) → us ≡ mid
+    rest_is us mid e = ap (rest_or us) e
+pass_further item (suc j) m ts mid e =
+    let w = both_ok (skip item ts) (λ x. pass item j) (tt, mid) e in
+    ap (λ n. pass item n ts) (let n : suc j + m ≡ suc (j + m) = omega arith in n) ∙ pass_more item (j + m) ts w.1 w.2 ∙ pass_further item j m w.1 mid w.3
+
+listed_further : (list : NetworkList) (j m : ℕ) (ts mid : Tokens) → pass_listed list j ts ≡ Ok (tt, mid) → pass_listed list (j + m) ts ≡ pass_listed list m mid
+listed_further network_list.Instances j m ts mid e = pass_further instance j m ts mid e
+listed_further network_list.EventConnections j m ts mid e = pass_further connection j m ts mid e
+listed_further network_list.DataConnections j m ts mid e = pass_further connection j m ts mid e
+
+item_further : (list : NetworkList) (j m : ℕ) (ts mid : Tokens) → to_item list j ts ≡ Ok (tt, mid) → to_item list (j + m) ts ≡ pass_listed list m mid
+unfolding to_item
+item_further list j m ts mid e =
+    let w = both_ok (to_network ts) (λ x. to_list list >> pass_listed list j) (tt, mid) e in
+    let v = both_ok (to_list list w.1) (λ x. pass_listed list j) (tt, mid) w.3 in
+    then_on (to_network ts) (λ x. to_list list >> pass_listed list (j + m)) w.0 w.1 w.2
+    ∙ then_on (to_list list w.1) (λ x. pass_listed list (j + m)) v.0 v.1 v.2 ∙ listed_further list j m v.1 mid v.3
+
+-- items that were read after others
+pub listed_on :
+    (ps : List Located) (list : NetworkList) (j k n : ℕ) (ts new : Tokens) → Leaves (to_item list j) ps n → j ≤ k → ts ≡ tokens_of (drop (length ps - n) ps)
+    → pass_listed list (k - j) ts ≡ Ok (tt, new) → to_item list k (tokens_of ps) ≡ Ok (tt, new)
+listed_on ps list j k n ts new there below from e =
+    let same : ts ≡ there.0 = from_left {w = to_item list j} ps n ts (local-item list j) there from in
+    ap (λ m. to_item list m (tokens_of ps)) (let m : k ≡ j + (k - j) = omega (arith, below) in m)
+    ∙ item_further list j (k - j) (tokens_of ps) there.0 there.1
+    ∙ ap (pass_listed list (k - j)) (sym same) ∙ e
+
+-- a part of an item of the network of the application, which was reached
 pub in_network :
-    (ps : List Located) (part : NetworkPart) (n : ℕ) (ts here : Tokens) → Leaves to_network ps n → ts ≡ tokens_of (drop (length ps - n) ps) → to_network_part part ts ≡ Ok (tt, here)
-    → to_position (position.InApplication part) (tokens_of ps) ≡ Ok (tt, here)
-unfolding to_position
+    (ps : List Located) (part : NetworkPart) (n : ℕ) (ts here : Tokens) → Leaves (to_item (list_of part) (index_of part)) ps n → ts ≡ tokens_of (drop (length ps - n) ps)
+    → from_item part ts ≡ Ok (tt, here) → to_position (position.InApplication part) (tokens_of ps) ≡ Ok (tt, here)
+unfolding to_position to_item to_network_part
 in_network ps part n ts here there from e =
-    then_on (to_network (tokens_of ps)) (λ x. to_network_part part) tt there.0 there.1
-    ∙ ap (to_network_part part) (sym (from_left {w = to_network} ps n ts local-network there from)) ∙ e
+    let list = list_of part in
+    let k = index_of part in
+    let w = both_ok (to_network (tokens_of ps)) (λ x. to_list list >> pass_listed list k) (tt, there.0) there.1 in
+    let v = both_ok (to_list list w.1) (λ x. pass_listed list k) (tt, there.0) w.3 in
+    then_on (to_network (tokens_of ps)) (λ x. to_network_part part) w.0 w.1 w.2
+    ∙ then_on (to_list list w.1) (λ x. pass_listed list k >> from_item part) v.0 v.1 v.2
+    ∙ then_on (pass_listed list k v.1) (λ x. from_item part) tt there.0 v.3
+    ∙ ap (from_item part) (sym (from_left {w = to_item list k} ps n ts (local-item list k) there from)) ∙ e

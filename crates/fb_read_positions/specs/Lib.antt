@@ -1,3 +1,5 @@
 pub mod Walks
 pub mod Places
 pub mod Resumed
+pub mod FindingPositions
+pub mod Locations

@@ -1,10 +1,12 @@
 -- How far a text was read (this project's own).
-use Rattle.std.specs.Prelude.{◌≡◌, ℕ, List, Option, Some, None, Ok, IfSome, length}
+use Rattle.std.specs.Prelude.{◌≡◌, ◌≤◌, ℕ, List, Option, Some, None, Ok, IfSome, length}
 use Rattle.fb_read.specs.Tokens.{Tokens, tokens_of}
 use Rattle.fb_read.specs.declared.token.Located.{Located}
-use Rattle.fb_read_positions.specs.Walks.{Walk, pass_blocks, to_network, to_position}
+use Rattle.fb_read_positions.specs.Walks.{Walk, pass_blocks, to_item, to_position}
 use Rattle.fb_read_positions.specs.declared.position.Position.{Position}
 use Rattle.fb_read_positions.specs.declared.position.Position.TheVariants as position
+use Rattle.fb_read_positions.specs.declared.network.NetworkList.{NetworkList}
+use Rattle.fb_read_positions.specs.declared.resume.Listed.{Listed}
 use Rattle.fb_read_positions.specs.declared.resume.Reached.{Reached}
 use Rattle.fb_read_positions.specs.declared.resume.Stop.{Stop}
 
@@ -12,10 +14,20 @@ use Rattle.fb_read_positions.specs.declared.resume.Stop.{Stop}
 abbrev pub Leaves : Walk → List Located → ℕ → Type 0
 Leaves walk tokens left = (here : Tokens) × (walk (tokens_of tokens) ≡ Ok (tt, here)) × (length here ≡ left)
 
--- The block types were read, and up to the network of the application, if that was.
+-- The network of the application was read up to an item of a list.
+abbrev pub IsListed : List Located → Listed → Type 0
+IsListed tokens l = Leaves (to_item l.list l.count) tokens l.left
+
+-- The block types were read, and up to an item of a list of the network of the application, if that was.
 pub record IsReached (tokens : List Located) (r : Reached) : Type 0 where
   pub blocks : Leaves (pass_blocks r.blocks) tokens r.left
-  pub network : IfSome r.network (Leaves to_network tokens)
+  pub listed : IfSome r.listed (IsListed tokens)
+
+-- It was read of this list, and not past the index.
+pub record IsEarlier (r : Reached) (list : NetworkList) (index : ℕ) (l : Listed) : Type 0 where
+  pub list_is : l.list ≡ list
+  pub below : l.count ≤ index
+  pub was : r.listed ≡ Some l
 
 -- The text was read up to the position, and so far on the way.
 pub record IsStop (tokens : List Located) (position : Position) (s : Stop) : Type 0 where

@@ -15,6 +15,8 @@ use Rattle.fb_read_positions.specs.declared.position.BasicPart.{BasicPart}
 use Rattle.fb_read_positions.specs.declared.position.BasicPart.TheVariants as basic_part
 use Rattle.fb_read_positions.specs.declared.position.ConnectionPart.{ConnectionPart}
 use Rattle.fb_read_positions.specs.declared.position.ConnectionPart.TheVariants as connection_part
+use Rattle.fb_read_positions.specs.declared.network.NetworkList.{NetworkList}
+use Rattle.fb_read_positions.specs.declared.network.NetworkList.TheVariants as network_list
 use Rattle.fb_read_positions.specs.declared.position.NetworkPart.{NetworkPart}
 use Rattle.fb_read_positions.specs.declared.position.NetworkPart.TheVariants as network_part
 use Rattle.fb_read_positions.specs.declared.position.PortPart.{PortPart}
@@ -74,46 +76,65 @@ to_end connection_part.ToPort = do
   skip name
   expect mark.Dot
 
--- in the section that this mark begins
-unfoldable pub to_connection : Mark → ℕ → ConnectionPart → Walk
-to_connection begin k part = do
-  expect begin
-  pass connection k
-  to_end part
+-- up to the first item of a list
+unfoldable pub to_list : NetworkList → Walk
+to_list network_list.Instances = expect mark.Fbs
+to_list network_list.EventConnections = do
+  expect mark.Fbs
+  skip (many instance mark.EndFbs)
+  expect mark.EventConnections
+to_list network_list.DataConnections = do
+  expect mark.Fbs
+  skip (many instance mark.EndFbs)
+  skip (section connection mark.EventConnections mark.EndConnections)
+  expect mark.DataConnections
 
-unfoldable pub to_instance_type : ℕ → Walk
-to_instance_type k = do
-  pass instance k
+-- this many items of a list
+abbrev pub pass_listed : NetworkList → ℕ → Walk
+pass_listed network_list.Instances n = pass instance n
+pass_listed network_list.EventConnections n = pass connection n
+pass_listed network_list.DataConnections n = pass connection n
+
+-- the list in which a part is, and the item to which it belongs
+abbrev pub list_of : NetworkPart → NetworkList
+list_of (network_part.Instance k) = network_list.Instances
+list_of (network_part.InstanceType k) = network_list.Instances
+list_of (network_part.Parameter k n) = network_list.Instances
+list_of (network_part.EventConnection k part) = network_list.EventConnections
+list_of (network_part.DataConnection k part) = network_list.DataConnections
+
+abbrev pub index_of : NetworkPart → ℕ
+index_of (network_part.Instance k) = k
+index_of (network_part.InstanceType k) = k
+index_of (network_part.Parameter k n) = k
+index_of (network_part.EventConnection k part) = k
+index_of (network_part.DataConnection k part) = k
+
+unfoldable pub to_instance_type : Walk
+to_instance_type = do
   skip name
   expect mark.Colon
 
-unfoldable pub to_parameter : ℕ → ℕ → Walk
-to_parameter k n = do
-  to_instance_type k
+unfoldable pub to_parameter : ℕ → Walk
+to_parameter n = do
+  to_instance_type
   skip name
   expect mark.Open
   pass_separated parameter n
 
-unfoldable pub to_data_connection : ℕ → ConnectionPart → Walk
-to_data_connection k part = do
-  skip (section connection mark.EventConnections mark.EndConnections)
-  to_connection mark.DataConnections k part
-
-abbrev pub to_listed : NetworkPart → Walk
-to_listed (network_part.Instance k) = pass instance k
-to_listed (network_part.InstanceType k) = to_instance_type k
-to_listed (network_part.Parameter k n) = to_parameter k n
-to_listed (network_part.EventConnection k part) = do
-  skip (many instance mark.EndFbs)
-  to_connection mark.EventConnections k part
-to_listed (network_part.DataConnection k part) = do
-  skip (many instance mark.EndFbs)
-  to_data_connection k part
+-- from the beginning of its item up to a part
+abbrev pub from_item : NetworkPart → Walk
+from_item (network_part.Instance k) = pure tt
+from_item (network_part.InstanceType k) = to_instance_type
+from_item (network_part.Parameter k n) = to_parameter n
+from_item (network_part.EventConnection k part) = to_end part
+from_item (network_part.DataConnection k part) = to_end part
 
 unfoldable pub to_network_part : NetworkPart → Walk
 to_network_part part = do
-  expect mark.Fbs
-  to_listed part
+  to_list (list_of part)
+  pass_listed (list_of part) (index_of part)
+  from_item part
 
 -- ---- Interfaces
 
@@ -359,6 +380,13 @@ unfoldable pub to_network : Walk
 to_network = do
   to_application
   skip name
+
+-- up to an item of a list of the network of the application
+unfoldable pub to_item : NetworkList → ℕ → Walk
+to_item list k = do
+  to_network
+  to_list list
+  pass_listed list k
 
 -- up to a position in the block type that is next
 abbrev pub from_block : Position → Walk

@@ -1,25 +1,45 @@
-//! Finds where a position of a declaration is in its text: the name of an instance, a variable or a state, the beginning of
-//! a connection or a statement, and so on. No offset is kept in a `Library`; a text is read once more for a position.
+//! Positions of a declaration: the name of an instance, a variable or a state, the beginning of a connection or a statement,
+//! and so on. Says where a position is in the text, which position a finding of a check has, and what the position is called.
+//! No offset is kept in a `Library`; a text is read once more for a position.
 //!
-//! Guarantee to callers (the contracts of `find::span_of`, and of `find::span_from`, which goes on from an earlier
-//! position): the bytes are those of a token of the text. The parser of `fb_read` reads the tokens before it as the entries
-//! before the position. If the library has a name at the position, the token is this name.
+//! Guarantees to callers. `find::span_of`, and `find::span_from`, which goes on from an earlier position: the bytes are those
+//! of a token of the text. The parser of `fb_read` reads the tokens before it as the entries before the position. If the
+//! library has a name at the position, the token is this name. `place`: a place has the line and the column of the token at
+//! its position. `finding_positions`: a finding is shown at the position of what it is about, and what is given twice at its
+//! later occurrence. `lookup::BlockTypes` has the ports of the type that a name represents. The words of `headings`, and what
+//! `source_line` shows, are not part of any contract.
 //!
 //! Read in this order: `position`; `skip`, `network`, `ports`, `basic` and `walk`, what is read up to a position; `resume`,
-//! from one position to the next; `names`, the names that a library has at positions; `find`. All of this runs only after a
-//! refusal, and for warnings.
+//! from one position to the next; `names`, the names that a library has at positions; `find`; `text_locations` and `place`,
+//! lines and columns; `finding_positions`. Then words: `words`, texts that grow; `lookup`, the meaning of names; `headings`,
+//! what a position is called; `source_line`, the source line of a place. All of this runs only after a refusal, and for
+//! warnings and stops.
 #![tactic(auto)]
 
 mod basic;
 pub mod find;
+pub mod finding_positions;
+pub mod headings;
+pub mod lookup;
 mod names;
 mod network;
+pub mod place;
 mod ports;
 pub mod position;
 pub mod resume;
 mod skip;
+pub mod source_line;
+pub mod text_locations;
 mod walk;
+pub mod words;
 
 pub use find::{Found, discard, span_from, span_of, tokens_of};
+pub use lookup::BlockTypes;
+pub use names::name_at;
+pub use network::NetworkList;
+pub use place::{FoundPlace, no_place, place_at, place_from};
 pub use position::{BasicPart, ConnectionPart, NetworkPart, PortPart, Position, TransitionPart};
-pub use resume::{Reached, beginning};
+pub use resume::{Listed, Reached, beginning};
+pub use source_line::excerpt;
+pub use text_locations::{TextLocation, after_mark, location_at, location_in};
+pub use words::Text;

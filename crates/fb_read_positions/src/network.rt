@@ -1,5 +1,6 @@
 //! Positions in networks.
 
+ghost use Rattle.std.specs.Prelude.{◌≡◌};
 ghost use Rattle.fb_read.specs.Parser.{Reads};
 ghost use Rattle.fb_read_positions.specs.Walks as spec;
 
@@ -34,71 +35,106 @@ fn to_end(cursor: &mut Cursor<'_>, part: ConnectionPart) -> Result<(), ParseFaul
     }
 }
 
-/// Reads up to a name of a connection in the section that begins with this mark.
-#[tactic(auto, unfolding(crate::specs::Walks::to_connection))]
-fn to_connection(
-    cursor: &mut Cursor<'_>,
-    begin: Mark,
-    index: usize,
-    part: ConnectionPart,
-) -> Result<(), ParseFault>
-    ensures { Reads (spec.to_connection begin index part cursor.old) result cursor.new }
-{
-    cursor.expect(begin)?;
-    pass::<Connection>(cursor, index)?;
-    to_end(cursor, part)
+/// A list of a network.
+#[derive(Clone, Copy)]
+pub enum NetworkList {
+    Instances,
+    EventConnections,
+    DataConnections,
 }
 
-/// Reads up to the type of an instance.
-#[tactic(auto, unfolding(crate::specs::Walks::to_instance_type))]
-fn to_instance_type(cursor: &mut Cursor<'_>, index: usize) -> Result<(), ParseFault>
-    ensures { Reads (spec.to_instance_type index cursor.old) result cursor.new }
+/// The list in which a part is.
+pub fn list_of(part: NetworkPart) -> NetworkList
+    ensures { result ≡ spec.list_of part }
 {
-    pass::<Instance>(cursor, index)?;
+    match part {
+        NetworkPart::Instance(_) | NetworkPart::InstanceType(_) | NetworkPart::Parameter(_, _) => {
+            NetworkList::Instances
+        }
+        NetworkPart::EventConnection(_, _) => NetworkList::EventConnections,
+        NetworkPart::DataConnection(_, _) => NetworkList::DataConnections,
+    }
+}
+
+/// The index of the item to which a part belongs.
+pub fn index_of(part: NetworkPart) -> usize
+    ensures { result ≡ spec.index_of part }
+{
+    match part {
+        NetworkPart::Instance(index)
+        | NetworkPart::InstanceType(index)
+        | NetworkPart::Parameter(index, _)
+        | NetworkPart::EventConnection(index, _)
+        | NetworkPart::DataConnection(index, _) => index,
+    }
+}
+
+/// Reads up to the first item of a list of the network that is next.
+#[tactic(auto, unfolding(crate::specs::Walks::to_list))]
+pub fn to_list(cursor: &mut Cursor<'_>, list: NetworkList) -> Result<(), ParseFault>
+    ensures { Reads (spec.to_list list cursor.old) result cursor.new }
+{
+    match list {
+        NetworkList::Instances => cursor.expect(Mark::Fbs),
+        NetworkList::EventConnections => {
+            cursor.expect(Mark::Fbs)?;
+            skip_many::<Instance>(cursor, Mark::EndFbs)?;
+            cursor.expect(Mark::EventConnections)
+        }
+        NetworkList::DataConnections => {
+            cursor.expect(Mark::Fbs)?;
+            skip_many::<Instance>(cursor, Mark::EndFbs)?;
+            skip_section::<Connection>(cursor, Mark::EventConnections, Mark::EndConnections)?;
+            cursor.expect(Mark::DataConnections)
+        }
+    }
+}
+
+/// Reads this many items of a list.
+pub fn pass_listed(
+    cursor: &mut Cursor<'_>,
+    list: NetworkList,
+    count: usize,
+) -> Result<(), ParseFault>
+    ensures { Reads (spec.pass_listed list count cursor.old) result cursor.new }
+{
+    match list {
+        NetworkList::Instances => pass::<Instance>(cursor, count),
+        NetworkList::EventConnections => pass::<Connection>(cursor, count),
+        NetworkList::DataConnections => pass::<Connection>(cursor, count),
+    }
+}
+
+/// Reads up to the type of the instance that is next.
+#[tactic(auto, unfolding(crate::specs::Walks::to_instance_type))]
+fn to_instance_type(cursor: &mut Cursor<'_>) -> Result<(), ParseFault>
+    ensures { Reads (spec.to_instance_type cursor.old) result cursor.new }
+{
     skip::<Name>(cursor)?;
     cursor.expect(Mark::Colon)
 }
 
-/// Reads up to a parameter of an instance.
+/// Reads up to a parameter of the instance that is next.
 #[tactic(auto, unfolding(crate::specs::Walks::to_parameter))]
-fn to_parameter(cursor: &mut Cursor<'_>, index: usize, parameter: usize) -> Result<(), ParseFault>
-    ensures { Reads (spec.to_parameter index parameter cursor.old) result cursor.new }
+fn to_parameter(cursor: &mut Cursor<'_>, parameter: usize) -> Result<(), ParseFault>
+    ensures { Reads (spec.to_parameter parameter cursor.old) result cursor.new }
 {
-    to_instance_type(cursor, index)?;
+    to_instance_type(cursor)?;
     skip::<Name>(cursor)?;
     cursor.expect(Mark::Open)?;
     pass_separated::<Parameter>(cursor, parameter)
 }
 
-/// Reads up to a name of a data connection, from the end of the instances on.
-#[tactic(auto, unfolding(crate::specs::Walks::to_data_connection))]
-fn to_data_connection(
-    cursor: &mut Cursor<'_>,
-    index: usize,
-    part: ConnectionPart,
-) -> Result<(), ParseFault>
-    ensures { Reads (spec.to_data_connection index part cursor.old) result cursor.new }
-{
-    skip_section::<Connection>(cursor, Mark::EventConnections, Mark::EndConnections)?;
-    to_connection(cursor, Mark::DataConnections, index, part)
-}
-
-/// Reads up to a part of the network, from its instances on.
-fn to_listed(cursor: &mut Cursor<'_>, part: NetworkPart) -> Result<(), ParseFault>
-    ensures { Reads (spec.to_listed part cursor.old) result cursor.new }
+/// Reads up to a part of the item that is next.
+pub fn from_item(cursor: &mut Cursor<'_>, part: NetworkPart) -> Result<(), ParseFault>
+    ensures { Reads (spec.from_item part cursor.old) result cursor.new }
 {
     match part {
-        NetworkPart::Instance(index) => pass::<Instance>(cursor, index),
-        NetworkPart::InstanceType(index) => to_instance_type(cursor, index),
-        NetworkPart::Parameter(index, parameter) => to_parameter(cursor, index, parameter),
-        NetworkPart::EventConnection(index, part) => {
-            skip_many::<Instance>(cursor, Mark::EndFbs)?;
-            to_connection(cursor, Mark::EventConnections, index, part)
-        }
-        NetworkPart::DataConnection(index, part) => {
-            skip_many::<Instance>(cursor, Mark::EndFbs)?;
-            to_data_connection(cursor, index, part)
-        }
+        NetworkPart::Instance(_) => Ok(()),
+        NetworkPart::InstanceType(_) => to_instance_type(cursor),
+        NetworkPart::Parameter(_, parameter) => to_parameter(cursor, parameter),
+        NetworkPart::EventConnection(_, part) => to_end(cursor, part),
+        NetworkPart::DataConnection(_, part) => to_end(cursor, part),
     }
 }
 
@@ -107,6 +143,8 @@ fn to_listed(cursor: &mut Cursor<'_>, part: NetworkPart) -> Result<(), ParseFaul
 pub fn to_network_part(cursor: &mut Cursor<'_>, part: NetworkPart) -> Result<(), ParseFault>
     ensures { Reads (spec.to_network_part part cursor.old) result cursor.new }
 {
-    cursor.expect(Mark::Fbs)?;
-    to_listed(cursor, part)
+    let list = list_of(part);
+    to_list(cursor, list)?;
+    pass_listed(cursor, list, index_of(part))?;
+    from_item(cursor, part)
 }

@@ -1,18 +1,30 @@
-//! Positions one after another: a text is read once up to all of them, where they follow the order of the block types.
+//! Positions one after another: a text is read once up to all of them, where they follow the order of the block types, or
+//! that of a list of the network of the application.
 
 ghost use Rattle.std.specs.Prelude.{◌≡◌, ◌≤◌, ◌-◌, IfOk, IfSome, IsTrue, Ok, Some, drop, length};
 ghost use Rattle.fb_read.specs.Whole.{most_bytes};
-ghost use Rattle.fb_read_positions.specs.Resumed.{IsReached, IsStop, Leaves, block_of};
-ghost use Rattle.fb_read_positions.specs.Walks.{to_network};
+ghost use Rattle.fb_read_positions.specs.Resumed.{IsEarlier, IsListed, IsReached, IsStop, Leaves, block_of};
+ghost use Rattle.fb_read_positions.specs.Walks.{to_item};
 ghost use Rattle.fb_read_positions.specs.declared.position.Position.TheVariants as position;
 
-use crate::network::to_network_part;
+use crate::network::{NetworkList, from_item, index_of, list_of, pass_listed};
 use crate::position::{NetworkPart, Position};
-use crate::walk::{from_block, pass_blocks, to_network, to_position};
+use crate::walk::{from_block, pass_blocks, to_item, to_position};
 use fb_read::cursor::Cursor;
 use fb_read::fault::ParseFault;
 use fb_read::token::Located;
 use std::alloc::{AllocError, Global};
+
+/// How far a list of the network of the application was read.
+#[derive(Clone, Copy)]
+pub struct Listed {
+    /// The list.
+    pub list: NetworkList,
+    /// The number of its items that were read.
+    pub count: usize,
+    /// The number of tokens that are left after them.
+    pub left: usize,
+}
 
 /// How far a text was read.
 #[derive(Clone, Copy)]
@@ -21,8 +33,8 @@ pub struct Reached {
     pub blocks: usize,
     /// The number of tokens that are left after them.
     pub left: usize,
-    /// The number of tokens that are left after the name of the application, if that was read.
-    pub network: Option<usize>,
+    /// How far the network of the application was read, if it was.
+    pub listed: Option<Listed>,
 }
 
 /// A position that was reached.
@@ -41,7 +53,7 @@ pub fn beginning(tokens: &[Located]) -> Reached
     Reached {
         blocks: 0,
         left: tokens.len(),
-        network: None,
+        listed: None,
     }
 }
 
@@ -76,7 +88,7 @@ fn before(tokens: &[Located], reached: Reached, block: usize) -> Reached
     Reached {
         blocks: 0,
         left: tokens.len(),
-        network: reached.network,
+        listed: reached.listed,
     }
 }
 
@@ -101,7 +113,7 @@ fn reach_in_block(
     let reached = Reached {
         blocks: block,
         left: cursor.left(),
-        network: from.network,
+        listed: from.listed,
     };
     if !is_read(from_block(&mut cursor, position))? {
         return Ok(None);
@@ -112,21 +124,64 @@ fn reach_in_block(
     }))
 }
 
-/// The number of tokens that are left before the network of the application.
-fn left_before_network(
+/// Whether two lists are the same one.
+fn is_same(left: NetworkList, right: NetworkList) -> bool
+    ensures { IsTrue result → left ≡ right }
+{
+    match (left, right) {
+        (NetworkList::Instances, NetworkList::Instances) => true,
+        (NetworkList::EventConnections, NetworkList::EventConnections) => true,
+        (NetworkList::DataConnections, NetworkList::DataConnections) => true,
+        _ => false,
+    }
+}
+
+/// What was read of a list, if it was not read past this index.
+fn earlier(reached: Reached, list: NetworkList, index: usize) -> Option<Listed>
+    ensures { IfSome result (IsEarlier reached list index) }
+{
+    match reached.listed {
+        Some(listed) if listed.count <= index && is_same(listed.list, list) => Some(listed),
+        _ => None,
+    }
+}
+
+/// The number of tokens that are left before an item of a list, from an earlier one on.
+fn left_after(
+    alloc: Global,
+    tokens: &[Located],
+    from: Listed,
+    index: usize,
+) -> Result<Option<usize>, AllocError>
+    requires few { length tokens.now ≤ most_bytes }
+    requires listed { IsListed tokens.now from }
+    requires below { from.count ≤ index }
+    ensures { IfOk result (λ o. IfSome o (Leaves (to_item from.list index) tokens.now)) }
+{
+    let mut cursor = Cursor::new(alloc, last(tokens, from.left));
+    if !is_read(pass_listed(&mut cursor, from.list, index - from.count))? {
+        return Ok(None);
+    }
+    Ok(Some(cursor.left()))
+}
+
+/// The number of tokens that are left before an item of a list of the network of the application.
+fn left_before(
     alloc: Global,
     tokens: &[Located],
     reached: Reached,
+    list: NetworkList,
+    index: usize,
 ) -> Result<Option<usize>, AllocError>
     requires few { length tokens.now ≤ most_bytes }
     requires reached { IsReached tokens.now reached }
-    ensures { IfOk result (λ o. IfSome o (Leaves to_network tokens.now)) }
+    ensures { IfOk result (λ o. IfSome o (Leaves (to_item list index) tokens.now)) }
 {
-    if let Some(left) = reached.network {
-        return Ok(Some(left));
+    if let Some(from) = earlier(reached, list, index) {
+        return left_after(alloc, tokens, from, index);
     }
     let mut cursor = Cursor::new(alloc, tokens);
-    if !is_read(to_network(&mut cursor))? {
+    if !is_read(to_item(&mut cursor, list, index))? {
         return Ok(None);
     }
     Ok(Some(cursor.left()))
@@ -143,17 +198,24 @@ fn reach_in_network(
     requires reached { IsReached tokens.now reached }
     ensures { IfOk result (λ o. IfSome o (IsStop tokens.now (position.InApplication part))) }
 {
-    let Some(before) = left_before_network(alloc, tokens, reached)? else {
+    let list = list_of(part);
+    let index = index_of(part);
+    let Some(before) = left_before(alloc, tokens, reached, list, index)? else {
         return Ok(None);
     };
     let mut cursor = Cursor::new(alloc, last(tokens, before));
-    if !is_read(to_network_part(&mut cursor, part))? {
+    if !is_read(from_item(&mut cursor, part))? {
         return Ok(None);
     }
+    let listed = Listed {
+        list,
+        count: index,
+        left: before,
+    };
     let reached = Reached {
         blocks: reached.blocks,
         left: reached.left,
-        network: Some(before),
+        listed: Some(listed),
     };
     Ok(Some(Stop {
         left: cursor.left(),

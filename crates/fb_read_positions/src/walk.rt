@@ -7,7 +7,7 @@ ghost use Rattle.fb_read.specs.declared.token.Mark.TheVariants as mark;
 ghost use Rattle.fb_read_positions.specs.Walks as spec;
 
 use crate::basic::to_basic_part;
-use crate::network::to_network_part;
+use crate::network::{NetworkList, pass_listed, to_list, to_network_part};
 use crate::ports::to_port_part;
 use crate::position::Position;
 use crate::skip::skip;
@@ -110,11 +110,21 @@ fn to_application(cursor: &mut Cursor<'_>) -> Result<(), ParseFault>
 
 /// Reads up to the network of the application.
 #[tactic(auto, unfolding(crate::specs::Walks::to_network))]
-pub fn to_network(cursor: &mut Cursor<'_>) -> Result<(), ParseFault>
+fn to_network(cursor: &mut Cursor<'_>) -> Result<(), ParseFault>
     ensures { Reads (spec.to_network cursor.old) result cursor.new }
 {
     to_application(cursor)?;
     skip::<Name>(cursor)
+}
+
+/// Reads up to an item of a list of the network of the application.
+#[tactic(auto, unfolding(crate::specs::Walks::to_item))]
+pub fn to_item(cursor: &mut Cursor<'_>, list: NetworkList, index: usize) -> Result<(), ParseFault>
+    ensures { Reads (spec.to_item list index cursor.old) result cursor.new }
+{
+    to_network(cursor)?;
+    to_list(cursor, list)?;
+    pass_listed(cursor, list, index)
 }
 
 /// Reads up to a position in the block type at this index.

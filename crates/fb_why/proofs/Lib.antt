@@ -1,6 +1,4 @@
 pub mod TextReadings
-mod TypePorts
-pub mod Typed
 mod Reading
 mod Numbered
 mod Checked

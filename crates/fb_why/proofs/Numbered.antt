@@ -14,7 +14,7 @@ use Rattle.fb_why.specs.Listings.{AreAll, AreFlaws, AreFound, AreFoundBy, AreOne
 use Rattle.fb_why.specs.Places.{IsPlacedFinding}
 use Rattle.fb_why.specs.declared.cause.Cause.{Cause}
 use Rattle.fb_why.specs.declared.cause.Cause.TheVariants as cause
-use Rattle.fb_why.specs.declared.cause.Flaw.{Flaw}
+use Rattle.fb_check.specs.declared.fault.Fault.{Fault}
 use Rattle.fb_why.specs.declared.listing.Findings.{Findings}
 use Rattle.fb_why.specs.declared.place.PlacedFinding.{PlacedFinding}
 use Rattle.fb_why.specs.declared.spot.Spot.{Spot}
@@ -24,7 +24,7 @@ use Rattle.fb_check_names.proofs.Repeating.{none_mapped}
 
 -- locations of one kind are those of a refusal
 pub list_spots :
-    {T : Type 0} (f : Flaw) (lib : Library) (plan : Plan) (stimuli : List Stimulus) (at : T → Spot) (found xs : List T) (ss : List Spot) → ss ≡ map at found → found ≡ xs
+    {T : Type 0} (f : Fault) (lib : Library) (plan : Plan) (stimuli : List Stimulus) (at : T → Spot) (found xs : List T) (ss : List Spot) → ss ≡ map at found → found ≡ xs
     → All (λ p. AppliesAt f lib plan stimuli (at p)) xs → (xs ≡ [] → AppliesNowhere f lib plan stimuli) → AreAll f lib plan stimuli (map at xs) → AreSpots f lib plan stimuli ss
 list_spots f lib plan stimuli at found xs ss is same each none all =
     let e : ss ≡ map at xs = is ∙ ap (map at) same in
@@ -35,7 +35,7 @@ list_spots f lib plan stimuli at found xs ss is same each none all =
     }
 
 pub spots_of :
-    {T E : Type 0} (f : Flaw) (lib : Library) (plan : Plan) (stimuli : List Stimulus) (at : T → Spot) (made : Result (Vec Spot Global) E) (found xs : List T)
+    {T E : Type 0} (f : Fault) (lib : Library) (plan : Plan) (stimuli : List Stimulus) (at : T → Spot) (made : Result (Vec Spot Global) E) (found xs : List T)
     → IfOk made (λ v. v.items ≡ map at found) → found ≡ xs → All (λ p. AppliesAt f lib plan stimuli (at p)) xs → (xs ≡ [] → AppliesNowhere f lib plan stimuli)
     → AreAll f lib plan stimuli (map at xs) → IfOk made (λ v. AreSpots f lib plan stimuli v.items)
 spots_of f lib plan stimuli at (Err e) found xs is same each none all = tt
@@ -44,7 +44,7 @@ spots_of f lib plan stimuli at (Ok v) found xs is same each none all = list_spot
 -- ---- What is read
 
 pub shown_of :
-    {E : Type 0} (f : Flaw) (text : List ℕ) (bytes rows : Option (List ℕ)) (lib : Library) (plan : Plan) (stimuli : List Stimulus) (spots given : List Spot) (made : Result Findings E)
+    {E : Type 0} (f : Fault) (text : List ℕ) (bytes rows : Option (List ℕ)) (lib : Library) (plan : Plan) (stimuli : List Stimulus) (spots given : List Spot) (made : Result Findings E)
     → IsLibraryText text lib → IsPlan bytes plan → AreFed f rows stimuli → AreSpots f lib plan stimuli spots → given ≡ spots
     → IfOk made (λ s. locations_of s ≡ take most_findings given) → IfOk made (λ s. s.more ≡ nat_lt most_findings (length given)) → IfOk made (AreShown f text bytes rows)
 shown_of f text bytes rows lib plan stimuli spots given (Err e) read planned fed are same shown more = tt
@@ -62,19 +62,19 @@ shown_of f text bytes rows lib plan stimuli spots given (Ok s) read planned fed 
 }
 
 pub shown_flaws :
-    {E : Type 0} (f : Flaw) (text : List ℕ) (bytes rows : Option (List ℕ)) (made : Result Findings E) → IfOk made (AreShown f text bytes rows) → IfOk made (AreFlaws f text bytes rows)
+    {E : Type 0} (f : Fault) (text : List ℕ) (bytes rows : Option (List ℕ)) (made : Result Findings E) → IfOk made (AreShown f text bytes rows) → IfOk made (AreFlaws f text bytes rows)
 shown_flaws f text bytes rows (Err e) h = tt
 shown_flaws f text bytes rows (Ok s) h = inl h
 
 -- nothing is shown of what can't be read
 pub unread_inputs :
-    {E : Type 0} (f : Flaw) (text : List ℕ) (bytes rows : Option (List ℕ)) (made : Result Findings E) → IfOk made (λ s. s.shown.items ≡ []) → IfOk made (λ s. s.more ≡ false)
+    {E : Type 0} (f : Fault) (text : List ℕ) (bytes rows : Option (List ℕ)) (made : Result Findings E) → IfOk made (λ s. s.shown.items ≡ []) → IfOk made (λ s. s.more ≡ false)
     → IsUnread f text bytes rows → IfOk made (AreFlaws f text bytes rows)
 unread_inputs f text bytes rows (Err e) nothing no_more why = tt
 unread_inputs f text bytes rows (Ok s) nothing no_more why = inr (record { nothing = nothing; no_more = no_more; unread = why })
 
 pub unread_text :
-    {E : Type 0} (f : Flaw) (text : List ℕ) (bytes rows : Option (List ℕ)) (fault : ReadError) (made : Result Findings E)
+    {E : Type 0} (f : Fault) (text : List ℕ) (bytes rows : Option (List ℕ)) (fault : ReadError) (made : Result Findings E)
     → IfOk made (λ s. (s.shown.items ≡ []) × (s.more ≡ false) × ¬ (IsMemory fault)) → (¬ (IsMemory fault) → IsNoText text) → IfOk made (AreFlaws f text bytes rows)
 unread_text f text bytes rows fault (Err e) nothing why = tt
 unread_text f text bytes rows fault (Ok s) nothing why = inr (record { nothing = nothing.0; no_more = nothing.1; unread = inl (why nothing.2) })
@@ -168,13 +168,13 @@ none_one c n text plan rows f is one h =
 
 each_found :
     (c : Cause) (n : ℕ) (text : List ℕ) (plan rows : Option (List ℕ)) (f : Findings) → IsCause n c → AreFoundBy c n text plan rows f → All (Finds text plan rows n) (locations_of f)
-each_found (cause.Flaw flaw) n text plan rows f is (inl s) =
+each_found (cause.Check flaw) n text plan rows f is (inl s) =
     let P : Spot → Type 0 = Finds text plan rows n in
     subst (λ (ss : List Spot). All P ss) (sym s.shown)
     (All-take P most_findings s.spots
     (All-weaker (AppliesAt flaw s.library s.plan s.list) P
-    (λ p h. (cause.Flaw flaw, is, record { library = s.library; plan = s.plan; list = s.list; read = s.read; planned = s.planned; fed = s.fed; applies = h })) s.spots s.are.each))
-each_found (cause.Flaw flaw) n text plan rows f is (inr u) =
+    (λ p h. (cause.Check flaw, is, record { library = s.library; plan = s.plan; list = s.list; read = s.read; planned = s.planned; fed = s.fed; applies = h })) s.spots s.are.each))
+each_found (cause.Check flaw) n text plan rows f is (inr u) =
     subst (λ (ss : List Spot). All (Finds text plan rows n) ss) (sym (no_location f u.nothing)) (All-nil (Finds text plan rows n))
 each_found cause.Text n text plan rows f is one = each_one cause.Text n text plan rows f is one
 each_found cause.Bytes n text plan rows f is one = each_one cause.Bytes n text plan rows f is one
@@ -182,10 +182,10 @@ each_found cause.Other n text plan rows f is one = each_one cause.Other n text p
 
 none_found :
     (c : Cause) (n : ℕ) (text : List ℕ) (plan rows : Option (List ℕ)) (f : Findings) → IsCause n c → AreFoundBy c n text plan rows f → f.shown.items ≡ [] → IsSilent text plan rows n
-none_found (cause.Flaw flaw) n text plan rows f is (inl s) h =
+none_found (cause.Check flaw) n text plan rows f is (inl s) h =
     let nowhere = s.are.none (none_taken 19 s.spots (sym s.shown ∙ no_location f h)) in
-    (cause.Flaw flaw, is, inl (record { library = s.library; plan = s.plan; list = s.list; read = s.read; planned = s.planned; fed = s.fed; nowhere = nowhere }))
-none_found (cause.Flaw flaw) n text plan rows f is (inr u) h = (cause.Flaw flaw, is, inr u.unread)
+    (cause.Check flaw, is, inl (record { library = s.library; plan = s.plan; list = s.list; read = s.read; planned = s.planned; fed = s.fed; nowhere = nowhere }))
+none_found (cause.Check flaw) n text plan rows f is (inr u) h = (cause.Check flaw, is, inr u.unread)
 none_found cause.Text n text plan rows f is one h = none_one cause.Text n text plan rows f is one h
 none_found cause.Bytes n text plan rows f is one h = none_one cause.Bytes n text plan rows f is one h
 none_found cause.Other n text plan rows f is one h = none_one cause.Other n text plan rows f is one h

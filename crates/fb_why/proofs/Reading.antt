@@ -1,13 +1,15 @@
 -- The stimuli that a refusal is about, and refusals of a text.
-use Rattle.std.proofs.Common.{◌≡◌, ℕ, Bool, true, false, List, [], Option, Some, None, Result, Ok, Err, Vec, Global, refl, sym, subst, ◌∙◌, inr}
-use Rattle.std.specs.Prelude.{IfOk, MatchOption}
+use Rattle.std.proofs.Common.{◌≡◌, ℕ, Bool, true, false, List, [], Option, Some, None, Result, Ok, Err, Vec, Global, refl, sym, subst, ◌∙◌, inl, inr}
+use Rattle.std.specs.Prelude.{IfOk, IfSome, MatchOption}
 use Rattle.fb_types.specs.declared.deploy.Stimulus.{Stimulus}
 use Rattle.fb_read.specs.Errors.{fault_number}
 use Rattle.fb_why.proofs.TextReadings.{finds-numbered}
 use Rattle.fb_why.specs.Faults.{IsTextRefusal}
 use Rattle.fb_why.specs.declared.find.TextRefusal.{TextRefusal}
 use Rattle.fb_why.specs.Findings.{AreFedIf, AreNoStimuli, AreNotFedIf, AreStimuli, IsFoundAt, IsSilentOfText, FindsInText}
-use Rattle.fb_why.specs.declared.spot.Finding.{Finding}
+use Rattle.fb_why.specs.Places.{IsPlaceOf, IsPlacedFinding}
+use Rattle.fb_why.specs.declared.place.PlacedFinding.{PlacedFinding}
+use Rattle.fb_read_positions.specs.declared.text_locations.TextLocation.{TextLocation}
 use Rattle.fb_why.specs.declared.spot.Spot.{Spot}
 use Rattle.fb_why.specs.declared.spot.Spot.TheVariants as spot
 
@@ -26,11 +28,19 @@ some_number n = Some n
 
 -- a refusal of the text with this number
 pub text_found :
-    {E : Type 0} (number : ℕ) (text : List ℕ) (r : TextRefusal) (made : Result (Option Finding) E) → IsTextRefusal text r → fault_number r.refusal.fault ≡ number → IfOk made (IsFoundAt (spot.Text r.location))
-    → IfOk made (λ o. MatchOption o (IsSilentOfText number text) (λ f. FindsInText number text f.location))
+    {E : Type 0} (number : ℕ) (text : List ℕ) (r : TextRefusal) (made : Result (Option PlacedFinding) E) → IsTextRefusal text r → fault_number r.refusal.fault ≡ number
+    → IfOk made (IsFoundAt (spot.Text r.location) (Some r.location)) → IfOk made (λ o. MatchOption o (IsSilentOfText number text) (λ f. FindsInText number text f.finding.location))
 text_found number text r (Err e) h n w = tt
 text_found number text r (Ok None) h n w = absurd w
-text_found number text r (Ok (Some f)) h n w = subst (λ (s : Spot). FindsInText number text s) (sym w) (finds-numbered text r number h n)
+text_found number text r (Ok (Some f)) h n w = subst (λ (s : Spot). FindsInText number text s) (sym w.0) (finds-numbered text r number h n)
+
+-- its place is the location itself
+pub text_placed :
+    {E : Type 0} (text : List ℕ) (location : TextLocation) (made : Result (Option PlacedFinding) E) → IfOk made (IsFoundAt (spot.Text location) (Some location))
+    → IfOk made (λ o. IfSome o (IsPlacedFinding text))
+text_placed text location (Err e) w = tt
+text_placed text location (Ok None) w = absurd w
+text_placed text location (Ok (Some f)) w = subst (λ (q : Option TextLocation). IfSome q (IsPlaceOf text f.finding.location)) (sym w.1) (inl w.0)
 
 -- one with another number
 pub text_unfound : (number : ℕ) (text : List ℕ) (r : TextRefusal) → IsTextRefusal text r → (fault_number r.refusal.fault ≡ number → ⊥) → IsSilentOfText number text

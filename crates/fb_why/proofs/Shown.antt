@@ -1,31 +1,18 @@
 -- The place at which a location of what was declared is shown.
-use Rattle.std.proofs.Common.{◌≡◌, ◌∷◌, ◌++◌, ◌+◌, ◌<◌, [], ℕ, List, length, get_or, map, take, Option, Some, None, Result, Ok, Err, inl, inr, sym, ◌∙◌, ap, subst}
+use Rattle.std.proofs.Common.{◌≡◌, ◌∷◌, ◌++◌, ◌+◌, ◌<◌, [], ℕ, List, length, get_or, map, take, Option, Some, None, Result, Ok, Err, inr, sym, ◌∙◌, ap, subst}
 use Rattle.std.proofs.lemmas.List.{map-append, take_more}
-use Rattle.std.specs.Prelude.{IfOk, IfSome, MatchOption}
+use Rattle.std.specs.Prelude.{IfOk, IfSome}
 use Rattle.fb_types.specs.declared.library.Library.{Library}
 use Rattle.fb_read.specs.Blank.{Text}
 use Rattle.fb_read.specs.Whole.{IsLibraryText}
-use Rattle.fb_read.specs.declared.token.Span.{Span}
-use Rattle.fb_read_positions.specs.Places.{IsAt}
 use Rattle.fb_read_positions.specs.declared.position.Position.{Position}
-use Rattle.fb_why.specs.Locations.{IsLocation, IsStretch}
-use Rattle.fb_why.specs.declared.text_locations.TextLocation.{TextLocation}
-use Rattle.fb_why.specs.Places.{IsPlaceAt, IsPlaceOf, IsPlacedFinding, IsShown, Keeps}
+use Rattle.fb_read_positions.specs.Locations.{IsPlaceAt}
+use Rattle.fb_read_positions.specs.declared.text_locations.TextLocation.{TextLocation}
+use Rattle.fb_why.specs.Places.{IsPlaceOf, IsPlacedFinding, IsShown}
 use Rattle.fb_why.specs.Positions.{position_of}
-use Rattle.fb_why.specs.declared.place.FoundPlace.{FoundPlace}
+use Rattle.fb_read_positions.specs.declared.place.FoundPlace.{FoundPlace}
 use Rattle.fb_why.specs.declared.place.PlacedFinding.{PlacedFinding}
-use Rattle.fb_why.specs.declared.spot.Finding.{Finding}
 use Rattle.fb_why.specs.declared.spot.Spot.{Spot}
-use Rattle.fb_why.specs.declared.spot.Spot.TheVariants as spot
-
-pub of_some : {A : Type 0} (P : A → Type 0) (o : Option A) (x : A) → o ≡ Some x → IfSome o P → P x
-of_some {A} P o x is holds = subst (λ (y : Option A). IfSome y P) is holds
-
-pub placed :
-    (text : Text) (library : Library) (p : Position) (s : Span) (place : Option TextLocation) → IsAt text library p s → IfSome place (IsLocation text)
-    → IfSome place (λ l. IsStretch s.start s.end l) → IfSome place (IsPlaceAt text library p)
-placed text library p s None at located there = tt
-placed text library p s (Some place) at located there = record { span = s; at = at; there = there; located = located }
 
 pub shown_from :
     {E : Type 0} (text : Text) (library : Library) (location : Spot) (p : Position) (made : Result FoundPlace E) → IsLibraryText text library → position_of library location ≡ Some p
@@ -39,15 +26,12 @@ shown_from text library location p (Ok f) read is holds =
 
 -- ---- Findings with their places
 
-pub match_kept :
-    (finding : Option Finding) (o : Option PlacedFinding) (N : Type 0) (P : Spot → Type 0) → MatchOption finding N (λ r. P r.location) → Keeps finding o → MatchOption o N (λ r. P r.finding.location)
-match_kept None o N P holds kept = subst (λ (x : Option PlacedFinding). MatchOption x N (λ r. P r.finding.location)) (sym kept) holds
-match_kept (Some f) None N P holds kept = absurd kept
-match_kept (Some f) (Some r) N P holds kept = subst P (sym kept) holds
-
-pub of_location : (location : Spot) (place : Option TextLocation) (text : Text) → IfSome place (λ p. location ≡ spot.Text p) → IfSome place (IsPlaceOf text location)
-of_location location None text is = tt
-of_location location (Some p) text is = inl is
+-- a finding that is not in the declaration has no place there
+pub is_elsewhere :
+    {E : Type 0} (text : Text) (made : Result (Option PlacedFinding) E) → IfOk made (λ o. IfSome o (λ r. r.place ≡ None)) → IfOk made (λ o. IfSome o (IsPlacedFinding text))
+is_elsewhere text (Err e) h = tt
+is_elsewhere text (Ok None) h = tt
+is_elsewhere text (Ok (Some r)) h = subst (λ (q : Option TextLocation). IfSome q (IsPlaceOf text r.finding.location)) (sym h) tt
 
 widened : (text : Text) (location : Spot) (q : Option TextLocation) → IfSome q (IsShown text location) → IfSome q (IsPlaceOf text location)
 widened text location None s = tt

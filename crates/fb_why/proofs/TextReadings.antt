@@ -17,9 +17,9 @@ use Rattle.fb_read.specs.Tokens.{after_mark}
 use Rattle.fb_read.proofs.NextLaws.{same-length}
 use Rattle.fb_read.proofs.PlaceLaws.{nothing-up-to, tokens-up-to}
 use Rattle.fb_why.specs.declared.find.TextRefusal.{TextRefusal}
-use Rattle.fb_why.specs.declared.text_locations.TextLocation.{TextLocation}
+use Rattle.fb_read_positions.specs.declared.text_locations.TextLocation.{TextLocation}
 use Rattle.fb_why.specs.Faults.{Agrees, EndsAt, FindsFault, IsAfterToken, IsNoLibrary, IsShownFor, IsTextRefusal}
-use Rattle.fb_why.specs.Locations.{IsLocation, IsStretch, line_at}
+use Rattle.fb_read_positions.specs.Locations.{IsLocation, IsStretch, line_at}
 
 -- the error that is reported for a refusal agrees with it
 agrees-at : (f : TextFault) (text : Text) (begin : ℕ) (fault : ReadError) (line : ℕ) → IsErrorAt f text begin fault → line ≡ line_at text begin → Agrees fault f line

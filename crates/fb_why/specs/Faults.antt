@@ -11,8 +11,8 @@ use Rattle.fb_read.specs.Front.{front}
 use Rattle.fb_read.specs.Whole.{HasTokens, IsLibraryText}
 use Rattle.fb_read.specs.Refusals.{IsErrorAt, IsFaultAt}
 use Rattle.fb_why.specs.declared.find.TextRefusal.{TextRefusal}
-use Rattle.fb_why.specs.declared.text_locations.TextLocation.{TextLocation}
-use Rattle.fb_why.specs.Locations.{IsLocation, IsStretch, line_at}
+use Rattle.fb_read_positions.specs.declared.text_locations.TextLocation.{TextLocation}
+use Rattle.fb_read_positions.specs.Locations.{IsLocation, IsStretch, line_at}
 
 -- The fault is the one of the refusal; a syntax fault is on this line.
 abbrev pub Agrees : ReadError → TextFault → ℕ → Type 0

@@ -11,15 +11,16 @@ use Rattle.fb_types.specs.Repeated.{NameTwice}
 use Rattle.fb_types.specs.declared.deploy.Plan.{Plan}
 use Rattle.fb_types.specs.declared.deploy.Stimulus.{Stimulus}
 use Rattle.fb_types.specs.declared.library.Library.{Library}
-use Rattle.fb_why.specs.Causes.{IsCause, flaw_number, is_of_stimuli}
+use Rattle.fb_check.specs.Faults.{number_of as check_number}
+use Rattle.fb_why.specs.Causes.{IsCause, is_of_stimuli}
 use Rattle.fb_read.specs.Errors.{number_of}
 use Rattle.fb_check_types.specs.Unknown.{IsUnknownAt}
 use Rattle.fb_why.specs.declared.cause.Cause.TheVariants as cause
 use Rattle.fb_why.specs.declared.cause.Cause.{Cause}
-use Rattle.fb_why.specs.declared.cause.Flaw.TheVariants as flaw
-use Rattle.fb_why.specs.declared.cause.Flaw.{Flaw}
+use Rattle.fb_check.specs.declared.fault.Fault.TheVariants as check
+use Rattle.fb_check.specs.declared.fault.Fault.{Fault}
 use Rattle.fb_why.specs.declared.spot.Spot.TheVariants as spot
-use Rattle.fb_why.specs.declared.spot.Finding.{Finding}
+use Rattle.fb_why.specs.declared.place.PlacedFinding.{PlacedFinding}
 use Rattle.fb_why.specs.declared.spot.Spot.{Spot}
 use Rattle.fb_check_networks.specs.Heights.{IsTooHighAt}
 use Rattle.fb_check_networks.specs.Sources.{IsJoinedAt}
@@ -35,7 +36,7 @@ use Rattle.fb_inputs.specs.DeployFaults.{IsPlanned}
 use Rattle.fb_inputs.specs.DeployPlaces as places
 use Rattle.fb_check.specs.Stimuli.{IsBadAt, IsOver}
 use Rattle.fb_why.specs.Faults.{FindsFault}
-use Rattle.fb_why.specs.declared.text_locations.TextLocation.{TextLocation}
+use Rattle.fb_read_positions.specs.declared.text_locations.TextLocation.{TextLocation}
 use Rattle.fb_inputs.specs.declared.deploy_location.DeployLocation.{DeployLocation}
 use Rattle.fb_inputs.specs.declared.location.StimuliLocation.{StimuliLocation}
 use Rattle.fb_check_types.specs.Misfits.{IsMisfitAt}
@@ -43,9 +44,9 @@ use Rattle.fb_check_networks.specs.Misjoins.{IsMisjoinedAt}
 
 -- ---- What is found
 
--- it is found at this location
-abbrev pub IsFoundAt : Spot → Option Finding → Type 0
-IsFoundAt location o = MatchOption o ⊥ (λ f. f.location ≡ location)
+-- it is found at this location, with this place
+abbrev pub IsFoundAt : Spot → Option TextLocation → Option PlacedFinding → Type 0
+IsFoundAt location place o = MatchOption o ⊥ (λ r. (r.finding.location ≡ location) × (r.place ≡ place))
 
 -- ---- What is read
 
@@ -78,7 +79,7 @@ abbrev pub AreFedIf : Bool → Option (List ℕ) → List Stimulus → Type 0
 AreFedIf true given stimuli = AreStimuli given stimuli
 AreFedIf false given stimuli = stimuli ≡ []
 
-abbrev pub AreFed : Flaw → Option (List ℕ) → List Stimulus → Type 0
+abbrev pub AreFed : Fault → Option (List ℕ) → List Stimulus → Type 0
 AreFed flaw given stimuli = AreFedIf (is_of_stimuli flaw) given stimuli
 
 -- a refusal is about the stimuli, which are refused
@@ -86,33 +87,33 @@ abbrev pub AreNotFedIf : Bool → Option (List ℕ) → Type 0
 AreNotFedIf true given = AreNoStimuli given
 AreNotFedIf false given = ⊥
 
-abbrev pub AreNotFed : Flaw → Option (List ℕ) → Type 0
+abbrev pub AreNotFed : Fault → Option (List ℕ) → Type 0
 AreNotFed flaw given = AreNotFedIf (is_of_stimuli flaw) given
 
 -- ---- Inputs that are read
 
 -- The refusal applies at this location.
-abbrev pub AppliesAt : Flaw → Library → Plan → List Stimulus → Spot → Type 0
-AppliesAt flaw.Twice lib plan stimuli (spot.Twice p) = IsTwiceAt lib plan p
-AppliesAt flaw.Unknown lib plan stimuli (spot.Unknown p) = IsUnknownAt lib plan p
-AppliesAt flaw.Misfit lib plan stimuli (spot.Misfit p) = IsMisfitAt lib p
-AppliesAt flaw.Misjoin lib plan stimuli (spot.Misjoin p) = IsMisjoinedAt lib p
-AppliesAt flaw.Joined lib plan stimuli (spot.Joined p) = IsJoinedAt lib p
-AppliesAt flaw.TooHigh lib plan stimuli (spot.TooHigh p) = IsTooHighAt lib p
-AppliesAt flaw.Unmapped lib plan stimuli (spot.Unmapped p) = IsUnmappedAt lib plan p
-AppliesAt flaw.Unlinked lib plan stimuli (spot.Unlinked p) = IsUnlinkedAt lib plan p
-AppliesAt flaw.Unserved lib plan stimuli (spot.Unserved p) = IsUnservedAt lib plan p
-AppliesAt flaw.BadStimulus lib plan stimuli (spot.Stimulus p) = IsBadAt lib stimuli p
-AppliesAt flaw.OverLimit lib plan stimuli (spot.Limit l) = IsOver lib stimuli l
+abbrev pub AppliesAt : Fault → Library → Plan → List Stimulus → Spot → Type 0
+AppliesAt check.NameTwice lib plan stimuli (spot.Twice p) = IsTwiceAt lib plan p
+AppliesAt check.NameUnknown lib plan stimuli (spot.Unknown p) = IsUnknownAt lib plan p
+AppliesAt check.KindWrong lib plan stimuli (spot.Misfit p) = IsMisfitAt lib p
+AppliesAt check.OutOfRange lib plan stimuli (spot.Misjoin p) = IsMisjoinedAt lib p
+AppliesAt check.TwoSources lib plan stimuli (spot.Joined p) = IsJoinedAt lib p
+AppliesAt check.TooHigh lib plan stimuli (spot.TooHigh p) = IsTooHighAt lib p
+AppliesAt check.NotMapped lib plan stimuli (spot.Unmapped p) = IsUnmappedAt lib plan p
+AppliesAt check.NoLink lib plan stimuli (spot.Unlinked p) = IsUnlinkedAt lib plan p
+AppliesAt check.NoEvent lib plan stimuli (spot.Unserved p) = IsUnservedAt lib plan p
+AppliesAt check.BadStimulus lib plan stimuli (spot.Stimulus p) = IsBadAt lib stimuli p
+AppliesAt check.OverLimit lib plan stimuli (spot.Limit l) = IsOver lib stimuli l
 AppliesAt _ lib plan stimuli _ = ⊥
 
 -- The refusal applies nowhere; for one whose locations the check lists, it is not the first that applies.
-abbrev pub AppliesNowhere : Flaw → Library → Plan → List Stimulus → Type 0
-AppliesNowhere flaw.Twice lib plan stimuli = ¬ (NameTwice lib plan)
-AppliesNowhere flaw lib plan stimuli = ¬ (IsLeastFault (flaw_number flaw) lib plan stimuli)
+abbrev pub AppliesNowhere : Fault → Library → Plan → List Stimulus → Type 0
+AppliesNowhere check.NameTwice lib plan stimuli = ¬ (NameTwice lib plan)
+AppliesNowhere flaw lib plan stimuli = ¬ (IsLeastFault (check_number flaw) lib plan stimuli)
 
 -- They were read, and the refusal applies to them at this location.
-pub record FindsFlaw (flaw : Flaw) (declaration : List ℕ) (deploy stimuli : Option (List ℕ)) (location : Spot) : Type 0 where
+pub record FindsFlaw (flaw : Fault) (declaration : List ℕ) (deploy stimuli : Option (List ℕ)) (location : Spot) : Type 0 where
   pub library : Library
   pub plan : Plan
   pub list : List Stimulus
@@ -122,7 +123,7 @@ pub record FindsFlaw (flaw : Flaw) (declaration : List ℕ) (deploy stimuli : Op
   pub applies : AppliesAt flaw library plan list location
 
 -- They were read, and the refusal does not apply to them.
-pub record IsFlawless (flaw : Flaw) (declaration : List ℕ) (deploy stimuli : Option (List ℕ)) : Type 0 where
+pub record IsFlawless (flaw : Fault) (declaration : List ℕ) (deploy stimuli : Option (List ℕ)) : Type 0 where
   pub library : Library
   pub plan : Plan
   pub list : List Stimulus
@@ -132,11 +133,11 @@ pub record IsFlawless (flaw : Flaw) (declaration : List ℕ) (deploy stimuli : O
   pub nowhere : AppliesNowhere flaw library plan list
 
 -- One of those that the refusal is about can't be read.
-abbrev pub IsUnread : Flaw → (declaration : List ℕ) → (deploy stimuli : Option (List ℕ)) → Type 0
+abbrev pub IsUnread : Fault → (declaration : List ℕ) → (deploy stimuli : Option (List ℕ)) → Type 0
 IsUnread flaw declaration deploy stimuli = IsNoText declaration ⊎ IsNoPlan deploy ⊎ AreNotFed flaw stimuli
 
 -- The refusal does not apply to them, or they can't be read.
-abbrev pub HasNoFlaw : Flaw → (declaration : List ℕ) → (deploy stimuli : Option (List ℕ)) → Type 0
+abbrev pub HasNoFlaw : Fault → (declaration : List ℕ) → (deploy stimuli : Option (List ℕ)) → Type 0
 HasNoFlaw flaw declaration deploy stimuli = IsFlawless flaw declaration deploy stimuli ⊎ IsUnread flaw declaration deploy stimuli
 
 -- ---- The text of the declaration
@@ -204,14 +205,14 @@ IsSilentOfBytes number deploy stimuli = IfSome deploy (IsSilentOfDeployment numb
 abbrev pub FindsOf : Cause → (number : ℕ) → (declaration : List ℕ) → (deploy stimuli : Option (List ℕ)) → Spot → Type 0
 FindsOf cause.Text number declaration deploy stimuli location = FindsInText number declaration location
 FindsOf cause.Bytes number declaration deploy stimuli location = FindsInBytes number deploy stimuli location
-FindsOf (cause.Flaw flaw) number declaration deploy stimuli location = FindsFlaw flaw declaration deploy stimuli location
+FindsOf (cause.Check flaw) number declaration deploy stimuli location = FindsFlaw flaw declaration deploy stimuli location
 FindsOf cause.Other number declaration deploy stimuli location = ⊥
 
 -- Nothing is reported if the refusal does not apply, or if something can't be read or is refused with another number.
 abbrev pub IsSilentOf : Cause → (number : ℕ) → (declaration : List ℕ) → (deploy stimuli : Option (List ℕ)) → Type 0
 IsSilentOf cause.Text number declaration deploy stimuli = IsSilentOfText number declaration
 IsSilentOf cause.Bytes number declaration deploy stimuli = IsSilentOfBytes number deploy stimuli
-IsSilentOf (cause.Flaw flaw) number declaration deploy stimuli = HasNoFlaw flaw declaration deploy stimuli
+IsSilentOf (cause.Check flaw) number declaration deploy stimuli = HasNoFlaw flaw declaration deploy stimuli
 IsSilentOf cause.Other number declaration deploy stimuli = Unit {0}
 
 -- The refusal with this number applies at this location.

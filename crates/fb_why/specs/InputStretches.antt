@@ -4,8 +4,8 @@ use Rattle.fb_read.specs.declared.token.Span.{Span}
 use Rattle.fb_inputs.specs.NearPlaces.{IsNearInDeployment, IsNearInStimuli}
 use Rattle.fb_inputs.specs.declared.position.DeployPosition.{DeployPosition}
 use Rattle.fb_inputs.specs.declared.position.StimuliPosition.{StimuliPosition}
-use Rattle.fb_why.specs.Locations.{IsLocation, IsStretch}
-use Rattle.fb_why.specs.declared.text_locations.TextLocation.{TextLocation}
+use Rattle.fb_read_positions.specs.Locations.{IsLocation, IsStretch}
+use Rattle.fb_read_positions.specs.declared.text_locations.TextLocation.{TextLocation}
 
 -- The place is that of the bytes at the position, or at one around it, with its line and its column.
 pub record IsDeployPlace (text : Text) (position : DeployPosition) (place : TextLocation) : Type 0 where

@@ -1,7 +1,5 @@
-pub mod Locations
 pub mod Faults
 pub mod InputStretches
-pub mod Types
 pub mod Explained
 pub mod Causes
 pub mod Positions

@@ -13,7 +13,8 @@ use Rattle.fb_check.specs.Stimuli.{AreAllBad}
 use Rattle.fb_check.specs.declared.location.StimulusLocation.{StimulusLocation}
 use Rattle.fb_check.specs.declared.refusal.Refusal.{Refusal}
 use Rattle.fb_check.specs.declared.refusal.Refusal.TheVariants as refusal
-use Rattle.fb_why.specs.Causes.{IsCause, flaw_number}
+use Rattle.fb_check.specs.Faults.{number_of}
+use Rattle.fb_why.specs.Causes.{IsCause}
 use Rattle.fb_why.specs.Findings.{AppliesAt, AppliesNowhere, AreFed, Finds, FindsOf, IsPlan, IsSilent, IsSilentOf, IsUnread}
 use Rattle.fb_check_names.specs.TwiceLists.{twice_all}
 use Rattle.fb_check_networks.specs.Sources.{joined_all}
@@ -22,8 +23,8 @@ use Rattle.fb_check_networks.specs.Unmapped.{unmapped_all}
 use Rattle.fb_check_networks.specs.Unserved.{unserved_all}
 use Rattle.fb_why.specs.declared.cause.Cause.{Cause}
 use Rattle.fb_why.specs.declared.cause.Cause.TheVariants as cause
-use Rattle.fb_why.specs.declared.cause.Flaw.{Flaw}
-use Rattle.fb_why.specs.declared.cause.Flaw.TheVariants as flaw
+use Rattle.fb_check.specs.declared.fault.Fault.{Fault}
+use Rattle.fb_check.specs.declared.fault.Fault.TheVariants as check
 use Rattle.fb_why.specs.declared.listing.Findings.{Findings}
 use Rattle.fb_why.specs.declared.place.PlacedFinding.{PlacedFinding}
 use Rattle.fb_why.specs.declared.spot.Spot.{Spot}
@@ -43,43 +44,42 @@ abbrev pub AreAllStimuli : Library → List Stimulus → List Spot → Type 0
 AreAllStimuli lib stimuli spots = (found : List StimulusLocation) × (spots ≡ map (λ p. spot.Stimulus p) found) × AreAllBad lib stimuli found
 
 -- these are all locations of the number; of types that are too high and of limits one is listed at most, of a stimulus one
--- fault, and those that the check lists are all if it refuses for this flaw first
-abbrev pub AreAll : Flaw → Library → Plan → List Stimulus → List Spot → Type 0
-AreAll flaw.Twice lib plan stimuli spots = spots ≡ map (λ p. spot.Twice p) (twice_all lib plan)
-AreAll flaw.TooHigh lib plan stimuli spots = length spots ≤ 1
-AreAll flaw.OverLimit lib plan stimuli spots = length spots ≤ 1
-AreAll flaw.Unmapped lib plan stimuli spots = IsLeastFault (flaw_number flaw.Unmapped) lib plan stimuli → spots ≡ map (λ p. spot.Unmapped p) (unmapped_all lib plan)
-AreAll flaw.Unknown lib plan stimuli spots = IsLeastFault (flaw_number flaw.Unknown) lib plan stimuli → spots ≡ map (λ p. spot.Unknown p) (unknown_all lib plan)
-AreAll flaw.Misfit lib plan stimuli spots = IsLeastFault (flaw_number flaw.Misfit) lib plan stimuli → spots ≡ map (λ p. spot.Misfit p) (misfits_all lib)
-AreAll flaw.Misjoin lib plan stimuli spots = IsLeastFault (flaw_number flaw.Misjoin) lib plan stimuli → spots ≡ map (λ p. spot.Misjoin p) (misjoins_all lib)
-AreAll flaw.Joined lib plan stimuli spots = IsLeastFault (flaw_number flaw.Joined) lib plan stimuli → spots ≡ map (λ p. spot.Joined p) (joined_all lib)
-AreAll flaw.Unlinked lib plan stimuli spots = IsLeastFault (flaw_number flaw.Unlinked) lib plan stimuli → spots ≡ map (λ p. spot.Unlinked p) (unlinked_all lib plan)
-AreAll flaw.Unserved lib plan stimuli spots = IsLeastFault (flaw_number flaw.Unserved) lib plan stimuli → spots ≡ map (λ p. spot.Unserved p) (unserved_all lib plan)
-AreAll flaw.BadStimulus lib plan stimuli spots = IsLeastFault (flaw_number flaw.BadStimulus) lib plan stimuli → AreAllStimuli lib stimuli spots
+-- fault, and those that the check lists are all if it refuses for this fault first
+abbrev pub AreAll : Fault → Library → Plan → List Stimulus → List Spot → Type 0
+AreAll check.NameTwice lib plan stimuli spots = spots ≡ map (λ p. spot.Twice p) (twice_all lib plan)
+AreAll check.TooHigh lib plan stimuli spots = length spots ≤ 1
+AreAll check.OverLimit lib plan stimuli spots = length spots ≤ 1
+AreAll check.NotMapped lib plan stimuli spots = IsLeastFault (number_of check.NotMapped) lib plan stimuli → spots ≡ map (λ p. spot.Unmapped p) (unmapped_all lib plan)
+AreAll check.NameUnknown lib plan stimuli spots = IsLeastFault (number_of check.NameUnknown) lib plan stimuli → spots ≡ map (λ p. spot.Unknown p) (unknown_all lib plan)
+AreAll check.KindWrong lib plan stimuli spots = IsLeastFault (number_of check.KindWrong) lib plan stimuli → spots ≡ map (λ p. spot.Misfit p) (misfits_all lib)
+AreAll check.OutOfRange lib plan stimuli spots = IsLeastFault (number_of check.OutOfRange) lib plan stimuli → spots ≡ map (λ p. spot.Misjoin p) (misjoins_all lib)
+AreAll check.TwoSources lib plan stimuli spots = IsLeastFault (number_of check.TwoSources) lib plan stimuli → spots ≡ map (λ p. spot.Joined p) (joined_all lib)
+AreAll check.NoLink lib plan stimuli spots = IsLeastFault (number_of check.NoLink) lib plan stimuli → spots ≡ map (λ p. spot.Unlinked p) (unlinked_all lib plan)
+AreAll check.NoEvent lib plan stimuli spots = IsLeastFault (number_of check.NoEvent) lib plan stimuli → spots ≡ map (λ p. spot.Unserved p) (unserved_all lib plan)
+AreAll check.BadStimulus lib plan stimuli spots = IsLeastFault (number_of check.BadStimulus) lib plan stimuli → AreAllStimuli lib stimuli spots
 
--- the locations of a refusal, if it is one for the flaw
-abbrev pub listed_spots : Flaw → Refusal → List Spot
-listed_spots flaw.Twice (refusal.Twice v) = map (λ p. spot.Twice p) v.items
-listed_spots flaw.Unknown (refusal.NameUnknown v) = map (λ p. spot.Unknown p) v.items
-listed_spots flaw.Misfit (refusal.KindWrong v) = map (λ p. spot.Misfit p) v.items
-listed_spots flaw.Misjoin (refusal.OutOfRange v) = map (λ p. spot.Misjoin p) v.items
-listed_spots flaw.Joined (refusal.TwoSources v) = map (λ p. spot.Joined p) v.items
-listed_spots flaw.TooHigh (refusal.TooHigh d) = spot.TooHigh d ∷ []
-listed_spots flaw.Unmapped (refusal.NotMapped v) = map (λ p. spot.Unmapped p) v.items
-listed_spots flaw.Unlinked (refusal.NoLink v) = map (λ p. spot.Unlinked p) v.items
-listed_spots flaw.Unserved (refusal.NoEvent v) = map (λ p. spot.Unserved p) v.items
-listed_spots flaw.BadStimulus (refusal.BadStimulus v) = map (λ p. spot.Stimulus p) v.items
-listed_spots flaw.OverLimit (refusal.OverLimit l) = spot.Limit l ∷ []
-listed_spots _ _ = []
+-- the locations of a refusal
+abbrev pub spots_of : Refusal → List Spot
+spots_of (refusal.Twice v) = map (λ p. spot.Twice p) v.items
+spots_of (refusal.NameUnknown v) = map (λ p. spot.Unknown p) v.items
+spots_of (refusal.KindWrong v) = map (λ p. spot.Misfit p) v.items
+spots_of (refusal.OutOfRange v) = map (λ p. spot.Misjoin p) v.items
+spots_of (refusal.TwoSources v) = map (λ p. spot.Joined p) v.items
+spots_of (refusal.TooHigh d) = spot.TooHigh d ∷ []
+spots_of (refusal.NotMapped v) = map (λ p. spot.Unmapped p) v.items
+spots_of (refusal.NoLink v) = map (λ p. spot.Unlinked p) v.items
+spots_of (refusal.NoEvent v) = map (λ p. spot.Unserved p) v.items
+spots_of (refusal.BadStimulus v) = map (λ p. spot.Stimulus p) v.items
+spots_of (refusal.OverLimit l) = spot.Limit l ∷ []
 
 -- The refusal applies at each of these locations, and nowhere if there is none.
-pub record AreSpots (flaw : Flaw) (lib : Library) (plan : Plan) (stimuli : List Stimulus) (spots : List Spot) : Type 0 where
+pub record AreSpots (flaw : Fault) (lib : Library) (plan : Plan) (stimuli : List Stimulus) (spots : List Spot) : Type 0 where
   pub each : All (AppliesAt flaw lib plan stimuli) spots
   pub none : spots ≡ [] → AppliesNowhere flaw lib plan stimuli
   pub all : AreAll flaw lib plan stimuli spots
 
 -- They were read, and the first of their locations are shown.
-pub record AreShown (flaw : Flaw) (declaration : List ℕ) (deploy stimuli : Option (List ℕ)) (f : Findings) : Type 0 where
+pub record AreShown (flaw : Fault) (declaration : List ℕ) (deploy stimuli : Option (List ℕ)) (f : Findings) : Type 0 where
   pub library : Library
   pub plan : Plan
   pub list : List Stimulus
@@ -92,12 +92,12 @@ pub record AreShown (flaw : Flaw) (declaration : List ℕ) (deploy stimuli : Opt
   pub more : f.more ≡ nat_lt most_findings (length spots)
 
 -- They can't be read, and nothing is shown.
-pub record AreUnread (flaw : Flaw) (declaration : List ℕ) (deploy stimuli : Option (List ℕ)) (f : Findings) : Type 0 where
+pub record AreUnread (flaw : Fault) (declaration : List ℕ) (deploy stimuli : Option (List ℕ)) (f : Findings) : Type 0 where
   pub nothing : f.shown.items ≡ []
   pub no_more : f.more ≡ false
   pub unread : IsUnread flaw declaration deploy stimuli
 
-abbrev pub AreFlaws : Flaw → (declaration : List ℕ) → (deploy stimuli : Option (List ℕ)) → Findings → Type 0
+abbrev pub AreFlaws : Fault → (declaration : List ℕ) → (deploy stimuli : Option (List ℕ)) → Findings → Type 0
 AreFlaws flaw declaration deploy stimuli f = AreShown flaw declaration deploy stimuli f ⊎ AreUnread flaw declaration deploy stimuli f
 
 -- ---- By the number
@@ -115,7 +115,7 @@ pub record AreOne (c : Cause) (number : ℕ) (declaration : List ℕ) (deploy st
 
 -- what is shown for this cause
 abbrev pub AreFoundBy : Cause → (number : ℕ) → (declaration : List ℕ) → (deploy stimuli : Option (List ℕ)) → Findings → Type 0
-AreFoundBy (cause.Flaw flaw) number declaration deploy stimuli f = AreFlaws flaw declaration deploy stimuli f
+AreFoundBy (cause.Check flaw) number declaration deploy stimuli f = AreFlaws flaw declaration deploy stimuli f
 AreFoundBy c number declaration deploy stimuli f = AreOne c number declaration deploy stimuli f
 
 -- What is shown for the refusal with this number. It applies at each of the locations.

@@ -3,32 +3,7 @@
 ghost use Rattle.std.specs.Prelude.{◌≡◌};
 ghost use Rattle.fb_why.specs.Causes.{IsCause, is_of_stimuli};
 
-/// A refusal of inputs that can be read.
-#[derive(Clone, Copy)]
-pub enum Flaw {
-    /// Something is given twice (E20).
-    Twice,
-    /// A name is unknown (E21).
-    Unknown,
-    /// An expression, a statement or a value is of a wrong kind (E22).
-    Misfit,
-    /// A data connection leads to a type that does not contain all values (E23).
-    Misjoin,
-    /// Two data connections lead to one port (E24).
-    Joined,
-    /// Composite types are nested too deep, or in a circle (E25).
-    TooHigh,
-    /// An instance is not mapped to one resource (E26).
-    Unmapped,
-    /// A connection between two resources has no link (E27).
-    Unlinked,
-    /// A data connection between two resources is served by no event (E28).
-    Unserved,
-    /// A stimulus does not fit its event input (E29).
-    BadStimulus,
-    /// There are too many instances or stimuli (E30).
-    OverLimit,
-}
+use fb_check::Fault;
 
 /// What a refusal is about.
 #[derive(Clone, Copy)]
@@ -38,16 +13,16 @@ pub enum Cause {
     /// The bytes of the deployment or of the stimuli (E10 to E16).
     Bytes,
     /// What the inputs say together (E20 to E30).
-    Flaw(Flaw),
+    Check(Fault),
     /// No location is reported.
     Other,
 }
 
 /// Whether a refusal is about the stimuli too.
-pub(crate) fn is_of_stimuli(flaw: Flaw) -> bool
-    ensures { result ≡ is_of_stimuli flaw }
+pub(crate) fn is_of_stimuli(fault: Fault) -> bool
+    ensures { result ≡ is_of_stimuli fault }
 {
-    matches!(flaw, Flaw::BadStimulus | Flaw::OverLimit)
+    matches!(fault, Fault::BadStimulus | Fault::OverLimit)
 }
 
 /// What the refusal with this number is about.
@@ -57,17 +32,17 @@ pub(crate) fn cause_of(number: u8) -> Cause
     match number {
         1..=5 => Cause::Text,
         10..=16 => Cause::Bytes,
-        20 => Cause::Flaw(Flaw::Twice),
-        21 => Cause::Flaw(Flaw::Unknown),
-        22 => Cause::Flaw(Flaw::Misfit),
-        23 => Cause::Flaw(Flaw::Misjoin),
-        24 => Cause::Flaw(Flaw::Joined),
-        25 => Cause::Flaw(Flaw::TooHigh),
-        26 => Cause::Flaw(Flaw::Unmapped),
-        27 => Cause::Flaw(Flaw::Unlinked),
-        28 => Cause::Flaw(Flaw::Unserved),
-        29 => Cause::Flaw(Flaw::BadStimulus),
-        30 => Cause::Flaw(Flaw::OverLimit),
+        20 => Cause::Check(Fault::NameTwice),
+        21 => Cause::Check(Fault::NameUnknown),
+        22 => Cause::Check(Fault::KindWrong),
+        23 => Cause::Check(Fault::OutOfRange),
+        24 => Cause::Check(Fault::TwoSources),
+        25 => Cause::Check(Fault::TooHigh),
+        26 => Cause::Check(Fault::NotMapped),
+        27 => Cause::Check(Fault::NoLink),
+        28 => Cause::Check(Fault::NoEvent),
+        29 => Cause::Check(Fault::BadStimulus),
+        30 => Cause::Check(Fault::OverLimit),
         _ => Cause::Other,
     }
 }

@@ -1,12 +1,11 @@
 //! Where a refusal applies to inputs that can be read.
 
 ghost use Rattle.std.specs.Prelude.{◌≡◌, ◌∷◌, [], IfOk, map};
-ghost use Rattle.fb_why.specs.Listings.{AreSpots, listed_spots};
+ghost use Rattle.fb_why.specs.Listings.{AreSpots, spots_of};
 ghost use Rattle.fb_why.specs.declared.spot.Spot.TheVariants as spot;
 
-use crate::cause::Flaw;
 use crate::spot::Spot;
-use fb_check::{Case, Refusal, StimulusLocation, why_refused};
+use fb_check::{Case, Fault, Refusal, StimulusLocation, why_refused};
 use fb_check_names::{GivenTwice, Joined, Misfit, Misjoin, UnknownName, Unlinked, Unmapped};
 use std::alloc::{AllocError, Global};
 
@@ -82,33 +81,35 @@ fn one_spot(alloc: Global, spot: Spot) -> Result<Vec<Spot>, AllocError>
     Ok(spots)
 }
 
-/// The locations of a refusal, if it is one for this flaw.
-fn listed_spots(alloc: Global, flaw: Flaw, refusal: &Refusal) -> Result<Vec<Spot>, AllocError>
-    ensures { IfOk result (λ spots. spots.items ≡ listed_spots flaw refusal.now) }
+/// The locations of a refusal.
+fn spots_of(alloc: Global, refusal: &Refusal) -> Result<Vec<Spot>, AllocError>
+    ensures { IfOk result (λ spots. spots.items ≡ spots_of refusal.now) }
 {
-    match (flaw, refusal) {
-        (Flaw::Twice, Refusal::Twice(found)) => twice_spots(alloc, found.as_slice()),
-        (Flaw::Unknown, Refusal::NameUnknown(found)) => unknown_spots(alloc, found.as_slice()),
-        (Flaw::Misfit, Refusal::KindWrong(found)) => misfit_spots(alloc, found.as_slice()),
-        (Flaw::Misjoin, Refusal::OutOfRange(found)) => misjoin_spots(alloc, found.as_slice()),
-        (Flaw::Joined, Refusal::TwoSources(found)) => joined_spots(alloc, found.as_slice()),
-        (Flaw::TooHigh, Refusal::TooHigh(location)) => one_spot(alloc, Spot::TooHigh(*location)),
-        (Flaw::Unmapped, Refusal::NotMapped(found)) => unmapped_spots(alloc, found.as_slice()),
-        (Flaw::Unlinked, Refusal::NoLink(found)) => unlinked_spots(alloc, found.as_slice()),
-        (Flaw::Unserved, Refusal::NoEvent(found)) => unserved_spots(alloc, found.as_slice()),
-        (Flaw::BadStimulus, Refusal::BadStimulus(found)) => stimulus_spots(alloc, found.as_slice()),
-        (Flaw::OverLimit, Refusal::OverLimit(limit)) => one_spot(alloc, Spot::Limit(*limit)),
-        _ => Ok(Vec::new(alloc)),
+    match refusal {
+        Refusal::Twice(found) => twice_spots(alloc, found.as_slice()),
+        Refusal::NameUnknown(found) => unknown_spots(alloc, found.as_slice()),
+        Refusal::KindWrong(found) => misfit_spots(alloc, found.as_slice()),
+        Refusal::OutOfRange(found) => misjoin_spots(alloc, found.as_slice()),
+        Refusal::TwoSources(found) => joined_spots(alloc, found.as_slice()),
+        Refusal::TooHigh(descent) => one_spot(alloc, Spot::TooHigh(*descent)),
+        Refusal::NotMapped(found) => unmapped_spots(alloc, found.as_slice()),
+        Refusal::NoLink(found) => unlinked_spots(alloc, found.as_slice()),
+        Refusal::NoEvent(found) => unserved_spots(alloc, found.as_slice()),
+        Refusal::BadStimulus(found) => stimulus_spots(alloc, found.as_slice()),
+        Refusal::OverLimit(limit) => one_spot(alloc, Spot::Limit(*limit)),
     }
 }
 
-/// The locations at which the refusal applies to inputs, if the check refuses them for this flaw: all, in the order of the
+/// The locations at which the refusal applies to inputs, if the check refuses them for this fault: all, in the order of the
 /// declaration or of the stimuli. Of types that are too high and of limits it is one.
-pub fn spots_in(alloc: Global, flaw: Flaw, case: &Case) -> Result<Vec<Spot>, AllocError>
-    ensures { IfOk result (λ spots. AreSpots flaw case.now.library.now case.now.plan.now case.now.stimuli.now spots.items) }
+pub fn spots_in(alloc: Global, fault: Fault, case: &Case) -> Result<Vec<Spot>, AllocError>
+    ensures { IfOk result (λ spots. AreSpots fault case.now.library.now case.now.plan.now case.now.stimuli.now spots.items) }
 {
-    match why_refused(alloc, case)? {
-        Some(refusal) => listed_spots(alloc, flaw, &refusal),
-        None => Ok(Vec::new(alloc)),
+    let Some(refusal) = why_refused(alloc, case)? else {
+        return Ok(Vec::new(alloc));
+    };
+    if refusal.fault().number() != fault.number() {
+        return Ok(Vec::new(alloc));
     }
+    spots_of(alloc, &refusal)
 }

@@ -1,9 +1,9 @@
 //! The texts that say where a deployment is refused.
 
-use crate::text::ByteText;
 use fb_inputs::{DeployKey, DeployLocation, TableFault, TableLocation};
+use fb_read_positions::Text;
 use std::alloc::{AllocError, Global};
-use toml::{Table, Value};
+use toml::Table;
 
 /// What is wrong at a location of a deployment, and what was expected there.
 pub fn deployment_message(
@@ -11,12 +11,12 @@ pub fn deployment_message(
     bytes: &[u8],
     location: DeployLocation,
 ) -> Result<String, AllocError> {
-    let mut text = ByteText::new(alloc);
+    let mut text = Text::new(alloc);
     push_deployment(alloc, &mut text, bytes, location);
     text.into_string()
 }
 
-fn push_deployment(alloc: Global, text: &mut ByteText, bytes: &[u8], location: DeployLocation) {
+fn push_deployment(alloc: Global, text: &mut Text, bytes: &[u8], location: DeployLocation) {
     match location {
         DeployLocation::Bytes => text.words("there are more than 1,048,576 bytes"),
         DeployLocation::Document(_) => text.words("this is no TOML"),
@@ -25,26 +25,41 @@ fn push_deployment(alloc: Global, text: &mut ByteText, bytes: &[u8], location: D
             push_fault(alloc, text, bytes, table, fault);
         }
         DeployLocation::Latency { link, entry } => push_latency(alloc, text, bytes, link, entry),
-        _ => push_numbers(text, location),
+        DeployLocation::NoEntry { link } => {
+            text.placed("", link, " link: latencies has no entry");
+        }
+        DeployLocation::Entry { link, entry: 0 } => {
+            text.placed("", link, " link: the 1st entry is not at tick 0");
+        }
+        DeployLocation::Entry { link, entry } => {
+            text.placed("", link, " link: the tick of the ");
+            text.placed(
+                "",
+                entry,
+                " entry is not later than that of the entry before it",
+            );
+            text.words(", or is over 1,000,000,000,000");
+        }
+        DeployLocation::Resources => text.words("there are more than 256 resources"),
+        DeployLocation::Links => text.words("there are more than 1,024 links"),
+        DeployLocation::Entries { link } => {
+            text.placed("", link, " link: there are more than 64 entries");
+        }
     }
 }
 
-fn push_table(text: &mut ByteText, table: TableLocation) {
+fn push_table(text: &mut Text, table: TableLocation) {
     match table {
         TableLocation::Top => {}
-        TableLocation::Resource(location) => text.placed("", location, " resource: "),
-        TableLocation::Link(location) => push_link(text, location),
+        TableLocation::Resource(resource) => text.placed("", resource, " resource: "),
+        TableLocation::Link(link) => text.placed("", link, " link: "),
     }
-}
-
-fn push_link(text: &mut ByteText, link: usize) {
-    text.placed("", link, " link: ");
 }
 
 /// What is wrong with the table.
 fn push_fault(
     alloc: Global,
-    text: &mut ByteText,
+    text: &mut Text,
     bytes: &[u8],
     table: TableLocation,
     fault: TableFault,
@@ -62,14 +77,14 @@ fn push_fault(
             text.words(key.text());
             text.words(kind_of(key));
         }
-        TableFault::Element(key, location) => {
+        TableFault::Element(key, element) => {
             text.words(key.text());
-            text.placed(": the ", location, kind_of_element(key));
+            text.placed(": the ", element, kind_of_element(key));
         }
         TableFault::Empty => text.words("there is no resource"),
         TableFault::Both => text.words("there are both latency and latencies"),
         TableFault::Itself => text.words("it leads to the resource that it comes from"),
-        TableFault::Further => push_further(alloc, text, bytes, table),
+        TableFault::Further => push_unknown(alloc, text, bytes, table),
     }
 }
 
@@ -92,35 +107,31 @@ fn kind_of_element(key: DeployKey) -> &'static str {
 }
 
 /// The keys that a table may have.
-fn known_keys(table: TableLocation) -> &'static [DeployKey] {
+fn known_keys(table: TableLocation) -> &'static [&'static str] {
     match table {
-        TableLocation::Top => &[DeployKey::Resource, DeployKey::Link],
-        TableLocation::Resource(_) => &[DeployKey::Device, DeployKey::Name, DeployKey::Instances],
-        TableLocation::Link(_) => &[
-            DeployKey::From,
-            DeployKey::To,
-            DeployKey::Latency,
-            DeployKey::Latencies,
-        ],
+        TableLocation::Top => &["resource", "link"],
+        TableLocation::Resource(_) => &["device", "name", "instances"],
+        TableLocation::Link(_) => &["from", "to", "latency", "latencies"],
     }
 }
 
 /// Adds the first unknown key of a table in a document.
-fn push_further(alloc: Global, text: &mut ByteText, bytes: &[u8], table: TableLocation) {
-    text.words("there is a further key");
+fn push_unknown(alloc: Global, text: &mut Text, bytes: &[u8], table: TableLocation) {
     match toml::table_from_slice(alloc, bytes) {
-        Ok(keys) => push_unknown(text, &keys, table),
+        Ok(keys) => {
+            if let Some(here) = table_at(&keys, table) {
+                push_further(text, here, known_keys(table));
+            }
+        }
         Err(_) => text.give_up(),
     }
 }
 
-/// Adds the first unknown key of a table.
-fn push_unknown(text: &mut ByteText, keys: &Table, table: TableLocation) {
-    let Some(keys) = table_at(keys, table) else {
-        return;
-    };
+/// Adds the first key of a table that is none of these.
+pub(crate) fn push_further(text: &mut Text, keys: &Table, known: &[&str]) {
+    text.words("there is a further key");
     for (key, _) in keys {
-        if !is_known(table, key.as_str()) {
+        if !known.iter().any(|word| *word == key.as_str()) {
             text.words(", ");
             text.quoted(key.as_str().as_bytes());
             return;
@@ -128,83 +139,34 @@ fn push_unknown(text: &mut ByteText, keys: &Table, table: TableLocation) {
     }
 }
 
-/// Whether a table may have a key.
-fn is_known(table: TableLocation, key: &str) -> bool {
-    for known in known_keys(table) {
-        if known.text() == key {
-            return true;
-        }
-    }
-    false
-}
-
-/// The value at a key.
-fn value_at(keys: &Table, key: DeployKey) -> Option<&Value> {
-    keys.get(key.text())
-}
-
 /// The table at a location.
 fn table_at(keys: &Table, table: TableLocation) -> Option<&Table> {
-    let (key, location) = match table {
-        TableLocation::Top => return Some(keys),
-        TableLocation::Resource(location) => (DeployKey::Resource, location),
-        TableLocation::Link(location) => (DeployKey::Link, location),
-    };
-    value_at(keys, key)?.as_array()?.get(location)?.as_table()
+    match table {
+        TableLocation::Top => Some(keys),
+        TableLocation::Resource(resource) => item_at(keys, "resource", resource),
+        TableLocation::Link(link) => item_at(keys, "link", link),
+    }
+}
+
+/// The table at an index of the array of tables at a key.
+pub(crate) fn item_at<'a>(keys: &'a Table, key: &str, index: usize) -> Option<&'a Table> {
+    keys.get(key)?.as_array()?.get(index)?.as_table()
 }
 
 /// Adds the latency of an entry of a link.
-fn push_latency(alloc: Global, text: &mut ByteText, bytes: &[u8], link: usize, entry: usize) {
-    push_link(text, link);
+fn push_latency(alloc: Global, text: &mut Text, bytes: &[u8], link: usize, entry: usize) {
+    text.placed("", link, " link: ");
     match toml::table_from_slice(alloc, bytes) {
-        Ok(keys) => push_latency_of(text, &keys, link, entry),
+        Ok(keys) => push_entry(text, item_at(&keys, "link", link), entry),
         Err(_) => text.give_up(),
     }
     text.words(" is not within 1 to 1,000,000");
 }
 
 /// Adds the latency of an entry, or the latency of a link without a table.
-fn push_latency_of(text: &mut ByteText, keys: &Table, link: usize, entry: usize) {
-    if has_one_latency(keys, link) {
-        text.words("latency");
-    } else {
-        text.placed("the latency of the ", entry, " entry");
-    }
-}
-
-/// Whether a link has one latency, and no table.
-fn has_one_latency(keys: &Table, link: usize) -> bool {
-    match table_at(keys, TableLocation::Link(link)) {
-        Some(keys) => value_at(keys, DeployKey::Latency).is_some(),
-        None => false,
-    }
-}
-
-/// What is wrong with the other numbers of a deployment.
-fn push_numbers(text: &mut ByteText, location: DeployLocation) {
-    match location {
-        DeployLocation::NoEntry { link } => {
-            push_link(text, link);
-            text.words("latencies has no entry");
-        }
-        DeployLocation::Entry { link, entry: 0 } => {
-            push_link(text, link);
-            text.words("the 1st entry is not at tick 0");
-        }
-        DeployLocation::Entry { link, entry } => {
-            push_link(text, link);
-            text.placed(
-                "the tick of the ",
-                entry,
-                " entry is not later than that of the entry before it, or is over 1,000,000,000,000",
-            );
-        }
-        DeployLocation::Resources => text.words("there are more than 256 resources"),
-        DeployLocation::Links => text.words("there are more than 1,024 links"),
-        DeployLocation::Entries { link } => {
-            push_link(text, link);
-            text.words("there are more than 64 entries");
-        }
-        _ => {}
+fn push_entry(text: &mut Text, link: Option<&Table>, entry: usize) {
+    match link {
+        Some(keys) if keys.get("latency").is_some() => text.words("latency"),
+        _ => text.placed("the latency of the ", entry, " entry"),
     }
 }

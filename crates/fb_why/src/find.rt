@@ -7,15 +7,13 @@ ghost use Rattle.fb_read.specs.Tokens.{after_mark};
 ghost use Rattle.fb_read.specs.Whole.{IsLibraryText};
 ghost use Rattle.fb_types.specs.declared.library.Library.{Library};
 ghost use Rattle.fb_why.specs.Faults.{EndsAt, IsAfterToken, IsShownFor, IsTextRefusal};
-ghost use Rattle.fb_why.specs.Locations.{IsLocation};
+ghost use Rattle.fb_read_positions.specs.Locations.{IsLocation};
 
 use crate::hints::misses_semicolon;
-use crate::text_locations::{TextLocation, location_at, location_in};
 use fb_read::read::span_before;
 use fb_read::token::Located;
-use fb_read::tokens::lex;
 use fb_read::{ReadFault, Refusal, TextFault, discard, read_located};
-use fb_types::MOST_BYTES;
+use fb_read_positions::{TextLocation, location_at, location_in, tokens_of};
 use std::alloc::{AllocError, Global};
 
 /// Why a declaration text is refused, and where it shows.
@@ -45,10 +43,7 @@ fn end_of_last(alloc: Global, text: &[u8], tokens: &[Located]) -> Option<usize>
 fn end_of_tokens(alloc: Global, text: &[u8]) -> Option<usize>
     ensures { IfSome result (EndsAt text.now) }
 {
-    if text.len() > MOST_BYTES {
-        return None;
-    }
-    match lex(alloc, text) {
+    match tokens_of(alloc, text) {
         Ok(tokens) => end_of_last(alloc, text, tokens.as_slice()),
         Err(_) => None,
     }

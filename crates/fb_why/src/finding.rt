@@ -1,17 +1,17 @@
 //! Finds where a refusal applies: reads the bytes again, and searches for the locations at which the refusal applies.
 
-ghost use Rattle.std.specs.Prelude.{◌≡◌, ℕ, [], All, List, Option, IfOk, IfSome, MatchOption, false, option_map};
+ghost use Rattle.std.specs.Prelude.{◌≡◌, ℕ, [], All, List, Option, IfOk, MatchOption, false, option_map};
 ghost use Rattle.fb_read.specs.Whole.{IsLibraryText, IsMemory};
-ghost use Rattle.fb_why.specs.Findings.{AreFed, AreNoStimuli, AreNotFed, AreStimuli, IsNoPlan, IsPlan, IsSilentOfBytes, IsSilentOfText, FindsInBytes, FindsInText};
+ghost use Rattle.fb_why.specs.Findings.{AreFed, AreNoStimuli, AreNotFed, AreStimuli, IsNoPlan, IsPlan};
 ghost use Rattle.fb_why.specs.Listings.{AreFlaws, AreFound, AreFoundBy, AreShown, IsOnce};
 ghost use Rattle.fb_why.specs.Places.{IsPlacedFinding};
 
-use crate::cause::{Cause, Flaw, cause_of, is_of_stimuli};
+use crate::cause::{Cause, cause_of, is_of_stimuli};
 use crate::declared::spots_in;
 use crate::listing::{Findings, listed, one};
-use crate::place::{PlacedFinding, placed_itself};
+use crate::place::PlacedFinding;
 use crate::refused::{bytes_finding, text_finding};
-use fb_check::Case;
+use fb_check::{Case, Fault};
 use fb_inputs::{InputError, read_deploy, read_stimuli};
 use fb_read::{ReadError, discard, read_library};
 use fb_types::{Deploy, Library, Plan, Stimulus};
@@ -58,7 +58,7 @@ fn stimuli_of(alloc: Global, stimuli: Option<&[u8]>) -> Result<Option<Vec<Stimul
 /// The stimuli that a refusal is about: those that are given, or none. `None` if the bytes are refused.
 fn fed_stimuli(
     alloc: Global,
-    flaw: Flaw,
+    flaw: Fault,
     stimuli: Option<&[u8]>,
 ) -> Result<Option<Vec<Stimulus>>, AllocError>
     ensures { let given = option_map (λ b. b.now) stimuli.entry in IfOk result (λ o. MatchOption o (AreNotFed flaw given) (λ v. AreFed flaw given v.items)) }
@@ -73,7 +73,7 @@ fn fed_stimuli(
 /// Where the refusal applies to inputs, whose library this text declares.
 fn flaws_of(
     alloc: Global,
-    flaw: Flaw,
+    flaw: Fault,
     declaration: &[u8],
     case: &Case,
 ) -> Result<Findings, AllocError>
@@ -88,7 +88,7 @@ fn flaws_of(
 /// Where the refusal applies to a library, which this text declares, to a plan, and to the stimuli in these bytes.
 fn flaws_with(
     alloc: Global,
-    flaw: Flaw,
+    flaw: Fault,
     declaration: &[u8],
     library: &Library,
     plan: &Plan,
@@ -112,7 +112,7 @@ fn flaws_with(
 /// Where the refusal applies to a library, which this text declares, and to the deployment and the stimuli in these bytes.
 fn flaws_in(
     alloc: Global,
-    flaw: Flaw,
+    flaw: Fault,
     declaration: &[u8],
     library: &Library,
     deploy: Option<&[u8]>,
@@ -131,7 +131,7 @@ fn flaws_in(
 /// Where the refusal applies to the inputs in these bytes.
 fn flaw_findings(
     alloc: Global,
-    flaw: Flaw,
+    flaw: Fault,
     declaration: &[u8],
     deploy: Option<&[u8]>,
     stimuli: Option<&[u8]>,
@@ -147,34 +147,6 @@ fn flaw_findings(
         }
         Err(fault) => no_findings(alloc, fault),
     }
-}
-
-/// Where the text of the declaration is refused, if its refusal has this number.
-fn placed_text(
-    alloc: Global,
-    number: u8,
-    declaration: &[u8],
-) -> Result<Option<PlacedFinding>, AllocError>
-    ensures found { IfOk result (λ o. MatchOption o (IsSilentOfText number declaration.now) (λ r. FindsInText number declaration.now r.finding.location)) }
-    ensures placed { IfOk result (λ o. IfSome o (IsPlacedFinding declaration.now)) }
-{
-    let finding = text_finding(alloc, number, declaration)?;
-    Ok(placed_itself(finding))
-}
-
-/// Where the bytes of a deployment or those of stimuli are refused with this number.
-fn placed_bytes(
-    alloc: Global,
-    number: u8,
-    deploy: Option<&[u8]>,
-    stimuli: Option<&[u8]>,
-) -> Result<Option<PlacedFinding>, AllocError>
-    ensures found { let plan = option_map (λ b. b.now) deploy.entry in let rows = option_map (λ b. b.now) stimuli.entry in
-        IfOk result (λ o. MatchOption o (IsSilentOfBytes number plan rows) (λ r. FindsInBytes number plan rows r.finding.location)) }
-    ensures placed { (text : List ℕ) → IfOk result (λ o. IfSome o (IsPlacedFinding text)) }
-{
-    let finding = bytes_finding(alloc, number, deploy, stimuli)?;
-    Ok(placed_itself(finding))
 }
 
 /// What was found, as the findings of a number.
@@ -201,9 +173,9 @@ fn findings_by(
     ensures placed { IfOk result (λ f. All (IsPlacedFinding declaration.now) f.shown.items) }
 {
     match cause {
-        Cause::Text => once(alloc, placed_text(alloc, number, declaration)),
-        Cause::Bytes => once(alloc, placed_bytes(alloc, number, deploy, stimuli)),
-        Cause::Flaw(flaw) => flaw_findings(alloc, flaw, declaration, deploy, stimuli),
+        Cause::Text => once(alloc, text_finding(alloc, number, declaration)),
+        Cause::Bytes => once(alloc, bytes_finding(alloc, number, deploy, stimuli)),
+        Cause::Check(flaw) => flaw_findings(alloc, flaw, declaration, deploy, stimuli),
         Cause::Other => one(alloc, None),
     }
 }
@@ -225,12 +197,6 @@ pub fn findings_of(
         IfOk result (AreFound declaration.now plan rows number) }
     ensures placed { IfOk result (λ f. All (IsPlacedFinding declaration.now) f.shown.items) }
 {
-    findings_by(
-        alloc,
-        cause_of(number),
-        number,
-        declaration,
-        deploy,
-        stimuli,
-    )
+    let cause = cause_of(number);
+    findings_by(alloc, cause, number, declaration, deploy, stimuli)
 }

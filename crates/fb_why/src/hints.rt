@@ -1,100 +1,32 @@
-//! What is probably meant at a place of a declaration at which its text is refused.
+//! What is probably meant at a place of a declaration at which its text is refused: a word that the profile leaves out, a
+//! semicolon or ELSIF, a time with a fraction, a comment inside another one.
 
-use crate::text::ByteText;
 use fb_read::Expected;
 use fb_read::token::{Located, Mark, Token};
-use fb_read::tokens::lex;
-use fb_types::{Items, MOST_BYTES};
+use fb_read_positions::{Text, tokens_of};
 use std::alloc::Global;
 
 /// Words of IEC 61131-3 that the profile leaves out.
-const LANGUAGE: &[&[u8]] = &[
-    b"REAL",
-    b"LREAL",
-    b"BYTE",
-    b"WORD",
-    b"DWORD",
-    b"LWORD",
-    b"STRING",
-    b"WSTRING",
-    b"CHAR",
-    b"WCHAR",
-    b"DATE",
-    b"TIME_OF_DAY",
-    b"TOD",
-    b"DATE_AND_TIME",
-    b"LTIME",
-    b"ARRAY",
-    b"STRUCT",
-    b"TYPE",
-    b"CONSTANT",
-    b"RETAIN",
-    b"VAR_IN_OUT",
-    b"VAR_EXTERNAL",
-    b"VAR_GLOBAL",
-    b"VAR_TEMP",
-    b"FUNCTION",
-    b"PROGRAM",
-    b"CONFIGURATION",
-    b"CONTINUE",
-];
+const LANGUAGE: &str =
+    "REAL LREAL BYTE WORD DWORD LWORD STRING WSTRING CHAR WCHAR DATE TIME_OF_DAY TOD DATE_AND_TIME LTIME ARRAY STRUCT TYPE CONSTANT RETAIN VAR_IN_OUT VAR_EXTERNAL VAR_GLOBAL VAR_TEMP FUNCTION PROGRAM CONFIGURATION CONTINUE";
 
 /// Words of IEC 61499-1 that the profile leaves out.
-const BLOCKS: &[&[u8]] = &[
-    b"ADAPTER",
-    b"ADAPTER_CONNECTIONS",
-    b"PLUGS",
-    b"SOCKETS",
-    b"SERVICE",
-    b"SUBAPPLICATION",
-    b"SUBAPPS",
-    b"SYSTEM",
-    b"DEVICE",
-    b"RESOURCE",
-    b"SEGMENT",
-    b"MAPPING",
-];
+const BLOCKS: &str =
+    "ADAPTER ADAPTER_CONNECTIONS PLUGS SOCKETS SERVICE SUBAPPLICATION SUBAPPS SYSTEM DEVICE RESOURCE SEGMENT MAPPING";
 
-/// Whether bytes are this word, which is in upper case, whatever their case.
-pub(crate) fn is_word(bytes: &[u8], word: &[u8]) -> bool {
-    if bytes.len() != word.len() {
-        return false;
-    }
-    for (byte, letter) in bytes.iter().zip(word) {
-        if byte.to_ascii_uppercase() != *letter {
-            return false;
-        }
-    }
-    true
-}
-
-fn is_among(bytes: &[u8], words: &[&[u8]]) -> bool {
-    for word in words {
-        if is_word(bytes, word) {
-            return true;
-        }
-    }
-    false
+/// Whether bytes are among words that are separated by spaces, whatever their case.
+fn is_among(bytes: &[u8], words: &str) -> bool {
+    words
+        .split(' ')
+        .any(|word| word.as_bytes().eq_ignore_ascii_case(bytes))
 }
 
 /// Says of a word of a standard that the profile leaves it out.
-pub(crate) fn push_left_out(message: &mut ByteText, here: &[u8]) {
+pub(crate) fn push_left_out(message: &mut Text, here: &[u8]) {
     if is_among(here, LANGUAGE) {
         message.words(" (a word of IEC 61131-3 that the profile leaves out)");
     } else if is_among(here, BLOCKS) {
         message.words(" (a word of IEC 61499-1 that the profile leaves out)");
-    }
-}
-
-/// The tokens before an offset. `None` if memory runs out, and for bytes that are none.
-fn tokens_before(alloc: Global, text: &[u8], start: usize) -> Option<Items<Located>> {
-    let before = text.get(..start)?;
-    if before.len() > MOST_BYTES {
-        return None;
-    }
-    match lex(alloc, before) {
-        Ok(tokens) => Some(tokens),
-        Err(_) => None,
     }
 }
 
@@ -127,20 +59,166 @@ fn has_else_if(tokens: &[Located]) -> bool {
     found
 }
 
-/// Says that ELSE IF begins another IF, if an END_IF was expected at an offset.
-pub(crate) fn push_else_if(
-    alloc: Global,
-    message: &mut ByteText,
-    text: &[u8],
-    start: usize,
-    expected: &str,
-) {
+/// Says that ELSE IF begins another IF, if an END_IF was expected after these bytes.
+pub(crate) fn push_else_if(alloc: Global, message: &mut Text, before: &[u8], expected: &str) {
     if !has_word(expected, "END_IF") {
         return;
     }
-    if let Some(tokens) = tokens_before(alloc, text, start) {
+    if let Ok(tokens) = tokens_of(alloc, before) {
         if has_else_if(tokens.as_slice()) {
             message.words(" (ELSE IF begins another IF with an END_IF of its own, ELSIF does not)");
         }
+    }
+}
+
+// ---- Times with a fraction, as `T#1.5s`, and how they are written in whole numbers.
+
+/// No more digits than this are read.
+const MOST_DIGITS: usize = 9;
+
+/// The units of a time, each with its milliseconds.
+const UNITS: &[(&str, usize)] = &[
+    ("d", 86_400_000),
+    ("h", 3_600_000),
+    ("m", 60_000),
+    ("s", 1_000),
+    ("ms", 1),
+];
+
+/// How many digits are in front.
+fn digits_len(bytes: &[u8]) -> usize {
+    let end = bytes.iter().position(|byte| !byte.is_ascii_digit());
+    end.unwrap_or(bytes.len())
+}
+
+/// How many letters are in front.
+fn letters_len(bytes: &[u8]) -> usize {
+    let end = bytes.iter().position(|byte| !byte.is_ascii_alphabetic());
+    end.unwrap_or(bytes.len())
+}
+
+/// The number that digits are, and the power of ten with as many zeros, if there are any digits, and not too many.
+fn number(digits: &[u8]) -> Option<(usize, usize)> {
+    if digits.is_empty() || digits.len() > MOST_DIGITS {
+        return None;
+    }
+    let mut value = 0usize;
+    let mut scale = 1usize;
+    for digit in digits {
+        let ones = usize::from(digit.wrapping_sub(b'0'));
+        value = value.checked_mul(10)?.checked_add(ones)?;
+        scale = scale.checked_mul(10)?;
+    }
+    Some((value, scale))
+}
+
+/// The milliseconds of a unit.
+fn milliseconds_of(unit: &[u8]) -> Option<usize> {
+    for (name, milliseconds) in UNITS {
+        if name.as_bytes().eq_ignore_ascii_case(unit) {
+            return Some(*milliseconds);
+        }
+    }
+    None
+}
+
+/// The milliseconds of a whole number and a fraction of a unit, if they are whole.
+fn milliseconds(whole: &[u8], fraction: &[u8], unit: &[u8]) -> Option<usize> {
+    let unit = milliseconds_of(unit)?;
+    let (whole, _) = number(whole)?;
+    let (parts, scale) = number(fraction)?;
+    let parts = parts.checked_mul(unit)?;
+    if parts.checked_rem(scale)? != 0 {
+        return None;
+    }
+    let more = parts.checked_div(scale)?;
+    whole.checked_mul(unit)?.checked_add(more)
+}
+
+/// The time with a fraction with which bytes begin, and its milliseconds, if they are a whole number.
+pub(crate) fn fraction_of(bytes: &[u8]) -> Option<(&[u8], usize)> {
+    let (word, rest) = bytes.split_at_checked(letters_len(bytes))?;
+    if !(word.eq_ignore_ascii_case(b"T") || word.eq_ignore_ascii_case(b"TIME")) {
+        return None;
+    }
+    let [b'#', rest @ ..] = rest else {
+        return None;
+    };
+    let (whole, rest) = rest.split_at_checked(digits_len(rest))?;
+    let [b'.', rest @ ..] = rest else {
+        return None;
+    };
+    let (fraction, rest) = rest.split_at_checked(digits_len(rest))?;
+    let (unit, rest) = rest.split_at_checked(letters_len(rest))?;
+    let literal = bytes.get(..bytes.len().saturating_sub(rest.len()))?;
+    Some((literal, milliseconds(whole, fraction, unit)?))
+}
+
+/// Appends a time of whole numbers and units.
+pub(crate) fn push_time(message: &mut Text, milliseconds: usize) {
+    message.words(if milliseconds == 0 { "T#0s" } else { "T#" });
+    let mut rest = milliseconds;
+    for (name, unit) in UNITS {
+        let (Some(count), Some(left)) = (rest.checked_div(*unit), rest.checked_rem(*unit)) else {
+            return;
+        };
+        if count > 0 {
+            message.numbered("", count, name);
+        }
+        rest = left;
+    }
+}
+
+// ---- Comments that have another one's beginning inside.
+
+/// Where a scan for comments is.
+#[derive(Clone, Copy)]
+enum Place {
+    Code,
+    /// In a comment that began at this offset, and whether another beginning was in it.
+    Comment(usize, bool),
+    /// In a comment up to the end of the line.
+    Line,
+}
+
+/// The place after the first of these bytes, and whether the next byte is taken with it.
+fn after(place: Place, at: usize, rest: &[u8]) -> (Place, bool) {
+    match (place, rest) {
+        (Place::Code, [b'(', b'*', ..]) => (Place::Comment(at, false), true),
+        (Place::Code, [b'/', b'/', ..]) => (Place::Line, true),
+        (Place::Comment(begin, _), [b'(', b'*', ..]) => (Place::Comment(begin, true), false),
+        (Place::Comment(_, _), [b'*', b')', ..]) => (Place::Code, true),
+        (Place::Line, [b'\n', ..]) => (Place::Code, false),
+        _ => (place, false),
+    }
+}
+
+/// Where the last comment of a text began that ended and had another beginning inside.
+fn outer_comment(text: &[u8]) -> Option<usize> {
+    let mut place = Place::Code;
+    let mut is_second = false;
+    let mut found = None;
+    for at in 0..text.len() {
+        if is_second {
+            is_second = false;
+            continue;
+        }
+        let (next, is_pair) = after(place, at, &text[at..]);
+        if let (Place::Comment(begin, true), Place::Code) = (place, next) {
+            found = Some(begin);
+        }
+        place = next;
+        is_second = is_pair;
+    }
+    found
+}
+
+/// Says which comment before an offset has another beginning inside.
+pub(crate) fn push_comment(message: &mut Text, text: &[u8], start: usize) {
+    let before = text.get(..start).unwrap_or(&[]);
+    if let Some(begin) = outer_comment(before) {
+        message.words(" (comments do not nest: the first *) ends the one that begins with ");
+        message.quoted(before.get(begin..).unwrap_or(&[]));
+        message.words(")");
     }
 }

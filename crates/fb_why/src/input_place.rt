@@ -3,15 +3,16 @@
 ghost use Rattle.std.specs.Prelude.{◌≡◌, IfOk, IfSome, option_map};
 ghost use Rattle.fb_why.specs.InputPlaces as spec;
 ghost use Rattle.fb_why.specs.InputPlaces.{IsInputPlace, IsInputPosition, IsListedIn, IsPlaceInDeploy, IsPlaceInRows};
+ghost use Rattle.fb_why.specs.InputStretches.{IsDeployPlace, IsStimuliPlace};
 
 use crate::spot::Spot;
-use crate::{TextLocation, place_in_deployment, place_in_stimuli};
 use fb_check::{Limit, StimulusFault, StimulusLocation};
 use fb_check_names::{GivenTwice, Side, UnknownName, Unmapped};
 use fb_inputs::{
     DeployKey, DeployPosition, InputError, StimuliPosition, TableLocation, deploy_position,
-    read_deploy, stimuli_position,
+    nearest_in_deployment, nearest_in_stimuli, read_deploy, stimuli_position,
 };
+use fb_read_positions::{TextLocation, location_at};
 use fb_types::ResourceEntry;
 use std::alloc::{AllocError, Global};
 
@@ -36,6 +37,30 @@ pub struct Place {
 pub enum InputPosition {
     Deployment(DeployPosition),
     Stimuli(StimuliPosition),
+}
+
+/// The place of a position of a deployment: where its key or its table is, or else the beginning of the text.
+pub fn place_in_deployment(bytes: &[u8], position: DeployPosition) -> Option<TextLocation>
+    ensures { IfSome result (IsDeployPlace bytes.now position) }
+{
+    let span = nearest_in_deployment(bytes, position);
+    location_at(bytes, span.start, span.end)
+}
+
+/// The place of a position of stimuli: where its word, field or row is, or else the beginning of the text.
+///
+/// # Errors
+///
+/// When memory runs out.
+pub fn place_in_stimuli(
+    alloc: Global,
+    bytes: &[u8],
+    position: StimuliPosition,
+) -> Result<Option<TextLocation>, AllocError>
+    ensures { IfOk result (λ o. IfSome o (IsStimuliPlace bytes.now position)) }
+{
+    let span = nearest_in_stimuli(alloc, bytes, position)?;
+    Ok(location_at(bytes, span.start, span.end))
 }
 
 /// An instance that a resource lists.

@@ -6,73 +6,45 @@
 //! applies there. Each place is in the text of the declaration, and the token there is the name that the library has at
 //! this location. For the numbers of the check, whose locations the check lists, it reports none only if the inputs are
 //! refused for something else or can't be read. `find::text_refusal` returns a location in the text, with its line and
-//! column, at which a declaration is refused. The wording of the texts, and what `excerpt` shows, is not part of any
-//! contract.
+//! column, at which a declaration is refused. The wording of the texts is not part of any contract.
 //!
 //! Read in this order: `explanation` and `table`; `cause` and `spot`, what each number is about, and where. Then the bytes:
-//! `text_locations`; `find`, the refusal of a text and its location; `source_line`, the source line of a location;
-//! `input_stretches`, positions in deployments and stimuli. Then a location as text: `words` and `text`, texts that grow;
-//! `lookup` and `types`, the meaning of names; the modules `.._messages`, with `hints`, `fraction` and `comments`, and
-//! `flaw_message`. Then `refused` and `declared`, locations in bytes and in what they declare; `positions`, `place` and
-//! `input_place`, where a location is in its text; `listing` and `finding`, which reads the bytes again. All of this runs
-//! only after a refusal.
+//! `find`, the refusal of a text and its location. Then a location as text: the modules `.._messages`, with `hints`. Then
+//! `refused` and `declared`, locations in bytes and in what they declare; `place` and `input_place`, where a location is in
+//! its text; `listing` and `finding`, which reads the bytes again. All of this runs only after a refusal.
 #![tactic(auto)]
 
 pub mod cause;
-mod comments;
 mod declared;
 pub mod deployment_messages;
 pub mod explanation;
 pub mod find;
 pub mod finding;
-mod flaw_message;
-mod fraction;
-mod height_messages;
+mod flaw_messages;
 mod hints;
 pub mod input_place;
-pub mod input_stretches;
-mod joined_messages;
-pub mod kind_messages;
-mod limit_messages;
+mod kind_messages;
 pub mod listing;
-pub mod lookup;
 pub mod place;
-mod positions;
 mod refused;
 pub mod rules_messages;
-pub mod site_messages;
-pub mod source_line;
 pub mod spot;
 pub mod stimuli_messages;
+mod stimulus_messages;
 pub mod table;
-mod text;
-pub mod text_locations;
 pub mod text_messages;
-mod twice_messages;
-mod types;
-pub mod unknown_messages;
-mod unlinked_messages;
-mod unmapped_messages;
-mod unserved_messages;
-pub mod words;
+mod unknown_messages;
 
-pub use cause::{Cause, Flaw};
+pub use cause::Cause;
 pub use deployment_messages::deployment_message;
 pub use explanation::explain;
 pub use find::{TextRefusal, text_refusal};
 pub use finding::findings_of;
-pub use input_place::{InputFile, Place, place_in_inputs};
-pub use input_stretches::{place_in_deployment, place_in_stimuli};
-pub use kind_messages::{misfit_message, misjoin_message};
+pub use input_place::{InputFile, Place, place_in_deployment, place_in_inputs, place_in_stimuli};
 pub use listing::{Findings, MOST_FINDINGS, discard_findings};
 pub use place::PlacedFinding;
 pub use rules_messages::{rules_message, unknown_key_message};
-pub use site_messages::push_instance;
-pub use source_line::excerpt;
 pub use spot::{Finding, Spot};
 pub use stimuli_messages::stimuli_message;
 pub use table::{Explanation, OF_CHECKS, OF_DECLARATIONS, OF_INPUTS};
-pub use text_locations::{TextLocation, after_mark, location_at};
 pub use text_messages::text_message;
-pub use unknown_messages::unknown_message;
-pub use words::Text;

@@ -8,13 +8,12 @@ ghost use Rattle.fb_read.specs.Whole.{IsLibraryText, most_bytes};
 ghost use Rattle.fb_why.specs.Listings.{locations_of, most_findings};
 ghost use Rattle.fb_why.specs.Places.{IsPlacedFinding};
 
-use crate::TextLocation;
-use crate::flaw_message::flaw_message;
+use crate::flaw_messages::flaw_message;
 use crate::place::{PlacedFinding, place_among};
 use crate::spot::{Finding, Spot};
 use fb_check::Case;
 use fb_read::token::Located;
-use fb_read_positions::{beginning, discard, tokens_of};
+use fb_read_positions::{BlockTypes, TextLocation, discard, no_place, tokens_of};
 use std::alloc::{AllocError, Global};
 
 /// The greatest number of findings that are shown.
@@ -44,6 +43,7 @@ pub(crate) fn one(alloc: Global, found: Option<PlacedFinding>) -> Result<Finding
 /// What is wrong at a location of inputs, at this place.
 fn finding_at(
     alloc: Global,
+    types: &BlockTypes,
     case: &Case,
     location: Spot,
     place: Option<TextLocation>,
@@ -51,7 +51,7 @@ fn finding_at(
     ensures found { IfOk result (λ r. r.finding.location ≡ location) }
     ensures placed { IfOk result (λ r. r.place ≡ place) }
 {
-    let text = flaw_message(alloc, case, location)?;
+    let text = flaw_message(alloc, types, case, location)?;
     let finding = Finding { location, text };
     Ok(PlacedFinding { finding, place })
 }
@@ -61,6 +61,7 @@ fn findings_at(
     alloc: Global,
     declaration: &[u8],
     tokens: &[Located],
+    types: &BlockTypes,
     case: &Case,
     locations: &[Spot],
 ) -> Result<Vec<PlacedFinding>, AllocError>
@@ -71,11 +72,10 @@ fn findings_at(
     ensures placed { IfOk result (λ all. All (IsPlacedFinding declaration.now) all.items) }
 {
     let mut all = Vec::new(alloc);
-    let mut reached = beginning(tokens);
+    let mut found = no_place(tokens);
     for location in locations {
-        let found = place_among(alloc, declaration, tokens, case.library, reached, *location)?;
-        reached = found.reached;
-        all.push(finding_at(alloc, case, *location, found.place)?)?;
+        found = place_among(alloc, declaration, tokens, case.library, found, *location)?;
+        all.push(finding_at(alloc, types, case, *location, found.place)?)?;
     }
     Ok(all)
 }
@@ -105,8 +105,9 @@ pub(crate) fn listed(
 {
     let more = locations.len() > MOST_FINDINGS;
     let first = first_of(locations);
+    let types = BlockTypes::new(alloc, case.library)?;
     let tokens = tokens_of(alloc, declaration)?;
-    let shown = findings_at(alloc, declaration, tokens.as_slice(), case, first);
+    let shown = findings_at(alloc, declaration, tokens.as_slice(), &types, case, first);
     discard(tokens);
     Ok(Findings {
         shown: shown?,

@@ -1,30 +1,14 @@
 //! The texts that say where rules are refused.
 
-use crate::text::{ByteText, front};
+use crate::deployment_messages::{item_at, push_further};
 use fb_expect::{RuleFault, RuleKey, RulesPlace, key_text};
+use fb_read_positions::words::{Text, front};
 use std::alloc::{AllocError, Global};
 use toml::Table;
 
-/// The keys that rules may have.
-const KEYS: &[RuleKey] = &[
-    RuleKey::Name,
-    RuleKey::After,
-    RuleKey::Before,
-    RuleKey::Never,
-    RuleKey::Count,
-    RuleKey::See,
-    RuleKey::Not,
-    RuleKey::Within,
-    RuleKey::From,
-    RuleKey::To,
-    RuleKey::Least,
-    RuleKey::Most,
-    RuleKey::Every,
-];
-
 /// Where rules are refused, and what was expected there.
 pub fn rules_message(alloc: Global, bytes: &[u8], place: RulesPlace) -> Result<String, AllocError> {
-    let mut text = ByteText::new(alloc);
+    let mut text = Text::new(alloc);
     text.words("rules: ");
     match place {
         RulesPlace::Bytes => text.words("there are more than 1,048,576 bytes"),
@@ -36,7 +20,7 @@ pub fn rules_message(alloc: Global, bytes: &[u8], place: RulesPlace) -> Result<S
 }
 
 /// The line and the column of a byte, both counted from 1. A column counts characters.
-fn push_position(text: &mut ByteText, bytes: &[u8], at: usize) {
+fn push_position(text: &mut Text, bytes: &[u8], at: usize) {
     let mut line = 1usize;
     let mut column = 1usize;
     for byte in front(bytes, at) {
@@ -47,56 +31,42 @@ fn push_position(text: &mut ByteText, bytes: &[u8], at: usize) {
             column = column.saturating_add(1);
         }
     }
-    text.position(line, column);
-    text.words("this is no TOML");
+    text.numbered("line ", line, "");
+    text.numbered(", column ", column, ": this is no TOML");
 }
 
 /// Adds what is at a place in a document.
-fn push_read(alloc: Global, text: &mut ByteText, bytes: &[u8], place: RulesPlace) {
+fn push_read(alloc: Global, text: &mut Text, bytes: &[u8], place: RulesPlace) {
     match toml::table_from_slice(alloc, bytes) {
         Ok(keys) => push_place(text, &keys, place),
         Err(_) => text.give_up(),
     }
 }
 
-fn push_place(text: &mut ByteText, keys: &Table, place: RulesPlace) {
+fn push_place(text: &mut Text, keys: &Table, place: RulesPlace) {
     match place {
         RulesPlace::Rule { rule, fault } => {
-            push_rule(text, rule);
-            push_fault(text, rule_at(keys, rule), fault);
+            text.placed("", rule, " rule: ");
+            push_fault(text, item_at(keys, "rule", rule), fault);
         }
         RulesPlace::Pattern { rule, key } => {
-            push_rule(text, rule);
-            push_pattern(text, rule_at(keys, rule), key);
+            text.placed("", rule, " rule: ");
+            push_pattern(text, item_at(keys, "rule", rule), key);
         }
         RulesPlace::Number { rule, key } => {
-            push_rule(text, rule);
+            text.placed("", rule, " rule: ");
             text.words(key_text(key));
             text.words(range_of(key));
         }
-        _ => push_list(text, keys),
+        _ => match keys.get("rule") {
+            Some(_) if keys.len() > 1 => push_further(text, keys, &["rule"]),
+            _ => text.words("there is no rule"),
+        },
     }
-}
-
-/// What is wrong with the array of the rules: there is no rule, or a key next to them.
-fn push_list(text: &mut ByteText, keys: &Table) {
-    match keys.get("rule") {
-        Some(_) if keys.len() > 1 => push_other_keys(text, keys),
-        _ => text.words("there is no rule"),
-    }
-}
-
-fn push_rule(text: &mut ByteText, rule: usize) {
-    text.placed("", rule, " rule: ");
-}
-
-/// The table of a rule.
-fn rule_at(keys: &Table, rule: usize) -> Option<&Table> {
-    keys.get("rule")?.as_array()?.get(rule)?.as_table()
 }
 
 /// What is wrong with the shape of a rule.
-fn push_fault(text: &mut ByteText, keys: Option<&Table>, fault: RuleFault) {
+fn push_fault(text: &mut Text, keys: Option<&Table>, fault: RuleFault) {
     match fault {
         RuleFault::NoTable => text.words("it is no table"),
         RuleFault::NoForm => text.words("there is none of after, before, never and count"),
@@ -111,9 +81,8 @@ fn push_fault(text: &mut ByteText, keys: Option<&Table>, fault: RuleFault) {
             text.words(kind_of(key));
         }
         RuleFault::Further => {
-            text.words("there is a further key");
             if let Some(keys) = keys {
-                push_further(text, keys);
+                push_further(text, keys, known_keys(keys));
             }
         }
     }
@@ -138,75 +107,33 @@ fn range_of(key: RuleKey) -> &'static str {
     }
 }
 
-/// The key of the form of a rule.
-fn form_of(keys: &Table) -> RuleKey {
-    for form in [RuleKey::After, RuleKey::Before, RuleKey::Never] {
-        if keys.get(key_text(form)).is_some() {
-            return form;
+/// The keys that a rule may have: those of its form.
+fn known_keys(keys: &Table) -> &'static [&'static str] {
+    if keys.get("after").is_some() {
+        match keys.get("see") {
+            Some(_) => &["name", "after", "within", "see"],
+            None => &["name", "after", "within", "not"],
         }
-    }
-    RuleKey::Count
-}
-
-/// Whether a rule of a form takes a key.
-fn takes(keys: &Table, form: RuleKey, key: RuleKey) -> bool {
-    match (form, key) {
-        (_, RuleKey::Name) => true,
-        (RuleKey::After, RuleKey::After | RuleKey::Within | RuleKey::See) => true,
-        (RuleKey::After, RuleKey::Not) => keys.get("see").is_none(),
-        (RuleKey::Before, RuleKey::Before | RuleKey::Within | RuleKey::See) => true,
-        (RuleKey::Never, RuleKey::Never | RuleKey::From | RuleKey::To) => true,
-        (RuleKey::Count, RuleKey::Count | RuleKey::Least | RuleKey::Most | RuleKey::Every) => true,
-        _ => false,
-    }
-}
-
-/// Whether a rule may have a key with this text.
-fn is_taken(keys: &Table, key: &str) -> bool {
-    let form = form_of(keys);
-    for known in KEYS {
-        if key_text(*known) == key {
-            return takes(keys, form, *known);
-        }
-    }
-    false
-}
-
-/// Adds the first key of a rule that it does not take.
-fn push_further(text: &mut ByteText, keys: &Table) {
-    for (key, _) in keys {
-        if !is_taken(keys, key.as_str()) {
-            text.words(", ");
-            text.quoted(key.as_str().as_bytes());
-            return;
-        }
-    }
-}
-
-/// Adds the first key next to the rules.
-fn push_other_keys(text: &mut ByteText, keys: &Table) {
-    text.words("there is a further key");
-    for (key, _) in keys {
-        if key.as_str() != "rule" {
-            text.words(", ");
-            text.quoted(key.as_str().as_bytes());
-            return;
-        }
+    } else if keys.get("before").is_some() {
+        &["name", "before", "within", "see"]
+    } else if keys.get("never").is_some() {
+        &["name", "never", "from", "to"]
+    } else {
+        &["name", "count", "least", "most", "every"]
     }
 }
 
 /// What is wrong with the pattern at a key of a rule: the declaration has no port for it.
 pub fn unknown_key_message(alloc: Global, rule: usize, key: RuleKey) -> Result<String, AllocError> {
-    let mut text = ByteText::new(alloc);
-    text.words("rules: ");
-    push_rule(&mut text, rule);
+    let mut text = Text::new(alloc);
+    text.placed("rules: ", rule, " rule: ");
     text.words(key_text(key));
     text.words(": the declaration has no port with this pattern");
     text.into_string()
 }
 
 /// Adds a key and its text, which is no pattern.
-fn push_pattern(text: &mut ByteText, keys: Option<&Table>, key: RuleKey) {
+fn push_pattern(text: &mut Text, keys: Option<&Table>, key: RuleKey) {
     text.words(key_text(key));
     text.words(": ");
     if let Some(written) = text_at(keys, key) {

@@ -1,15 +1,11 @@
 //! Where a refusal applies, for every number.
 
-ghost use Rattle.std.specs.Prelude.{IfOk};
-ghost use Rattle.fb_why.specs.Findings.{IsFoundAt};
-
-use crate::TextLocation;
 use fb_check::{Limit, StimulusLocation};
 use fb_check_names::{
     Descent, GivenTwice, Joined, Misfit, Misjoin, UnknownName, Unlinked, Unmapped,
 };
 use fb_inputs::{DeployLocation, StimuliLocation};
-use std::alloc::AllocError;
+use fb_read_positions::TextLocation;
 
 /// A location at which a refusal applies.
 #[derive(Clone, Copy)]
@@ -51,17 +47,4 @@ pub struct Finding {
     pub location: Spot,
     /// The location, and what was expected there, in words.
     pub text: String,
-}
-
-/// A finding at a location, or an error if memory ran out for its text.
-pub(crate) fn found(
-    location: Spot,
-    text: Result<String, AllocError>,
-) -> Result<Option<Finding>, AllocError>
-    ensures { IfOk result (IsFoundAt location) }
-{
-    match text {
-        Ok(text) => Ok(Some(Finding { location, text })),
-        Err(error) => Err(error),
-    }
 }

@@ -7,8 +7,10 @@ pub struct Explanation {
     pub name: &'static str,
     /// What it means.
     pub meaning: &'static str,
-    /// Two inputs that are refused for it, that have the warning, or that stop a run.
-    pub examples: [&'static str; 2],
+    /// An input that is refused for it, that has the warning, or that stops a run.
+    pub example: &'static str,
+    /// Another one.
+    pub other: &'static str,
     /// What to check.
     pub look: &'static str,
 }
@@ -21,46 +23,36 @@ pub static OF_DECLARATIONS: [Explanation; 5] = [
     Explanation {
         name: "E01",
         meaning: "A byte of the declaration is allowed only in comments.",
-        examples: [
-            "A letter with an accent in the name of an instance.",
-            "A form feed between two lines.",
-        ],
+        example: "A letter with an accent in the name of an instance.",
+        other: "A form feed between two lines.",
         look: "The first such byte of the text. Outside comments, only tab, line feed, carriage return and the printable ASCII characters are allowed.",
     },
     Explanation {
         name: "E02",
         meaning: "A part of the declaration is no token.",
-        examples: [
-            "`T#1.5s`: a time literal has whole parts; write `T#1s500ms`.",
-            "A comment `(*` that is not closed.",
-        ],
+        example: "`T#1.5s`: a time literal has whole parts; write `T#1s500ms`.",
+        other: "A comment `(*` that is not closed.",
         look: "The first such part of the text: a literal, a comment, or a character that begins no token.",
     },
     Explanation {
         name: "E03",
         meaning: "The tokens of the declaration are no library. The line is that of the first token that can't be there.",
-        examples: [
-            "`S : E_RESTART` with no `;` after it: the line is that of the next token.",
-            "`VAR_OUTPUT` before `VAR_INPUT`: the sections have a fixed order.",
-        ],
+        example: "`S : E_RESTART` with no `;` after it: the line is that of the next token.",
+        other: "`VAR_OUTPUT` before `VAR_INPUT`: the sections have a fixed order.",
         look: "That line, and the end of the line before it. The grammar is above.",
     },
     Explanation {
         name: "E04",
         meaning: "The declaration has more than 1,048,576 bytes.",
-        examples: [
-            "A text that a tool wrote with long comments.",
-            "A file of another kind, given by mistake.",
-        ],
+        example: "A text that a tool wrote with long comments.",
+        other: "A file of another kind, given by mistake.",
         look: "The size of the file. Comments, blanks and a byte order mark count.",
     },
     Explanation {
         name: "E05",
         meaning: "An expression or a statement nests more than 64 deep.",
-        examples: [
-            "A sum of 65 terms: each `+` contains all terms before it.",
-            "65 statements IF, one inside the other.",
-        ],
+        example: "A sum of 65 terms: each `+` contains all terms before it.",
+        other: "65 statements IF, one inside the other.",
         look: "Long chains of one operator: assign a part to a variable. The branches of one IF or CASE nest no deeper than one of them.",
     },
 ];
@@ -70,64 +62,50 @@ pub static OF_INPUTS: [Explanation; 7] = [
     Explanation {
         name: "E10",
         meaning: "The deployment is not TOML.",
-        examples: [
-            "`name = R1`: a text has quotes, `name = \"R1\"`.",
-            "The same key twice in one table.",
-        ],
+        example: "`name = R1`: a text has quotes, `name = \"R1\"`.",
+        other: "The same key twice in one table.",
         look: "Quotes, brackets and commas. The text is UTF-8, and integers have 64 bits.",
     },
     Explanation {
         name: "E11",
         meaning: "A table of the deployment lacks a key, has an unknown one, or has a value of another kind; or a link leads from a resource to itself.",
-        examples: [
-            "`[[resource]]` with no `device`.",
-            "`latency = \"2\"`: a latency is an integer.",
-        ],
+        example: "`[[resource]]` with no `device`.",
+        other: "`latency = \"2\"`: a latency is an integer.",
         look: "Each `resource` has `device`, `name` and `instances`, each `link` has `from`, `to`, and `latency` or `latencies`, and no other keys. There is at least one `resource`. All texts are names, and a keyword is not a name.",
     },
     Explanation {
         name: "E12",
         meaning: "A latency is not within 1 to 1,000,000 ticks.",
-        examples: [
-            "`latency = 0`: a message takes at least one tick.",
-            "`latency = 3600000`, an hour.",
-        ],
+        example: "`latency = 0`: a message takes at least one tick.",
+        other: "`latency = 3600000`, an hour.",
         look: "The latencies of all links. A tick is one millisecond.",
     },
     Explanation {
         name: "E13",
         meaning: "A row of the stimuli has the wrong shape.",
-        examples: [
-            "A first line other than `tick,event,values`.",
-            "`5,D.STOP` with two fields: the third one may be empty, but needs its comma.",
-        ],
+        example: "A first line other than `tick,event,values`.",
+        other: "`5,D.STOP` with two fields: the third one may be empty, but needs its comma.",
         look: "Each row has a tick, INSTANCE.EVENT, and words NAME=VALUE that are separated by spaces, not by commas.",
     },
     Explanation {
         name: "E14",
         meaning: "A tick or a value of the stimuli is neither a whole number nor a truth value.",
-        examples: [
-            "`DT=T#4ms`: a time is given in ticks, `DT=4`.",
-            "`1.5,D.START,`: a tick is a whole number.",
-        ],
+        example: "`DT=T#4ms`: a time is given in ticks, `DT=4`.",
+        other: "`1.5,D.START,`: a tick is a whole number.",
         look: "A tick is decimal digits. A value is TRUE, FALSE, or decimal digits with or without `-`.",
     },
     Explanation {
         name: "E15",
         meaning: "A deployment or stimuli are over a limit.",
-        examples: [
-            "A stimulus at a tick over 1,000,000,000,000.",
-            "257 resources.",
-        ],
+        example: "A stimulus at a tick over 1,000,000,000,000.",
+        other: "257 resources.",
         look: "The limits are in the table above: of bytes, resources, links, entries of a table of latencies, stimuli and their ticks.",
     },
     Explanation {
         name: "E16",
         meaning: "A table of latencies is empty, does not begin at tick 0, does not rise, or has a tick over 1,000,000,000,000.",
-        examples: [
-            "`latencies = [[10, 1]]`: the first entry holds from tick 0 on.",
-            "`latencies = [[0, 5], [10, 1], [10, 2]]`: the ticks rise strictly.",
-        ],
+        example: "`latencies = [[10, 1]]`: the first entry holds from tick 0 on.",
+        other: "`latencies = [[0, 5], [10, 1], [10, 2]]`: the ticks rise strictly.",
         look: "The first number of each entry. The second one is the latency.",
     },
 ];
@@ -137,109 +115,85 @@ pub static OF_CHECKS: [Explanation; 12] = [
     Explanation {
         name: "E20",
         meaning: "A name, an event connection or a link is given twice.",
-        examples: [
-            "`Ab : E_MERGE; AB : E_MERGE;`: letter case makes no difference.",
-            "A block type called `E_CYCLE`, like one of the event blocks.",
-        ],
+        example: "`Ab : E_MERGE; AB : E_MERGE;`: letter case makes no difference.",
+        other: "A block type called `E_CYCLE`, like one of the event blocks.",
         look: "The names of block types, of ports and variables of a type, of its states, of its algorithms, of instances, in a WITH, of an instance's parameters, and of resources.",
     },
     Explanation {
         name: "E21",
         meaning: "Nothing of the required kind has this name.",
-        examples: [
-            "`F.EO TO W.EJ;` where `W` is an E_SWITCH: it has no event input `EJ`.",
-            "`S.COLD TO C;` in an application: only composites have ports that are named without an instance.",
-        ],
+        example: "`F.EO TO W.EJ;` where `W` is an E_SWITCH: it has no event input `EJ`.",
+        other: "`S.COLD TO C;` in an application: only composites have ports that are named without an instance.",
         look: "Typing errors; an input where an output is required, or the other way round; an event among the data connections; an instance that a resource lists and the application does not have.",
     },
     Explanation {
         name: "E22",
         meaning: "An expression, a statement or a value has the wrong kind.",
-        examples: [
-            "`X := X + B;` where `B` is a BOOL.",
-            "`C : E_CYCLE(DT := TRUE);`: `DT` is a TIME.",
-        ],
+        example: "`X := X + B;` where `B` is a BOOL.",
+        other: "`C : E_CYCLE(DT := TRUE);`: `DT` is a TIME.",
         look: "Operands, conditions, selectors and assigned values; the numbers of arguments; inputs that are assigned; EXIT outside loops; initial values and parameters that their types do not contain.",
     },
     Explanation {
         name: "E23",
         meaning: "A data connection leads to a type that does not contain all values of its source.",
-        examples: [
-            "From a DINT to an INT.",
-            "From an INT to a UINT: it may be negative.",
-        ],
+        example: "From a DINT to an INT.",
+        other: "From an INT to a UINT: it may be negative.",
         look: "The types at the two ends. A range fits a range that contains it; BOOL fits only BOOL.",
     },
     Explanation {
         name: "E24",
         meaning: "Two data connections lead to one port.",
-        examples: [
-            "`A.Q TO W.G; B.Q TO W.G;`: an input has at most one source.",
-            "The same data connection twice.",
-        ],
+        example: "`A.Q TO W.G; B.Q TO W.G;`: an input has at most one source.",
+        other: "The same data connection twice.",
         look: "The ports after TO in the data connections of one network.",
     },
     Explanation {
         name: "E25",
         meaning: "A composite type contains itself, or composites nest more than 16 deep.",
-        examples: [
-            "`FUNCTION_BLOCK F FBS X : F; END_FBS END_FUNCTION_BLOCK`.",
-            "A type that has an instance of a type that has an instance of the first one.",
-        ],
+        example: "`FUNCTION_BLOCK F FBS X : F; END_FBS END_FUNCTION_BLOCK`.",
+        other: "A type that has an instance of a type that has an instance of the first one.",
         look: "The types of the instances in FBS, from type to type. Types that no instance uses count too.",
     },
     Explanation {
         name: "E26",
         meaning: "An instance of the application is in no resource, or in two.",
-        examples: [
-            "A new instance that no `instances` of the deployment lists.",
-            "The same instance in the lists of `R1` and `R2`.",
-        ],
+        example: "A new instance that no `instances` of the deployment lists.",
+        other: "The same instance in the lists of `R1` and `R2`.",
         look: "The lists `instances` of all resources together: each instance of the application is in them once. Components of composites are not listed.",
     },
     Explanation {
         name: "E27",
         meaning: "A connection between two resources has no link.",
-        examples: [
-            "`F.EO TO W.EI;` with `F` in `R1`, `W` in `R2`, and no link from `R1` to `R2`.",
-            "Only a link from `R2` to `R1`: a link goes one way.",
-        ],
+        example: "`F.EO TO W.EI;` with `F` in `R1`, `W` in `R2`, and no link from `R1` to `R2`.",
+        other: "Only a link from `R2` to `R1`: a link goes one way.",
         look: "For each connection of the application, of events and of data, the resources of its two ends.",
     },
     Explanation {
         name: "E28",
         meaning: "A data connection between two resources has no event that brings its value.",
-        examples: [
-            "`F.Q TO W.G;` over a link, with no event connection from `F` to the resource of `W`.",
-            "An event connection of an output event that does not have the variable in its WITH.",
-        ],
+        example: "`F.Q TO W.G;` over a link, with no event connection from `F` to the resource of `W`.",
+        other: "An event connection of an output event that does not have the variable in its WITH.",
         look: "Values go over a link only with events: an output event WITH the variable must lead from the same block to some block of that resource.",
     },
     Explanation {
         name: "E29",
         meaning: "A stimulus does not fit its event input.",
-        examples: [
-            "`5,D.STOP,DT=4`: `DT` is not WITH the event `STOP`.",
-            "A value for an input that a data connection feeds.",
-        ],
+        example: "`5,D.STOP,DT=4`: `DT` is not WITH the event `STOP`.",
+        other: "A value for an input that a data connection feeds.",
         look: "The instance is one of the application, the event one of its event inputs, and each variable is WITH that event, not connected, given once, and of a type that contains the value.",
     },
     Explanation {
         name: "E30",
         meaning: "The application has more than 4,096 instances, or there are more than 100,000 stimuli in a list.",
-        examples: [
-            "A composite of 100 instances, used 41 times.",
-            "4,097 event blocks.",
-        ],
+        example: "A composite of 100 instances, used 41 times.",
+        other: "4,097 event blocks.",
         look: "Instances inside composites count each time that the composite is used, and the composites themselves count too.",
     },
     Explanation {
         name: "file fault",
         meaning: "A file can't be read.",
-        examples: [
-            "A name that no file has, or a folder instead of a file.",
-            "`-` for two files: standard input is read once.",
-        ],
+        example: "A name that no file has, or a folder instead of a file.",
+        other: "`-` for two files: standard input is read once.",
         look: "The names in the call. The declaration is read first, then the deployment, then the stimuli.",
     },
 ];
@@ -249,55 +203,43 @@ pub static OF_RULES: [Explanation; 6] = [
     Explanation {
         name: "E40",
         meaning: "The rules have more than 1,048,576 bytes, or there are more than 1,000.",
-        examples: [
-            "Rules that a tool wrote for each of many ports.",
-            "A file of another kind, given by mistake: the rules come before the traces.",
-        ],
+        example: "Rules that a tool wrote for each of many ports.",
+        other: "A file of another kind, given by mistake: the rules come before the traces.",
         look: "The size of the file, and the number of its `[[rule]]`. A `*` in a pattern matches many ports.",
     },
     Explanation {
         name: "E41",
         meaning: "The rules are no TOML.",
-        examples: [
-            "`see = R2 < VALVE.CLOSED`: a text has quotes, `see = \"R2 < VALVE.CLOSED\"`.",
-            "The same key twice in one rule.",
-        ],
+        example: "`see = R2 < VALVE.CLOSED`: a text has quotes, `see = \"R2 < VALVE.CLOSED\"`.",
+        other: "The same key twice in one rule.",
         look: "Quotes, brackets and commas. The text is UTF-8, and integers have 64 bits.",
     },
     Explanation {
         name: "E42",
         meaning: "A rule lacks a key, has an unknown one, or has a value of another kind; or there is no rule.",
-        examples: [
-            "`after` with both `see` and `not`, or with neither.",
-            "`within = \"10\"`: a number has no quotes.",
-        ],
+        example: "`after` with both `see` and `not`, or with neither.",
+        other: "`within = \"10\"`: a number has no quotes.",
         look: "Each `[[rule]]` has a `name`, and the keys of one form: `after`, `within`, and `see` or `not`; `before`, `within`, `see`; `never`, with `from` and `to` or without; `count`, with `least` or `most` or both, and with `every` or without.",
     },
     Explanation {
         name: "E43",
         meaning: "A text of a rule is not a pattern.",
-        examples: [
-            "`VALVE.CLOSED`: a resource and a sign come first, as in `* < VALVE.CLOSED`.",
-            "`R1 > LAMP.SET ON = TRUE`: a condition has no blanks.",
-        ],
+        example: "`VALVE.CLOSED`: a resource and a sign come first, as in `* < VALVE.CLOSED`.",
+        other: "`R1 > LAMP.SET ON = TRUE`: a condition has no blanks.",
         look: "A pattern is `RESOURCE > PATH.EVENT VAR=value ..`: a name or `*`; `>`, `<` or `*`; two names or more joined by full stops, of which `*` may replace the last ones; then conditions. TRUE and FALSE are compared only by `=` and `<>`.",
     },
     Explanation {
         name: "E44",
         meaning: "A number of a rule is out of its range.",
-        examples: [
-            "`within = -1`: use `before` for a Q before a P.",
-            "`least = 3` with `most = 2`.",
-        ],
+        example: "`within = -1`: use `before` for a Q before a P.",
+        other: "`least = 3` with `most = 2`.",
         look: "`within`, `least` and `most` are 0 to 1,000,000,000,000, `every` is 1 to that, and `least` is not over `most`.",
     },
     Explanation {
         name: "E45",
         meaning: "The declared system has no event that matches a pattern of a rule, or none with all its variables.",
-        examples: [
-            "`R1 > VALVE.CLOSE` where `VALVE` is in `R2`.",
-            "`* < VALVE.CLOSED Q=TRUE` where `Q` is not WITH the event.",
-        ],
+        example: "`R1 > VALVE.CLOSE` where `VALVE` is in `R2`.",
+        other: "`* < VALVE.CLOSED Q=TRUE` where `Q` is not WITH the event.",
         look: "Typing errors; the resource of the instance; `>` for an event output, or `<` for an event input. Without `--decl` the report lists the patterns that no line of a trace matches.",
     },
 ];
@@ -307,118 +249,92 @@ pub static OF_WARNINGS: [Explanation; 13] = [
     Explanation {
         name: "L01",
         meaning: "No event input of the block type samples a data input.",
-        examples: [
-            "A data input that is in no WITH of an event input.",
-            "`REQ WITH A` where the algorithm reads `A` and `B`.",
-        ],
+        example: "A data input that is in no WITH of an event input.",
+        other: "`REQ WITH A` where the algorithm reads `A` and `B`.",
         look: "The WITH lists of the event inputs. An input that nothing samples keeps its initial value or its parameter.",
     },
     Explanation {
         name: "L02",
         meaning: "A data input of an instance has no source, no parameter and no stimulus.",
-        examples: [
-            "`D : E_DELAY;` with no `DT`: the delay is 0.",
-            "An input whose data connection leads to another instance.",
-        ],
+        example: "`D : E_DELAY;` with no `DT`: the delay is 0.",
+        other: "An input whose data connection leads to another instance.",
         look: "The data connections of the network, the parameters of the instance, and, for an instance of the application, the values of the stimuli. The input keeps its initial value.",
     },
     Explanation {
         name: "L03",
         meaning: "A guard reads a data input that the event of its transition does not sample.",
-        examples: [
-            "`IDLE TO RUN := REQ [LEVEL > 3]` where `LEVEL` is WITH another event.",
-            "A guard over an input that is in no WITH.",
-        ],
+        example: "`IDLE TO RUN := REQ [LEVEL > 3]` where `LEVEL` is WITH another event.",
+        other: "A guard over an input that is in no WITH.",
         look: "The WITH of the event in the transition. The guard reads the value of the last event that sampled the input.",
     },
     Explanation {
         name: "L04",
         meaning: "An algorithm reads a data input that an event which leads to it does not sample.",
-        examples: [
-            "`REQ` leads to a state with the action `SUM`, and `SUM` reads an input that is not WITH `REQ`.",
-            "An algorithm for INIT that reads an input of REQ.",
-        ],
+        example: "`REQ` leads to a state with the action `SUM`, and `SUM` reads an input that is not WITH `REQ`.",
+        other: "An algorithm for INIT that reads an input of REQ.",
         look: "The transitions to the states that run the algorithm, and the WITH of their events.",
     },
     Explanation {
         name: "L05",
         meaning: "No transitions lead from the initial state to a state.",
-        examples: [
-            "A new state with transitions that leave it and none that enter it.",
-            "Two states that lead only to each other.",
-        ],
+        example: "A new state with transitions that leave it and none that enter it.",
+        other: "Two states that lead only to each other.",
         look: "The names after TO. The initial state is the first one.",
     },
     Explanation {
         name: "L06",
         meaning: "No transition leaves a state.",
-        examples: [
-            "A chart whose last state has no transition back to the first one.",
-            "A transition that names the wrong state before TO.",
-        ],
+        example: "A chart whose last state has no transition back to the first one.",
+        other: "A transition that names the wrong state before TO.",
         look: "Whether the block is meant to react to no event after it has entered this state.",
     },
     Explanation {
         name: "L07",
         meaning: "A transition is never taken: an earlier one of the same state clears whenever it would.",
-        examples: [
-            "`A TO B := 1; A TO C := REQ;`",
-            "`A TO B := REQ; A TO C := REQ [X > 0];`",
-        ],
+        example: "`A TO B := 1; A TO C := REQ;`",
+        other: "`A TO B := REQ; A TO C := REQ [X > 0];`",
         look: "The order of the transitions that leave the state: the first one that is true clears.",
     },
     Explanation {
         name: "L08",
         meaning: "No transition names an event input.",
-        examples: [
-            "An event input of a type whose chart was not extended.",
-            "`REG` in a transition where `REQ` is meant, if both are event inputs.",
-        ],
+        example: "An event input of a type whose chart was not extended.",
+        other: "`REG` in a transition where `REQ` is meant, if both are event inputs.",
         look: "Whether the event is to do more than sample its variables.",
     },
     Explanation {
         name: "L09",
         meaning: "No action runs an algorithm.",
-        examples: [
-            "An algorithm that was replaced by another one.",
-            "A state whose action names the wrong algorithm.",
-        ],
+        example: "An algorithm that was replaced by another one.",
+        other: "A state whose action names the wrong algorithm.",
         look: "The actions of the states.",
     },
     Explanation {
         name: "L10",
         meaning: "No network has an instance of a block type.",
-        examples: [
-            "A type of a library that this application does not use.",
-            "An instance of `LAMP1` where `LAMP2` is meant.",
-        ],
+        example: "A type of a library that this application does not use.",
+        other: "An instance of `LAMP1` where `LAMP2` is meant.",
         look: "The instances of the application and of the composite types.",
     },
     Explanation {
         name: "L11",
         meaning: "Nothing in a block type uses one of its ports.",
-        examples: [
-            "A data output that no algorithm and no guard names; an event output that no action emits.",
-            "A port of a composite type that no connection inside names.",
-        ],
+        example: "A data output that no algorithm and no guard names; an event output that no action emits.",
+        other: "A port of a composite type that no connection inside names.",
         look: "The algorithms, guards and actions of a basic type; the connections inside a composite type.",
     },
     Explanation {
         name: "L12",
         meaning: "No algorithm assigns a data output WITH an output event.",
-        examples: [
-            "`CNF WITH Q` where each algorithm only reads `Q`.",
-            "An output event with the WITH of another one.",
-        ],
+        example: "`CNF WITH Q` where each algorithm only reads `Q`.",
+        other: "An output event with the WITH of another one.",
         look: "The assignments of the algorithms: the event carries initial values only.",
     },
     Explanation {
         name: "L13",
         meaning: "No connection crosses a link.",
-        examples: [
-            "A link that is left from an earlier mapping.",
-            "A link from `R2` to `R1` where all connections lead from `R1` to `R2`.",
-        ],
+        example: "A link that is left from an earlier mapping.",
+        other: "A link from `R2` to `R1` where all connections lead from `R1` to `R2`.",
         look: "The resources of the two ends of each connection of the application.",
     },
 ];
@@ -428,28 +344,22 @@ pub static OF_STOPS: [Explanation; 3] = [
     Explanation {
         name: "steps",
         meaning: "A resource used up its steps in one tick, and the run stopped.",
-        examples: [
-            "`WHILE TRUE DO X := X + 1; END_WHILE`: the loop does not end.",
-            "Two blocks that raise each other's events with no delay between them.",
-        ],
+        example: "`WHILE TRUE DO X := X + 1; END_WHILE`: the loop does not end.",
+        other: "Two blocks that raise each other's events with no delay between them.",
         look: "Event connections that lead in a circle without an E_DELAY or a link; charts that go round by transitions without an event; loops. Each event, tried transition, action, statement and turn of a loop is a step. If the work of a tick is just large, give `--steps`: the default is 10,000 for each tick of a resource.",
     },
     Explanation {
         name: "divide",
         meaning: "A divisor was 0 in an algorithm or a guard, and the run stopped.",
-        examples: [
-            "`Q := GOOD / TOTAL;` before `TOTAL` has counted anything.",
-            "`A / (B - C)` where `B` equals `C`.",
-        ],
+        example: "`Q := GOOD / TOTAL;` before `TOTAL` has counted anything.",
+        other: "`A / (B - C)` where `B` equals `C`.",
         look: "The last line `>` of the trace: the block of that line stopped. Test each divisor of `/` with IF, or in the guard, before it divides. MOD never stops a run: `A MOD 0` is 0.",
     },
     Explanation {
         name: "range",
         meaning: "A number did not fit in an algorithm or a guard, and the run stopped.",
-        examples: [
-            "`N := N + 1;` where `N` is a USINT that holds 255.",
-            "`D := A - B;` where `D` is a UINT and `B` is greater than `A`.",
-        ],
+        example: "`N := N + 1;` where `N` is a USINT that holds 255.",
+        other: "`D := A - B;` where `D` is a UINT and `B` is greater than `A`.",
         look: "The last line `>` of the trace: the block of that line stopped. Compare the assigned values with the ranges of their variables. Between assignments numbers have 128 bits.",
     },
 ];

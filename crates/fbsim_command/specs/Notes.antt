@@ -7,7 +7,7 @@ use Rattle.fb_why.specs.declared.listing.Findings.{Findings}
 use Rattle.fb_why.specs.declared.place.PlacedFinding.{PlacedFinding}
 use Rattle.fb_why.specs.Places.{IsPlacedFinding}
 use Rattle.fb_why.specs.declared.spot.Spot.{Spot}
-use Rattle.fb_why.specs.declared.text_locations.TextLocation.{TextLocation}
+use Rattle.fb_read_positions.specs.declared.text_locations.TextLocation.{TextLocation}
 use Rattle.fbsim_command.specs.InputNotes.{FileNames, IsNoteThere}
 use Rattle.fbsim_command.specs.OwnLines.{IsPlaced}
 use Rattle.fbsim_command.specs.declared.failure.Failure.{Failure}

@@ -10,9 +10,9 @@ use Rattle.fb_stop.specs.Places.{IsStopPosition}
 use Rattle.fb_stop.specs.Shown.{IsStopShown}
 use Rattle.fb_stop.specs.declared.found.FoundStop.{FoundStop}
 use Rattle.fb_stop.specs.declared.shown.Shown.{Shown}
-use Rattle.fb_why.specs.Places.{IsPlaceAt}
-use Rattle.fb_why.specs.Locations.{IsLocation, IsStretch}
-use Rattle.fb_why.specs.declared.text_locations.TextLocation.{TextLocation}
+use Rattle.fb_read_positions.specs.Locations.{IsPlaceAt}
+use Rattle.fb_read_positions.specs.Locations.{IsLocation, IsStretch}
+use Rattle.fb_read_positions.specs.declared.text_locations.TextLocation.{TextLocation}
 use Rattle.fbsim_command.specs.Outcomes.{End}
 use Rattle.fbsim_command.specs.OwnLines.{IsPlaced}
 use Rattle.fbsim_command.specs.declared.line.Action.{Action}

@@ -11,9 +11,9 @@ use Rattle.fb_lint.specs.declared.warning.Warning.TheVariants.{UnusedLink}
 use Rattle.fb_inputs.specs.declared.deploy_location.TableLocation.TheVariants as table
 use Rattle.fb_inputs.specs.declared.position.DeployPosition.TheVariants as position
 use Rattle.fb_read_positions.specs.declared.position.Position.{Position}
-use Rattle.fb_why.specs.Places.{IsPlaceAt}
+use Rattle.fb_read_positions.specs.Locations.{IsPlaceAt}
 use Rattle.fb_why.specs.InputStretches.{IsDeployPlace}
-use Rattle.fb_why.specs.declared.text_locations.TextLocation.{TextLocation}
+use Rattle.fb_read_positions.specs.declared.text_locations.TextLocation.{TextLocation}
 use Rattle.fb_sim.specs.Given.{Given}
 use Rattle.fb_sim.specs.Serial.{Declares}
 use Rattle.fbsim_command.specs.Joining.{IsLineOf, name_at}

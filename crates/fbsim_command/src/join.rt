@@ -6,8 +6,8 @@ ghost use Rattle.fbsim_command.specs.Joining as spec;
 ghost use Rattle.fbsim_command.specs.Joining.{IsLineOf};
 ghost use Rattle.fbsim_command.specs.Texts.{texts_of};
 
+use fb_read_positions::after_mark;
 use fb_types::MOST_BYTES;
-use fb_why::after_mark;
 use std::alloc::{AllocError, Global};
 
 /// What the next byte is in.

@@ -12,7 +12,8 @@ use crate::input_notes::{InputNames, note_there};
 use crate::own_lines::note_at;
 use crate::sources::SourceFault;
 use crate::texts::{Part, Texts, Unread};
-use fb_why::{Findings, PlacedFinding, TextLocation, discard_findings, excerpt, findings_of};
+use fb_read_positions::{TextLocation, excerpt};
+use fb_why::{Findings, PlacedFinding, discard_findings, findings_of};
 use std::alloc::{AllocError, Global};
 
 /// The number of a fault of the grammar, whose line says where it is also.

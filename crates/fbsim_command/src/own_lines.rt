@@ -9,7 +9,7 @@ use crate::failure::{Failure, RefusalLine};
 use crate::join::{file_name, line_in_file};
 use crate::statuses::Done;
 use crate::texts::Texts;
-use fb_why::TextLocation;
+use fb_read_positions::TextLocation;
 use std::alloc::Global;
 
 /// The failure for a syntax fault in this line of a file.

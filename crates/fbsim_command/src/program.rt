@@ -244,10 +244,11 @@ fn explain_to<W: Write>(alloc: Global, name: &str, out: &mut W) -> Result<Done, 
     let Explanation {
         name,
         meaning,
-        examples: [first, second],
+        example,
+        other,
         look,
     } = explanation;
-    let text = explained(alloc, name, meaning, first, second, look)?;
+    let text = explained(alloc, name, meaning, example, other, look)?;
     write_text(out, text.as_bytes())?;
     Ok(Done::Explained)
 }

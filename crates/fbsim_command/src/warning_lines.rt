@@ -7,10 +7,10 @@ use crate::call_names::Naming;
 use crate::join::{file_name, line_in_file};
 use fb_inputs::{DeployPosition, TableLocation};
 use fb_lint::{Warning, line_of, position_of};
+use fb_read_positions::{TextLocation, place_at};
 use fb_sim::Inputs;
 use fb_types::{Library, Plan};
-use fb_why::place::place_at;
-use fb_why::{TextLocation, place_in_deployment};
+use fb_why::place_in_deployment;
 use std::alloc::{AllocError, Global};
 
 /// A file, a line and a column, as editors take them.

@@ -19,5 +19,5 @@ returns c =
     let all = passed_on ps from k ts new c.before-from.ensures.reached c.before-from.ensures.below (c.new-cursor.ensures ∙ ap tokens_of c.last.ensures) passed in
     record {
       at = (here, in_block ps c.args.position k new here c.requires.inside all e, sym c.left-2.ensures);
-      reached = record { blocks = (new, all, sym c.left.ensures); network = c.before-from.ensures.reached.network };
+      reached = record { blocks = (new, all, sym c.left.ensures); listed = c.before-from.ensures.reached.listed };
     }

@@ -7,4 +7,4 @@ pub returns-clause-found : goal.returns-clause-found
 returns-clause-found c =
     let plan = option_map (λ (b : Bor (List ℕ)). b.now) c.args.deploy in
     let rows = option_map (λ (b : Bor (List ℕ)). b.now) c.args.stimuli in
-    numbered c.cause_of.result c.args.number c.args.declaration.now plan rows c.findings_by.result c.cause_of.ensures c.findings_by.ensures.found
+    numbered c.cause_of-cause.result c.args.number c.args.declaration.now plan rows c.findings_by.result c.cause_of-cause.ensures c.findings_by.ensures.found

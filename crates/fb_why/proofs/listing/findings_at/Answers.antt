@@ -13,7 +13,7 @@ pub loop-location-init : goal.loop-location-init
 loop-location-init c = (
   ap (map (λ (r : PlacedFinding). r.finding.location)) c.new-all.ensures.items,
   subst (λ (rs : List PlacedFinding). All (IsPlacedFinding c.args.declaration.now) rs) (sym c.new-all.ensures.items) (All-nil (IsPlacedFinding c.args.declaration.now)),
-  c.beginning-reached.ensures,
+  c.no_place-found.ensures c.args.declaration.now,
 )
 
 pub loop-location-preserved : goal.loop-location-preserved
@@ -27,7 +27,7 @@ loop-location-preserved c =
       subst (λ (rs : List PlacedFinding). All (IsPlacedFinding text) rs) (sym c.in_ok-push.ensures.items)
           (All-push (IsPlacedFinding text) c.loop-location.all.items r c.loop-location.invariant.1
           (placed_at text r _ c.in_ok-found.found.place c.in_ok-finding_at.ensures.found c.in_ok-finding_at.ensures.placed (c.in_ok-found.ensures.place c.requires.read))),
-      c.in_ok-found.ensures.reached,
+      c.in_ok-found.ensures.found,
     )
 
 pub returns-clause-found : goal.returns-clause-found

@@ -1,6 +1,6 @@
 use Rattle.std.proofs.Common.{List, Option, Some, None, ℕ, map, string_bytes, refl, subst}
 use Rattle.std.specs.Prelude.{IfSome}
-use Rattle.fb_why.specs.declared.text_locations.TextLocation.{TextLocation}
+use Rattle.fb_read_positions.specs.declared.text_locations.TextLocation.{TextLocation}
 use Rattle.fbsim_command.specs.OwnLines.{IsPlaced}
 use Rattle.fbsim_command.specs.Stops.{IsStopPlace}
 use Rattle.fbsim_command.specs.Texts.{given_of, lines_of}

@@ -1,0 +1,53 @@
+-- Locations in a text, with their lines and columns (this project's own).
+use Rattle.std.specs.Prelude.{◌≡◌, ◌≤◌, ℕ, List, IfSome, ◌+◌, ◌==◌, not, length, take, count_by}
+use Rattle.std.specs.List.{suffix_len}
+use Rattle.fb_read.specs.Blank.{Text}
+use Rattle.fb_read.specs.Tokens.{after_mark}
+use Rattle.fb_read.specs.declared.token.Located.{Located}
+use Rattle.fb_read.specs.declared.token.Span.{Span}
+use Rattle.fb_types.specs.declared.library.Library.{Library}
+use Rattle.fb_read_positions.specs.Places.{IsAt}
+use Rattle.fb_read_positions.specs.Resumed.{IsReached}
+use Rattle.fb_read_positions.specs.declared.place.FoundPlace.{FoundPlace}
+use Rattle.fb_read_positions.specs.declared.position.Position.{Position}
+use Rattle.fb_read_positions.specs.declared.text_locations.Counted.{Counted}
+use Rattle.fb_read_positions.specs.declared.text_locations.TextLocation.{TextLocation}
+
+-- the line of the byte at an offset: one more than there are line feeds before it
+abbrev pub line_at : Text → ℕ → ℕ
+line_at text offset = 1 + count_by (λ b. b == 10) (take offset text)
+
+-- its column: one more than there are bytes between it and the line feed before it
+abbrev pub column_at : Text → ℕ → ℕ
+column_at text offset = 1 + suffix_len (λ b. not (b == 10)) (take offset text)
+
+-- the line and the column at an offset
+pub record IsCounted (text : Text) (offset : ℕ) (c : Counted) : Type 0 where
+  pub line : c.line ≡ line_at text offset
+  pub column : c.column ≡ column_at text offset
+
+-- The location is in the text, after its byte order mark, and its line and its column are those at which it begins.
+pub record IsLocation (text : Text) (location : TextLocation) : Type 0 where
+  pub columns : length text ≤ location.start + length (after_mark text)
+  pub ordered : location.start ≤ location.end
+  pub within : location.end ≤ length text
+  pub line : location.line ≡ line_at text location.start
+  pub column : location.column ≡ column_at text location.start
+
+-- it is between these offsets
+pub record IsStretch (start end : ℕ) (location : TextLocation) : Type 0 where
+  pub start_is : location.start ≡ start
+  pub end_is : location.end ≡ end
+
+-- The place is that of the token at the position, with its line and its column. If the library has a name at this
+-- position, the token is this name.
+pub record IsPlaceAt (text : Text) (library : Library) (position : Position) (place : TextLocation) : Type 0 where
+  pub span : Span
+  pub at : IsAt text library position span
+  pub there : IsStretch span.start span.end place
+  pub located : IsLocation text place
+
+-- A place in the text, if there is one, and how far the tokens were read for it.
+pub record IsFound (text : Text) (tokens : List Located) (f : FoundPlace) : Type 0 where
+  pub place : IfSome f.place (IsLocation text)
+  pub reached : IsReached tokens f.reached

@@ -1,0 +1,98 @@
+//! Where a position is in the text of a declaration, with its line and its column.
+
+ghost use Rattle.std.specs.Prelude.{◌≤◌, IfOk, IfSome, length};
+ghost use Rattle.fb_read.specs.Blank.{Text};
+ghost use Rattle.fb_read.specs.Located.{AreLocated};
+ghost use Rattle.fb_read.specs.Tokens.{after_mark};
+ghost use Rattle.fb_read.specs.Whole.{most_bytes};
+ghost use Rattle.fb_read_positions.specs.Locations.{IsFound, IsLocation, IsPlaceAt};
+ghost use Rattle.fb_read_positions.specs.Places.{IsAt};
+ghost use Rattle.fb_read_positions.specs.declared.position.Position.{Position};
+ghost use Rattle.fb_types.specs.declared.library.Library.{Library};
+
+use crate::find::{span_from, span_of};
+use crate::position::Position;
+use crate::resume::{Reached, beginning};
+use crate::text_locations::{TextLocation, location_at, location_from};
+use fb_read::token::{Located, Span};
+use fb_types::Library;
+use std::alloc::{AllocError, Global};
+
+/// Where a position of a library is in the text that declares it.
+///
+/// # Errors
+///
+/// When memory runs out.
+pub fn place_at(
+    alloc: Global,
+    declaration: &[u8],
+    library: &Library,
+    position: Position,
+) -> Result<Option<TextLocation>, AllocError>
+    ensures { IfOk result (λ o. IfSome o (IsPlaceAt declaration.now library.now position)) }
+{
+    match span_of(alloc, declaration, library, position)? {
+        Some(span) => Ok(location_at(declaration, span.start, span.end)),
+        None => Ok(None),
+    }
+}
+
+/// A place in a text, and how far the text was read for it.
+#[derive(Clone, Copy)]
+pub struct FoundPlace {
+    /// The place. `None` if there is none in the text.
+    pub place: Option<TextLocation>,
+    /// How far the text was read.
+    pub reached: Reached,
+}
+
+/// Before all places.
+pub fn no_place(tokens: &[Located]) -> FoundPlace
+    ensures { (text : Text) → IsFound text tokens.now result }
+{
+    FoundPlace {
+        place: None,
+        reached: beginning(tokens),
+    }
+}
+
+/// The place of these bytes, if there are any, with lines that are counted on from an earlier place.
+fn place_of(
+    declaration: &[u8],
+    earlier: Option<TextLocation>,
+    span: Option<Span>,
+) -> Option<TextLocation>
+    requires { IfSome earlier (IsLocation declaration.now) }
+    ensures { (position : Position) (library : Library) → IfSome span (IsAt declaration.now library position) → IfSome result (IsPlaceAt declaration.now library position) }
+{
+    match span {
+        Some(span) => location_from(declaration, earlier, span.start, span.end),
+        None => None,
+    }
+}
+
+/// Where a position of a library is, from the tokens of the text that declares it, and from where an earlier place was found.
+///
+/// # Errors
+///
+/// When memory runs out.
+pub fn place_from(
+    alloc: Global,
+    declaration: &[u8],
+    tokens: &[Located],
+    library: &Library,
+    from: FoundPlace,
+    position: Position,
+) -> Result<FoundPlace, AllocError>
+    requires few { length tokens.now ≤ most_bytes }
+    requires located { AreLocated declaration.now tokens.now (after_mark declaration.now) }
+    requires from { IsFound declaration.now tokens.now from }
+    ensures place { IfOk result (λ f. IfSome f.place (IsPlaceAt declaration.now library.now position)) }
+    ensures found { IfOk result (IsFound declaration.now tokens.now) }
+{
+    let found = span_from(alloc, declaration, tokens, library, from.reached, position)?;
+    Ok(FoundPlace {
+        place: place_of(declaration, from.place, found.span),
+        reached: found.reached,
+    })
+}

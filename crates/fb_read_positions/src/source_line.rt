@@ -1,0 +1,71 @@
+//! The source line of a location, with a mark.
+
+use crate::text_locations::TextLocation;
+use crate::words::{Text, front, shown};
+use std::alloc::{AllocError, Global};
+
+/// The most bytes of a line that are shown.
+const MOST_OF_LINE: usize = 200;
+
+/// How many of them are before the location, if the line is cut.
+const MOST_BEFORE: usize = 100;
+
+/// The bytes of a text from an offset up to the end of the line. A carriage return at the end is no part of it.
+fn rest_of_line(bytes: &[u8], from: usize) -> &[u8] {
+    let rest = bytes.get(from..).unwrap_or(&[]);
+    let line = match rest.iter().position(|b| *b == b'\n') {
+        Some(len) => rest.get(..len).unwrap_or(rest),
+        None => rest,
+    };
+    match line {
+        [before @ .., b'\r'] => before,
+        _ => line,
+    }
+}
+
+/// The offset in a line of this length from which on it is shown.
+fn first_shown(len: usize, at: usize) -> usize {
+    at.saturating_sub(MOST_BEFORE)
+        .min(len.saturating_sub(MOST_OF_LINE))
+}
+
+/// How a byte of a line is shown. A tab stays one.
+fn shown_in_line(byte: u8) -> u8 {
+    if byte == b'\t' { byte } else { shown(byte) }
+}
+
+/// Adds the line of a text that begins at an offset, cut round the byte at the other offset, and a line with a mark under
+/// this byte. A tab before the byte is a tab in the line of the mark too, so that the mark stands under the byte.
+fn push_marked(text: &mut Text, bytes: &[u8], start: usize, marked: usize) {
+    let line = rest_of_line(bytes, start);
+    let at = marked.saturating_sub(start);
+    let first = first_shown(line.len(), at);
+    for byte in front(line.get(first..).unwrap_or(&[]), MOST_OF_LINE) {
+        text.letter(shown_in_line(*byte));
+    }
+    text.letter(b'\n');
+    for index in first..at {
+        text.letter(match line.get(index) {
+            Some(b'\t') => b'\t',
+            _ => b' ',
+        });
+    }
+    text.letter(b'^');
+}
+
+/// The line in which a location begins, and a line with a mark under its first byte.
+///
+/// # Errors
+///
+/// When memory runs out.
+pub fn excerpt(alloc: Global, bytes: &[u8], location: TextLocation) -> Result<String, AllocError> {
+    let mut text = Text::new(alloc);
+    let before = location.column.saturating_sub(1);
+    push_marked(
+        &mut text,
+        bytes,
+        location.start.saturating_sub(before),
+        location.start,
+    );
+    text.into_string()
+}

@@ -1,0 +1,133 @@
+//! Locations in a text.
+
+ghost use Rattle.std.specs.Prelude.{◌≡◌, ◌≤◌, ◌<◌, ◌+◌, IfSome, length};
+ghost use Rattle.fb_read.specs.Blank as spec;
+ghost use Rattle.fb_read.specs.Tokens.{after_mark};
+ghost use Rattle.fb_read_positions.specs.Locations.{IsCounted, IsLocation, IsStretch};
+
+/// A location in a text: the bytes from `start` up to `end`, both offsets in bytes. It is empty at the end of the text.
+#[derive(Clone, Copy)]
+pub struct TextLocation {
+    /// The offset of the first byte.
+    pub start: usize,
+    /// The offset past the last byte.
+    pub end: usize,
+    /// The line of `start`, counted from 1 by line feeds.
+    pub line: usize,
+    /// The column of `start`, counted from 1 by bytes.
+    pub column: usize,
+}
+
+/// The byte at an index, or 0 past the end.
+fn at(bytes: &[u8], i: usize) -> u8
+    ensures value { result ≡ spec.at bytes.now i }
+    ensures within { 0 < result → i < length bytes.now }
+{
+    if i < bytes.len() { bytes[i] } else { 0 }
+}
+
+/// What follows one leading byte order mark.
+pub fn after_mark(text: &[u8]) -> &[u8]
+    ensures value { result.now ≡ after_mark text.now }
+    ensures shorter { length result.now ≤ length text.now }
+{
+    if at(text, 0) == 0xEF && at(text, 1) == 0xBB && at(text, 2) == 0xBF {
+        &text[3..]
+    } else {
+        text
+    }
+}
+
+/// The line and the column at an offset of a text, both counted from 1: lines by line feeds, columns by bytes.
+#[derive(Clone, Copy)]
+pub struct Counted {
+    pub line: usize,
+    pub column: usize,
+}
+
+/// The line and the column at an offset, from those at an earlier one.
+fn count_to(text: &[u8], from: usize, to: usize, earlier: Counted) -> Counted
+    requires ordered { from ≤ to }
+    requires within { to ≤ length text.now }
+    requires there { IsCounted text.now from earlier }
+    ensures { IsCounted text.now to result }
+{
+    let mut line = earlier.line;
+    let mut column = earlier.column;
+    for at in from..to {
+        if text[at] == b'\n' {
+            line += 1;
+            column = 1;
+        } else {
+            column += 1;
+        }
+    }
+    Counted { line, column }
+}
+
+/// The line and the column at an offset, counted on from an earlier location, if there is one that is not after it.
+fn count_from(text: &[u8], earlier: Option<TextLocation>, to: usize) -> Counted
+    requires within { to ≤ length text.now }
+    requires earlier { IfSome earlier (IsLocation text.now) }
+    ensures { IsCounted text.now to result }
+{
+    match earlier {
+        Some(from) if from.start <= to => {
+            let TextLocation { line, column, .. } = from;
+            count_to(text, from.start, to, Counted { line, column })
+        }
+        _ => {
+            let start = Counted { line: 1, column: 1 };
+            count_to(text, 0, to, start)
+        }
+    }
+}
+
+/// The location of the bytes between two offsets of a text.
+pub fn location_in(text: &[u8], start: usize, end: usize) -> TextLocation
+    requires columns { length text.now ≤ start + length (after_mark text.now) }
+    requires ordered { start ≤ end }
+    requires within { end ≤ length text.now }
+    ensures location { IsLocation text.now result }
+    ensures there { IsStretch start end result }
+{
+    let Counted { line, column } = count_from(text, None, start);
+    TextLocation {
+        start,
+        end,
+        line,
+        column,
+    }
+}
+
+/// The bytes between two offsets, if the text has them after its byte order mark. Lines are counted on from an earlier
+/// location, if one is given.
+pub fn location_from(
+    text: &[u8],
+    earlier: Option<TextLocation>,
+    start: usize,
+    end: usize,
+) -> Option<TextLocation>
+    requires { IfSome earlier (IsLocation text.now) }
+    ensures location { IfSome result (IsLocation text.now) }
+    ensures there { IfSome result (λ location. IsStretch start end location) }
+{
+    if start > end || end > text.len() || start < text.len() - after_mark(text).len() {
+        return None;
+    }
+    let Counted { line, column } = count_from(text, earlier, start);
+    Some(TextLocation {
+        start,
+        end,
+        line,
+        column,
+    })
+}
+
+/// The bytes between two offsets, if the text has them after its byte order mark.
+pub fn location_at(text: &[u8], start: usize, end: usize) -> Option<TextLocation>
+    ensures location { IfSome result (IsLocation text.now) }
+    ensures there { IfSome result (λ location. IsStretch start end location) }
+{
+    location_from(text, None, start, end)
+}

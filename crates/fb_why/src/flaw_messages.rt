@@ -1,0 +1,223 @@
+//! The text for a location in inputs that can be read (E20 to E30): words for a position, and what is wrong there.
+
+use crate::kind_messages::{push_misfit, push_misjoin};
+use crate::place::position_of;
+use crate::spot::Spot;
+use crate::stimulus_messages::push_stimulus;
+use crate::unknown_messages::push_unknown;
+use fb_check::{Case, Limit};
+use fb_check_names::{Descent, FlowKind, GivenTwice, InBlock, Joined, Repeat, Unlinked, Unmapped};
+use fb_read_positions::finding_positions::port_at;
+use fb_read_positions::headings::{network_at, push_position, site_position};
+use fb_read_positions::{BlockTypes, NetworkPart, PortPart, Position, Text, name_at};
+use fb_types::{Library, Name, Network, Plan, PortName, ResourceEntry};
+use std::alloc::{AllocError, Global};
+
+const AGAIN: &str = " is given twice";
+
+/// The kind of the port or variable at a position.
+fn kind_at(position: Position) -> &'static str {
+    match position {
+        Position::InPorts(_, PortPart::EventInput(_)) => "an event input",
+        Position::InPorts(_, PortPart::EventOutput(_)) => "an event output",
+        Position::InPorts(_, PortPart::Input(_)) => "a data input",
+        Position::InPorts(_, PortPart::Output(_)) => "a data output",
+        _ => "an internal variable",
+    }
+}
+
+fn push_ports(text: &mut Text, library: &Library, block: usize, pair: Repeat) -> Option<()> {
+    let ports = library.blocks.get(block)?.ports();
+    let (first, second) = pair;
+    let first = port_at(block, ports, first);
+    text.named(": ", name_at(first, library)?);
+    text.words(AGAIN);
+    text.words(", as ");
+    text.words(kind_at(first));
+    text.words(" and as ");
+    text.words(kind_at(port_at(block, ports, second)));
+    Some(())
+}
+
+/// Adds that something is given twice (E20).
+fn push_given(text: &mut Text, library: &Library, plan: &Plan, given: GivenTwice) -> Option<()> {
+    match given {
+        GivenTwice::EventBlock(_) => {
+            text.words(": an event block has this name");
+            return Some(());
+        }
+        GivenTwice::Block(block, InBlock::Port(pair)) => {
+            return push_ports(text, library, block, pair);
+        }
+        GivenTwice::Resource((_, resource)) => {
+            text.named("resource ", &plan.resources.get(resource)?.name);
+        }
+        GivenTwice::Link((_, link)) => {
+            let link = plan.links.get(link)?;
+            text.named("link from ", &link.from);
+            text.named(" to ", &link.to);
+        }
+        _ => {}
+    }
+    text.words(AGAIN);
+    Some(())
+}
+
+/// Adds which two data connections lead to one port (E24).
+fn push_joined(text: &mut Text, library: &Library, joined: Joined) -> Option<()> {
+    let network = network_at(library, joined.site)?;
+    let (first, second) = joined.connections;
+    text.connection(": data connections ", network.data_connections.get(first)?);
+    text.connection(" and ", network.data_connections.get(second)?);
+    text.words(" lead to one port");
+    Some(())
+}
+
+/// Adds that a composite type is too high (E25).
+fn push_descent(text: &mut Text, library: &Library, descent: Descent) -> Option<()> {
+    match descent {
+        Descent::Circle(block, _) => {
+            text.named(": ", library.blocks.get(block)?.type_name());
+            text.words(" contains itself through it");
+        }
+        Descent::Height(_, _) => text.words(": composites nest more than 16 deep through it"),
+    }
+    Some(())
+}
+
+/// The resource and the name at an index in the lists of all resources, one after another.
+fn listed_at(plan: &Plan, location: usize) -> Option<(&ResourceEntry, &Name)> {
+    let mut rest = location;
+    for resource in plan.resources.as_slice() {
+        let names = resource.instances.as_slice();
+        if rest < names.len() {
+            return Some((resource, &names[rest]));
+        }
+        rest -= names.len();
+    }
+    None
+}
+
+/// Adds how an instance is not mapped to one resource (E26).
+fn push_unmapped(text: &mut Text, plan: &Plan, unmapped: Unmapped) -> Option<()> {
+    let Unmapped::Again((first, second)) = unmapped else {
+        text.words(": no resource lists it");
+        return Some(());
+    };
+    let (one, name) = listed_at(plan, first)?;
+    let (other, _) = listed_at(plan, second)?;
+    text.named(": instance ", name);
+    text.named(": resource ", &one.name);
+    if one.name.is(&other.name) {
+        text.words(" lists it twice");
+    } else {
+        text.named(" lists it, and so does resource ", &other.name);
+    }
+    Some(())
+}
+
+/// The resource that lists the component at an end, or else the first one.
+fn resource_of<'a>(plan: &'a Plan, end: &PortName) -> Option<&'a ResourceEntry> {
+    if let Some(component) = &end.component {
+        for resource in plan.resources.as_slice() {
+            for name in resource.instances.as_slice() {
+                if name.is(component) {
+                    return Some(resource);
+                }
+            }
+        }
+    }
+    plan.resources.get(0)
+}
+
+/// Adds words, and the resource that holds the component at an end of a connection of the application.
+fn push_resource(text: &mut Text, words: &str, plan: &Plan, end: &PortName) {
+    if let Some(resource) = resource_of(plan, end) {
+        text.named(words, &resource.name);
+    }
+}
+
+/// Adds which link a connection would need (E27).
+fn push_unlinked(text: &mut Text, network: &Network, plan: &Plan, at: Unlinked) -> Option<()> {
+    let connection = match at.flow {
+        FlowKind::Events => network.event_connections.get(at.connection)?,
+        FlowKind::Data => network.data_connections.get(at.connection)?,
+    };
+    text.words(": there is no link");
+    push_resource(text, " from resource ", plan, &connection.from);
+    push_resource(text, " to resource ", plan, &connection.to);
+    Some(())
+}
+
+/// Adds which event could serve a data connection (E28).
+fn push_unserved(text: &mut Text, network: &Network, plan: &Plan, at: usize) -> Option<()> {
+    let connection = network.data_connections.get(at)?;
+    text.words(": no output event");
+    if let Some(component) = &connection.from.component {
+        text.named(" of ", component);
+    }
+    text.named(" WITH ", &connection.from.port);
+    push_resource(text, " goes to resource ", plan, &connection.to);
+    Some(())
+}
+
+/// Adds what is wrong at a location, which is at this position if it is in the declaration.
+fn push_flaw(
+    alloc: Global,
+    text: &mut Text,
+    types: &BlockTypes,
+    case: &Case,
+    location: Spot,
+    position: Option<Position>,
+) -> Option<()> {
+    let (library, plan) = (case.library, case.plan);
+    let network = &library.application.network;
+    match location {
+        Spot::Twice(given) => push_given(text, library, plan, given)?,
+        Spot::Unknown(name) => push_unknown(alloc, text, types, plan, name, position)?,
+        Spot::Misfit(misfit) => push_misfit(alloc, text, types, misfit)?,
+        Spot::Misjoin(misjoin) => push_misjoin(text, types, misjoin)?,
+        Spot::Joined(joined) => push_joined(text, library, joined)?,
+        Spot::TooHigh(descent) => push_descent(text, library, descent)?,
+        Spot::Unmapped(unmapped) => push_unmapped(text, plan, unmapped)?,
+        Spot::Unlinked(unlinked) => push_unlinked(text, network, plan, unlinked)?,
+        Spot::Unserved(connection) => push_unserved(text, network, plan, connection)?,
+        Spot::Stimulus(at) => push_stimulus(text, types, case.stimuli, at)?,
+        Spot::Limit(Limit::Instances) => {
+            text.words("application: there are more than 4,096 instances, components included");
+        }
+        Spot::Limit(Limit::Stimuli) => text.words("there are more than 100,000 rows"),
+        Spot::Text(_) | Spot::Deployment(_) | Spot::Stimuli(_) => {}
+    }
+    Some(())
+}
+
+/// The position whose words come first: mostly the one at which the location is shown.
+fn heading_of(location: Spot, position: Option<Position>) -> Option<Position> {
+    match location {
+        Spot::Twice(GivenTwice::Block(block, InBlock::Port(_))) => Some(Position::Block(block)),
+        Spot::Joined(joined) => Some(site_position(joined.site)),
+        Spot::Unmapped(Unmapped::Again(_)) => Some(Position::Application),
+        Spot::TooHigh(Descent::Circle(block, instance) | Descent::Height(block, instance)) => {
+            Some(Position::InComposite(block, NetworkPart::InstanceType(instance)))
+        }
+        Spot::Limit(_) => None,
+        _ => position,
+    }
+}
+
+/// Says where the refusal applies, and what is wrong there.
+pub(crate) fn flaw_message(
+    alloc: Global,
+    types: &BlockTypes,
+    case: &Case,
+    location: Spot,
+) -> Result<String, AllocError> {
+    let mut text = Text::new(alloc);
+    let position = position_of(case.library, location);
+    if let Some(heading) = heading_of(location, position) {
+        push_position(&mut text, case.library, heading);
+    }
+    push_flaw(alloc, &mut text, types, case, location, position);
+    text.into_string()
+}

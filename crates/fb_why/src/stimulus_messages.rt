@@ -1,0 +1,109 @@
+//! The text for a stimulus that does not fit (E29).
+
+use fb_check::{StimulusFault, StimulusLocation};
+use fb_check_types::variable_type;
+use fb_read_positions::{BlockTypes, Text};
+use fb_types::{Library, Setting, Stimulus, Ty, instance_named};
+
+/// Adds what is wrong with the stimulus at this location. Rows are counted from 0 after the heading, as in the keys of
+/// events.
+pub(crate) fn push_stimulus(
+    text: &mut Text,
+    types: &BlockTypes,
+    stimuli: &[Stimulus],
+    location: StimulusLocation,
+) -> Option<()> {
+    text.numbered("row ", location.row, ": ");
+    let stimulus = stimuli.get(location.row)?;
+    match location.fault {
+        StimulusFault::Event => push_event(text, types.library, stimulus),
+        StimulusFault::Setting(setting) => {
+            push_setting(text, types, stimulus, stimulus.settings.get(setting)?);
+        }
+        StimulusFault::Twice => push_twice(text, stimulus.settings.as_slice()),
+    }
+    Some(())
+}
+
+fn push_event(text: &mut Text, library: &Library, stimulus: &Stimulus) {
+    let instances = library.application.network.instances.as_slice();
+    match instance_named(instances, &stimulus.instance) {
+        Some(instance) => {
+            text.named("instance ", &instance.name);
+            text.named(" : ", &instance.block_type);
+            text.named(" has no event input ", &stimulus.event);
+        }
+        None => text.named("there is no instance ", &stimulus.instance),
+    }
+}
+
+/// Whether a data connection leads to the variable that a stimulus sets.
+fn is_connected(library: &Library, stimulus: &Stimulus, setting: &Setting) -> bool {
+    let connections = library.application.network.data_connections.as_slice();
+    for connection in connections {
+        if let Some(component) = &connection.to.component {
+            if component.is(&stimulus.instance) && connection.to.port.is(&setting.variable) {
+                return true;
+            }
+        }
+    }
+    false
+}
+
+/// The type of the data input that a stimulus sets.
+fn input_type(types: &BlockTypes, stimulus: &Stimulus, setting: &Setting) -> Option<Ty> {
+    let instances = types.library.application.network.instances.as_slice();
+    let instance = instance_named(instances, &stimulus.instance)?;
+    let ports = types.ports_named(&instance.block_type)?;
+    variable_type(ports.inputs.as_slice(), &setting.variable)
+}
+
+/// The values of a type.
+fn values_of(ty: Ty) -> &'static str {
+    match ty {
+        Ty::Bool => "BOOL: TRUE or FALSE",
+        Ty::Sint => "SINT: -128 to 127",
+        Ty::Int => "INT: -32768 to 32767",
+        Ty::Dint => "DINT: -2147483648 to 2147483647",
+        Ty::Lint => "LINT: -9223372036854775808 to 9223372036854775807",
+        Ty::Usint => "USINT: 0 to 255",
+        Ty::Uint => "UINT: 0 to 65535",
+        Ty::Udint => "UDINT: 0 to 4294967295",
+        Ty::Ulint => "ULINT: 0 to 18446744073709551615",
+        Ty::Time => "TIME: a whole number of milliseconds, without T#",
+    }
+}
+
+fn push_setting(text: &mut Text, types: &BlockTypes, stimulus: &Stimulus, setting: &Setting) {
+    text.named("", &setting.variable);
+    text.words("=");
+    text.value(setting.value);
+    if is_connected(types.library, stimulus, setting) {
+        text.words(": a data connection leads to the variable");
+        return;
+    }
+    match input_type(types, stimulus, setting) {
+        Some(ty) if !ty.holds(setting.value) => {
+            text.named(": ", &setting.variable);
+            text.words(" is ");
+            text.words(values_of(ty));
+        }
+        _ => {
+            text.named(": no data input that goes WITH ", &stimulus.event);
+            text.words(" has this name");
+        }
+    }
+}
+
+/// Adds the first variable that is set twice.
+fn push_twice(text: &mut Text, settings: &[Setting]) {
+    for (location, setting) in settings.iter().enumerate() {
+        for other in settings.iter().take(location) {
+            if other.variable.is(&setting.variable) {
+                text.named("", &setting.variable);
+                text.words(" is set twice");
+                return;
+            }
+        }
+    }
+}
