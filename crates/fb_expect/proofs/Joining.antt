@@ -1,7 +1,7 @@
 -- Texts that are put together part by part.
-use Rattle.std.proofs.Common.{◌≡◌, ℕ, ◌+◌, ◌<◌, Bool, Bor, List, [], ◌∷◌, ◌++◌, length, get_or, map, take, refl, sym, ap, ◌∙◌, append_assoc, append-nil, arith}
-use Rattle.std.specs.Prelude.{Result, Ok, Err, IfOk, OnOk}
-use Rattle.std.proofs.lemmas.List.{length-take-le, map-append, take_more}
+use Rattle.std.proofs.Common.{◌≡◌, ℕ, ◌+◌, ◌<◌, ◌≤◌, Bool, Bor, List, [], ◌∷◌, ◌++◌, length, get_or, map, take, drop, inl, inr, refl, sym, ap, ◌∙◌, append_assoc, append-nil, arith, min}
+use Rattle.std.proofs.lemmas.Bool.{cases_lt}
+use Rattle.std.proofs.lemmas.List.{length-take-le, map-append, take-append-drop, take_all, take_more}
 use Rattle.fb_expect.specs.Reports.{escaped, escaped_byte, joined, point, points}
 use Rattle.fb_expect.specs.Words.{Text}
 use Rattle.fb_expect.specs.declared.judging.Judged.{Judged}
@@ -49,13 +49,47 @@ points-push strict of before (s ∷ rs) (k ∷ js) r j same =
 
 -- one more point
 pub point-more :
-    (strict : Bool) (of : Of) (before : ℕ) (rs : List Rule) (js : List Judged) (i : ℕ) (r : Rule) (d : Judged) → length js ≡ length rs → i < length rs → r ≡ get_or rs i r
-    → points strict of before (take (i + 1) rs) (take (i + 1) js) ≡ points strict of before (take i rs) (take i js) ++ point strict of (before + i + 1) r (get_or js i d)
-point-more strict of before rs js i r d same lt is-r =
-    let j = get_or js i d in
+    (strict : Bool) (of : Of) (before : ℕ) (rs : List Rule) (js : List Judged) (i : ℕ) (r : Rule) (j : Judged) → i < length rs → i < length js → r ≡ get_or rs i r → j ≡ get_or js i j
+    → points strict of before (take (i + 1) rs) (take (i + 1) js) ≡ points strict of before (take i rs) (take i js) ++ point strict of (before + i + 1) r j
+point-more strict of before rs js i r j lt lt' is-r is-j =
     let short : length (take i rs) ≡ i = length-take-le i rs (omega arith) in
     let short' : length (take i js) ≡ i = length-take-le i js (omega arith) in
     ap (λ (xs : List Rule). points strict of before xs (take (i + 1) js)) (take_more rs i r lt ∙ ap (λ (x : Rule). take i rs ++ x ∷ []) (sym is-r))
-    ∙ ap (λ (xs : List Judged). points strict of before (take i rs ++ r ∷ []) xs) (take_more js i d (omega arith))
+    ∙ ap (λ (xs : List Judged). points strict of before (take i rs ++ r ∷ []) xs) (take_more js i j lt' ∙ ap (λ (x : Judged). take i js ++ x ∷ []) (sym is-j))
     ∙ points-push strict of before (take i rs) (take i js) r j (omega arith)
     ∙ ap (λ (n : ℕ). points strict of before (take i rs) (take i js) ++ point strict of (before + n + 1) r j) short
+
+-- ---- Points end with the shorter list
+
+points-none : (strict : Bool) (of : Of) (before : ℕ) (rs : List Rule) → points strict of before rs [] ≡ []
+points-none strict of before [] = refl
+points-none strict of before (r ∷ rs) = refl
+
+fewer_rules : (strict : Bool) (of : Of) (before : ℕ) (rs : List Rule) (js ks : List Judged) → length rs ≤ length js → points strict of before rs (js ++ ks) ≡ points strict of before rs js
+fewer_rules strict of before [] js ks few = refl
+fewer_rules strict of before (r ∷ rs) [] ks few = absurd (omega (arith, few))
+fewer_rules strict of before (r ∷ rs) (j ∷ js) ks few = ap (λ (t : Text). point strict of (before + 1) r j ++ t) (fewer_rules strict of (before + 1) rs js ks (omega (arith, few)))
+
+fewer_judged : (strict : Bool) (of : Of) (before : ℕ) (rs ss : List Rule) (js : List Judged) → length js ≤ length rs → points strict of before (rs ++ ss) js ≡ points strict of before rs js
+fewer_judged strict of before [] ss [] few = points-none strict of before ss
+fewer_judged strict of before [] ss (j ∷ js) few = absurd (omega (arith, few))
+fewer_judged strict of before (r ∷ rs) ss [] few = refl
+fewer_judged strict of before (r ∷ rs) ss (j ∷ js) few = ap (λ (t : Text). point strict of (before + 1) r j ++ t) (fewer_judged strict of (before + 1) rs ss js (omega (arith, few)))
+
+-- all points, once the shorter list is at its end
+pub points-all :
+    (strict : Bool) (of : Of) (before : ℕ) (rs : List Rule) (js : List Judged) (i : ℕ) → i ≡ min (length rs) (length js)
+    → points strict of before (take i rs) (take i js) ≡ points strict of before rs js
+points-all strict of before rs js i end =
+    elim (cases_lt (length js) (length rs)) [
+      | inl lt ↦
+          (let is : i ≡ length js = omega (arith, end, lt) in
+          ap (λ (ys : List Judged). points strict of before (take i rs) ys) (take_all i js (omega (arith, is)))
+          ∙ sym (fewer_judged strict of before (take i rs) (drop i rs) js (let n = length-take-le i rs (omega (arith, is, lt)) in omega (arith, n, is)))
+          ∙ ap (λ (xs : List Rule). points strict of before xs js) (take-append-drop i rs))
+      | inr le ↦
+          (let is : i ≡ length rs = omega (arith, end, le) in
+          ap (λ (xs : List Rule). points strict of before xs (take i js)) (take_all i rs (omega (arith, is)))
+          ∙ sym (fewer_rules strict of before rs (take i js) (drop i js) (let n = length-take-le i js (omega (arith, is, le)) in omega (arith, n, is)))
+          ∙ ap (λ (ys : List Judged). points strict of before rs ys) (take-append-drop i js))
+    ]

@@ -21,3 +21,4 @@ mod Outcomes
 pub mod Gathering
 pub mod Parted
 mod Placing
+mod Numbering

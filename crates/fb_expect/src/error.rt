@@ -7,8 +7,8 @@ ghost use Rattle.fb_expect.specs.declared.error.RulesError.TheVariants.{Memory};
 use std::alloc::AllocError;
 use thiserror::Error;
 
-/// The number of the refusal of rules that name what a declaration does not have. Reading rules does not find it: whoever has the
-/// declaration does.
+/// The number of the refusal of rules that name what a declaration does not have. Reading rules does not find it: the
+/// caller that has the declaration does.
 pub const UNKNOWN_NAME: u8 = 45;
 
 /// Why rules are refused. Each refusal has a number, and `Memory` has none.

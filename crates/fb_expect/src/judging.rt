@@ -23,7 +23,7 @@ use fb_types::Form;
 use std::alloc::{AllocError, Global};
 use std::io::BufRead;
 
-/// A rule, and what is known of it when a part of the trace was read.
+/// A rule, and its state after the lines that were read.
 #[derive(Clone, Copy)]
 pub struct Watcher<'a> {
     rule: &'a Rule,
@@ -33,7 +33,7 @@ pub struct Watcher<'a> {
     ports: PortSet,
 }
 
-/// What came of a rule at a trace.
+/// The result of a rule at a trace.
 #[derive(Clone, Copy)]
 pub struct Judged {
     pub verdict: Verdict,
@@ -57,7 +57,7 @@ pub(crate) fn form_of(line: &[u8]) -> Form {
     }
 }
 
-/// What is known of all rules before the first line.
+/// The state of all rules before the first line.
 fn begun<'a>(alloc: Global, rules: &'a [Rule]) -> Result<Vec<Watcher<'a>>, AllocError>
     ensures rules { IfOk result (λ ws. rules_of ws.items ≡ rules.now) }
     ensures follow { IfOk result (λ ws. AllFollow [] ws.items) }
@@ -74,7 +74,7 @@ fn begun<'a>(alloc: Global, rules: &'a [Rule]) -> Result<Vec<Watcher<'a>>, Alloc
     Ok(watchers)
 }
 
-/// Takes one more line, of this number. Most lines don't matter to a rule, as their ports show.
+/// Takes one more line, of this number. Most lines don't matter to a rule, which their ports show.
 #[inline(always)]
 fn next(watcher: &mut Watcher<'_>, number: u64, entry: &Entry<'_>)
     ensures { Moves number (event_of entry.now) watcher.old watcher.new }
@@ -84,7 +84,7 @@ fn next(watcher: &mut Watcher<'_>, number: u64, entry: &Entry<'_>)
     }
 }
 
-/// Notes one more line, of this number, whatever its port.
+/// Takes one more line, of this number, whatever its port.
 #[inline(never)]
 fn note_one(watcher: &mut Watcher<'_>, number: u64, entry: &Entry<'_>)
     ensures { Moves number (event_of entry.now) watcher.old watcher.new }
@@ -95,7 +95,7 @@ fn note_one(watcher: &mut Watcher<'_>, number: u64, entry: &Entry<'_>)
     watcher.sights = see_line(rule, watcher.sights, entry);
 }
 
-/// Notes one more line of all rules.
+/// Takes one more line for all rules.
 fn note(watchers: &mut [Watcher<'_>], number: u64, entry: &Entry<'_>)
     ensures rules { rules_of watchers.new ≡ rules_of watchers.old }
     ensures moves { AllMove number (event_of entry.now) watchers.old watchers.new }
@@ -105,7 +105,7 @@ fn note(watchers: &mut [Watcher<'_>], number: u64, entry: &Entry<'_>)
     }
 }
 
-/// What came of a rule.
+/// The result of a rule.
 fn conclude_one(watcher: &Watcher<'_>, number: u64, end: End) -> Judged
     ensures { (es : List Event) → number ≡ length es + 1 → AreBelow es (tick_of end) → Follows es watcher.now → IsJudged es end watcher.now.rule.now result }
 {
@@ -115,7 +115,7 @@ fn conclude_one(watcher: &Watcher<'_>, number: u64, end: End) -> Judged
     }
 }
 
-/// What came of all rules.
+/// The results of all rules.
 fn conclude(
     alloc: Global,
     watchers: &[Watcher<'_>],
@@ -152,7 +152,7 @@ fn end_at(line: &[u8], tick: u64, cut: Cut) -> Option<End>
     }
 }
 
-/// Reads a trace, in either form, and says what comes of each rule. Ticks are milliseconds. All memory is that of the
+/// Reads a trace, in either form, and returns the result of each rule. Ticks are milliseconds. All memory is that of the
 /// rules and of a line.
 ///
 /// # Errors

@@ -11,7 +11,7 @@
 //! `document` and `rules`, how rules are read; `place`, where they are refused. Then `event` and `ending`, the meaning of a
 //! line; `meeting`, whether it meets a pattern; `hit`, `watch` and `verdict`, the state and the answer of a rule; `sight`,
 //! what a trace never has; `fingerprint` and `port_set`, which lines are passed over. Then `judging`, a trace line by line;
-//! `tap`, the report; `parting` and `difference_report`, where two texts differ first.
+//! `tap`, the report; `parting` and `difference_report`, where two texts first differ.
 #![tactic(auto)]
 
 pub mod difference_report;

@@ -1,4 +1,4 @@
-//! Where two texts part.
+//! Where two texts first differ.
 
 ghost use Rattle.std.specs.Prelude.{IfOk};
 ghost use Rattle.fb_expect.specs.Parting.{MayFind, MayPart};
@@ -7,7 +7,7 @@ use crate::lines::{ReadFault, next_line};
 use std::alloc::Global;
 use std::io::BufRead;
 
-/// Two lines that differ, and are at the same place in their texts. All before them are the same.
+/// Two lines that differ and have the same number in their texts. All before them are the same.
 #[derive(Drop)]
 pub struct Difference {
     /// Their number, from 1.
@@ -17,7 +17,7 @@ pub struct Difference {
     pub right: Vec<u8>,
 }
 
-/// Reads two texts line by line, up to the first line in which they differ, where there is one.
+/// Reads two texts line by line, up to the first line in which they differ, if there is one.
 ///
 /// # Errors
 /// `Memory` if there is no memory for a line, `Read` if a reader fails otherwise.

@@ -238,9 +238,16 @@ fn of_document(alloc: Global, keys: &Table) -> Result<Items<Rule>, RulesError>
 /// The rules that bytes of TOML give.
 ///
 /// # Errors
-/// The first of these that applies to the whole document: more than 1 MiB (E40); not TOML (E41); a key that is missing,
-/// unknown or of the wrong kind (E42); a text that is no pattern (E43); a number out of its range (E44); more than 1,000
-/// rules (E40). `Memory` if memory runs out.
+/// The first of these that applies to the whole document:
+///
+/// - E40: more than 1 MiB.
+/// - E41: not TOML.
+/// - E42: a key that is missing, unknown or of the wrong kind.
+/// - E43: a text that is no pattern.
+/// - E44: a number out of its range.
+/// - E40: more than 1,000 rules.
+///
+/// `Memory` if memory runs out.
 #[tactic(auto, unfolding(crate::specs::Reading::rules_of))]
 pub fn read_rules(alloc: Global, bytes: &[u8]) -> Result<Items<Rule>, RulesError>
     ensures { Answers (λ rs. rs) (spec.rules_of bytes.now) result }

@@ -1,6 +1,6 @@
 //! Reports in the form of the Test Anything Protocol, version 14.
 
-ghost use Rattle.std.specs.Prelude.{◌≡◌, ◌+◌, ◌^◌, ◌<◌, ◌++◌, IfOk, OnOk, decimal, length, map, string_bytes};
+ghost use Rattle.std.specs.Prelude.{◌≡◌, ◌+◌, ◌*◌, ◌^◌, ◌<◌, ◌++◌, IfOk, OnOk, decimal, length, map, string_bytes};
 ghost use Rattle.fb_expect.specs.Reports as spec;
 
 use crate::judging::Judged;
@@ -294,33 +294,48 @@ fn point(
     )
 }
 
-/// The beginning of a report: the version and the count of points.
-#[tactic(auto, unfolding(crate::specs::Reports::plan))]
-pub fn plan(alloc: Global, count: u128) -> Result<Vec<u8>, AllocError>
-    ensures { IfOk result (λ t. t.items ≡ spec.plan count) }
+/// The count of points of this many rules at this many traces.
+fn product(rules: usize, traces: usize) -> u128
+    ensures count { result ≡ rules * traces }
+    ensures room { result + rules < 2 ^ 128 }
 {
-    let digits = digits_of(alloc, count)?;
+    rules as u128 * traces as u128
+}
+
+/// The count of points of all rules at this many traces.
+fn point_count(rules: &[Rule], traces: usize) -> u128
+    ensures count { result ≡ length rules.now * traces }
+    ensures room { result + length rules.now < 2 ^ 128 }
+{
+    product(rules.len(), traces)
+}
+
+/// The beginning of a report of all rules at this many traces: the version and the count of points.
+#[tactic(auto, unfolding(crate::specs::Reports::plan))]
+pub fn plan(alloc: Global, rules: &[Rule], traces: usize) -> Result<Vec<u8>, AllocError>
+    ensures { IfOk result (λ t. t.items ≡ spec.plan (length rules.now * traces)) }
+{
+    let digits = digits_of(alloc, point_count(rules, traces))?;
     join(alloc, &[b"TAP version 14\n1..", digits.as_bytes(), b"\n"])
 }
 
-/// Appends the points of all rules at a trace to a text, numbered after those of other traces. `judged` has the result
-/// of each rule.
+/// Appends the points of all rules at a trace to a text, numbered after those of the given count of traces before it.
+/// `judged` has the result of each rule, in their order; a rule without a result has no point.
 pub fn put_points(
     alloc: Global,
     text: &mut Vec<u8>,
     is_strict: bool,
     of: Of<'_>,
-    before: u128,
+    before: usize,
     rules: &[Rule],
     judged: &[Judged],
 ) -> Result<(), AllocError>
-    requires each { length judged.now ≡ length rules.now }
-    requires room { before + length rules.now < 2 ^ 128 }
-    ensures { OnOk result (text.new.items ≡ text.old.items ++ spec.points is_strict of.entry before rules.now judged.now) }
+    ensures { OnOk result (text.new.items ≡ text.old.items ++ spec.points is_strict of.entry (length rules.now * before) rules.now judged.now) }
 {
-    for (index, rule) in rules.iter().enumerate() {
-        let number = before + index as u128 + 1;
-        let point = point(alloc, is_strict, of, number, rule, &judged[index])?;
+    let mut number = point_count(rules, before);
+    for (rule, judged) in rules.iter().zip(judged) {
+        number += 1;
+        let point = point(alloc, is_strict, of, number, rule, judged)?;
         text.extend_from_slice(point.as_slice())?;
     }
     Ok(())

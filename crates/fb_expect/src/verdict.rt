@@ -1,4 +1,4 @@
-//! What comes of a rule.
+//! The result of a rule.
 
 ghost use Rattle.std.specs.Prelude.{◌≡◌, List};
 ghost use Rattle.fb_expect.specs.Rules as spec;
@@ -37,7 +37,7 @@ pub struct Breach {
     pub fault: Fault,
 }
 
-/// What comes of a rule at a trace.
+/// The result of a rule at a trace.
 #[derive(Clone, Copy)]
 pub enum Verdict {
     Holds,
@@ -47,7 +47,7 @@ pub enum Verdict {
     Undecided,
 }
 
-/// What comes of a rule where this waits, or nothing.
+/// The result of a rule if this line waits, or none does.
 fn conclude_mark(within: u64, mark: Option<Mark>, end: End) -> Verdict
     ensures { (hs : List Hit) → IsBelow hs (tick_of end) → KnowsSee within hs mark → IsVerdict (Need.See within) hs end result }
 {
@@ -77,7 +77,7 @@ fn conclude_see(within: u64, watch: Watch, line: u64, end: End) -> Verdict
     }
 }
 
-/// What comes of a rule where this is the tick of its last P.
+/// The result of a rule if this is the tick of its last P.
 fn conclude_last(within: u64, last: Option<u64>, end: End) -> Verdict
     ensures { (hs : List Hit) → KnowsLast (λ h. h.first) hs last → IsClean (Need.Not within) hs → IsVerdict (Need.Not within) hs end result }
 {
@@ -148,7 +148,7 @@ fn is_amid(every: Option<u64>, end: End) -> bool
     }
 }
 
-/// What comes of counts where this is known of the last window.
+/// The result of counts if this is the state of the last window.
 fn conclude_window(bounds: Bounds, window: u64, count: u64, line: u64, end: End) -> Verdict
     ensures { Concludes (Need.Count bounds.least bounds.most bounds.every) (Watch.Count window count) line end result }
 {
@@ -176,7 +176,7 @@ fn conclude_count(bounds: Bounds, watch: Watch, line: u64, end: End) -> Verdict
     }
 }
 
-/// What comes of a rule when the whole trace was read, and this is the number of its last line.
+/// The result of a rule after the whole trace, whose last line has this number.
 pub(crate) fn verdict_of(need: Need, watch: Watch, line: u64, end: End) -> Verdict
     ensures { Concludes need watch line end result }
 {

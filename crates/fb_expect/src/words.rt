@@ -13,9 +13,9 @@ fn is_end(byte: u8) -> bool {
 pub(crate) fn cut(text: &[u8]) -> Option<(&[u8], &[u8])>
     ensures { IfSome result (λ p. text.now ≡ p.0.now ++ p.1.now) }
 {
-    for (place, byte) in text.iter().enumerate() {
+    for (at, byte) in text.iter().enumerate() {
         if is_end(*byte) {
-            return Some((&text[..place], &text[place..]));
+            return Some((&text[..at], &text[at..]));
         }
     }
     None
@@ -37,7 +37,7 @@ pub(crate) fn before<'a>(text: &'a [u8], end: &[u8]) -> Option<&'a [u8]>
     text.strip_suffix(end)
 }
 
-/// The words after the blank that a text begins with. None where nothing is there.
+/// The words after the blank that a text begins with, or none if the text is empty.
 pub(crate) fn after_blank(text: &[u8]) -> Option<&[u8]>
     ensures some { IfSome result (λ words. spec.words_after text.now ≡ slice_split (nat_eq 32) words.now) }
     ensures none { IfNone result (spec.words_after text.now ≡ []) }
@@ -49,7 +49,7 @@ pub(crate) fn after_blank(text: &[u8]) -> Option<&[u8]>
     }
 }
 
-/// What comes before the first place of a mark, and what comes after it.
+/// What comes before the first mark, and what comes after it.
 #[tactic(auto, unfolding(crate::specs::Words::split_at_mark))]
 pub(crate) fn split_at_mark(text: &[u8], mark: u8) -> Option<(&[u8], &[u8])>
     ensures { option_map (λ p. (p.0.now, p.1.now)) result ≡ spec.split_at_mark mark text.now }

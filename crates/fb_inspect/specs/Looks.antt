@@ -1,5 +1,5 @@
--- What the blocks of a system remember at a line of a trace, as far as the lines before it tell: the memory and the variables of
--- the model's blocks, the ticks at which timers go off, and the steps that each resource has made in its last tick.
+-- What the blocks of a system remember at a line of a trace, as far as the lines before it show it. That is the memory and the
+-- variables of the model's blocks, the ticks at which timers go off, and the steps that each resource has made in its last tick.
 use Rattle.std.specs.Prelude.{◌≡◌, ◌≤◌, ◌^◌, ◌⊎◌, ℕ, zero, suc, min, nat_eq, ◌&&◌, List, [], ◌∷◌, ◌++◌, map, Bool, true, false, if◌then◌else◌, Option, Some, None}
 use Rattle.fb_types.specs.Names.{Name, Path, same_path}
 use Rattle.fb_types.specs.Values.{Values, same_truth}

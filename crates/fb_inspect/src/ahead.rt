@@ -23,7 +23,7 @@ use std::mem;
 /// The lines after that of an event: those of emissions of its block in its tick, and the line after them. They are read
 /// before the event is taken, since that last line decides whether the trace ends with it.
 pub struct Ahead {
-    /// The lines that were not gone through yet.
+    /// The lines that the walk has not passed yet.
     pub text: Vec<u8>,
     /// Those of emissions that were read last, as they were read.
     pub rows: Vec<Line>,
@@ -214,7 +214,7 @@ impl Ahead {
         Ok(false)
     }
 
-    /// Whether all lines that were read ahead were gone through.
+    /// Whether the walk has passed all lines that were read ahead.
     fn is_passed(&self) -> bool
         ensures passed { IsTrue result → self.now.text.items ≡ [] }
         ensures more { result ≡ false → self.now.text.items ≡ [] → ⊥ }
@@ -225,7 +225,7 @@ impl Ahead {
         }
     }
 
-    /// Reads the lines after that of an event, where all lines that were read ahead were gone through. Answers whether the
+    /// Reads the lines after that of an event, if the walk has passed all lines that were read ahead. Answers whether the
     /// trace is cut off in them, if it may be.
     pub(crate) fn look<R: BufRead>(
         &mut self,
@@ -249,7 +249,7 @@ impl Ahead {
         self.fill(fixed, cut, first, input)
     }
 
-    /// Keeps what was not gone through of the text: the rest.
+    /// Keeps the rest of the text, which the walk has not passed.
     pub(crate) fn keep(&mut self, rest: Vec<u8>) -> Result<(), AllocError>
         ensures text { OnOk result (self.new.text.items ≡ rest.items) }
         ensures last { self.new.last ≡ self.old.last }

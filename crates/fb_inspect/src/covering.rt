@@ -16,7 +16,7 @@ use crate::walk::{Extent, Terms};
 use fb_coverage::Marks;
 use fb_system::System;
 use fb_types::{MOST_STEPS, Name};
-use fb_wave::{PortTable, form_of, next_line, ports_of, texts_of};
+use fb_wave::{PortTable, SystemPorts, form_of, next_line};
 use std::alloc::{AllocError, Global};
 use std::io::{BufRead, sink};
 use std::mem;
@@ -117,9 +117,8 @@ pub fn cover<R: BufRead>(
     ensures refused { HasNames (system_of system.now) → terms.steps ≤ most
         → IfErr result (OfRefusal (λ n. IfSome (R.remaining input.old) (IsWrongAt (system_of system.now) terms.steps n))) }
 {
-    let ports = ports_of(alloc, system)?;
-    let texts = texts_of(alloc, system, ports.as_slice())?;
-    let Some(table) = PortTable::of(alloc, system, ports.as_slice(), texts.as_slice())? else {
+    let ports = SystemPorts::of(alloc, system)?;
+    let Some(table) = PortTable::of(alloc, &ports)? else {
         return Err(InspectError::Names);
     };
     cover_with(alloc, &table, terms, marks, refused, input)

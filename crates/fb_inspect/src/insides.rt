@@ -28,7 +28,7 @@ use fb_system::System;
 use fb_types::{Form, MOST_STEPS, Name};
 use fb_wave::truncation::is_unended;
 use fb_wave::words::after_front;
-use fb_wave::{CurrentLine, Cut, Guess, PortTable, form_of, next_line, ports_of, texts_of};
+use fb_wave::{CurrentLine, Cut, Guess, PortTable, SystemPorts, form_of, next_line};
 use std::alloc::{AllocError, Global};
 use std::io::{BufRead, Write};
 use std::mem;
@@ -242,12 +242,11 @@ fn inspect_with<R: BufRead, W: Write>(
 /// Reads a trace of the system, in either form, and writes it with what happens inside the blocks between its lines. Each
 /// line between them begins with two spaces.
 ///
-/// A trace that ends where a resource has used up its steps is gone through with the limit of the terms, and another one
-/// with the greatest that a run may have. One that is cut off ends in a line that says so, if the terms allow it. Before
-/// that, lines that may be only a part of what an event brings about are written as they are.
+/// If a trace ends where a resource has used up its steps, the walk uses the limit of the terms, otherwise the greatest
+/// that a run may have. What is written of a trace that is cut off ends in a line that says so, if the terms allow it.
+/// Before that, lines that may be only a part of what an event causes are written as they are.
 ///
-/// All memory is that of the blocks, of a line, of a page, of the lines that an event brings about, and of what is shown of
-/// it.
+/// All memory is that of the blocks, of a line, of a page, of the lines that an event causes, and of what is shown of it.
 ///
 /// # Errors
 /// `Refused` with the number of the first line that shows that no run has the trace: it is no line of the system, or not
@@ -269,9 +268,8 @@ pub fn inspect<R: BufRead, W: Write>(
     if !have_paths(system, inspection.only) {
         return Err(InspectError::Unknown);
     }
-    let ports = ports_of(alloc, system)?;
-    let texts = texts_of(alloc, system, ports.as_slice())?;
-    let Some(table) = PortTable::of(alloc, system, ports.as_slice(), texts.as_slice())? else {
+    let ports = SystemPorts::of(alloc, system)?;
+    let Some(table) = PortTable::of(alloc, &ports)? else {
         return Err(InspectError::Names);
     };
     inspect_with(alloc, &table, inspection, refused, input, out)

@@ -12,9 +12,9 @@ pub fn lines_are_determined()
     ensures { OneLine }
 {}
 
-/// A trace can be gone through in one way at most: what the blocks remember and its first line determine a taking, with
-/// its lines and all that is shown of it, and so lines determine the takings that they are of. Each line of an event that
-/// an instance takes begins a taking.
+/// There is at most one walk through a trace. What the blocks remember and its first line determine a taking, with its
+/// lines and all that is shown of it. So lines determine the takings that they are of. Each line of an event that an
+/// instance takes begins a taking.
 pub fn takings_are_determined()
     ensures taking { OneTaking }
     ensures some { SomeTaking }

@@ -36,7 +36,7 @@ use fb_wave::{Cut, is_over};
 use std::alloc::AllocError;
 use std::io::{BufRead, Write};
 
-/// A dump, as far as a trace was gone through.
+/// A dump of what a walk has passed of a trace.
 pub(crate) struct StateWave {
     pub(crate) walk: Walk,
     pub(crate) dump: PortDump,
@@ -113,7 +113,7 @@ fn is_at_end<R: BufRead>(
 }
 
 impl StateWave {
-    /// Shows the taking of an event that was gone through.
+    /// Shows the taking of an event that the walk has passed.
     fn show(&mut self, system: &System, at: EventAt) -> Result<(), AllocError>
         requires { CanShow (system_of system.now) at self.old }
         ensures numbers { OnOk result (IsPortDump (system_of system.now) self.new.dump) }

@@ -22,7 +22,7 @@ use crate::{RefusedLine, Terms};
 use fb_coverage::Marks;
 use fb_system::System;
 use fb_types::MOST_STEPS;
-use fb_wave::{PortTable, form_of, next_line, ports_of, texts_of};
+use fb_wave::{PortTable, SystemPorts, form_of, next_line};
 use std::alloc::{AllocError, Global};
 use std::io::{BufRead, Write};
 
@@ -79,20 +79,20 @@ fn write_with<R: BufRead, W: Write>(
     gone
 }
 
-/// Reads a trace of the system, in either form, and writes its value change dump with the inside of basic blocks: in the scope
-/// of each, after its ports, its state, by name, its internal variables, and the events that it lost.
+/// Reads a trace of the system, in either form, and writes its value change dump with the inside of basic blocks. The
+/// scope of each has, after its ports, its state by name, its internal variables, and the events that it lost.
 ///
 /// A time of the dump is a tick, in milliseconds. In a tick each signal of a port changes once, at most. What changes inside
 /// a block comes where its taking is, so a state changes as often as takings change it. All memory is that of the blocks and
-/// the signals, of the lines that an event brings about, and of a page.
+/// the signals, of the lines that an event causes, and of a page.
 ///
-/// A trace that ends where a resource has used up its steps is gone through with the limit of the terms, and another one
-/// with the greatest that a run may have. The dump of one that is cut off ends in a comment that says so, if the terms allow
-/// it. Before that, lines that may be only a part of what an event brings about are shown at ports alone.
+/// If a trace ends where a resource has used up its steps, the walk uses the limit of the terms, otherwise the greatest
+/// that a run may have. The dump of a trace that is cut off ends in a comment that says so, if the terms allow it. Before
+/// that, lines that may be only a part of what an event causes are shown at ports alone.
 ///
 /// # Errors
 /// As those of `crate::inspect`: the line is lent at which the trace is refused. What was written then is the beginning of
-/// a dump of takings that were gone through.
+/// a dump of the takings before the fault.
 pub fn write_states<R: BufRead, W: Write>(
     alloc: Global,
     system: &System,
@@ -106,9 +106,8 @@ pub fn write_states<R: BufRead, W: Write>(
     ensures refused { HasNames (system_of system.now) → terms.steps ≤ most
         → IfErr result (OfRefusal (λ n. IfSome (R.remaining input.old) (IsWrongAt (system_of system.now) terms.steps n))) }
 {
-    let ports = ports_of(alloc, system)?;
-    let texts = texts_of(alloc, system, ports.as_slice())?;
-    let Some(table) = PortTable::of(alloc, system, ports.as_slice(), texts.as_slice())? else {
+    let ports = SystemPorts::of(alloc, system)?;
+    let Some(table) = PortTable::of(alloc, &ports)? else {
         return Err(InspectError::Names);
     };
     write_with(alloc, &table, terms, refused, input, out)

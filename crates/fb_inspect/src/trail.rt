@@ -1,4 +1,4 @@
-//! How far a trace was gone through: its lines, and the text that is written of them.
+//! The progress of a walk through a trace: its lines, and the text that is written of them.
 
 ghost use Rattle.std.specs.Prelude.{◌≡◌, [], ◌∷◌, ◌++◌, ◌<◌, ◌^◌, All, IfErr, IsTrue, OnOk, false, map};
 ghost use Rattle.fb_types.specs.Headline.{system_of};
@@ -25,7 +25,7 @@ use std::alloc::{AllocError, Global};
 use std::io::BufRead;
 use std::mem;
 
-/// What stays the same while a trace is gone through.
+/// What stays the same during a walk through a trace.
 #[derive(Clone, Copy)]
 pub struct Fixed<'t, 's> {
     pub alloc: Global,
@@ -44,7 +44,7 @@ pub struct PassedLines {
     pub are_kept: bool,
 }
 
-/// How far a trace was gone through.
+/// The progress of a walk through a trace.
 pub struct Trail {
     pub reading: Reading,
     pub page: Page,

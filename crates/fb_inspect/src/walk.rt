@@ -294,7 +294,7 @@ impl Walk {
     /// Takes the event of the next line. Answers the reason that stops the resource, if one does.
     ///
     /// # Errors
-    /// `Refused` where no run gives the next line, or one of those that the event brings about; `Read` and `Memory`.
+    /// `Refused` where no run gives the next line, or one of those that the event causes; `Read` and `Memory`.
     pub fn take<R: BufRead>(
         &mut self,
         fixed: &Fixed<'_, '_>,

@@ -11,9 +11,10 @@
 //!
 //! Read in this order: `wave`, the entry, with `error` and `truncation`; `copy`, line by line, with `current_line`, and
 //! `page`, where text waits. Then how lines are read: `names`, which texts are names; `words`, the words of a line; `number`
-//! and `values`, the meaning of words; `ports`, the event ports of a system; `table`, which finds a port by its text;
-//! `line`; `last`. Then how they are shown: `levels` and `change`, what signals show and how changes are written; `scopes`,
-//! `declared`, `begun` and `signals`, the parts of the head; `digits`; `system_signals` and `head`; `dump`.
+//! and `values`, the meaning of words; `ports` and `system_ports`, the event ports of a system; `table`, which finds a port
+//! by its text; `line`; `last`. Then how they are shown: `levels` and `change`, what signals show and how changes are
+//! written; `scopes`, `declared`, `begun` and `signals`, the parts of the head; `digits`; `system_signals` and `head`;
+//! `dump`.
 #![tactic(auto)]
 
 mod begun;
@@ -34,6 +35,7 @@ mod page;
 pub mod ports;
 pub mod scopes;
 mod signals;
+pub mod system_ports;
 pub mod system_signals;
 pub mod table;
 pub mod truncation;
@@ -46,7 +48,8 @@ pub use current_line::CurrentLine;
 pub use error::WaveError;
 pub use last::read_last;
 pub use line::read_line;
-pub use ports::{Port, ports_of};
-pub use table::{Guess, PortTable, texts_of};
+pub use ports::Port;
+pub use system_ports::SystemPorts;
+pub use table::{Guess, PortTable};
 pub use truncation::Cut;
 pub use wave::{write_wave, write_wave_with};

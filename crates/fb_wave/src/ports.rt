@@ -50,7 +50,7 @@ fn push_events(
 }
 
 /// All event ports of a system.
-pub fn ports_of(alloc: Global, system: &System) -> Result<Vec<Port>, AllocError>
+pub(crate) fn ports_of(alloc: Global, system: &System) -> Result<Vec<Port>, AllocError>
     ensures are { IfOk result (λ v. All (IsPortOf (system_of system.now)) v.items) }
     ensures all { IfOk result (λ v. (p : Port) → IsPortOf (system_of system.now) p → Contains v.items p) }
     ensures once { IfOk result (λ v. ¬ (Twice v.items)) }
@@ -103,7 +103,7 @@ fn sign(taken: bool) -> &'static [u8]
 }
 
 /// The text of a line between its tick and its values: `RESOURCE > PATH.EVENT`, or with `<`.
-pub fn port_text(alloc: Global, system: &System, port: Port) -> Result<Name, AllocError>
+pub(crate) fn port_text(alloc: Global, system: &System, port: Port) -> Result<Name, AllocError>
     requires { IsPortOf (system_of system.now) port }
     ensures { IfOk result (λ n. n ≡ spec.port_text (system_of system.now) port) }
 {

@@ -1,9 +1,8 @@
 //! Finds the ports of a system by their text in lines.
 
-ghost use Rattle.std.specs.Prelude.{◌≡◌, ◌≤◌, ℕ, List, ◌++◌, All, Contains, IfNone, IfOk, IfSome, MatchOption, Some, slice_get, length, map};
+ghost use Rattle.std.specs.Prelude.{◌≡◌, ◌≤◌, ℕ, List, ◌++◌, All, Contains, IfNone, IfOk, IfSome, IsSome, MatchOption, Some, slice_get, length, map};
 ghost use Rattle.fb_types.specs.Headline.{AreAccepted, system_of};
 ghost use Rattle.fb_types.specs.Limits.{IsWithinLimits};
-ghost use Rattle.fb_types.specs.Repeated.{Twice};
 ghost use Rattle.fb_check_names.specs.Indexes.{IsIndex, names_in};
 ghost use Rattle.fb_wave.specs.Ports as spec;
 ghost use Rattle.fb_wave.specs.Named.{HasNames};
@@ -11,7 +10,8 @@ ghost use Rattle.fb_wave.specs.Ports.{BeginsWith, HasNoPort, IsPortOf};
 ghost use Rattle.fb_wave.specs.declared.ports.Port as declared;
 ghost use Rattle.fb_wave.specs.Words.{HasNoThree, HasThree, is_ended};
 
-use crate::ports::{Port, port_text};
+use crate::ports::Port;
+use crate::system_ports::SystemPorts;
 use crate::words::{after_front, cut, is_end};
 use fb_check_names::{Indexes, index_of, indexes_of};
 use fb_system::System;
@@ -82,18 +82,6 @@ fn ends_word(rest: &[u8]) -> bool
     }
 }
 
-/// The texts of ports, each at the index of its port.
-pub fn texts_of(alloc: Global, system: &System, ports: &[Port]) -> Result<Vec<Name>, AllocError>
-    requires { All (IsPortOf (system_of system.now)) ports.now }
-    ensures { IfOk result (λ v. v.items ≡ map (spec.port_text (system_of system.now)) ports.now) }
-{
-    let mut texts = Vec::new(alloc);
-    for port in ports {
-        texts.push(port_text(alloc, system, *port)?)?;
-    }
-    Ok(texts)
-}
-
 fn names_of(alloc: Global, texts: &[Name]) -> Result<Vec<&Name>, AllocError>
     ensures { IfOk result (λ v. names_in v.items ≡ texts.now) }
 {
@@ -116,26 +104,24 @@ fn port_len(text: &[u8]) -> Option<usize>
 }
 
 impl<'a> PortTable<'a> {
-    /// The table of ports with these texts, or `None` if two texts are the same.
+    /// The table of the ports of a system, or `None` if two of them have the same text.
+    ///
+    /// # Errors
+    /// When memory runs out.
     pub fn of(
         alloc: Global,
-        system: &'a System,
-        ports: &'a [Port],
-        texts: &'a [Name],
+        ports: &'a SystemPorts<'_>,
     ) -> Result<Option<PortTable<'a>>, AllocError>
-        requires ports { All (IsPortOf (system_of system.now)) ports.now }
-        requires all { (p : Port) → IsPortOf (system_of system.now) p → Contains ports.now p }
-        requires texts { texts.now ≡ map (spec.port_text (system_of system.now)) ports.now }
-        ensures system { IfOk result (λ o. IfSome o (λ t. t.system.now ≡ system.now)) }
-        ensures alike { IfOk result (λ o. IfNone o (Twice texts.now)) }
+        ensures system { IfOk result (λ o. IfSome o (λ t. t.system.now ≡ ports.now.system.now)) }
+        ensures some { HasNames (system_of ports.now.system.now) → IfOk result IsSome }
     {
-        system.facts();
-        let names = names_of(alloc, texts)?;
+        ports.system.facts();
+        let names = names_of(alloc, ports.texts.as_slice())?;
         match indexes_of(alloc, names.as_slice())? {
             Some(indexes) => Ok(Some(PortTable {
-                system,
-                ports,
-                texts,
+                system: ports.system,
+                ports: ports.ports.as_slice(),
+                texts: ports.texts.as_slice(),
                 indexes,
             })),
             None => Ok(None),

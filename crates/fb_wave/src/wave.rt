@@ -13,8 +13,8 @@ use crate::dump::Dump;
 use crate::error::WaveError;
 use crate::names::has_names;
 use crate::page::DumpPage;
-use crate::ports::ports_of;
-use crate::table::{Guess, PortTable, texts_of};
+use crate::system_ports::SystemPorts;
+use crate::table::{Guess, PortTable};
 use crate::truncation::Cut;
 use fb_system::System;
 use std::alloc::Global;
@@ -82,9 +82,8 @@ pub fn write_wave_with<R: BufRead, W: Write>(
     if !has_names(system) {
         return Err(WaveError::Names);
     }
-    let ports = ports_of(alloc, system)?;
-    let texts = texts_of(alloc, system, ports.as_slice())?;
-    let Some(table) = PortTable::of(alloc, system, ports.as_slice(), texts.as_slice())? else {
+    let ports = SystemPorts::of(alloc, system)?;
+    let Some(table) = PortTable::of(alloc, &ports)? else {
         unreachable!()
     };
     let guess = Guess::new(alloc, &table)?;

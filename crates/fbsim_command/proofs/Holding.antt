@@ -1,5 +1,5 @@
 -- Rules that are held against traces, one after the other.
-use Rattle.std.proofs.Common.{◌≡◌, ℕ, suc, ◌+◌, ◌*◌, ◌^◌, ◌<◌, ◌≤◌, Bool, true, false, Bor, List, [], ◌∷◌, ◌++◌, length, get_or, map, take, drop, Option, Some, None, Result, Ok, Err, refl, sym, ap, ap₂, ◌∙◌, subst, append_assoc, append-nil, inl, inr, arith, mul-le-mul_left}
+use Rattle.std.proofs.Common.{◌≡◌, ℕ, suc, ◌+◌, ◌*◌, ◌<◌, Bool, true, false, Bor, List, [], ◌∷◌, ◌++◌, length, get_or, map, take, drop, Option, Some, None, Result, Ok, Err, refl, sym, ap, ap₂, ◌∙◌, subst, append_assoc, append-nil, inl, inr, arith}
 use Rattle.std.specs.Prelude.{◌&&◌, IfErr, IfSome, IsErrAnd, nat_lt}
 use Rattle.std.specs.Io.KnownBytes.{Appends}
 use Rattle.std.specs.List.{list_all}
@@ -25,16 +25,6 @@ use Rattle.fbsim_command.specs.declared.statuses.Done.TheVariants.{Met, Unmet}
 
 abbrev now : Bor Text → Text
 now t = t.now
-
--- ---- Numbers of points
-
-pub room : (n i : ℕ) → n < 2 ^ 64 → i < 2 ^ 64 → n * i + n < 2 ^ 128
-room n i few low =
-    let most = mul-le-mul_left n (let le : i + 1 ≤ 2 ^ 64 = omega arith in le) in
-    omega (arith, most)
-
-pub product : (n i : ℕ) → n < 2 ^ 64 → i < 2 ^ 64 → n * i < 2 ^ 128
-product n i few low = let all = room n i few low in omega arith
 
 -- ---- A trace
 
@@ -70,16 +60,15 @@ held-one opens x rules old new name trace cut js same is judged =
 
 -- its points are put after a text
 pub put-one :
-    {S : Type 0} (opens : Opening S) (x : Expect) (rules : List Rule) (i : ℕ) (t : Bor Text) (old new : S) (before text : Text) (well named : Bool) (count : ℕ) (js ks ls : List Judged)
-    → IsHeld opens x rules old new t.now js → text ≡ before ++ points x.is_strict (record { trace = t; is_named = named }) count rules ks
-    → named ≡ nat_lt 1 (length x.traces.items) → count ≡ length rules * i → ks ≡ js → ls ≡ js → well ≡ are_well x.is_strict ls → PutsOne opens x rules i t old new before text well
-put-one opens x rules i t old new before text well named count js ks ls held is many counted first second fine =
+    {S : Type 0} (opens : Opening S) (x : Expect) (rules : List Rule) (i : ℕ) (t : Bor Text) (old new : S) (before text : Text) (well named : Bool) (js ks ls : List Judged)
+    → IsHeld opens x rules old new t.now js → text ≡ before ++ points x.is_strict (record { trace = t; is_named = named }) (length rules * i) rules ks
+    → named ≡ nat_lt 1 (length x.traces.items) → ks ≡ js → ls ≡ js → well ≡ are_well x.is_strict ls → PutsOne opens x rules i t old new before text well
+put-one opens x rules i t old new before text well named js ks ls held is many first second fine =
     record {
       judged = js;
       held = held;
       is =
-          is ∙ ap (λ (b : Bool). before ++ points x.is_strict (record { trace = t; is_named = b }) count rules ks) many
-          ∙ ap (λ (n : ℕ). before ++ points x.is_strict (record { trace = t; is_named = nat_lt 1 (length x.traces.items) }) n rules ks) counted
+          is ∙ ap (λ (b : Bool). before ++ points x.is_strict (record { trace = t; is_named = b }) (length rules * i) rules ks) many
           ∙ ap (λ (js : List Judged). before ++ points x.is_strict (record { trace = t; is_named = nat_lt 1 (length x.traces.items) }) (length rules * i) rules js) first;
       fine = fine ∙ ap (are_well x.is_strict) second;
     }

@@ -214,9 +214,8 @@ ReportsNoMore from to reports note = (to ≡ from) × (reports ≡ []) × (note 
 abbrev pub names_of : Vec (Bor Text) → List Text
 names_of v = map (λ n. n.now) v.items
 
--- The words are done as the call that they name: a task, a trace that is shown, a refusal that is explained, rules that are
--- held against traces, traces that are compared, what is declared, which is drawn, a trace that is
--- inspected, or traces of which is reported what they cover. Or they name none.
+-- The program does what the words call for: `run` or `check`, `wave`, `explain`, `expect`, `diff`, `draw`, `inspect` or
+-- `coverage`. Or they name no call.
 abbrev pub Does : {S : Type 0} → Reading S → Opening S → (from to : S) → List Text → (old new : Held) → End → (reports : Text) → (note : Option Text) → Type 0
 Does reads opens from to words old new end reports note =
     ((c : Task) × (types : Vec (Bor Text)) × AreCall words (call.Task c types) × IsTaken words × Performs reads from to (names_of types) c old new end reports note)

@@ -1,6 +1,6 @@
 //! Traces against rules, and against one another.
 
-ghost use Rattle.std.specs.Prelude.{◌≡◌, ◌&&◌, ◌+◌, ◌*◌, ◌^◌, ◌<◌, IfErr, IfOk, OnOk, length, nat_lt, option_map, string_bytes, true};
+ghost use Rattle.std.specs.Prelude.{◌≡◌, ◌&&◌, IfErr, IfOk, OnOk, length, nat_lt, option_map, string_bytes, true};
 ghost use Rattle.fbsim_command.specs.Comparing.{Compares, Differs};
 ghost use Rattle.fbsim_command.specs.Expecting.{AreRules, AreUnheld, Expects, Holds, IsHeld, IsRefusedAt, IsUndeclared, IsUnheld, IsUnnamed, MayDeclare, Names, PutsAll, PutsOne, RefusesFor, Reports, cut_of, files_of, own_of, types_of};
 ghost use Rattle.fbsim_command.specs.OwnLines.{EndsIn};
@@ -60,7 +60,6 @@ fn hold<S: Streams>(
     source: &mut S,
 ) -> Result<Vec<Judged>, Failure>
     ensures held { IfOk result (λ js. IsHeld S.opens expect.now rules.now source.old source.new name.now js.items) }
-    ensures counted { IfOk result (λ js. length js.items ≡ length rules.now) }
     ensures unheld { IfErr result (IsUnheld S.opens source.old source.new name.now) }
 {
     let mut trace = source.open(alloc, name)?;
@@ -96,22 +95,6 @@ fn are_named(expect: &Expect<'_>) -> bool
     expect.traces.len() > 1
 }
 
-/// How many points this many rules have at this many traces.
-fn product(rules: usize, traces: usize) -> u128
-    ensures count { result ≡ rules * traces }
-    ensures room { result + rules < 2 ^ 128 }
-{
-    rules as u128 * traces as u128
-}
-
-/// How many points all rules have at this many traces.
-fn points_before(rules: &[Rule], traces: usize) -> u128
-    ensures count { result ≡ length rules.now * traces }
-    ensures room { result + length rules.now < 2 ^ 128 }
-{
-    product(rules.len(), traces)
-}
-
 /// Holds all rules against the trace at this place of a call, and puts their points after a text. It says whether all
 /// are well.
 fn put_one<S: Streams>(
@@ -131,13 +114,12 @@ fn put_one<S: Streams>(
         trace,
         is_named: are_named(expect),
     };
-    let before = points_before(rules, index);
     put_points(
         alloc,
         text,
         expect.is_strict,
         of,
-        before,
+        index,
         rules,
         judged.as_slice(),
     )?;
@@ -173,8 +155,7 @@ fn report<S: Streams>(
     ensures reported { IfOk result (λ p. Reports S.opens expect.now rules.now source.old source.new p.1 p.0.items) }
     ensures unheld { IfErr result (AreUnheld S.opens expect.now rules.now source.old source.new) }
 {
-    let count = points_before(rules, expect.traces.len());
-    let mut text = plan(alloc, count)?;
+    let mut text = plan(alloc, rules, expect.traces.len())?;
     let is_well = put_all(alloc, expect, rules, &mut text, source)?;
     Ok((text, is_well))
 }

@@ -1,4 +1,4 @@
-//! What is reported after the refusal of a trace that is gone through: what is wrong with the line.
+//! What is reported after a walk through a trace has refused it: what is wrong with the line.
 
 ghost use Rattle.std.specs.Prelude.{◌≡◌, ◌++◌, ℕ, Err, IfSome, IsTrue, codes, decimal, option_map, string_bytes};
 ghost use Rattle.fb_inspect.specs.declared.error.InspectError.TheVariants as failed;
@@ -56,7 +56,7 @@ pub(crate) fn note_of_inside(
     note_with(alloc, front, line, words.as_str())
 }
 
-/// What is wrong with the line at which a trace that is gone through is refused, where that is asked for.
+/// What is wrong with the line at which a walk through a trace refuses it, if that is asked for.
 pub(crate) fn note_of_gone(
     alloc: Global,
     why: bool,

@@ -21,7 +21,7 @@ fn rules_are_reported(rt: HostRuntime) {
     let Ok(rules) = read_rules(alloc, RULES) else {
         panic!(rt; "no rules");
     };
-    let Ok(mut text) = plan(alloc, 4) else {
+    let Ok(mut text) = plan(alloc, rules.as_slice(), 1) else {
         panic!(rt; "no plan");
     };
     let mut trace = TRACE;

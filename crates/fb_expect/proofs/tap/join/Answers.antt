@@ -1,4 +1,4 @@
-use Rattle.std.proofs.Common.{ℕ, Bor, List, ◌++◌, map, take, sym, ap, ◌∙◌, arith}
+use Rattle.std.proofs.Common.{ℕ, Bor, List, ◌++◌, map, sym, ap, ◌∙◌, arith}
 use Rattle.std.proofs.lemmas.List.{take_all}
 use Rattle.fb_expect.specs.Reports.{joined}
 use Rattle.fb_expect.proofs.Joining.{one-more, part_at}

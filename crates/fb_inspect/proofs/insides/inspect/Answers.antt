@@ -1,4 +1,4 @@
-use Rattle.std.proofs.Common.{subst}
+use Rattle.std.proofs.Common.{subst, ◌∙◌}
 use Rattle.std.specs.Prelude.{IfErr, IfSome, OnErr, OnOk, ◌≤◌}
 use Rattle.fb_types.specs.Headline.{Inputs, system_of}
 use Rattle.fb_inspect.specs.Inspections.{IsShownBy, ShowsFront}
@@ -17,10 +17,6 @@ pub returns-in_err-ports-clause-fault : goal.returns-in_err-ports-clause-fault
 returns-in_err-ports-clause-fault g c =
     err_any c.from_residual.result _ (front_none (system_of c.args.system.now) c.args.inspection.only.now c.args.inspection.terms.steps (g.W.Write.contents c.args.out.now))
 
-pub returns-in_err-texts-clause-fault : goal.returns-in_err-texts-clause-fault
-returns-in_err-texts-clause-fault g c =
-    err_any c.from_residual-in_err-texts.result _ (front_none (system_of c.args.system.now) c.args.inspection.only.now c.args.inspection.terms.steps (g.W.Write.contents c.args.out.now))
-
 pub returns-in_err-table-clause-fault : goal.returns-in_err-table-clause-fault
 returns-in_err-table-clause-fault g c =
     err_any c.from_residual-in_err-table.result _ (front_none (system_of c.args.system.now) c.args.inspection.only.now c.args.inspection.terms.steps (g.W.Write.contents c.args.out.now))
@@ -34,7 +30,7 @@ returns-clause-whole g c =
     let old = g.W.Write.contents c.args.out.now in
     let new = g.W.Write.contents c.inspect_with.new.out in
     subst (λ (s : Inputs). OnOk c.inspect_with.result (IfSome (g.R.Read.remaining c.args.input.now) (λ text. IsShownBy x.terms.cut (system_of s) x.only.now x.terms.steps text old new)))
-    (of_table _ c.in-Some.table c.args.system.now c.in-Some.is c.in_ok-table.ensures.system) c.inspect_with.ensures.whole
+    (of_table _ c.in-Some.table _ c.in-Some.is c.in_ok-table.ensures.system ∙ c.in_ok-ports.ensures) c.inspect_with.ensures.whole
 
 pub returns-clause-fault : goal.returns-clause-fault
 returns-clause-fault g c =
@@ -42,11 +38,11 @@ returns-clause-fault g c =
     let old = g.W.Write.contents c.args.out.now in
     let new = g.W.Write.contents c.inspect_with.new.out in
     subst (λ (s : Inputs). OnErr c.inspect_with.result (ShowsFront (system_of s) x.only.now x.terms.steps old new))
-    (of_table _ c.in-Some.table c.args.system.now c.in-Some.is c.in_ok-table.ensures.system) c.inspect_with.ensures.fault
+    (of_table _ c.in-Some.table _ c.in-Some.is c.in_ok-table.ensures.system ∙ c.in_ok-ports.ensures) c.inspect_with.ensures.fault
 
 pub returns-clause-refused : goal.returns-clause-refused
 returns-clause-refused g c =
     let x = c.args.inspection in
     subst
     (λ (s : Inputs). HasNames (system_of s) → x.terms.steps ≤ most → IfErr c.inspect_with.result (OfRefusal (λ n. IfSome (g.R.Read.remaining c.args.input.now) (IsWrongAt (system_of s) x.terms.steps n))))
-    (of_table _ c.in-Some.table c.args.system.now c.in-Some.is c.in_ok-table.ensures.system) c.inspect_with.ensures.refused
+    (of_table _ c.in-Some.table _ c.in-Some.is c.in_ok-table.ensures.system ∙ c.in_ok-ports.ensures) c.inspect_with.ensures.refused

@@ -1,15 +1,11 @@
-use Rattle.std.proofs.Common.{◌≡◌, Bool, true, List, [], map, Option, Some, ap, sym, subst, ◌∙◌}
-use Rattle.std.specs.Prelude.{IfErr, IfNone, IfSome, IsTrue, OnOk}
+use Rattle.std.proofs.Common.{◌≡◌, Bool, true, [], Option, Some, None, sym, subst, ◌∙◌}
+use Rattle.std.specs.Prelude.{IfErr, IfSome, IsSome, IsTrue, OnOk}
 use Rattle.fb_types.specs.Headline.{Inputs, system_of}
-use Rattle.fb_types.specs.Names.{Name}
-use Rattle.fb_types.specs.Repeated.{Twice}
-use Rattle.fb_wave.specs.Ports.{port_text}
 use Rattle.fb_wave.specs.Writing.{HasShown, IsDump}
 use Rattle.fb_wave.specs.declared.error.WaveError.TheVariants.{Names}
 use Rattle.fb_wave.specs.declared.table.PortTable.{PortTable}
 use Rattle.fb_wave.specs.Named.{HasNames}
 use Rattle.fb_wave.specs.CutOff.{BlamesShown, FailsShown, IsShown}
-use Rattle.fb_wave.proofs.Alike.{texts_differ}
 use Rattle.fb_wave.proofs.Copied.{front_none}
 use Rattle.fb_wave.proofs.Severed.{blames_memory, blames_names, fails_in}
 use Rattle.fb_wave.proofs.Handing.{on_passed}
@@ -19,17 +15,21 @@ use Rattle.fb_wave.proofs.wave.write_wave_with.Goals as goal
 of_table : (o : Option PortTable) (t : PortTable) (s : Inputs) → o ≡ Some t → IfSome o (λ t. t.system.now ≡ s) → t.system.now ≡ s
 of_table o t s is are = subst (λ (o : Option PortTable). IfSome o (λ t. t.system.now ≡ s)) is are
 
+some_of : (o : Option PortTable) → o ≡ None → IsSome o → ⊥
+some_of None none some = absurd cc
+some_of (Some t) none some = absurd cc
+
 -- after the test of the names
 names_so : {P : Type 0} (b : Bool) → b ≡ true → (IsTrue b → P) → P
 names_so b is so = so is
 
 pub copy-written-requires-clause-dump : goal.copy-written-requires-clause-dump
 copy-written-requires-clause-dump g c =
-    subst (λ (s : Inputs). IsDump (system_of s) c.in_ok-dump.dump) (sym (of_table _ c.in-Some.table c.args.system.now c.in-Some.is c.in_ok-table.ensures.system)) c.in_ok-dump.ensures.numbers
+    subst (λ (s : Inputs). IsDump (system_of s) c.in_ok-dump.dump) (sym (of_table _ c.in-Some.table _ c.in-Some.is c.in_ok-table.ensures.system ∙ c.in_ok-ports.ensures)) c.in_ok-dump.ensures.numbers
 
 pub copy-written-requires-clause-shown : goal.copy-written-requires-clause-shown
 copy-written-requires-clause-shown g c =
-    subst (λ (s : Inputs). HasShown (system_of s) [] c.begin.new.text.items c.in_ok-dump.dump) (sym (of_table _ c.in-Some.table c.args.system.now c.in-Some.is c.in_ok-table.ensures.system))
+    subst (λ (s : Inputs). HasShown (system_of s) [] c.begin.new.text.items c.in_ok-dump.dump) (sym (of_table _ c.in-Some.table _ c.in-Some.is c.in_ok-table.ensures.system ∙ c.in_ok-ports.ensures))
     (c.in_ok-dump.ensures.shown c.new-page.ensures.empty)
 
 pub returns-clause-whole : goal.returns-clause-whole
@@ -38,19 +38,16 @@ returns-clause-whole g c =
     (λ (s : Inputs).
     OnOk c.copy-written.result
     (IfSome (g.R.Read.remaining c.args.input.now) (λ text. IsShown c.args.cut (system_of s) text (g.W.Write.contents c.args.out.now) (g.W.Write.contents c.copy-written.new.out))))
-    (of_table _ c.in-Some.table c.args.system.now c.in-Some.is c.in_ok-table.ensures.system) c.copy-written.ensures.whole
+    (of_table _ c.in-Some.table _ c.in-Some.is c.in_ok-table.ensures.system ∙ c.in_ok-ports.ensures) c.copy-written.ensures.whole
 
 pub returns-clause-part : goal.returns-clause-part
 returns-clause-part g c =
     subst
     (λ (s : Inputs). IfErr c.copy-written.result (FailsShown c.args.cut (system_of s) (g.W.Write.contents c.args.out.now) (g.W.Write.contents c.copy-written.new.out)))
-    (of_table _ c.in-Some.table c.args.system.now c.in-Some.is c.in_ok-table.ensures.system) c.copy-written.ensures.part
+    (of_table _ c.in-Some.table _ c.in-Some.is c.in_ok-table.ensures.system ∙ c.in_ok-ports.ensures) c.copy-written.ensures.part
 
 pub returns-in_err-ports-clause-part : goal.returns-in_err-ports-clause-part
 returns-in_err-ports-clause-part g c = on_passed _ _ _ c.from_residual.ensures.1 (fails_in c.args.cut (system_of c.args.system.now) _ _ _ (front_none _ _))
-
-pub returns-in_err-texts-clause-part : goal.returns-in_err-texts-clause-part
-returns-in_err-texts-clause-part g c = on_passed _ _ _ c.from_residual-in_err-texts.ensures.1 (fails_in c.args.cut (system_of c.args.system.now) _ _ _ (front_none _ _))
 
 pub returns-in_err-table-clause-part : goal.returns-in_err-table-clause-part
 returns-in_err-table-clause-part g c = on_passed _ _ _ c.from_residual-in_err-table.ensures.1 (fails_in c.args.cut (system_of c.args.system.now) _ _ _ (front_none _ _))
@@ -72,14 +69,11 @@ returns-clause-refused g c =
     subst
     (λ (s : Inputs).
     HasNames (system_of s) → IfErr c.copy-written.result (BlamesShown c.args.cut (system_of s) (g.R.Read.remaining c.args.input.now)))
-    (of_table _ c.in-Some.table c.args.system.now c.in-Some.is c.in_ok-table.ensures.system) c.copy-written.ensures.refused
+    (of_table _ c.in-Some.table _ c.in-Some.is c.in_ok-table.ensures.system ∙ c.in_ok-ports.ensures) c.copy-written.ensures.refused
     (names_so c.has_names.result c.if-not-has_names.false c.has_names.ensures.named)
 
 pub returns-in_err-ports-clause-refused : goal.returns-in_err-ports-clause-refused
 returns-in_err-ports-clause-refused g c = on_passed _ _ (BlamesShown c.args.cut (system_of c.args.system.now) (g.R.Read.remaining c.args.input.now)) c.from_residual.ensures.1 (blames_memory c.args.cut _ _)
-
-pub returns-in_err-texts-clause-refused : goal.returns-in_err-texts-clause-refused
-returns-in_err-texts-clause-refused g c = on_passed _ _ (BlamesShown c.args.cut (system_of c.args.system.now) (g.R.Read.remaining c.args.input.now)) c.from_residual-in_err-texts.ensures.1 (blames_memory c.args.cut _ _)
 
 pub returns-in_err-table-clause-refused : goal.returns-in_err-table-clause-refused
 returns-in_err-table-clause-refused g c = on_passed _ _ (BlamesShown c.args.cut (system_of c.args.system.now) (g.R.Read.remaining c.args.input.now)) c.from_residual-in_err-table.ensures.1 (blames_memory c.args.cut _ _)
@@ -90,28 +84,22 @@ returns-in_err-guess-clause-refused g c = on_passed _ _ (BlamesShown c.args.cut 
 pub returns-in_err-dump-clause-refused : goal.returns-in_err-dump-clause-refused
 returns-in_err-dump-clause-refused g c = on_passed _ _ (BlamesShown c.args.cut (system_of c.args.system.now) (g.R.Read.remaining c.args.input.now)) c.from_residual-in_err-dump.ensures.1 (blames_memory c.args.cut _ _)
 
--- no two ports are written alike, so there is a table
+-- there are names, so there is a table
 pub unreachable-requires : goal.unreachable-requires
 unreachable-requires g c =
-    let i = c.args.system.now in
-    let twice : Twice c.as_slice-3.result.now = subst (λ (o : Option PortTable). IfNone o (Twice c.as_slice-3.result.now)) c.in_default.is c.in_ok-table.ensures.alike in
-    texts_differ i c.facts.ensures.accepted c.facts.ensures.numbered (names_so c.has_names.result c.if-not-has_names.false c.has_names.ensures.named) c.in_ok-ports.ports.items c.in_ok-ports.ensures.are
-    c.in_ok-ports.ensures.once
-    (subst (λ (ns : List Name). Twice ns) (c.as_slice-3.ensures.value ∙ c.in_ok-texts.ensures ∙ ap (map (port_text (system_of i))) c.as_slice.ensures.value) twice)
+    let named = names_so c.has_names.result c.if-not-has_names.false c.has_names.ensures.named in
+    some_of _ c.in_default.is (c.in_ok-table.ensures.some (subst (λ (s : Inputs). HasNames (system_of s)) (sym c.in_ok-ports.ensures) named))
 
 pub returns-clause-current : goal.returns-clause-current
 returns-clause-current g c =
     subst
     (λ (s : Inputs).
     HasNames (system_of s) → IfErr c.copy-written.result (IsRefusedLine (system_of s) (g.R.Read.remaining c.args.input.now) (record c.copy-written.new.current { tick = c.copy-written.new.self.tick })))
-    (of_table _ c.in-Some.table c.args.system.now c.in-Some.is c.in_ok-table.ensures.system) c.copy-written.ensures.current
+    (of_table _ c.in-Some.table _ c.in-Some.is c.in_ok-table.ensures.system ∙ c.in_ok-ports.ensures) c.copy-written.ensures.current
     (names_so c.has_names.result c.if-not-has_names.false c.has_names.ensures.named)
 
 pub returns-in_err-ports-clause-current : goal.returns-in_err-ports-clause-current
 returns-in_err-ports-clause-current g c = on_passed _ _ (IsRefusedLine (system_of c.args.system.now) (g.R.Read.remaining c.args.input.now) _) c.from_residual.ensures.1 tt
-
-pub returns-in_err-texts-clause-current : goal.returns-in_err-texts-clause-current
-returns-in_err-texts-clause-current g c = on_passed _ _ (IsRefusedLine (system_of c.args.system.now) (g.R.Read.remaining c.args.input.now) _) c.from_residual-in_err-texts.ensures.1 tt
 
 pub returns-in_err-table-clause-current : goal.returns-in_err-table-clause-current
 returns-in_err-table-clause-current g c = on_passed _ _ (IsRefusedLine (system_of c.args.system.now) (g.R.Read.remaining c.args.input.now) _) c.from_residual-in_err-table.ensures.1 tt

@@ -1,4 +1,3 @@
-use Rattle.std.proofs.Common.{length, ap, ◌∙◌}
 use Rattle.fbsim_command.specs.Expecting.{IsUnheld}
 use Rattle.fbsim_command.specs.declared.failure.Failure.TheVariants.{Memory}
 use Rattle.fbsim_command.proofs.Holding.{passed-on, put-one}
@@ -8,12 +7,6 @@ pub returns-in_err-judged-clause-unheld : goal.returns-in_err-judged-clause-unhe
 returns-in_err-judged-clause-unheld g c =
     passed-on c.from_residual.result _ (IsUnheld g.S.Streams.opens c.args.source.now c.hold.new.source c.args.trace.now) c.from_residual.ensures.1 c.in_err-judged.ensures.unheld
 
-pub put_points-requires : goal.put_points-requires
-put_points-requires g c = record {
-  each = ap length c.as_slice.ensures.value ∙ c.in_ok-judged.ensures.counted;
-  room = c.points_before-before.ensures.room;
-}
-
 pub returns-in_err-put_points-clause-unheld : goal.returns-in_err-put_points-clause-unheld
 returns-in_err-put_points-clause-unheld g c =
     passed-on c.from_residual-in_err-put_points.result Memory (IsUnheld g.S.Streams.opens c.args.source.now c.hold.new.source c.args.trace.now) c.from_residual-in_err-put_points.ensures.1 tt
@@ -21,5 +14,5 @@ returns-in_err-put_points-clause-unheld g c =
 pub returns-clause-put : goal.returns-clause-put
 returns-clause-put g c =
     put-one g.S.Streams.opens c.args.expect.now c.args.rules.now c.args.index c.args.trace c.args.source.now c.hold.new.source c.args.text.now.items c.put_points.new.text.items
-    c.are_well.result c.are_named.result c.points_before-before.result c.in_ok-judged.judged.items c.as_slice.result.now c.as_slice-2.result.now c.in_ok-judged.ensures.held
-    c.in_ok-put_points.ensures c.are_named.ensures c.points_before-before.ensures.count c.as_slice.ensures.value c.as_slice-2.ensures.value c.are_well.ensures
+    c.are_well.result c.are_named.result c.in_ok-judged.judged.items c.as_slice.result.now c.as_slice-2.result.now c.in_ok-judged.ensures.held
+    c.in_ok-put_points.ensures c.are_named.ensures c.as_slice.ensures.value c.as_slice-2.ensures.value c.are_well.ensures

@@ -17,4 +17,4 @@ returns-in_err-is_well-clause-unheld g c =
 pub returns-clause-reported : goal.returns-clause-reported
 returns-clause-reported g c =
     rules_reported g.S.Streams.opens c.args.expect.now c.args.rules.now c.args.source.now c.put_all.new.source c.in_ok-text.text.items c.put_all.new.text.items c.in_ok-is_well.is_well
-    (c.in_ok-text.ensures ∙ ap plan (c.points_before-count.ensures.count ∙ ap (λ (n : ℕ). length c.args.rules.now * n) (c.len.ensures ∙ c.args.expect.now.traces.ok.0))) c.in_ok-is_well.ensures.put
+    (c.in_ok-text.ensures ∙ ap (λ (n : ℕ). plan (length c.args.rules.now * n)) (c.len.ensures ∙ c.args.expect.now.traces.ok.0)) c.in_ok-is_well.ensures.put

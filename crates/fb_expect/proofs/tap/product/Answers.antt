@@ -1,5 +1,5 @@
-use Rattle.fbsim_command.proofs.Holding.{product, room}
-use Rattle.fbsim_command.proofs.expect.product.Goals as goal
+use Rattle.fb_expect.proofs.Numbering.{product, room}
+use Rattle.fb_expect.proofs.tap.product.Goals as goal
 
 pub overflow_mul-result : goal.overflow_mul-result
 overflow_mul-result c = record { fits = product c.args.rules c.args.traces c.ranges.rules.fits c.ranges.traces.fits }

@@ -1,7 +1,7 @@
 use Rattle.std.proofs.Common.{◌≡◌, map, take}
 use Rattle.fb_types.specs.Headline.{system_of}
 use Rattle.fb_wave.specs.Ports.{port_text}
-use Rattle.fb_wave.proofs.table.texts_of.Given as goal
+use Rattle.fb_wave.proofs.system_ports.texts_of.Given as goal
 
 abbrev pub invariant-loop-port : goal.invariant-loop-port
 invariant-loop-port l = l.texts.items ≡ map (port_text (system_of l.system)) (take l.port-index l.ports)

@@ -1,0 +1,38 @@
+use Rattle.std.proofs.Common.{ℕ, Bor, List, map, Contains, Option, sym, ap, subst, ◌∙◌}
+use Rattle.std.specs.Prelude.{All, MatchOption}
+use Rattle.std.specs.BTreeMap.{BTreeMap}
+use Rattle.fb_types.specs.Headline.{system_of}
+use Rattle.fb_types.specs.Names.{Name}
+use Rattle.fb_types.specs.Repeated.{Twice}
+use Rattle.fb_check_names.specs.Indexes.{IsIndex, names_in}
+use Rattle.fb_wave.specs.Ports.{IsPortOf, port_text}
+use Rattle.fb_wave.specs.declared.ports.Port.{Port}
+use Rattle.fb_wave.proofs.Alike.{texts_differ}
+use Rattle.fb_wave.proofs.table.PortTable.of.Goals as goal
+
+pub invariant_of-result : goal.invariant_of-result
+invariant_of-result c =
+    let sys = system_of c.args.ports.now.system.now in
+    let ports = c.args.ports.now in
+    let found = c.in_ok-indexes.ensures in
+    let texts = ports.texts_are ∙ ap (map (port_text sys)) (sym c.as_slice-in-Some.ensures.value) in
+    let names = ap names_in c.as_slice-2.ensures.value ∙ c.in_ok-names.ensures ∙ c.as_slice.ensures.value ∙ texts in
+    record {
+      accepted = c.facts.ensures.accepted;
+      limits = c.facts.ensures.limits;
+      ports_are = subst (All (IsPortOf sys)) (sym c.as_slice-in-Some.ensures.value) ports.are;
+      all = λ p is. subst (λ (ps : List Port). ∥ Contains ps p ∥₁) (sym c.as_slice-in-Some.ensures.value) (ports.all p is);
+      texts_are = c.as_slice-in-Some-2.ensures.value ∙ texts;
+      index =
+          subst (λ (ns : List Name). IsIndex ns c.in-Some.indexes) names
+          (subst (λ (o : Option (BTreeMap (Bor Name) ℕ)). MatchOption o (Twice (names_in c.as_slice-2.result.now)) (IsIndex (names_in c.as_slice-2.result.now))) c.in-Some.is found);
+    }
+
+-- no two ports are written alike
+pub returns-clause-some : goal.returns-clause-some
+returns-clause-some c named =
+    let i = c.args.ports.now.system.now in
+    let ports = c.args.ports.now in
+    let names = ap names_in c.as_slice-2.ensures.value ∙ c.in_ok-names.ensures ∙ c.as_slice.ensures.value ∙ ports.texts_are in
+    let twice = subst (λ (o : Option (BTreeMap (Bor Name) ℕ)). MatchOption o (Twice (names_in c.as_slice-2.result.now)) (IsIndex (names_in c.as_slice-2.result.now))) c.in-None.is c.in_ok-indexes.ensures in
+    absurd (texts_differ i c.facts.ensures.accepted c.facts.ensures.numbered named ports.ports.items ports.are ports.once (subst (λ (ns : List Name). Twice ns) names twice))
