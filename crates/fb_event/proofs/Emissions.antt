@@ -1,23 +1,27 @@
 -- What emissions by number represent.
-use Rattle.std.proofs.Common.{◌≡◌, ℕ, zero, suc, List, [], ◌∷◌, ◌++◌, All, map, length, refl, arith, sym, ap, subst, ◌∙◌}
+use Rattle.std.proofs.Common.{Bool, true, false, not, Option, None, Some, IsTrue, ◌≡◌, ℕ, zero, suc, List, [], ◌∷◌, ◌++◌, All, map, length, refl, arith, sym, ap, subst, ◌∙◌}
 use Rattle.std.proofs.lemmas.List.{length-map, map-append}
 use Rattle.std.proofs.lemmas.List.Elements.{All-head, All-map, All-push, All-tail, All-weaker}
 use Rattle.fb_types.specs.Names.{Name}
 use Rattle.fb_types.specs.Values.{Values}
-use Rattle.fb_types.specs.Blocks.{ports_of_event_block, variable_names, outputs_with, bound}
-use Rattle.fb_types.specs.EventBlocks.{Reaction, output_of}
+use Rattle.std.specs.Prelude.{is_some}
+use Rattle.fb_types.specs.Blocks.{ports_of_event_block, variable_names, outputs_with, bound, type_at}
+use Rattle.fb_types.specs.EventBlocks.{Memory, Reaction, output_of}
 use Rattle.fb_types.specs.Numbers.{event_at, emission_of, pair_up}
 use Rattle.fb_types.specs.Reactions.{emissions}
+use Rattle.fb_types.specs.declared.library.Variable.{Variable}
 use Rattle.fb_types.specs.declared.run.Emission as run
+use Rattle.fb_types.specs.declared.value.Ty.{Ty}
 use Rattle.fb_types.specs.declared.event_kind.EventKind.{EventKind}
 use Rattle.fb_types.specs.declared.event_kind.EventKind.TheVariants.{SetReset, DataLatch, CountUp}
-use Rattle.fb_event.specs.Block.{state, state_of}
+use Rattle.fb_event.specs.Block.{state_of, values_of, values_in, values_if_any, IsInRange}
 use Rattle.fb_event.specs.Emissions.{emission_at, emitted_by}
 use Rattle.fb_event.specs.Reactions.{EmitsAfter, IsEventOutput, IsWellFormed, emissions_of, meanings}
 use Rattle.fb_event.specs.State.{State}
 use Rattle.fb_event.specs.Step.{Performs}
 use Rattle.fb_event.specs.declared.step.Step.{Step}
-use Rattle.fb_event.specs.declared.state.KindState.{KindState}
+use Rattle.fb_event.specs.Seen.{seen_memory}
+use Rattle.fb_event.specs.declared.memory.EventMemory.{EventMemory}
 
 -- every event output is WITH all data outputs
 outputs_with-all : (k : EventKind) (index : ℕ) → IsEventOutput k index
@@ -32,10 +36,10 @@ outputs_with-all CountUp (suc (suc index)) h = absurd (omega arith)
 outputs_with-all _ index h = refl
 
 -- an event output with the values of all data outputs is a well-formed emission
-emission_at-IsWellFormed : (b : KindState) (index : ℕ) → IsEventOutput (state_of b).kind index
-    → IsWellFormed (state_of b).kind (emission_at b index)
-emission_at-IsWellFormed b index h =
-    (h, length-map _ _ ∙ sym (ap length (outputs_with-all (state_of b).kind index h)))
+emission_at-IsWellFormed : (s : State) (index : ℕ) → IsEventOutput s.kind index
+    → IsWellFormed s.kind (emission_at s index)
+emission_at-IsWellFormed s index h =
+    (h, length-map _ _ ∙ sym (ap length (outputs_with-all s.kind index h)))
 
 -- values in the order of the names are the values of the names
 pair_up-map : (vars : Values) (ns : List Name) → pair_up ns (map vars ns) ≡ bound ns vars
@@ -43,45 +47,48 @@ pair_up-map vars [] = refl
 pair_up-map vars (n ∷ ns) = rw (pair_up-map vars ns)
 
 -- what an emission by number represents
-emission_of-emission_at : (b : KindState) (index : ℕ) → IsEventOutput (state_of b).kind index
-    → emission_of (ports_of_event_block (state_of b).kind) (emission_at b index)
+emission_of-emission_at : (s : State) (index : ℕ) → IsEventOutput s.kind index
+    → emission_of (ports_of_event_block s.kind) (emission_at s index)
     ≡ record {
-      event = event_at (ports_of_event_block (state_of b).kind).event_outputs index;
-      values = bound (outputs_with (ports_of_event_block (state_of b).kind) (event_at (ports_of_event_block (state_of b).kind).event_outputs index)) (output_of (state_of b).memory);
+      event = event_at (ports_of_event_block s.kind).event_outputs index;
+      values = bound (outputs_with (ports_of_event_block s.kind) (event_at (ports_of_event_block s.kind).event_outputs index)) (output_of s.memory);
     }
-emission_of-emission_at b index h = rw (outputs_with-all (state_of b).kind index h) (rw (pair_up-map (output_of (state_of b).memory) _))
+emission_of-emission_at s index h = rw (outputs_with-all s.kind index h) (rw (pair_up-map (output_of s.memory) _))
 
 -- what emissions by number represent, by the state of the block
-meanings-emission_at : (b : KindState) (indexes : List ℕ) → All (IsEventOutput (state_of b).kind) indexes
-    → meanings (state_of b).kind (map (emission_at b) indexes)
-    ≡ emissions (ports_of_event_block (state_of b).kind) (output_of (state_of b).memory)
-    (map (event_at (ports_of_event_block (state_of b).kind).event_outputs) indexes)
-meanings-emission_at b [] h = refl
-meanings-emission_at b (index ∷ indexes) h =
-    let here : IsEventOutput (state_of b).kind index = All-head (IsEventOutput (state_of b).kind) index indexes h in
-    let rest : All (IsEventOutput (state_of b).kind) indexes = All-tail (IsEventOutput (state_of b).kind) index indexes h in
-    rw (emission_of-emission_at b index here) (rw (meanings-emission_at b indexes rest))
-
--- .. and so for a block in a known state
-meanings-state : (b : KindState) (s : State) → state_of b ≡ s → (indexes : List ℕ) → All (IsEventOutput s.kind) indexes
-    → meanings s.kind (map (emission_at b) indexes)
-    ≡ emissions (ports_of_event_block s.kind) (output_of s.memory) (map (event_at (ports_of_event_block s.kind).event_outputs) indexes)
-meanings-state b s e indexes =
-    subst (λ (t : State). All (IsEventOutput t.kind) indexes → meanings t.kind (map (emission_at b) indexes)
-    ≡ emissions (ports_of_event_block t.kind) (output_of t.memory) (map (event_at (ports_of_event_block t.kind).event_outputs) indexes))
-    e (meanings-emission_at b indexes)
+meanings-emission_at : (s : State) (indexes : List ℕ) → All (IsEventOutput s.kind) indexes
+    → meanings s.kind (map (emission_at s) indexes)
+    ≡ emissions (ports_of_event_block s.kind) (output_of s.memory)
+    (map (event_at (ports_of_event_block s.kind).event_outputs) indexes)
+meanings-emission_at s [] h = refl
+meanings-emission_at s (index ∷ indexes) h =
+    let here : IsEventOutput s.kind index = All-head (IsEventOutput s.kind) index indexes h in
+    let rest : All (IsEventOutput s.kind) indexes = All-tail (IsEventOutput s.kind) index indexes h in
+    rw (emission_of-emission_at s index here) (rw (meanings-emission_at s indexes rest))
 
 -- a well-formed list stays so where an event output is emitted
-pub push-IsWellFormed : (b : KindState) (emits : List run.Emission) (index : ℕ) → All (IsWellFormed (state_of b).kind) emits
-    → IsEventOutput (state_of b).kind index → All (IsWellFormed (state_of b).kind) (emits ++ emission_at b index ∷ [])
-push-IsWellFormed b emits index all here = All-push (IsWellFormed (state_of b).kind) _ _ all (emission_at-IsWellFormed b index here)
+pub push-IsWellFormed : (s : State) (emits : List run.Emission) (index : ℕ) → All (IsWellFormed s.kind) emits
+    → IsEventOutput s.kind index → All (IsWellFormed s.kind) (emits ++ emission_at s index ∷ [])
+push-IsWellFormed s emits index all here = All-push (IsWellFormed s.kind) _ _ all (emission_at-IsWellFormed s index here)
+
+-- event outputs with the values of all data outputs are well-formed emissions
+all-IsWellFormed : (s : State) (indexes : List ℕ) → All (IsEventOutput s.kind) indexes → All (IsWellFormed s.kind) (map (emission_at s) indexes)
+all-IsWellFormed s indexes within =
+    All-map (IsWellFormed s.kind) (emission_at s) indexes
+    (All-weaker (IsEventOutput s.kind) (λ index. IsWellFormed s.kind (emission_at s index)) (emission_at-IsWellFormed s) indexes within)
 
 -- what a step emits is what its reaction emits
-pub emissions-Performs : (s : State) (r : Reaction) (b : KindState) (step : Step) (old new : List run.Emission) → Performs s r b step
-    → new ≡ old ++ map (emission_at b) step.emits.now → meanings s.kind new ≡ meanings s.kind old ++ emissions_of s.kind r
-emissions-Performs s r b step old new h e =
-    let sent = meanings-state b (state s.kind r.memory) h.block step.emits.now h.within in
-    rw e (map-append _ old _ ∙ ap (λ es. meanings s.kind old ++ es) (sent ∙ ap (emissions (ports_of_event_block s.kind) (output_of r.memory)) h.emits))
+emitted-Performs : (s : State) (r : Reaction) (m : EventMemory) (step : Step) → Performs s r m step
+    → meanings s.kind (emitted_by (state_of s.kind m) step) ≡ emissions_of s.kind r
+emitted-Performs s r m step h =
+    meanings-emission_at (state_of s.kind m) step.emits.now h.within
+    ∙ ap (λ (memory : Memory). emissions (ports_of_event_block s.kind) (output_of memory) (map (event_at (ports_of_event_block s.kind).event_outputs) step.emits.now)) h.memory
+    ∙ ap (emissions (ports_of_event_block s.kind) (output_of r.memory)) h.emits
+
+pub emissions-Performs : (s : State) (r : Reaction) (m : EventMemory) (step : Step) (old new : List run.Emission) → Performs s r m step
+    → new ≡ old ++ map (emission_at (state_of s.kind m)) step.emits.now → meanings s.kind new ≡ meanings s.kind old ++ emissions_of s.kind r
+emissions-Performs s r m step old new h e =
+    rw e (map-append _ old _ ∙ ap (λ es. meanings s.kind old ++ es) (emitted-Performs s r m step h))
 
 -- no list but the empty one has no images
 map-nil : {A B : Type 0} (f : A → B) (xs : List A) → map f xs ≡ [] → xs ≡ []
@@ -89,29 +96,42 @@ map-nil f [] e = refl
 map-nil f (x ∷ xs) e = cc
 
 -- a step emits nothing where its reaction does
-pub silent-Performs : (s : State) (r : Reaction) (b : KindState) (step : Step) → Performs s r b step → r.emits ≡ [] → step.emits.now ≡ []
-silent-Performs s r b step h e = map-nil _ step.emits.now (h.emits ∙ e)
-
--- event outputs with the values of all data outputs are well-formed emissions
-all-IsWellFormed : (b : KindState) (s : State) → state_of b ≡ s → (indexes : List ℕ) → All (IsEventOutput s.kind) indexes → All (IsWellFormed s.kind) (map (emission_at b) indexes)
-all-IsWellFormed b s e indexes within =
-    subst (λ (t : State). All (IsEventOutput t.kind) indexes → All (IsWellFormed t.kind) (map (emission_at b) indexes)) e
-    (λ here. All-map (IsWellFormed (state_of b).kind) (emission_at b) indexes
-    (All-weaker (IsEventOutput (state_of b).kind) (λ index. IsWellFormed (state_of b).kind (emission_at b index)) (emission_at-IsWellFormed b) indexes here)) within
-
--- what a step emits is what its reaction emits
-emitted-Performs : (s : State) (r : Reaction) (b : KindState) (step : Step) → Performs s r b step → meanings s.kind (emitted_by b step) ≡ emissions_of s.kind r
-emitted-Performs s r b step h =
-    meanings-state b (state s.kind r.memory) h.block step.emits.now h.within ∙ ap (emissions (ports_of_event_block s.kind) (output_of r.memory)) h.emits
+pub silent-Performs : (s : State) (r : Reaction) (m : EventMemory) (step : Step) → Performs s r m step → r.emits ≡ [] → step.emits.now ≡ []
+silent-Performs s r m step h e = map-nil _ step.emits.now (h.emits ∙ e)
 
 -- .. after what was emitted before
-pub appended-Performs : (s : State) (r : Reaction) (b : KindState) (step : Step) (old new : List run.Emission) → Performs s r b step
-    → new ≡ old ++ map (emission_at b) step.emits.now → EmitsAfter s.kind r old new
-appended-Performs s r b step old new h e = record {
-  news = emitted_by b step;
+pub appended-Performs : (s : State) (r : Reaction) (m : EventMemory) (step : Step) (old new : List run.Emission) → Performs s r m step
+    → new ≡ old ++ map (emission_at (state_of s.kind m)) step.emits.now → EmitsAfter s.kind r old new
+appended-Performs s r m step old new h e = record {
+  news = emitted_by (state_of s.kind m) step;
   appended = e;
-  meant = emitted-Performs s r b step h;
-  well_formed = all-IsWellFormed b (state s.kind r.memory) h.block step.emits.now h.within;
+  meant = emitted-Performs s r m step h;
+  well_formed = all-IsWellFormed (state_of s.kind m) step.emits.now h.within;
 }
 
 pub ruleset step_emissions = (emissions-Performs, silent-Performs, appended-Performs)
+
+-- ---- The values of the data outputs
+
+-- a block without data outputs
+bare-of : (m : Memory) (vs : List Variable) (head : Option Ty) (result : Bool) → head ≡ type_at vs 0 → is_some head ≡ not result → IsTrue result
+    → map (output_of m) (variable_names vs) ≡ []
+bare-of m [] head result is none t = refl
+bare-of m (x ∷ xs) head true is none t = absurd (cc)
+bare-of m (x ∷ xs) head false is none t = absurd (cc)
+
+pub bare : (k : EventKind) (m : EventMemory) (head : Option Ty) (result : Bool) → head ≡ type_at (ports_of_event_block k).outputs 0
+    → is_some head ≡ not result → IsTrue result → values_of (state_of k m) ≡ []
+bare k m head result is none t = bare-of (seen_memory m) (ports_of_event_block k).outputs head result is none t
+
+-- a block with data outputs
+shown-of : (m : EventMemory) (vs : List Variable) (head : Option Ty) (result : Bool) → head ≡ type_at vs 0 → is_some head ≡ not result → result ≡ false
+    → values_if_any vs m ≡ values_in m
+shown-of m [] head result is none f = absurd (cc)
+shown-of m (x ∷ xs) head result is none f = refl
+
+pub shown : (k : EventKind) (m : EventMemory) (head : Option Ty) (result : Bool) → IsInRange k m → head ≡ type_at (ports_of_event_block k).outputs 0
+    → is_some head ≡ not result → result ≡ false → values_of (state_of k m) ≡ values_in m
+shown k m head result h is none f = h.values ∙ shown-of m (ports_of_event_block k).outputs head result is none f
+
+pub ruleset shown_values = (bare, shown)

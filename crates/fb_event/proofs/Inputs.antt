@@ -15,11 +15,10 @@ use Rattle.fb_types.specs.declared.event_kind.EventKind.TheVariants as kind
 use Rattle.fb_types.specs.declared.value.Value.{Value}
 use Rattle.fb_types.specs.declared.value.Value.TheVariants as value
 use Rattle.fb_event.specs.State.{State}
-use Rattle.fb_event.specs.Block.{state_of, as_time, input_of, memory_of_timer}
+use Rattle.fb_event.specs.Block.{state, as_time, input_of}
 use Rattle.fb_event.specs.Reactions.{FitInputs, reaction_to, first_value}
 use Rattle.fb_event.specs.Step.{Performs, reaction_with}
-use Rattle.fb_event.specs.declared.state.KindState.{KindState}
-use Rattle.fb_event.specs.declared.state.KindState.TheVariants.{Delay, Cycle}
+use Rattle.fb_event.specs.declared.memory.EventMemory.{EventMemory}
 use Rattle.fb_event.specs.declared.step.Step.{Step}
 
 -- a reaction reads the first data input alone
@@ -49,22 +48,22 @@ timed-by m e tick v w same = ap (λ (z : ℤ). timed m e tick (λ n. value.Whole
 -- ---- Where the inputs fit their types
 
 with_inputs :
-    (b : KindState) (event tick : ℕ) (inputs : List Value) → FitInputs (state_of b).kind inputs
-    → reaction_with (state_of b) event tick (input_of b (first_value inputs)) ≡ reaction_with (state_of b) event tick (first_value inputs)
-with_inputs (Delay t) event tick inputs h =
-    timed-by (memory_of_timer t) (event_at (ports_of_event_block kind.Delay).event_inputs event) tick (as_time (first_value inputs)) (first_value inputs) (as_time-typed inputs h)
-with_inputs (Cycle t) event tick inputs h =
-    timed-by (memory_of_timer t) (event_at (ports_of_event_block kind.Cycle).event_inputs event) tick (as_time (first_value inputs)) (first_value inputs) (as_time-typed inputs h)
-with_inputs _ event tick inputs h = refl
+    (k : EventKind) (m : Memory) (event tick : ℕ) (inputs : List Value) → FitInputs k inputs
+    → reaction_with (state k m) event tick (input_of k (first_value inputs)) ≡ reaction_with (state k m) event tick (first_value inputs)
+with_inputs kind.Delay m event tick inputs h =
+    timed-by m (event_at (ports_of_event_block kind.Delay).event_inputs event) tick (as_time (first_value inputs)) (first_value inputs) (as_time-typed inputs h)
+with_inputs kind.Cycle m event tick inputs h =
+    timed-by m (event_at (ports_of_event_block kind.Cycle).event_inputs event) tick (as_time (first_value inputs)) (first_value inputs) (as_time-typed inputs h)
+with_inputs _ m event tick inputs h = refl
 
 pub performs_typed :
-    (b : KindState) (event tick : ℕ) (inputs : List Value) (after : KindState) (step : Step)
-    → Performs (state_of b) (reaction_with (state_of b) event tick (input_of b (first_value inputs))) after step
-    → FitInputs (state_of b).kind inputs
-    → Performs (state_of b) (reaction_to (state_of b) event tick inputs) after step
-performs_typed b event tick inputs after step h typed =
-    subst (λ (r : Reaction). Performs (state_of b) r after step)
-    (with_inputs b event tick inputs typed ∙ sym (reaction_to-first (state_of b) event tick inputs)) h
+    (s : State) (event tick : ℕ) (inputs : List Value) (after : EventMemory) (step : Step)
+    → Performs s (reaction_with s event tick (input_of s.kind (first_value inputs))) after step
+    → FitInputs s.kind inputs
+    → Performs s (reaction_to s event tick inputs) after step
+performs_typed s event tick inputs after step h typed =
+    subst (λ (r : Reaction). Performs s r after step)
+    (with_inputs s.kind s.memory event tick inputs typed ∙ sym (reaction_to-first s event tick inputs)) h
 
 -- ---- Of any inputs
 
@@ -82,17 +81,18 @@ timed_silent m e tick v =
       | false ↦ refl
     ]
 
-same_emits : (b : KindState) (event tick : ℕ) (v : Value) → (reaction_with (state_of b) event tick (input_of b v)).emits ≡ (reaction_with (state_of b) event tick v).emits
-same_emits (Delay t) event tick v =
-    let e = event_at (ports_of_event_block kind.Delay).event_inputs event in timed_silent (memory_of_timer t) e tick (as_time v) ∙ sym (timed_silent (memory_of_timer t) e tick v)
-same_emits (Cycle t) event tick v =
-    let e = event_at (ports_of_event_block kind.Cycle).event_inputs event in timed_silent (memory_of_timer t) e tick (as_time v) ∙ sym (timed_silent (memory_of_timer t) e tick v)
-same_emits _ event tick v = refl
+same_emits : (k : EventKind) (m : Memory) (event tick : ℕ) (v : Value)
+    → (reaction_with (state k m) event tick (input_of k v)).emits ≡ (reaction_with (state k m) event tick v).emits
+same_emits kind.Delay m event tick v =
+    let e = event_at (ports_of_event_block kind.Delay).event_inputs event in timed_silent m e tick (as_time v) ∙ sym (timed_silent m e tick v)
+same_emits kind.Cycle m event tick v =
+    let e = event_at (ports_of_event_block kind.Cycle).event_inputs event in timed_silent m e tick (as_time v) ∙ sym (timed_silent m e tick v)
+same_emits _ m event tick v = refl
 
 pub silent_inputs :
-    (b : KindState) (event tick : ℕ) (inputs : List Value) → (reaction_to (state_of b) event tick inputs).emits ≡ []
-    → (reaction_with (state_of b) event tick (input_of b (first_value inputs))).emits ≡ []
-silent_inputs b event tick inputs h =
-    same_emits b event tick (first_value inputs) ∙ sym (ap (λ (r : Reaction). r.emits) (reaction_to-first (state_of b) event tick inputs)) ∙ h
+    (s : State) (event tick : ℕ) (inputs : List Value) → (reaction_to s event tick inputs).emits ≡ []
+    → (reaction_with s event tick (input_of s.kind (first_value inputs))).emits ≡ []
+silent_inputs s event tick inputs h =
+    same_emits s.kind s.memory event tick (first_value inputs) ∙ sym (ap (λ (r : Reaction). r.emits) (reaction_to-first s event tick inputs)) ∙ h
 
 pub ruleset inputs = (performs_typed, silent_inputs)

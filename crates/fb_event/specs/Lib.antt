@@ -1,6 +1,6 @@
 pub mod State
+pub mod Seen
 pub mod Reactions
 pub mod Block
 pub mod Step
 pub mod Emissions
-pub mod Seen

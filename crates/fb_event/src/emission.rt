@@ -1,100 +1,133 @@
 //! Emissions, and the values of the data outputs that go with them.
 
-ghost use Rattle.std.specs.Prelude.{◌≡◌, [], ◌∷◌, ◌++◌, All, IfOk, IsOk, OnErr, OnOk, map};
-ghost use Rattle.fb_event.specs.Block.{state_of};
-ghost use Rattle.fb_event.specs.Emissions.{values_of, emission_at};
+ghost use Rattle.std.specs.Prelude.{◌≡◌, false, [], ◌∷◌, ◌++◌, All, IfOk, IsOk, IsTrue, OnErr, OnOk, map};
+ghost use Rattle.fb_event.specs.Block.{state_of, values_of, values_in, IsInRange};
+ghost use Rattle.fb_event.specs.Emissions.{emission_at};
 ghost use Rattle.fb_event.specs.Reactions.{BeginsWith, IsEventOutput, IsWellFormed};
 
-use crate::state::KindState;
-use fb_types::{Emission, Emits, Value, Values};
+use crate::memory::EventMemory;
+use fb_types::{Emission, Emits, EventKind, Value, Values, event_block_output};
 use std::alloc::{AllocError, Global};
 
 /// Emits the events at these indexes in order, each with the values of all data outputs: of the fourteen
-/// blocks, those that have data outputs emit no event without them.
+/// blocks, those that have data outputs emit no event without them. The memory is that after the reaction.
 #[inline(always)]
 pub(crate) fn emit_all(
-    block: KindState,
+    kind: EventKind,
+    memory: EventMemory,
     events: &[u32],
     emits: &mut Emits,
 ) -> Result<(), AllocError>
-    requires { All (IsEventOutput (state_of block).kind) events.now }
-    ensures ok { OnOk result (emits.new ≡ emits.old ++ map (emission_at block) events.now) }
-    ensures well_formed { let IsFit = IsWellFormed (state_of block).kind in All IsFit emits.old → All IsFit emits.new }
+    requires in_range { IsInRange kind memory }
+    requires events { All (IsEventOutput kind) events.now }
+    ensures ok { OnOk result (emits.new ≡ emits.old ++ map (emission_at (state_of kind memory)) events.now) }
+    ensures well_formed { let IsFit = IsWellFormed kind in All IsFit emits.old → All IsFit emits.new }
     ensures kept { BeginsWith emits.old emits.new }
     ensures silent { events.now ≡ [] → IsOk result }
 {
     // Most event blocks have no data outputs.
-    if block.is_bare() {
-        return emit_all_bare(block, events, emits);
+    if is_bare(kind, memory) {
+        return emit_all_bare(kind, memory, events, emits);
     }
     for event in events {
-        emit(block, *event, emits)?;
+        emit(kind, memory, *event, emits)?;
     }
     Ok(())
 }
 
 /// .. of a block without data outputs.
 #[inline(always)]
-fn emit_all_bare(block: KindState, events: &[u32], emits: &mut Emits) -> Result<(), AllocError>
-    requires events { All (IsEventOutput (state_of block).kind) events.now }
-    requires bare { values_of block ≡ [] }
-    ensures ok { OnOk result (emits.new ≡ emits.old ++ map (emission_at block) events.now) }
-    ensures well_formed { let IsFit = IsWellFormed (state_of block).kind in All IsFit emits.old → All IsFit emits.new }
+fn emit_all_bare(
+    kind: EventKind,
+    memory: EventMemory,
+    events: &[u32],
+    emits: &mut Emits,
+) -> Result<(), AllocError>
+    requires events { All (IsEventOutput kind) events.now }
+    requires bare { values_of (state_of kind memory) ≡ [] }
+    ensures ok { OnOk result (emits.new ≡ emits.old ++ map (emission_at (state_of kind memory)) events.now) }
+    ensures well_formed { let IsFit = IsWellFormed kind in All IsFit emits.old → All IsFit emits.new }
     ensures kept { BeginsWith emits.old emits.new }
     ensures silent { events.now ≡ [] → IsOk result }
 {
     // Mostly it is one event.
     if let [event] = events {
-        return emit_bare(block, *event, emits);
+        return emit_bare(kind, memory, *event, emits);
     }
-    emit_each_bare(block, events, emits)
+    emit_each_bare(kind, memory, events, emits)
 }
 
 #[inline(never)]
-fn emit_each_bare(block: KindState, events: &[u32], emits: &mut Emits) -> Result<(), AllocError>
-    requires events { All (IsEventOutput (state_of block).kind) events.now }
-    requires bare { values_of block ≡ [] }
-    ensures ok { OnOk result (emits.new ≡ emits.old ++ map (emission_at block) events.now) }
-    ensures well_formed { let IsFit = IsWellFormed (state_of block).kind in All IsFit emits.old → All IsFit emits.new }
+fn emit_each_bare(
+    kind: EventKind,
+    memory: EventMemory,
+    events: &[u32],
+    emits: &mut Emits,
+) -> Result<(), AllocError>
+    requires events { All (IsEventOutput kind) events.now }
+    requires bare { values_of (state_of kind memory) ≡ [] }
+    ensures ok { OnOk result (emits.new ≡ emits.old ++ map (emission_at (state_of kind memory)) events.now) }
+    ensures well_formed { let IsFit = IsWellFormed kind in All IsFit emits.old → All IsFit emits.new }
     ensures kept { BeginsWith emits.old emits.new }
     ensures silent { events.now ≡ [] → IsOk result }
 {
     for event in events {
-        emit_bare(block, *event, emits)?;
+        emit_bare(kind, memory, *event, emits)?;
     }
     Ok(())
 }
 
 #[inline(always)]
-fn emit_bare(block: KindState, event: u32, emits: &mut Emits) -> Result<(), AllocError>
-    requires { values_of block ≡ [] }
-    ensures ok { OnOk result (emits.new ≡ emits.old ++ emission_at block event ∷ []) }
+fn emit_bare(
+    kind: EventKind,
+    memory: EventMemory,
+    event: u32,
+    emits: &mut Emits,
+) -> Result<(), AllocError>
+    requires { values_of (state_of kind memory) ≡ [] }
+    ensures ok { OnOk result (emits.new ≡ emits.old ++ emission_at (state_of kind memory) event ∷ []) }
     ensures err { OnErr result (emits.new ≡ emits.old) }
 {
     emits.push_bare(event)
 }
 
-fn emit(block: KindState, event: u32, emits: &mut Emits) -> Result<(), AllocError>
-    ensures ok { OnOk result (emits.new ≡ emits.old ++ emission_at block event ∷ []) }
+fn emit(
+    kind: EventKind,
+    memory: EventMemory,
+    event: u32,
+    emits: &mut Emits,
+) -> Result<(), AllocError>
+    requires { values_of (state_of kind memory) ≡ values_in memory }
+    ensures ok { OnOk result (emits.new ≡ emits.old ++ emission_at (state_of kind memory) event ∷ []) }
     ensures err { OnErr result (emits.new ≡ emits.old) }
 {
-    let values = outputs(block, emits.allocator())?;
+    let values = outputs(memory, emits.allocator())?;
     emits.push(Emission { event, values })
 }
 
-/// The values of the data outputs. Most event blocks have none, and then no memory is taken.
+/// Whether a block has no data outputs, as most.
+#[tactic(auto, using(crate::proofs::Emissions::shown_values))]
 #[inline(always)]
-fn outputs(block: KindState, alloc: Global) -> Result<Values, AllocError>
-    ensures { IfOk result (λ values. values ≡ values_of block) }
+fn is_bare(kind: EventKind, memory: EventMemory) -> bool
+    requires { IsInRange kind memory }
+    ensures bare { IsTrue result → values_of (state_of kind memory) ≡ [] }
+    ensures shown { result ≡ false → values_of (state_of kind memory) ≡ values_in memory }
 {
-    match block {
-        KindState::SetReset(q) | KindState::DataLatch(q) => Values::from_slice(
-            alloc,
-            &[Value::Bool(q)],
-        ),
-        KindState::CountUp { count, reached } => {
+    event_block_output(kind, 0).is_none()
+}
+
+/// The values of the data outputs, of a block that has any.
+#[inline(always)]
+fn outputs(memory: EventMemory, alloc: Global) -> Result<Values, AllocError>
+    ensures { IfOk result (λ values. values ≡ values_in memory) }
+{
+    match memory {
+        EventMemory::Flag(q) => Values::from_slice(alloc, &[Value::Bool(q)]),
+        EventMemory::Count { count, reached } => {
             Values::from_slice(alloc, &[Value::Bool(reached), Value::Whole(count as i128)])
         }
-        _ => Ok(Values::new(alloc)),
+        EventMemory::Idle | EventMemory::Marks { .. } | EventMemory::Running(_) => Ok(Values::new(
+            alloc,
+        )),
     }
 }

@@ -5,7 +5,7 @@
 //! definitions. They know ports by number, and nothing of the system around the block. `reaction::passes_to` names the
 //! kinds that only pass events on.
 //!
-//! Read in this order: `state`, what a block remembers; `reaction`; `step`, the table itself; `emission`.
+//! Read in this order: `memory` and `state`, what a block remembers; `reaction`; `step`, the table itself; `emission`.
 #![tactic(auto)]
 
 mod emission;
@@ -15,6 +15,6 @@ pub mod state;
 mod step;
 
 pub use fb_types::{EventKind, TimerAsk};
-pub use memory::{EventMemory, memory_of};
+pub use memory::EventMemory;
 pub use reaction::{expire, passes_to, react};
-pub use state::EventState;
+pub use state::{EventState, memory_of};

@@ -18,7 +18,6 @@ use fb_types::{Emits, EventKind, Halt, TimerAsk, Value};
 /// # Errors
 /// `Halt::Memory` where memory ran out, and never a stop. Nothing is said of what the block remembers then.
 /// A reaction that emits nothing takes no memory.
-#[tactic(auto, using(crate::proofs::Inputs::inputs, crate::proofs::Emissions::step_emissions))]
 #[inline(always)]
 pub fn react(
     state: &mut EventState,
@@ -48,8 +47,8 @@ pub fn react(
     ensures only_memory { IfErr result (λ halt. halt ≡ Halt.Memory) }
     ensures silent { (reaction_to state.old event tick inputs.now).emits ≡ [] → IsOk result }
 {
-    let step = reaction(&mut state.block, event, tick, first(inputs));
-    emit_all(state.block, step.emits, emits)?;
+    let step = reaction(state.kind, &mut state.memory, event, tick, first(inputs));
+    emit_all(state.kind, state.memory, step.emits, emits)?;
     *ask = step.ask;
     Ok(())
 }
@@ -72,7 +71,6 @@ pub fn passes_to(kind: EventKind) -> Option<u32>
 /// # Errors
 /// `Halt::Memory` where memory ran out, and never a stop. Nothing is said of what the block remembers then.
 /// A reaction that emits nothing takes no memory.
-#[tactic(auto, using(crate::proofs::Emissions::step_emissions))]
 pub fn expire(
     state: &mut EventState,
     tick: u64,
@@ -95,8 +93,8 @@ pub fn expire(
     ensures only_memory { IfErr result (λ halt. halt ≡ Halt.Memory) }
     ensures silent { (expiry_of state.old tick).emits ≡ [] → IsOk result }
 {
-    let step = expiry(&mut state.block, tick);
-    emit_all(state.block, step.emits, emits)?;
+    let step = expiry(state.kind, &mut state.memory, tick);
+    emit_all(state.kind, state.memory, step.emits, emits)?;
     *ask = step.ask;
     Ok(())
 }

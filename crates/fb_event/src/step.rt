@@ -1,14 +1,15 @@
-//! The result of a reaction.
+//! The table: what each event block remembers at the start, and its reactions to events and to its timer.
 
 ghost use Rattle.std.specs.Prelude.{false, ◌≡◌, ◌≤◌, ◌<◌, ◌^◌, [], ◌∷◌, pos, if◌then◌else◌, ◌<ℤ◌};
 ghost use Rattle.fb_types.specs.Values.{truth, whole as whole_of};
-ghost use Rattle.fb_types.specs.EventBlocks.{ticks as ticks_of};
+ghost use Rattle.fb_types.specs.EventBlocks.{memory_at_start, flag as flag_of, ticks as ticks_of};
 ghost use Rattle.fb_event.specs.Block.{state_of, as_time, input_of, IsInRange, IsTimeInRange};
 ghost use Rattle.fb_event.specs.Reactions.{expiry_of};
+ghost use Rattle.fb_event.specs.Seen.{seen_memory};
 ghost use Rattle.fb_event.specs.Step.{IsTimerAfter, Performs, reaction_with, timed_with};
 
-use crate::state::{KindState, Timer};
-use fb_types::{TimerAsk, Value};
+use crate::memory::EventMemory;
+use fb_types::{EventKind, TimerAsk, Value};
 
 // Indexes of event inputs.
 const EI0_OF_SELECT: u32 = 0;
@@ -71,86 +72,118 @@ impl Step {
     }
 }
 
-/// The reaction to the event input at an index, with the value of the data input, if the block has one. The block is
-/// changed where it remembers something else then.
+/// What a block of a kind remembers at the start.
+pub(crate) fn at_start(kind: EventKind) -> EventMemory
+    ensures memory { seen_memory result ≡ memory_at_start kind }
+    ensures in_range { IsInRange kind result }
+{
+    match kind {
+        EventKind::Rendezvous => EventMemory::Marks {
+            first: false,
+            second: false,
+        },
+        EventKind::SetReset
+        | EventKind::DataLatch
+        | EventKind::RisingEdge
+        | EventKind::FallingEdge => EventMemory::Flag(false),
+        EventKind::CountUp => EventMemory::Count {
+            count: 0,
+            reached: false,
+        },
+        _ => EventMemory::Idle,
+    }
+}
+
+/// The reaction to the event input at an index, with the value of the data input, if the block has one. The memory is
+/// changed where the block remembers something else then.
 ///
 /// It is a call, since the table is large: what takes an event keeps its own hint on inlining that way.
 #[tactic(auto, using(crate::proofs::Events::indexes_of_events))]
 #[inline(never)]
-pub(crate) fn reaction(block: &mut KindState, event: u32, tick: u64, input: Value) -> Step
+pub(crate) fn reaction(
+    kind: EventKind,
+    memory: &mut EventMemory,
+    event: u32,
+    tick: u64,
+    input: Value,
+) -> Step
     requires early { tick ≤ 10 ^ 12 }
-    requires running { IsInRange block.old }
-    ensures { Performs (state_of block.old) (reaction_with (state_of block.old) event tick (input_of block.old input)) block.new result }
+    requires running { IsInRange kind memory.old }
+    ensures { let before = state_of kind memory.old in
+        Performs before (reaction_with before event tick (input_of kind input)) memory.new result }
 {
-    match *block {
-        KindState::Restart => Step::silent(),
-        KindState::Split => Step::emitting(&[0, 1]),
-        KindState::Merge => Step::emitting(&[0]),
-        KindState::Rendezvous { first, second } => {
-            let (after, step) = rendezvous(first, second, event);
-            *block = after;
+    match kind {
+        EventKind::Restart => Step::silent(),
+        EventKind::Split => Step::emitting(&[0, 1]),
+        EventKind::Merge => Step::emitting(&[0]),
+        EventKind::Rendezvous => {
+            let (after, step) = rendezvous(*memory, event);
+            *memory = after;
             step
         }
-        KindState::Permit => Step::emitting_if(is_true(input)),
-        KindState::Select => Step::emitting_if((event == EI0_OF_SELECT) != is_true(input)),
-        KindState::Switch => Step::emitting(if is_true(input) { &[1] } else { &[0] }),
-        KindState::Delay(timer) => {
-            let (timer, ask) = timed(timer, event, tick, input);
-            *block = KindState::Delay(timer);
+        EventKind::Permit => Step::emitting_if(is_true(input)),
+        EventKind::Select => Step::emitting_if((event == EI0_OF_SELECT) != is_true(input)),
+        EventKind::Switch => Step::emitting(if is_true(input) { &[1] } else { &[0] }),
+        EventKind::Delay | EventKind::Cycle => {
+            let (after, ask) = timed(*memory, event, tick, input);
+            *memory = after;
             Step {
                 ask,
                 ..Step::silent()
             }
         }
-        KindState::Cycle(timer) => {
-            let (timer, ask) = timed(timer, event, tick, input);
-            *block = KindState::Cycle(timer);
-            Step {
-                ask,
-                ..Step::silent()
-            }
-        }
-        KindState::SetReset(q) => {
-            let set = event == S_OF_SET_RESET;
-            *block = KindState::SetReset(set);
+        EventKind::SetReset => {
+            let (q, set) = (flag(*memory), event == S_OF_SET_RESET);
+            *memory = EventMemory::Flag(set);
             Step::emitting_if(q != set)
         }
-        KindState::DataLatch(q) => {
-            let d = is_true(input);
-            *block = KindState::DataLatch(d);
+        EventKind::DataLatch => {
+            let (q, d) = (flag(*memory), is_true(input));
+            *memory = EventMemory::Flag(d);
             Step::emitting_if(q != d)
         }
-        KindState::RisingEdge(before) => {
-            let now = is_true(input);
-            *block = KindState::RisingEdge(now);
+        EventKind::RisingEdge => {
+            let (before, now) = (flag(*memory), is_true(input));
+            *memory = EventMemory::Flag(now);
             Step::emitting_if(!before && now)
         }
-        KindState::FallingEdge(before) => {
-            let now = is_true(input);
-            *block = KindState::FallingEdge(now);
+        EventKind::FallingEdge => {
+            let (before, now) = (flag(*memory), is_true(input));
+            *memory = EventMemory::Flag(now);
             Step::emitting_if(before && !now)
         }
-        KindState::CountUp { count, reached } => {
-            let (after, step) = count_up(count, reached, event, input);
-            *block = after;
+        EventKind::CountUp => {
+            let (after, step) = count_up(*memory, event, input);
+            *memory = after;
             step
         }
     }
 }
-
-/// The reaction to the timer. The block is changed where it remembers something else then.
-pub(crate) fn expiry(block: &mut KindState, tick: u64) -> Step
+/// The reaction to the timer. The memory is changed where the block remembers something else then.
+pub(crate) fn expiry(kind: EventKind, memory: &mut EventMemory, tick: u64) -> Step
     requires early { tick ≤ 10 ^ 12 }
-    requires running { IsInRange block.old }
-    ensures { Performs (state_of block.old) (expiry_of (state_of block.old) tick) block.new result }
+    requires running { IsInRange kind memory.old }
+    ensures { let before = state_of kind memory.old in Performs before (expiry_of before tick) memory.new result }
 {
-    match *block {
-        KindState::Restart => Step::emitting(&[0]),
-        KindState::Delay(_) => {
-            *block = KindState::Delay(Timer::Idle);
+    match kind {
+        EventKind::Restart => Step::emitting(&[0]),
+        EventKind::Delay => {
+            *memory = EventMemory::Idle;
             Step::emitting(&[0])
         }
-        KindState::Cycle(Timer::Running(time)) => Step {
+        EventKind::Cycle => again(*memory, tick),
+        _ => Step::silent(),
+    }
+}
+
+/// E_CYCLE emits EO, and its timer is set again, for the time of the START that began it.
+fn again(memory: EventMemory, tick: u64) -> Step
+    requires early { tick ≤ 10 ^ 12 }
+    requires running { IsInRange EventKind.Cycle memory }
+    ensures { let before = state_of EventKind.Cycle memory in Performs before (expiry_of before tick) memory result }
+{
+    match memory {
+        EventMemory::Running(time) => Step {
             emits: &[0],
             ask: TimerAsk::At(tick + time),
         },
@@ -159,11 +192,22 @@ pub(crate) fn expiry(block: &mut KindState, tick: u64) -> Step
 }
 
 /// E_REND emits EO when both events have come, and R clears both marks.
-fn rendezvous(first: bool, second: bool, event: u32) -> (KindState, Step)
-    ensures { let before = KindState.Rendezvous first second in
-        Performs (state_of before) (reaction_with (state_of before) event 0 (Value.Bool false)) result.0 result.1 }
+fn rendezvous(memory: EventMemory, event: u32) -> (EventMemory, Step)
+    requires { IsInRange EventKind.Rendezvous memory }
+    ensures { let before = state_of EventKind.Rendezvous memory in
+        Performs before (reaction_with before event 0 (Value.Bool false)) result.0 result.1 }
 {
-    let cleared = KindState::Rendezvous {
+    match memory {
+        EventMemory::Marks { first, second } => met(first, second, event),
+        _ => (memory, Step::silent()),
+    }
+}
+
+fn met(first: bool, second: bool, event: u32) -> (EventMemory, Step)
+    ensures { let before = state_of EventKind.Rendezvous (EventMemory.Marks first second) in
+        Performs before (reaction_with before event 0 (Value.Bool false)) result.0 result.1 }
+{
+    let cleared = EventMemory::Marks {
         first: false,
         second: false,
     };
@@ -175,47 +219,61 @@ fn rendezvous(first: bool, second: bool, event: u32) -> (KindState, Step)
     if first && second {
         (cleared, Step::emitting(&[0]))
     } else {
-        (KindState::Rendezvous { first, second }, Step::silent())
+        (EventMemory::Marks { first, second }, Step::silent())
     }
 }
 
 /// The timer of E_DELAY and E_CYCLE after START or STOP, and what is asked of it. A time past the range of TIME, which
 /// no input of that type has, counts as the longest.
-fn timed(timer: Timer, event: u32, tick: u64, input: Value) -> (Timer, TimerAsk)
+fn timed(memory: EventMemory, event: u32, tick: u64, input: Value) -> (EventMemory, TimerAsk)
     requires early { tick ≤ 10 ^ 12 }
-    requires running { IsTimeInRange timer }
-    ensures { IsTimerAfter (timed_with timer event tick (as_time input)) result.0 result.1 }
+    requires running { IsTimeInRange memory }
+    ensures { IsTimerAfter (timed_with (seen_memory memory) event tick (as_time input)) result.0 result.1 }
 {
     if event != START {
-        return (Timer::Idle, TimerAsk::Clear);
+        return (EventMemory::Idle, TimerAsk::Clear);
     }
-    match timer {
-        Timer::Running(_) => (timer, TimerAsk::Keep),
-        Timer::Idle => {
+    match memory {
+        EventMemory::Running(_) => (memory, TimerAsk::Keep),
+        _ => {
             let time = ticks(whole(input).min(LONGEST));
-            (Timer::Running(time), TimerAsk::At(tick + time))
+            (EventMemory::Running(time), TimerAsk::At(tick + time))
         }
     }
 }
 
 /// E_CTU counts up to 65535, and R sets it to 0.
-fn count_up(count: u16, reached: bool, event: u32, input: Value) -> (KindState, Step)
-    ensures { let before = KindState.CountUp count reached in
-        Performs (state_of before) (reaction_with (state_of before) event 0 input) result.0 result.1 }
+fn count_up(memory: EventMemory, event: u32, input: Value) -> (EventMemory, Step)
+    requires { IsInRange EventKind.CountUp memory }
+    ensures { let before = state_of EventKind.CountUp memory in
+        Performs before (reaction_with before event 0 input) result.0 result.1 }
 {
     if event == R_OF_COUNT_UP {
-        let cleared = KindState::CountUp {
+        let cleared = EventMemory::Count {
             count: 0,
             reached: false,
         };
         return (cleared, Step::emitting(&[1]));
     }
+    let EventMemory::Count { count, .. } = memory else {
+        return (memory, Step::silent());
+    };
     if count == u16::MAX {
-        return (KindState::CountUp { count, reached }, Step::silent());
+        return (memory, Step::silent());
     }
     let count = count + 1;
     let reached = whole(input) <= count as i128;
-    (KindState::CountUp { count, reached }, Step::emitting(&[0]))
+    (EventMemory::Count { count, reached }, Step::emitting(&[0]))
+}
+
+/// Q, or QI as it was sampled before.
+fn flag(memory: EventMemory) -> bool
+    ensures { result ≡ flag_of (seen_memory memory) }
+{
+    match memory {
+        EventMemory::Flag(flag) => flag,
+        _ => false,
+    }
 }
 
 /// A time in ticks. Below 1 it counts as 1.

@@ -110,20 +110,9 @@ reaction_steady FallingEdge m e tick vars h = flag_steady tick (flag m && not (t
 reaction_steady CountUp m e tick vars h = if_steady tick (is e (codes "R")) _ _ (record { long = tt; ahead = tt }) (counted_steady tick m _ h)
 
 expiry_steady : (kind : EventKind) (m : Memory) (tick : ℕ) → IsLong m → IsSteady tick (expiry kind m tick)
-expiry_steady Restart m tick h = record { long = h; ahead = tt }
-expiry_steady Split m tick h = record { long = h; ahead = tt }
-expiry_steady Merge m tick h = record { long = h; ahead = tt }
-expiry_steady Rendezvous m tick h = record { long = h; ahead = tt }
-expiry_steady Permit m tick h = record { long = h; ahead = tt }
-expiry_steady Select m tick h = record { long = h; ahead = tt }
-expiry_steady Switch m tick h = record { long = h; ahead = tt }
 expiry_steady Delay m tick h = record { long = tt; ahead = tt }
 expiry_steady Cycle m tick h = again_steady m tick h
-expiry_steady SetReset m tick h = record { long = h; ahead = tt }
-expiry_steady DataLatch m tick h = record { long = h; ahead = tt }
-expiry_steady RisingEdge m tick h = record { long = h; ahead = tt }
-expiry_steady FallingEdge m tick h = record { long = h; ahead = tt }
-expiry_steady CountUp m tick h = record { long = h; ahead = tt }
+expiry_steady _ m tick h = record { long = h; ahead = tt }
 
 -- ---- Reactions
 

@@ -1,19 +1,19 @@
--- The outputs that an event block remembers have their types, and its count stays within them.
+-- What an event block remembers gives its data outputs values of their types.
 use Rattle.std.proofs.Common.{◌≡◌, ◌≤◌, ◌<◌, ◌+◌, ℕ, refl, sym, subst, ap, ltb, leb, nat_le, Bool, true, false, cond, List, [], ◌∷◌, Some, codes, arith}
 use Rattle.std.proofs.lemmas.Bool.{ltb-true, lt-ltb, le-leb, and_from}
 use Rattle.fb_types.specs.Names.{Name, same_name}
 use Rattle.fb_types.specs.Values.{Values, fits, whole}
 use Rattle.fb_types.specs.Blocks.{Event, ports_of_event_block, variable}
-use Rattle.fb_types.specs.EventBlocks.{Memory, Idle, Marks, Flag, Running, Count, Reaction, output_of, emits, stays, counted, reaction, expiry, natural, is}
+use Rattle.fb_types.specs.EventBlocks.{Memory, Idle, Marks, Flag, Running, Count, Reaction, output_of, emits, stays, counted, memory_at_start, reaction, expiry, natural, is}
 use Rattle.fb_types.specs.Reactions.{memory_of}
 use Rattle.fb_types.specs.States as states
 use Rattle.fb_types.specs.declared.event_kind.EventKind.{EventKind}
-use Rattle.fb_types.specs.declared.event_kind.EventKind.TheVariants.{SetReset, DataLatch, CountUp}
+use Rattle.fb_types.specs.declared.event_kind.EventKind.TheVariants.{Delay, Cycle, SetReset, DataLatch, CountUp}
 use Rattle.fb_types.specs.declared.library.Variable.{Variable}
 use Rattle.fb_types.specs.declared.value.Ty.TheVariants.{Uint, Bool as Boolean}
 use Rattle.fb_types.proofs.NameLaws.{same_from_same_name}
 use Rattle.std.proofs.lemmas.Option.{same_Some}
-use Rattle.fb_laws.specs.Typed.{variable_named, AllFit, IsCount, IsTypedMemory}
+use Rattle.fb_laws.specs.Typed.{variable_named, AllFit, IsTypedMemory}
 
 -- ---- Outputs
 
@@ -36,54 +36,61 @@ flag-fits (Flag q) = refl
 flag-fits (Running time) = refl
 flag-fits (Count cv q) = refl
 
-count-fits : (cv : ℕ) (q : Bool) → cv ≤ 65535 → fits Uint (output_of (Count cv q) (codes "CV")) ≡ true
-count-fits cv q most = and_from (leb 0 cv) (ltb cv 65536) (le-leb 0 cv (omega arith)) (lt-ltb cv 65536 (omega arith))
+-- the data outputs of E_SR, E_D_FF and E_CTU
+abbrev q : List Variable
+q = variable (codes "Q") Boolean ∷ []
 
-remembered_one : (m n : Memory) → states.Remembers m ≡ states.Remembers n → m ≡ n
-remembered_one m n e = cc
+abbrev q_and_cv : List Variable
+q_and_cv = variable (codes "Q") Boolean ∷ variable (codes "CV") Uint ∷ []
+
+q-fits : (m : Memory) → AllFit q (output_of m)
+q-fits m = one_more-fits (variable (codes "Q") Boolean) [] (output_of m) (flag-fits m) (none-fits (output_of m))
+
+count-fits : (cv : ℕ) (reached : Bool) → cv ≤ 65535 → AllFit q_and_cv (output_of (Count cv reached))
+count-fits cv reached most =
+    one_more-fits (variable (codes "Q") Boolean) (variable (codes "CV") Uint ∷ []) (output_of (Count cv reached)) refl
+    (one_more-fits (variable (codes "CV") Uint) [] (output_of (Count cv reached))
+    (and_from (leb 0 cv) (ltb cv 65536) (le-leb 0 cv (omega arith)) (lt-ltb cv 65536 (omega arith)))
+    (none-fits (output_of (Count cv reached))))
 
 pub outputs-fit : (kind : EventKind) (m : Memory) → IsTypedMemory (Event kind) (states.Remembers m) → AllFit (ports_of_event_block kind).outputs (output_of m)
-outputs-fit SetReset m t = one_more-fits (variable (codes "Q") Boolean) [] (output_of m) (flag-fits m) (none-fits (output_of m))
-outputs-fit DataLatch m t = one_more-fits (variable (codes "Q") Boolean) [] (output_of m) (flag-fits m) (none-fits (output_of m))
-outputs-fit CountUp m t =
-    one_more-fits (variable (codes "Q") Boolean) (variable (codes "CV") Uint ∷ []) (output_of m) (flag-fits m)
-    (one_more-fits (variable (codes "CV") Uint) [] (output_of m)
-    (subst (λ (z : Memory). fits Uint (output_of z (codes "CV")) ≡ true) (sym (remembered_one m (Count t.count t.reached) t.is)) (count-fits t.count t.reached t.most))
-    (none-fits (output_of m)))
-outputs-fit _ m t = none-fits (output_of m)
+outputs-fit kind m t = t
 
 -- ---- Memories
 
-IsCount-of : (cv : ℕ) (q : Bool) → cv ≤ 65535 → IsCount (states.Remembers (Count cv q))
-IsCount-of cv q most = record { count = cv; reached = q; is = refl; most = most }
-
-counted-count : (cv : ℕ) (q : Bool) (pv : ℕ) → cv ≤ 65535 → IsCount (states.Remembers (counted (Count cv q) pv).memory)
-counted-count cv q pv most = go (ltb cv 65535) refl
+counted-fits : (m : Memory) (pv : ℕ) → AllFit q_and_cv (output_of m) → AllFit q_and_cv (output_of (counted m pv).memory)
+counted-fits (Count cv reached) pv t = go (ltb cv 65535) refl
   where
     go : (b : Bool) → ltb cv 65535 ≡ b
-        → IsCount (states.Remembers (cond {A = Reaction} b (emits (Count (cv + 1) (nat_le pv (cv + 1))) (codes "CUO" ∷ [])) (stays (Count cv q))).memory)
-    go true e = let below : cv < 65535 = ltb-true cv 65535 e in IsCount-of (cv + 1) (nat_le pv (cv + 1)) (omega arith)
-    go false e = IsCount-of cv q most
+        → AllFit q_and_cv (output_of (cond {A = Reaction} b (emits (Count (cv + 1) (nat_le pv (cv + 1))) (codes "CUO" ∷ [])) (stays (Count cv reached))).memory)
+    go true e = let below : cv < 65535 = ltb-true cv 65535 e in count-fits (cv + 1) (nat_le pv (cv + 1)) (omega arith)
+    go false e = t
+counted-fits Idle pv t = t
+counted-fits (Marks first second) pv t = t
+counted-fits (Flag f) pv t = t
+counted-fits (Running time) pv t = t
 
 -- a reset, or one more
-counter-count : (cv : ℕ) (q : Bool) (pv : ℕ) → cv ≤ 65535 → (reset : Bool)
-    → IsCount (states.Remembers (cond {A = Reaction} reset (emits (Count 0 false) (codes "RO" ∷ [])) (counted (Count cv q) pv)).memory)
-counter-count cv q pv most true = IsCount-of 0 false (omega arith)
-counter-count cv q pv most false = counted-count cv q pv most
+counter-fits : (m : Memory) (pv : ℕ) → AllFit q_and_cv (output_of m) → (reset : Bool)
+    → AllFit q_and_cv (output_of (cond {A = Reaction} reset (emits (Count 0 false) (codes "RO" ∷ [])) (counted m pv)).memory)
+counter-fits m pv t true = count-fits 0 false (omega arith)
+counter-fits m pv t false = counted-fits m pv t
 
 pub reaction-typed : (kind : EventKind) (m : states.Memory) (e : Name) (tick : ℕ) (vars : Values) → IsTypedMemory (Event kind) m
     → IsTypedMemory (Event kind) (states.Remembers (reaction kind (memory_of m) e tick vars).memory)
-reaction-typed CountUp m e tick vars t =
-    subst (λ (z : Memory). IsCount (states.Remembers (reaction CountUp z e tick vars).memory)) (sym (ap memory_of t.is))
-    (counter-count t.count t.reached (natural (whole (vars (codes "PV")))) t.most (is e (codes "R")))
-reaction-typed _ m e tick vars t = tt
+reaction-typed SetReset m e tick vars t = q-fits (reaction SetReset (memory_of m) e tick vars).memory
+reaction-typed DataLatch m e tick vars t = q-fits (reaction DataLatch (memory_of m) e tick vars).memory
+reaction-typed CountUp m e tick vars t = counter-fits (memory_of m) (natural (whole (vars (codes "PV")))) t (is e (codes "R"))
+reaction-typed kind m e tick vars t = none-fits (output_of (reaction kind (memory_of m) e tick vars).memory)
 
 pub expiry-typed : (kind : EventKind) (m : states.Memory) (tick : ℕ) → IsTypedMemory (Event kind) m
     → IsTypedMemory (Event kind) (states.Remembers (expiry kind (memory_of m) tick).memory)
-expiry-typed CountUp m tick t = record {
-  count = t.count;
-  reached = t.reached;
-  is = ap (λ (z : states.Memory). states.Remembers (memory_of z)) t.is;
-  most = t.most;
-}
-expiry-typed _ m tick t = tt
+expiry-typed Delay m tick t = none-fits (output_of (expiry Delay (memory_of m) tick).memory)
+expiry-typed Cycle m tick t = none-fits (output_of (expiry Cycle (memory_of m) tick).memory)
+expiry-typed _ m tick t = t
+
+pub start-typed : (kind : EventKind) → IsTypedMemory (Event kind) (states.Remembers (memory_at_start kind))
+start-typed SetReset = q-fits (Flag false)
+start-typed DataLatch = q-fits (Flag false)
+start-typed CountUp = count-fits 0 false (omega arith)
+start-typed kind = none-fits (output_of (memory_at_start kind))

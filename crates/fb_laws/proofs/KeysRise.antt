@@ -13,7 +13,7 @@ use Rattle.fb_types.specs.Simulation.{Stimulus, Taken, TakesLeast, after, Chain,
 use Rattle.fb_types.specs.Machines.{Each}
 use Rattle.fb_types.specs.declared.key.Key.{Key}
 use Rattle.fb_types.specs.declared.event_kind.EventKind.{EventKind}
-use Rattle.fb_types.specs.declared.event_kind.EventKind.TheVariants.{Restart, Split, Merge, Rendezvous, Permit, Select, Switch, Delay, Cycle, SetReset, DataLatch, RisingEdge, FallingEdge, CountUp}
+use Rattle.fb_types.specs.declared.event_kind.EventKind.TheVariants.{Rendezvous}
 use Rattle.fb_types.specs.declared.run.TimerAsk.{TimerAsk}
 use Rattle.fb_types.specs.declared.run.TimerAsk.TheVariants.{Keep, Clear, At}
 use Rattle.fb_types.proofs.KeyLaws.{same_key_is}
@@ -126,20 +126,8 @@ put_is (Some w) v h = let e : Some w ≡ Some v = cc in e
 -- ---- The opening
 
 start_long : (kind : EventKind) → IsLong (memory_at_start kind)
-start_long Restart = tt
-start_long Split = tt
-start_long Merge = tt
 start_long Rendezvous = tt
-start_long Permit = tt
-start_long Select = tt
-start_long Switch = tt
-start_long Delay = tt
-start_long Cycle = tt
-start_long SetReset = tt
-start_long DataLatch = tt
-start_long RisingEdge = tt
-start_long FallingEdge = tt
-start_long CountUp = tt
+start_long _ = tt
 
 kind_long : (kind : Option Kind) → IsLong (memory_of (opening_memory kind))
 kind_long None = tt

@@ -10,7 +10,7 @@ use Rattle.fb_types.specs.Simulation.{Stimulus, opening, opening_events, stimuli
 use Rattle.fb_types.specs.Machines.{Each}
 use Rattle.fb_types.specs.Parts.{machine, count_of, IsAtResource}
 use Rattle.fb_types.specs.declared.key.Key.{Key}
-use Rattle.fb_types.specs.declared.event_kind.EventKind.TheVariants.{Restart, Split, Merge, Rendezvous, Permit, Select, Switch, Delay, Cycle, SetReset, DataLatch, RisingEdge, FallingEdge, CountUp}
+use Rattle.fb_types.specs.declared.event_kind.EventKind.TheVariants.{Restart}
 use Rattle.fb_laws.specs.Sound.{IsSound}
 use Rattle.fb_laws.specs.Worlds.{IsOpening, IsCounted}
 use Rattle.fb_types.proofs.Lookups.{none_some, none_since, or_else_some}
@@ -42,19 +42,7 @@ module _ (sys : System) (sound : IsSound sys) (limit : ℕ) where
       go (Some (Basic t)) e = rw (restart_of, e) tt
       go (Some (Composite t)) e = rw (restart_of, e) tt
       go (Some (EventBlock Restart)) e = rw (restart_of, e) (record { class = refl; low = omega arith; fits = refl; counted = sound.counted p }, tt)
-      go (Some (EventBlock Split)) e = rw (restart_of, e) tt
-      go (Some (EventBlock Merge)) e = rw (restart_of, e) tt
-      go (Some (EventBlock Rendezvous)) e = rw (restart_of, e) tt
-      go (Some (EventBlock Permit)) e = rw (restart_of, e) tt
-      go (Some (EventBlock Select)) e = rw (restart_of, e) tt
-      go (Some (EventBlock Switch)) e = rw (restart_of, e) tt
-      go (Some (EventBlock Delay)) e = rw (restart_of, e) tt
-      go (Some (EventBlock Cycle)) e = rw (restart_of, e) tt
-      go (Some (EventBlock SetReset)) e = rw (restart_of, e) tt
-      go (Some (EventBlock DataLatch)) e = rw (restart_of, e) tt
-      go (Some (EventBlock RisingEdge)) e = rw (restart_of, e) tt
-      go (Some (EventBlock FallingEdge)) e = rw (restart_of, e) tt
-      go (Some (EventBlock CountUp)) e = rw (restart_of, e) tt
+      go (Some (EventBlock _)) e = rw (restart_of, e) tt
 
   restarts_good : (ps : List Path) → Each Good (flat_map (restart_of sys) ps)
   restarts_good [] = tt

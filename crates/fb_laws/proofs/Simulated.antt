@@ -1,5 +1,5 @@
 -- In a simulation each variable holds a value of its type.
-use Rattle.std.proofs.Common.{ℕ, zero, suc, ◌+◌, refl, sym, subst, eqb, Bool, true, false, cond, List, [], ◌∷◌, Option, Some, None, All, arith}
+use Rattle.std.proofs.Common.{ℕ, zero, suc, ◌+◌, refl, sym, subst, eqb, Bool, true, false, cond, List, [], ◌∷◌, Option, Some, None, All}
 use Rattle.std.specs.Prelude.{flat_map}
 use Rattle.std.proofs.lemmas.List.Elements.{All-nil, All-cons, All-head, All-tail, All-append, All-push}
 use Rattle.fb_types.specs.Names.{Path, Port}
@@ -10,7 +10,7 @@ use Rattle.fb_types.specs.Simulation.{Stimulus, Taken, IsSimulation, Chain, afte
 use Rattle.fb_types.specs.States.{State, Meter, Config, Agenda, Event as AnEvent, Expired, Raised, path_of}
 use Rattle.fb_types.specs.Systems.{System}
 use Rattle.fb_types.specs.Takes.{Posts, post, post_all, posts_of, timer_change, is_timer_of, Effect, put_of, world_of, effect_of, TakesWith, Takes, begun, agenda_after}
-use Rattle.fb_types.specs.declared.event_kind.EventKind.TheVariants.{Restart, CountUp}
+use Rattle.fb_types.specs.declared.event_kind.EventKind.TheVariants.{Restart}
 use Rattle.fb_types.specs.declared.key.Key.{Key}
 use Rattle.fb_types.specs.declared.run.TimerAsk.{TimerAsk}
 use Rattle.fb_types.specs.declared.run.TimerAsk.TheVariants.{Keep, Clear, At}
@@ -18,6 +18,7 @@ use Rattle.fb_laws.specs.Typed.{FitsAt, AreTyped, IsTypedMemory, IsTypedEvent, I
 use Rattle.fb_laws.specs.Simulations.{BeginsTyped, IsTypedStimulus, IsTypedState, IsTypedTaking}
 use Rattle.fb_laws.proofs.Values.{port-found, input-found}
 use Rattle.fb_laws.proofs.Agendas.{Holds, holds_none, holds_some, holds_if, holds_or_else, holds_found, holds_put, holds_changed, holds_without}
+use Rattle.fb_laws.proofs.EventBlocks.{start-typed}
 use Rattle.fb_laws.proofs.Kept.{reacts_typed}
 
 module _ (sys : System) (sound : IsTypedSystem sys) where
@@ -146,7 +147,7 @@ module _ (sys : System) (sound : IsTypedSystem sys) where
       (holds_none (IsTypedEvent sys))
 
   opening_memory-typed : (k : Kind) → IsTypedMemory k (opening_memory (Some k))
-  opening_memory-typed (Event CountUp) = record { count = 0; reached = false; is = refl; most = omega arith }
+  opening_memory-typed (Event kind) = start-typed kind
   opening_memory-typed _ = tt
 
   pub opening_state-typed : BeginsTyped sys → IsTypedState sys (opening_state sys)

@@ -72,17 +72,5 @@ reaction_later FallingEdge m e tick vars = emits_if_later tick _ _ _
 reaction_later CountUp m e tick vars = if_later tick (is e (codes "R")) _ _ tt (counted_later tick m _)
 
 pub expiry_later : (kind : EventKind) (m : Memory) (tick : ℕ) → IsLater tick (expiry kind m tick).timer
-expiry_later Restart m tick = tt
-expiry_later Split m tick = tt
-expiry_later Merge m tick = tt
-expiry_later Rendezvous m tick = tt
-expiry_later Permit m tick = tt
-expiry_later Select m tick = tt
-expiry_later Switch m tick = tt
-expiry_later Delay m tick = tt
 expiry_later Cycle m tick = again_later m tick
-expiry_later SetReset m tick = tt
-expiry_later DataLatch m tick = tt
-expiry_later RisingEdge m tick = tt
-expiry_later FallingEdge m tick = tt
-expiry_later CountUp m tick = tt
+expiry_later _ m tick = tt

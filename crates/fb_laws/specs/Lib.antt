@@ -8,3 +8,4 @@ pub mod Cuts
 pub mod Finality
 pub mod ScheduleLaw
 pub mod Phases
+pub mod OfSystem

@@ -1,15 +1,14 @@
 -- Variables that hold values of their types (IEC 61131-3, 6.4; that each assignment, connection and stimulus is checked
 -- by the type is this project's profile).
-use Rattle.std.specs.Prelude.{◌≡◌, ◌≤◌, ℕ, List, ◌++◌, Bool, true, Option, Some, All}
+use Rattle.std.specs.Prelude.{◌≡◌, ℕ, List, ◌++◌, Bool, true, Option, Some, All}
 use Rattle.fb_types.specs.Names.{Name, Path, Port}
 use Rattle.fb_types.specs.Values.{Values, fits}
-use Rattle.fb_types.specs.Blocks.{Kind, Event, Bound, named, ports_of}
+use Rattle.fb_types.specs.Blocks.{Kind, Event, Bound, named, ports_of, ports_of_event_block}
 use Rattle.fb_types.specs.EventBlocks as blocks
 use Rattle.fb_types.specs.Flat.{variables_in}
-use Rattle.fb_types.specs.Reactions.{World, Out, Local, Sends, Outcome, Reacts}
-use Rattle.fb_types.specs.States.{Memory, Remembers, Block, Stimulated, Expired, Arrived, Raised, Event as AnEvent}
+use Rattle.fb_types.specs.Reactions.{World, Out, Local, Sends, Outcome, Reacts, memory_of}
+use Rattle.fb_types.specs.States.{Memory, Block, Stimulated, Expired, Arrived, Raised, Event as AnEvent}
 use Rattle.fb_types.specs.Systems.{System}
-use Rattle.fb_types.specs.declared.event_kind.EventKind.TheVariants.{CountUp}
 use Rattle.fb_types.specs.declared.key.Key.{Key}
 use Rattle.fb_types.specs.declared.library.Variable.{Variable}
 use Rattle.fb_types.specs.declared.value.Value.{Value}
@@ -21,15 +20,9 @@ variable_named n vs = named (λ v. v.name) n vs
 abbrev pub AllFit : List Variable → Values → Type 0
 AllFit vs all = (n : Name) (x : Variable) → variable_named n vs ≡ Some x → fits x.ty (all n) ≡ true
 
--- A counter remembers its count, which is at most 65535.
-pub record IsCount (m : Memory) : Type 0 where
-  pub count : ℕ
-  pub reached : Bool
-  pub is : m ≡ Remembers (blocks.Count count reached)
-  pub most : count ≤ 65535
-
+-- An event block remembers what gives its data outputs values of their types.
 abbrev pub IsTypedMemory : Kind → Memory → Type 0
-IsTypedMemory (Event CountUp) m = IsCount m
+IsTypedMemory (Event k) m = AllFit (ports_of_event_block k).outputs (blocks.output_of (memory_of m))
 IsTypedMemory k m = Unit {0}
 
 pub record IsTypedBlock (k : Kind) (b : Block) : Type 0 where

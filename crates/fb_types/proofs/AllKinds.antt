@@ -4,8 +4,8 @@ use Rattle.std.specs.Prelude.{slice_get, Some, option_map}
 use Rattle.std.specs.List.{list_all}
 use Rattle.std.proofs.lemmas.List.{take_more, map-append}
 use Rattle.std.proofs.lemmas.Option.{slice_get-map}
-use Rattle.fb_types.specs.Blocks.{ports_of_event_block}
-use Rattle.fb_types.specs.EventPorts.{ArePortsOfKinds, kind_index}
+use Rattle.fb_types.specs.Blocks.{kind_index, ports_of_event_block}
+use Rattle.fb_types.specs.EventPorts.{ArePortsOfKinds}
 use Rattle.fb_types.specs.declared.event_kind.EventKind.{EventKind}
 use Rattle.fb_types.specs.declared.event_kind.EventKind.TheVariants.{Restart, Split, Merge, Rendezvous, Permit, Select, Switch, Delay, Cycle, SetReset, DataLatch, RisingEdge, FallingEdge, CountUp}
 use Rattle.fb_types.specs.declared.library.Ports.{Ports}
@@ -37,6 +37,10 @@ kind_stands CountUp = refl
 pub of_each : (test : EventKind → Bool) → list_all test kinds ≡ true → (k : EventKind) → test k ≡ true
 of_each test passed k = passes_at test kinds k passed (element_of_index kinds (kind_index k) k (kind_stands k))
 
+-- each kind's interface is at its index
+pub kinds_stand : ArePortsOfKinds (map ports_of_event_block kinds)
+kinds_stand k = slice_get-map ports_of_event_block kinds (kind_index k) ∙ ap (option_map ports_of_event_block) (kind_stands k)
+
 pub ports_next :
     (n : ℕ) (all more : List Ports) (x : Ports) → n < 14 → x ≡ ports_of_event_block (get_or kinds n Restart)
     → all ≡ map ports_of_event_block (take n kinds) → more ≡ all ++ x ∷ [] → more ≡ map ports_of_event_block (take (n + 1) kinds)
@@ -47,5 +51,4 @@ ports_next n all more x h is so_far grown =
 
 pub ports_all : (n : ℕ) (all : List Ports) → n ≡ 14 → all ≡ map ports_of_event_block (take n kinds) → ArePortsOfKinds all
 ports_all n all e so_far k =
-    ap (λ (ps : List Ports). slice_get ps (kind_index k)) (so_far ∙ ap (λ n. map ports_of_event_block (take n kinds)) e)
-    ∙ slice_get-map ports_of_event_block kinds (kind_index k) ∙ ap (option_map ports_of_event_block) (kind_stands k)
+    ap (λ (ps : List Ports). slice_get ps (kind_index k)) (so_far ∙ ap (λ n. map ports_of_event_block (take n kinds)) e) ∙ kinds_stand k

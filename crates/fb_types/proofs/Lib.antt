@@ -2,6 +2,7 @@ pub mod Elements
 pub mod TwiceLaws
 pub mod NameLaws
 pub mod Words
+pub mod NameOrders
 pub mod Positions
 pub mod ByIndex
 pub mod ListTests
@@ -34,5 +35,6 @@ pub mod TwoLinks
 pub mod Acceptance
 pub mod ExamplesAccepted
 pub mod AllKinds
+pub mod Rows
 pub mod EventCounts
 pub mod EventNames

@@ -96,6 +96,23 @@ event_blocks = routing_blocks ++ remembering_blocks
 abbrev pub event_block_named : Name → Option EventKind
 event_block_named n = option_map (λ e. e.1) (named (λ e. e.0) n event_blocks)
 
+-- the index of a kind of event blocks among all of them
+abbrev pub kind_index : EventKind → ℕ
+kind_index Restart = 0
+kind_index Split = 1
+kind_index Merge = 2
+kind_index Rendezvous = 3
+kind_index Permit = 4
+kind_index Select = 5
+kind_index Switch = 6
+kind_index Delay = 7
+kind_index Cycle = 8
+kind_index SetReset = 9
+kind_index DataLatch = 10
+kind_index RisingEdge = 11
+kind_index FallingEdge = 12
+kind_index CountUp = 13
+
 -- ---- Ports of a type
 
 abbrev pub ports_of : Kind → Ports

@@ -4,7 +4,7 @@ use Rattle.std.specs.Borrow.{Bor}
 use Rattle.fb_types.specs.Blocks.{named, event_with, variable, ports}
 use Rattle.fb_types.specs.Names.{Name}
 use Rattle.fb_types.specs.declared.event_kind.EventKind.{EventKind}
-use Rattle.fb_types.specs.declared.event_ports.Rows.{Rows}
+use Rattle.fb_types.specs.declared.event_kind.Row.{Row}
 use Rattle.fb_types.specs.declared.library.EventPort.{EventPort}
 use Rattle.fb_types.specs.declared.library.Ports.{Ports}
 use Rattle.fb_types.specs.declared.library.Variable.{Variable}
@@ -20,6 +20,9 @@ event_of r = event_with r.0.now (map (λ v. v.now) r.1.now)
 abbrev pub variable_of : Bor Name × Ty → Variable
 variable_of r = variable r.0.now r.1
 
-abbrev pub ports_of_rows : Rows → Ports
-ports_of_rows r =
+abbrev pub name_and_kind : Row → Name × EventKind
+name_and_kind r = (r.name.now, r.kind)
+
+abbrev pub ports_of_row : Row → Ports
+ports_of_row r =
     ports (map event_of r.event_inputs.now) (map event_of r.event_outputs.now) (map variable_of r.inputs.now) (map variable_of r.outputs.now)

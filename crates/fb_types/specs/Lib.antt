@@ -3,6 +3,7 @@ pub mod Latencies
 pub mod Limits
 pub mod Names
 pub mod Words
+pub mod NameOrder
 pub mod Spelt
 pub mod Syntax
 pub mod Values
@@ -43,3 +44,4 @@ pub mod Histories
 pub mod Merges
 pub mod Cores
 pub mod Schedules
+pub mod OfSystem

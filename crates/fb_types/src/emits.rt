@@ -155,22 +155,18 @@ impl Emits {
         Some(event)
     }
 
-    /// Removes the only emission, if it is the only one and has one value, stored in place, and returns its event and that
-    /// value. Otherwise the list stays as it is.
+    /// The event and the value of the only emission, if it is the only one and has one value, stored in place. The value is
+    /// lent, so that it is copied once, to where it stays.
     #[inline(always)]
-    pub fn pop_one(&mut self) -> Option<(u32, Value)>
-        ensures alone { IfSome result (λ (event, value). self.old ≡ record { event = event; values = value ∷ [] } ∷ []) }
-        ensures none_left { IfSome result (λ _. self.new ≡ []) }
-        ensures same { IfNone result (self.new ≡ self.old) }
+    pub fn only(&self) -> Option<(u32, &Value)>
+        ensures { IfSome result (λ (event, value). self.now ≡ record { event = event; values = value.now ∷ [] } ∷ []) }
     {
         let first = self.first.as_ref()?;
         let value = first.values.only()?;
         if !self.others.is_empty() {
             return None;
         }
-        let event = first.event;
-        self.first = None;
-        Some((event, value))
+        Some((first.event, value))
     }
 
     /// Drops all emissions and keeps their memory.
@@ -178,8 +174,13 @@ impl Emits {
     pub fn clear(&mut self)
         ensures { self.new ≡ [] }
     {
-        // Usually they have all been taken out.
-        if self.first.is_some() {
+        // Mostly there is none, or one, which is stored in place.
+        if self.first.is_none() {
+            return;
+        }
+        if self.others.is_empty() {
+            self.first = None;
+        } else {
             self.drop_all();
         }
     }

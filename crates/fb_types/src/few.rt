@@ -118,11 +118,11 @@ impl<T: Drop> Few<T> {
 impl<T: Copy> Few<T> {
     /// The element that is stored in place, if there is one.
     #[inline(always)]
-    pub(crate) fn only(&self) -> Option<T>
-        ensures { IfSome result (λ item. self.now ≡ item ∷ []) }
+    pub(crate) fn only(&self) -> Option<&T>
+        ensures { IfSome result (λ item. self.now ≡ item.now ∷ []) }
     {
         match &self.held {
-            Held::One(item) => Some(*item),
+            Held::One(item) => Some(item),
             Held::Nothing | Held::Several(_) => None,
         }
     }

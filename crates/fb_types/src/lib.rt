@@ -23,6 +23,7 @@ pub mod laws;
 pub mod library;
 pub mod limits;
 pub mod name;
+mod name_order;
 pub mod numbered;
 pub mod reference;
 pub mod run;

@@ -151,7 +151,7 @@ fn on_heap(alloc: Global, bytes: &[u8]) -> Result<Spelling, AllocError>
 }
 
 /// The number of a name.
-fn word_of(bytes: &[u8]) -> u64
+pub(crate) fn word_of(bytes: &[u8]) -> u64
     ensures { result ≡ number_for bytes.now }
 {
     if bytes.len() <= 12 { packed(bytes) } else { 0 }

@@ -1,5 +1,6 @@
 use Rattle.std.proofs.Common.{◌∙◌, map, take, arith}
 use Rattle.std.proofs.lemmas.Grind.{common_steps}
+use Rattle.fb_event.specs.Block.{state_of}
 use Rattle.fb_event.specs.Emissions.{emission_at}
 use Rattle.fb_event.proofs.Emissions.{push-IsWellFormed}
 use Rattle.fb_event.proofs.emission.emit_each_bare.Goals as goal
@@ -12,7 +13,7 @@ loop-event-preserved c = record {
 
 pub returns-in_err-emit_bare-clause-kept : goal.returns-in_err-emit_bare-clause-kept
 returns-in_err-emit_bare-clause-kept c =
-    (map (emission_at c.args.block) (take c.loop-event.event-index c.args.events.now), c.in_err-emit_bare.ensures.err ∙ c.loop-event.invariant.emitted)
+    (map (emission_at (state_of c.args.kind c.args.memory)) (take c.loop-event.event-index c.args.events.now), c.in_err-emit_bare.ensures.err ∙ c.loop-event.invariant.emitted)
 
 pub returns-clause-kept : goal.returns-clause-kept
-returns-clause-kept c = (map (emission_at c.args.block) (take c.loop-event.event-index c.args.events.now), c.loop-event.invariant.emitted)
+returns-clause-kept c = (map (emission_at (state_of c.args.kind c.args.memory)) (take c.loop-event.event-index c.args.events.now), c.loop-event.invariant.emitted)

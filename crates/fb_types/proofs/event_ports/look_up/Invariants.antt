@@ -1,9 +1,9 @@
 use Rattle.std.proofs.Common.{◌≡◌, length, map}
-use Rattle.fb_types.specs.EventRows.{kind_among}
+use Rattle.fb_types.specs.EventRows.{kind_among, name_and_kind}
 use Rattle.fb_types.proofs.event_ports.look_up.Given as goal
 
 abbrev pub invariant-loop-table : goal.invariant-loop-table
-invariant-loop-table l = kind_among (map (λ e. (e.0.now, e.1)) l.table) l.name ≡ kind_among (map (λ e. (e.0.now, e.1)) l.initial.table) l.name
+invariant-loop-table l = kind_among (map name_and_kind l.table) l.name ≡ kind_among (map name_and_kind l.initial.table) l.name
 
 abbrev pub decreases-loop-table : goal.decreases-loop-table
 decreases-loop-table l = length l.table

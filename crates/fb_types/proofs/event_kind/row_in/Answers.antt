@@ -1,0 +1,5 @@
+use Rattle.fb_types.proofs.Rows.{row_stands}
+use Rattle.fb_types.proofs.event_kind.row_in.Goals as goal
+
+pub returns : goal.returns
+returns c = row_stands c.args.table.now c.args.kind c.index.result _ c.requires c.index.ensures
