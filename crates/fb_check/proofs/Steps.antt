@@ -2,9 +2,8 @@
 use Rattle.std.proofs.Common.{◌≡◌, ℕ, zero, suc, ◌<◌, ◌+◌, Bool, true, false, ◌&&◌, ◌||◌, cond, List, [], ◌∷◌, ◌++◌, length, map, take, get_or, Option, Some, None, Ordering, Bor, refl, sym, ◌∙◌, ap, subst, arith}
 use Rattle.std.specs.Prelude.{option_map, option_and_then, is_some, position, slice_get}
 use Rattle.std.specs.List.{list_any}
-use Rattle.std.specs.Ordering.{nat_cmp, is_eq, ordering_then}
+use Rattle.std.specs.Ordering.{is_eq, ordering_then}
 use Rattle.std.specs.declared.cmp.Ordering.TheVariants as order
-use Rattle.std.specs.Cmp.Lexicographic.{slice_cmp}
 use Rattle.std.specs.Map.{lookup}
 use Rattle.std.specs.BTreeMap as tree
 use Rattle.std.specs.BTreeSet as set
@@ -12,8 +11,8 @@ use Rattle.std.proofs.lemmas.Bool.{true≢false}
 use Rattle.std.proofs.lemmas.List.{length-map, length-take-le, map-append, take_more}
 use Rattle.std.proofs.lemmas.List.Folds.{list_any_more}
 use Rattle.std.proofs.lemmas.Option.{slice_get-map}
-use Rattle.std.proofs.lemmas.Map.Text.{is_eq-slice_cmp}
 use Rattle.fb_types.specs.Names.{Name, same_name, same_port}
+use Rattle.fb_types.specs.NameOrder as names
 use Rattle.fb_types.specs.Blocks.{among, ports_of_event_block}
 use Rattle.fb_types.specs.EventPorts.{ArePortsOfKinds, kind_index}
 use Rattle.fb_types.specs.Flat.{port_in}
@@ -24,23 +23,21 @@ use Rattle.fb_types.specs.declared.library.Ports.{Ports}
 use Rattle.fb_types.proofs.ByIndex.{slice_get-append_here, slice_get-append_left}
 use Rattle.fb_types.proofs.LoopSteps.{more_of_part}
 use Rattle.fb_types.proofs.Positions.{is_some-position, position-append_old, position-push_new, position_is}
-use Rattle.fb_types.proofs.NameLaws.{same_name-is, same_from_same_name, same_name-flip}
+use Rattle.fb_types.proofs.NameLaws.{same_from_same_name, same_name-flip}
+use Rattle.fb_types.proofs.NameOrders.{name_cmp-is}
 use Rattle.fb_check.specs.Directory.{Pair, has_pair, first_of, read_in, lists, leads_to, AreFirst, IsExtended, AreWiths, AreTargets, IsInputs, IsFound, AreInputs}
 use Rattle.fb_check.specs.declared.directory_making.TypeInputs.{TypeInputs}
 
 -- ---- Comparisons
 
 abbrev pub name_cmp : Bor Name → Bor Name → Ordering
-name_cmp x y = slice_cmp nat_cmp x.now y.now
+name_cmp x y = names.name_cmp x.now y.now
 
 abbrev pub pair_cmp : Pair → Pair → Ordering
 pair_cmp a b = ordering_then (name_cmp a.0 b.0) (name_cmp a.1 b.1)
 
 abbrev pub at_name : Name → Bor Name
 at_name n = record { ref_ptr = (0, 0); now = n }
-
-pub name_cmp-is : (n m : Name) → is_eq (slice_cmp nat_cmp n m) ≡ same_name n m
-name_cmp-is n m = is_eq-slice_cmp n m ∙ sym (same_name-is n m)
 
 then-is : (r s : Ordering) → is_eq (ordering_then r s) ≡ (is_eq r && is_eq s)
 then-is order.Less s = refl
@@ -96,7 +93,7 @@ extended_more event vs i v old s t k h at is_event is so_far updates = record {
 
 pub withs_none : (s : set.BTreeSet Pair) → s.keys ≡ [] → AreWiths [] s
 withs_none s e = record {
-  has = λ n m. ap (list_any (λ (k : Pair). is_eq (ordering_then (slice_cmp nat_cmp n k.0.now) (slice_cmp nat_cmp m k.1.now)))) e;
+  has = λ n m. ap (list_any (λ (k : Pair). is_eq (ordering_then (names.name_cmp n k.0.now) (names.name_cmp m k.1.now)))) e;
 }
 
 pub withs_more :
@@ -141,7 +138,7 @@ first_of-append {A} {X} name made xs y n =
     ] refl
 
 pub first_none : {A X : Type 0} (name : A → Name) (made : ℕ → A → X) (m : tree.BTreeMap (Bor Name) X) → m.entries ≡ [] → AreFirst name made [] m
-first_none name made m e = record { first = λ n. ap (lookup (λ (k : Bor Name). is_eq (slice_cmp nat_cmp n k.now))) e }
+first_none name made m e = record { first = λ n. ap (lookup (λ (k : Bor Name). is_eq (names.name_cmp n k.now))) e }
 
 -- one more, if one with its name is there already
 pub first_kept :
@@ -204,7 +201,7 @@ first_more {A} {X} name made xs i x m m' k value h at is made_is absent so_far u
 
 pub targets_none : (s : set.BTreeSet Pair) → s.keys ≡ [] → AreTargets [] s
 targets_none s e = record {
-  has = λ n m. ap (list_any (λ (k : Pair). is_eq (ordering_then (slice_cmp nat_cmp n k.0.now) (slice_cmp nat_cmp m k.1.now)))) e;
+  has = λ n m. ap (list_any (λ (k : Pair). is_eq (ordering_then (names.name_cmp n k.0.now) (names.name_cmp m k.1.now)))) e;
 }
 
 -- the port of one more connection, and whether it is the one

@@ -2,12 +2,12 @@
 -- event blocks by their kinds are this project's profile).
 use Rattle.std.specs.Prelude.{◌≡◌, ℕ, List, [], ◌∷◌, map, Bool, true, false, not, ◌&&◌, ◌||◌, Option, Some, None, if◌then◌else◌, position, slice_get, option_map, option_and_then}
 use Rattle.std.specs.List.{list_any, list_all}
-use Rattle.std.specs.Ordering.{nat_cmp, ordering_then}
-use Rattle.std.specs.Cmp.Lexicographic.{slice_cmp}
+use Rattle.std.specs.Ordering.{ordering_then}
 use Rattle.std.specs.BTreeMap as tree
 use Rattle.std.specs.BTreeSet as set
 use Rattle.std.specs.Borrow.{Bor}
 use Rattle.fb_types.specs.Names.{Name, same_name, same_port}
+use Rattle.fb_types.specs.NameOrder.{name_cmp}
 use Rattle.fb_types.specs.Values.{fits}
 use Rattle.fb_types.specs.Blocks.{among, ports_of, ports_of_event_block, is_event_input}
 use Rattle.fb_types.specs.EventPorts.{kind_index}
@@ -36,11 +36,11 @@ abbrev pub Pair : Type 0
 Pair = Bor Name × Bor Name
 
 abbrev pub has_pair : set.BTreeSet Pair → Name → Name → Bool
-has_pair s n m = set.contains_by (λ k. ordering_then (slice_cmp nat_cmp n k.0.now) (slice_cmp nat_cmp m k.1.now)) s
+has_pair s n m = set.contains_by (λ k. ordering_then (name_cmp n k.0.now) (name_cmp m k.1.now)) s
 
 -- what a map has for a name
 abbrev pub read_in : {X : Type 0} → tree.BTreeMap (Bor Name) X → Name → Option X
-read_in m n = tree.get_by (λ k. slice_cmp nat_cmp n k.now) m
+read_in m n = tree.get_by (λ k. name_cmp n k.now) m
 
 abbrev pub input_in : tree.BTreeMap (Bor Name) Input → Name → Option Input
 input_in m n = read_in m n

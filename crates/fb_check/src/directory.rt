@@ -9,8 +9,8 @@ ghost use Rattle.fb_types.specs.Flat.{type_name, type_named};
 ghost use Rattle.fb_check.specs.Directory.{IsDirectory, IsFound};
 
 use crate::directory_making::{Pairs, TypeInputs, inputs_of_each, targets_of};
-use fb_check_names::{Indexes, index_of};
-use fb_types::{Items, Library, Ports, kind_named};
+use fb_check_names::{Indexes, index_of_name};
+use fb_types::{Items, Library, Name, Ports, kind_named};
 use std::alloc::{AllocError, Global};
 
 /// What stimuli may name: of each type its event inputs and its data inputs, and the ports of the
@@ -47,14 +47,14 @@ pub fn inputs_named<'d, 'a>(
     library: &Library,
     directory: &'d Directory<'a>,
     types: &Indexes,
-    name: &[u8],
+    name: &Name,
 ) -> Option<&'d TypeInputs<'a>>
     requires directory { IsDirectory library.now directory.now }
     requires types { IsIndex (map type_name library.now.blocks) types.now }
     ensures { IsFound (option_map ports_of (type_named library.now name.now)) (option_copied result) }
 {
-    match kind_named(name) {
+    match kind_named(name.as_bytes()) {
         Some(kind) => directory.event_blocks.get(kind.index()),
-        None => directory.declared.get(index_of(types, name)?),
+        None => directory.declared.get(index_of_name(types, name)?),
     }
 }

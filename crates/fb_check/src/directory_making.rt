@@ -38,7 +38,7 @@ impl Interfaced for BlockType {
 }
 
 /// Pairs of names.
-pub type Pairs<'a> = BTreeSet<(&'a [u8], &'a [u8]), Global>;
+pub type Pairs<'a> = BTreeSet<(&'a Name, &'a Name), Global>;
 
 /// A data input: its index among those of its type, and the type of its values.
 #[derive(Clone, Copy)]
@@ -53,24 +53,24 @@ pub struct Input {
 #[derive(Drop)]
 pub struct TypeInputs<'a> {
     /// The indices of the event inputs.
-    pub events: BTreeMap<&'a [u8], u32, Global>,
+    pub events: BTreeMap<&'a Name, u32, Global>,
     /// The event inputs, each with a variable that goes WITH it.
     pub withs: Pairs<'a>,
     /// The data inputs.
-    pub variables: BTreeMap<&'a [u8], Input, Global>,
+    pub variables: BTreeMap<&'a Name, Input, Global>,
 }
 
 /// The indices of events. If events have the same name, the first counts.
 fn events_of<'a>(
     alloc: Global,
     events: &'a [EventPort],
-) -> Result<BTreeMap<&'a [u8], u32, Global>, AllocError>
+) -> Result<BTreeMap<&'a Name, u32, Global>, AllocError>
     requires { length events.now < 2 ^ 32 }
     ensures { IfOk result (AreEvents events.now) }
 {
     let mut indexes = BTreeMap::new(alloc);
     for (index, event) in events.iter().enumerate() {
-        let name = event.name.as_bytes();
+        let name = &event.name;
         if !indexes.contains_key(name) {
             indexes.insert(name, index as u32)?;
         }
@@ -81,13 +81,13 @@ fn events_of<'a>(
 /// Adds the variables WITH an event.
 fn extend<'a>(
     withs: &mut Pairs<'a>,
-    event: &'a [u8],
+    event: &'a Name,
     variables: &'a [Name],
 ) -> Result<(), AllocError>
     ensures { OnOk result (IsExtended event.now variables.now withs.old withs.new) }
 {
     for variable in variables {
-        withs.insert((event, variable.as_bytes()))?;
+        withs.insert((event, variable))?;
     }
     Ok(())
 }
@@ -97,7 +97,7 @@ fn withs_of<'a>(alloc: Global, events: &'a [EventPort]) -> Result<Pairs<'a>, All
 {
     let mut withs = BTreeSet::new(alloc);
     for event in events {
-        extend(&mut withs, event.name.as_bytes(), event.with.as_slice())?;
+        extend(&mut withs, &event.name, event.with.as_slice())?;
     }
     Ok(withs)
 }
@@ -106,13 +106,13 @@ fn withs_of<'a>(alloc: Global, events: &'a [EventPort]) -> Result<Pairs<'a>, All
 fn variables_of<'a>(
     alloc: Global,
     variables: &'a [Variable],
-) -> Result<BTreeMap<&'a [u8], Input, Global>, AllocError>
+) -> Result<BTreeMap<&'a Name, Input, Global>, AllocError>
     requires { length variables.now < 2 ^ 32 }
     ensures { IfOk result (AreVariables variables.now) }
 {
     let mut inputs = BTreeMap::new(alloc);
     for (index, variable) in variables.iter().enumerate() {
-        let name = variable.name.as_bytes();
+        let name = &variable.name;
         if !inputs.contains_key(name) {
             let index = index as u32;
             let ty = variable.ty;
@@ -155,7 +155,7 @@ pub fn targets_of<'a>(alloc: Global, connections: &'a [Connection]) -> Result<Pa
     let mut targets = BTreeSet::new(alloc);
     for connection in connections {
         if let Some(component) = &connection.to.component {
-            targets.insert((component.as_bytes(), connection.to.port.as_bytes()))?;
+            targets.insert((component, &connection.to.port))?;
         }
     }
     Ok(targets)

@@ -22,7 +22,7 @@ pub mod location;
 mod mapping_checks;
 mod network_checks;
 pub mod refusal;
-pub mod stimuli;
+mod stimuli;
 
 pub use acceptance::accept;
 pub use case::{Case, Judged};
@@ -32,4 +32,3 @@ pub use fb_system::System;
 pub use judgement::{judge, judged, why_refused};
 pub use location::{Limit, StimulusFault, StimulusLocation};
 pub use refusal::Refusal;
-pub use stimuli::stimulus_rows;

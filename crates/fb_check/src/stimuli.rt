@@ -15,7 +15,7 @@ ghost use Rattle.fb_check.specs.Stimuli.{AreAllBad, AreSlotsOr, IsAdded, IsBadAt
 use crate::directory::{Directory, directory_of, inputs_named};
 use crate::directory_making::TypeInputs;
 use crate::location::{StimulusFault, StimulusLocation};
-use fb_check_names::{Catalog, index_of, indexes_of};
+use fb_check_names::{Catalog, index_of_name, indexes_of};
 use fb_system::{SlotValue, StimulusRow};
 use fb_types::{Items, Library, Name, Ports, Setting, Stimulus, Value, all_ports};
 use std::alloc::{AllocError, Global};
@@ -33,12 +33,11 @@ fn inputs_at<'d, 'a>(
     ensures within { OnSome result (index < length library.now.application.network.instances) }
 {
     let instance = library.application.network.instances.get(index)?;
-    let name = instance.block_type.as_bytes();
-    inputs_named(library, directory, &catalog.types, name)
+    inputs_named(library, directory, &catalog.types, &instance.block_type)
 }
 
 /// The index of an event input.
-fn event_index(inputs: &TypeInputs, event: &[u8]) -> Option<u32>
+fn event_index(inputs: &TypeInputs, event: &Name) -> Option<u32>
     ensures { result ≡ index_in inputs.now.events event.now }
 {
     inputs.events.get(event).copied()
@@ -64,7 +63,7 @@ fn has_setting_twice(alloc: Global, stimulus: &Stimulus) -> Result<bool, AllocEr
 }
 
 /// The slot of a data input with its value, if the type contains the value.
-fn held_slot(inputs: &TypeInputs, variable: &[u8], value: Value) -> Option<SlotValue>
+fn held_slot(inputs: &TypeInputs, variable: &Name, value: Value) -> Option<SlotValue>
     ensures { result ≡ held_slot (input_in inputs.now.variables variable.now) value }
 {
     let index = match inputs.variables.get(variable) {
@@ -83,9 +82,9 @@ fn slot_of<'a>(
 ) -> Option<SlotValue>
     ensures { result ≡ slot_of directory.now inputs.now stimulus.now setting.now }
 {
-    let variable = setting.variable.as_bytes();
-    let at_event = (stimulus.event.as_bytes(), variable);
-    let at_instance = (stimulus.instance.as_bytes(), variable);
+    let variable = &setting.variable;
+    let at_event = (&stimulus.event, variable);
+    let at_instance = (&stimulus.instance, variable);
     if inputs.withs.contains(&at_event) && !directory.targets.contains(&at_instance) {
         held_slot(inputs, variable, setting.value)
     } else {
@@ -125,13 +124,13 @@ fn row_of<'a>(
     requires directory { IsDirectory library.now directory.now }
     ensures { IfOk result (IsRowOr library.now stimulus.now) }
 {
-    let Some(index) = index_of(&catalog.instances, stimulus.instance.as_bytes()) else {
+    let Some(index) = index_of_name(&catalog.instances, &stimulus.instance) else {
         return Ok(Err(StimulusFault::Event));
     };
     let Some(inputs) = inputs_at(library, catalog, directory, index) else {
         return Ok(Err(StimulusFault::Event));
     };
-    let Some(event) = event_index(inputs, stimulus.event.as_bytes()) else {
+    let Some(event) = event_index(inputs, &stimulus.event) else {
         return Ok(Err(StimulusFault::Event));
     };
     let sets = match slots_of(alloc, directory, inputs, stimulus)? {
@@ -217,7 +216,7 @@ fn rows_in(
 /// # Errors
 ///
 /// When memory runs out.
-pub fn stimulus_rows(
+pub(crate) fn stimulus_rows(
     alloc: Global,
     found: &mut Vec<StimulusLocation>,
     library: &Library,

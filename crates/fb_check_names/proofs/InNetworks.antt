@@ -1,5 +1,5 @@
 -- Lists of what belongs to the networks of a declaration.
-use Rattle.std.proofs.Common.{◌≡◌, ℕ, List, [], ◌∷◌, Some, None, Contains, refl, ap, subst, inl, inr}
+use Rattle.std.proofs.Common.{◌≡◌, ℕ, List, [], Some, None, Contains, refl, ap, subst, inl, inr}
 use Rattle.std.specs.Prelude.{All, flat_map, slice_get, option_and_then}
 use Rattle.std.proofs.lemmas.List.Elements.{All-append, All-contains, All-nil}
 use Rattle.std.proofs.lemmas.Option.{same_Some}

@@ -2,12 +2,12 @@
 use Rattle.std.proofs.Common.{◌≡◌, ℕ, ◌+◌, Bool, true, false, nat_eq, cond, List, [], ◌∷◌, length, Option, Some, None, Contains, Bor, refl, sym, ◌∙◌, ap, subst, inl, inr}
 use Rattle.std.specs.Prelude.{position, option_map}
 use Rattle.std.specs.BTreeMap.{BTreeMap}
-use Rattle.std.specs.Cmp.Lexicographic.{slice_cmp}
 use Rattle.std.specs.Map.{lookup}
-use Rattle.std.specs.Ordering.{is_eq, nat_cmp}
+use Rattle.std.specs.Ordering.{is_eq}
 use Rattle.std.proofs.lemmas.Bool.{eqb-true, true≢false}
 use Rattle.std.proofs.lemmas.List.{nil_from_length}
 use Rattle.fb_types.specs.Names.{Name, same_name}
+use Rattle.fb_types.specs.NameOrder.{name_cmp}
 use Rattle.fb_types.specs.Repeated.{Twice}
 use Rattle.fb_types.proofs.ByIndex.{element_of_index}
 use Rattle.fb_types.proofs.NameLaws.{same_from_same_name, same_name-Decides}
@@ -61,5 +61,5 @@ no_pairs_say ns ps n b all counted is none =
 pub index_none : (m : BTreeMap (Bor Name) ℕ) → m.entries ≡ [] → IsIndex [] m
 index_none m e = record {
   once = λ t. t;
-  index = λ n. ap (lookup (λ (k : Bor Name). is_eq (slice_cmp nat_cmp n k.now))) e;
+  index = λ n. ap (lookup (λ (k : Bor Name). is_eq (name_cmp n k.now))) e;
 }

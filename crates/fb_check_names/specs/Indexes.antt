@@ -1,10 +1,9 @@
 -- Names by their indices (this project's profile).
 use Rattle.std.specs.Prelude.{◌≡◌, ℕ, List, map, Option, position}
-use Rattle.std.specs.Ordering.{nat_cmp}
-use Rattle.std.specs.Cmp.Lexicographic.{slice_cmp}
 use Rattle.std.specs.BTreeMap.{BTreeMap, get_by}
 use Rattle.std.specs.Borrow.{Bor}
 use Rattle.fb_types.specs.Names.{Name, same_name}
+use Rattle.fb_types.specs.NameOrder.{name_cmp}
 use Rattle.fb_types.specs.Repeated.{Twice}
 use Rattle.fb_check_names.specs.Repeats.{last_place}
 
@@ -14,7 +13,7 @@ names_in ns = map (λ n. n.now) ns
 
 -- what the map has for a name
 abbrev pub index_in : BTreeMap (Bor Name) ℕ → Name → Option ℕ
-index_in indexes n = get_by (λ k. slice_cmp nat_cmp n k.now) indexes
+index_in indexes n = get_by (λ k. name_cmp n k.now) indexes
 
 -- The names differ, and the map gives the index of each.
 pub record IsIndex (names : List Name) (indexes : BTreeMap (Bor Name) ℕ) : Type 0 where

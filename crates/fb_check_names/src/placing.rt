@@ -12,7 +12,7 @@ use std::alloc::{AllocError, Global};
 use std::collections::BTreeMap;
 
 /// The index of each name of a list, from 0.
-pub type Indexes<'a> = BTreeMap<&'a [u8], usize, Global>;
+pub type Indexes<'a> = BTreeMap<&'a Name, usize, Global>;
 
 /// The last place of each name in a list. Each name that is in the list before is added, with the index of the nearest such
 /// name.
@@ -26,7 +26,7 @@ pub fn last_places<'a>(
 {
     let mut places = BTreeMap::new(alloc);
     for (second, name) in names.iter().enumerate() {
-        let first = places.insert(name.as_bytes(), second)?;
+        let first = places.insert(*name, second)?;
         push_pair(again, first, second)?;
     }
     Ok(places)
@@ -45,6 +45,13 @@ pub fn indexes_of<'a>(alloc: Global, names: &[&'a Name]) -> Result<Option<Indexe
 }
 
 /// The index of a name, if the list has it.
+pub fn index_of_name(indexes: &Indexes, name: &Name) -> Option<usize>
+    ensures { result ≡ index_in indexes.now name.now }
+{
+    indexes.get(name).copied()
+}
+
+/// The index of the name with these bytes, if the list has it. With a `Name` at hand, `index_of_name` is faster.
 pub fn index_of(indexes: &Indexes, name: &[u8]) -> Option<usize>
     ensures { result ≡ index_in indexes.now name.now }
 {

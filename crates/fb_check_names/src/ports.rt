@@ -5,7 +5,7 @@ ghost use Rattle.fb_check_names.specs.Numbers as spec;
 ghost use Rattle.fb_check_names.specs.PortKinds.{names_of_kind, AreIndexesOf};
 
 use crate::named::Named;
-use crate::placing::{Indexes, index_of};
+use crate::placing::{Indexes, index_of_name};
 use fb_types::{Name, Ports};
 
 /// A kind of ports, including the direction.
@@ -63,7 +63,7 @@ pub fn index_in(ports: &Ports, indexes: &Indexes, port_kind: PortKind, name: &Na
     requires { AreIndexesOf ports.now indexes.now }
     ensures { result ≡ spec.index_of (names_of_kind port_kind ports.now) name.now }
 {
-    let index = index_of(indexes, name.as_bytes());
+    let index = index_of_name(indexes, name);
     let after_event_inputs = after(index, ports.event_inputs.len());
     let after_events = after(after_event_inputs, ports.event_outputs.len());
     let after_inputs = after(after_events, ports.inputs.len());

@@ -12,7 +12,7 @@ ghost use Rattle.fb_check_names.specs.declared.repeats.NameSpace.TheVariants as 
 use crate::location::{Direction, Site};
 use crate::pairs::{Repeat, push_pair};
 use crate::twice::{GivenTwice, InBlock, InNetwork};
-use fb_types::{Connection, Link, Network, PortName};
+use fb_types::{Connection, Link, Name, Network, PortName};
 use std::alloc::{AllocError, Global};
 use std::collections::BTreeMap;
 
@@ -94,21 +94,21 @@ pub(crate) fn push_pairs(
 }
 
 /// The names at an end of a connection: the component, if there is one, and the port.
-pub type EndNames<'a> = (Option<&'a [u8]>, &'a [u8]);
+pub type EndNames<'a> = (Option<&'a Name>, &'a Name);
 
 /// The names at an end of a connection.
 pub fn end_names(port: &PortName) -> EndNames<'_>
     ensures { end_port result ≡ port_in [] port.now }
 {
     match &port.component {
-        Some(component) => (Some(component.as_bytes()), port.port.as_bytes()),
-        None => (None, port.port.as_bytes()),
+        Some(component) => (Some(component), &port.port),
+        None => (None, &port.port),
     }
 }
 
 /// The names at both ends of a connection: the component, if there is one, and the port of its beginning, and the same of
 /// its end.
-type ConnectionNames<'a> = (Option<&'a [u8]>, &'a [u8], Option<&'a [u8]>, &'a [u8]);
+type ConnectionNames<'a> = (Option<&'a Name>, &'a Name, Option<&'a Name>, &'a Name);
 
 /// The names at both ends of a connection.
 fn names_of(connection: &Connection) -> ConnectionNames<'_>
@@ -146,12 +146,12 @@ pub(crate) fn push_connections(
 }
 
 /// The names of the resources that a link joins.
-type LinkNames<'a> = (&'a [u8], &'a [u8]);
+type LinkNames<'a> = (&'a Name, &'a Name);
 
 fn link_names(link: &Link) -> LinkNames<'_>
     ensures { link_names result ≡ link_ends link.now }
 {
-    (link.from.as_bytes(), link.to.as_bytes())
+    (&link.from, &link.to)
 }
 
 /// Each link that goes from and to the same resources as one before, with the index of the nearest such link.

@@ -7,7 +7,7 @@ ghost use Rattle.fb_check_names.specs.Types.{AreTypes, HasTypes, port_number};
 
 use crate::catalog::Catalog;
 use crate::numbers::TypeNumber;
-use crate::placing::index_of;
+use crate::placing::index_of_name;
 use crate::ports::{PortKind, index_among, index_in};
 use fb_types::{Items, Library, Name, Ports, all_ports, kind_named};
 use std::alloc::{AllocError, Global};
@@ -52,7 +52,7 @@ impl<'a, 'b> Types<'a, 'b> {
         match kind_named(name.as_bytes()) {
             Some(kind) => Some(TypeNumber::Event(kind)),
             None => {
-                let index = index_of(&self.catalog.types, name.as_bytes())?;
+                let index = index_of_name(&self.catalog.types, name)?;
                 Some(TypeNumber::Declared(index))
             }
         }

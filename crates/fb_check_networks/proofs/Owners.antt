@@ -14,7 +14,6 @@ use Rattle.fb_types.proofs.Options.{none_from_is_some}
 use Rattle.fb_types.proofs.Positions.{position-cons}
 use Rattle.fb_types.proofs.TwiceLaws.{Twice-append_right, Twice-both}
 use Rattle.fb_check_names.specs.Indexes.{index_in}
-use Rattle.fb_check_names.proofs.Seen.{name_cmp}
 use Rattle.fb_check_names.specs.Listed.{each_at, each_from, unless}
 use Rattle.fb_check_names.specs.Repeats.{further, last_place, later}
 use Rattle.fb_check_names.specs.declared.location.Unmapped.TheVariants.{Unlisted}
@@ -136,9 +135,6 @@ pub first_owner :
 first_owner rs n once = owned_is 0 rs n once ∙ same_number (position (λ r. among r.instances n) rs)
 
 -- ---- Instances without a place
-
-pub placed : (m : tree.BTreeMap (Bor Name) ℕ) (i : Instance) (q : Bor Name) (b : Bool) → q.now ≡ i.name → b ≡ is_some (tree.get name_cmp m q) → b ≡ is_some (index_in m i.name)
-placed m i q b same found = found ∙ ap (λ n. is_some (index_in m n)) same
 
 pub unlisted_are :
     (m : tree.BTreeMap (Bor Name) ℕ) (ns : List Name) (is : List Instance) → ArePlaces ns m → each_at (unlisted_by m) is ≡ each_at (unlisted_at ns) is

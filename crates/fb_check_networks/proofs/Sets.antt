@@ -3,6 +3,7 @@ use Rattle.std.proofs.Common.{◌≡◌, ◌⊎◌, ℕ, ◌<◌, ◌+◌, Bool,
 use Rattle.std.specs.List.{list_any}
 use Rattle.std.specs.Bool.{Decides}
 use Rattle.std.specs.Ordering.{nat_cmp, is_eq, ordering_then}
+use Rattle.std.specs.Cmp.Lexicographic.{slice_cmp}
 use Rattle.std.specs.Option.{option_cmp}
 use Rattle.std.specs.declared.cmp.Ordering.TheVariants as order
 use Rattle.std.specs.BTreeSet as set
@@ -10,7 +11,8 @@ use Rattle.std.proofs.lemmas.Bool.{true≢false}
 use Rattle.std.proofs.lemmas.List.Elements.{Contains-append_left, Contains-push, Contains-push_cases}
 use Rattle.fb_types.specs.Names.{Name, Port}
 use Rattle.fb_types.proofs.LoopSteps.{more_of_part}
-use Rattle.fb_check_names.proofs.Seen.{IsExact, slice_cmp-Decides}
+use Rattle.fb_types.proofs.NameOrders.{name_cmp-Decides, slice_cmp-Decides}
+use Rattle.fb_check_names.proofs.Seen.{IsExact}
 use Rattle.fb_check_networks.specs.Serving.{Lead, lead_cmp, lead_port, path_of, name_cmp}
 
 -- ---- Comparisons that decide equality
@@ -38,7 +40,7 @@ option-Decides None None = (λ _. refl, λ _. refl)
 option-Decides None (Some y) = (λ h. absurd (true≢false (sym h)), λ e. absurd (cc))
 option-Decides (Some x) None = (λ h. absurd (true≢false (sym h)), λ e. absurd (cc))
 option-Decides (Some x) (Some y) =
-    (λ h. ap (λ (n : Name). n ∷ []) ((slice_cmp-Decides x.now y.now).0 h), λ e. (slice_cmp-Decides x.now y.now).1 (let s : x.now ≡ y.now = cc in s))
+    (λ h. ap (λ (n : Name). n ∷ []) ((name_cmp-Decides x.now y.now).0 h), λ e. (name_cmp-Decides x.now y.now).1 (let s : x.now ≡ y.now = cc in s))
 
 -- the port and the resource
 abbrev pub lead_view : Lead → Port × ℕ
@@ -47,7 +49,7 @@ lead_view k = (lead_port k, k.2)
 pub lead_cmp-exact : IsExact lead_cmp lead_view
 lead_cmp-exact a b =
     let ports : Decides (is_eq (ordering_then (option_cmp name_cmp a.0 b.0) (name_cmp a.1 b.1))) (lead_port a ≡ lead_port b) =
-    then-Decides (option_cmp name_cmp a.0 b.0) (name_cmp a.1 b.1) (option-Decides a.0 b.0) (slice_cmp-Decides a.1.now b.1.now)
+    then-Decides (option_cmp name_cmp a.0 b.0) (name_cmp a.1 b.1) (option-Decides a.0 b.0) (name_cmp-Decides a.1.now b.1.now)
     (λ p n. λ i. record { at = p i; name = n i }) (λ e. ap (λ (q : Port). q.at) e) (λ e. ap (λ (q : Port). q.name) e) in
     then-Decides (ordering_then (option_cmp name_cmp a.0 b.0) (name_cmp a.1 b.1)) (nat_cmp a.2 b.2) ports (nat_cmp-Decides a.2 b.2)
     (λ p r. λ i. (p i, r i)) (λ e. ap (λ (x : Port × ℕ). x.0) e) (λ e. ap (λ (x : Port × ℕ). x.1) e)
@@ -57,14 +59,14 @@ abbrev pub Pair : Type 0
 Pair = Bor Name × Bor Name
 
 abbrev pub pair_cmp : Pair → Pair → Ordering
-pair_cmp a b = ordering_then (name_cmp a.0 b.0) (name_cmp a.1 b.1)
+pair_cmp a b = ordering_then (slice_cmp nat_cmp a.0.now b.0.now) (slice_cmp nat_cmp a.1.now b.1.now)
 
 abbrev pub pair_view : Pair → Name × Name
 pair_view k = (k.0.now, k.1.now)
 
 pub pair_cmp-exact : IsExact pair_cmp pair_view
 pair_cmp-exact a b =
-    then-Decides (name_cmp a.0 b.0) (name_cmp a.1 b.1) (slice_cmp-Decides a.0.now b.0.now) (slice_cmp-Decides a.1.now b.1.now)
+    then-Decides (slice_cmp nat_cmp a.0.now b.0.now) (slice_cmp nat_cmp a.1.now b.1.now) (slice_cmp-Decides a.0.now b.0.now) (slice_cmp-Decides a.1.now b.1.now)
     (λ p q. λ i. (p i, q i)) (λ e. ap (λ (x : Name × Name). x.0) e) (λ e. ap (λ (x : Name × Name). x.1) e)
 
 -- ---- What a set has

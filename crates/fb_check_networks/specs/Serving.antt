@@ -4,11 +4,11 @@ use Rattle.std.specs.Prelude.{◌≡◌, ◌⊎◌, ℕ, List, [], ◌∷◌, Op
 use Rattle.std.specs.Bool.{Decides}
 use Rattle.std.specs.Ordering.{nat_cmp, ordering_then}
 use Rattle.std.specs.Option.{option_cmp}
-use Rattle.std.specs.Cmp.Lexicographic.{slice_cmp}
 use Rattle.std.specs.BTreeSet.{BTreeSet, contains}
 use Rattle.std.specs.Borrow.{Bor}
 use Rattle.std.specs.declared.cmp.Ordering.{Ordering}
 use Rattle.fb_types.specs.Names.{Name, Path, Port}
+use Rattle.fb_types.specs.NameOrder as names
 use Rattle.fb_types.specs.Blocks.{named, ports_of}
 use Rattle.fb_types.specs.Flat.{kind_at, resource_of}
 use Rattle.fb_types.specs.Mapped.{event_pairs_of}
@@ -43,7 +43,7 @@ abbrev pub Lead : Type 0
 Lead = Option (Bor Name) × Bor Name × ℕ
 
 abbrev pub name_cmp : Bor Name → Bor Name → Ordering
-name_cmp x y = slice_cmp nat_cmp x.now y.now
+name_cmp x y = names.name_cmp x.now y.now
 
 abbrev pub lead_cmp : Lead → Lead → Ordering
 lead_cmp a b = ordering_then (ordering_then (option_cmp name_cmp a.0 b.0) (name_cmp a.1 b.1)) (nat_cmp a.2 b.2)

@@ -8,7 +8,9 @@ ghost use Rattle.fb_check_names.specs.declared.location.Unmapped.TheVariants.{Ag
 ghost use Rattle.fb_check_networks.specs.Mapping.{IsMapping, holder_in, owner_of, owners_in, resource_in, unlisted_by};
 ghost use Rattle.fb_check_networks.specs.Unmapped.{unmapped_all, unmapped_among};
 
-use fb_check_names::{Indexes, Repeat, Unmapped, index_of, last_places, push_names, push_unless};
+use fb_check_names::{
+    Indexes, Repeat, Unmapped, index_of_name, last_places, push_names, push_unless,
+};
 use fb_types::{Instance, Items, Library, Name, Plan, PortName, ResourceEntry};
 use std::alloc::{AllocError, Global};
 
@@ -74,7 +76,7 @@ fn push_unlisted(
     ensures { IfOk result (λ _. found.new.items ≡ found.old.items ++ each_at (unlisted_by places.now) instances.now) }
 {
     for (instance, declared) in instances.iter().enumerate() {
-        let is_listed = places.contains_key(declared.name.as_bytes());
+        let is_listed = places.contains_key(&declared.name);
         push_unless(found, is_listed, Unmapped::Unlisted(instance))?;
     }
     Ok(())
@@ -135,17 +137,17 @@ pub fn mapping_of<'a>(
 }
 
 /// The index of the resource that lists a name. A name that is not listed gives 0.
-fn owner(listed: &Listed, name: &[u8]) -> usize
+fn owner(listed: &Listed, name: &Name) -> usize
     ensures { result ≡ owner_of listed.now name.now }
 {
-    match index_of(&listed.places, name) {
+    match index_of_name(&listed.places, name) {
         Some(place) => listed.owners.as_slice().get(place).copied().unwrap_or(0),
         None => 0,
     }
 }
 
 /// The index of the resource that holds an instance of the application. A name that is not mapped gives 0.
-fn holder(mapping: &Mapping, name: &[u8]) -> usize
+fn holder(mapping: &Mapping, name: &Name) -> usize
     ensures { result ≡ holder_in mapping.now name.now }
 {
     match mapping {
@@ -159,7 +161,7 @@ pub fn resource_of(mapping: &Mapping, end: &PortName) -> usize
     ensures { result ≡ resource_in mapping.now end.now }
 {
     match &end.component {
-        Some(component) => holder(mapping, component.as_bytes()),
+        Some(component) => holder(mapping, component),
         None => 0,
     }
 }
@@ -174,7 +176,7 @@ pub fn holders_of(
 {
     let mut holders = Items::new(alloc);
     for instance in library.application.network.instances.as_slice() {
-        holders.push(holder(mapping, instance.name.as_bytes()))?;
+        holders.push(holder(mapping, &instance.name))?;
     }
     Ok(holders)
 }

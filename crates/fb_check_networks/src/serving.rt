@@ -15,32 +15,29 @@ use std::alloc::{AllocError, Global};
 use std::collections::BTreeSet;
 
 /// A component, or none at the boundary, with a port of it, and the resource to which it leads.
-type Lead<'a> = (Option<&'a [u8]>, &'a [u8], usize);
+type Lead<'a> = (Option<&'a Name>, &'a Name, usize);
 
 /// Ports with the resources to which they lead.
 pub type Leads<'a> = BTreeSet<Lead<'a>, Global>;
 
 /// The name of the component at an end of a connection.
-pub fn component_of(end: &PortName) -> Option<&[u8]>
+pub fn component_of(end: &PortName) -> Option<&Name>
     ensures { path_of result ≡ (port_in [] end.now).at }
 {
-    match &end.component {
-        Some(component) => Some(component.as_bytes()),
-        None => None,
-    }
+    end.component.as_ref()
 }
 
 /// Adds the variables of a component, with the resource to which they lead.
 fn extend<'a>(
     served: &mut Leads<'a>,
-    component: Option<&'a [u8]>,
+    component: Option<&'a Name>,
     names: &'a [Name],
     resource: usize,
 ) -> Result<(), AllocError>
     ensures { OnOk result (IsExtended component.entry names.now resource served.old served.new) }
 {
     for name in names {
-        served.insert((component, name.as_bytes(), resource))?;
+        served.insert((component, name, resource))?;
     }
     Ok(())
 }
@@ -67,7 +64,7 @@ fn serve_all<'a>(
     for (index, connection) in connections.iter().enumerate() {
         let component = component_of(&connection.from);
         let resource = resource_of(mapping, &connection.to);
-        if events.insert((component, connection.from.port.as_bytes(), resource))? {
+        if events.insert((component, &connection.from.port, resource))? {
             let names = variables_with(library, interfaces, numbers, index);
             extend(served, component, names, resource)?;
         }

@@ -37,8 +37,7 @@ fn is_served<'a>(
         return true;
     }
     let component = component_of(&connection.from);
-    let variable = connection.from.port.as_bytes();
-    served.contains(&(component, variable, to))
+    served.contains(&(component, &connection.from.port, to))
 }
 
 /// The list of all data connections that no event serves, from what is served.

@@ -6,7 +6,7 @@ ghost use Rattle.fb_check_types.specs.There.{each_there, ends_in, mapped_unless,
 ghost use Rattle.fb_check_names.specs.Listed.{each_at};
 
 use crate::there::push_some;
-use fb_check_names::{Indexes, LinkEnds, Side, UnknownName, index_of, push_unless};
+use fb_check_names::{Indexes, LinkEnds, Side, UnknownName, index_of_name, push_unless};
 use fb_types::{Items, Link, Name, ResourceEntry};
 use std::alloc::{AllocError, Global};
 
@@ -23,7 +23,7 @@ fn listed_of(
 {
     let mut numbers = Items::new(alloc);
     for (instance, name) in names.iter().enumerate() {
-        let number = index_of(instances, name.as_bytes());
+        let number = index_of_name(instances, name);
         let location = UnknownName::Mapped { resource, instance };
         push_unless(found, number.is_some(), location)?;
         push_some(&mut numbers, number)?;
@@ -70,13 +70,13 @@ fn push_link(
     ensures listed { IfOk result (λ _. found.new.items ≡ found.old.items ++ sides_unless resources.now link declared.now) }
     ensures number { IfOk result (λ _. all.new ≡ all.old ++ some_of (ends_in resources.now declared.now)) }
 {
-    let from = index_of(resources, declared.from.as_bytes());
+    let from = index_of_name(resources, &declared.from);
     let location = UnknownName::LinkEnd {
         link,
         side: Side::From,
     };
     push_unless(found, from.is_some(), location)?;
-    let to = index_of(resources, declared.to.as_bytes());
+    let to = index_of_name(resources, &declared.to);
     let location = UnknownName::LinkEnd {
         link,
         side: Side::To,

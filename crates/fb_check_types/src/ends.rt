@@ -16,7 +16,7 @@ use fb_check_names::ports::index_in;
 use fb_check_names::types::Types;
 use fb_check_names::{
     ConnectionEnd, FlowKind, Indexes, NumberedConnection, PortKind, Side, Site, TypeNumber,
-    UnknownName, index_of, push_unless,
+    UnknownName, index_of_name, push_unless,
 };
 use fb_types::{CompositeType, Connection, Items, Name, Network, PortName};
 use std::alloc::{AllocError, Global};
@@ -79,7 +79,7 @@ fn component_end(
     requires typed { AreTyped types.now.library.now scope.now.network.now.instances kinds.now }
     ensures { result ≡ component_number types.now.library.now (placed scope.now) (names_of_kind port_kind) component.now end.now }
 {
-    let instance = index_of(scope.instances, component.as_bytes())?;
+    let instance = index_of_name(scope.instances, component)?;
     let kind = kinds.get(instance)?;
     let port = types.port_of(*kind, port_kind, &end.port)?;
     Some(ConnectionEnd {
@@ -180,7 +180,7 @@ fn push_wire(
 }
 
 /// The connections of a network that carry the same, by number. Adds the ends that are unknown.
-pub fn wires_of(
+pub(crate) fn wires_of(
     alloc: Global,
     found: &mut Vec<UnknownName>,
     types: &Types,

@@ -7,7 +7,7 @@ ghost use Rattle.fb_check_names.specs.Indexes.{IsIndex};
 ghost use Rattle.fb_check_names.specs.PortKinds.{names_of_kind};
 ghost use Rattle.fb_check_types.specs.Roles.{is_port, names_of, role_of, type_in, variables_of, with_roles};
 
-use fb_check_names::{Indexes, PortKind, index_of};
+use fb_check_names::{Indexes, PortKind, index_of_name};
 use fb_types::{Name, Ports, Ty, Variable};
 use std::marker::Model;
 
@@ -119,7 +119,7 @@ impl<'a, 'n> Interface<'a, 'n> {
         ensures role { result ≡ role_of self.now name.now }
         ensures once { ¬ (Twice (names_of self.now)) }
     {
-        let index = index_of(self.indexes, name.as_bytes())?;
+        let index = index_of_name(self.indexes, name)?;
         self.role_at(index)
     }
 

@@ -8,7 +8,7 @@ ghost use Rattle.fb_check_names.specs.Catalog.{IsBlock};
 
 use crate::interface::Interface;
 use crate::value_kinds::Typing;
-use fb_check_names::{BlockIndexes, PortKind, index_of};
+use fb_check_names::{BlockIndexes, PortKind, index_of_name};
 use fb_types::{BasicType, Name, Ty};
 use std::marker::Model;
 
@@ -38,7 +38,7 @@ impl<'a, 'n> Model for Scope<'a, 'n> {
 
 impl<'a, 'n> Scope<'a, 'n> {
     /// The scope of a basic type. `indexes` has the indices of its names.
-    pub fn new(block: &'a BasicType, indexes: &'a BlockIndexes<'n>) -> Scope<'a, 'n>
+    pub(crate) fn new(block: &'a BasicType, indexes: &'a BlockIndexes<'n>) -> Scope<'a, 'n>
         requires { IsBlock (Basic block.now) indexes.now }
         ensures { result ≡ block.now }
     {
@@ -68,14 +68,14 @@ impl<'a, 'n> Scope<'a, 'n> {
     pub fn is_state(&self, name: &Name) -> bool
         ensures { result ≡ among (state_names self.now) name.now }
     {
-        index_of(&self.indexes.states, name.as_bytes()).is_some()
+        index_of_name(&self.indexes.states, name).is_some()
     }
 
     /// Whether a name is that of an algorithm.
     pub fn is_algorithm(&self, name: &Name) -> bool
         ensures { result ≡ among (algorithm_names self.now) name.now }
     {
-        index_of(&self.indexes.algorithms, name.as_bytes()).is_some()
+        index_of_name(&self.indexes.algorithms, name).is_some()
     }
 
     /// Whether a name is that of a data input.

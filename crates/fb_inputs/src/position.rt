@@ -87,7 +87,7 @@ pub fn stimuli_position(location: StimuliLocation) -> StimuliPosition
 }
 
 impl DeployPosition {
-    /// The position that stands for this one where its bytes are not found: the key of an element, the table of a key, and
+    /// The position that is used if the bytes of this one are not found: the key of an element, the table of a key, and
     /// so on up to the beginning of the text. A link without a table of latencies has one latency.
     pub(crate) fn around(self) -> DeployPosition
         ensures { result ≡ spec.around_deploy self }
@@ -113,7 +113,7 @@ impl DeployPosition {
 }
 
 impl StimuliPosition {
-    /// The position that stands for this one where its bytes are not found: the field of a word, the row of a field, the
+    /// The position that is used if the bytes of this one are not found: the field of a word, the row of a field, the
     /// beginning of the text.
     pub(crate) fn around(self) -> StimuliPosition
         ensures { result ≡ spec.around_stimuli self }

@@ -27,7 +27,7 @@ use Rattle.fb_read.proofs.LocalStatements.{local-body}
 
 -- ---- charts
 
-local-action : Local action
+pub local-action : Local action
 unfolding action
 local-action =
     local-bind name_if _ local-name_if (λ a. local-bind (eat mark.Arrow) _ (local-eat mark.Arrow) (λ b. local-cond b _ _
@@ -53,7 +53,7 @@ local-actions = local-bind (eat mark.Colon) _ (local-eat mark.Colon) (λ b. loca
 state-rest : (first : Name) → Local (actions >>= (λ found. expect mark.Semicolon >>= (λ _. pure (state_of first found))))
 state-rest first = local-bind actions _ local-actions (λ found. local-ended mark.Semicolon (state_of first found))
 
-local-state : Local state
+pub local-state : Local state
 unfolding state
 local-state = local-bind name _ local-name (λ first. state-rest first)
 
@@ -65,7 +65,7 @@ none-state : IsNoneAtEnd state
 unfolding state
 none-state = none-bind name _ none-name
 
-local-states : Local states
+pub local-states : Local states
 unfolding states
 local-states =
     local-bind (expect mark.EcStates) _ (local-expect mark.EcStates) (λ _. local-bind state _ local-state (λ first. local-many_after state mark.EndStates local-state advances-state none-state (first ∷ [])))
@@ -89,7 +89,7 @@ transition-rest from =
     local-bind (expect mark.To) _ (local-expect mark.To) (λ _. local-bind name _ local-name (λ to. local-bind (expect mark.Assign) _ (local-expect mark.Assign) (λ _.
     local-bind condition _ local-condition (λ found. local-ended mark.Semicolon (transition_of from to found)))))
 
-local-transition : Local transition
+pub local-transition : Local transition
 unfolding transition
 local-transition = local-bind name _ local-name (λ from. transition-rest from)
 
@@ -101,7 +101,7 @@ none-transition : IsNoneAtEnd transition
 unfolding transition
 none-transition = none-bind name _ none-name
 
-local-transitions : Local transitions
+pub local-transitions : Local transitions
 unfolding transitions
 local-transitions = local-section transition mark.EcTransitions mark.EndTransitions local-transition advances-transition none-transition
 
@@ -113,7 +113,7 @@ local-structured_text =
 algorithm-rest : Local (name >>= (λ first. structured_text >>= (λ found. pure (algorithm_of first found))))
 algorithm-rest = local-bind name _ local-name (λ first. local-bind structured_text _ local-structured_text (λ found. local-pure (algorithm_of first found)))
 
-local-algorithm : Local algorithm
+pub local-algorithm : Local algorithm
 unfolding algorithm
 local-algorithm = local-bind (expect mark.Algorithm) _ (local-expect mark.Algorithm) (λ _. algorithm-rest)
 

@@ -149,15 +149,15 @@ local-with_names = local-bind (eat mark.With) _ (local-eat mark.With) (λ b. loc
 with_event : (first : Name) → Local (with_names >>= (λ names. expect mark.Semicolon >>= (λ _. pure (event_of first names))))
 with_event first = local-bind with_names _ local-with_names (λ names. local-ended mark.Semicolon (event_of first names))
 
-local-event : Local event
+pub local-event : Local event
 unfolding event
 local-event = local-bind name _ local-name (λ first. with_event first)
 
-advances-event : Advances event
+pub advances-event : Advances event
 unfolding event
 advances-event = advances-bind name _ advances-name (λ first. with_event first)
 
-none-event : IsNoneAtEnd event
+pub none-event : IsNoneAtEnd event
 unfolding event
 none-event = none-bind name _ none-name
 

@@ -1,6 +1,7 @@
 pub mod Limits
 pub mod Blank
 pub mod Words
+pub mod Letters
 pub mod Numbers
 pub mod Durations
 pub mod Front

@@ -38,7 +38,7 @@ impl Rule for Action {
 impl Rule for State {
     ghost parser = { spec.state };
 
-    #[tactic(auto, using(crate::proofs::Options::actions_is), unfolding(crate::specs::Charts::state))]
+    #[tactic(auto, unfolding(crate::specs::Charts::state))]
     fn read(cursor: &mut Cursor<'_>) -> Result<State, ParseFault> {
         let name = Name::read(cursor)?;
         let actions = listed::<Action>(cursor, Mark::Colon)?;

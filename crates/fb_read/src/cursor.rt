@@ -80,7 +80,7 @@ impl<'a> Cursor<'a> {
     }
 
     /// A cursor before these tokens that notes what is missed at the one before which `watched` tokens are left.
-    pub fn watching(alloc: Global, rest: &'a [Located], watched: usize) -> Cursor<'a>
+    pub(crate) fn watching(alloc: Global, rest: &'a [Located], watched: usize) -> Cursor<'a>
         requires { length rest.now < 2 ^ 32 }
         ensures { result ≡ tokens_of rest.now }
     {

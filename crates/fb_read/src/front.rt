@@ -233,7 +233,7 @@ pub fn front(alloc: Global, z: &[u8]) -> Result<(Token, usize), LexFault>
 }
 
 /// The length of the faulty token at the front of a text: a word or a literal as far as it goes, or one byte.
-pub fn faulty_len(z: &[u8]) -> usize
+pub(crate) fn faulty_len(z: &[u8]) -> usize
     requires { 0 < length z.now }
     ensures { (0 < result) × (result ≤ length z.now) }
 {

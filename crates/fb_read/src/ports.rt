@@ -24,7 +24,7 @@ pub struct Declaration {
 impl Rule for EventPort {
     ghost parser = { spec.event };
 
-    #[tactic(auto, using(crate::proofs::Options::with_names_is), unfolding(crate::specs::Ports::event))]
+    #[tactic(auto, unfolding(crate::specs::Ports::event))]
     fn read(cursor: &mut Cursor<'_>) -> Result<EventPort, ParseFault> {
         let name = Name::read(cursor)?;
         let with = listed::<Name>(cursor, Mark::With)?;

@@ -143,7 +143,7 @@ impl Magnitude {
     ghost use Rattle.fb_read.specs.Limits.{most};
 
     /// A number of at most [`MOST`].
-    pub fn new(value: u128) -> Magnitude
+    pub(crate) fn new(value: u128) -> Magnitude
         requires { value ≤ most }
         ensures { result ≡ value }
     {

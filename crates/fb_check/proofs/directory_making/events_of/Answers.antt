@@ -1,7 +1,7 @@
 use Rattle.std.proofs.Common.{ℕ, refl, sym, ◌∙◌}
 use Rattle.fb_types.specs.Names.{Name}
 use Rattle.fb_types.specs.declared.library.EventPort.{EventPort}
-use Rattle.fb_check.proofs.Steps.{first_none, first_kept, first_more}
+use Rattle.fb_check.proofs.Steps.{at_name, first_none, first_kept, first_more}
 use Rattle.fb_check.proofs.directory_making.events_of.Goals as goal
 use Rattle.fb_check.proofs.directory_making.events_of.Goals.{then-not-contains_key+in_ok-insert, else-not-contains_key}
 
@@ -19,10 +19,10 @@ loop-index-preserved c =
     elim c.if-not-contains_key.branch [
       | then-not-contains_key+in_ok-insert w ↦
           rw w.indexes-is
-          (first_more name_of index_of _ _ _ c.loop-index.indexes _ c.as_bytes-name.result _ c.loop-index-test.true c.index-events-index.is c.as_bytes-name.ensures
+          (first_more name_of index_of _ _ _ c.loop-index.indexes _ (at_name (name_of c.index-events-index.result)) _ c.loop-index-test.true c.index-events-index.is refl
           refl (sym c.contains_key.ensures ∙ w.if-not-contains_key.true) c.loop-index.invariant w.in_ok-insert.ensures.updates.0)
       | else-not-contains_key w ↦
           rw w.indexes-is
-          (first_kept name_of index_of _ _ _ c.loop-index.indexes c.as_bytes-name.result.now c.loop-index-test.true c.index-events-index.is c.as_bytes-name.ensures
+          (first_kept name_of index_of _ _ _ c.loop-index.indexes (name_of c.index-events-index.result) c.loop-index-test.true c.index-events-index.is refl
           (sym c.contains_key.ensures ∙ w.if-not-contains_key.false) c.loop-index.invariant)
     ]

@@ -1,4 +1,5 @@
-use Rattle.fb_check.proofs.Steps.{targets_kept, targets_more}
+use Rattle.std.proofs.Common.{refl}
+use Rattle.fb_check.proofs.Steps.{at_name, targets_kept, targets_more}
 use Rattle.fb_check.proofs.directory_making.targets_of.Goals as goal
 use Rattle.fb_check.proofs.directory_making.targets_of.Goals.{in-Some+in_ok-insert, in_default}
 
@@ -7,8 +8,8 @@ loop-connection-preserved c =
     elim c.match-connection.branch [
       | in-Some+in_ok-insert w ↦
           rw w.targets-is
-          (targets_more _ _ _ w.in-Some.component c.loop-connection.targets _ (w.as_bytes.result, w.as_bytes-in-Some.result) c.loop-connection-test.true c.connection-item.is
-          w.in-Some.is w.as_bytes.ensures w.as_bytes-in-Some.ensures c.loop-connection.invariant w.in_ok-insert.ensures.updates.0)
+          (targets_more _ _ _ w.in-Some.component c.loop-connection.targets _ (at_name w.in-Some.component, at_name c.connection-item.result.to.port) c.loop-connection-test.true c.connection-item.is
+          w.in-Some.is refl refl c.loop-connection.invariant w.in_ok-insert.ensures.updates.0)
       | in_default w ↦
           rw w.targets-is (targets_kept _ _ _ c.loop-connection.targets c.loop-connection-test.true c.connection-item.is w.in_default.is c.loop-connection.invariant)
     ]

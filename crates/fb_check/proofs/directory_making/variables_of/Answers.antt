@@ -2,7 +2,7 @@ use Rattle.std.proofs.Common.{refl, sym, ◌∙◌}
 use Rattle.fb_types.specs.Names.{Name}
 use Rattle.fb_types.specs.declared.library.Variable.{Variable}
 use Rattle.fb_check.specs.Directory.{input_of}
-use Rattle.fb_check.proofs.Steps.{first_none, first_kept, first_more}
+use Rattle.fb_check.proofs.Steps.{at_name, first_none, first_kept, first_more}
 use Rattle.fb_check.proofs.directory_making.variables_of.Goals as goal
 use Rattle.fb_check.proofs.directory_making.variables_of.Goals.{then-not-contains_key+in_ok-insert, else-not-contains_key}
 
@@ -17,10 +17,10 @@ loop-index-preserved c =
     elim c.if-not-contains_key.branch [
       | then-not-contains_key+in_ok-insert w ↦
           rw w.inputs-is
-          (first_more name_of input_of _ _ _ c.loop-index.inputs _ c.as_bytes-name.result _ c.loop-index-test.true c.index-variables-index.is c.as_bytes-name.ensures
+          (first_more name_of input_of _ _ _ c.loop-index.inputs _ (at_name (name_of c.index-variables-index.result)) _ c.loop-index-test.true c.index-variables-index.is refl
           refl (sym c.contains_key.ensures ∙ w.if-not-contains_key.true) c.loop-index.invariant w.in_ok-insert.ensures.updates.0)
       | else-not-contains_key w ↦
           rw w.inputs-is
-          (first_kept name_of input_of _ _ _ c.loop-index.inputs c.as_bytes-name.result.now c.loop-index-test.true c.index-variables-index.is c.as_bytes-name.ensures
+          (first_kept name_of input_of _ _ _ c.loop-index.inputs (name_of c.index-variables-index.result) c.loop-index-test.true c.index-variables-index.is refl
           (sym c.contains_key.ensures ∙ w.if-not-contains_key.false) c.loop-index.invariant)
     ]

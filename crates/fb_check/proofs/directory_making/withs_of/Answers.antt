@@ -1,4 +1,4 @@
-use Rattle.std.proofs.Common.{List, subst}
+use Rattle.std.proofs.Common.{List, refl, subst}
 use Rattle.std.proofs.lemmas.List.{take_all}
 use Rattle.fb_types.specs.declared.library.EventPort.{EventPort}
 use Rattle.fb_check.specs.Directory.{AreWiths}
@@ -10,7 +10,7 @@ loop-event-init c = withs_none _ c.new-withs.ensures.empty
 
 pub loop-event-preserved : goal.loop-event-preserved
 loop-event-preserved c =
-    withs_more _ _ _ _ _ _ _ c.loop-event-test.true c.event-item.is c.as_bytes.ensures c.as_slice.ensures c.loop-event.invariant c.in_ok-extend.ensures
+    withs_more _ _ _ _ _ _ _ c.loop-event-test.true c.event-item.is refl c.as_slice.ensures c.loop-event.invariant c.in_ok-extend.ensures
 
 pub returns : goal.returns
 returns c =

@@ -13,4 +13,4 @@ pub returns-clause-found : goal.returns-clause-found
 returns-clause-found c =
     let P : Name → Type 0 = λ m. IsFound (ports_named c.args.library.now m) (option_copied c.inputs_named.result) in
     found_instance c.args.library.now c.args.index c.in_ok-instance.instance.now (option_copied c.inputs_named.result)
-    (sym c.get.ensures.value ∙ ap option_copied c.in_ok-instance.was) (subst P c.as_bytes-name.ensures c.inputs_named.ensures)
+    (sym c.get.ensures.value ∙ ap option_copied c.in_ok-instance.was) c.inputs_named.ensures

@@ -3,7 +3,6 @@ use Rattle.std.specs.Option.{option_copied}
 use Rattle.std.specs.Prelude.{is_some}
 use Rattle.std.proofs.lemmas.Bool.{true≢false}
 use Rattle.fb_types.specs.Repeated.{instance_names}
-use Rattle.fb_check_names.specs.Indexes.{index_in}
 use Rattle.fb_system.specs.declared.rows.SlotValue.{SlotValue}
 use Rattle.fb_check.specs.Stimuli.{AreSlotsOr}
 use Rattle.fb_check.specs.Directory.{IsFound, ports_at_index, slot_of}
@@ -17,16 +16,16 @@ pub returns-in_default : goal.returns-in_default
 returns-in_default c =
     let lib = c.args.library.now in
     let s = c.args.stimulus.now in
-    let at = placed_at (instance_names lib.application.network) c.args.catalog.now.instances s.instance c.as_bytes.result.now c.index_of.result
-    c.requires.names.1.instances c.as_bytes.ensures c.index_of.ensures in
+    let at = placed_at (instance_names lib.application.network) c.args.catalog.now.instances s.instance s.instance c.index_of_name.result
+    c.requires.names.1.instances refl c.index_of_name.ensures in
     no_instance lib s (unknown_instance lib s.instance (at ∙ c.in_default.is))
 
 pub returns-in_default-inputs_at : goal.returns-in_default-inputs_at
 returns-in_default-inputs_at c =
     let lib = c.args.library.now in
     let s = c.args.stimulus.now in
-    let at = placed_at (instance_names lib.application.network) c.args.catalog.now.instances s.instance c.as_bytes.result.now c.index_of.result
-    c.requires.names.1.instances c.as_bytes.ensures c.index_of.ensures in
+    let at = placed_at (instance_names lib.application.network) c.args.catalog.now.instances s.instance s.instance c.index_of_name.result
+    c.requires.names.1.instances refl c.index_of_name.ensures in
     let P : Option TypeInputs → Type 0 = λ o. IsFound (ports_at_index lib c.in-Some.index) o in
     no_instance lib s (found_at lib s c.in-Some.index None (at ∙ c.in-Some.is, subst P (ap option_copied c.in_default-inputs_at.is) c.inputs_at.ensures.found))
 
@@ -34,19 +33,19 @@ pub returns-in_default-event_index : goal.returns-in_default-event_index
 returns-in_default-event_index c =
     let lib = c.args.library.now in
     let s = c.args.stimulus.now in
-    let at = placed_at (instance_names lib.application.network) c.args.catalog.now.instances s.instance c.as_bytes.result.now c.index_of.result
-    c.requires.names.1.instances c.as_bytes.ensures c.index_of.ensures in
+    let at = placed_at (instance_names lib.application.network) c.args.catalog.now.instances s.instance s.instance c.index_of_name.result
+    c.requires.names.1.instances refl c.index_of_name.ensures in
     let x = c.in-Some-inputs_at.inputs.now in
     let P : Option TypeInputs → Type 0 = λ o. IsFound (ports_at_index lib c.in-Some.index) o in
     no_event lib s x (found_at lib s c.in-Some.index (Some x) (at ∙ c.in-Some.is, subst P (ap option_copied c.in-Some-inputs_at.is) c.inputs_at.ensures.found))
-    (ap is_some (ap (index_in x.events) (sym c.as_bytes-2.ensures) ∙ sym c.event_index.ensures ∙ c.in_default-event_index.is))
+    (ap is_some (sym c.event_index.ensures ∙ c.in_default-event_index.is))
 
 pub returns-in-Err : goal.returns-in-Err
 returns-in-Err c =
     let lib = c.args.library.now in
     let s = c.args.stimulus.now in
-    let at = placed_at (instance_names lib.application.network) c.args.catalog.now.instances s.instance c.as_bytes.result.now c.index_of.result
-    c.requires.names.1.instances c.as_bytes.ensures c.index_of.ensures in
+    let at = placed_at (instance_names lib.application.network) c.args.catalog.now.instances s.instance s.instance c.index_of_name.result
+    c.requires.names.1.instances refl c.index_of_name.ensures in
     let x = c.in-Some-inputs_at.inputs.now in
     let P : Option TypeInputs → Type 0 = λ o. IsFound (ports_at_index lib c.in-Some.index) o in
     let known : Known lib = record { plan = c.requires.names.0; once = c.requires.names.1.once; known = c.requires.names.2 } in
@@ -63,13 +62,13 @@ returns c =
     let lib = c.args.library.now in
     let d = c.args.directory.now in
     let s = c.args.stimulus.now in
-    let at = placed_at (instance_names lib.application.network) c.args.catalog.now.instances s.instance c.as_bytes.result.now c.index_of.result
-    c.requires.names.1.instances c.as_bytes.ensures c.index_of.ensures in
+    let at = placed_at (instance_names lib.application.network) c.args.catalog.now.instances s.instance s.instance c.index_of_name.result
+    c.requires.names.1.instances refl c.index_of_name.ensures in
     let x = c.in-Some-inputs_at.inputs.now in
     let P : Option TypeInputs → Type 0 = λ o. IsFound (ports_at_index lib c.in-Some.index) o in
     let Q : Result (List SlotValue) ℕ → Type 0 = AreSlotsOr (slot_of d x s) s.settings in
     taken_is lib d s x _ c.in-Some.index c.in-Some-event_index.event c.requires.directory
     (at ∙ c.in-Some.is, subst P (ap option_copied c.in-Some-inputs_at.is) c.inputs_at.ensures.found)
-    (ap (index_in x.events) (sym c.as_bytes-2.ensures) ∙ sym c.event_index.ensures ∙ c.in-Some-event_index.is)
+    (sym c.event_index.ensures ∙ c.in-Some-event_index.is)
     (λ t. true≢false (sym (c.in_ok-has_setting_twice.ensures.1 t) ∙ c.if-branch.false)) (subst Q c.in-Ok.is c.in_ok-sets.ensures)
     refl refl refl

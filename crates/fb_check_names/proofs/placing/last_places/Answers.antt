@@ -19,12 +19,12 @@ loop-second-preserved c =
     let xs = c.args.names.now in
     let i = c.loop-second.second in
     let x = c.index-names-second.result in (
-      last_more name_cmp (λ (n : Bor Name). n.now) same_name (λ (n : Bor Name). n.now) xs i x c.loop-second.places c.insert.new.self c.as_bytes.result name_agrees c.loop-second-test.true
-          c.index-names-second.is c.as_bytes.ensures c.loop-second.invariant.0 c.in_ok-first.ensures.updates.0,
+      last_more name_cmp (λ (n : Bor Name). n.now) same_name (λ (n : Bor Name). n.now) xs i x c.loop-second.places c.insert.new.self x name_agrees c.loop-second-test.true
+          c.index-names-second.is refl c.loop-second.invariant.0 c.in_ok-first.ensures.updates.0,
       each_more (pair_in same_name (λ (n : Bor Name). n.now) xs) xs i x c.loop-second.again.items c.push_pair.new.pairs.items _ c.loop-second-test.true c.index-names-second.is
           (c.in_ok-push_pair.ensures
           ∙ ap (λ (ps : List (ℕ × ℕ)). c.loop-second.again.items ++ ps)
-          (place_in_table name_cmp (λ (n : Bor Name). n.now) same_name (λ (n : Bor Name). n.now) xs i x c.loop-second.places c.as_bytes.result _ c.as_bytes.ensures c.loop-second.invariant.0
+          (place_in_table name_cmp (λ (n : Bor Name). n.now) same_name (λ (n : Bor Name). n.now) xs i x c.loop-second.places x _ refl c.loop-second.invariant.0
           c.in_ok-first.ensures.old))
           c.loop-second.invariant.1,
     )

@@ -2,7 +2,7 @@ use Rattle.std.proofs.Common.{refl}
 use Rattle.fb_check_names.proofs.repeats.end_names.Goals as goal
 
 pub returns-in-Some : goal.returns-in-Some
-returns-in-Some c = rw (c.in-Some.is, c.as_bytes.ensures, c.as_bytes-in-Some.ensures) refl
+returns-in-Some c = rw (c.in-Some.is) refl
 
 pub returns-in-None : goal.returns-in-None
-returns-in-None c = rw (c.in-None.is, c.as_bytes-in-None.ensures) refl
+returns-in-None c = rw (c.in-None.is) refl

@@ -7,8 +7,7 @@ use Rattle.fb_check_networks.proofs.mapping.holders_of.Goals as goal
 
 pub loop-instance-preserved : goal.loop-instance-preserved
 loop-instance-preserved c =
-    let one = c.holder.ensures ∙ ap (holder_in c.args.mapping.now) c.as_bytes.ensures in
-    c.in_ok-push.ensures.ok ∙ (λ k. c.loop-instance.invariant k ++ (one k ∷ []))
+    c.in_ok-push.ensures.ok ∙ (λ k. c.loop-instance.invariant k ++ (c.holder.ensures k ∷ []))
     ∙ sym (map_take_more (λ (i : Instance). holder_in c.args.mapping.now i.name) c.as_slice-instance-items.result.now c.loop-instance.instance-index c.instance-item.result
     c.loop-instance-test.true c.instance-item.is)
 

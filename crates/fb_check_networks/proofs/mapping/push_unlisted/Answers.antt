@@ -3,7 +3,6 @@ use Rattle.fb_check_names.specs.Indexes.{index_in}
 use Rattle.fb_check_names.specs.declared.location.Unmapped.TheVariants.{Unlisted}
 use Rattle.fb_check_names.proofs.Listing.{added_unless, each_done, each_more}
 use Rattle.fb_check_networks.specs.Mapping.{unlisted_by}
-use Rattle.fb_check_networks.proofs.Owners.{placed}
 use Rattle.fb_check_networks.proofs.mapping.push_unlisted.Goals as goal
 
 pub loop-instance-preserved : goal.loop-instance-preserved
@@ -12,7 +11,7 @@ loop-instance-preserved c =
     each_more (unlisted_by c.args.places.now) c.args.instances.now c.loop-instance.instance x c.loop-instance.found.items c.push_unless.new.found.items _ c.loop-instance-test.true
     c.index-instances-instance.is
     (added_unless c.loop-instance.found.items c.push_unless.new.found.items c.contains_key-is_listed.result (is_some (index_in c.args.places.now x.name)) (Unlisted c.loop-instance.instance)
-    (placed c.args.places.now x c.as_bytes.result c.contains_key-is_listed.result c.as_bytes.ensures c.contains_key-is_listed.ensures) c.in_ok-push_unless.ensures)
+    c.contains_key-is_listed.ensures c.in_ok-push_unless.ensures)
     c.loop-instance.invariant
 
 pub returns : goal.returns

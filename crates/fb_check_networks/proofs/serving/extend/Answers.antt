@@ -1,3 +1,4 @@
+use Rattle.std.proofs.Common.{refl}
 use Rattle.fb_check_networks.proofs.Carried.{extended_none, extended_more}
 use Rattle.fb_check_networks.proofs.serving.extend.Goals as goal
 
@@ -6,4 +7,4 @@ loop-name-init c = extended_none _ _ _
 
 pub loop-name-preserved : goal.loop-name-preserved
 loop-name-preserved c =
-    extended_more c.args.component _ _ _ c.args.resource _ _ _ c.as_bytes.result c.loop-name-test.true c.name-item.is c.as_bytes.ensures c.loop-name.invariant c.in_ok-insert.ensures.updates.0
+    extended_more c.args.component _ _ _ c.args.resource _ _ _ (record { ref_ptr = (0, 0); now = c.name-item.result }) c.loop-name-test.true c.name-item.is refl c.loop-name.invariant c.in_ok-insert.ensures.updates.0

@@ -1,3 +1,4 @@
+use Rattle.std.proofs.Common.{refl}
 use Rattle.fb_check_networks.proofs.Unserved.{served_is, served_same}
 use Rattle.fb_check_networks.proofs.uncarried.is_served.Goals as goal
 
@@ -7,6 +8,6 @@ returns-then-from-to c =
 
 pub returns : goal.returns
 returns c =
-    served_is c.args.library.now c.args.plan.now c.args.mapping.now c.args.numbers.now c.args.connection.now c.args.served.now c.component_of-component.result c.as_bytes-variable.result _ _ _
+    served_is c.args.library.now c.args.plan.now c.args.mapping.now c.args.numbers.now c.args.connection.now c.args.served.now c.component_of-component.result (record { ref_ptr = (0, 0); now = c.args.connection.now.from.port }) _ _ _
     c.requires.once c.requires.mapping c.requires.numbers c.requires.served c.requires.there c.resource_of-from.ensures
-    (record { at = c.component_of-component.ensures; name = c.as_bytes-variable.ensures; leads = c.resource_of-to.ensures }) c.if-from-to.false c.contains.ensures
+    (record { at = c.component_of-component.ensures; name = refl; leads = c.resource_of-to.ensures }) c.if-from-to.false c.contains.ensures

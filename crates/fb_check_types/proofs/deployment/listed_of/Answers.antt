@@ -15,7 +15,7 @@ loop-instance-preserved c =
     let m = c.args.instances.now in
     let k = c.loop-instance.instance in
     let x = c.index-names-instance.result in
-    let number = c.index_of-number.ensures ∙ ap (index_in m) c.as_bytes.ensures in (
+    let number = c.index_of_name-number.ensures in (
       each_more (mapped_unless m c.args.resource) c.args.names.now k x c.loop-instance.found.items c.push_unless.new.found.items _ c.loop-instance-test.true c.index-names-instance.is
           (added_unless c.loop-instance.found.items c.push_unless.new.found.items c.is_some.result (is_some (index_in m x)) (location.Mapped c.args.resource k) (c.is_some.ensures ∙ ap is_some number) c.in_ok-push_unless.ensures)
           c.loop-instance.invariant.0,

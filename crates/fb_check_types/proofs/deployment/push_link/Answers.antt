@@ -23,12 +23,12 @@ returns-clause-listed c =
     let f1 = c.push_unless.new.found.items in
     let f2 = c.push_unless-2.new.found.items in
     both_added f0 f1 f2 (unless (is_some (index_in m l.from)) from) (unless (is_some (index_in m l.to)) to)
-    (added_unless f0 f1 c.is_some.result (is_some (index_in m l.from)) from (c.is_some.ensures ∙ ap is_some (c.index_of-from.ensures ∙ ap (index_in m) c.as_bytes.ensures)) c.in_ok-push_unless.ensures)
-    (added_unless f1 f2 c.is_some-2.result (is_some (index_in m l.to)) to (c.is_some-2.ensures ∙ ap is_some (c.index_of-to.ensures ∙ ap (index_in m) c.as_bytes-2.ensures)) c.in_ok-push_unless-2.ensures)
+    (added_unless f0 f1 c.is_some.result (is_some (index_in m l.from)) from (c.is_some.ensures ∙ ap is_some (c.index_of_name-from.ensures)) c.in_ok-push_unless.ensures)
+    (added_unless f1 f2 c.is_some-2.result (is_some (index_in m l.to)) to (c.is_some-2.ensures ∙ ap is_some (c.index_of_name-to.ensures)) c.in_ok-push_unless-2.ensures)
 
 pub returns-clause-number : goal.returns-clause-number
 returns-clause-number c =
     let m = c.args.resources.now in
     c.in_ok-push_some.ensures
     ∙ ap (λ (o : Option LinkEnds). c.args.all.now ++ some_of o)
-    (c.linked.ensures ∙ (λ i. joined ((c.index_of-from.ensures ∙ ap (index_in m) c.as_bytes.ensures) i) ((c.index_of-to.ensures ∙ ap (index_in m) c.as_bytes-2.ensures) i)))
+    (c.linked.ensures ∙ (λ i. joined ((c.index_of_name-from.ensures) i) ((c.index_of_name-to.ensures) i)))

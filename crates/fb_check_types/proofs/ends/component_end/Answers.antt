@@ -1,6 +1,5 @@
 use Rattle.std.proofs.Common.{◌∙◌, ap, sym}
 use Rattle.std.specs.Prelude.{option_and_then}
-use Rattle.fb_check_names.specs.Indexes.{index_in}
 use Rattle.fb_check_types.specs.Scopes.{placed}
 use Rattle.fb_check_names.specs.PortKinds.{names_of_kind}
 use Rattle.fb_check_names.specs.Types.{port_number}
@@ -14,7 +13,7 @@ returns-in_err-kind c =
     let n = placed c.args.scope.now in
     let port_kind = names_of_kind c.args.port_kind in
     let i = c.in_ok-instance.instance in
-    let at = sym (c.in_ok-instance.ensures ∙ ap (index_in c.args.scope.now.instances.now) c.as_bytes.ensures ∙ c.requires.scope.instances.index c.args.component.now) in
+    let at = sym (c.in_ok-instance.ensures ∙ c.requires.scope.instances.index c.args.component.now) in
     c.from_residual-in_err-kind.ensures
     ∙ sym (component_is lib n c.args.kinds.now port_kind c.args.component.now c.args.end.now i c.requires.typed at
     ∙ ap (option_and_then (λ (t : TypeNumber). end_there i (port_number lib t port_kind c.args.end.now.port))) (sym c.in_err-kind.ensures.value))
@@ -25,7 +24,7 @@ returns-in_err-port c =
     let n = placed c.args.scope.now in
     let port_kind = names_of_kind c.args.port_kind in
     let i = c.in_ok-instance.instance in
-    let at = sym (c.in_ok-instance.ensures ∙ ap (index_in c.args.scope.now.instances.now) c.as_bytes.ensures ∙ c.requires.scope.instances.index c.args.component.now) in
+    let at = sym (c.in_ok-instance.ensures ∙ c.requires.scope.instances.index c.args.component.now) in
     c.from_residual-in_err-port.ensures
     ∙ sym (component_is lib n c.args.kinds.now port_kind c.args.component.now c.args.end.now i c.requires.typed at
     ∙ ap (option_and_then (λ (t : TypeNumber). end_there i (port_number lib t port_kind c.args.end.now.port))) (sym c.in_ok-kind.ensures.value)
@@ -37,7 +36,7 @@ returns c =
     let n = placed c.args.scope.now in
     let port_kind = names_of_kind c.args.port_kind in
     let i = c.in_ok-instance.instance in
-    let at = sym (c.in_ok-instance.ensures ∙ ap (index_in c.args.scope.now.instances.now) c.as_bytes.ensures ∙ c.requires.scope.instances.index c.args.component.now) in
+    let at = sym (c.in_ok-instance.ensures ∙ c.requires.scope.instances.index c.args.component.now) in
     sym (component_is lib n c.args.kinds.now port_kind c.args.component.now c.args.end.now i c.requires.typed at
     ∙ ap (option_and_then (λ (t : TypeNumber). end_there i (port_number lib t port_kind c.args.end.now.port))) (sym c.in_ok-kind.ensures.value)
     ∙ ap (end_there i) (sym c.in_ok-port.ensures))
