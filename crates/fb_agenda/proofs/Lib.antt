@@ -6,5 +6,6 @@ pub mod Moments
 pub mod Calendars
 pub mod Timing
 pub mod Keeping
+pub mod Ranks
 pub mod Places
 pub mod Queueing

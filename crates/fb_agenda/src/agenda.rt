@@ -1,6 +1,6 @@
 //! The events that wait, under their keys.
 
-ghost use Rattle.std.specs.Prelude.{◌≡◌, ◌<◌, if◌then◌else◌, length, Some, None, IfSome, IfNone, IfOk, IfErr, OnOk, OnErr, slice_set};
+ghost use Rattle.std.specs.Prelude.{◌≡◌, ◌<◌, [], if◌then◌else◌, length, Some, None, IfSome, IfNone, IfOk, IfErr, OnOk, OnErr, slice_set};
 ghost use Rattle.std.specs.Bool.{OnFalse, OnTrue};
 ghost use Rattle.std.specs.Map.{lookup};
 ghost use Rattle.fb_types.specs.Keys.{Precedes, changed_to, found, local_key, or_else, same_key, timer_key};
@@ -15,7 +15,7 @@ use crate::arrivals;
 use crate::calendar::Calendar;
 use crate::later::Later;
 use crate::least::Least;
-use crate::moment::Moment;
+use crate::moment::{LOCAL, Moment};
 use crate::queue::{self, Queue};
 use fb_types::{Event, Key, Message, Target, TimerAsk};
 use std::alloc::{AllocError, Global};
@@ -49,27 +49,22 @@ impl Model for Agenda {
     ghost invariant = { λ a. AreApart (contents_of a) a.later.has_local };
 }
 
-/// Whether the queue has an event, and no event of `later` comes before its first.
+/// Whether the queue has an event, and it is noted that no event of `later` comes before its first.
 #[inline(always)]
-fn is_now_first(now: &Queue, later: &mut Calendar) -> bool
+fn is_now_noted(now: &Queue, later: &Calendar) -> bool
     requires { AreRising (local_events now.now) }
-    ensures running { OnTrue result (Leads (local_events now.now) later.old) }
-    ensures later { OnFalse result (Leads later.old (local_events now.now)) }
-    ensures kept { later.new ≡ later.old }
+    ensures { OnTrue result (Leads (local_events now.now) later.now) }
 {
     let Some(first) = now.first() else {
         return false;
     };
-    // Usually no other event waits at the running tick in this resource or before.
-    if later.is_past(Moment::of(&first)) {
-        return true;
-    }
-    is_now_less(now, later)
+    later.is_past(Moment::of(&first))
 }
 
-/// The same as `is_now_first`, by comparing the first keys of both. The moment of the other is noted for the next calls.
-#[inline(never)]
-fn is_now_less(now: &Queue, later: &mut Calendar) -> bool
+/// Whether the queue has an event, and no event of `later` comes before its first. The moment of the first event of
+/// `later` is noted for the next calls.
+#[inline(always)]
+fn is_now_first(now: &Queue, later: &mut Calendar) -> bool
     requires { AreRising (local_events now.now) }
     ensures running { OnTrue result (Leads (local_events now.now) later.old) }
     ensures later { OnFalse result (Leads later.old (local_events now.now)) }
@@ -81,12 +76,35 @@ fn is_now_less(now: &Queue, later: &mut Calendar) -> bool
     let Some(other) = later.note_first() else {
         return true;
     };
+    if Moment::of(&first).is_before(other.moment) {
+        return true;
+    }
+    // Of one moment, all other events come before the local ones.
+    if other.class < LOCAL {
+        return false;
+    }
+    is_now_less(now, later)
+}
+
+/// The same as `is_now_first`, by comparing the first keys of both. In a run nothing asks for it.
+#[inline(never)]
+fn is_now_less(now: &Queue, later: &Calendar) -> bool
+    requires { AreRising (local_events now.now) }
+    ensures running { OnTrue result (Leads (local_events now.now) later.now) }
+    ensures later { OnFalse result (Leads later.now (local_events now.now)) }
+{
+    let Some(first) = now.first() else {
+        return false;
+    };
+    let Some(other) = later.first() else {
+        return true;
+    };
     first < other
 }
 
 /// Takes the first event of the calendar, if its tick is below the horizon, and moves it into the slot. Returns whether
 /// it did.
-#[inline(never)]
+#[inline(always)]
 fn pop_later(later: &mut Calendar, horizon: u64, index: &mut Least) -> bool
     ensures value { IfSome (taken result index.new) (λ r. lookup (same_key r.0) later.old ≡ Some r.1) }
     ensures none_before { IfSome (taken result index.new) (λ r. (j : Key) → Precedes j r.0 → lookup (same_key j) later.old ≡ None) }
@@ -237,6 +255,43 @@ impl Agenda {
     /// slot. Returns whether it did.
     #[inline(always)]
     pub fn take_least_into(&mut self, horizon: u64, index: &mut Least) -> bool
+        ensures found { OnTrue result (waiting self.old index.new.key ≡ Some index.new.event) }
+        ensures below { OnTrue result (index.new.key.tick < horizon) }
+        ensures least { OnTrue result ((j : Key) → Precedes j index.new.key → waiting self.old j ≡ None) }
+        ensures left { OnTrue result ((j : Key) → waiting self.new j ≡ (if same_key index.new.key j then None else waiting self.old j)) }
+        ensures due { self.new.due ≡ self.old.due }
+        ensures none { OnFalse result ((j : Key) → j.tick < horizon → waiting self.old j ≡ None) }
+        ensures kept { OnFalse result (self.new ≡ self.old) }
+    {
+        if self.now.is_empty() {
+            return self.take_later_into(horizon, index);
+        }
+        // Usually no other event waits at the running tick in this resource or before.
+        if is_now_noted(&self.now, &self.later.events) {
+            queue::pop_into(&mut self.now, horizon, index)
+        } else {
+            self.take_any_into(horizon, index)
+        }
+    }
+
+    /// The same as `take_least_into`, if the queue is empty.
+    #[inline(never)]
+    fn take_later_into(&mut self, horizon: u64, index: &mut Least) -> bool
+        requires { self.old.running ≡ [] }
+        ensures found { OnTrue result (waiting self.old index.new.key ≡ Some index.new.event) }
+        ensures below { OnTrue result (index.new.key.tick < horizon) }
+        ensures least { OnTrue result ((j : Key) → Precedes j index.new.key → waiting self.old j ≡ None) }
+        ensures left { OnTrue result ((j : Key) → waiting self.new j ≡ (if same_key index.new.key j then None else waiting self.old j)) }
+        ensures due { self.new.due ≡ self.old.due }
+        ensures none { OnFalse result ((j : Key) → j.tick < horizon → waiting self.old j ≡ None) }
+        ensures kept { OnFalse result (self.new ≡ self.old) }
+    {
+        pop_later(&mut self.later.events, horizon, index)
+    }
+
+    /// The same as `take_least_into`, wherever the event waits.
+    #[inline(never)]
+    fn take_any_into(&mut self, horizon: u64, index: &mut Least) -> bool
         ensures found { OnTrue result (waiting self.old index.new.key ≡ Some index.new.event) }
         ensures below { OnTrue result (index.new.key.tick < horizon) }
         ensures least { OnTrue result ((j : Key) → Precedes j index.new.key → waiting self.old j ≡ None) }

@@ -9,18 +9,15 @@ ghost use Rattle.fb_types.specs.declared.run.Event.TheVariants.{Timer};
 ghost use Rattle.fb_agenda.specs.Agendas.{AreRising, IsFirst, IsFirstTick};
 ghost use Rattle.fb_agenda.specs.Calendars.{BeginsAt, Leads, Sets};
 ghost use Rattle.fb_agenda.specs.Indexes.{taken};
-ghost use Rattle.fb_agenda.specs.Moments.{IsPast};
+ghost use Rattle.fb_agenda.specs.Moments.{HasRank, IsPast};
 
 use crate::least::Least;
-use crate::moment::Moment;
+use crate::moment::{Moment, Rank, TIMER};
 use crate::store::Store;
 use crate::timer_row::Timers;
 use fb_types::{Event, Key};
 use std::alloc::{AllocError, Global};
 use std::marker::Model;
-
-/// The class of the keys of timers.
-const TIMER: u8 = 1;
 
 /// Events under their keys, at most one under each. Contracts see them as a list.
 #[derive(Drop)]
@@ -61,6 +58,15 @@ fn is_timer_first(timers: &Timers, others: &Store) -> bool
     let Some(other) = others.first() else {
         return true;
     };
+    // Their moments differ mostly, and are compared in fewer steps than their keys.
+    let timer = Moment::of(&first);
+    let event = Moment::of(other);
+    if event.is_before(timer) {
+        return false;
+    }
+    if timer.is_before(event) {
+        return true;
+    }
     first < *other
 }
 
@@ -180,15 +186,35 @@ impl Calendar {
         Some(first.tick)
     }
 
-    /// The first key, whose moment is noted.
+    /// The rank of an event before whose moment no event waits. It compares no keys.
     #[inline(always)]
-    pub(crate) fn note_first(&mut self) -> Option<Key>
-        ensures some { IfSome result (IsFirst self.old) }
+    fn first_rank(&self) -> Option<Rank>
+        ensures some { IfSome result (HasRank self.now) }
+        ensures none { IfNone result (self.now ≡ []) }
+    {
+        let Some(timer) = self.timers.first_rank() else {
+            let first = self.others.first()?;
+            return Some(Rank::of(first));
+        };
+        let Some(first) = self.others.first() else {
+            return Some(timer);
+        };
+        let other = Rank::of(first);
+        if other.moment.is_before(timer.moment) {
+            return Some(other);
+        }
+        Some(timer)
+    }
+
+    /// The rank of an event before whose moment no event waits. The moment is noted.
+    #[inline(always)]
+    pub(crate) fn note_first(&mut self) -> Option<Rank>
+        ensures some { IfSome result (HasRank self.old) }
         ensures none { IfNone result (self.old ≡ []) }
         ensures kept { self.new ≡ self.old }
     {
-        let first = self.first()?;
-        self.quiet = Moment::of(&first);
+        let first = self.first_rank()?;
+        self.quiet = first.moment;
         Some(first)
     }
 

@@ -1,10 +1,16 @@
 //! The tick and the resource of keys. Keys are compared by these first.
 
 ghost use Rattle.std.specs.Prelude.{◌≡◌};
-ghost use Rattle.std.specs.Bool.{OnTrue};
+ghost use Rattle.std.specs.Bool.{OnFalse, OnTrue};
 ghost use Rattle.fb_agenda.specs.Moments.{IsNoLater, IsSooner};
 
 use fb_types::Key;
+
+/// The class of the keys of timers.
+pub(crate) const TIMER: u8 = 1;
+
+/// The class of the keys of local events.
+pub(crate) const LOCAL: u8 = 3;
 
 /// A tick and a resource.
 #[derive(Clone, Copy)]
@@ -31,7 +37,8 @@ impl Moment {
     /// Whether this moment comes before another.
     #[inline(always)]
     pub(crate) fn is_before(self, other: Moment) -> bool
-        ensures { OnTrue result (IsSooner self other) }
+        ensures sooner { OnTrue result (IsSooner self other) }
+        ensures later { OnFalse result (IsNoLater other self) }
     {
         self.tick < other.tick || self.tick == other.tick && self.resource < other.resource
     }
@@ -49,5 +56,29 @@ impl Moment {
             return other;
         }
         self
+    }
+}
+
+/// The moment and the class of a key. Keys that differ in these are in their order.
+#[derive(Clone, Copy)]
+pub(crate) struct Rank {
+    /// The tick and the resource of the key.
+    pub moment: Moment,
+    /// The class of the key.
+    pub class: u8,
+}
+
+impl Rank {
+    /// The rank of a key.
+    #[inline(always)]
+    pub(crate) fn of(key: &Key) -> Rank
+        ensures tick { result.moment.tick ≡ key.now.tick }
+        ensures resource { result.moment.resource ≡ key.now.resource }
+        ensures class { result.class ≡ key.now.class }
+    {
+        Rank {
+            moment: Moment::of(key),
+            class: key.class,
+        }
     }
 }

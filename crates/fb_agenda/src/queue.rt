@@ -56,11 +56,20 @@ impl Queue {
         }
     }
 
+    /// Whether no event waits.
+    #[inline(always)]
+    pub(crate) fn is_empty(&self) -> bool
+        ensures { OnTrue result (self.now ≡ []) }
+    {
+        self.waiting.is_empty()
+    }
+
     /// The key of the first event.
     #[inline(always)]
     pub(crate) fn first(&self) -> Option<Key>
         requires { AreRising (local_events self.now) }
         ensures some { IfSome result (IsFirst (local_events self.now)) }
+        ensures local { IfSome result (λ k. k.class ≡ 3) }
         ensures none { IfNone result (local_events self.now ≡ []) }
     {
         let number = self.waiting.first()?;

@@ -4,6 +4,7 @@
 //! looked up in it.
 
 ghost use Rattle.std.specs.Prelude.{◌≡◌, ◌<◌, ◌-◌, ◌++◌, ◌∷◌, ℕ, [], drop, IfSome, IfNone, OnErr, OnOk, length, slice_set};
+ghost use Rattle.std.specs.Bool.{OnTrue};
 ghost use Rattle.std.specs.List.{remove};
 ghost use Rattle.fb_agenda.specs.Targets.{IsNumberAt};
 
@@ -53,6 +54,14 @@ impl Targets {
             },
             others: VecDeque::new(alloc),
         }
+    }
+
+    /// Whether there is none.
+    #[inline(always)]
+    pub(crate) fn is_empty(&self) -> bool
+        ensures { OnTrue result (self.now ≡ []) }
+    {
+        !self.has_first
     }
 
     /// The first number.

@@ -13,9 +13,11 @@ ghost use Rattle.fb_types.specs.declared.run.Event.TheVariants.{Timer};
 ghost use Rattle.fb_agenda.specs.Agendas.{AreRising, IsFirst};
 ghost use Rattle.fb_agenda.specs.Calendars.{BeginsAt, Sets};
 ghost use Rattle.fb_agenda.specs.Indexes.{taken};
+ghost use Rattle.fb_agenda.specs.Moments.{HasRank};
 ghost use Rattle.fb_agenda.specs.Timing.{timer_event};
 
 use crate::least::Least;
+use crate::moment::{Moment, Rank, TIMER};
 use crate::rising::make_room;
 use fb_types::{Event, Key};
 use std::alloc::{AllocError, Global};
@@ -79,6 +81,24 @@ impl Timers {
     {
         let first = self.row.front()?;
         Some(first.key())
+    }
+
+    /// The rank of the first timer.
+    #[inline(always)]
+    pub(crate) fn first_rank(&self) -> Option<Rank>
+        requires { AreRising self.now }
+        ensures some { IfSome result (HasRank self.now) }
+        ensures none { IfNone result (self.now ≡ []) }
+    {
+        let first = self.row.front()?;
+        let moment = Moment {
+            tick: first.tick,
+            resource: first.resource,
+        };
+        Some(Rank {
+            moment,
+            class: TIMER,
+        })
     }
 
     /// Puts a timer under its key, if it does not wait there already.

@@ -3,6 +3,7 @@
 ghost use Rattle.std.specs.Prelude.{◌≡◌, ◌+◌, ◌^◌, ◌<◌, ◌≤◌};
 ghost use Rattle.fb_types.specs.Flat as spec;
 ghost use Rattle.fb_types.specs.Headline.{system_of};
+ghost use Rattle.fb_types.specs.OfSystem.{link_count};
 ghost use Rattle.fb_link.specs.Arrivals.{arrival_at, IsEarliest};
 
 use fb_system::System;
@@ -38,7 +39,7 @@ fn arrival_by(latency: &Latency, sent_tick: u64) -> u64
 /// last entry of the link whose tick is at most the tick of sending. It is later than the tick of sending, by 1,000,000
 /// ticks at most, which must fit in 64 bits: any tick of a run leaves that room.
 pub fn arrival(system: &System, link: u32, sent_tick: u64) -> u64
-    requires link { link < (system_of system.now).links }
+    requires link { link < link_count system.now }
     requires room { sent_tick + 10 ^ 6 < 2 ^ 64 }
     ensures value { result ≡ (system_of system.now).arrival link sent_tick }
     ensures later { sent_tick < result }

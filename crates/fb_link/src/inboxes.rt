@@ -1,9 +1,10 @@
 //! The messages of all resources, sorted by receiver.
 
-ghost use Rattle.std.specs.Prelude.{◌≡◌, ◌<◌, ◌++◌, ℕ, [], All, IfOk, OnOk, List, Some, Vec, length, slice_get};
+ghost use Rattle.std.specs.Prelude.{◌≡◌, ◌++◌, ℕ, [], All, IfOk, OnOk, List, Some, Vec, length, slice_get};
 ghost use Rattle.std.specs.declared.alloc.Global as global;
 ghost use Rattle.fb_types.specs.Headline.{system_of};
 ghost use Rattle.fb_types.specs.declared.run.Message as model;
+ghost use Rattle.fb_types.specs.OfSystem.{IsInstance, resource_count};
 ghost use Rattle.fb_link.specs.Exchanges.{all_of, AreDealt, AreFor, AreSorted};
 
 use fb_system::System;
@@ -28,8 +29,8 @@ fn deal(
     outbox: Vec<Message>,
     inboxes: &mut Vec<Vec<Message>>,
 ) -> Result<(), AllocError>
-    requires targets { All (λ m. m.target.instance < length (system_of system.now).paths) outbox.items }
-    requires counted { length inboxes.old.items ≡ length (system_of system.now).resource_names }
+    requires targets { All (λ m. IsInstance system.now m.target.instance) outbox.items }
+    requires counted { length inboxes.old.items ≡ resource_count system.now }
     ensures counted { OnOk result (length inboxes.new.items ≡ length inboxes.old.items) }
     ensures dealt { OnOk result ((all : List model.Message) → AreDealt (system_of system.now) all inboxes.old.items
         → AreDealt (system_of system.now) (all ++ outbox.items) inboxes.new.items) }
@@ -60,8 +61,8 @@ pub fn exchange(
     system: &System,
     outboxes: Vec<Vec<Message>>,
 ) -> Result<Vec<Vec<Message>>, AllocError>
-    requires targets { All (λ box. All (λ m. m.target.instance < length (system_of system.now).paths) box.items) outboxes.items }
-    ensures counted { IfOk result (λ v. length v.items ≡ length (system_of system.now).resource_names) }
+    requires targets { All (λ box. All (λ m. IsInstance system.now m.target.instance) box.items) outboxes.items }
+    ensures counted { IfOk result (λ v. length v.items ≡ resource_count system.now) }
     ensures each { IfOk result (λ v. (r : ℕ) (list : Vec model.Message global.Global) → slice_get v.items r ≡ Some list
         → AreFor (system_of system.now) r (all_of outboxes.items) list.items) }
 {

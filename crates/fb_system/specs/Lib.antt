@@ -17,3 +17,4 @@ pub mod Rows
 pub mod Heads
 pub mod Ends
 pub mod PortRows
+pub mod OfSystem

@@ -1,10 +1,9 @@
 //! Makes the rows of the event ports and of the sources of a system.
 
-ghost use Rattle.std.specs.Prelude.{◌<◌, ◌≤◌, length, if◌then◌else◌, IfOk, OnOk};
-ghost use Rattle.fb_types.specs.Headline.{system_of};
-ghost use Rattle.fb_types.specs.Numbers.{path_at, ports_at};
-ghost use Rattle.fb_system.specs.Ends.{AreSources};
+ghost use Rattle.std.specs.Prelude.{◌≤◌, length, if◌then◌else◌, IfOk, OnOk};
+ghost use Rattle.fb_types.specs.OfSystem.{IsInstance, path_at, ports_at};
 ghost use Rattle.fb_system.specs.PortRows.{ArePortRows};
+ghost use Rattle.fb_system.specs.OfSystem.{AreSources};
 
 use crate::ends::{Ends, FirstRows, MOST_ENDS, PortRowAt, SourceRow};
 use crate::system::System;
@@ -13,8 +12,8 @@ use std::alloc::{AllocError, Global};
 
 /// The number of event outputs, or of event inputs, of an instance.
 fn count_events(system: &System, instance: u32, are_outputs: bool) -> u32
-    requires { instance < length (system_of system.now).paths }
-    ensures { let its = ports_at (system_of system.now) (path_at (system_of system.now) instance) in
+    requires { IsInstance system.now instance }
+    ensures { let its = ports_at system.now (path_at system.now instance) in
         result ≤ length (if are_outputs then its.event_outputs else its.event_inputs) }
 {
     let ports = system.ports(instance);
@@ -28,8 +27,8 @@ fn count_events(system: &System, instance: u32, are_outputs: bool) -> u32
 /// The number of data outputs, or of data inputs, of an instance that have rows. Data outputs connect to what is inside,
 /// so only those of a composite have rows.
 fn count_variables(system: &System, instance: u32, are_outputs: bool) -> u32
-    requires { instance < length (system_of system.now).paths }
-    ensures { let its = ports_at (system_of system.now) (path_at (system_of system.now) instance) in
+    requires { IsInstance system.now instance }
+    ensures { let its = ports_at system.now (path_at system.now instance) in
         result ≤ length (if are_outputs then its.outputs else its.inputs) }
 {
     let ports = system.ports(instance);
@@ -49,7 +48,7 @@ fn add_ports(
     instance: u32,
     is_output: bool,
 ) -> Result<(), AllocError>
-    requires instance { instance < length (system_of system.now).paths }
+    requires instance { IsInstance system.now instance }
     requires rows { ArePortRows system.now rows.old }
     ensures { OnOk result (ArePortRows system.now rows.new) }
 {
@@ -75,9 +74,9 @@ fn add_sources(
     instance: u32,
     is_output: bool,
 ) -> Result<(), AllocError>
-    requires instance { instance < length (system_of system.now).paths }
-    requires rows { AreSources (system_of system.now) rows.old }
-    ensures { OnOk result (AreSources (system_of system.now) rows.new) }
+    requires instance { IsInstance system.now instance }
+    requires rows { AreSources system.now rows.old }
+    ensures { OnOk result (AreSources system.now rows.new) }
 {
     for variable in 0..count_variables(system, instance, is_output) {
         if rows.len() >= MOST_ENDS {
@@ -101,11 +100,11 @@ fn row_after(rows: usize) -> u32 {
 
 /// Adds the rows of an instance.
 fn add_instance(ends: &mut Ends, system: &System, instance: u32) -> Result<(), AllocError>
-    requires instance { instance < length (system_of system.now).paths }
+    requires instance { IsInstance system.now instance }
     requires ports { ArePortRows system.now ends.old.ports }
-    requires sources { AreSources (system_of system.now) ends.old.sources }
+    requires sources { AreSources system.now ends.old.sources }
     ensures ports { OnOk result (ArePortRows system.now ends.new.ports) }
-    ensures sources { OnOk result (AreSources (system_of system.now) ends.new.sources) }
+    ensures sources { OnOk result (AreSources system.now ends.new.sources) }
 {
     let event_inputs = row_after(ends.ports.len());
     add_ports(&mut ends.ports, system, instance, false)?;
@@ -126,7 +125,7 @@ fn add_instance(ends: &mut Ends, system: &System, instance: u32) -> Result<(), A
 /// The rows of a system, as many as there is room for.
 pub(crate) fn ends_of(alloc: Global, system: &System) -> Result<Ends, AllocError>
     ensures ports { IfOk result (λ e. ArePortRows system.now e.ports) }
-    ensures sources { IfOk result (λ e. AreSources (system_of system.now) e.sources) }
+    ensures sources { IfOk result (λ e. AreSources system.now e.sources) }
 {
     system.facts();
     let mut ends = Ends::new(alloc);

@@ -3,8 +3,10 @@
 ghost use Rattle.std.specs.Prelude.{◌≡◌, ◌<◌, List, [], ◌++◌, codes, length, if◌then◌else◌, IfNone, IfOk, IfSome, OnOk};
 ghost use Rattle.fb_types.specs.Headline.{system_of};
 ghost use Rattle.fb_types.specs.Names.{Name};
+ghost use Rattle.fb_types.specs.OfSystem.{IsInstance, IsResource};
 ghost use Rattle.fb_system.specs.IndexLists.{AreIndexes};
-ghost use Rattle.fb_system.specs.Heads.{AreHeads, IsOfHead, IsRowOfHead, first_text, head_event, head_variables};
+ghost use Rattle.fb_system.specs.Heads.{IsRowOfHead, first_text, head_event};
+ghost use Rattle.fb_system.specs.OfSystem.{AreHeads, IsOfHead, head_variables};
 
 use crate::heads::{Firsts, Head, HeadOf, Heads, MOST_ROWS, ROW};
 use crate::system::System;
@@ -13,7 +15,7 @@ use std::alloc::{AllocError, Global};
 
 /// The name of the event of a head.
 fn event_name(system: &System, of: HeadOf) -> &[u8]
-    requires { IsOfHead (system_of system.now) of }
+    requires { IsOfHead system.now of }
     ensures { result.now ≡ head_event (system_of system.now) of }
 {
     let ports = system.ports(of.instance);
@@ -39,9 +41,9 @@ fn name_at_first<'a>(variables: &'a [Variable], indexes: &[u32]) -> Option<&'a [
 
 /// The name of the first variable WITH the event of a head, if there is one.
 fn first_name(system: &System, of: HeadOf) -> Option<&[u8]>
-    requires { IsOfHead (system_of system.now) of }
-    ensures none { IfNone result (first_text (head_variables (system_of system.now) of) ≡ []) }
-    ensures some { IfSome result (λ n. first_text (head_variables (system_of system.now) of) ≡ codes " " ++ n.now ++ codes "=") }
+    requires { IsOfHead system.now of }
+    ensures none { IfNone result (first_text (head_variables system.now of) ≡ []) }
+    ensures some { IfSome result (λ n. first_text (head_variables system.now of) ≡ codes " " ++ n.now ++ codes "=") }
 {
     let ports = system.ports(of.instance);
     if of.taken {
@@ -111,7 +113,7 @@ fn add_first(text: &mut Vec<u8>, first: Option<&[u8]>) -> Result<(), AllocError>
 
 /// The row of a head. The text is joined in the buffer.
 fn row_of(system: &System, text: &mut Vec<u8>, of: HeadOf) -> Result<Head, AllocError>
-    requires { IsOfHead (system_of system.now) of }
+    requires { IsOfHead system.now of }
     ensures { IfOk result (IsRowOfHead (system_of system.now)) }
 {
     let parts = Parts {
@@ -149,10 +151,10 @@ fn add_rows(
     instance: u32,
     taken: bool,
 ) -> Result<(), AllocError>
-    requires resource { resource < length (system_of system.now).resource_names }
-    requires instance { instance < length (system_of system.now).paths }
-    requires rows { AreHeads (system_of system.now) rows.old }
-    ensures { OnOk result (AreHeads (system_of system.now) rows.new) }
+    requires resource { IsResource system.now resource }
+    requires instance { IsInstance system.now instance }
+    requires rows { AreHeads system.now rows.old }
+    ensures { OnOk result (AreHeads system.now rows.new) }
 {
     for event in 0..events_of(system.ports(instance), taken) {
         if rows.len() >= MOST_ROWS {
@@ -181,9 +183,9 @@ fn add_instance(
     text: &mut Vec<u8>,
     instance: u32,
 ) -> Result<(), AllocError>
-    requires instance { instance < length (system_of system.now).paths }
-    requires rows { AreHeads (system_of system.now) heads.old.rows }
-    ensures { OnOk result (AreHeads (system_of system.now) heads.new.rows) }
+    requires instance { IsInstance system.now instance }
+    requires rows { AreHeads system.now heads.old.rows }
+    ensures { OnOk result (AreHeads system.now heads.new.rows) }
 {
     system.facts();
     let resource = system.resource(instance);
@@ -200,7 +202,7 @@ fn add_instance(
 
 /// The heads of the lines of a system, as many as there is room for.
 pub(crate) fn heads_of(alloc: Global, system: &System) -> Result<Heads, AllocError>
-    ensures { IfOk result (λ h. AreHeads (system_of system.now) h.rows) }
+    ensures { IfOk result (λ h. AreHeads system.now h.rows) }
 {
     system.facts();
     let mut text = Vec::new(alloc);

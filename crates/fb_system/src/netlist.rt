@@ -60,7 +60,11 @@ impl Netlist {
     /// # Errors
     ///
     /// When memory runs out. A type with more ports of one kind than 32 bits can number counts as out of memory.
-    pub fn of(alloc: Global, library: Library, numbers: Resolved) -> Result<Netlist, AllocError>
+    pub(crate) fn of(
+        alloc: Global,
+        library: Library,
+        numbers: Resolved,
+    ) -> Result<Netlist, AllocError>
         requires resolved { (plan : Plan) × (¬ (NameTwice library plan)) × IsResolved library plan numbers }
         requires height { ¬ (TooHigh library) }
         requires few { length (paths_of library) ≤ 4096 }

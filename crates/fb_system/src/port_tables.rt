@@ -3,8 +3,8 @@
 ghost use Rattle.std.specs.Prelude.{◌≡◌};
 ghost use Rattle.fb_types.specs.Headline.{system_of};
 ghost use Rattle.fb_system.specs.IndexLists.{AreIndexes};
-ghost use Rattle.fb_system.specs.Ports.{IsPort};
 ghost use Rattle.fb_system.specs.PortRows.{IsPortRow, IsWith, port_names, port_variables};
+ghost use Rattle.fb_system.specs.OfSystem.{IsPort};
 
 use crate::port_row::{PortRow, With};
 use crate::system::System;
@@ -14,7 +14,7 @@ impl System {
     /// The variables WITH the event of a port, and where its first connection leads.
     #[inline(never)]
     pub fn port_by_tables(&self, at: Target) -> PortRow
-        requires { IsPort (system_of self.now) at }
+        requires { IsPort self.now at }
         ensures { IsPortRow self.now at result }
     {
         PortRow {
@@ -25,7 +25,7 @@ impl System {
 
     /// The indices of the variables WITH the event of a port.
     fn indexes_with(&self, at: Target) -> &[u32]
-        requires { IsPort (system_of self.now) at }
+        requires { IsPort self.now at }
         ensures { AreIndexes (port_variables (system_of self.now) at) (port_names (system_of self.now) at) result.now }
     {
         if at.is_output {
@@ -37,7 +37,7 @@ impl System {
 
     /// The variables WITH the event of a port.
     fn port_with(&self, at: Target) -> With
-        requires { IsPort (system_of self.now) at }
+        requires { IsPort self.now at }
         ensures { IsWith (system_of self.now) at result }
     {
         match self.indexes_with(at) {

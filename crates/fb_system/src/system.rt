@@ -1,23 +1,23 @@
 //! The system of accepted inputs.
 
-ghost use Rattle.std.specs.Prelude.{◌≡◌, ◌+◌, ◌<◌, ◌≤◌, [], List, ℕ, length, option_map, slice_get, slice_index_or, ◌↔◌, IfOk, IfSome, IsTrue};
+ghost use Rattle.std.specs.Prelude.{◌≡◌, ◌+◌, ◌<◌, ◌≤◌, [], List, ℕ, length, option_map, slice_get, ◌↔◌, IfOk, IfSome, IsTrue};
 ghost use Rattle.std.specs.Arc.{arc_value};
 ghost use Rattle.fb_types.specs.Flat.{latency_at};
 ghost use Rattle.fb_types.specs.Headline.{AreAccepted, system_of, inputs};
 ghost use Rattle.fb_types.specs.Limits.{IsWithinLimits};
-ghost use Rattle.fb_types.specs.Numbers.{event_at, path_at, port_of, ports_at};
+ghost use Rattle.fb_types.specs.Numbers.{event_at};
 ghost use Rattle.fb_types.specs.Blocks.{inputs_with, outputs_with};
 ghost use Rattle.fb_system.specs.IndexLists.{AreIndexes, AreWithIndexes};
 ghost use Rattle.fb_system.specs.Stimuli.{IsStimulusAt, initial_inputs, initial_outputs};
 ghost use Rattle.fb_types.specs.Text.{path_text};
+ghost use Rattle.fb_types.specs.OfSystem.{IsInstance, IsResource, instance_count, kind_at, link_count, path_at, port_of, ports_at, resource_at, resource_count, resource_name, targets_at};
 ghost use Rattle.fb_system.specs.Layouts.{AreComponents, AreNumbers, IsParent, route_to};
 ghost use Rattle.fb_check_names.specs.Numbers.{kind_of_number};
-ghost use Rattle.fb_system.specs.Ends.{ComesFrom, LeadsTo};
-ghost use Rattle.fb_system.specs.Heads.{IsHead};
 ghost use Rattle.fb_system.specs.Linking.{AreHomes, IsLinked};
-ghost use Rattle.fb_system.specs.Ports.{IsPort, IsSource, IsTarget, IsVariable, variable_of};
+ghost use Rattle.fb_system.specs.Ports.{IsSource};
 ghost use Rattle.fb_system.specs.PortRows.{IsPortRow};
 ghost use Rattle.fb_system.specs.Systems.{inputs_of, IsBare, IsGiven, IsKept, AreTables};
+ghost use Rattle.fb_system.specs.OfSystem.{ComesFrom, IsHead, IsPort, IsTarget, IsVariable, LeadsTo, variable_of};
 
 use crate::given::Given;
 use crate::heads::{Head, HeadOf};
@@ -168,8 +168,8 @@ impl System {
     pub fn facts(&self)
         ensures accepted { AreAccepted self.now }
         ensures limits { IsWithinLimits self.now.plan }
-        ensures few { length (system_of self.now).paths ≤ 4096 }
-        ensures numbered { (i : ℕ) → i < length (system_of self.now).paths → (system_of self.now).number (path_at (system_of self.now) i) ≡ i }
+        ensures few { instance_count self.now ≤ 4096 }
+        ensures numbered { (i : ℕ) → IsInstance self.now i → (system_of self.now).number (path_at self.now i) ≡ i }
     {
         let whole = &*self.whole;
         let _plan = whole.deploy.plan();
@@ -199,23 +199,23 @@ impl System {
 
     /// The number of instances, at most 4,096.
     pub fn count(&self) -> usize
-        ensures { result ≡ length (system_of self.now).paths }
+        ensures { result ≡ instance_count self.now }
     {
         self.whole.netlist.count()
     }
 
     /// The type of an instance.
     pub fn kind(&self, instance: u32) -> TypeNumber
-        requires { instance < length (system_of self.now).paths }
-        ensures { kind_of_number self.now.library result ≡ (system_of self.now).kind (path_at (system_of self.now) instance) }
+        requires { IsInstance self.now instance }
+        ensures { kind_of_number self.now.library result ≡ kind_at self.now (path_at self.now instance) }
     {
         self.whole.netlist.kind(instance)
     }
 
     /// The instance names from the outermost, joined by full stops.
     pub fn path(&self, instance: u32) -> &[u8]
-        requires { instance < length (system_of self.now).paths }
-        ensures { result.now ≡ path_text (path_at (system_of self.now) instance) }
+        requires { IsInstance self.now instance }
+        ensures { result.now ≡ path_text (path_at self.now instance) }
     {
         self.whole.netlist.path(instance)
     }
@@ -223,7 +223,7 @@ impl System {
     /// The number of the composite that contains an instance, less than its own, or none for an instance of the
     /// application.
     pub fn parent(&self, instance: u32) -> Option<u32>
-        requires { instance < length (system_of self.now).paths }
+        requires { IsInstance self.now instance }
         ensures { IsParent self.now.library instance result }
     {
         self.whole.netlist.parent(instance)
@@ -231,16 +231,16 @@ impl System {
 
     /// The indices of the instances on the path to an instance, each in its network, from the outermost.
     pub fn route(&self, instance: u32) -> &[u32]
-        requires { instance < length (system_of self.now).paths }
-        ensures { result.now ≡ route_to self.now.library (path_at (system_of self.now) instance) }
+        requires { IsInstance self.now instance }
+        ensures { result.now ≡ route_to self.now.library (path_at self.now instance) }
     {
         self.whole.netlist.route(instance)
     }
 
     /// The numbers of the instances inside a composite, in the order of the text. Any other instance has none.
     pub fn components(&self, instance: u32) -> &[u32]
-        requires { instance < length (system_of self.now).paths }
-        ensures { AreComponents self.now.library (path_at (system_of self.now) instance) result.now }
+        requires { IsInstance self.now instance }
+        ensures { AreComponents self.now.library (path_at self.now instance) result.now }
     {
         self.whole.netlist.components(instance)
     }
@@ -257,10 +257,10 @@ impl System {
     /// says whether another connection follows, so that no caller searches for one after the last.
     #[inline(always)]
     pub fn reached(&self, from: Target, index: usize) -> Option<NextTarget>
-        requires { IsPort (system_of self.now) from }
-        ensures leads { option_map (λ r. port_of (system_of self.now) r.target) result ≡ slice_get ((system_of self.now).targets (port_of (system_of self.now) from)) index }
-        ensures within { IfSome result (λ r. IsTarget (system_of self.now) r.target) }
-        ensures more { IfSome result (λ r. IsTrue r.more ↔ (index + 1 < length ((system_of self.now).targets (port_of (system_of self.now) from)))) }
+        requires { IsPort self.now from }
+        ensures leads { option_map (λ r. port_of self.now r.target) result ≡ slice_get (targets_at self.now (port_of self.now from)) index }
+        ensures within { IfSome result (λ r. IsTarget self.now r.target) }
+        ensures more { IfSome result (λ r. IsTrue r.more ↔ (index + 1 < length (targets_at self.now (port_of self.now from)))) }
     {
         // Usually a port has one connection, and its row is kept.
         if index == 0 {
@@ -286,8 +286,8 @@ impl System {
     /// Where a connection leads, by its network.
     #[inline(never)]
     fn reached_by_tables(&self, from: Target, index: usize) -> Option<NextTarget>
-        requires { IsPort (system_of self.now) from }
-        ensures { LeadsTo (system_of self.now) from index result }
+        requires { IsPort self.now from }
+        ensures { LeadsTo self.now from index result }
     {
         self.whole.netlist.reached(from, index)
     }
@@ -296,8 +296,8 @@ impl System {
     /// what is inside.
     #[inline(always)]
     pub fn source(&self, to: InstanceVariable) -> Option<InstanceVariable>
-        requires { IsVariable (system_of self.now) to }
-        ensures comes { option_map (variable_of (system_of self.now)) result ≡ (system_of self.now).source (variable_of (system_of self.now) to) }
+        requires { IsVariable self.now to }
+        ensures comes { option_map (variable_of self.now) result ≡ (system_of self.now).source (variable_of self.now to) }
         ensures within { IfSome result (IsSource (system_of self.now)) }
     {
         match self.whole.kept.ends.source(to) {
@@ -309,8 +309,8 @@ impl System {
     /// What a variable is connected to, by the network of its connection.
     #[inline(never)]
     fn source_by_tables(&self, to: InstanceVariable) -> Option<InstanceVariable>
-        requires { IsVariable (system_of self.now) to }
-        ensures { ComesFrom (system_of self.now) to result }
+        requires { IsVariable self.now to }
+        ensures { ComesFrom self.now to result }
     {
         self.whole.netlist.source(to)
     }
@@ -318,23 +318,23 @@ impl System {
     /// The resource that holds an instance.
     #[inline(always)]
     pub fn resource(&self, instance: u32) -> usize
-        requires { instance < length (system_of self.now).paths }
-        ensures { result ≡ (system_of self.now).resource (path_at (system_of self.now) instance) }
+        requires { IsInstance self.now instance }
+        ensures { result ≡ resource_at self.now (path_at self.now instance) }
     {
         self.whole.homes.as_slice()[instance as usize]
     }
 
     /// The number of resources, at most 256.
     pub fn resources(&self) -> usize
-        ensures { result ≡ length (system_of self.now).resource_names }
+        ensures { result ≡ resource_count self.now }
     {
         self.whole.deploy.plan().resources.len()
     }
 
     /// The name of a resource.
     pub fn resource_name(&self, resource: usize) -> &[u8]
-        requires { resource < length (system_of self.now).resource_names }
-        ensures { result.now ≡ slice_index_or (system_of self.now).resource_names resource [] }
+        requires { IsResource self.now resource }
+        ensures { result.now ≡ resource_name self.now resource }
     {
         self.whole.deploy.plan().resources.as_slice()[resource]
             .name
@@ -343,15 +343,15 @@ impl System {
 
     /// The number of links, at most 1,024.
     pub fn links(&self) -> usize
-        ensures { result ≡ (system_of self.now).links }
+        ensures { result ≡ link_count self.now }
     {
         self.whole.deploy.plan().links.len()
     }
 
     /// The link from one resource to another, or 0 if there is none.
     pub fn link(&self, from: usize, to: usize) -> usize
-        requires from { from < length (system_of self.now).resource_names }
-        requires to { to < length (system_of self.now).resource_names }
+        requires from { IsResource self.now from }
+        requires to { IsResource self.now to }
         ensures { result ≡ (system_of self.now).link from to }
     {
         self.whole.links.between(from, to).unwrap_or(0)
@@ -373,7 +373,7 @@ impl System {
 
     /// The latencies of a link.
     pub fn latency(&self, link: usize) -> &Latency
-        requires { link < (system_of self.now).links }
+        requires { link < link_count self.now }
         ensures { (sent : ℕ) → (system_of self.now).arrival link sent ≡ sent + latency_at result.now sent }
     {
         &self.whole.deploy.plan().links.as_slice()[link].latency
@@ -382,8 +382,8 @@ impl System {
     /// The interface of an instance's type.
     #[inline(always)]
     pub fn ports(&self, instance: u32) -> &Ports
-        requires { instance < length (system_of self.now).paths }
-        ensures { result.now ≡ ports_at (system_of self.now) (path_at (system_of self.now) instance) }
+        requires { IsInstance self.now instance }
+        ensures { result.now ≡ ports_at self.now (path_at self.now instance) }
     {
         let whole = &*self.whole;
         ports_of_type(whole, whole.netlist.kind(instance))
@@ -392,8 +392,8 @@ impl System {
     /// For each event of an instance's type, the indices of the variables WITH it.
     #[inline(always)]
     fn with_indexes(&self, instance: u32) -> &WithIndexes
-        requires { instance < length (system_of self.now).paths }
-        ensures { AreWithIndexes (ports_at (system_of self.now) (path_at (system_of self.now) instance)) result.now }
+        requires { IsInstance self.now instance }
+        ensures { AreWithIndexes (ports_at self.now (path_at self.now instance)) result.now }
     {
         let whole = &*self.whole;
         with_indexes_of_type(whole, whole.netlist.kind(instance))
@@ -402,16 +402,16 @@ impl System {
     /// The row with the text of a head, if it is kept. The heads of the first 65,536 events are, if they fit.
     #[inline(always)]
     pub fn head(&self, of: HeadOf) -> Option<&Head>
-        ensures { IfSome result (λ h. IsHead (system_of self.now) of h.now) }
+        ensures { IfSome result (λ h. IsHead self.now of h.now) }
     {
         self.whole.kept.heads.find(of)
     }
 
     /// The indices of the data inputs WITH an event input of an instance, in the order in which the inputs are declared.
     pub fn inputs_with(&self, instance: u32, event: u32) -> &[u32]
-        requires instance { instance < length (system_of self.now).paths }
-        requires event { event < length (ports_at (system_of self.now) (path_at (system_of self.now) instance)).event_inputs }
-        ensures { let its = ports_at (system_of self.now) (path_at (system_of self.now) instance) in AreIndexes its.inputs (inputs_with its (event_at its.event_inputs event)) result.now }
+        requires instance { IsInstance self.now instance }
+        requires event { event < length (ports_at self.now (path_at self.now instance)).event_inputs }
+        ensures { let its = ports_at self.now (path_at self.now instance) in AreIndexes its.inputs (inputs_with its (event_at its.event_inputs event)) result.now }
     {
         self.with_indexes(instance).inputs.as_slice()[event as usize].as_slice()
     }
@@ -419,9 +419,9 @@ impl System {
     /// The indices of the data outputs WITH an event output of an instance, in the order in which the outputs are
     /// declared.
     pub fn outputs_with(&self, instance: u32, event: u32) -> &[u32]
-        requires instance { instance < length (system_of self.now).paths }
-        requires event { event < length (ports_at (system_of self.now) (path_at (system_of self.now) instance)).event_outputs }
-        ensures { let its = ports_at (system_of self.now) (path_at (system_of self.now) instance) in AreIndexes its.outputs (outputs_with its (event_at its.event_outputs event)) result.now }
+        requires instance { IsInstance self.now instance }
+        requires event { event < length (ports_at self.now (path_at self.now instance)).event_outputs }
+        ensures { let its = ports_at self.now (path_at self.now instance) in AreIndexes its.outputs (outputs_with its (event_at its.event_outputs event)) result.now }
     {
         self.with_indexes(instance).outputs.as_slice()[event as usize].as_slice()
     }
@@ -433,8 +433,8 @@ impl System {
     ///
     /// When memory runs out.
     pub fn initial_inputs(&self, alloc: Global, instance: u32) -> Result<Items<Value>, AllocError>
-        requires { instance < length (system_of self.now).paths }
-        ensures { IfOk result (λ vs. vs ≡ initial_inputs (system_of self.now) (path_at (system_of self.now) instance)) }
+        requires { IsInstance self.now instance }
+        ensures { IfOk result (λ vs. vs ≡ initial_inputs (system_of self.now) (path_at self.now instance)) }
     {
         let netlist = &self.whole.netlist;
         let declared = netlist.declared(instance);
@@ -452,8 +452,8 @@ impl System {
     ///
     /// When memory runs out.
     pub fn initial_outputs(&self, alloc: Global, instance: u32) -> Result<Items<Value>, AllocError>
-        requires { instance < length (system_of self.now).paths }
-        ensures { IfOk result (λ vs. vs ≡ initial_outputs (system_of self.now) (path_at (system_of self.now) instance)) }
+        requires { IsInstance self.now instance }
+        ensures { IfOk result (λ vs. vs ≡ initial_outputs (system_of self.now) (path_at self.now instance)) }
     {
         self.facts();
         output_values(alloc, self.ports(instance))

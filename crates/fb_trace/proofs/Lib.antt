@@ -14,3 +14,4 @@ pub mod Merged
 pub mod Taking
 pub mod Starts
 pub mod Tens
+pub mod RowDigits

@@ -1,6 +1,8 @@
+pub mod DigitRows
+pub mod End
+pub mod Fronts
+pub mod Merging
 pub mod Page
 pub mod Progress
-pub mod End
-pub mod Merging
-pub mod Fronts
 pub mod Starts
+pub mod OfSystem

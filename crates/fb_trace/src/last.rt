@@ -1,12 +1,13 @@
 //! The last line of a trace.
 
-ghost use Rattle.std.specs.Prelude.{◌≡◌, ◌<◌, [], ◌∷◌, ◌++◌, codes, decimal, length, IfErr, OnOk};
+ghost use Rattle.std.specs.Prelude.{◌≡◌, [], ◌∷◌, ◌++◌, codes, decimal, IfErr, OnOk};
 ghost use Rattle.std.specs.Io.KnownBytes.{Appends};
-ghost use Rattle.fb_types.specs.Headline.{system_of};
 ghost use Rattle.fb_types.specs.Simulation.{AtStop};
-ghost use Rattle.fb_types.specs.Text.{last_line, reason_text};
-ghost use Rattle.fb_trace.specs.End.{ending_of, EndsIn};
+ghost use Rattle.fb_types.specs.Text.{reason_text};
+ghost use Rattle.fb_types.specs.OfSystem.{IsResource, last_line};
+ghost use Rattle.fb_trace.specs.End.{ending_of};
 ghost use Rattle.fb_trace.specs.Progress.{Gathers, IsPartWritten};
+ghost use Rattle.fb_trace.specs.OfSystem.{EndsIn};
 
 use crate::fault::WriteFault;
 use crate::page::Page;
@@ -49,9 +50,9 @@ fn put_stop<W: Write>(
     system: &System,
     mark: &StopMark,
 ) -> Result<(), WriteFault>
-    requires { mark.now.resource < length (system_of system.now).resource_names }
+    requires { IsResource system.now mark.now.resource }
     ensures { Gathers (W.contents out.old) (W.contents out.new) page.old page.new
-        (last_line (system_of system.now) (AtStop mark.now.tick mark.now.resource mark.now.reason)) result }
+        (last_line system.now (AtStop mark.now.tick mark.now.resource mark.now.reason)) result }
 {
     page.put(out, b"stop ")?;
     put_tick_and_resource(page, out, system, mark.tick, mark.resource)?;
@@ -67,9 +68,9 @@ fn put_last<W: Write>(
     system: &System,
     end: &Outcome,
 ) -> Result<(), WriteFault>
-    requires { EndsIn (system_of system.now) end.now }
+    requires { EndsIn system.now end.now }
     ensures { Gathers (W.contents out.old) (W.contents out.new) page.old page.new
-        (last_line (system_of system.now) (ending_of end.now)) result }
+        (last_line system.now (ending_of end.now)) result }
 {
     match end {
         Outcome::End(horizon) => put_horizon(page, out, *horizon),
@@ -83,11 +84,11 @@ fn put_last<W: Write>(
 /// If the writer returns an error or takes no byte. It then has a beginning of the line, but not all of it. The fault
 /// says how many bytes.
 pub fn write_last<W: Write>(out: &mut W, system: &System, end: Outcome) -> Result<(), WriteFault>
-    requires { EndsIn (system_of system.now) end }
+    requires { EndsIn system.now end }
     ensures whole { OnOk result
-        (Appends (W.contents out.old) (W.contents out.new) (last_line (system_of system.now) (ending_of end))) }
+        (Appends (W.contents out.old) (W.contents out.new) (last_line system.now (ending_of end))) }
     ensures part { IfErr result (λ fault. IsPartWritten (W.contents out.old) (W.contents out.new)
-        (last_line (system_of system.now) (ending_of end)) fault.written) }
+        (last_line system.now (ending_of end)) fault.written) }
 {
     let mut page = Page::new();
     put_last(&mut page, out, system, &end)?;

@@ -4,10 +4,11 @@
 //! exactly their text, or, if it fails, a beginning of it, and the fault says how many bytes.
 //!
 //! Read in this order: `merging`; `lines` and `last`, what is written; `pieces`, `start`, `names` and `number`; `page`,
-//! `copy`, `front` and `fault`.
+//! `digit_rows`, `copy`, `front` and `fault`.
 #![tactic(auto)]
 
 mod copy;
+mod digit_rows;
 pub mod fault;
 pub mod front;
 pub mod last;

@@ -2,12 +2,10 @@
 
 ghost use Rattle.std.specs.Prelude.{◌≡◌, ◌+◌, ◌≤◌, ◌++◌, drop, false, map, length, All, IfErr, IfOk, IsTrue, OnOk};
 ghost use Rattle.std.specs.Io.KnownBytes.{Appends};
-ghost use Rattle.fb_types.specs.Headline.{system_of};
-ghost use Rattle.fb_types.specs.Numbers.{line_of, path_at, ports_at};
-ghost use Rattle.fb_types.specs.Text.{line_text, lines_text, values_text};
+ghost use Rattle.fb_types.specs.Text.{values_text};
 ghost use Rattle.fb_types.specs.declared.run.Form.TheVariants.{One};
-ghost use Rattle.fb_system.specs.Heads.{IsHead};
-ghost use Rattle.fb_system.specs.Lines.{BelongsTo};
+ghost use Rattle.fb_types.specs.OfSystem.{line_of, line_text, lines_text, path_at, ports_at};
+ghost use Rattle.fb_system.specs.OfSystem.{BelongsTo, IsHead};
 ghost use Rattle.fb_trace.specs.Starts.{head_of_line};
 ghost use Rattle.fb_trace.specs.Progress.{Gathers, IsPartWritten, bounded};
 
@@ -16,7 +14,7 @@ use crate::names::{event_name, head_of, shown_by};
 use crate::number::LastNumber;
 use crate::page::{Page, SIZE};
 use crate::pieces::{put_head, put_key, put_values};
-use crate::start::{START, append_start};
+use crate::start::{START, append_bare, append_start};
 use fb_system::{Head, System};
 use fb_types::{Form, Line, Ports};
 use std::io::Write;
@@ -29,10 +27,10 @@ fn put_more<W: Write>(
     system: &System,
     line: &Line,
 ) -> Result<(), WriteFault>
-    requires belongs { BelongsTo (system_of system.now) line.now }
+    requires belongs { BelongsTo system.now line.now }
     requires some { 1 ≤ length line.now.values }
     ensures text { Gathers (W.contents out.old) (W.contents out.new) page.old page.new
-        (values_text (drop 1 (line_of (system_of system.now) line.now).values)) result }
+        (values_text (drop 1 (line_of system.now line.now).values)) result }
     ensures room { OnOk result (length page.new.waiting + 1 ≤ SIZE) }
 {
     let ports = system.ports(line.instance);
@@ -56,10 +54,10 @@ fn put_others<W: Write>(
     system: &System,
     line: &Line,
 ) -> Result<(), WriteFault>
-    requires belongs { BelongsTo (system_of system.now) line.now }
+    requires belongs { BelongsTo system.now line.now }
     requires room { length page.old.waiting + 1 ≤ SIZE }
     ensures text { Gathers (W.contents out.old) (W.contents out.new) page.old page.new
-        (values_text (drop 1 (line_of (system_of system.now) line.now).values)) result }
+        (values_text (drop 1 (line_of system.now line.now).values)) result }
     ensures room { OnOk result (length page.new.waiting + 1 ≤ SIZE) }
 {
     if line.values.as_slice().len() <= 1 {
@@ -76,10 +74,10 @@ fn put_bindings<W: Write>(
     ports: &Ports,
     line: &Line,
 ) -> Result<(), WriteFault>
-    requires belongs { BelongsTo (system_of system.now) line.now }
-    requires ports { let sys = system_of system.now in ports.now ≡ ports_at sys (path_at sys line.now.instance) }
+    requires belongs { BelongsTo system.now line.now }
+    requires ports { ports.now ≡ ports_at system.now (path_at system.now line.now.instance) }
     ensures { Gathers (W.contents out.old) (W.contents out.new) page.old page.new
-        (values_text (line_of (system_of system.now) line.now).values) result }
+        (values_text (line_of system.now line.now).values) result }
 {
     if line.values.is_empty() {
         return Ok(());
@@ -103,10 +101,10 @@ fn put_by_names<W: Write>(
     tick: &LastNumber,
     line: &Line,
 ) -> Result<(), WriteFault>
-    requires belongs { BelongsTo (system_of system.now) line.now }
+    requires belongs { BelongsTo system.now line.now }
     requires tick { tick.now ≡ line.now.key.tick }
     ensures { Gathers (W.contents out.old) (W.contents out.new) page.old page.new
-        (let sys = system_of system.now in line_text One sys (line_of sys line.now)) result }
+        (line_text One system.now (line_of system.now line.now)) result }
 {
     let ports = system.ports(line.instance);
     put_head(
@@ -135,11 +133,11 @@ fn put_by_head<W: Write>(
     head: &Head,
     line: &Line,
 ) -> Result<(), WriteFault>
-    requires belongs { BelongsTo (system_of system.now) line.now }
+    requires belongs { BelongsTo system.now line.now }
     requires tick { tick.now ≡ line.now.key.tick }
-    requires head { IsHead (system_of system.now) (head_of_line line.now) head.now }
+    requires head { IsHead system.now (head_of_line line.now) head.now }
     ensures { Gathers (W.contents out.old) (W.contents out.new) page.old page.new
-        (let sys = system_of system.now in line_text One sys (line_of sys line.now)) result }
+        (line_text One system.now (line_of system.now line.now)) result }
 {
     page.make_room(out, START + 1)?;
     append_start(page, tick, head, line.values.as_slice());
@@ -158,10 +156,10 @@ fn put_any<W: Write>(
     tick: &LastNumber,
     line: &Line,
 ) -> Result<(), WriteFault>
-    requires belongs { BelongsTo (system_of system.now) line.now }
+    requires belongs { BelongsTo system.now line.now }
     requires tick { tick.now ≡ line.now.key.tick }
     ensures { Gathers (W.contents out.old) (W.contents out.new) page.old page.new
-        (let sys = system_of system.now in line_text form sys (line_of sys line.now)) result }
+        (line_text form system.now (line_of system.now line.now)) result }
 {
     put_key(page, out, form, &line.key)?;
     match system.head(head_of(line)) {
@@ -174,10 +172,10 @@ fn put_any<W: Write>(
 /// room for any such line. Otherwise it returns that it has put nothing.
 #[inline(always)]
 fn append_line(page: &mut Page, system: &System, form: Form, tick: &LastNumber, line: &Line) -> bool
-    requires belongs { BelongsTo (system_of system.now) line.now }
+    requires belongs { BelongsTo system.now line.now }
     requires tick { tick.now ≡ line.now.key.tick }
     ensures put { IsTrue result → page.new ≡ record page.old {
-      waiting = page.old.waiting ++ (let sys = system_of system.now in line_text form sys (line_of sys line.now));
+      waiting = page.old.waiting ++ (line_text form system.now (line_of system.now line.now));
     } }
     ensures kept { result ≡ false → page.new ≡ page.old }
 {
@@ -191,31 +189,13 @@ fn append_line(page: &mut Page, system: &System, form: Form, tick: &LastNumber, 
     let Some(head) = system.head(head_of(line)) else {
         return false;
     };
+    if values.is_empty() {
+        append_bare(page, tick, head);
+        return true;
+    }
     append_start(page, tick, head, values);
     page.append_byte(b'\n');
     true
-}
-
-/// Puts the text of a line. Most lines are put in one step. The other lines have a function of their own, so that this
-/// one stays small.
-#[inline(always)]
-fn put_line<W: Write>(
-    page: &mut Page,
-    out: &mut W,
-    system: &System,
-    form: Form,
-    tick: &mut LastNumber,
-    line: &Line,
-) -> Result<(), WriteFault>
-    requires { BelongsTo (system_of system.now) line.now }
-    ensures { Gathers (W.contents out.old) (W.contents out.new) page.old page.new
-        (let sys = system_of system.now in line_text form sys (line_of sys line.now)) result }
-{
-    tick.replace(line.key.tick);
-    if append_line(page, system, form, tick, line) {
-        return Ok(());
-    }
-    put_any(page, out, system, form, tick, line)
 }
 
 /// Puts the text of lines.
@@ -226,13 +206,18 @@ fn put_lines<W: Write>(
     form: Form,
     lines: &[Line],
 ) -> Result<(), WriteFault>
-    requires { All (BelongsTo (system_of system.now)) lines.now }
+    requires { All (BelongsTo system.now) lines.now }
     ensures { Gathers (W.contents out.old) (W.contents out.new) page.old page.new
-        (let sys = system_of system.now in lines_text form sys (map (line_of sys) lines.now)) result }
+        (lines_text form system.now (map (line_of system.now) lines.now)) result }
 {
     let mut tick = LastNumber::of(0);
     for line in lines {
-        put_line(page, out, system, form, &mut tick, line)?;
+        tick.replace(line.key.tick);
+        // Most lines are put in one step, and need no result: the built program clears a result when it makes one.
+        if append_line(page, system, form, &tick, line) {
+            continue;
+        }
+        put_any(page, out, system, form, &tick, line)?;
     }
     Ok(())
 }
@@ -249,12 +234,10 @@ pub fn write_lines_with_count<W: Write>(
     form: Form,
     lines: &[Line],
 ) -> Result<u128, WriteFault>
-    requires { All (BelongsTo (system_of system.now)) lines.now }
-    ensures whole { OnOk result (let sys = system_of system.now in
-        Appends (W.contents out.old) (W.contents out.new) (lines_text form sys (map (line_of sys) lines.now))) }
-    ensures counted { IfOk result (λ n. let sys = system_of system.now in n ≡ bounded (length (lines_text form sys (map (line_of sys) lines.now)))) }
-    ensures part { IfErr result (λ fault. let sys = system_of system.now in
-        IsPartWritten (W.contents out.old) (W.contents out.new) (lines_text form sys (map (line_of sys) lines.now)) fault.written) }
+    requires { All (BelongsTo system.now) lines.now }
+    ensures whole { OnOk result (Appends (W.contents out.old) (W.contents out.new) (lines_text form system.now (map (line_of system.now) lines.now))) }
+    ensures counted { IfOk result (λ n. n ≡ bounded (length (lines_text form system.now (map (line_of system.now) lines.now)))) }
+    ensures part { IfErr result (λ fault. IsPartWritten (W.contents out.old) (W.contents out.new) (lines_text form system.now (map (line_of system.now) lines.now)) fault.written) }
 {
     let mut page = Page::new();
     put_lines(&mut page, out, system, form, lines)?;
@@ -273,11 +256,9 @@ pub fn write_lines<W: Write>(
     form: Form,
     lines: &[Line],
 ) -> Result<(), WriteFault>
-    requires { All (BelongsTo (system_of system.now)) lines.now }
-    ensures whole { OnOk result (let sys = system_of system.now in
-        Appends (W.contents out.old) (W.contents out.new) (lines_text form sys (map (line_of sys) lines.now))) }
-    ensures part { IfErr result (λ fault. let sys = system_of system.now in
-        IsPartWritten (W.contents out.old) (W.contents out.new) (lines_text form sys (map (line_of sys) lines.now)) fault.written) }
+    requires { All (BelongsTo system.now) lines.now }
+    ensures whole { OnOk result (Appends (W.contents out.old) (W.contents out.new) (lines_text form system.now (map (line_of system.now) lines.now))) }
+    ensures part { IfErr result (λ fault. IsPartWritten (W.contents out.old) (W.contents out.new) (lines_text form system.now (map (line_of system.now) lines.now)) fault.written) }
 {
     write_lines_with_count(out, system, form, lines)?;
     Ok(())

@@ -1,10 +1,10 @@
 //! Finds the names for the numbers of a line.
 
 ghost use Rattle.std.specs.Prelude.{◌≡◌, ◌<◌, length, if◌then◌else◌};
-ghost use Rattle.fb_types.specs.Headline.{system_of};
-ghost use Rattle.fb_types.specs.Numbers.{event_at, path_at, ports_at};
+ghost use Rattle.fb_types.specs.Numbers.{event_at};
+ghost use Rattle.fb_types.specs.OfSystem.{path_at, ports_at};
 ghost use Rattle.fb_system.specs.IndexLists.{AreIndexes};
-ghost use Rattle.fb_system.specs.Lines.{BelongsTo, line_variables};
+ghost use Rattle.fb_system.specs.OfSystem.{BelongsTo, line_variables};
 ghost use Rattle.fb_trace.specs.Starts.{head_of_line};
 
 use fb_system::{HeadOf, System};
@@ -47,9 +47,9 @@ pub(crate) struct Shown<'a> {
 /// The variables WITH a line's event, by the interface of its instance.
 #[inline(always)]
 pub(crate) fn shown_by<'a>(system: &'a System, ports: &'a Ports, line: &Line) -> Shown<'a>
-    requires belongs { BelongsTo (system_of system.now) line.now }
-    requires ports { let sys = system_of system.now in ports.now ≡ ports_at sys (path_at sys line.now.instance) }
-    ensures { AreIndexes result.variables.now (line_variables (system_of system.now) line.now) result.indexes.now }
+    requires belongs { BelongsTo system.now line.now }
+    requires ports { ports.now ≡ ports_at system.now (path_at system.now line.now.instance) }
+    ensures { AreIndexes result.variables.now (line_variables system.now line.now) result.indexes.now }
 {
     if line.taken {
         Shown {

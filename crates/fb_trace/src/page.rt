@@ -1,10 +1,11 @@
 //! A buffer for text, so that a long trace does not call the writer for each line.
 
-ghost use Rattle.std.specs.Prelude.{◌≡◌, ◌+◌, ◌-◌, ◌^◌, ◌<◌, ◌≤◌, ◌↔◌, [], ◌∷◌, ◌++◌, length, min, take, decimal, IfOk, IfErr, IsTrue, OnOk};
+ghost use Rattle.std.specs.Prelude.{◌≡◌, ◌+◌, ◌-◌, ◌^◌, ◌<◌, ◌≤◌, [], ◌∷◌, ◌++◌, length, min, take, decimal, IfOk, IfErr, IsTrue, OnOk};
 ghost use Rattle.std.specs.Io.KnownBytes.{Appends};
 ghost use Rattle.fb_trace.specs.Progress.{Gathers, Fails, bounded};
 
 use crate::copy::{copy_row, copy_text};
+use crate::digit_rows::{DigitRow, DigitRows, MOST, ROW};
 use crate::fault::WriteFault;
 use crate::front::write_front;
 use crate::number::{MOST_DIGITS, write_digits};
@@ -23,6 +24,7 @@ pub(crate) struct Page {
     bytes: [u8; SIZE],
     used: usize,
     written: u128,
+    digits: DigitRows,
 }
 
 impl Model for Page {
@@ -62,6 +64,7 @@ impl Page {
             bytes: [0; SIZE],
             used: 0,
             written: 0,
+            digits: DigitRows::new(),
         }
     }
 
@@ -130,7 +133,7 @@ impl Page {
     #[inline(always)]
     pub(crate) fn has_room(&self, count: usize) -> bool
         requires { count ≤ SIZE }
-        ensures { IsTrue result ↔ (length self.now.waiting + count ≤ SIZE) }
+        ensures { IsTrue result → length self.now.waiting + count ≤ SIZE }
     {
         count <= SIZE - self.used
     }
@@ -147,6 +150,30 @@ impl Page {
         let used = self.used;
         copy_row(&mut self.bytes[used..used + N], row);
         self.used = used + count;
+    }
+
+    /// Appends the fronts of two rows, one after the other, and a byte. The whole rows fit, and are copied.
+    #[inline(always)]
+    pub(crate) fn append_fronts<const N: usize, const M: usize>(
+        &mut self,
+        first: &[u8; N],
+        count: usize,
+        second: &[u8; M],
+        more: usize,
+        byte: u8,
+    )
+        requires count { count ≤ N }
+        requires more { more ≤ M }
+        requires room { length self.old.waiting + (N + M + 1) ≤ SIZE }
+        ensures { self.new ≡ record self.old { waiting = self.old.waiting ++ (take count first.now ++ take more second.now ++ byte ∷ []) } }
+    {
+        let used = self.used;
+        copy_row(&mut self.bytes[used..used + N], first);
+        let next = used + count;
+        copy_row(&mut self.bytes[next..next + M], second);
+        let end = next + more;
+        self.bytes[end] = byte;
+        self.used = end + 1;
     }
 
     /// Appends a byte that fits.
@@ -188,7 +215,7 @@ impl Page {
 
     /// Appends the digits of a number below 10,000, one by one.
     #[inline(always)]
-    pub(crate) fn append_four(&mut self, number: u32)
+    fn append_four(&mut self, number: u32)
         requires number { number < 10000 }
         requires room { length self.old.waiting + 4 ≤ SIZE }
         ensures text { self.new ≡ record self.old { waiting = self.old.waiting ++ decimal number } }
@@ -200,6 +227,33 @@ impl Page {
         self.append_two(number / 100);
         self.append_digit(number / 10 % 10);
         self.append_digit(number % 10);
+    }
+
+    /// The row of a small number.
+    #[inline(always)]
+    fn digits_of(&mut self, number: usize) -> DigitRow
+        requires { number < MOST }
+        ensures width { result.width ≤ ROW }
+        ensures digits { take result.width result.text ≡ decimal number }
+        ensures kept { self.new ≡ self.old }
+    {
+        self.digits.row(number)
+    }
+
+    /// Appends the digits of a number below 10,000. Those of a small number are copied from its row.
+    #[inline(always)]
+    pub(crate) fn append_short(&mut self, number: u32)
+        requires number { number < 10000 }
+        requires room { length self.old.waiting + 4 ≤ SIZE }
+        ensures text { self.new ≡ record self.old { waiting = self.old.waiting ++ decimal number } }
+        ensures length { length self.new.waiting ≤ length self.old.waiting + 4 }
+    {
+        let index = number as usize;
+        if index >= MOST {
+            return self.append_four(number);
+        }
+        let row = self.digits_of(index);
+        self.append_front(&row.text, row.width as usize);
     }
 
     /// Appends the decimal digits of a number. There is room for the longest number.

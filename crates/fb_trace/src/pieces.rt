@@ -4,6 +4,7 @@ ghost use Rattle.std.specs.Prelude.{◌≡◌, ◌<◌, ◌≤◌, ◌+◌, ◌+
 ghost use Rattle.fb_types.specs.Headline.{system_of};
 ghost use Rattle.fb_types.specs.Numbers.{pair_up};
 ghost use Rattle.fb_types.specs.Text.{key_text, tick_and_resource_text, value_text, values_text};
+ghost use Rattle.fb_types.specs.OfSystem.{IsResource};
 ghost use Rattle.fb_system.specs.IndexLists.{variable_at};
 ghost use Rattle.fb_trace.specs.Progress.{Gathers, Puts};
 
@@ -49,7 +50,7 @@ pub(crate) fn put_tick_and_resource<W: Write>(
     tick: u64,
     resource: u32,
 ) -> Result<(), WriteFault>
-    requires { resource < length (system_of system.now).resource_names }
+    requires { IsResource system.now resource }
     ensures { Gathers (W.contents out.old) (W.contents out.new) page.old page.new (tick_and_resource_text (system_of system.now) tick resource) result }
 {
     page.put_number(out, tick as u128)?;
@@ -161,7 +162,7 @@ fn append_whole(page: &mut Page, number: i128)
     ensures length { length page.new.waiting ≤ length page.old.waiting + VALUE }
 {
     if number >= 0 && number < 10000 {
-        return page.append_four(number as u32);
+        return page.append_short(number as u32);
     }
     if number < 0 {
         page.append_byte(b'-');

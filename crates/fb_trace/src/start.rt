@@ -1,6 +1,6 @@
 //! The start of a line whose head is kept: its tick, its head, and its first value.
 
-ghost use Rattle.std.specs.Prelude.{◌≡◌, ◌≤◌, ◌+◌, ◌++◌, codes, decimal, length, take};
+ghost use Rattle.std.specs.Prelude.{◌≡◌, ◌≤◌, ◌+◌, [], ◌∷◌, ◌++◌, codes, decimal, length, take};
 ghost use Rattle.fb_trace.specs.Starts.{first_value};
 
 use crate::number::{LAST_TICK, LastNumber};
@@ -23,6 +23,19 @@ fn append_first(page: &mut Page, values: &[Value])
         Some(value) => append_value(page, *value),
         None => (),
     }
+}
+
+/// Puts a line without values. It fits.
+#[inline(always)]
+pub(crate) fn append_bare(page: &mut Page, tick: &LastNumber, head: &Head)
+    requires within { head.now.width ≤ ROW }
+    requires room { length page.old.waiting + START ≤ SIZE }
+    ensures { page.new ≡ record page.old {
+      waiting = page.old.waiting ++ (decimal tick.now ++ codes " " ++ take head.now.width head.now.text ++ 10 ∷ []);
+    } }
+{
+    let (row, width) = tick.text();
+    page.append_fronts(row, width, &head.text, head.width as usize, b'\n');
 }
 
 /// Puts the start of a line with these values. It fits.

@@ -1,4 +1,4 @@
-use Rattle.std.proofs.Common.{◌≡◌, List, map, sym, subst}
+use Rattle.std.proofs.Common.{◌≡◌, List, map, ap, sym, subst}
 use Rattle.fb_types.specs.Keys.{local_key}
 use Rattle.fb_types.specs.declared.key.Key.{Key}
 use Rattle.fb_types.specs.declared.run.Target.{Target}
@@ -16,3 +16,6 @@ returns-clause-some c =
     let first = first_number q.tick q.resource es n rising c.in_ok-number.ensures.some in
     subst (λ (l : List (Key × Target)). IsFirst (local_events l) c.local.result) c.self.view_is
     (subst (λ (k : Key). IsFirst (local_events (map (keyed q.tick q.resource) es)) k) (sym key) first)
+
+pub returns-clause-local : goal.returns-clause-local
+returns-clause-local c = ap (λ (k : Key). k.class) c.local.ensures
