@@ -1,7 +1,8 @@
 -- What the emission of output events makes of a world, of the lines and of what goes out.
 use Rattle.std.proofs.Common.{◌≡◌, ℕ, ◌<◌, false, List, [], ◌∷◌, ◌++◌, map, length, refl, sym, ap, subst, ◌∙◌, suc, append_assoc, arith}
-use Rattle.std.specs.Prelude.{All}
+use Rattle.std.specs.Prelude.{All, None, Some, slice_get}
 use Rattle.std.proofs.lemmas.List.{map-append}
+use Rattle.std.proofs.lemmas.Option.{none-some}
 use Rattle.std.proofs.lemmas.List.Elements.{All-append, All-push}
 use Rattle.fb_system.specs.IndexLists.{AreIndexes, variable_at}
 use Rattle.fb_types.specs.Blocks.{Bound, Emission, outputs_with}
@@ -14,6 +15,7 @@ use Rattle.fb_types.specs.States as model
 use Rattle.fb_types.specs.Systems.{System}
 use Rattle.fb_types.specs.declared.key.Key.{Key}
 use Rattle.fb_types.specs.declared.library.Variable.{Variable}
+use Rattle.fb_types.specs.declared.run.Carried.{Carried}
 use Rattle.fb_types.specs.declared.run.Emission as run
 use Rattle.fb_types.specs.declared.run.Line.{Line}
 use Rattle.fb_types.specs.declared.value.Value.{Value}
@@ -36,6 +38,17 @@ carried_named sys k (index ∷ indexes) [] = refl
 carried_named sys k (index ∷ indexes) (v ∷ values) =
     ap (λ (cs : List (Port × Value)). (record { at = path_at sys k; name = variable_at (ports_at sys (path_at sys k)).outputs index }, v) ∷ cs)
     (carried_named sys k indexes values)
+
+-- where at most one variable is WITH the event
+pub one_carried : (k index : ℕ) (values : List Value) (v : Value) → Some v ≡ slice_get values 0 → carried_by k (index ∷ []) values ≡ record { instance = k; variable = index; value = v } ∷ []
+one_carried k index [] v first = absurd (none-some v (sym first))
+one_carried k index (u ∷ values) v first =
+    let same : u ≡ v = cc in
+    let carried : Value → List Carried = λ x. record { instance = k; variable = index; value = x } ∷ [] in ap carried same
+
+pub none_carried : (k index : ℕ) (values : List Value) → None ≡ slice_get values 0 → carried_by k (index ∷ []) values ≡ []
+none_carried k index [] first = refl
+none_carried k index (u ∷ values) first = absurd (none-some u first)
 
 -- each element is among the first list's, or among the others
 all_first : {A : Type 0} (P : A → Type 0) (x : A) (xs : List A) → P x → All P xs → All P (x ∷ xs)

@@ -11,3 +11,4 @@ pub mod Emitting
 pub mod Outs
 pub mod Leaves
 pub mod Steps
+pub mod OfSystem

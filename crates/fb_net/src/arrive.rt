@@ -33,6 +33,7 @@ use fb_types::{
     Value, Values,
 };
 use std::alloc::AllocError;
+use std::slice::from_ref;
 
 impl Taking<'_> {
     /// An event block takes an event at an event input: it keeps what the variables WITH the event sample, and the line of
@@ -61,6 +62,7 @@ impl Taking<'_> {
     }
 
     /// .. where the variables WITH the event are at `indexes`.
+    #[inline(never)]
     fn take_values(&mut self, instance: u32, event: u32, indexes: &[u32]) -> Result<(), AllocError>
         requires index { MayArrive self.old (record { instance = instance; event = event; is_output = false }) }
         requires no_basic { (t : BasicType) → (system_in self.old).kind (path_at (system_in self.old) instance) ≢ Some (Basic t) }
@@ -120,9 +122,9 @@ impl Taking<'_> {
             variable,
             is_output: false,
         };
-        let value = self.forest.sampled_from(self.system, input, source);
+        let value = *self.forest.sampled_from(self.system, input, source);
         self.forest.set_input(self.system, input, value);
-        let values = Values::from_slice(*self.outbox.lines.allocator(), &[value])?;
+        let values = Values::one(*self.outbox.lines.allocator(), value);
         write_taken(self.outbox, self.system, self.key, at, values)
     }
 
@@ -389,8 +391,8 @@ impl Taking<'_> {
             variable,
             is_output: true,
         };
-        let value = self.forest.shown_inside_from(self.system, output, source);
-        self.emit_value(at.instance, at.event, first, variable, value)
+        let value = *self.forest.shown_inside_from(self.system, output, source);
+        self.emit_value(at.instance, at.event, first, variable, &value)
     }
 
     /// .. where any number of variables are WITH the event.
@@ -513,9 +515,9 @@ impl Taking<'_> {
             variable,
             is_output: false,
         };
-        let value = self.forest.sampled_from(self.system, input, source);
+        let value = *self.forest.sampled_from(self.system, input, source);
         let values = Values::one(*self.outbox.lines.allocator(), value);
-        self.react_with(block, at, &[value], values, meter, emits)
+        self.react_with(block, at, from_ref(&value), values, meter, emits)
     }
 
     /// .. where any number of variables are WITH the event.

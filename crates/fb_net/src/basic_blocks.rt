@@ -2,13 +2,13 @@
 
 ghost use Rattle.std.specs.Prelude.{◌≡◌, ◌<◌, ◌≤◌, ◌∷◌, [], length, All, Some, false};
 ghost use Rattle.fb_types.specs.Blocks.{Basic, inputs_with};
-ghost use Rattle.fb_types.specs.Headline.{system_of};
-ghost use Rattle.fb_types.specs.Numbers.{event_at, path_at};
+ghost use Rattle.fb_types.specs.Numbers.{event_at};
 ghost use Rattle.fb_types.specs.Reactions.{World};
+ghost use Rattle.fb_types.specs.OfSystem.{kind_at, path_at};
 ghost use Rattle.fb_ecc.specs.Indexes.{IsWellFormed};
 ghost use Rattle.fb_ecc.specs.Sound.{IsSound};
 ghost use Rattle.fb_system.specs.Lines.{IsEmission};
-ghost use Rattle.fb_system.specs.Ports.{IsPort};
+ghost use Rattle.fb_system.specs.OfSystem.{IsPort};
 ghost use Rattle.fb_net.specs.Trees.{Changed};
 ghost use Rattle.fb_net.specs.Worlds.{IsForest};
 ghost use Rattle.fb_net.specs.Leaves.{ChartEnded, HasCharted, IsOne, IsReadyAt};
@@ -26,6 +26,7 @@ use fb_types::{BasicType, Emits, Halt, Items, Target, Value};
 /// # Errors
 /// `Halt::Stop` where a reason ends the reaction: the emissions before it are kept. `Halt::Memory`, after which each
 /// instance has its block still, and no more is said.
+#[inline(always)]
 pub fn react_basic(
     forest: &mut Forest,
     system: &System,
@@ -35,9 +36,9 @@ pub fn react_basic(
     meter: &mut Meter,
     emits: &mut Emits,
 ) -> Result<(), Halt>
-    requires port { IsPort (system_of system.now) at }
+    requires port { IsPort system.now at }
     requires input { at.is_output ≡ false }
-    requires kind { (system_of system.now).kind (path_at (system_of system.now) at.instance) ≡ Some (Basic block.now) }
+    requires kind { kind_at system.now (path_at system.now at.instance) ≡ Some (Basic block.now) }
     requires one { IsOne system.now forest.old at.instance }
     requires values { length values.now ≡ length (inputs_with block.now.ports (event_at block.now.ports.event_inputs at.event)) }
     requires fresh { emits.old ≡ [] }
@@ -59,6 +60,7 @@ pub fn react_basic(
 ///
 /// # Errors
 /// As of `react_basic`.
+#[inline(always)]
 fn react_at(
     blocks: &mut Items<Block>,
     first: usize,
@@ -76,20 +78,70 @@ fn react_at(
     ensures fewer { meter.new.left ≤ meter.old.left }
     ensures well_formed { let IsFit = IsWellFormed block.now in All IsFit emits.old → All IsFit emits.new }
 {
+    match below {
+        [] => react_here(blocks, first, block, event, values, meter, emits),
+        [_, ..] => react_below(blocks, first, below, block, event, values, meter, emits),
+    }
+}
+
+/// .. of one that may be in a composite. It calls itself for each composite, so the reaction itself is a call.
+fn react_below(
+    blocks: &mut Items<Block>,
+    first: usize,
+    below: &[u32],
+    block: &BasicType,
+    event: u32,
+    values: &[Value],
+    meter: &mut Meter,
+    emits: &mut Emits,
+) -> Result<(), Halt>
+    requires sound { IsSound block.now }
+    requires event { event < length block.now.ports.event_inputs }
+    requires ready { IsReadyAt block.now blocks.old (first ∷ below.now) }
+    ensures reacted { Changed (HasCharted block.now event values.now meter.old.left emits.old meter.new.left emits.new) blocks.old (first ∷ below.now) result blocks.new }
+    ensures fewer { meter.new.left ≤ meter.old.left }
+    ensures well_formed { let IsFit = IsWellFormed block.now in All IsFit emits.old → All IsFit emits.new }
+{
+    match below {
+        [] => react_here(blocks, first, block, event, values, meter, emits),
+        [next, rest @ ..] => {
+            let Some(slot) = blocks.get_mut(first) else {
+                unreachable!()
+            };
+            match slot.components_mut() {
+                Some(components) => {
+                    let next = *next as usize;
+                    react_below(components, next, rest, block, event, values, meter, emits)
+                }
+                None => unreachable!(),
+            }
+        }
+    }
+}
+
+/// .. of the one at an index.
+#[inline(never)]
+fn react_here(
+    blocks: &mut Items<Block>,
+    first: usize,
+    block: &BasicType,
+    event: u32,
+    values: &[Value],
+    meter: &mut Meter,
+    emits: &mut Emits,
+) -> Result<(), Halt>
+    requires sound { IsSound block.now }
+    requires event { event < length block.now.ports.event_inputs }
+    requires ready { IsReadyAt block.now blocks.old (first ∷ []) }
+    ensures reacted { Changed (HasCharted block.now event values.now meter.old.left emits.old meter.new.left emits.new) blocks.old (first ∷ []) result blocks.new }
+    ensures fewer { meter.new.left ≤ meter.old.left }
+    ensures well_formed { let IsFit = IsWellFormed block.now in All IsFit emits.old → All IsFit emits.new }
+{
     let Some(slot) = blocks.get_mut(first) else {
         unreachable!()
     };
-    match below {
-        [] => match slot {
-            Block::Basic(state) => react(state, block, event, values, meter, emits),
-            Block::Event(_) | Block::Composite(_) => unreachable!(),
-        },
-        [next, rest @ ..] => match slot.components_mut() {
-            Some(components) => {
-                let next = *next as usize;
-                react_at(components, next, rest, block, event, values, meter, emits)
-            }
-            None => unreachable!(),
-        },
+    match slot {
+        Block::Basic(state) => react(state, block, event, values, meter, emits),
+        Block::Event(_) | Block::Composite(_) => unreachable!(),
     }
 }

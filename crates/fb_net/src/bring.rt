@@ -3,12 +3,13 @@
 ghost use Rattle.std.specs.Prelude.{◌≡◌, ◌<◌, ◌≢◌, false, length, All, Some};
 ghost use Rattle.fb_types.specs.Blocks.{Basic};
 ghost use Rattle.fb_types.specs.Headline.{system_of};
-ghost use Rattle.fb_types.specs.Numbers.{path_at, ports_at};
 ghost use Rattle.fb_types.specs.declared.library.BasicType.{BasicType};
-ghost use Rattle.fb_system.specs.Ports.{IsCarried, IsPort};
+ghost use Rattle.fb_types.specs.OfSystem.{IsInstance, kind_at, path_at, ports_at};
 ghost use Rattle.fb_system.specs.IndexLists.{AreIndexes};
+ghost use Rattle.fb_system.specs.OfSystem.{IsCarried, IsPort};
 ghost use Rattle.fb_net.specs.Changes.{Changes};
-ghost use Rattle.fb_net.specs.Samples.{HoldsAll, all_sampled, names_in, slots_set};
+ghost use Rattle.fb_net.specs.Samples.{HoldsAll, all_sampled, slots_set};
+ghost use Rattle.fb_net.specs.OfSystem.{names_in};
 
 use crate::resource::Forest;
 use fb_system::{SlotValue, System};
@@ -23,12 +24,12 @@ pub fn keep_samples(
     indexes: &[u32],
     values: &[Value],
 )
-    requires port { IsPort (system_of system.now) at }
+    requires port { IsPort system.now at }
     requires input { at.is_output ≡ false }
-    requires no_basic { (t : BasicType) → (system_of system.now).kind (path_at (system_of system.now) at.instance) ≢ Some (Basic t) }
-    requires indexes { AreIndexes (ports_at (system_of system.now) (path_at (system_of system.now) at.instance)).inputs (names_in (system_of system.now) at) indexes.now }
-    requires values { length values.now ≡ length (names_in (system_of system.now) at) }
-    ensures { Changes system.now forest.old at.instance (all_sampled (names_in (system_of system.now) at) values.now) forest.new }
+    requires no_basic { (t : BasicType) → kind_at system.now (path_at system.now at.instance) ≢ Some (Basic t) }
+    requires indexes { AreIndexes (ports_at system.now (path_at system.now at.instance)).inputs (names_in system.now at) indexes.now }
+    requires values { length values.now ≡ length (names_in system.now at) }
+    ensures { Changes system.now forest.old at.instance (all_sampled (names_in system.now at) values.now) forest.new }
 {
     for (index, value) in indexes.iter().zip(values) {
         let input = InstanceVariable {
@@ -42,8 +43,8 @@ pub fn keep_samples(
 
 /// Sets the slots of a stimulus, at an instance that is in the resource.
 pub fn set_slots(forest: &mut Forest, system: &System, instance: u32, sets: &[SlotValue])
-    requires instance { instance < length (system_of system.now).paths }
-    requires within { All (λ s. s.index < length (ports_at (system_of system.now) (path_at (system_of system.now) instance)).inputs) sets.now }
+    requires instance { IsInstance system.now instance }
+    requires within { All (λ s. s.index < length (ports_at system.now (path_at system.now instance)).inputs) sets.now }
     ensures { Changes system.now forest.old instance (slots_set (system_of system.now) instance sets.now) forest.new }
 {
     for set in sets {
@@ -58,7 +59,7 @@ pub fn set_slots(forest: &mut Forest, system: &System, instance: u32, sets: &[Sl
 
 /// Puts the values that a message carries into the held copies of the resource.
 pub fn hold_carried(forest: &mut Forest, system: &System, carried: &[Carried])
-    requires { All (IsCarried (system_of system.now)) carried.now }
+    requires { All (IsCarried system.now) carried.now }
     ensures { HoldsAll system.now forest.old carried.now forest.new }
 {
     for item in carried {

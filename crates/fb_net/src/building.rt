@@ -1,9 +1,8 @@
 //! The blocks of a resource before the first event.
 
-ghost use Rattle.std.specs.Prelude.{◌≡◌, ◌<◌, length, IfOk};
-ghost use Rattle.fb_types.specs.Headline.{system_of};
-ghost use Rattle.fb_types.specs.Simulation.{opening_state};
+ghost use Rattle.std.specs.Prelude.{◌≡◌, IfOk};
 ghost use Rattle.fb_types.specs.Takes.{world_of};
+ghost use Rattle.fb_types.specs.OfSystem.{IsResource, opening_state};
 ghost use Rattle.fb_net.specs.Worlds.{IsForest};
 
 use crate::opening_copies::held_of;
@@ -25,8 +24,8 @@ const DEPTH: usize = 17;
 /// # Errors
 /// When memory runs out.
 pub fn build(alloc: Global, system: &System, resource: u32) -> Result<Forest, AllocError>
-    requires { resource < length (system_of system.now).resource_names }
-    ensures opened { IfOk result (λ f. IsForest system.now f (world_of (opening_state (system_of system.now)) resource)) }
+    requires { IsResource system.now resource }
+    ensures opened { IfOk result (λ f. IsForest system.now f (world_of (opening_state system.now) resource)) }
     ensures resource { IfOk result (λ f. f.resource ≡ resource) }
 {
     system.facts();

@@ -3,17 +3,17 @@
 ghost use Rattle.std.specs.Prelude.{◌≡◌, ◌≢◌, ◌++◌, ◌∷◌, [], ◌<◌, length, map, All, IfOk, OnOk, true};
 ghost use Rattle.fb_types.specs.Headline.{system_of};
 ghost use Rattle.fb_types.specs.Blocks.{outputs_with};
-ghost use Rattle.fb_types.specs.Numbers.{carried_of, event_at, line_of, path_at, port_of, ports_at};
-ghost use Rattle.fb_types.specs.Reactions.{spread};
+ghost use Rattle.fb_types.specs.Numbers.{event_at};
+ghost use Rattle.fb_types.specs.OfSystem.{IsInstance, IsResource, carried_of, line_of, path_at, port_of, ports_at, resource_at, spread, targets_at};
 ghost use Rattle.fb_system.specs.Ends.{LeadsTo};
-ghost use Rattle.fb_system.specs.Lines.{BelongsTo, IsEmission};
-ghost use Rattle.fb_system.specs.Ports.{IsCarried, IsPort, IsTarget};
+ghost use Rattle.fb_system.specs.Lines.{IsEmission};
 ghost use Rattle.fb_system.specs.IndexLists.{AreIndexes};
 ghost use Rattle.fb_system.specs.PortRows.{IsPortRow};
+ghost use Rattle.fb_system.specs.OfSystem.{BelongsTo, IsCarried, IsPort, IsTarget};
 ghost use Rattle.fb_net.specs.Changes.{Changes};
 ghost use Rattle.fb_net.specs.Emitting.{PutsOut, bare, carried_by, others, outputs_at, outputs_shown};
-ghost use Rattle.fb_net.specs.Outs.{IsOut, out_of};
 ghost use Rattle.fb_net.specs.Steps.{ArePutOut, EmitsAll, EmitsWell, IsKept, IsSame, MayEmit, ports_in, system_in};
+ghost use Rattle.fb_net.specs.OfSystem.{IsOut, out_of};
 
 use crate::outbox::{Out, Outbox, OutgoingMessage};
 use crate::resource::Forest;
@@ -23,6 +23,7 @@ use fb_types::{
     Carried, Emission, Emits, InstanceVariable, Items, Key, Line, Target, Value, Values,
 };
 use std::alloc::{AllocError, Global};
+use std::slice::from_ref;
 
 /// Puts out an event that goes to a target: a local event where the target is in the same resource, as most do, else a
 /// message.
@@ -36,10 +37,10 @@ fn put_out(
     indexes: &[u32],
     values: &[Value],
 ) -> Result<(), AllocError>
-    requires resource { resource < length (system_of system.now).resource_names }
-    requires target { IsTarget (system_of system.now) target }
-    requires carried { All (IsCarried (system_of system.now)) (carried_by instance indexes.now values.now) }
-    ensures { OnOk result (PutsOut (system_of system.now) resource (map (carried_of (system_of system.now)) (carried_by instance indexes.now values.now)) (port_of (system_of system.now) target) outs.old.items outs.new.items) }
+    requires resource { IsResource system.now resource }
+    requires target { IsTarget system.now target }
+    requires carried { All (IsCarried system.now) (carried_by instance indexes.now values.now) }
+    ensures { OnOk result (PutsOut (system_of system.now) resource (map (carried_of system.now) (carried_by instance indexes.now values.now)) (port_of system.now target) outs.old.items outs.new.items) }
 {
     if system.resource(target.instance) != resource {
         return put_message(outs, resource, system, target, instance, indexes, values);
@@ -61,11 +62,11 @@ fn put_message(
     indexes: &[u32],
     values: &[Value],
 ) -> Result<(), AllocError>
-    requires resource { resource < length (system_of system.now).resource_names }
-    requires target { IsTarget (system_of system.now) target }
-    requires away { (system_of system.now).resource (path_at (system_of system.now) target.instance) ≢ resource }
-    requires carried { All (IsCarried (system_of system.now)) (carried_by instance indexes.now values.now) }
-    ensures { OnOk result (PutsOut (system_of system.now) resource (map (carried_of (system_of system.now)) (carried_by instance indexes.now values.now)) (port_of (system_of system.now) target) outs.old.items outs.new.items) }
+    requires resource { IsResource system.now resource }
+    requires target { IsTarget system.now target }
+    requires away { resource_at system.now (path_at system.now target.instance) ≢ resource }
+    requires carried { All (IsCarried system.now) (carried_by instance indexes.now values.now) }
+    ensures { OnOk result (PutsOut (system_of system.now) resource (map (carried_of system.now) (carried_by instance indexes.now values.now)) (port_of system.now target) outs.old.items outs.new.items) }
 {
     // There are at most 1,024 links, so that the number of one fits.
     system.facts();
@@ -94,13 +95,13 @@ pub fn send_out(
     indexes: &[u32],
     values: &[Value],
 ) -> Result<(), AllocError>
-    requires resource { forest.now.resource < length (system_of system.now).resource_names }
-    requires port { IsPort (system_of system.now) from }
+    requires resource { IsResource system.now forest.now.resource }
+    requires port { IsPort system.now from }
     requires first { LeadsTo (system_of system.now) from 0 first.now }
-    requires carried { All (IsCarried (system_of system.now)) (carried_by from.instance indexes.now values.now) }
-    ensures sent { OnOk result (map (out_of (system_of system.now)) outs.new.items ≡ map (out_of (system_of system.now)) outs.old.items
-        ++ spread (system_of system.now) forest.now.resource (map (carried_of (system_of system.now)) (carried_by from.instance indexes.now values.now)) ((system_of system.now).targets (port_of (system_of system.now) from))) }
-    ensures outs { OnOk result (All (IsOut (system_of system.now) forest.now.resource) outs.old.items → All (IsOut (system_of system.now) forest.now.resource) outs.new.items) }
+    requires carried { All (IsCarried system.now) (carried_by from.instance indexes.now values.now) }
+    ensures sent { OnOk result (map (out_of system.now) outs.new.items ≡ map (out_of system.now) outs.old.items
+        ++ spread system.now forest.now.resource (map (carried_of system.now) (carried_by from.instance indexes.now values.now)) (targets_at system.now (port_of system.now from))) }
+    ensures outs { OnOk result (All (IsOut system.now forest.now.resource) outs.old.items → All (IsOut system.now forest.now.resource) outs.new.items) }
 {
     let resource = forest.resource;
     let Some(reached) = first else {
@@ -139,12 +140,12 @@ fn send_others(
     indexes: &[u32],
     values: &[Value],
 ) -> Result<(), AllocError>
-    requires resource { resource < length (system_of system.now).resource_names }
-    requires port { IsPort (system_of system.now) from }
-    requires carried { All (IsCarried (system_of system.now)) (carried_by from.instance indexes.now values.now) }
-    ensures sent { OnOk result (map (out_of (system_of system.now)) outs.new.items ≡ map (out_of (system_of system.now)) outs.old.items
-        ++ spread (system_of system.now) resource (map (carried_of (system_of system.now)) (carried_by from.instance indexes.now values.now)) (others ((system_of system.now).targets (port_of (system_of system.now) from)))) }
-    ensures outs { OnOk result (All (IsOut (system_of system.now) resource) outs.old.items → All (IsOut (system_of system.now) resource) outs.new.items) }
+    requires resource { IsResource system.now resource }
+    requires port { IsPort system.now from }
+    requires carried { All (IsCarried system.now) (carried_by from.instance indexes.now values.now) }
+    ensures sent { OnOk result (map (out_of system.now) outs.new.items ≡ map (out_of system.now) outs.old.items
+        ++ spread system.now resource (map (carried_of system.now) (carried_by from.instance indexes.now values.now)) (others (targets_at system.now (port_of system.now from)))) }
+    ensures outs { OnOk result (All (IsOut system.now resource) outs.old.items → All (IsOut system.now resource) outs.new.items) }
 {
     let mut index = 0;
     while let Some(reached) = system.reached(from, index + 1) {
@@ -175,11 +176,11 @@ fn send_bare(
     instance: u32,
     event: u32,
 ) -> Result<(), AllocError>
-    requires resource { forest.now.resource < length (system_of system.now).resource_names }
-    requires port { IsPort (system_of system.now) (record { instance = instance; event = event; is_output = true }) }
-    ensures sent { OnOk result (map (out_of (system_of system.now)) outs.new.items ≡ map (out_of (system_of system.now)) outs.old.items
-        ++ spread (system_of system.now) forest.now.resource [] ((system_of system.now).targets (port_of (system_of system.now) (record { instance = instance; event = event; is_output = true })))) }
-    ensures outs { OnOk result (All (IsOut (system_of system.now) forest.now.resource) outs.old.items → All (IsOut (system_of system.now) forest.now.resource) outs.new.items) }
+    requires resource { IsResource system.now forest.now.resource }
+    requires port { IsPort system.now (record { instance = instance; event = event; is_output = true }) }
+    ensures sent { OnOk result (map (out_of system.now) outs.new.items ≡ map (out_of system.now) outs.old.items
+        ++ spread system.now forest.now.resource [] (targets_at system.now (port_of system.now (record { instance = instance; event = event; is_output = true })))) }
+    ensures outs { OnOk result (All (IsOut system.now forest.now.resource) outs.old.items → All (IsOut system.now forest.now.resource) outs.new.items) }
 {
     let from = Target {
         instance,
@@ -201,11 +202,11 @@ fn send_by_tables(
     instance: u32,
     event: u32,
 ) -> Result<(), AllocError>
-    requires resource { forest.now.resource < length (system_of system.now).resource_names }
-    requires port { IsPort (system_of system.now) (record { instance = instance; event = event; is_output = true }) }
-    ensures sent { OnOk result (map (out_of (system_of system.now)) outs.new.items ≡ map (out_of (system_of system.now)) outs.old.items
-        ++ spread (system_of system.now) forest.now.resource [] ((system_of system.now).targets (port_of (system_of system.now) (record { instance = instance; event = event; is_output = true })))) }
-    ensures outs { OnOk result (All (IsOut (system_of system.now) forest.now.resource) outs.old.items → All (IsOut (system_of system.now) forest.now.resource) outs.new.items) }
+    requires resource { IsResource system.now forest.now.resource }
+    requires port { IsPort system.now (record { instance = instance; event = event; is_output = true }) }
+    ensures sent { OnOk result (map (out_of system.now) outs.new.items ≡ map (out_of system.now) outs.old.items
+        ++ spread system.now forest.now.resource [] (targets_at system.now (port_of system.now (record { instance = instance; event = event; is_output = true })))) }
+    ensures outs { OnOk result (All (IsOut system.now forest.now.resource) outs.old.items → All (IsOut system.now forest.now.resource) outs.new.items) }
 {
     let from = Target {
         instance,
@@ -225,11 +226,11 @@ pub fn write_taken(
     at: Target,
     values: Values,
 ) -> Result<(), AllocError>
-    requires port { IsPort (system_of system.now) at }
-    requires line { BelongsTo (system_of system.now) (record { key = key.now; taken = true; instance = at.instance; event = at.event; values = values }) }
-    ensures written { OnOk result (map (line_of (system_of system.now)) outbox.new.lines.items ≡ map (line_of (system_of system.now)) outbox.old.lines.items
-        ++ line_of (system_of system.now) (record { key = key.now; taken = true; instance = at.instance; event = at.event; values = values }) ∷ []) }
-    ensures lines { OnOk result (All (BelongsTo (system_of system.now)) outbox.old.lines.items → All (BelongsTo (system_of system.now)) outbox.new.lines.items) }
+    requires port { IsPort system.now at }
+    requires line { BelongsTo system.now (record { key = key.now; taken = true; instance = at.instance; event = at.event; values = values }) }
+    ensures written { OnOk result (map (line_of system.now) outbox.new.lines.items ≡ map (line_of system.now) outbox.old.lines.items
+        ++ line_of system.now (record { key = key.now; taken = true; instance = at.instance; event = at.event; values = values }) ∷ []) }
+    ensures lines { OnOk result (All (BelongsTo system.now) outbox.old.lines.items → All (BelongsTo system.now) outbox.new.lines.items) }
     ensures outs { outbox.new.outs.items ≡ outbox.old.outs.items }
     ensures timer { outbox.new.timer ≡ outbox.old.timer }
 {
@@ -252,8 +253,8 @@ fn publish_all(
     indexes: &[u32],
     values: &[Value],
 )
-    requires instance { instance < length (system_of system.now).paths }
-    requires within { All (λ k. k < length (ports_at (system_of system.now) (path_at (system_of system.now) instance)).outputs) indexes.now }
+    requires instance { IsInstance system.now instance }
+    requires within { All (λ k. k < length (ports_at system.now (path_at system.now instance)).outputs) indexes.now }
     ensures { Changes system.now forest.old instance (outputs_shown (outputs_at (system_of system.now) instance indexes.now values.now)) forest.new }
 {
     for (index, value) in indexes.iter().zip(values) {
@@ -267,7 +268,48 @@ fn publish_all(
 }
 
 /// The values that a message carries, each with the data output that it is of.
+#[inline(always)]
 fn carried_values(
+    alloc: Global,
+    instance: u32,
+    indexes: &[u32],
+    values: &[Value],
+) -> Result<Vec<Carried>, AllocError>
+    ensures { IfOk result (λ carried. carried.items ≡ carried_by instance indexes.now values.now) }
+{
+    // Mostly there is none or one, and there is nothing to walk over.
+    match indexes {
+        [] => Ok(Vec::new(alloc)),
+        [index] => carried_value(alloc, instance, *index, values),
+        _ => carried_each(alloc, instance, indexes, values),
+    }
+}
+
+/// .. where there is at most one, which is of the data output at `index`.
+#[inline(always)]
+fn carried_value(
+    alloc: Global,
+    instance: u32,
+    index: u32,
+    values: &[Value],
+) -> Result<Vec<Carried>, AllocError>
+    ensures { IfOk result (λ carried. carried.items ≡ carried_by instance (index ∷ []) values.now) }
+{
+    let Some(value) = values.first() else {
+        return Ok(Vec::new(alloc));
+    };
+    let mut carried = Vec::with_capacity(alloc, 1)?;
+    carried.push_reserved(Carried {
+        instance,
+        variable: index,
+        value: *value,
+    });
+    Ok(carried)
+}
+
+/// .. of any number.
+#[inline(never)]
+fn carried_each(
     alloc: Global,
     instance: u32,
     indexes: &[u32],
@@ -353,7 +395,7 @@ impl Taking<'_> {
     {
         if let With::One(variable, _) = &port.with {
             if let Some(value) = emission.values.as_slice().first() {
-                return self.emit_value(instance, emission.event, &port.first, *variable, *value);
+                return self.emit_value(instance, emission.event, &port.first, *variable, value);
             }
         }
         let indexes = self.system.outputs_with(instance, emission.event);
@@ -368,13 +410,13 @@ impl Taking<'_> {
         event: u32,
         first: &Option<NextTarget>,
         variable: u32,
-        value: Value,
+        value: &Value,
     ) -> Result<(), AllocError>
         requires index { MayEmit self.old instance }
         requires event { event < length (ports_in self.old instance).event_outputs }
         requires first { LeadsTo (system_in self.old) (record { instance = instance; event = event; is_output = true }) 0 first.now }
         requires indexes { let its = ports_in self.old instance in AreIndexes its.outputs (outputs_with its (event_at its.event_outputs event)) (variable ∷ []) }
-        ensures emitted { OnOk result (EmitsWell self.old instance (record { event = event; values = value ∷ [] } ∷ []) self.new) }
+        ensures emitted { OnOk result (EmitsWell self.old instance (record { event = event; values = value.now ∷ [] } ∷ []) self.new) }
 
         // Also where memory runs out.
         ensures kept { IsKept self.old self.new }
@@ -385,7 +427,7 @@ impl Taking<'_> {
             variable,
             is_output: true,
         };
-        self.forest.publish(self.system, output, value);
+        self.forest.publish(self.system, output, *value);
         let from = Target {
             instance,
             event,
@@ -398,9 +440,9 @@ impl Taking<'_> {
             from,
             first,
             &[variable],
-            &[value],
+            from_ref(value),
         )?;
-        let values = Values::from_slice(*self.outbox.lines.allocator(), &[value])?;
+        let values = Values::one(*self.outbox.lines.allocator(), *value);
         self.outbox.lines.reserve(1)?;
         self.outbox.lines.push_reserved(Line {
             key: *self.key,
@@ -528,7 +570,7 @@ impl Taking<'_> {
         ensures kept { IsKept self.old self.new }
         ensures same { IsSame self.old self.new }
     {
-        match emits.pop_one() {
+        match emits.only() {
             Some((event, value)) => self.emit_with_one(instance, event, value),
             None => self.emit_all(instance, emits),
         }
@@ -536,10 +578,10 @@ impl Taking<'_> {
 
     /// Emits one output event with one value. Errors are as of `emit_one`.
     #[inline(always)]
-    fn emit_with_one(&mut self, instance: u32, event: u32, value: Value) -> Result<(), AllocError>
+    fn emit_with_one(&mut self, instance: u32, event: u32, value: &Value) -> Result<(), AllocError>
         requires index { MayEmit self.old instance }
-        requires emission { IsEmission (ports_in self.old instance) (record { event = event; values = value ∷ [] }) }
-        ensures emitted { OnOk result (EmitsWell self.old instance (record { event = event; values = value ∷ [] } ∷ []) self.new) }
+        requires emission { IsEmission (ports_in self.old instance) (record { event = event; values = value.now ∷ [] }) }
+        ensures emitted { OnOk result (EmitsWell self.old instance (record { event = event; values = value.now ∷ [] } ∷ []) self.new) }
 
         // Also where memory runs out.
         ensures kept { IsKept self.old self.new }
@@ -555,7 +597,26 @@ impl Taking<'_> {
                 return self.emit_value(instance, event, &port.first, *variable, value);
             }
         }
-        let values = Values::one(*self.outbox.lines.allocator(), value);
+        self.emit_with_one_by_tables(instance, event, value)
+    }
+
+    /// .. at a port that is not kept.
+    #[inline(never)]
+    fn emit_with_one_by_tables(
+        &mut self,
+        instance: u32,
+        event: u32,
+        value: &Value,
+    ) -> Result<(), AllocError>
+        requires index { MayEmit self.old instance }
+        requires emission { IsEmission (ports_in self.old instance) (record { event = event; values = value.now ∷ [] }) }
+        ensures emitted { OnOk result (EmitsWell self.old instance (record { event = event; values = value.now ∷ [] } ∷ []) self.new) }
+
+        // Also where memory runs out.
+        ensures kept { IsKept self.old self.new }
+        ensures same { IsSame self.old self.new }
+    {
+        let values = Values::one(*self.outbox.lines.allocator(), *value);
         self.emit_by_tables(instance, Emission { event, values })
     }
 

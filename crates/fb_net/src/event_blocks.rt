@@ -1,13 +1,12 @@
 //! The reactions of an event block among the blocks of its resource, to an event and to its timer.
 
-ghost use Rattle.std.specs.Prelude.{◌≡◌, ◌∷◌, ◌≤◌, ◌<◌, ◌^◌, [], length, All, IfErr, OnOk, Some, false};
+ghost use Rattle.std.specs.Prelude.{◌≡◌, ◌∷◌, ◌≤◌, ◌^◌, [], All, IfErr, OnOk, Some, false};
 ghost use Rattle.fb_types.specs.Blocks.{Event, ports_of_event_block};
-ghost use Rattle.fb_types.specs.Headline.{system_of};
-ghost use Rattle.fb_types.specs.Numbers.{path_at};
 ghost use Rattle.fb_types.specs.Reactions.{World};
+ghost use Rattle.fb_types.specs.OfSystem.{IsInstance, kind_at, path_at};
 ghost use Rattle.fb_system.specs.Lines.{IsEmission};
-ghost use Rattle.fb_system.specs.Ports.{IsPort};
 ghost use Rattle.fb_event.specs.Reactions.{expiry_of, reaction_to};
+ghost use Rattle.fb_system.specs.OfSystem.{IsPort};
 ghost use Rattle.fb_net.specs.Trees.{Changed};
 ghost use Rattle.fb_net.specs.Worlds.{InForest, IsForest};
 ghost use Rattle.fb_net.specs.Leaves.{EventCame, HasTurned, HasTypedInputs, IsEventAt, IsOne, IsTypedAt, taken_reaction, expiry_reaction};
@@ -33,9 +32,9 @@ pub fn react_event(
     emits: &mut Emits,
     ask: &mut TimerAsk,
 ) -> Result<(), Halt>
-    requires port { IsPort (system_of system.now) at }
+    requires port { IsPort system.now at }
     requires input { at.is_output ≡ false }
-    requires kind { (system_of system.now).kind (path_at (system_of system.now) at.instance) ≡ Some (Event kind) }
+    requires kind { kind_at system.now (path_at system.now at.instance) ≡ Some (Event kind) }
     requires typed { (w : World) × IsForest system.now forest.old w × InForest system.now forest.old at.instance × HasTypedInputs system.now kind at.instance w }
     requires early { tick ≤ 10 ^ 12 }
     requires fresh { emits.old ≡ [] }
@@ -161,8 +160,8 @@ pub fn expire_event(
     emits: &mut Emits,
     ask: &mut TimerAsk,
 ) -> Result<(), Halt>
-    requires instance { instance < length (system_of system.now).paths }
-    requires kind { (system_of system.now).kind (path_at (system_of system.now) instance) ≡ Some (Event kind) }
+    requires instance { IsInstance system.now instance }
+    requires kind { kind_at system.now (path_at system.now instance) ≡ Some (Event kind) }
     requires one { IsOne system.now forest.old instance }
     requires early { tick ≤ 10 ^ 12 }
     requires fresh { emits.old ≡ [] }

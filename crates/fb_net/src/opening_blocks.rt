@@ -1,17 +1,16 @@
 //! One block before the first event.
 
-ghost use Rattle.std.specs.Prelude.{◌≡◌, ◌<◌, length, map, slice_get, Some, true, IfOk, OnOk};
+ghost use Rattle.std.specs.Prelude.{◌≡◌, length, map, slice_get, Some, true, IfOk, OnOk};
 ghost use Rattle.fb_types.specs.Blocks.{Basic, Composite, variable_names};
-ghost use Rattle.fb_types.specs.Headline.{system_of};
-ghost use Rattle.fb_types.specs.Numbers.{path_at};
-ghost use Rattle.fb_types.specs.Simulation.{opening_block};
 ghost use Rattle.fb_types.specs.declared.library.BlockType.TheVariants as types;
 ghost use Rattle.fb_types.specs.declared.library.CompositeType.{CompositeType};
+ghost use Rattle.fb_types.specs.OfSystem.{IsInstance, kind_at, opening_block, path_at};
 ghost use Rattle.fb_st.specs.Frames.{declared_in, values_of};
 ghost use Rattle.fb_ecc.specs.Programs.{IsSharedOf};
 ghost use Rattle.fb_net.specs.Blocks.{components_of, own_of};
-ghost use Rattle.fb_net.specs.Worlds.{BasicRepresents, Represents};
+ghost use Rattle.fb_net.specs.Worlds.{BasicRepresents};
 ghost use Rattle.fb_net.specs.Opening.{AreCharts, AreDeclared, begun_all};
+ghost use Rattle.fb_net.specs.OfSystem.{Represents};
 
 use crate::block::Block;
 use crate::opening_charts::{Charts, chart_at};
@@ -51,10 +50,10 @@ fn opened_of(
     block: &BasicType,
     chart: SharedChart,
 ) -> Result<BasicState, AllocError>
-    requires instance { instance < length (system_of system.now).paths }
-    requires kind { (system_of system.now).kind (path_at (system_of system.now) instance) ≡ Some (Basic block.now) }
+    requires instance { IsInstance system.now instance }
+    requires kind { kind_at system.now (path_at system.now instance) ≡ Some (Basic block.now) }
     requires chart { IsSharedOf block.now chart }
-    ensures { IfOk result (λ s. let b = opening_block (system_of system.now) (path_at (system_of system.now) instance) in BasicRepresents block.now s b.memory b.variables) }
+    ensures { IfOk result (λ s. let b = opening_block system.now (path_at system.now instance) in BasicRepresents block.now s b.memory b.variables) }
 {
     system.facts();
     let mut state = BasicState::open(alloc, block, chart)?;
@@ -74,11 +73,11 @@ fn basic_of(
     index: usize,
     charts: &mut Charts,
 ) -> Result<BasicState, AllocError>
-    requires instance { instance < length (system_of system.now).paths }
-    requires kind { (system_of system.now).kind (path_at (system_of system.now) instance) ≡ Some (Basic block.now) }
+    requires instance { IsInstance system.now instance }
+    requires kind { kind_at system.now (path_at system.now instance) ≡ Some (Basic block.now) }
     requires index { slice_get system.now.library.blocks index ≡ Some (types.Basic block.now) }
     requires charts { AreCharts system.now charts.old }
-    ensures represents { IfOk result (λ s. let b = opening_block (system_of system.now) (path_at (system_of system.now) instance) in BasicRepresents block.now s b.memory b.variables) }
+    ensures represents { IfOk result (λ s. let b = opening_block system.now (path_at system.now instance) in BasicRepresents block.now s b.memory b.variables) }
     ensures charts { OnOk result (AreCharts system.now charts.new) }
 {
     system.facts();
@@ -95,10 +94,10 @@ pub fn block_of(
     components: Items<Block>,
     charts: &mut Charts,
 ) -> Result<Block, AllocError>
-    requires instance { instance < length (system_of system.now).paths }
+    requires instance { IsInstance system.now instance }
     requires charts { AreCharts system.now charts.old }
-    ensures represents { IfOk result (λ b. let p = path_at (system_of system.now) instance in Represents (system_of system.now) p (own_of b) (opening_block (system_of system.now) p)) }
-    ensures components { IfOk result (λ b. (c : CompositeType) → (system_of system.now).kind (path_at (system_of system.now) instance) ≡ Some (Composite c) → components_of b ≡ components) }
+    ensures represents { IfOk result (λ b. let p = path_at system.now instance in Represents system.now p (own_of b) (opening_block system.now p)) }
+    ensures components { IfOk result (λ b. (c : CompositeType) → kind_at system.now (path_at system.now instance) ≡ Some (Composite c) → components_of b ≡ components) }
     ensures charts { OnOk result (AreCharts system.now charts.new) }
 {
     system.facts();

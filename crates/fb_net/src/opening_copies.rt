@@ -1,8 +1,9 @@
 //! The held copies of a resource before the first event.
 
-ghost use Rattle.std.specs.Prelude.{◌≡◌, ◌<◌, ◌≤◌, ℕ, length, IfOk, OnOk};
+ghost use Rattle.std.specs.Prelude.{◌≡◌, ◌≤◌, ℕ, IfOk, OnOk};
 ghost use Rattle.fb_types.specs.Headline.{system_of};
-ghost use Rattle.fb_system.specs.Ports.{IsVariable, variable_of};
+ghost use Rattle.fb_types.specs.OfSystem.{IsInstance};
+ghost use Rattle.fb_system.specs.OfSystem.{IsVariable, variable_of};
 ghost use Rattle.fb_net.specs.Opening.{Covers, CoversAll, CoversIndexes, KeepsCovers};
 
 use crate::resource::HeldCopies;
@@ -13,8 +14,8 @@ use std::collections::BTreeMap;
 
 /// What a variable begins with.
 fn initial(alloc: Global, system: &System, variable: InstanceVariable) -> Result<Value, AllocError>
-    requires { IsVariable (system_of system.now) variable }
-    ensures { IfOk result (λ v. v ≡ (system_of system.now).initial (variable_of (system_of system.now) variable)) }
+    requires { IsVariable system.now variable }
+    ensures { IfOk result (λ v. v ≡ (system_of system.now).initial (variable_of system.now variable)) }
 {
     let values = if variable.is_output {
         system.initial_outputs(alloc, variable.instance)?
@@ -32,7 +33,7 @@ fn hold(
     to: InstanceVariable,
     held: &mut HeldCopies,
 ) -> Result<(), AllocError>
-    requires { IsVariable (system_of system.now) to }
+    requires { IsVariable system.now to }
     ensures covered { OnOk result (Covers system.now resource held.new to) }
     ensures kept { OnOk result (KeepsCovers system.now resource held.old held.new) }
 {
@@ -56,7 +57,7 @@ fn hold_indexes(
     is_output: bool,
     held: &mut HeldCopies,
 ) -> Result<(), AllocError>
-    requires { instance < length (system_of system.now).paths }
+    requires { IsInstance system.now instance }
     ensures covered { OnOk result (CoversIndexes system.now resource held.new instance is_output) }
     ensures kept { OnOk result (KeepsCovers system.now resource held.old held.new) }
 {

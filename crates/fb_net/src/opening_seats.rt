@@ -1,7 +1,7 @@
 //! The shells of a resource before the first event, each at its seat.
 
-ghost use Rattle.std.specs.Prelude.{◌≡◌, ◌+◌, ◌<◌, [], length, OnOk};
-ghost use Rattle.fb_types.specs.Headline.{system_of};
+ghost use Rattle.std.specs.Prelude.{◌≡◌, ◌+◌, [], OnOk};
+ghost use Rattle.fb_types.specs.OfSystem.{IsInstance, instance_count};
 ghost use Rattle.fb_net.specs.Opening.{AreSeated, IsSeatedAlone};
 
 use crate::opening_shells::shell_of;
@@ -16,7 +16,7 @@ fn seat_one(
     instance: u32,
     forest: &mut Forest,
 ) -> Result<(), AllocError>
-    requires instance { instance < length (system_of system.now).paths }
+    requires instance { IsInstance system.now instance }
     requires seated { AreSeated system.now instance forest.old }
     ensures seated { OnOk result (AreSeated system.now (instance + 1) forest.new) }
     ensures alone { IsSeatedAlone forest.old forest.new }
@@ -40,7 +40,7 @@ pub(crate) fn seat_all(
 ) -> Result<(), AllocError>
     requires seats { forest.old.seats ≡ [] }
     requires shells { forest.old.shells ≡ [] }
-    ensures seated { OnOk result (AreSeated system.now (length (system_of system.now).paths) forest.new) }
+    ensures seated { OnOk result (AreSeated system.now (instance_count system.now) forest.new) }
     ensures alone { IsSeatedAlone forest.old forest.new }
 {
     system.facts();

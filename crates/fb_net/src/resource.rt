@@ -1,16 +1,16 @@
 //! The blocks, the shells and the held copies of one resource.
 
-ghost use Rattle.std.specs.Prelude.{◌≡◌, ◌<◌, ◌∷◌, length, option_map, slice_get, true, false, unwrap_or};
+ghost use Rattle.std.specs.Prelude.{◌≡◌, ◌∷◌, option_map, slice_get, true, false, unwrap_or};
 ghost use Rattle.std.specs.BTreeMap.{get};
 ghost use Rattle.std.specs.Option.{option_copied};
 ghost use Rattle.fb_types.specs.Flat.{zero_value};
 ghost use Rattle.fb_types.specs.Headline.{system_of};
-ghost use Rattle.fb_types.specs.Numbers.{path_at};
 ghost use Rattle.fb_types.specs.Reactions.{World};
-ghost use Rattle.fb_system.specs.Ends.{ComesFrom};
-ghost use Rattle.fb_system.specs.Ports.{IsVariable, variable_of};
+ghost use Rattle.fb_types.specs.OfSystem.{IsInstance, path_at};
+ghost use Rattle.fb_system.specs.OfSystem.{ComesFrom, IsVariable, variable_of};
 ghost use Rattle.fb_net.specs.Changes.{Changes, Holds, ShowsInside, input_sampled, output_shown, slot_set};
-ghost use Rattle.fb_net.specs.Worlds.{TakesSamples, Found, InForest, IsComposite, IsForest, Reads, Samples, Sees, Shows, key_cmp, key_of, seat_in, value_in, way_in, with_seated};
+ghost use Rattle.fb_net.specs.Worlds.{TakesSamples, Found, InForest, IsForest, Reads, Samples, Sees, Shows, key_cmp, key_of, seat_in, value_in, way_in, with_seated};
+ghost use Rattle.fb_net.specs.OfSystem.{IsComposite};
 
 use crate::block::Block;
 use crate::shell::Shell;
@@ -57,7 +57,7 @@ impl Drop for Forest {
 }
 
 /// What represents a value that is not there.
-const NOTHING: Value = Value::Whole(0);
+static NOTHING: Value = Value::Whole(0);
 
 impl Forest {
     ghost use Rattle.std.specs.Borrow.{LendsIf, sem};
@@ -79,7 +79,7 @@ impl Forest {
     /// each among the components of the block before.
     #[inline(always)]
     pub fn way<'a>(&self, system: &'a System, instance: u32) -> (usize, &'a [u32])
-        requires { instance < length (system_of system.now).paths }
+        requires { IsInstance system.now instance }
         ensures { result.0 ∷ result.1.now ≡ way_in system.now self.now.roots instance }
     {
         system.facts();
@@ -102,10 +102,10 @@ impl Forest {
 
     /// The shell of an instance that is in the resource.
     #[inline(always)]
-    pub fn shell(&self, system: &System, instance: u32) -> Option<&Shell>
-        requires { instance < length (system_of system.now).paths }
+    pub(crate) fn shell(&self, system: &System, instance: u32) -> Option<&Shell>
+        requires { IsInstance system.now instance }
         ensures { (w : World) → IsForest system.now self.now w → InForest system.now self.now instance →
-            Found system.now instance (w.blocks (path_at (system_of system.now) instance)) (option_copied result) }
+            Found system.now instance (w.blocks (path_at system.now instance)) (option_copied result) }
     {
         system.facts();
         self.shells.get(self.seat(instance))
@@ -123,48 +123,48 @@ impl Forest {
 
     /// What a connection or a stimulus has set at a data input of an instance that is in the resource.
     #[inline(always)]
-    pub fn slot(&self, system: &System, input: InstanceVariable) -> Value
-        requires variable { IsVariable (system_of system.now) input }
+    pub fn slot(&self, system: &System, input: InstanceVariable) -> &Value
+        requires variable { IsVariable system.now input }
         requires input { input.is_output ≡ false }
-        ensures { Reads system.now self.now input (λ b. b.slots) result }
+        ensures { Reads system.now self.now input (λ b. b.slots) result.now }
     {
         match self.shell(system, input.instance) {
             Some(shell) => value_of(shell.slots.as_slice(), input.variable),
-            None => NOTHING,
+            None => &NOTHING,
         }
     }
 
     /// What connections see at a data output of an instance that is in the resource.
     #[inline(always)]
-    pub fn published(&self, system: &System, output: InstanceVariable) -> Value
-        requires variable { IsVariable (system_of system.now) output }
+    pub(crate) fn published(&self, system: &System, output: InstanceVariable) -> &Value
+        requires variable { IsVariable system.now output }
         requires output { output.is_output ≡ true }
-        ensures { Reads system.now self.now output (λ b. b.published) result }
+        ensures { Reads system.now self.now output (λ b. b.published) result.now }
     {
         match self.shell(system, output.instance) {
             Some(shell) => value_of(shell.published.as_slice(), output.variable),
-            None => NOTHING,
+            None => &NOTHING,
         }
     }
 
     /// The copy of a data input that a composite block in the resource shows to its components.
     #[inline(always)]
-    pub fn copied(&self, system: &System, input: InstanceVariable) -> Value
-        requires variable { IsVariable (system_of system.now) input }
+    pub fn copied(&self, system: &System, input: InstanceVariable) -> &Value
+        requires variable { IsVariable system.now input }
         requires input { input.is_output ≡ false }
-        ensures { IsComposite (system_of system.now) input → Reads system.now self.now input (λ b. b.variables) result }
+        ensures { IsComposite system.now input → Reads system.now self.now input (λ b. b.variables) result.now }
     {
         match self.shell(system, input.instance) {
             Some(shell) => value_of(shell.inputs.as_slice(), input.variable),
-            None => NOTHING,
+            None => &NOTHING,
         }
     }
 
     /// What connections see at a source that is in the resource.
     #[inline(always)]
-    fn seen(&self, system: &System, source: InstanceVariable) -> Value
-        requires { IsVariable (system_of system.now) source }
-        ensures { Sees system.now self.now source result }
+    fn seen(&self, system: &System, source: InstanceVariable) -> &Value
+        requires { IsVariable system.now source }
+        ensures { Sees system.now self.now source result.now }
     {
         system.facts();
         if source.is_output {
@@ -176,22 +176,25 @@ impl Forest {
 
     /// The held copy of a variable of another resource, or 0 where there is none.
     #[inline(never)]
-    fn held(&self, source: InstanceVariable) -> Value
-        ensures { result ≡ unwrap_or (get key_cmp self.now.held (key_of source)) zero_value }
+    fn held(&self, source: &InstanceVariable) -> &Value
+        ensures { result.now ≡ unwrap_or (get key_cmp self.now.held (key_of source.now)) zero_value }
     {
         let key = (source.instance, source.variable, source.is_output);
-        self.held.get(&key).copied().unwrap_or(NOTHING)
+        match self.held.get(&key) {
+            Some(value) => value,
+            None => &NOTHING,
+        }
     }
 
     /// What a source shows in the resource: what connections see at it, or the held copy where it is in another
     /// resource.
     #[inline(always)]
-    pub fn shown(&self, system: &System, source: InstanceVariable) -> Value
-        requires { IsVariable (system_of system.now) source }
-        ensures { Shows system.now self.now source result }
+    pub fn shown(&self, system: &System, source: &InstanceVariable) -> &Value
+        requires { IsVariable system.now source.now }
+        ensures { Shows system.now self.now source.now result.now }
     {
         if system.resource(source.instance) == self.resource {
-            self.seen(system, source)
+            self.seen(system, *source)
         } else {
             self.held(source)
         }
@@ -200,29 +203,29 @@ impl Forest {
     /// What a data input of an instance that is in the resource samples: what its source shows, or else what a
     /// stimulus has set.
     #[inline(always)]
-    pub fn sampled(&self, system: &System, input: InstanceVariable) -> Value
-        requires variable { IsVariable (system_of system.now) input }
+    pub fn sampled(&self, system: &System, input: InstanceVariable) -> &Value
+        requires variable { IsVariable system.now input }
         requires input { input.is_output ≡ false }
-        ensures { Samples system.now self.now input result }
+        ensures { Samples system.now self.now input result.now }
     {
         self.sampled_from(system, input, &system.source(input))
     }
 
     /// .. where it is known what the input is connected to, if anything.
     #[inline(always)]
-    pub fn sampled_from(
+    pub(crate) fn sampled_from(
         &self,
         system: &System,
         input: InstanceVariable,
         source: &Option<InstanceVariable>,
-    ) -> Value
-        requires variable { IsVariable (system_of system.now) input }
+    ) -> &Value
+        requires variable { IsVariable system.now input }
         requires input { input.is_output ≡ false }
-        requires source { ComesFrom (system_of system.now) input source.now }
-        ensures { Samples system.now self.now input result }
+        requires source { ComesFrom system.now input source.now }
+        ensures { Samples system.now self.now input result.now }
     {
         match source {
-            Some(source) => self.shown(system, *source),
+            Some(source) => self.shown(system, source),
             None => self.slot(system, input),
         }
     }
@@ -230,40 +233,40 @@ impl Forest {
     /// What a data output of a composite that is in the resource shows from inside: what its inner source shows, or
     /// else what it showed before.
     #[inline(always)]
-    pub fn shown_inside(&self, system: &System, output: InstanceVariable) -> Value
-        requires variable { IsVariable (system_of system.now) output }
+    pub(crate) fn shown_inside(&self, system: &System, output: InstanceVariable) -> &Value
+        requires variable { IsVariable system.now output }
         requires output { output.is_output ≡ true }
-        requires composite { IsComposite (system_of system.now) output }
-        ensures { ShowsInside system.now self.now output result }
+        requires composite { IsComposite system.now output }
+        ensures { ShowsInside system.now self.now output result.now }
     {
         self.shown_inside_from(system, output, &system.source(output))
     }
 
     /// .. where it is known what the output is connected to inside, if anything.
     #[inline(always)]
-    pub fn shown_inside_from(
+    pub(crate) fn shown_inside_from(
         &self,
         system: &System,
         output: InstanceVariable,
         source: &Option<InstanceVariable>,
-    ) -> Value
-        requires variable { IsVariable (system_of system.now) output }
+    ) -> &Value
+        requires variable { IsVariable system.now output }
         requires output { output.is_output ≡ true }
-        requires source { ComesFrom (system_of system.now) output source.now }
-        requires composite { IsComposite (system_of system.now) output }
-        ensures { ShowsInside system.now self.now output result }
+        requires source { ComesFrom system.now output source.now }
+        requires composite { IsComposite system.now output }
+        ensures { ShowsInside system.now self.now output result.now }
     {
         match source {
-            Some(source) => self.shown(system, *source),
+            Some(source) => self.shown(system, source),
             None => self.published(system, output),
         }
     }
 
     /// A stimulus brings a value to a data input of an instance that is in the resource.
-    pub fn set_slot(&mut self, system: &System, input: InstanceVariable, value: Value)
-        requires variable { IsVariable (system_of system.now) input }
+    pub(crate) fn set_slot(&mut self, system: &System, input: InstanceVariable, value: Value)
+        requires variable { IsVariable system.now input }
         requires input { input.is_output ≡ false }
-        ensures { Changes system.now self.old input.instance (slot_set (variable_of (system_of system.now) input).name value) self.new }
+        ensures { Changes system.now self.old input.instance (slot_set (variable_of system.now input).name value) self.new }
     {
         system.facts();
         if let Some(shell) = self.shell_mut(input.instance) {
@@ -273,10 +276,10 @@ impl Forest {
 
     /// A data output of an instance that is in the resource shows another value to connections.
     #[inline(always)]
-    pub fn publish(&mut self, system: &System, output: InstanceVariable, value: Value)
-        requires variable { IsVariable (system_of system.now) output }
+    pub(crate) fn publish(&mut self, system: &System, output: InstanceVariable, value: Value)
+        requires variable { IsVariable system.now output }
         requires output { output.is_output ≡ true }
-        ensures { Changes system.now self.old output.instance (output_shown (variable_of (system_of system.now) output).name value) self.new }
+        ensures { Changes system.now self.old output.instance (output_shown (variable_of system.now output).name value) self.new }
     {
         system.facts();
         if let Some(shell) = self.shell_mut(output.instance) {
@@ -286,11 +289,11 @@ impl Forest {
 
     /// An event block or a composite that is in the resource samples a data input.
     #[inline(always)]
-    pub fn set_input(&mut self, system: &System, input: InstanceVariable, value: Value)
-        requires variable { IsVariable (system_of system.now) input }
+    pub(crate) fn set_input(&mut self, system: &System, input: InstanceVariable, value: Value)
+        requires variable { IsVariable system.now input }
         requires input { input.is_output ≡ false }
         requires takes { TakesSamples (system_of system.now) input }
-        ensures { Changes system.now self.old input.instance (input_sampled (variable_of (system_of system.now) input).name value) self.new }
+        ensures { Changes system.now self.old input.instance (input_sampled (variable_of system.now input).name value) self.new }
     {
         system.facts();
         if let Some(shell) = self.shell_mut(input.instance) {
@@ -301,7 +304,7 @@ impl Forest {
     /// A message brings a value of a variable of another resource. Where nothing in this resource is connected to the
     /// variable, nothing is kept.
     pub fn hold(&mut self, system: &System, output: InstanceVariable, value: Value)
-        requires { IsVariable (system_of system.now) output }
+        requires { IsVariable system.now output }
         ensures { Holds system.now self.old output value self.new }
     {
         system.facts();
@@ -312,10 +315,13 @@ impl Forest {
     }
 }
 
-/// The value at an index.
+/// The value at an index. It is lent, so that what reads it copies it once, to where it stays.
 #[inline(always)]
-fn value_of(values: &[Value], index: u32) -> Value
-    ensures { result ≡ value_in values.now index }
+fn value_of(values: &[Value], index: u32) -> &Value
+    ensures { result.now ≡ value_in values.now index }
 {
-    values.get(index as usize).copied().unwrap_or(NOTHING)
+    match values.get(index as usize) {
+        Some(value) => value,
+        None => &NOTHING,
+    }
 }

@@ -1,11 +1,11 @@
 //! The values that an event brings with it.
 
 ghost use Rattle.std.specs.Prelude.{◌≡◌, false, true, length, IfOk};
-ghost use Rattle.fb_types.specs.Headline.{system_of};
-ghost use Rattle.fb_types.specs.Numbers.{path_at, ports_at};
-ghost use Rattle.fb_system.specs.Ports.{IsCompositeAt, IsPort};
+ghost use Rattle.fb_types.specs.OfSystem.{path_at, ports_at};
 ghost use Rattle.fb_system.specs.IndexLists.{AreIndexes};
-ghost use Rattle.fb_net.specs.Samples.{AreSampled, AreShown, names_in, names_out};
+ghost use Rattle.fb_system.specs.OfSystem.{IsCompositeAt, IsPort};
+ghost use Rattle.fb_net.specs.Samples.{AreSampled, AreShown};
+ghost use Rattle.fb_net.specs.OfSystem.{names_in, names_out};
 
 use crate::resource::Forest;
 use fb_system::System;
@@ -21,11 +21,11 @@ pub fn sampled_values(
     at: Target,
     indexes: &[u32],
 ) -> Result<Values, AllocError>
-    requires port { IsPort (system_of system.now) at }
+    requires port { IsPort system.now at }
     requires input { at.is_output ≡ false }
-    requires indexes { AreIndexes (ports_at (system_of system.now) (path_at (system_of system.now) at.instance)).inputs (names_in (system_of system.now) at) indexes.now }
+    requires indexes { AreIndexes (ports_at system.now (path_at system.now at.instance)).inputs (names_in system.now at) indexes.now }
     ensures sampled { IfOk result (AreSampled system.now forest.now at) }
-    ensures counted { IfOk result (λ vs. length vs ≡ length (names_in (system_of system.now) at)) }
+    ensures counted { IfOk result (λ vs. length vs ≡ length (names_in system.now at)) }
 {
     // Mostly there is one value, and there is nothing to walk over.
     if let [index] = indexes {
@@ -34,8 +34,8 @@ pub fn sampled_values(
             variable: *index,
             is_output: false,
         };
-        let value = forest.sampled(system, input);
-        return Values::from_slice(alloc, &[value]);
+        let value = *forest.sampled(system, input);
+        return Ok(Values::one(alloc, value));
     }
     let mut values = Values::new(alloc);
     for index in indexes {
@@ -44,7 +44,7 @@ pub fn sampled_values(
             variable: *index,
             is_output: false,
         };
-        values.push(forest.sampled(system, input))?;
+        values.push(*forest.sampled(system, input))?;
     }
     Ok(values)
 }
@@ -58,12 +58,12 @@ pub fn shown_values(
     at: Target,
     indexes: &[u32],
 ) -> Result<Values, AllocError>
-    requires port { IsPort (system_of system.now) at }
+    requires port { IsPort system.now at }
     requires output { at.is_output ≡ true }
-    requires composite { IsCompositeAt (system_of system.now) at.instance }
-    requires indexes { AreIndexes (ports_at (system_of system.now) (path_at (system_of system.now) at.instance)).outputs (names_out (system_of system.now) at) indexes.now }
+    requires composite { IsCompositeAt system.now at.instance }
+    requires indexes { AreIndexes (ports_at system.now (path_at system.now at.instance)).outputs (names_out system.now at) indexes.now }
     ensures shown { IfOk result (AreShown system.now forest.now at) }
-    ensures counted { IfOk result (λ vs. length vs ≡ length (names_out (system_of system.now) at)) }
+    ensures counted { IfOk result (λ vs. length vs ≡ length (names_out system.now at)) }
 {
     if let [index] = indexes {
         let output = InstanceVariable {
@@ -71,8 +71,8 @@ pub fn shown_values(
             variable: *index,
             is_output: true,
         };
-        let value = forest.shown_inside(system, output);
-        return Values::from_slice(alloc, &[value]);
+        let value = *forest.shown_inside(system, output);
+        return Ok(Values::one(alloc, value));
     }
     let mut values = Values::new(alloc);
     for index in indexes {
@@ -81,7 +81,7 @@ pub fn shown_values(
             variable: *index,
             is_output: true,
         };
-        values.push(forest.shown_inside(system, output))?;
+        values.push(*forest.shown_inside(system, output))?;
     }
     Ok(values)
 }

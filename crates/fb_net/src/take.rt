@@ -122,13 +122,36 @@ impl Taking<'_> {
         ensures taken { WasTaken self.old (event_in arrival.entry) meter.old.left result self.new meter.new.left }
         ensures same { IsSame self.old self.new }
     {
-        // The compiler drops the hint to inline a function that is too large with all that is always inlined into it. So
-        // `arrive` is so inlined here once, for local events.
         match arrival {
             Arrival::Stimulus(row) => self.take_stimulus(row, meter, emits),
             Arrival::Timer(instance) => self.take_timer(instance, emits),
             Arrival::Message(message) => self.take_message(message, meter, emits),
             Arrival::Local { target, .. } => self.arrive(target, meter, emits),
+        }
+    }
+
+    /// The same as `take_event`, for an event where it waits: nothing is made of it.
+    ///
+    /// # Errors
+    /// As `arrive`.
+    #[inline(always)]
+    pub fn take_waiting(
+        &mut self,
+        event: &Event,
+        meter: &mut Meter,
+        emits: &mut Emits,
+    ) -> Result<(), Halt>
+        requires { MayTake self.old event.now }
+        ensures taken { WasTaken self.old event.now meter.old.left result self.new meter.new.left }
+        ensures same { IsSame self.old self.new }
+    {
+        // The compiler drops the hint to inline a function that is too large with all that is always inlined into it. So
+        // `arrive` is so inlined here once, for local events.
+        match event {
+            Event::Stimulus(row) => self.take_stimulus(*row, meter, emits),
+            Event::Timer(instance) => self.take_timer(*instance, emits),
+            Event::Arrival(message) => self.take_message(message, meter, emits),
+            Event::Local(target) => self.arrive(*target, meter, emits),
         }
     }
 }

@@ -1,7 +1,7 @@
 //! One event on its way through its resource.
 
-ghost use Rattle.std.specs.Prelude.{◌<◌, ◌≤◌, ◌^◌, length};
-ghost use Rattle.fb_types.specs.Headline.{system_of};
+ghost use Rattle.std.specs.Prelude.{◌≤◌, ◌^◌};
+ghost use Rattle.fb_types.specs.OfSystem.{IsResource};
 
 use crate::outbox::Outbox;
 use crate::resource::Forest;
@@ -17,6 +17,6 @@ pub(crate) struct Taking<'a> {
     pub forest: &'a mut Forest,
     pub outbox: &'a mut Outbox,
     // The key names a resource of the deployment, and its tick is at most 10^12.
-    ghost named: { key.now.resource < length (system_of system.now).resource_names },
+    ghost named: { IsResource system.now key.now.resource },
     ghost early: { key.now.tick ≤ 10 ^ 12 },
 }

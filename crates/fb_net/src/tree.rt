@@ -1,13 +1,12 @@
 //! The blocks of one resource.
 
-ghost use Rattle.std.specs.Prelude.{◌≡◌, ◌<◌, ◌≤◌, ◌^◌, length, IfOk};
-ghost use Rattle.fb_types.specs.Headline.{system_of};
+ghost use Rattle.std.specs.Prelude.{◌≡◌, ◌<◌, ◌≤◌, ◌^◌, IfOk};
 ghost use Rattle.fb_types.specs.Reactions.{World};
-ghost use Rattle.fb_types.specs.Simulation.{opening_state};
 ghost use Rattle.fb_types.specs.Takes.{world_of};
+ghost use Rattle.fb_types.specs.OfSystem.{IsResource, opening_state};
+ghost use Rattle.fb_laws.specs.OfSystem.{AreTyped, IsTypedEvent};
 ghost use Rattle.fb_net.specs.Outs.{StillAreOuts};
 ghost use Rattle.fb_net.specs.Worlds.{IsForest};
-ghost use Rattle.fb_laws.specs.Typed.{AreTyped, IsTypedEvent};
 ghost use Rattle.fb_net.specs.Events.{HasTaken, IsEventIn, Remembered, event_in, event_of, key_at};
 
 use crate::arrival::Arrival;
@@ -16,7 +15,7 @@ use crate::resource::Forest;
 use crate::taking::Taking;
 use fb_st::Meter;
 use fb_system::System;
-use fb_types::{Emits, Halt, Key};
+use fb_types::{Emits, Event, Halt, Key};
 use std::alloc::{AllocError, Global};
 use std::marker::Model;
 
@@ -60,8 +59,8 @@ impl Tree {
     /// # Errors
     /// When memory runs out.
     pub fn build(alloc: Global, system: &System, resource: u32) -> Result<Tree, AllocError>
-        requires { resource < length (system_of system.now).resource_names }
-        ensures opened { IfOk result (λ t. IsForest system.now t (world_of (opening_state (system_of system.now)) resource)) }
+        requires { IsResource system.now resource }
+        ensures opened { IfOk result (λ t. IsForest system.now t (world_of (opening_state system.now) resource)) }
         ensures resource { IfOk result (λ t. t.resource ≡ resource) }
     {
         system.facts();
@@ -117,10 +116,10 @@ impl Tree {
         outbox: &mut Outbox,
     ) -> Result<(), Halt>
         requires event { IsEventIn system.now self.old.resource (event_in arrival) }
-        requires named { self.old.resource < length (system_of system.now).resource_names }
+        requires named { IsResource system.now self.old.resource }
         requires early { tick ≤ 10 ^ 12 }
-        requires belongs { (w : World) × IsForest system.now self.old w × AreTyped (system_of system.now) w }
-        requires typed { IsTypedEvent (system_of system.now) (event_of system.now (event_in arrival)) }
+        requires belongs { (w : World) × IsForest system.now self.old w × AreTyped system.now w }
+        requires typed { IsTypedEvent system.now (event_of system.now (event_in arrival)) }
         ensures taken { HasTaken system.now (key_at tick self.old.resource arrival.entry) (event_in arrival.entry) self.old outbox.old meter.old.left result self.new meter.new.left outbox.new }
         ensures outs { Remembered result (StillAreOuts system.now self.old outbox.old self.new outbox.new) }
         ensures fewer { meter.new.left ≤ meter.old.left }
@@ -135,13 +134,10 @@ impl Tree {
         self.take_under(system, arrival, &key, meter, outbox)
     }
 
-    /// The same as `take`, for callers that have the key of the event.
-    ///
-    /// # Errors
-    /// As `take`.
+    /// .. where the key of the event is made.
     #[inline(always)]
     #[tactic(auto, using(crate::proofs::Keys::keys))]
-    pub fn take_under(
+    fn take_under(
         &mut self,
         system: &System,
         arrival: Arrival<'_>,
@@ -151,10 +147,10 @@ impl Tree {
     ) -> Result<(), Halt>
         requires key { key.now ≡ key_at key.now.tick self.old.resource arrival }
         requires event { IsEventIn system.now self.old.resource (event_in arrival) }
-        requires named { self.old.resource < length (system_of system.now).resource_names }
+        requires named { IsResource system.now self.old.resource }
         requires early { key.now.tick ≤ 10 ^ 12 }
-        requires belongs { (w : World) × IsForest system.now self.old w × AreTyped (system_of system.now) w }
-        requires typed { IsTypedEvent (system_of system.now) (event_of system.now (event_in arrival)) }
+        requires belongs { (w : World) × IsForest system.now self.old w × AreTyped system.now w }
+        requires typed { IsTypedEvent system.now (event_of system.now (event_in arrival)) }
         ensures taken { HasTaken system.now key.now (event_in arrival.entry) self.old outbox.old meter.old.left result self.new meter.new.left outbox.new }
         ensures outs { Remembered result (StillAreOuts system.now self.old outbox.old self.new outbox.new) }
         ensures fewer { meter.new.left ≤ meter.old.left }
@@ -171,5 +167,42 @@ impl Tree {
             outbox,
         };
         taking.take_event(arrival, meter, &mut self.emits)
+    }
+
+    /// The same as `take`, for an event that waited under its key. It is read where it waits.
+    ///
+    /// # Errors
+    /// As `take`.
+    #[inline(always)]
+    pub fn take_waiting(
+        &mut self,
+        system: &System,
+        event: &Event,
+        key: &Key,
+        meter: &mut Meter,
+        outbox: &mut Outbox,
+    ) -> Result<(), Halt>
+        requires here { key.now.resource ≡ self.old.resource }
+        requires event { IsEventIn system.now self.old.resource event.now }
+        requires named { IsResource system.now self.old.resource }
+        requires early { key.now.tick ≤ 10 ^ 12 }
+        requires belongs { (w : World) × IsForest system.now self.old w × AreTyped system.now w }
+        requires typed { IsTypedEvent system.now (event_of system.now event.now) }
+        ensures taken { HasTaken system.now key.now event.now self.old outbox.old meter.old.left result self.new meter.new.left outbox.new }
+        ensures outs { Remembered result (StillAreOuts system.now self.old outbox.old self.new outbox.new) }
+        ensures fewer { meter.new.left ≤ meter.old.left }
+        ensures resource { self.new.resource ≡ self.old.resource }
+
+        // Also where memory runs out.
+        ensures whole { (w : World) × IsForest system.now self.new w }
+    {
+        system.facts();
+        let mut taking = Taking {
+            system,
+            key,
+            forest: &mut self.forest,
+            outbox,
+        };
+        taking.take_waiting(event, meter, &mut self.emits)
     }
 }

@@ -15,9 +15,9 @@ use Rattle.fb_net.specs.declared.resource.Forest.{Forest}
 gathered_lines : (i : Inputs) (x : Outbox) → x.outs.items ≡ [] → x.timer ≡ Keep → gathered i x ≡ only_lines (map (line_of (system_of i)) x.lines.items)
 gathered_lines i x none keeps n = record { lines = map (line_of (system_of i)) x.lines.items; outs = map (out_of (system_of i)) (none n); timer = keeps n }
 
-pub came_alone : (i : Inputs) (k : Key) (e event : Event) (old : Forest) (before : Outbox) (left : ℕ) (stop : Option Reason) (new : Forest) (after : ℕ) (x : Outbox)
-    → e ≡ event → before.outs.items ≡ [] → before.timer ≡ Keep
-    → Came i k e old before left stop new after x → CameAlone i k event old before left stop new after x
-came_alone i k e event old before left stop new after x same none keeps came w stood =
+pub came_alone : (i : Inputs) (k : Key) (event : Event) (old : Forest) (before : Outbox) (left : ℕ) (stop : Option Reason) (new : Forest) (after : ℕ) (x : Outbox)
+    → before.outs.items ≡ [] → before.timer ≡ Keep
+    → Came i k event old before left stop new after x → CameAlone i k event old before left stop new after x
+came_alone i k event old before left stop new after x none keeps came w stood =
     subst (λ (g : Gathered). CameTo i k event g left stop new after x w) (gathered_lines i before none keeps)
-    (subst (λ (z : Event). CameTo i k z (gathered i before) left stop new after x w) same (came w stood))
+    (came w stood)

@@ -5,6 +5,7 @@ pub mod Fuel
 pub mod Leaving
 pub mod Meters
 pub mod Lists
+pub mod Lone
 pub mod OpenIs
 pub mod PostLaws
 pub mod Posted

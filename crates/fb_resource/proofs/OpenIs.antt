@@ -17,7 +17,7 @@ use Rattle.fb_types.specs.States.{Event as AnEvent, Stimulated, Expired, path_of
 use Rattle.fb_types.specs.Systems.{System}
 use Rattle.fb_types.specs.Takes.{is_timer_of}
 use Rattle.fb_types.specs.declared.event_kind.EventKind.{EventKind}
-use Rattle.fb_types.specs.declared.event_kind.EventKind.TheVariants.{Restart, Split, Merge, Rendezvous, Permit, Select, Switch, Delay, Cycle, SetReset, DataLatch, RisingEdge, FallingEdge, CountUp}
+use Rattle.fb_types.specs.declared.event_kind.EventKind.TheVariants.{Restart}
 use Rattle.fb_types.specs.declared.key.Key.{Key}
 use Rattle.fb_types.proofs.KeyLaws.{same_key_is}
 use Rattle.fb_types.proofs.TakeLaws.{found-put}
@@ -241,19 +241,7 @@ timer_of sys p kind =
 
 event_none : (sys : System) (p : Path) (k : EventKind) → k ≢ Restart → timer_of sys p (Some (Event k)) ≡ []
 event_none sys p Restart wrong = absurd (wrong refl)
-event_none sys p Split wrong = refl
-event_none sys p Merge wrong = refl
-event_none sys p Rendezvous wrong = refl
-event_none sys p Permit wrong = refl
-event_none sys p Select wrong = refl
-event_none sys p Switch wrong = refl
-event_none sys p Delay wrong = refl
-event_none sys p Cycle wrong = refl
-event_none sys p SetReset wrong = refl
-event_none sys p DataLatch wrong = refl
-event_none sys p RisingEdge wrong = refl
-event_none sys p FallingEdge wrong = refl
-event_none sys p CountUp wrong = refl
+event_none sys p _ wrong = refl
 
 pub other_event : (sys : System) (p : Path) (k : EventKind) → sys.kind p ≡ Some (Event k) → k ≢ Restart → restart_of sys p ≡ []
 other_event sys p k kind wrong = ap (timer_of sys p) kind ∙ event_none sys p k wrong

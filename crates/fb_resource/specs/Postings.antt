@@ -1,5 +1,5 @@
 -- What each step of posting rests on, and what it leaves (this project's profile).
-use Rattle.std.specs.Prelude.{◌≡◌, ◌+◌, ◌<◌, ◌≤◌, ℕ, List, [], All, length, map}
+use Rattle.std.specs.Prelude.{◌≡◌, ◌+◌, ◌<◌, ◌≤◌, ℕ, List, [], ◌∷◌, All, length, map}
 use Rattle.fb_types.specs.Headline.{system_of}
 use Rattle.fb_types.specs.Keys.{changed_to}
 use Rattle.fb_types.specs.States.{path_of}
@@ -9,7 +9,6 @@ use Rattle.fb_types.specs.declared.key.Key.{Key}
 use Rattle.fb_types.specs.declared.run.Event.{Event}
 use Rattle.fb_types.specs.declared.run.Message.{Message}
 use Rattle.fb_types.specs.declared.run.TimerAsk.{TimerAsk}
-use Rattle.fb_types.specs.declared.run.TimerAsk.TheVariants.{Keep}
 use Rattle.fb_agenda.specs.Agendas.{Contents}
 use Rattle.fb_net.specs.Events.{event_of}
 use Rattle.fb_net.specs.Outs.{out_of}
@@ -23,7 +22,7 @@ use Rattle.fb_resource.specs.declared.posting.Posting.{Posting}
 abbrev pub system_in : Posting → System
 system_in p = system_of p.system.now
 
--- where events come from and go, with an outbox beside
+-- where events come from and go, with this outbox
 abbrev pub queues_in : Posting → Outbox → Queues
 queues_in p x = record { agenda = p.agenda.now; sent = p.sent.now; mail = p.mail.now; outbox = x }
 
@@ -66,12 +65,6 @@ HasSettled old from e new to =
     → IsSettled old.system.now old.key.now (path_of (event_of old.system.now e)) from.timer
     (post_all (system_in old) old.key.now (map (out_of (system_in old)) from.outs.items) (record { locals = old.locals.now; sent = counts; raised = []; messages = [] }))
     (queues_in old from) (queues_in new to) new.locals.now
-
--- All was posted and nothing is asked of a timer; the lines stay.
-pub record IsEmptied (old new : Outbox) : Type 0 where
-  pub lines : new.lines.items ≡ old.lines.items
-  pub none : new.outs.items ≡ []
-  pub keeps : new.timer ≡ Keep
 
 -- However a step ends, also where memory runs out: the posting is of the same system and key, and lends what it lent.
 pub record IsSame (old new : Posting) : Type 0 where

@@ -1,26 +1,29 @@
 -- Taking one event in its resource (this project's profile).
 use Rattle.std.specs.Global.{Vec}
-use Rattle.std.specs.Prelude.{◌≡◌, ◌≤◌, ◌++◌, ℕ, [], All, length, map, Option}
+use Rattle.std.specs.Prelude.{◌≡◌, ◌+◌, ◌≤◌, ◌++◌, ◌∷◌, ℕ, [], All, length, map, Option}
 use Rattle.fb_types.specs.Headline.{Inputs, system_of}
-use Rattle.fb_types.specs.Keys.{changed_to}
+use Rattle.fb_types.specs.Keys.{changed_to, local_key}
 use Rattle.fb_types.specs.Names.{Path}
 use Rattle.fb_types.specs.Numbers.{line_of}
 use Rattle.fb_types.specs.States.{State}
 use Rattle.fb_types.specs.States as model
 use Rattle.fb_types.specs.Takes.{Effect, Posts, Takes, timer_change, world_of}
 use Rattle.fb_types.specs.declared.key.Key.{Key}
+use Rattle.fb_types.specs.declared.run.Event.TheVariants as waits
 use Rattle.fb_types.specs.declared.run.Message.{Message}
+use Rattle.fb_types.specs.declared.run.Target.{Target}
 use Rattle.fb_types.specs.declared.run.TimerAsk.{TimerAsk}
 use Rattle.fb_types.specs.declared.run.TimerAsk.TheVariants.{Keep, Clear, At}
 use Rattle.fb_types.specs.declared.value.Reason.{Reason}
 use Rattle.fb_agenda.specs.Agendas.{Contents}
 use Rattle.fb_system.specs.Lines.{BelongsTo}
 use Rattle.fb_net.specs.Worlds.{IsForest}
+use Rattle.fb_net.specs.declared.outbox.Out.TheVariants.{Local}
 use Rattle.fb_net.specs.declared.outbox.Outbox.{Outbox}
 use Rattle.fb_net.specs.declared.resource.Forest.{Forest}
 use Rattle.fb_laws.specs.Typed.{AreTyped}
 use Rattle.fb_resource.specs.Counts.{BeginAlike, meter_of}
-use Rattle.fb_resource.specs.Posts.{ArePosted, CountsAre, IsMessage, arriving}
+use Rattle.fb_resource.specs.Posts.{ArePosted, CountsAre, IsMessage, IsPut, arriving}
 use Rattle.fb_resource.specs.Waiting.{IsInOrder, meaning}
 use Rattle.fb_resource.specs.declared.given.Given.{Given}
 use Rattle.fb_resource.specs.declared.tick_counts.TickCounts.{TickCounts}
@@ -85,3 +88,18 @@ pub record IsSettled (i : Inputs) (k : Key) (at : Path) (ask : TimerAsk) (x : Po
   pub mid : Contents
   pub set : (j : Key) → meaning i mid j ≡ changed_to (timer_change (system_of i) k.resource at ask j) (meaning i old.agenda j)
   pub posted : ArePosted i x mid new.agenda old.mail.items new.mail.items locals new.sent.items
+
+-- All was posted and nothing is asked of a timer; the lines stay.
+pub record IsEmptied (old new : Outbox) : Type 0 where
+  pub lines : new.lines.items ≡ old.lines.items
+  pub none : new.outs.items ≡ []
+  pub keeps : new.timer ≡ Keep
+
+-- One local event had been put out, and nothing was asked of the timer. The event was posted under its number.
+pub record IsLone (k : Key) (t : Target) (old new : Contents) (before after : ℕ) (from to : Outbox) : Type 0 where
+  pub alone : from.outs.items ≡ Local t ∷ []
+  pub keeps : from.timer ≡ Keep
+  pub put : IsPut old new (local_key k.tick k.resource before) (waits.Local t)
+  pub due : new.due ≡ old.due
+  pub counted : after ≡ before + 1
+  pub emptied : IsEmptied from to

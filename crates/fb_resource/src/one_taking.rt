@@ -1,46 +1,28 @@
 //! Taking one event in its resource.
 
-ghost use Rattle.std.specs.Prelude.{◌≡◌, ◌^◌, ◌≤◌, ◌<◌, ℕ, [], suc, max, length, unwrap_or, All, IfOk, OnOk, Some, None};
-ghost use Rattle.fb_types.specs.Headline.{system_of};
+ghost use Rattle.std.specs.Prelude.{◌≡◌, ◌^◌, ◌≤◌, ◌<◌, ℕ, [], suc, max, unwrap_or, All, IfOk, OnOk, Some, None};
 ghost use Rattle.fb_types.specs.Reactions.{World};
 ghost use Rattle.fb_types.specs.States.{State};
 ghost use Rattle.fb_types.specs.Takes.{begun};
 ghost use Rattle.fb_types.specs.declared.run.TimerAsk.TheVariants.{Keep};
-ghost use Rattle.fb_net.specs.Outs.{AreOuts};
-ghost use Rattle.fb_net.specs.Events.{CameAlone, IsEventIn, IsKeyOf, event_in, event_of, key_at};
+ghost use Rattle.fb_types.specs.OfSystem.{IsResource};
+ghost use Rattle.fb_laws.specs.OfSystem.{AreTyped, IsTypedEvent};
+ghost use Rattle.fb_net.specs.Events.{CameAlone, IsEventIn, IsKeyOf, event_of};
 ghost use Rattle.fb_net.specs.Worlds.{IsForest};
-ghost use Rattle.fb_laws.specs.Typed.{AreTyped, IsTypedEvent};
+ghost use Rattle.fb_net.specs.OfSystem.{AreOuts};
 ghost use Rattle.fb_resource.specs.Counts.{IsMetered, meter_of};
 ghost use Rattle.fb_resource.specs.Posts.{CountsAre};
 ghost use Rattle.fb_resource.specs.Takings.{AreReady, IsHere, IsTakenHere, queues_of};
 
 use crate::given::Given;
-use crate::posting::Posting;
+use crate::posting::{Posting, lone_of, post_lone};
 use crate::tick_counts::TickCounts;
 use fb_agenda::Agenda;
-use fb_net::{Arrival, Outbox, Tree};
+use fb_net::{Outbox, Tree};
 use fb_st::Meter;
 use fb_system::System;
 use fb_types::{Event, Halt, Key, Reason};
 use std::alloc::AllocError;
-
-/// The arrival of an event that waited under this key.
-#[inline(always)]
-fn arrival_of<'a>(key: &Key, event: &'a Event) -> Arrival<'a>
-    requires { IsKeyOf key.now event.now }
-    ensures event { event_in result ≡ event.now }
-    ensures key { key_at key.now.tick key.now.resource result ≡ key.now }
-{
-    match event {
-        Event::Stimulus(row) => Arrival::Stimulus(*row),
-        Event::Timer(instance) => Arrival::Timer(*instance),
-        Event::Arrival(message) => Arrival::Message(message),
-        Event::Local(target) => Arrival::Local {
-            target: *target,
-            number: key.a,
-        },
-    }
-}
 
 /// Takes an event in the tree of its resource, which has this many steps left after that of the event. `Some` is
 /// the reason for which the resource stops.
@@ -56,21 +38,20 @@ fn take_in(
     requires event { IsEventIn system.now tree.old.resource event.now }
     requires own { IsKeyOf key.now event.now }
     requires key { key.now.resource ≡ tree.old.resource }
-    requires named { key.now.resource < length (system_of system.now).resource_names }
+    requires named { IsResource system.now key.now.resource }
     requires early { key.now.tick ≤ 10 ^ 12 }
-    requires belongs { (w : World) × IsForest system.now tree.old w × AreTyped (system_of system.now) w }
-    requires typed { IsTypedEvent (system_of system.now) (event_of system.now event.now) }
-    requires outs { AreOuts (system_of system.now) tree.old.resource outbox.old }
+    requires belongs { (w : World) × IsForest system.now tree.old w × AreTyped system.now w }
+    requires typed { IsTypedEvent system.now (event_of system.now event.now) }
+    requires outs { AreOuts system.now tree.old.resource outbox.old }
     requires none { outbox.old.outs.items ≡ [] }
     requires keeps { outbox.old.timer ≡ Keep }
     ensures came { IfOk result (λ stop. CameAlone system.now key.now event.now tree.old outbox.old left.old stop tree.new left.new outbox.new) }
-    ensures outs { OnOk result (AreOuts (system_of system.now) tree.new.resource outbox.new) }
+    ensures outs { OnOk result (AreOuts system.now tree.new.resource outbox.new) }
     ensures fewer { left.new ≤ left.old }
     ensures resource { tree.new.resource ≡ tree.old.resource }
 {
     let mut steps = Meter { left: *left };
-    let arrival = arrival_of(key, event);
-    let taken = tree.take_under(system, arrival, key, &mut steps, outbox);
+    let taken = tree.take_waiting(system, event, key, &mut steps, outbox);
     *left = steps.left;
     match taken {
         Ok(()) => Ok(None),
@@ -105,8 +86,8 @@ pub fn take(
     requires represents { (s : State) × IsHere system.now s key.now.resource key.now.tick tree.old counts.old }
     requires event { IsEventIn system.now key.now.resource event.now }
     requires own { IsKeyOf key.now event.now }
-    requires typed { IsTypedEvent (system_of system.now) (event_of system.now event.now) }
-    requires named { key.now.resource < length (system_of system.now).resource_names }
+    requires typed { IsTypedEvent system.now (event_of system.now event.now) }
+    requires named { IsResource system.now key.now.resource }
     requires early { key.now.tick ≤ 10 ^ 12 }
     requires few { limit ≤ 10 ^ 7 }
     ensures taken { IfOk result (λ stop. (s : State) (from : ℕ) → from ≤ key.now.tick
@@ -132,7 +113,11 @@ pub fn take(
         event,
     )?;
     system.facts();
-    // A reaction that stops posts what it had put out before.
+    // A reaction that stops posts what it had put out before. Mostly that is one local event.
+    if let Some(target) = lone_of(&given.outbox) {
+        post_lone(agenda, &mut counts.locals, key, &mut given.outbox, target)?;
+        return Ok(stop);
+    }
     let mut posting = Posting {
         system,
         key,

@@ -3,10 +3,10 @@
 ghost use Rattle.std.specs.Prelude.{◌≡◌, ◌+◌, ◌<◌, ℕ, length, IfOk, OnOk, Some};
 ghost use Rattle.fb_types.specs.Headline.{system_of};
 ghost use Rattle.fb_types.specs.Keys.{found, or_else};
-ghost use Rattle.fb_types.specs.Numbers.{path_at};
-ghost use Rattle.fb_types.specs.Simulation.{opening_state, restart_of};
+ghost use Rattle.fb_types.specs.Simulation.{restart_of};
 ghost use Rattle.fb_types.specs.declared.key.Key as keys;
 ghost use Rattle.fb_types.specs.declared.run.Event.TheVariants.{Stimulus};
+ghost use Rattle.fb_types.specs.OfSystem.{IsInstance, IsResource, instance_count, link_count, opening_state, path_at, resource_at};
 ghost use Rattle.fb_resource.specs.Openings.{AreOpenedApart, HasRestarts, HasStimuli, HasTimersBelow, IsOpened, IsStimulusKey, OneEach, is_of};
 ghost use Rattle.fb_resource.specs.Posts.{CountsAre};
 ghost use Rattle.fb_resource.specs.Waiting.{IsInOrder, MayWait, meaning};
@@ -29,9 +29,9 @@ fn is_asked(of: Option<u32>, resource: u32) -> bool
 
 /// The resource of an instance.
 fn resource_of(system: &System, instance: u32) -> u32
-    requires { instance < length (system_of system.now).paths }
-    ensures resource { result ≡ (system_of system.now).resource (path_at (system_of system.now) instance) }
-    ensures named { result < length (system_of system.now).resource_names }
+    requires { IsInstance system.now instance }
+    ensures resource { result ≡ resource_at system.now (path_at system.now instance) }
+    ensures named { IsResource system.now result }
 {
     system.facts();
     system.resource(instance) as u32
@@ -73,11 +73,11 @@ fn put_stimuli(agenda: &mut Agenda, system: &System, of: Option<u32>) -> Result<
 
 /// Starts the timer of an instance at tick 0, where it is an E_RESTART.
 fn start_restart(agenda: &mut Agenda, system: &System, instance: u32) -> Result<(), AllocError>
-    requires instance { instance < length (system_of system.now).paths }
-    requires due { length agenda.old.due ≡ length (system_of system.now).paths }
+    requires instance { IsInstance system.now instance }
+    requires due { length agenda.old.due ≡ instance_count system.now }
     requires order { IsInOrder system.now 0 agenda.old }
     requires timers { HasTimersBelow instance agenda.old }
-    ensures put { OnOk result ((j : keys.Key) → meaning system.now agenda.new j ≡ or_else (found j (restart_of (system_of system.now) (path_at (system_of system.now) instance))) (meaning system.now agenda.old j)) }
+    ensures put { OnOk result ((j : keys.Key) → meaning system.now agenda.new j ≡ or_else (found j (restart_of (system_of system.now) (path_at system.now instance))) (meaning system.now agenda.old j)) }
     ensures order { OnOk result (IsInOrder system.now 0 agenda.new) }
     ensures timers { OnOk result (HasTimersBelow (instance + 1) agenda.new) }
     ensures due { length agenda.new.due ≡ length agenda.old.due }
@@ -98,7 +98,7 @@ fn start_restart(agenda: &mut Agenda, system: &System, instance: u32) -> Result<
 /// Starts the timers of all E_RESTART that are asked for.
 fn start_restarts(agenda: &mut Agenda, system: &System, of: Option<u32>) -> Result<(), AllocError>
     requires { HasRestarts system.now of 0 agenda.old }
-    ensures { OnOk result (HasRestarts system.now of (length (system_of system.now).paths) agenda.new) }
+    ensures { OnOk result (HasRestarts system.now of (instance_count system.now) agenda.new) }
 {
     system.facts();
     for instance in 0..system.count() {
@@ -150,7 +150,7 @@ fn put_apart(agendas: &mut Vec<Agenda>, system: &System) -> Result<(), AllocErro
 /// Starts the timer of each E_RESTART on the agenda of its resource.
 fn start_apart(agendas: &mut Vec<Agenda>, system: &System) -> Result<(), AllocError>
     requires { OneEach system.now (λ r. HasRestarts system.now (Some r) 0) agendas.old.items }
-    ensures { OnOk result (OneEach system.now (λ r. HasRestarts system.now (Some r) (length (system_of system.now).paths)) agendas.new.items) }
+    ensures { OnOk result (OneEach system.now (λ r. HasRestarts system.now (Some r) (instance_count system.now)) agendas.new.items) }
 {
     system.facts();
     for instance in 0..system.count() {
@@ -180,8 +180,8 @@ pub fn open_agendas(alloc: Global, system: &System) -> Result<Vec<Agenda>, Alloc
 /// # Errors
 /// When memory runs out.
 pub fn open_sent(alloc: Global, system: &System) -> Result<Vec<u128>, AllocError>
-    ensures counted { IfOk result (λ v. length v.items ≡ (system_of system.now).links) }
-    ensures counts { IfOk result (λ v. CountsAre v.items (opening_state (system_of system.now)).sent) }
+    ensures counted { IfOk result (λ v. length v.items ≡ link_count system.now) }
+    ensures counts { IfOk result (λ v. CountsAre v.items (opening_state system.now).sent) }
 {
     vec![in alloc; 0u128; system.links()]
 }

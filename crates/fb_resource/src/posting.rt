@@ -3,13 +3,14 @@
 ghost use Rattle.std.specs.Prelude.{◌≡◌, ◌+◌, ◌<◌, ◌≤◌, ◌^◌, ◌++◌, ◌∷◌, ℕ, [], length, All, IfSome, OnOk, slice_index, slice_set};
 ghost use Rattle.fb_types.specs.Headline.{system_of};
 ghost use Rattle.fb_types.specs.Keys.{local_key};
-ghost use Rattle.fb_types.specs.Numbers.{path_at};
 ghost use Rattle.fb_types.specs.States.{path_of};
 ghost use Rattle.fb_types.specs.declared.run.Event.TheVariants.{Local};
+ghost use Rattle.fb_types.specs.declared.run.TimerAsk.TheVariants.{Keep};
+ghost use Rattle.fb_types.specs.OfSystem.{IsInstance, IsResource, link_count, path_at};
 ghost use Rattle.fb_net.specs.Events.{IsEventIn, IsNumbered, event_of};
 ghost use Rattle.fb_net.specs.declared.outbox.Out.TheVariants as put_out;
 ghost use Rattle.fb_resource.specs.Posts.{IsPostable, IsPut, message_of};
-ghost use Rattle.fb_resource.specs.Takings.{IsLater};
+ghost use Rattle.fb_resource.specs.Takings.{IsEmptied, IsLater, IsLone};
 
 use fb_agenda::Agenda;
 use fb_link::arrival;
@@ -49,8 +50,8 @@ fn post_message(
     key: &Key,
     sending: OutgoingMessage,
 ) -> Result<(), AllocError>
-    requires link { sending.link < (system_of system.now).links }
-    requires counted { length sent.old.items ≡ (system_of system.now).links }
+    requires link { sending.link < link_count system.now }
+    requires counted { length sent.old.items ≡ link_count system.now }
     requires early { key.now.tick ≤ 10 ^ 12 }
     ensures put { OnOk result (mail.new.items ≡ mail.old.items ++ message_of (system_of system.now) key.now sending (slice_index sent.old.items sending.link) ∷ []) }
     ensures counted { OnOk result (sent.new.items ≡ slice_set sent.old.items sending.link (slice_index sent.old.items sending.link + 1)) }
@@ -74,8 +75,8 @@ fn post_message(
 /// The instance at which an event comes.
 fn instance_of(system: &System, event: &Event) -> u32
     requires { IsNumbered system.now event.now }
-    ensures instance { result < length (system_of system.now).paths }
-    ensures path { path_at (system_of system.now) result ≡ path_of (event_of system.now event.now) }
+    ensures instance { IsInstance system.now result }
+    ensures path { path_at system.now result ≡ path_of (event_of system.now event.now) }
 {
     match event {
         Event::Stimulus(row) => system.stimulus(*row).target.instance,
@@ -107,6 +108,41 @@ fn lone_target(outs: &[Out]) -> Option<Target>
     }
 }
 
+/// The target of the local event that was put out, if nothing else was and nothing is asked of the timer, as mostly.
+#[inline(always)]
+pub(crate) fn lone_of(outbox: &Outbox) -> Option<Target>
+    ensures alone { IfSome result (λ target. outbox.now.outs.items ≡ put_out.Local target ∷ []) }
+    ensures keeps { IfSome result (λ target. outbox.now.timer ≡ Keep) }
+{
+    match outbox.timer {
+        TimerAsk::Keep => lone_target(outbox.outs.as_slice()),
+        _ => None,
+    }
+}
+
+/// Posts the local event that was put out, where nothing else was and nothing is asked of the timer. No `Posting` is made for
+/// it.
+///
+/// # Errors
+/// When memory runs out.
+#[inline(always)]
+pub(crate) fn post_lone(
+    agenda: &mut Agenda,
+    locals: &mut u128,
+    key: &Key,
+    outbox: &mut Outbox,
+    target: Target,
+) -> Result<(), AllocError>
+    requires alone { outbox.old.outs.items ≡ put_out.Local target ∷ [] }
+    requires keeps { outbox.old.timer ≡ Keep }
+    requires room { locals.old < 2 ^ 100 }
+    ensures { OnOk result (IsLone key.now target agenda.old agenda.new locals.old locals.new outbox.old outbox.new) }
+{
+    // Its target was read where it is, as in `post_all`.
+    forget(outbox.outs.pop());
+    post_local(agenda, locals, key, target)
+}
+
 /// Posting what the taking of one event puts out: the system and the key of the event, which stay, and where local
 /// events, messages and counts go.
 #[derive(Drop)]
@@ -121,13 +157,13 @@ pub(crate) struct Posting<'a> {
     /// The count of local events in the tick of the key.
     pub locals: &'a mut u128,
     // The key names a resource of the deployment, its tick is at most 10^12, and each instance has its number.
-    ghost named: { key.now.resource < length (system_of system.now).resource_names },
+    ghost named: { IsResource system.now key.now.resource },
     ghost early: { key.now.tick ≤ 10 ^ 12 },
-    ghost numbered: { (i : ℕ) → i < length (system_of system.now).paths → (system_of system.now).number (path_at (system_of system.now) i) ≡ i },
+    ghost numbered: { (i : ℕ) → IsInstance system.now i → (system_of system.now).number (path_at system.now i) ≡ i },
 }
 
 impl Posting<'_> {
-    ghost use Rattle.fb_resource.specs.Postings.{HasGrown, HasPosted, HasSet, HasSettled, IsEmptied, IsSame, MayPost, system_in};
+    ghost use Rattle.fb_resource.specs.Postings.{HasGrown, HasPosted, HasSet, HasSettled, IsSame, MayPost, system_in};
 
     /// Posts one event that was put out, after all that were posted before.
     ///
@@ -186,25 +222,6 @@ impl Posting<'_> {
         ensures none { OnOk result (outs.new.items ≡ []) }
         ensures same { IsSame self.old self.new }
     {
-        // Mostly one local event was put out. It is read where it is: to move an `Out` is to move as much as a message.
-        if let Some(target) = lone_target(outs.as_slice()) {
-            forget(outs.pop());
-            return self.post_one(Out::Local(target));
-        }
-        self.post_last(outs)
-    }
-
-    /// .. which may be anything: the last apart from those before it.
-    #[inline(always)]
-    fn post_last(&mut self, outs: &mut Vec<Out>) -> Result<(), AllocError>
-        requires may { MayPost self.old }
-        requires outs { All (IsPostable (system_in self.old) self.old.key.now.resource) outs.old.items }
-        requires room { self.old.locals.now + length outs.old.items < 2 ^ 128 }
-        ensures posted { OnOk result (HasPosted self.old outs.old.items self.new) }
-        ensures grown { OnOk result (HasGrown self.old (length outs.old.items) self.new) }
-        ensures none { OnOk result (outs.new.items ≡ []) }
-        ensures same { IsSame self.old self.new }
-    {
         let Some(last) = outs.pop() else {
             return Ok(());
         };
@@ -217,20 +234,37 @@ impl Posting<'_> {
     ///
     /// # Errors
     /// When memory runs out.
-    fn set_timer(&mut self, ask: TimerAsk, event: &Event) -> Result<(), AllocError>
+    #[inline(always)]
+    fn set_timer(&mut self, ask: &TimerAsk, event: &Event) -> Result<(), AllocError>
         requires may { MayPost self.old }
         requires event { IsEventIn self.old.system.now self.old.key.now.resource event.now }
-        requires later { IsLater self.old.key.now.tick ask }
-        ensures set { OnOk result (HasSet self.old ask event.now self.new) }
+        requires later { IsLater self.old.key.now.tick ask.now }
+        ensures set { OnOk result (HasSet self.old ask.now event.now self.new) }
         ensures grown { OnOk result (HasGrown self.old 0 self.new) }
         ensures same { IsSame self.old self.new }
     {
-        // Most reactions ask nothing, and then the instance is not looked up.
-        if let TimerAsk::Keep = ask {
-            return Ok(());
+        // Most reactions ask nothing, and then nothing is called.
+        match ask {
+            TimerAsk::Keep => Ok(()),
+            _ => self.change_timer(ask, event),
         }
+    }
+
+    /// .. whatever it asks.
+    ///
+    /// # Errors
+    /// When memory runs out.
+    #[inline(never)]
+    fn change_timer(&mut self, ask: &TimerAsk, event: &Event) -> Result<(), AllocError>
+        requires may { MayPost self.old }
+        requires event { IsEventIn self.old.system.now self.old.key.now.resource event.now }
+        requires later { IsLater self.old.key.now.tick ask.now }
+        ensures set { OnOk result (HasSet self.old ask.now event.now self.new) }
+        ensures grown { OnOk result (HasGrown self.old 0 self.new) }
+        ensures same { IsSame self.old self.new }
+    {
         let instance = instance_of(self.system, event);
-        self.agenda.set_timer(self.key.resource, instance, ask)
+        self.agenda.set_timer(self.key.resource, instance, *ask)
     }
 
     /// Sets the timer of the instance at which an event came and posts what was put out, as its reaction asks. Of the
@@ -250,7 +284,7 @@ impl Posting<'_> {
         ensures emptied { OnOk result (IsEmptied outbox.old outbox.new) }
         ensures same { IsSame self.old self.new }
     {
-        self.set_timer(outbox.timer, event)?;
+        self.set_timer(&outbox.timer, event)?;
         outbox.timer = TimerAsk::Keep;
         let _count = outbox.outs.len();
         self.post_all(&mut outbox.outs)

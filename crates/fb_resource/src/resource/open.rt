@@ -1,9 +1,10 @@
 //! How a resource begins.
 
-ghost use Rattle.std.specs.Prelude.{◌≡◌, ◌<◌, ℕ, None, Some, length, IfOk};
+ghost use Rattle.std.specs.Prelude.{◌≡◌, ℕ, None, Some, IfOk};
 ghost use Rattle.fb_types.specs.Headline.{stimuli_of, system_of};
 ghost use Rattle.fb_types.specs.Parts.{local_of};
 ghost use Rattle.fb_types.specs.Simulation.{opening};
+ghost use Rattle.fb_types.specs.OfSystem.{IsResource};
 ghost use Rattle.fb_resource.specs.Openings.{IsOpened};
 ghost use Rattle.fb_resource.specs.Resources.{AreOpened, IsFresh, IsOf, Represents};
 
@@ -22,7 +23,7 @@ impl Resource {
         number: u32,
         agenda: Agenda,
     ) -> Result<Resource, AllocError>
-        requires named { number < length (system_of system.now).resource_names }
+        requires named { IsResource system.now number }
         requires agenda { IsOpened system.now (Some number) agenda }
         ensures { IfOk result (IsFresh system.now number) }
     {
@@ -43,7 +44,7 @@ impl Resource {
     /// # Errors
     /// When memory runs out.
     pub fn open(alloc: Global, system: &System, number: u32) -> Result<Resource, AllocError>
-        requires { number < length (system_of system.now).resource_names }
+        requires { IsResource system.now number }
         ensures of { IfOk result (IsOf system.now) }
         ensures opened { IfOk result (λ x. (limit : ℕ) → Represents system.now limit (local_of (system_of system.now) limit number (opening (system_of system.now) (stimuli_of system.now)) None) x) }
         ensures fresh { IfOk result (λ x. (x.tree.resource ≡ number) × (x.clock ≡ 0) × (x.stopped ≡ None)) }

@@ -1,9 +1,8 @@
-use Rattle.std.proofs.Common.{◌≡◌, ◌∷◌, [], length, arith}
-use Rattle.std.proofs.lemmas.Result.{IfOk-weaker}
+use Rattle.std.proofs.Common.{◌≡◌, length, arith}
 use Rattle.fb_types.specs.Headline.{system_of}
 use Rattle.fb_types.specs.Numbers.{path_at, ports_at}
 use Rattle.fb_types.specs.Reactions.{sampled_from}
-use Rattle.fb_net.specs.Samples.{AreSampled, names_in}
+use Rattle.fb_net.specs.Samples.{names_in}
 use Rattle.fb_net.proofs.Reading.{read_all, read_more, sampled_at}
 use Rattle.fb_net.proofs.Sampling.{one-sampled}
 use Rattle.fb_net.proofs.samples.sampled_values.Goals as goal
@@ -18,13 +17,11 @@ returns-clause-sampled c =
 pub returns-in-len1-clause-sampled : goal.returns-in-len1-clause-sampled
 returns-in-len1-clause-sampled c =
     let one : length c.args.indexes.now ≡ 1 = omega (arith, c.in-len1.len_at_least, c.in-len1.len_below) in
-    IfOk-weaker c.from_slice.result (λ values. values ≡ c.sampled-value.result ∷ []) (AreSampled c.args.system.now c.args.forest.now c.args.at)
-    (λ values is. one-sampled c.args.system.now c.args.forest.now c.args.at c.args.indexes.now c.sampled-value.result values c.requires.indexes one c.sampled-value.ensures is)
-    c.from_slice.ensures
+    one-sampled c.args.system.now c.args.forest.now c.args.at c.args.indexes.now c.sampled-value.result.now c.one.result c.requires.indexes one c.sampled-value.ensures c.one.ensures
 
 pub loop-index-preserved : goal.loop-index-preserved
 loop-index-preserved c =
     let i = c.args.system.now in
     let f = c.args.forest.now in
     let k = c.args.at.instance in
-    read_more i f k (sampled_at i f k) c.loop-index.index-index c.args.indexes.now c.loop-index.values c.push.new.self c.sampled.result c.loop-index.invariant c.loop-index-test.true c.in_ok-push.ensures.ok c.sampled.ensures
+    read_more i f k (sampled_at i f k) c.loop-index.index-index c.args.indexes.now c.loop-index.values c.push.new.self c.sampled.result.now c.loop-index.invariant c.loop-index-test.true c.in_ok-push.ensures.ok c.sampled.ensures

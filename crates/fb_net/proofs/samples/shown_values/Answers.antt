@@ -1,9 +1,8 @@
-use Rattle.std.proofs.Common.{◌≡◌, ◌∷◌, [], length, arith}
-use Rattle.std.proofs.lemmas.Result.{IfOk-weaker}
+use Rattle.std.proofs.Common.{◌≡◌, length, arith}
 use Rattle.fb_types.specs.Headline.{system_of}
 use Rattle.fb_types.specs.Numbers.{path_at, ports_at}
 use Rattle.fb_types.specs.Reactions.{from_inside}
-use Rattle.fb_net.specs.Samples.{AreShown, names_out}
+use Rattle.fb_net.specs.Samples.{names_out}
 use Rattle.fb_net.proofs.Reading.{one-shown, read_all, read_more, shown_at}
 use Rattle.fb_net.proofs.samples.shown_values.Goals as goal
 
@@ -18,13 +17,11 @@ pub returns-in-len1-clause-shown : goal.returns-in-len1-clause-shown
 returns-in-len1-clause-shown c =
     let indexes = c.args.indexes.now in
     let one : length indexes ≡ 1 = omega (arith, c.in-len1.len_at_least, c.in-len1.len_below) in
-    IfOk-weaker c.from_slice.result (λ values. values ≡ c.shown_inside-value.result ∷ []) (AreShown c.args.system.now c.args.forest.now c.args.at)
-    (λ values is. one-shown c.args.system.now c.args.forest.now c.args.at indexes c.shown_inside-value.result values c.requires.indexes one c.shown_inside-value.ensures is)
-    c.from_slice.ensures
+    one-shown c.args.system.now c.args.forest.now c.args.at indexes c.shown_inside-value.result.now c.one.result c.requires.indexes one c.shown_inside-value.ensures c.one.ensures
 
 pub loop-index-preserved : goal.loop-index-preserved
 loop-index-preserved c =
     let i = c.args.system.now in
     let f = c.args.forest.now in
     let k = c.args.at.instance in
-    read_more i f k (shown_at i f k) c.loop-index.index-index c.args.indexes.now c.loop-index.values c.push.new.self c.shown_inside.result c.loop-index.invariant c.loop-index-test.true c.in_ok-push.ensures.ok c.shown_inside.ensures
+    read_more i f k (shown_at i f k) c.loop-index.index-index c.args.indexes.now c.loop-index.values c.push.new.self c.shown_inside.result.now c.loop-index.invariant c.loop-index-test.true c.in_ok-push.ensures.ok c.shown_inside.ensures

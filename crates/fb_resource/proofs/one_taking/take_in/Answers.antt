@@ -1,31 +1,25 @@
-use Rattle.std.proofs.Common.{◌≡◌, ◌∙◌, None, Some, Result, Err, ap, subst, sym}
+use Rattle.std.proofs.Common.{◌≡◌, ◌∙◌, None, Some, Result, Err, ap, subst}
 use Rattle.fb_types.specs.declared.run.Halt.{Halt}
 use Rattle.fb_types.specs.declared.run.Halt.TheVariants as halt
-use Rattle.fb_net.specs.Events.{HasTaken, event_in, key_at}
+use Rattle.fb_net.specs.Events.{HasTaken}
 use Rattle.fb_resource.proofs.Alone.{came_alone}
 use Rattle.fb_resource.proofs.one_taking.take_in.Goals as goal
 
-pub take_under-taken-requires-clause-key : goal.take_under-taken-requires-clause-key
-take_under-taken-requires-clause-key c =
-    let arrival = c.arrival_of-arrival in
-    sym (ap (λ r. key_at c.args.key.now.tick r arrival.result) (sym c.requires.key) ∙ arrival.ensures.key)
-
 pub returns-in-Ok-clause-came : goal.returns-in-Ok-clause-came
 returns-in-Ok-clause-came c =
-    let arrival = c.arrival_of-arrival in
-    let key = c.args.key.now in
-    came_alone c.args.system.now key (event_in arrival.result) c.args.event.now c.args.tree.now c.args.outbox.now c.args.left.now None
-    c.take_under-taken.new.self c.take_under-taken.new.meter.left c.take_under-taken.new.outbox arrival.ensures.event
+    let event = c.args.event.now in
+    came_alone c.args.system.now c.args.key.now event c.args.tree.now c.args.outbox.now c.args.left.now None
+    c.take_waiting-taken.new.self c.take_waiting-taken.new.meter.left c.take_waiting-taken.new.outbox
     c.requires.none c.requires.keeps c.in-Ok.ensures.taken
 
 pub returns-in-Err-Stop-clause-came : goal.returns-in-Err-Stop-clause-came
 returns-in-Err-Stop-clause-came c =
-    let arrival = c.arrival_of-arrival in
+    let event = c.args.event.now in
     let key = c.args.key.now in
     let inner = rw c.in-Err-Stop.is at c.in-Err-Stop.field-0-is in
-    let whole : c.take_under-taken.result ≡ Err (halt.Stop c.in-Err-Stop.reason) = c.in-Err-Stop.is ∙ ap Err inner in
-    came_alone c.args.system.now key (event_in arrival.result) c.args.event.now c.args.tree.now c.args.outbox.now c.args.left.now (Some c.in-Err-Stop.reason)
-    c.take_under-taken.new.self c.take_under-taken.new.meter.left c.take_under-taken.new.outbox arrival.ensures.event
+    let whole : c.take_waiting-taken.result ≡ Err (halt.Stop c.in-Err-Stop.reason) = c.in-Err-Stop.is ∙ ap Err inner in
+    came_alone c.args.system.now key event c.args.tree.now c.args.outbox.now c.args.left.now (Some c.in-Err-Stop.reason)
+    c.take_waiting-taken.new.self c.take_waiting-taken.new.meter.left c.take_waiting-taken.new.outbox
     c.requires.none c.requires.keeps
-    (subst (λ (end : Result (Unit {0}) Halt). HasTaken c.args.system.now key (event_in arrival.result) c.args.tree.now c.args.outbox.now c.args.left.now end c.take_under-taken.new.self c.take_under-taken.new.meter.left c.take_under-taken.new.outbox)
-    whole c.take_under-taken.ensures.taken)
+    (subst (λ (end : Result (Unit {0}) Halt). HasTaken c.args.system.now key event c.args.tree.now c.args.outbox.now c.args.left.now end c.take_waiting-taken.new.self c.take_waiting-taken.new.meter.left c.take_waiting-taken.new.outbox)
+    whole c.take_waiting-taken.ensures.taken)

@@ -8,21 +8,13 @@ use Rattle.fb_net.proofs.taking.Taking.emit_basic.Goals as goal
 
 pub emit_with_one-requires-clause-emission : goal.emit_with_one-requires-clause-emission
 emit_with_one-requires-clause-emission c =
-    subst (λ (es : List Emission). All (IsEmission (ports_in c.args.self.now c.args.instance)) es) c.in-Some.ensures.alone c.requires.emissions 0 (record { event = c.in-Some.event; values = c.in-Some.value ∷ [] }) (omega arith)
-
-pub emit_all-requires-clause-emissions : goal.emit_all-requires-clause-emissions
-emit_all-requires-clause-emissions c =
-    subst (λ (es : List Emission). All (IsEmission (ports_in c.args.self.now c.args.instance)) es) (sym c.in-None.ensures.same) c.requires.emissions
+    subst (λ (es : List Emission). All (IsEmission (ports_in c.args.self.now c.args.instance)) es) c.in-Some.ensures c.requires.emissions 0 (record { event = c.in-Some.event; values = c.in-Some.value.now ∷ [] }) (omega arith)
 
 pub returns-in-Some-clause-emitted : goal.returns-in-Some-clause-emitted
 returns-in-Some-clause-emitted c =
     on_ok_weaker c.emit_with_one.result
-    (λ well. subst (λ (es : List Emission). EmitsAll c.args.self.now c.args.instance es c.emit_with_one.new.self) (sym c.in-Some.ensures.alone) well.emitted)
+    (λ well. subst (λ (es : List Emission). EmitsAll c.args.self.now c.args.instance es c.emit_with_one.new.self) (sym c.in-Some.ensures) well.emitted)
     c.emit_with_one.ensures.emitted
 
 pub returns-in-Some-clause-outs : goal.returns-in-Some-clause-outs
 returns-in-Some-clause-outs c = on_ok_weaker c.emit_with_one.result (λ well. well.outs) c.emit_with_one.ensures.emitted
-
-pub returns-in-None-clause-emitted : goal.returns-in-None-clause-emitted
-returns-in-None-clause-emitted c =
-    on_ok_weaker c.emit_all.result (subst (λ (es : List Emission). EmitsAll c.args.self.now c.args.instance es c.emit_all.new.self) c.in-None.ensures.same) c.emit_all.ensures.emitted

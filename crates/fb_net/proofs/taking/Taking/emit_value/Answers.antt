@@ -1,9 +1,13 @@
-use Rattle.std.proofs.Common.{[], ◌∷◌, ◌++◌, ◌∙◌, List, length, ap, refl, arith}
+use Rattle.std.proofs.Common.{◌≡◌, [], ◌∷◌, ◌++◌, ◌∙◌, List, length, map, ap, subst, refl, rules, arith}
+use Rattle.std.proofs.lemmas.Grind.{common_steps}
 use Rattle.fb_types.specs.Headline.{system_of}
+use Rattle.fb_types.specs.Numbers.{carried_of, event_output}
+use Rattle.fb_types.specs.Reactions.{spread}
 use Rattle.fb_types.specs.declared.run.Emission.{Emission}
 use Rattle.fb_types.specs.declared.run.Line.{Line}
 use Rattle.fb_types.specs.declared.value.Value.{Value}
-use Rattle.fb_net.specs.Emitting.{outputs_at, outputs_shown}
+use Rattle.fb_net.specs.Emitting.{carried_by, outputs_at, outputs_shown}
+use Rattle.fb_net.specs.Outs.{out_of}
 use Rattle.fb_net.specs.declared.outbox.Outbox.{Outbox}
 use Rattle.fb_net.proofs.Changing.{changes_as}
 use Rattle.fb_net.proofs.Emitting.{Doing, are_carried, has_emitted, line_by}
@@ -15,7 +19,7 @@ publish-requires-clause-variable c = record { instance = c.requires.index.number
 
 pub send_out-requires-clause-carried : goal.send_out-requires-clause-carried
 send_out-requires-clause-carried c =
-    are_carried (system_of c.args.self.now.system.now) c.args.instance (c.args.variable ∷ []) (c.args.value ∷ []) c.requires.index.number c.requires.indexes.within
+    are_carried (system_of c.args.self.now.system.now) c.args.instance (c.args.variable ∷ []) c.from_ref.result.now c.requires.index.number c.requires.indexes.within
 
 pub returns-clause-emitted : goal.returns-clause-emitted
 returns-clause-emitted c =
@@ -23,21 +27,24 @@ returns-clause-emitted c =
     let sys = system_of i in
     let key = c.args.self.now.key.now in
     let k = c.args.instance in
-    let e : Emission = record { event = c.args.event; values = c.args.value ∷ [] } in
+    let e : Emission = record { event = c.args.event; values = c.args.value.now ∷ [] } in
     let indexes = c.args.variable ∷ [] in
     let f = c.args.self.now.forest.now in
     let g = c.publish.new.self in
     let x = c.args.self.now.outbox.now in
     let y : Outbox = record { lines = c.push_reserved.new.self; outs = c.send_out.new.outs; timer = x.timer } in
+    let one : c.from_ref.result.now ≡ c.args.value.now ∷ [] = first_of (cc, search rules, search (rules, c.from_ref.ensures.value), grind (arith, common_steps)) in
     let done : Doing i key k f x e g y = record {
       indexes = indexes;
       stand = c.requires.indexes;
       published = changes_as (outputs_shown (outputs_at sys k indexes e.values)) c.publish.ensures (λ m. refl);
-      sent = c.in_ok-send_out.ensures.sent;
+      sent = subst
+          (λ (vs : List Value). map (out_of sys) c.send_out.new.outs.items ≡ map (out_of sys) x.outs.items ++ spread sys g.resource (map (carried_of sys) (carried_by k indexes vs)) (sys.targets (event_output sys k e.event)))
+          one c.in_ok-send_out.ensures.sent;
       belong = c.in_ok-send_out.ensures.outs;
       lines =
           c.push_reserved.ensures.items
-          ∙ ap (λ (vs : List Value). c.reserve.new.self.items ++ line_by key k (record { event = c.args.event; values = vs }) ∷ []) c.in_ok-values.ensures
+          ∙ ap (λ (vs : List Value). c.reserve.new.self.items ++ line_by key k (record { event = c.args.event; values = vs }) ∷ []) c.one-values.ensures
           ∙ ap (λ (ls : List Line). ls ++ line_by key k e ∷ []) c.in_ok-reserve.ensures.items;
       timer = refl;
     } in
@@ -46,9 +53,6 @@ returns-clause-emitted c =
 
 pub returns-in_err-send_out-clause-kept : goal.returns-in_err-send_out-clause-kept
 returns-in_err-send_out-clause-kept c = kept-changed c.args.self.now.system.now c.args.self.now.forest.now c.publish.new.self c.args.instance _ c.publish.ensures c.requires.index.here
-
-pub returns-in_err-values-clause-kept : goal.returns-in_err-values-clause-kept
-returns-in_err-values-clause-kept c = kept-changed c.args.self.now.system.now c.args.self.now.forest.now c.publish.new.self c.args.instance _ c.publish.ensures c.requires.index.here
 
 pub returns-in_err-reserve-clause-kept : goal.returns-in_err-reserve-clause-kept
 returns-in_err-reserve-clause-kept c = kept-changed c.args.self.now.system.now c.args.self.now.forest.now c.publish.new.self c.args.instance _ c.publish.ensures c.requires.index.here

@@ -1,21 +1,7 @@
-use Rattle.std.proofs.Common.{◌∷◌, [], List, true, sym, subst}
-use Rattle.std.proofs.lemmas.Result.{on_ok_weaker}
+use Rattle.std.proofs.Common.{true}
 use Rattle.fb_types.specs.Headline.{system_of}
-use Rattle.fb_types.specs.declared.value.Value.{Value}
-use Rattle.fb_system.specs.Lines.{IsEmission}
-use Rattle.fb_net.specs.Steps.{EmitsWell, ports_in}
 use Rattle.fb_net.proofs.PortRows.{one_with}
 use Rattle.fb_net.proofs.taking.Taking.emit_with_one.Goals as goal
 
 pub emit_value-requires-clause-indexes : goal.emit_value-requires-clause-indexes
 emit_value-requires-clause-indexes c = (one_with (system_of c.args.self.now.system.now) (record { instance = c.args.instance; event = c.args.event; is_output = true }) c.in-Some.port.now.with _ _ c.in-One.is c.in-Some.ensures.with).indexes
-
-pub emit_by_tables-requires-clause-emission : goal.emit_by_tables-requires-clause-emission
-emit_by_tables-requires-clause-emission c =
-    subst (λ (vs : List Value). IsEmission (ports_in c.args.self.now c.args.instance) (record { event = c.args.event; values = vs })) (sym c.one-values.ensures) c.requires.emission
-
-pub returns-clause-emitted : goal.returns-clause-emitted
-returns-clause-emitted c =
-    on_ok_weaker c.emit_by_tables.result
-    (subst (λ (vs : List Value). EmitsWell c.args.self.now c.args.instance (record { event = c.args.event; values = vs } ∷ []) c.emit_by_tables.new.self) c.one-values.ensures)
-    c.emit_by_tables.ensures.emitted

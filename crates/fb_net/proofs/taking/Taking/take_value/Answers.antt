@@ -27,7 +27,7 @@ write_taken-requires-clause-line c =
       instance = c.requires.index.port.instance;
       resource = c.args.self.now.named;
       event = subst (λ b. c.args.at.event < length (cond b its.event_outputs its.event_inputs)) c.requires.input c.requires.index.port.event;
-      values = ap length c.in_ok-values.ensures ∙ ap length c.requires.represents.named;
+      values = ap length c.one-values.ensures ∙ ap length c.requires.represents.named;
     }
 
 pub returns-clause-taken : goal.returns-clause-taken
@@ -37,9 +37,9 @@ returns-clause-taken c =
     let at = c.args.at in
     let f = c.args.self.now.forest.now in
     let g = c.set_input.new.self in
-    let value = c.sampled_from-value.result in
-    let values = c.in_ok-values.values in
-    let is = c.in_ok-values.ensures in
+    let value = c.sampled_from-value.result.now in
+    let values = c.one-values.result in
+    let is = c.one-values.ensures in
     let name = variable_at (ports_at sys (path_at sys at.instance)).inputs in
     let by_name = subst (λ (ns : List Name). Changes i f at.instance (all_sampled ns (value ∷ [])) g) c.requires.represents.named
     (changes_as (all_sampled (map name (c.args.variable ∷ [])) (value ∷ [])) c.set_input.ensures (λ m. refl)) in
@@ -49,10 +49,6 @@ returns-clause-taken c =
     (λ written. sampling-represents i c.args.self.now.key.now at f g c.args.self.now.outbox.now c.write_taken.new.outbox values
     c.requires.index.ready c.requires.input c.requires.index.here sampled changes written c.write_taken.ensures.outs c.write_taken.ensures.timer)
     c.write_taken.ensures.written
-
-pub returns-in_err-values-clause-kept : goal.returns-in_err-values-clause-kept
-returns-in_err-values-clause-kept c =
-    kept-changed c.args.self.now.system.now c.args.self.now.forest.now c.set_input.new.self c.args.at.instance _ c.set_input.ensures c.requires.index.here
 
 pub returns-clause-kept : goal.returns-clause-kept
 returns-clause-kept c =
