@@ -24,3 +24,5 @@ mod Simulations
 pub mod TakenIs
 pub mod Texts
 pub mod WindowIs
+pub mod Weaving
+pub mod HandedOut

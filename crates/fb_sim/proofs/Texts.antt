@@ -1,15 +1,24 @@
 -- The text of a trace that is written piece by piece, with the counts of its bytes.
-use Rattle.std.proofs.Common.{◌≡◌, ℕ, zero, suc, ◌+◌, ◌<◌, List, [], ◌∷◌, ◌++◌, map, length, take, Option, refl, sym, ap, ◌∙◌, subst, arith, append_assoc, length-append}
+use Rattle.std.proofs.Common.{◌≡◌, ℕ, zero, suc, ◌+◌, ◌^◌, ◌<◌, List, [], ◌∷◌, ◌++◌, map, length, take, Option, refl, sym, ap, ap₂, ◌∙◌, subst, arith, append_assoc, length-append}
+use native.Mathlib.Nat.{le_refl}
+use denote.RawPtr.{null_ptr}
+use Rattle.std.specs.Global.{Global, Vec}
 use Rattle.std.specs.Io.KnownBytes.{Appends}
 use Rattle.std.proofs.KnownBytes.{Appends-trans}
 use Rattle.std.proofs.lemmas.List.{map-append}
+use Rattle.std.proofs.lemmas.List.Sorted.{length_permutation}
+use Rattle.fb_types.specs.Headline.{Inputs, system_of}
 use Rattle.fb_types.specs.Numbers.{line_of}
 use Rattle.fb_types.specs.Systems.{System}
 use Rattle.fb_types.specs.States.{Line}
 use Rattle.fb_types.specs.Text.{line_text, lines_text}
 use Rattle.fb_types.specs.declared.run.Form.{Form}
 use Rattle.fb_types.specs.declared.run.Line as run
+use Rattle.fb_trace.specs.Merging.{Lists, flat}
 use Rattle.fb_trace.specs.Progress.{IsPartWritten, bounded}
+use Rattle.fb_window.specs.Settling.{IsMerged}
+use Rattle.fb_sim.specs.Weaving.{AreDivided, IsWovenText}
+use Rattle.fb_sim.proofs.Weaving.{woven_joined, woven_merged}
 
 -- the text of lines, and then of more lines
 pub lines_text-append : (form : Form) (sys : System) (ks ls : List Line) → lines_text form sys (ks ++ ls) ≡ lines_text form sys ks ++ lines_text form sys ls
@@ -25,6 +34,34 @@ parts_text form sys xs ys zs e =
     sym (lines_text-append form sys (map (line_of sys) xs) (map (line_of sys) ys))
     ∙ ap (lines_text form sys) (sym (map-append (line_of sys) xs ys))
     ∙ ap (λ (ls : List run.Line). lines_text form sys (map (line_of sys) ls)) (sym e)
+
+-- the text of some lines, and then of more
+pub text_more : (form : Form) (sys : System) (old mid new : List ℕ) (xs ys : List run.Line) → mid ≡ old ++ lines_text form sys (map (line_of sys) xs)
+    → new ≡ mid ++ lines_text form sys (map (line_of sys) ys) → new ≡ old ++ lines_text form sys (map (line_of sys) (xs ++ ys))
+text_more form sys old mid new xs ys e f =
+    f ∙ ap (λ z. z ++ lines_text form sys (map (line_of sys) ys)) e ∙ append_assoc old (lines_text form sys (map (line_of sys) xs)) (lines_text form sys (map (line_of sys) ys))
+    ∙ ap (λ z. old ++ z) (parts_text form sys xs ys (xs ++ ys) refl)
+
+-- the texts of two parts of lists, one after the other
+pub woven_text-joined : (i : Inputs) (form : Form) (lists firsts lasts : List (List run.Line)) → AreDivided lists firsts lasts → (x y : List ℕ)
+    → IsWovenText i form firsts x → IsWovenText i form lasts y → IsWovenText i form lists (x ++ y)
+woven_text-joined i form lists firsts lasts cut x y a b = record {
+  all = a.all ++ b.all;
+  woven = woven_joined lists firsts lasts cut a.all b.all a.woven b.woven;
+  is = ap₂ ◌++◌ a.is b.is ∙ parts_text form (system_of i) a.all b.all (a.all ++ b.all) refl;
+}
+
+-- a list of these lines
+abbrev pub vec_of : Global → (xs : List run.Line) → length xs < 2 ^ 63 → Vec run.Line
+vec_of heap xs small = record { ptr = null_ptr; len = length xs; cap = length xs; alloc = heap; items = xs; ok = (refl, le_refl (length xs)); small = small }
+
+-- the lines that a text of this many lines is of
+pub handed : (i : Inputs) (form : Form) (heap : Global) (lists : Lists) (count : ℕ) (text : List ℕ) → IsWovenText i form (map (λ v. v.items) lists) text
+    → count < 10 ^ 12 → count ≡ length (flat lists) → (all : Vec run.Line) × IsMerged lists all.items × (text ≡ lines_text form (system_of i) (map (line_of (system_of i)) all.items)) × (count ≡ length all.items)
+handed i form heap lists count text t few counted =
+    let m = woven_merged lists t.all t.woven in
+    let long : length (flat lists) ≡ length t.all = sym (length_permutation (flat lists) t.all m.moved) in
+    (vec_of heap t.all (omega (arith, few, counted, long)), m, t.is, counted ∙ long)
 
 -- ---- What is taken of two texts
 

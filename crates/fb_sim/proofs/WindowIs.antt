@@ -1,5 +1,6 @@
 -- From what the calls of a round say of each other's values to what the round hands out.
-use Rattle.std.proofs.Common.{◌≡◌, ℕ, List, ◌++◌, map, length, Option, Result, Ok, Err, sym, ap, ap₂, ◌∙◌, subst}
+use Rattle.std.proofs.Common.{◌≡◌, ℕ, List, ◌++◌, map, length, Option, Result, Ok, Err, refl, sym, ap, ap₂, ◌∙◌, subst, ⊎_elim}
+use Rattle.std.specs.Global.{Vec}
 use Rattle.std.specs.Prelude.{All}
 use Rattle.std.proofs.lemmas.List.{length-map}
 use Rattle.std.specs.List.{AllZip}
@@ -17,6 +18,7 @@ use Rattle.fb_laws.specs.Sound.{AreGood}
 use Rattle.fb_system.specs.Lines.{BelongsTo}
 use Rattle.fb_resource.specs.declared.resource.Resource.{Resource}
 use Rattle.fb_resource.specs.declared.resource.WindowDone.{WindowDone}
+use Rattle.fb_trace.specs.Merging.{Lists}
 use Rattle.fb_trace.specs.Progress.{IsPartWritten, bounded}
 use Rattle.fb_window.specs.Bounding.{AreGreatest}
 use Rattle.fb_laws.specs.Finality.{core_of}
@@ -24,14 +26,16 @@ use Rattle.fb_window.specs.Jobs.{Does, JobModel, jobs_of}
 use Rattle.fb_window.specs.Reached.{KeepHorizon}
 use Rattle.fb_window.specs.Reaching.{OfEachCore}
 use Rattle.fb_window.specs.Leaving.{AreLegal, HasLeft}
-use Rattle.fb_window.specs.Settling.{Settles, lists_of}
+use Rattle.fb_window.specs.Settling.{IsMerged, Settles, lists_of, settled_of}
 use Rattle.fb_window.specs.Standing.{IsAt}
 use Rattle.fb_window.specs.Walking.{Walks, after_walk}
 use Rattle.fb_window.specs.declared.cores.AwayState.{AwayState}
 use Rattle.fb_window.specs.declared.cores.CoreState.{CoreState}
+use Rattle.fb_window.specs.declared.cores.Reach.{Reach}
+use Rattle.fb_window.specs.declared.cores.Reach.TheVariants as reach
 use Rattle.fb_window.specs.declared.cores.Settled.{Settled}
 use Rattle.fb_window.specs.declared.cores.Settled.TheVariants as settled
-use Rattle.fb_sim.specs.Rounds.{Begin, RoundsWithCounts, HasCome, HasWalked, IsAfter, IsHomeAgain, IsHomeOnce, IsOnItsWay, Rounds, WritesPartOf, lines_out, round_of, text_of}
+use Rattle.fb_sim.specs.Rounds.{Begin, FailsToHandOut, HandsOut, RoundsWithCounts, HasCome, HasWalked, IsAfter, IsHomeAgain, IsHomeOnce, IsOnItsWay, Rounds, WritesPartOf, lines_out, round_of, text_of}
 use Rattle.fb_sim.specs.declared.options.Options.{Options}
 use Rattle.fb_sim.specs.declared.outcome.RunError.{RunError}
 use Rattle.fb_sim.specs.declared.outcome.RunError.TheVariants.{Refused, Memory, Write, BadOption, Failed}
@@ -186,6 +190,32 @@ module _ (i : Inputs) (o : Options) (c : model_cores.Core (machine (system_of i)
   pub counted_passed : (r : Result (Round × Tally) RunError) (e : RunError) → IsErrAnd r (λ f. f ≡ e) → RoundsWithCounts i o c ls old new (Err e) → RoundsWithCounts i o c ls old new r
   counted_passed (Ok x) e bad h = absurd bad
   counted_passed (Err f) e is h = subst (λ (x : RunError). RoundsWithCounts i o c ls old new (Err x)) (sym is) h
+
+  -- what is known whatever list all lines of the lists become
+  abbrev Homes : Reach → Lists → Type 0
+  Homes r lists = (all : Vec run.Line) → IsMerged lists all.items → IsHomeAgain i o.steps o.horizon c ls (settled_of r all)
+
+  out_same : (r : Reach) (all : Vec run.Line) → lines_out (settled_of r all) ≡ all.items
+  out_same (reach.Going core) all = refl
+  out_same (reach.Ended core) all = refl
+  out_same (reach.Stopped mark) all = refl
+
+  pub apart_whole : (r : Reach) (lists : Lists) (round : Round) (n : Tally) → ((all : Vec run.Line) → round ≡ round_of (settled_of r all)) → Homes r lists
+      → HandsOut i o.form lists old new n.bytes n.final_lines → RoundsWithCounts i o c ls old new (Ok (round, n))
+  apart_whole r lists round n is home h =
+      let s = settled_of r h.all in
+      let same = sym (out_same r h.all) in
+      subst (λ (x : Round). RoundsWithCounts i o c ls old new (Ok (x, n))) (sym (is h.all))
+      (counted_whole s n (home h.all h.merged) (subst (λ (xs : List run.Line). Appends old new (text_of i o.form (map (line_of (system_of i)) xs))) same h.got)
+      (subst (λ (xs : List run.Line). n.bytes ≡ bounded (length (text_of i o.form (map (line_of (system_of i)) xs)))) same h.counted) (h.lined ∙ ap length same))
+
+  pub apart_failed : AreGood i → (r : Reach) (lists : Lists) (e : RunError) → Homes r lists → FailsToHandOut i o.form lists old new e → RoundsWithCounts i o c ls old new (Err e)
+  apart_failed good r lists e home h =
+      ⊎_elim (λ m. counted_out_of_memory e m.0 m.1)
+      (λ p.
+      counted_failed good (settled_of r p.all) e (home p.all p.merged)
+      (subst (λ (xs : List run.Line). WritesPartOf old new (text_of i o.form (map (line_of (system_of i)) xs)) e) (sym (out_same r p.all)) p.part))
+      h
 
 -- What one round has written: the text of its lines, or a part of it.
 module _ (i : Inputs) (o : Options) (es : List (CoreStep (machine (system_of i) o.steps))) (ls : List Line) (old new : Option (List ℕ)) where

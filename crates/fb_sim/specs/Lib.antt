@@ -11,3 +11,4 @@ pub mod Rounds
 pub mod Sessions
 pub mod Advances
 pub mod Reports
+pub mod Weaving

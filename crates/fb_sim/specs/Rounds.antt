@@ -1,5 +1,6 @@
 -- A run with workers, round after round (this project's profile).
 use Rattle.std.specs.Prelude.{◌≡◌, ◌⊎◌, ◌+◌, ◌<◌, ℕ, List, ◌++◌, map, length, All, Option, Result, Ok, Err}
+use Rattle.std.specs.Global.{Vec}
 use Rattle.std.specs.Io.KnownBytes.{Appends}
 use Rattle.fb_types.specs.Headline.{Inputs, system_of, stimuli_of}
 use Rattle.fb_types.specs.Simulation.{Taken, IsSimulation, Ending, AtHorizon, AtStop, ending_of, lines_of}
@@ -14,11 +15,12 @@ use Rattle.fb_types.specs.declared.run.Form.{Form}
 use Rattle.fb_types.specs.declared.run.Line as run
 use Rattle.fb_types.specs.declared.value.Reason.{Reason}
 use Rattle.fb_system.specs.Lines.{BelongsTo}
+use Rattle.fb_trace.specs.Merging.{Lists}
 use Rattle.fb_trace.specs.Progress.{IsPartWritten, bounded}
 use Rattle.fb_laws.specs.Finality.{HasKept, core_of}
 use Rattle.fb_laws.specs.Phases.{Turn, IsPhase}
 use Rattle.fb_window.specs.Bounding.{AreGreatest}
-use Rattle.fb_window.specs.Settling.{AreTurns, IsUnderWay, after_phase, lists_of}
+use Rattle.fb_window.specs.Settling.{AreTurns, IsMerged, IsUnderWay, after_phase, lists_of}
 use Rattle.fb_window.specs.Standing.{IsAt}
 use Rattle.fb_window.specs.declared.cores.CoreState.{CoreState}
 use Rattle.fb_window.specs.declared.cores.Settled.{Settled}
@@ -228,6 +230,24 @@ FailsRun given o old new Memory = (AreWithin o × (new ≡ old)) ⊎ WritesFront
 FailsRun given o old new Failed = ⊥
 
 -- ---- Inside a round
+
+-- The writer got all lines of the lists in the order of the trace: this many bytes and lines.
+pub record HandsOut (i : Inputs) (form : Form) (lists : Lists) (old new : Option (List ℕ)) (bytes lines : ℕ) : Type 0 where
+  pub all : Vec run.Line
+  pub merged : IsMerged lists all.items
+  pub got : Appends old new (text_of i form (map (line_of (system_of i)) all.items))
+  pub counted : bytes ≡ bounded (length (text_of i form (map (line_of (system_of i)) all.items)))
+  pub lined : lines ≡ length all.items
+
+-- The writer failed, and got a part of them.
+pub record HandsPart (i : Inputs) (form : Form) (lists : Lists) (old new : Option (List ℕ)) (e : RunError) : Type 0 where
+  pub all : Vec run.Line
+  pub merged : IsMerged lists all.items
+  pub part : WritesPartOf old new (text_of i form (map (line_of (system_of i)) all.items)) e
+
+-- Memory ran out before the first byte, or the writer failed.
+abbrev pub FailsToHandOut : (i : Inputs) (form : Form) (lists : Lists) (old new : Option (List ℕ)) → RunError → Type 0
+FailsToHandOut i form lists old new e = ((e ≡ Memory) × (new ≡ old)) ⊎ HandsPart i form lists old new e
 
 -- the round as it ends, and the lines to be written in it
 abbrev pub round_of : Settled → Round

@@ -5,8 +5,8 @@
 //! reports the progress of a run. This crate has no rule about simulation.
 //!
 //! Read in this order: `options` and `outcome`; `reading`, the steps before a run; `serial` with `one_agenda`, a run on one
-//! thread. A run with workers: `runs` with `trial`, `drive` and `rounds`; `pace`, `progress`, `tally`, `work` and
-//! `printing`. Then `simulation` and `state`; `with_progress`, a run that reports its progress.
+//! thread. A run with workers: `runs` with `trial`, `drive` and `rounds`; `pace`, `progress`, `tally`, `work`,
+//! `printing` and `weave`. Then `simulation` and `state`; `with_progress`, a run that reports its progress.
 #![tactic(auto)]
 
 mod drive;
@@ -24,6 +24,7 @@ pub mod simulation;
 pub mod state;
 mod tally;
 mod trial;
+mod weave;
 pub mod with_progress;
 mod work;
 

@@ -8,10 +8,11 @@
 //! beginning; then the run itself, below.
 
 ghost use Rattle.std.specs.Prelude.{◌≡◌, [], IfOk, IfErr, Err};
-ghost use Rattle.fb_types.specs.Headline.{system_of, stimuli_of};
-ghost use Rattle.fb_types.specs.Simulation.{opening_agenda, opening_state};
+ghost use Rattle.fb_types.specs.Headline.{stimuli_of};
+ghost use Rattle.fb_types.specs.OfSystem.{opening_agenda, opening_state};
 ghost use Rattle.fb_sim.specs.Machines.{IsAt, IsReady};
-ghost use Rattle.fb_trace.specs.End.{EndsIn, ending_of};
+ghost use Rattle.fb_trace.specs.End.{ending_of};
+ghost use Rattle.fb_trace.specs.OfSystem.{EndsIn};
 ghost use Rattle.fb_sim.specs.Given.{Given};
 ghost use Rattle.fb_sim.specs.OneAgenda.{RunsThrough};
 ghost use Rattle.fb_sim.specs.Rounds.{FailsRun, RunsOn};
@@ -51,9 +52,9 @@ fn run_through<W: Write>(
 ) -> Result<(Outcome, u128), RunError>
     requires options { AreWithin options }
     requires ready { IsReady system.now options.steps 0 machine.old }
-    requires at { IsAt system.now (opening_state (system_of system.now)) (opening_agenda (system_of system.now) (stimuli_of system.now)) machine.old }
+    requires at { IsAt system.now (opening_state system.now) (opening_agenda system.now (stimuli_of system.now)) machine.old }
     requires none { machine.old.given.outbox.lines.items ≡ [] }
-    ensures ends { IfOk result (λ r. EndsIn (system_of system.now) r.0) }
+    ensures ends { IfOk result (λ r. EndsIn system.now r.0) }
     ensures ran { IfOk result (λ r. RunsThrough system.now options (W.contents out.old) (W.contents out.new) (ending_of r.0) r.1) }
     ensures failed { IfErr result (λ e. RunsOn system.now options [] (W.contents out.old) (W.contents out.new) (Err e)) }
 {

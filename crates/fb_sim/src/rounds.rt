@@ -5,18 +5,19 @@
 //! single resources before the window, a cap and a number of workers that depend on the round before, and no board with
 //! one worker. Both write the same lines.
 
+ghost use Rattle.std.specs.Global.{Vec};
 ghost use Rattle.std.specs.Prelude.{◌≡◌, ◌≤◌, List, map, length, vec_len, All, IfOk, IfErr};
 ghost use Rattle.std.specs.Io.KnownBytes.{Appends};
 ghost use Rattle.std.specs.List.{AllZip};
-ghost use Rattle.fb_types.specs.Headline.{system_of};
-ghost use Rattle.fb_types.specs.Numbers.{line_of};
 ghost use Rattle.fb_types.specs.States as model;
-ghost use Rattle.fb_types.specs.Text.{lines_text};
-ghost use Rattle.fb_system.specs.Lines.{BelongsTo};
+ghost use Rattle.fb_types.specs.declared.run.Line.{Line};
+ghost use Rattle.fb_types.specs.OfSystem.{line_of, lines_text};
 ghost use Rattle.fb_trace.specs.Progress.{bounded};
 ghost use Rattle.fb_laws.specs.Finality.{core_of};
+ghost use Rattle.fb_system.specs.OfSystem.{BelongsTo};
 ghost use Rattle.fb_window.specs.Jobs.{Does};
 ghost use Rattle.fb_window.specs.Reached.{KeepHorizon};
+ghost use Rattle.fb_window.specs.Settling.{IsMerged, settled_of};
 ghost use Rattle.fb_sim.specs.Serial.{AreWithin};
 ghost use Rattle.fb_sim.specs.Rounds as spec;
 ghost use Rattle.fb_sim.specs.Rounds.{RoundsWithCounts, HasCome, HasWalked, IsHomeAgain, IsHomeOnce, IsOnItsWay, Rounds, WritesPartOf, lines_out};
@@ -24,7 +25,7 @@ ghost use Rattle.fb_sim.specs.declared.outcome.RunError.TheVariants.{Memory};
 
 use crate::options::Options;
 use crate::outcome::RunError;
-use crate::printing::hand_out_by;
+use crate::printing::hand_out_apart;
 use crate::progress::Round;
 use crate::tally::{LONGEST_WINDOW, RoundPlan, Tally};
 use crate::work::Windows;
@@ -33,7 +34,7 @@ use fb_resource::WindowDone;
 use fb_system::System;
 use fb_trace::write_lines_with_count;
 use fb_types::{Form, Line};
-use fb_window::{Core, Job, Settled};
+use fb_window::{Core, Job, Reach, Settled};
 use std::alloc::{AllocError, Global};
 use std::io::Write;
 use std::sync::Wait;
@@ -123,8 +124,21 @@ fn walked(alloc: Global, system: &System, core: Core, plan: RoundPlan) -> Result
     Ok(core.walk(alloc, system, plan.options.horizon, plan.turns)?)
 }
 
+/// What became of a window.
+#[derive(Drop)]
+struct WindowResult {
+    /// How far the run is.
+    reach: Reach,
+    /// For each resource its lines that have become final.
+    finals: Vec<Vec<Line>>,
+    /// How many resources had something to do.
+    busy: usize,
+    /// How many lines they gave.
+    lines: usize,
+}
+
 /// Runs each resource to its bound, with the workers, and puts all back together. A bound is at most this many ticks past
-/// the least event. The answer has the count of resources that had something to do, and of the lines that they gave.
+/// the least event.
 fn window<R: Threads + Wait + Sync, P: Gate>(
     rt: &R,
     alloc: Global,
@@ -133,12 +147,14 @@ fn window<R: Threads + Wait + Sync, P: Gate>(
     options: Options,
     ticks: u64,
     gate: &P,
-) -> Result<(Settled, usize, usize), RunError>
+) -> Result<WindowResult, RunError>
     requires options { AreWithin options }
     requires ticks { 1 ≤ ticks }
     requires come { (ls : List model.Line) × IsOnItsWay system.now options.steps options.horizon core ls }
     ensures home { (ls : List model.Line) (way : IsOnItsWay system.now options.steps options.horizon core ls)
-        → IfOk result (λ r. IsHomeAgain system.now options.steps options.horizon (core_of system.now options.steps way.steps) ls r.0) }
+        → IfOk result (λ r. (all : Vec Line) → IsMerged r.finals.items all.items
+        → IsHomeAgain system.now options.steps options.horizon (core_of system.now options.steps way.steps) ls (settled_of r.reach all)) }
+    ensures belong { IfOk result (λ r. All (λ p. All (BelongsTo system.now) p.items) r.finals.items) }
     ensures memory { IfErr result (λ e. e ≡ Memory) }
 {
     system.facts();
@@ -148,8 +164,13 @@ fn window<R: Threads + Wait + Sync, P: Gate>(
     let workers = workers_for(busy, options.workers);
     let dones = run_jobs(rt, alloc, jobs, workers, gate)?;
     let lines = lines_in(dones.as_slice());
-    let settled = away.settle(alloc, system, dones)?;
-    Ok((settled, busy, lines))
+    let (reach, finals) = away.settle_apart(alloc, system, dones)?;
+    Ok(WindowResult {
+        reach,
+        finals,
+        busy,
+        lines,
+    })
 }
 
 /// The lines that must be written.
@@ -174,6 +195,17 @@ fn round_of(settled: Settled) -> Round
     }
 }
 
+/// The progress of the run, where its lines are apart.
+fn round_at(reach: Reach) -> Round
+    ensures { (all : Vec Line) → result ≡ spec.round_of (settled_of reach all) }
+{
+    match reach {
+        Reach::Going(core) => Round::Going(core),
+        Reach::Ended(core) => Round::Ended(core),
+        Reach::Stopped(mark) => Round::Stopped(mark),
+    }
+}
+
 /// Writes lines, and answers how many bytes they have.
 pub(crate) fn hand_out<W: Write>(
     out: &mut W,
@@ -181,11 +213,10 @@ pub(crate) fn hand_out<W: Write>(
     form: Form,
     lines: &[Line],
 ) -> Result<u128, RunError>
-    requires { All (BelongsTo (system_of system.now)) lines.now }
-    ensures whole { IfOk result (λ n. let sys = system_of system.now in let text = lines_text form sys (map (line_of sys) lines.now) in
+    requires { All (BelongsTo system.now) lines.now }
+    ensures whole { IfOk result (λ n. let text = lines_text form system.now (map (line_of system.now) lines.now) in
         Appends (W.contents out.old) (W.contents out.new) text × (n ≡ bounded (length text))) }
-    ensures part { IfErr result (λ e. let sys = system_of system.now in
-        WritesPartOf (W.contents out.old) (W.contents out.new) (lines_text form sys (map (line_of sys) lines.now)) e) }
+    ensures part { IfErr result (λ e. WritesPartOf (W.contents out.old) (W.contents out.new) (lines_text form system.now (map (line_of system.now) lines.now)) e) }
 {
     match write_lines_with_count(out, system, form, lines) {
         Ok(count) => Ok(count),
@@ -211,18 +242,20 @@ pub(crate) fn round_with_counts<R: Threads + Wait + Sync, W: Write, P: Gate>(
 {
     system.facts();
     let core = walked(alloc, system, core, plan)?;
-    let (settled, busy, lines) = window(rt, alloc, system, core, plan.options, plan.ticks, gate)?;
-    let finals = lines_of(&settled);
-    let final_lines = finals.len() as u128;
-    let Options { form, workers, .. } = plan.options;
-    let bytes = hand_out_by(rt, alloc, out, system, form, finals, workers as usize)?;
+    let WindowResult {
+        reach,
+        finals,
+        busy,
+        lines,
+    } = window(rt, alloc, system, core, plan.options, plan.ticks, gate)?;
+    let (bytes, final_lines) = hand_out_apart(rt, alloc, out, system, plan.options, finals)?;
     let tally = Tally {
         bytes,
         busy,
         lines,
         final_lines,
     };
-    Ok((round_of(settled), tally))
+    Ok((round_at(reach), tally))
 }
 
 /// One phase and one exchange: each resource that has not stopped runs to its greatest legal bound, at most 1,024 ticks
@@ -241,7 +274,7 @@ fn one_phase<R: Threads + Wait + Sync, P: Gate>(
     requires clocks { KeepHorizon options.horizon core.resources.items }
     ensures home { (ls : List model.Line) (way : IsOnItsWay system.now options.steps options.horizon core ls)
         → IfOk result (IsHomeOnce system.now options.steps options.horizon 1024 way.steps ls) }
-    ensures belong { IfOk result (λ s. All (BelongsTo (system_of system.now)) (lines_out s)) }
+    ensures belong { IfOk result (λ s. All (BelongsTo system.now) (lines_out s)) }
     ensures memory { IfErr result (λ e. e ≡ Memory) }
 {
     system.facts();

@@ -2,9 +2,9 @@
 
 ghost use Rattle.std.specs.Prelude.{◌^◌, ◌≤◌, ℕ, [], IfOk, IfErr, OnOk};
 ghost use Rattle.std.specs.Io.KnownBytes.{Appends};
-ghost use Rattle.fb_types.specs.Headline.{system_of};
-ghost use Rattle.fb_types.specs.Text.{last_line};
-ghost use Rattle.fb_trace.specs.End.{EndsIn, ending_of};
+ghost use Rattle.fb_types.specs.OfSystem.{last_line};
+ghost use Rattle.fb_trace.specs.End.{ending_of};
+ghost use Rattle.fb_trace.specs.OfSystem.{EndsIn};
 ghost use Rattle.fb_sim.specs.Given.{Given};
 ghost use Rattle.fb_sim.specs.Serial.{AreWithin, Declares, Writes};
 ghost use Rattle.fb_sim.specs.Rounds.{FailsRun, HasCome, IsShort};
@@ -27,12 +27,23 @@ use std::sync::Wait;
 use std::thread::Threads;
 use std::time::{Clock, CpuClock};
 
+/// This many bytes are as many as a round with workers frees on one thread, and more.
+const FREED: usize = 4_194_304;
+
+/// Lets the C library keep what a round frees for the next one. It gives freed memory back to the system, which clears
+/// each page that it hands out again, unless it is less than twice the largest block that was freed.
+fn keep_freed_memory(alloc: Global) {
+    let block: Result<Vec<u8>, AllocError> = Vec::with_capacity(alloc, FREED);
+    drop(block);
+}
+
 /// The core of a system before the first event.
 pub fn open_core(alloc: Global, system: &System, steps: u64) -> Result<Core, AllocError>
     requires some { 1 ≤ steps }
     requires few { steps ≤ 10 ^ 7 }
     ensures { IfOk result (λ c. (horizon : ℕ) → HasCome system.now steps horizon c []) }
 {
+    keep_freed_memory(alloc);
     let resources = Resource::open_all(alloc, system)?;
     Core::open(alloc, system, resources, steps)
 }
@@ -44,9 +55,9 @@ pub(crate) fn close<W: Write>(
     end: Outcome,
     written: u128,
 ) -> Result<(), RunError>
-    requires { EndsIn (system_of system.now) end }
-    ensures whole { OnOk result (Appends (W.contents out.old) (W.contents out.new) (last_line (system_of system.now) (ending_of end))) }
-    ensures part { IfErr result (IsShort (W.contents out.old) (W.contents out.new) (last_line (system_of system.now) (ending_of end)) written) }
+    requires { EndsIn system.now end }
+    ensures whole { OnOk result (Appends (W.contents out.old) (W.contents out.new) (last_line system.now (ending_of end))) }
+    ensures part { IfErr result (IsShort (W.contents out.old) (W.contents out.new) (last_line system.now (ending_of end)) written) }
 {
     match write_last(out, system, end) {
         Ok(()) => Ok(()),

@@ -65,7 +65,7 @@ use Rattle.fb_window.proofs.Turns.{AreBack, are_back, back_turns}
 use Rattle.fb_laws.proofs.Lines.{merge_same}
 
 -- What is found when all have come home.
-pub record HasFound (i : Inputs) (horizon : ℕ) (h : Home) (zs : List Resource) (fronts rests : List (Vec Line)) (out : List Line) (end : End) : Type 0 where
+pub record HasFound (i : Inputs) (horizon : ℕ) (h : Home) (zs : List Resource) (fronts rests : List (Vec Line)) (end : End) : Type 0 where
   pub least : ℕ
   pub edge : Edge
   pub posted : ArePosted (system_of i) (all_of h.outboxes.items) h.resources.items zs
@@ -74,22 +74,17 @@ pub record HasFound (i : Inputs) (horizon : ℕ) (h : Home) (zs : List Resource)
   pub there : least < horizon → (r : ℕ) × (x : Resource) × (slice_get zs r ≡ Some x) × IsNext x.agenda least
   pub frontier : IsFrontier least zs edge
   pub cut : AreCut edge h.pending.items fronts rests
-  pub merged : AreRising fronts → AreMerged fronts out
   pub ends : IsEnd horizon zs end
 
 pub schedule_rest : (M : Machine) (horizon : ℕ) (es fs : List (CoreStep M)) (c : Core M) → IsSchedule M horizon c (es ++ fs) → IsSchedule M horizon (core_after M c es) fs
 schedule_rest M horizon [] fs c x = x
 schedule_rest M horizon (e ∷ es) fs c x = schedule_rest M horizon es fs _ x.1
 
-merge_as : (i : Inputs) (limit count : ℕ) (lists : ℕ → List model.Line) (ls : List model.Line) (out news : List Line) → news ≡ out
-    → IsMerge (machine (system_of i) limit) count lists (ls ++ map (line_of (system_of i)) out) → IsMerge (machine (system_of i) limit) count lists (ls ++ map (line_of (system_of i)) news)
-merge_as i limit count lists ls out news e h = subst (λ (z : List Line). IsMerge (machine (system_of i) limit) count lists (ls ++ map (line_of (system_of i)) z)) (sym e) h
-
 module _ (i : Inputs) (good : AreGood i) (limit horizon : ℕ) (es : List (CoreStep (machine (system_of i) limit)))
     (sc : IsSchedule (machine (system_of i) limit) horizon (opening_core (system_of i) (stimuli_of i) limit) es)
     (xs : List Resource) (bounds : List ℕ) (workers : ℕ → ℕ) (before : List (Vec Line)) (h : Home)
     (at : IsAt i limit (core_of i limit es) xs) (legal : AreLegal i limit horizon (core_of i limit es) bounds) (home : AreHome i limit bounds xs before h)
-    (zs : List Resource) (fronts rests : List (Vec Line)) (out : List Line) (end : End) (found : HasFound i horizon h zs fronts rests out end) where
+    (zs : List Resource) (fronts rests : List (Vec Line)) (end : End) (found : HasFound i horizon h zs fronts rests end) where
   abbrev M : Machine
   M = machine (system_of i) limit
 
@@ -205,14 +200,15 @@ module _ (i : Inputs) (good : AreGood i) (limit horizon : ℕ) (es : List (CoreS
     lines : (r : ℕ) → AreLinesOf (machine (system_of i) limit) horizon r (d r).lines
     lines r = core_lines M law horizon w d (runs_after M (es ++ fs ++ Exchange ∷ [])) end_inv r
 
-    handed : (ls : List model.Line) → HasKept i limit horizon c (lists_of before) ls → HasHanded i limit horizon d (lists_of rests) (ls ++ map (line_of (system_of i)) out)
-    handed ls left =
-        out_handed i limit horizon c d before h.pending.items more (before_counted left) (home.pending ∙ at.counted) joined later lines found.least found.edge edge low fronts rests found.cut ls left out found.merged
+    module _ (out : List Line) (merged : AreRising fronts → AreMerged fronts out) where
+      handed : (ls : List model.Line) → HasKept i limit horizon c (lists_of before) ls → HasHanded i limit horizon d (lists_of rests) (ls ++ map (line_of (system_of i)) out)
+      handed ls left =
+          out_handed i limit horizon c d before h.pending.items more (before_counted left) (home.pending ∙ at.counted) joined later lines found.least found.edge edge low fronts rests found.cut ls left out merged
 
-    merges : (ls : List model.Line) → HasKept i limit horizon c (lists_of before) ls
-        → IsMerge (machine (system_of i) limit) (count_of (system_of i)) (λ r. lines_before (machine (system_of i) limit) (until found.edge r) (d r).lines) (ls ++ map (line_of (system_of i)) out)
-    merges ls left =
-        out_merges i limit horizon c d before h.pending.items more (before_counted left) (home.pending ∙ at.counted) joined later lines found.least found.edge edge low fronts rests found.cut ls left out found.merged
+      merges : (ls : List model.Line) → HasKept i limit horizon c (lists_of before) ls
+          → IsMerge (machine (system_of i) limit) (count_of (system_of i)) (λ r. lines_before (machine (system_of i) limit) (until found.edge r) (d r).lines) (ls ++ map (line_of (system_of i)) out)
+      merges ls left =
+          out_merges i limit horizon c d before h.pending.items more (before_counted left) (home.pending ∙ at.counted) joined later lines found.least found.edge edge low fronts rests found.cut ls left out merged
 
     -- the least tick of all events
     risen : ((s : ℕ) (reason : Reason) → IsLeastStop (machine (system_of i) limit) (count_of (system_of i)) d s reason → ⊥) → HasRisen i limit c d bounds
@@ -231,13 +227,13 @@ module _ (i : Inputs) (good : AreGood i) (limit horizon : ℕ) (es : List (CoreS
     -- ---- The answers
 
     module _ (core : held.CoreState) (inputs : core.system ≡ i) (steps : core.steps ≡ limit) (resources : core.resources.items ≡ zs) (pending : core.pending.items ≡ rests)
-        (belong : All (BelongsTo (system_of i)) out) (belongs : All (λ (p : Vec Line). All (BelongsTo (system_of i)) p.items) rests) where
+        (belongs : All (λ (p : Vec Line). All (BelongsTo (system_of i)) p.items) rests) (out : List Line) (merged : AreRising fronts → AreMerged fronts out) (belong : All (BelongsTo (system_of i)) out) where
       pub is_kept : IsKept i limit horizon c d (lists_of before) core out
       is_kept = record {
         inputs = inputs;
         steps = steps;
         at = subst (λ (z : List Resource). IsAt i limit d z) (sym resources) is_at;
-        left = λ ls left. subst (λ (z : List (Vec Line)). HasHanded i limit horizon d (lists_of z) (ls ++ map (line_of sys) out)) (sym pending) (handed ls left);
+        left = λ ls left. subst (λ (z : List (Vec Line)). HasHanded i limit horizon d (lists_of z) (ls ++ map (line_of sys) out)) (sym pending) (handed out merged ls left);
         belong = belong;
         kept = subst (λ (z : List (Vec Line)). All (λ (p : Vec Line). All (BelongsTo sys) p.items) z) (sym pending) belongs;
       }
@@ -260,19 +256,19 @@ module _ (i : Inputs) (good : AreGood i) (limit horizon : ℕ) (es : List (CoreS
     pub ended : end ≡ Horizon → IsAtHorizon (machine (system_of i) limit) (count_of (system_of i)) horizon d
     ended e = at_horizon i limit d zs is_at horizon (subst (λ (z : End). IsEnd horizon zs z) e found.ends)
 
-    pub stopped : (m : StopMark) → end ≡ Stop m → All (BelongsTo (system_of i)) out
+    pub stopped : (out : List Line) → (AreRising fronts → AreMerged fronts out) → (m : StopMark) → end ≡ Stop m → All (BelongsTo (system_of i)) out
         → IsLeastStop (machine (system_of i) limit) (count_of (system_of i)) d m.resource m.reason
         × ((d m.resource).clock ≡ m.tick)
         × All (BelongsTo (system_of i)) out
         × ((ls : List model.Line) → HasKept i limit horizon c (lists_of before) ls
         → IsMerge (machine (system_of i) limit) (count_of (system_of i)) (lines_to (system_of i) limit m.tick m.resource d) (ls ++ map (line_of (system_of i)) out))
-    stopped m e belong = (
+    stopped out merged m e belong = (
       stop,
       clock,
       belong,
       λ ls left. merge_same M (count_of sys) _ _ (ls ++ map (line_of sys) out)
           (λ r b. ap (λ z. lines_before M z (d r).lines) (until_at_stop M (count_of sys) d found.least found.edge m.resource m.reason edge stop r ∙ ap (λ t. if nat_lt m.resource r then t else t + 1) clock))
-          (merges ls left),
+          (merges out merged ls left),
     )
       where
         ends : IsFirstStop zs (length zs) m × AreAllPast m.tick zs
@@ -311,46 +307,45 @@ module _ (i : Inputs) (good : AreGood i) (limit horizon : ℕ) (es : List (CoreS
 -- ---- The result of settling
 
 -- What was done when all came home, whatever they left with.
-pub record HasGathered (i : Inputs) (limit horizon : ℕ) (resting : List (Option Resource)) (before : List (Vec Line)) (dones : List WindowDone) (h : Home) (zs : List Resource) (fronts rests : List (Vec Line)) (out : List Line) (end : End) : Type 0 where
+pub record HasGathered (i : Inputs) (limit horizon : ℕ) (resting : List (Option Resource)) (before : List (Vec Line)) (dones : List WindowDone) (h : Home) (zs : List Resource) (fronts rests : List (Vec Line)) (end : End) : Type 0 where
   pub good : AreGood i
   pub home : (bounds : List ℕ) (xs : List Resource) → resting ≡ map resting_of xs → AllZip Does (jobs_of i limit bounds 0 xs) dones → AreHome i limit bounds xs before h
-  pub found : HasFound i horizon h zs fronts rests out end
-  pub belong : All (BelongsTo (system_of i)) out
+  pub found : HasFound i horizon h zs fronts rests end
   pub belongs : All (λ (p : Vec Line). All (BelongsTo (system_of i)) p.items) rests
 
-module _ (a : AwayState) (dones : List WindowDone) (done : AllZip Does a.jobs.value.items dones) (h : Home) (zs : List Resource) (fronts rests : List (Vec Line)) (out : List Line) (end : End)
-    (x : HasGathered a.system a.steps a.horizon a.resting.items a.pending.items dones h zs fronts rests out end)
+module _ (a : AwayState) (dones : List WindowDone) (done : AllZip Does a.jobs.value.items dones) (h : Home) (zs : List Resource) (fronts rests : List (Vec Line)) (end : End)
+    (x : HasGathered a.system a.steps a.horizon a.resting.items a.pending.items dones h zs fronts rests end)
     (xs : List Resource) (bounds : List ℕ) (es : List (CoreStep (machine (system_of a.system) a.steps))) (workers : ℕ → ℕ) (left : HasLeft xs bounds a)
     (sc : IsSchedule (machine (system_of a.system) a.steps) a.horizon (opening_core (system_of a.system) (stimuli_of a.system) a.steps) es)
     (at : IsAt a.system a.steps (core_of a.system a.steps es) xs) (legal : AreLegal a.system a.steps a.horizon (core_of a.system a.steps es) bounds) where
   came : AreHome a.system a.steps bounds xs a.pending.items h
   came = x.home bounds xs left.resting (subst (λ z. AllZip Does z dones) left.jobs done)
 
-  pub settle_going : (core : held.CoreState) (lines : Vec Line) → end ≡ Open → core.system ≡ a.system → core.steps ≡ a.steps → core.resources.items ≡ zs → core.pending.items ≡ rests → lines.items ≡ out
+  pub settle_going : (core : held.CoreState) (lines : Vec Line) → (AreRising fronts → AreMerged fronts lines.items) → All (BelongsTo (system_of a.system)) lines.items
+      → end ≡ Open → core.system ≡ a.system → core.steps ≡ a.steps → core.resources.items ≡ zs → core.pending.items ≡ rests
       → Settles a.system a.steps a.horizon es bounds (lists_of a.pending.items) workers (Going core lines)
-  settle_going core lines e inputs steps resources pending same =
-      settles a.system x.good a.steps a.horizon es sc xs bounds workers a.pending.items h at legal came zs fronts rests out end x.found (Going core lines)
+  settle_going core lines merged belong e inputs steps resources pending =
+      settles a.system x.good a.steps a.horizon es sc xs bounds workers a.pending.items h at legal came zs fronts rests end x.found (Going core lines)
       (λ fs phase.
-      let k = is_kept a.system x.good a.steps a.horizon es sc xs bounds workers a.pending.items h at legal came zs fronts rests out end x.found fs phase core inputs steps resources pending x.belong x.belongs in
-      let g = going a.system x.good a.steps a.horizon es sc xs bounds workers a.pending.items h at legal came zs fronts rests out end x.found fs phase e in
-      (subst (IsKept a.system a.steps a.horizon _ _ (lists_of a.pending.items) core) (sym same) k, g.0, g.1, g.2))
+      let k = is_kept a.system x.good a.steps a.horizon es sc xs bounds workers a.pending.items h at legal came zs fronts rests end x.found fs phase core inputs steps resources pending x.belongs lines.items merged belong in
+      let g = going a.system x.good a.steps a.horizon es sc xs bounds workers a.pending.items h at legal came zs fronts rests end x.found fs phase e in
+      (k, g.0, g.1, g.2))
 
-  pub settle_ended : (core : held.CoreState) (lines : Vec Line) → end ≡ Horizon → core.system ≡ a.system → core.steps ≡ a.steps → core.resources.items ≡ zs → core.pending.items ≡ rests → lines.items ≡ out
+  pub settle_ended : (core : held.CoreState) (lines : Vec Line) → (AreRising fronts → AreMerged fronts lines.items) → All (BelongsTo (system_of a.system)) lines.items
+      → end ≡ Horizon → core.system ≡ a.system → core.steps ≡ a.steps → core.resources.items ≡ zs → core.pending.items ≡ rests
       → Settles a.system a.steps a.horizon es bounds (lists_of a.pending.items) workers (Ended core lines)
-  settle_ended core lines e inputs steps resources pending same =
-      settles a.system x.good a.steps a.horizon es sc xs bounds workers a.pending.items h at legal came zs fronts rests out end x.found (Ended core lines)
+  settle_ended core lines merged belong e inputs steps resources pending =
+      settles a.system x.good a.steps a.horizon es sc xs bounds workers a.pending.items h at legal came zs fronts rests end x.found (Ended core lines)
       (λ fs phase.
-      let k = is_kept a.system x.good a.steps a.horizon es sc xs bounds workers a.pending.items h at legal came zs fronts rests out end x.found fs phase core inputs steps resources pending x.belong x.belongs in (
-        subst (IsKept a.system a.steps a.horizon _ _ (lists_of a.pending.items) core) (sym same) k,
-        ended a.system x.good a.steps a.horizon es sc xs bounds workers a.pending.items h at legal came zs fronts rests out end x.found fs phase e,
-      ))
+      let k = is_kept a.system x.good a.steps a.horizon es sc xs bounds workers a.pending.items h at legal came zs fronts rests end x.found fs phase core inputs steps resources pending x.belongs lines.items merged belong in
+      (k, ended a.system x.good a.steps a.horizon es sc xs bounds workers a.pending.items h at legal came zs fronts rests end x.found fs phase e))
 
   -- The core that is put together is one.
   pub settle_reached : ((r : ℕ) → count_of (system_of a.system) ≤ r → (core_of a.system a.steps es r).clock ≡ 0) → 1 ≤ a.steps → a.steps ≤ 10 ^ 7
       → (resources : Vec Resource) (pending : Vec (Vec Line)) → resources.items ≡ zs → pending.items ≡ rests
       → IsReached (record { system = a.system; steps = a.steps; resources = resources; pending = pending })
   settle_reached idle some few resources pending same kept =
-      let way : IsBrought a.system a.steps zs = brought a.system x.good a.steps a.horizon es sc xs bounds workers a.pending.items h at legal came zs fronts rests out end x.found idle in
+      let way : IsBrought a.system a.steps zs = brought a.system x.good a.steps a.horizon es sc xs bounds workers a.pending.items h at legal came zs fronts rests end x.found idle in
       record {
         way = subst (λ (z : List Resource). IsBrought a.system a.steps z) (sym same) way;
         some_steps = some;
@@ -359,14 +354,8 @@ module _ (a : AwayState) (dones : List WindowDone) (done : AllZip Does a.jobs.va
         belong = subst (λ (z : List (Vec Line)). All (λ (p : Vec Line). All (BelongsTo (system_of a.system)) p.items) z) (sym kept) x.belongs;
       }
 
-  pub settle_stopped : (lines : Vec Line) (m : StopMark) → end ≡ Stop m → lines.items ≡ out
+  pub settle_stopped : (lines : Vec Line) → (AreRising fronts → AreMerged fronts lines.items) → All (BelongsTo (system_of a.system)) lines.items → (m : StopMark) → end ≡ Stop m
       → Settles a.system a.steps a.horizon es bounds (lists_of a.pending.items) workers (Stopped lines m)
-  settle_stopped lines m e same =
-      settles a.system x.good a.steps a.horizon es sc xs bounds workers a.pending.items h at legal came zs fronts rests out end x.found (Stopped lines m)
-      (λ fs phase.
-      let s = stopped a.system x.good a.steps a.horizon es sc xs bounds workers a.pending.items h at legal came zs fronts rests out end x.found fs phase m e x.belong in (
-        s.0,
-        s.1,
-        subst (All (BelongsTo (system_of a.system))) (sym same) s.2,
-        λ ls q. merge_as a.system a.steps (count_of (system_of a.system)) _ ls out lines.items same (s.3 ls q),
-      ))
+  settle_stopped lines merged belong m e =
+      settles a.system x.good a.steps a.horizon es sc xs bounds workers a.pending.items h at legal came zs fronts rests end x.found (Stopped lines m)
+      (λ fs phase. stopped a.system x.good a.steps a.horizon es sc xs bounds workers a.pending.items h at legal came zs fronts rests end x.found fs phase lines.items merged m e belong)

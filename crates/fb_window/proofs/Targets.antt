@@ -72,7 +72,7 @@ module _ (P : Line → Type 0) (e : Edge) (lists fronts rests : List (Vec Line))
       subst (λ (z : Vec Line). All P z.items) (one_at rests r s.1 p s.3 f)
       (all_back P s.0.items s.1.items (subst (All P) s.4.parts (all_at (λ (z : Vec Line). All P z.items) lists r q.0 all q.1))))
 
-  fronts_in : All (λ (p : Vec Line). All P p.items) fronts
+  pub fronts_in : All (λ (p : Vec Line). All P p.items) fronts
   fronts_in =
       all_by_index (λ (p : Vec Line). All P p.items) fronts
       (λ r p f.

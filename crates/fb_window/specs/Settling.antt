@@ -1,5 +1,6 @@
 -- What becomes of the core when all jobs of a phase have come home and their messages are exchanged (this project's profile).
 use Rattle.std.specs.Global.{Vec}
+use Rattle.std.specs.List.Sorted.{IsPermutation}
 use Rattle.std.specs.Prelude.{◌≡◌, ℕ, ◌+◌, ◌<◌, ◌≤◌, ◌++◌, List, [], ◌∷◌, map, All, Option, Some, None, slice_index_or}
 use Rattle.fb_types.specs.Headline.{Inputs, system_of, stimuli_of}
 use Rattle.fb_types.specs.Machines.{Item}
@@ -13,12 +14,15 @@ use Rattle.fb_types.specs.Schedules.{IsSchedule, IsAtHorizon, IsLeastStop}
 use Rattle.fb_types.specs.declared.run.Line.{Line}
 use Rattle.fb_types.specs.declared.value.Reason.{Reason}
 use Rattle.fb_system.specs.Lines.{BelongsTo}
+use Rattle.fb_trace.specs.Merging.{AreMerged, AreRising, Lists, flat}
 use Rattle.fb_resource.specs.declared.resource.Resource.{Resource}
 use Rattle.fb_laws.specs.ScheduleLaw.{lines_to}
 use Rattle.fb_laws.specs.Phases.{Turn, IsPhase, MayTurn}
 use Rattle.fb_laws.specs.Finality.{HasHanded, HasKept, core_of}
 use Rattle.fb_window.specs.Standing.{IsAt}
 use Rattle.fb_window.specs.declared.cores.CoreState.{CoreState}
+use Rattle.fb_window.specs.declared.cores.Reach.{Reach}
+use Rattle.fb_window.specs.declared.cores.Reach.TheVariants as reach
 use Rattle.fb_window.specs.declared.cores.Settled.{Settled}
 use Rattle.fb_window.specs.declared.cores.Settled.TheVariants.{Going, Ended, Stopped}
 
@@ -88,3 +92,14 @@ pub record Settles (i : Inputs) (limit horizon : ℕ) (es : List (CoreStep (mach
       → IsSchedule (machine (system_of i) limit) horizon (opening_core (system_of i) (stimuli_of i) limit) (after_phase i limit es fs)
   pub settled : (fs : List (CoreStep (machine (system_of i) limit))) → IsPhase (machine (system_of i) limit) turns fs
       → IsSettled i limit horizon (core_of i limit es) (core_of i limit (after_phase i limit es fs)) bounds before s
+
+-- how far the run is, with the lines that have become final
+abbrev pub settled_of : Reach → Vec Line → Settled
+settled_of (reach.Going core) out = Going core out
+settled_of (reach.Ended core) out = Ended core out
+settled_of (reach.Stopped mark) out = Stopped out mark
+
+-- These are all lines of the lists, and in the order of the trace where each list has the lines of its resource.
+pub record IsMerged (lists : Lists) (all : List Line) : Type 0 where
+  pub merged : AreRising lists → AreMerged lists all
+  pub moved : IsPermutation (flat lists) all

@@ -7,6 +7,7 @@ ghost use Rattle.fb_types.specs.Cores.{floor_of};
 ghost use Rattle.fb_types.specs.Headline.{system_of};
 ghost use Rattle.fb_types.specs.Parts.{count_of};
 ghost use Rattle.fb_types.specs.declared.key.Key.{Key};
+ghost use Rattle.fb_types.specs.OfSystem.{link_count};
 ghost use Rattle.fb_window.specs.Bounding.{AreGreatest};
 ghost use Rattle.fb_laws.specs.Cuts.{IsCut, LinkAllows, StopAllows};
 ghost use Rattle.fb_window.specs.Jobs.{AreOf};
@@ -109,7 +110,7 @@ fn arrivals(
     requires counted { length resources.now ≡ count_of (system_of system.now) }
     requires early { top ≤ 10 ^ 12 }
     ensures long { length result ≡ 256 }
-    ensures cut { (r : ℕ) → r < 256 → IsCut (LinkAllows (λ (x : Resource). x.clock) (λ (x : Resource). x.stopped) (system_of system.now) resources.now least r) top (system_of system.now).links (slice_index result r) }
+    ensures cut { (r : ℕ) → r < 256 → IsCut (LinkAllows (λ (x : Resource). x.clock) (λ (x : Resource). x.stopped) (system_of system.now) resources.now least r) top (link_count system.now) (slice_index result r) }
 {
     let mut all = [top; MOST_RESOURCES];
     for link in system.rows() {

@@ -111,6 +111,17 @@ pub enum Settled {
     Stopped(Vec<Line>, StopMark),
 }
 
+/// How far the run is when all resources are home again, without the lines that have become final.
+#[derive(Drop)]
+pub enum Reach {
+    /// Some resource has ticks to run yet.
+    Going(Core),
+    /// Every clock is at the horizon.
+    Ended(Core),
+    /// A resource has stopped, and nothing is left to do before its stop.
+    Stopped(StopMark),
+}
+
 /// No memory was left.
 #[derive(Clone, Copy, Debug)]
 pub struct Failed;

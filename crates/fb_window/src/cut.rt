@@ -1,15 +1,10 @@
 //! Lines, cut where they are final.
 
-ghost use Rattle.std.specs.Prelude.{◌≡◌, List, [], IfOk, OnOk};
-ghost use Rattle.std.specs.Global.{Vec};
-ghost use Rattle.std.specs.List.Sorted.{IsPermutation};
-ghost use Rattle.fb_types.specs.declared.run.Line as model;
-ghost use Rattle.fb_trace.specs.Merging.{AreMerged, AreRising, flat};
+ghost use Rattle.std.specs.Prelude.{◌≡◌, [], IfOk, OnOk};
 ghost use Rattle.fb_laws.specs.Finality.{until};
 ghost use Rattle.fb_window.specs.Frontiers.{AreCut, IsSplit, edge_of};
 
 use crate::frontier::Frontier;
-use fb_trace::merge;
 use fb_types::Line;
 use std::alloc::{AllocError, Global};
 
@@ -55,7 +50,10 @@ fn cut_each(
 }
 
 /// For each resource its lines that are final, and for each its others.
-fn cut_all(
+///
+/// # Errors
+/// When memory runs out.
+pub(crate) fn cut_all(
     alloc: Global,
     lists: Vec<Vec<Line>>,
     frontier: &Frontier,
@@ -66,21 +64,4 @@ fn cut_all(
     let mut rests = Vec::new(alloc);
     cut_each(alloc, lists, frontier, &mut fronts, &mut rests)?;
     Ok((fronts, rests))
-}
-
-/// The lines that are final, merged, and for each resource its others.
-///
-/// # Errors
-/// When memory runs out.
-pub(crate) fn final_lines(
-    alloc: Global,
-    lists: Vec<Vec<Line>>,
-    frontier: &Frontier,
-) -> Result<(Vec<Line>, Vec<Vec<Line>>), AllocError>
-    ensures { IfOk result (λ p. (finals : List (Vec model.Line)) × AreCut (edge_of frontier.now) lists.items finals p.1.items
-        × (AreRising finals → AreMerged finals p.0.items) × IsPermutation (flat finals) p.0.items) }
-{
-    let (finals, rests) = cut_all(alloc, lists, frontier)?;
-    let lines = merge(alloc, finals)?;
-    Ok((lines, rests))
 }

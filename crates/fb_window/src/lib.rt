@@ -27,7 +27,7 @@ mod post;
 pub mod settle;
 mod walk;
 
-pub use cores::{Away, AwayState, Bounds, Core, CoreState, Failed, Settled};
+pub use cores::{Away, AwayState, Bounds, Core, CoreState, Failed, Reach, Settled};
 pub use discarding::{discard_jobs, discard_resource, discard_system};
 pub use job::Job;
 pub use links::{LinkRow, SystemLinks};

@@ -5,6 +5,7 @@ ghost use Rattle.std.specs.Global.{Vec};
 ghost use Rattle.std.specs.Vec.Iter.{into_iter_items};
 ghost use Rattle.fb_types.specs.Headline.{system_of};
 ghost use Rattle.fb_types.specs.declared.run.Message as model;
+ghost use Rattle.fb_types.specs.OfSystem.{IsInstance, resource_count};
 ghost use Rattle.fb_link.specs.Exchanges.{all_of};
 ghost use Rattle.fb_resource.specs.Resources.{HasReceived};
 ghost use Rattle.fb_resource.specs.declared.resource.Resource.{Resource};
@@ -93,8 +94,8 @@ pub(crate) fn post(
     resources: Vec<Resource>,
     outboxes: Vec<Vec<Message>>,
 ) -> Result<Vec<Resource>, AllocError>
-    requires counted { length resources.items ≡ length (system_of system.now).resource_names }
-    requires targets { All (λ box. All (λ m. m.target.instance < length (system_of system.now).paths) box.items) outboxes.items }
+    requires counted { length resources.items ≡ resource_count system.now }
+    requires targets { All (λ box. All (λ m. IsInstance system.now m.target.instance) box.items) outboxes.items }
     ensures { IfOk result (λ v. ArePosted (system_of system.now) (all_of outboxes.items) resources.items v.items) }
 {
     if are_empty(&outboxes) {

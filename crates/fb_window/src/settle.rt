@@ -1,22 +1,25 @@
 //! How resources come home.
 
-ghost use Rattle.std.specs.Prelude.{◌≡◌, ℕ, List, IfOk};
+ghost use Rattle.std.specs.Global.{Vec};
+ghost use Rattle.std.specs.Prelude.{◌≡◌, ℕ, List, All, IfOk};
 ghost use Rattle.std.specs.List.{AllZip};
-ghost use Rattle.fb_types.specs.Cores.{CoreStep, opening_core};
-ghost use Rattle.fb_types.specs.Headline.{stimuli_of, system_of};
-ghost use Rattle.fb_types.specs.Parts.{machine};
+ghost use Rattle.fb_types.specs.Cores.{CoreStep};
+ghost use Rattle.fb_types.specs.Headline.{stimuli_of};
 ghost use Rattle.fb_types.specs.Schedules.{IsSchedule};
+ghost use Rattle.fb_types.specs.declared.run.Line.{Line};
+ghost use Rattle.fb_types.specs.OfSystem.{machine, opening_core};
 ghost use Rattle.fb_resource.specs.declared.resource.Resource.{Resource};
 ghost use Rattle.fb_laws.specs.Finality.{core_of};
+ghost use Rattle.fb_system.specs.OfSystem.{BelongsTo};
 ghost use Rattle.fb_window.specs.Jobs.{Does};
 ghost use Rattle.fb_window.specs.Leaving.{AreLegal, HasLeft};
 ghost use Rattle.fb_window.specs.Reached.{IsAway};
-ghost use Rattle.fb_window.specs.Settling.{Settles, lists_of};
+ghost use Rattle.fb_window.specs.Settling.{IsMerged, Settles, lists_of, settled_of};
 ghost use Rattle.fb_window.specs.Standing.{IsAt};
 
 use crate::bounds::least_next;
-use crate::cores::{Away, AwayState, Core, CoreState, Failed, Settled};
-use crate::cut::final_lines;
+use crate::cores::{Away, AwayState, Core, CoreState, Failed, Reach, Settled};
+use crate::cut::cut_all;
 use crate::ends::{End, end_of};
 use crate::frontier::frontier_of;
 use crate::home::come_home;
@@ -24,26 +27,30 @@ use crate::paired::paired;
 use crate::post::post;
 use fb_resource::WindowDone;
 use fb_system::System;
+use fb_trace::merge;
+use fb_types::Line;
 use std::alloc::Global;
 
 impl AwayState {
-    /// Puts all resources back, with what became of each job in the jobs' order, exchanges their messages, and hands
-    /// out the lines that have become final.
-    fn settle(
+    /// Puts all resources back, with what became of each job in the jobs' order, and exchanges their messages. The lines
+    /// that have become final are in a list for each resource.
+    fn settle_apart(
         self,
         alloc: Global,
         system: &System,
         dones: Vec<WindowDone>,
-    ) -> Result<Settled, Failed>
+    ) -> Result<(Reach, Vec<Vec<Line>>), Failed>
         requires system { system.now ≡ self.system }
         requires away { IsAway self }
         requires done { AllZip Does self.jobs.value.items dones.items }
-        ensures { IfOk result (λ s. (xs : List Resource) (bounds : List ℕ) (es : List (CoreStep (machine (system_of self.system) self.steps))) (workers : ℕ → ℕ)
+        ensures settles { IfOk result (λ r. (all : Vec Line) → IsMerged r.1.items all.items
+            → (xs : List Resource) (bounds : List ℕ) (es : List (CoreStep (machine self.system self.steps))) (workers : ℕ → ℕ)
             → HasLeft xs bounds self
-            → IsSchedule (machine (system_of self.system) self.steps) self.horizon (opening_core (system_of self.system) (stimuli_of self.system) self.steps) es
+            → IsSchedule (machine self.system self.steps) self.horizon (opening_core self.system (stimuli_of self.system) self.steps) es
             → IsAt self.system self.steps (core_of self.system self.steps es) xs
             → AreLegal self.system self.steps self.horizon (core_of self.system self.steps es) bounds
-            → Settles self.system self.steps self.horizon es bounds (lists_of self.pending.items) workers s) }
+            → Settles self.system self.steps self.horizon es bounds (lists_of self.pending.items) workers (settled_of r.0 all)) }
+        ensures belong { IfOk result (λ r. All (λ p. All (BelongsTo self.system) p.items) r.1.items) }
     {
         system.facts();
         let home = come_home(alloc, self.resting, self.pending, dones)?;
@@ -51,8 +58,8 @@ impl AwayState {
         let (kept, resources) = paired(home.pending, posted)?;
         let least = least_next(&resources, self.horizon);
         let frontier = frontier_of(&resources, least);
-        let (resources, cut) = paired(resources, final_lines(alloc, kept, &frontier))?;
-        let (lines, pending) = cut;
+        let (resources, cut) = paired(resources, cut_all(alloc, kept, &frontier))?;
+        let (finals, pending) = cut;
         let end = end_of(&resources, self.horizon);
         let state = CoreState {
             system: self.system,
@@ -62,10 +69,21 @@ impl AwayState {
         };
         let core = Core { state };
         match end {
-            End::Open => Ok(Settled::Going(core, lines)),
-            End::Horizon => Ok(Settled::Ended(core, lines)),
-            End::Stop(mark) => Ok(Settled::Stopped(lines, mark)),
+            End::Open => Ok((Reach::Going(core), finals)),
+            End::Horizon => Ok((Reach::Ended(core), finals)),
+            End::Stop(mark) => Ok((Reach::Stopped(mark), finals)),
         }
+    }
+}
+
+/// How far the run is, with the lines that have become final.
+fn settled(reach: Reach, lines: Vec<Line>) -> Settled
+    ensures { result ≡ settled_of reach lines }
+{
+    match reach {
+        Reach::Going(core) => Settled::Going(core, lines),
+        Reach::Ended(core) => Settled::Ended(core, lines),
+        Reach::Stopped(mark) => Settled::Stopped(lines, mark),
     }
 }
 
@@ -83,14 +101,40 @@ impl Away {
     ) -> Result<Settled, Failed>
         requires system { system.now ≡ self.system }
         requires done { AllZip Does self.jobs.value.items dones.items }
-        ensures { IfOk result (λ s. (xs : List Resource) (bounds : List ℕ) (es : List (CoreStep (machine (system_of self.system) self.steps))) (workers : ℕ → ℕ)
+        ensures { IfOk result (λ s. (xs : List Resource) (bounds : List ℕ) (es : List (CoreStep (machine self.system self.steps))) (workers : ℕ → ℕ)
             → HasLeft xs bounds self
-            → IsSchedule (machine (system_of self.system) self.steps) self.horizon (opening_core (system_of self.system) (stimuli_of self.system) self.steps) es
+            → IsSchedule (machine self.system self.steps) self.horizon (opening_core self.system (stimuli_of self.system) self.steps) es
             → IsAt self.system self.steps (core_of self.system self.steps es) xs
             → AreLegal self.system self.steps self.horizon (core_of self.system self.steps es) bounds
             → Settles self.system self.steps self.horizon es bounds (lists_of self.pending.items) workers s) }
     {
+        let (reach, finals) = self.settle_apart(alloc, system, dones)?;
+        let (kept, lines) = paired(reach, merge(alloc, finals))?;
+        Ok(settled(kept, lines))
+    }
+
+    /// Does what `settle` does, but leaves the lines that have become final apart: in a list for each resource.
+    ///
+    /// # Errors
+    /// When memory ran out, in a job or here.
+    pub fn settle_apart(
+        self,
+        alloc: Global,
+        system: &System,
+        dones: Vec<WindowDone>,
+    ) -> Result<(Reach, Vec<Vec<Line>>), Failed>
+        requires system { system.now ≡ self.system }
+        requires done { AllZip Does self.jobs.value.items dones.items }
+        ensures settles { IfOk result (λ r. (all : Vec Line) → IsMerged r.1.items all.items
+            → (xs : List Resource) (bounds : List ℕ) (es : List (CoreStep (machine self.system self.steps))) (workers : ℕ → ℕ)
+            → HasLeft xs bounds self
+            → IsSchedule (machine self.system self.steps) self.horizon (opening_core self.system (stimuli_of self.system) self.steps) es
+            → IsAt self.system self.steps (core_of self.system self.steps es) xs
+            → AreLegal self.system self.steps self.horizon (core_of self.system self.steps es) bounds
+            → Settles self.system self.steps self.horizon es bounds (lists_of self.pending.items) workers (settled_of r.0 all)) }
+        ensures belong { IfOk result (λ r. All (λ p. All (BelongsTo self.system) p.items) r.1.items) }
+    {
         let Away { state } = self;
-        state.settle(alloc, system, dones)
+        state.settle_apart(alloc, system, dones)
     }
 }

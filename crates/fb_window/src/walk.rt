@@ -1,13 +1,13 @@
 //! Turns of one resource after another, on one thread.
 
 ghost use Rattle.std.specs.Prelude.{◌≡◌, ◌^◌, ◌<◌, ◌≤◌, List, All, IfOk, OnOk, length};
-ghost use Rattle.fb_types.specs.Cores.{CoreStep, opening_core};
-ghost use Rattle.fb_types.specs.Headline.{stimuli_of, system_of};
-ghost use Rattle.fb_types.specs.Parts.{machine};
+ghost use Rattle.fb_types.specs.Cores.{CoreStep};
+ghost use Rattle.fb_types.specs.Headline.{stimuli_of};
 ghost use Rattle.fb_types.specs.Schedules.{IsSchedule};
-ghost use Rattle.fb_system.specs.Lines.{BelongsTo};
+ghost use Rattle.fb_types.specs.OfSystem.{IsInstance, machine, opening_core};
 ghost use Rattle.fb_laws.specs.Finality.{core_of};
 ghost use Rattle.fb_laws.specs.Sound.{AreGood};
+ghost use Rattle.fb_system.specs.OfSystem.{BelongsTo};
 ghost use Rattle.fb_window.specs.Frontiers.{AreLive};
 ghost use Rattle.fb_window.specs.Reached.{KeepHorizon};
 ghost use Rattle.fb_window.specs.Standing.{IsAt};
@@ -58,7 +58,7 @@ impl Walk<'_> {
     fn give_one(&mut self, sent: Vec<Message>) -> Result<(), AllocError>
         requires may { MayTurn self.old }
         requires one { length sent.items ≡ 1 }
-        requires targets { All (λ m. m.target.instance < length (system_of self.old.system.now).paths) sent.items }
+        requires targets { All (λ m. IsInstance self.old.system.now m.target.instance) sent.items }
         ensures given { OnOk result (HasGiven self.old sent.items self.new) }
         ensures may { OnOk result (MayTurn self.new) }
         ensures same { IsSame self.old self.new }
@@ -70,7 +70,7 @@ impl Walk<'_> {
     /// Puts each message on the agenda of its receiver.
     fn give(&mut self, sent: Vec<Message>) -> Result<(), AllocError>
         requires may { MayTurn self.old }
-        requires targets { All (λ m. m.target.instance < length (system_of self.old.system.now).paths) sent.items }
+        requires targets { All (λ m. IsInstance self.old.system.now m.target.instance) sent.items }
         ensures given { OnOk result (HasGiven self.old sent.items self.new) }
         ensures may { OnOk result (MayTurn self.new) }
         ensures same { IsSame self.old self.new }
@@ -141,17 +141,17 @@ impl CoreState {
         most: u64,
     ) -> Result<CoreState, Failed>
         requires system { system.now ≡ self.system }
-        requires come { (es : List (CoreStep (machine (system_of self.system) self.steps)))
-            × IsSchedule (machine (system_of self.system) self.steps) horizon (opening_core (system_of self.system) (stimuli_of self.system) self.steps) es
+        requires come { (es : List (CoreStep (machine self.system self.steps)))
+            × IsSchedule (machine self.system self.steps) horizon (opening_core self.system (stimuli_of self.system) self.steps) es
             × IsAt self.system self.steps (core_of self.system self.steps es) self.resources.items }
         requires counted { length self.pending.items ≡ length self.resources.items }
-        requires pending { All (λ p. All (BelongsTo (system_of self.system)) p.items) self.pending.items }
+        requires pending { All (λ p. All (BelongsTo self.system) p.items) self.pending.items }
         requires early { horizon ≤ 10 ^ 12 }
         requires some_steps { 1 ≤ self.steps }
         requires few_steps { self.steps ≤ 10 ^ 7 }
         ensures system { IfOk result (λ d. d.system ≡ self.system) }
         ensures steps { IfOk result (λ d. d.steps ≡ self.steps) }
-        ensures pending { IfOk result (λ d. All (λ p. All (BelongsTo (system_of self.system)) p.items) d.pending.items) }
+        ensures pending { IfOk result (λ d. All (λ p. All (BelongsTo self.system) p.items) d.pending.items) }
         ensures counted { IfOk result (λ d. length d.pending.items ≡ length d.resources.items) }
         ensures walks { IfOk result (Walks self.system self.steps horizon most self) }
     {
@@ -193,7 +193,7 @@ impl Core {
         requires early { horizon ≤ 10 ^ 12 }
         ensures system { IfOk result (λ d. d.system ≡ self.system) }
         ensures steps { IfOk result (λ d. d.steps ≡ self.steps) }
-        ensures pending { IfOk result (λ d. All (λ p. All (BelongsTo (system_of self.system)) p.items) d.pending.items) }
+        ensures pending { IfOk result (λ d. All (λ p. All (BelongsTo self.system) p.items) d.pending.items) }
         ensures walks { IfOk result (Walks self.system self.steps horizon most self) }
     {
         system.facts();

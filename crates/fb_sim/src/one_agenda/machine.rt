@@ -1,13 +1,14 @@
 //! The state of a run of all resources, and taking one event after another.
 
-ghost use Rattle.std.specs.Prelude.{◌≡◌, ◌^◌, ◌<◌, ◌≤◌, ℕ, [], length, All, IfOk, IfSome, None, OnOk};
-ghost use Rattle.fb_types.specs.Headline.{Inputs, system_of};
+ghost use Rattle.std.specs.Prelude.{◌≡◌, ◌^◌, ◌≤◌, ℕ, [], All, IfOk, IfSome, None, OnOk};
+ghost use Rattle.fb_types.specs.Headline.{Inputs};
 ghost use Rattle.fb_types.specs.Keys.{without};
 ghost use Rattle.fb_types.specs.States.{Config, State};
 ghost use Rattle.fb_types.specs.States as model;
+ghost use Rattle.fb_types.specs.OfSystem.{IsResource};
+ghost use Rattle.fb_laws.specs.OfSystem.{IsTypedEvent};
+ghost use Rattle.fb_system.specs.OfSystem.{BelongsTo};
 ghost use Rattle.fb_net.specs.Events.{IsEventIn, IsKeyOf, event_of};
-ghost use Rattle.fb_system.specs.Lines.{BelongsTo};
-ghost use Rattle.fb_laws.specs.Typed.{IsTypedEvent};
 ghost use Rattle.fb_sim.specs.Completions.{Completes};
 ghost use Rattle.fb_sim.specs.Machines.{IsAt, IsReady, IsTaken};
 ghost use Rattle.fb_sim.specs.Pauses.{IsSooner, Pauses};
@@ -59,8 +60,8 @@ impl Machine {
         requires represents { (s : State) × (a : model.Agenda) × IsAt system.now s a self.old }
         requires event { IsEventIn system.now key.now.resource event.now }
         requires own { IsKeyOf key.now event.now }
-        requires typed { IsTypedEvent (system_of system.now) (event_of system.now event.now) }
-        requires named { key.now.resource < length (system_of system.now).resource_names }
+        requires typed { IsTypedEvent system.now (event_of system.now event.now) }
+        requires named { IsResource system.now key.now.resource }
         requires early { key.now.tick ≤ 10 ^ 12 }
         requires few { limit ≤ 10 ^ 7 }
         ensures taken { IfOk result (λ stop. (s : State) (a : model.Agenda) → IsAt system.now s (without key.now a) self.old

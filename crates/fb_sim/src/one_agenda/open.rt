@@ -1,8 +1,8 @@
 //! The beginning of a run: its agenda, the blocks and the counts.
 
-ghost use Rattle.std.specs.Prelude.{◌≡◌, [], ℕ, length, IfOk};
-ghost use Rattle.fb_types.specs.Headline.{system_of, stimuli_of};
-ghost use Rattle.fb_types.specs.Simulation.{opening_agenda, opening_state};
+ghost use Rattle.std.specs.Prelude.{◌≡◌, [], ℕ, IfOk};
+ghost use Rattle.fb_types.specs.Headline.{stimuli_of};
+ghost use Rattle.fb_types.specs.OfSystem.{opening_agenda, opening_state, resource_count};
 ghost use Rattle.fb_sim.specs.Machines.{IsAt, IsReady};
 ghost use Rattle.fb_sim.specs.Openings.{AreOpened};
 
@@ -14,7 +14,7 @@ use std::alloc::{AllocError, Global};
 
 /// The blocks of all resources, as they begin.
 fn open_trees(alloc: Global, system: &System) -> Result<Vec<Tree>, AllocError>
-    ensures { IfOk result (λ v. AreOpened system.now (length (system_of system.now).resource_names) v.items) }
+    ensures { IfOk result (λ v. AreOpened system.now (resource_count system.now) v.items) }
 {
     system.facts();
     let mut trees = Vec::new(alloc);
@@ -32,7 +32,7 @@ impl Machine {
     /// When memory runs out.
     pub(super) fn open(alloc: Global, system: &System) -> Result<Machine, AllocError>
         ensures ready { IfOk result (λ m. (limit : ℕ) → IsReady system.now limit 0 m) }
-        ensures at { IfOk result (IsAt system.now (opening_state (system_of system.now)) (opening_agenda (system_of system.now) (stimuli_of system.now))) }
+        ensures at { IfOk result (IsAt system.now (opening_state system.now) (opening_agenda system.now (stimuli_of system.now))) }
         ensures lines { IfOk result (λ m. m.given.outbox.lines.items ≡ []) }
     {
         system.facts();

@@ -1,24 +1,39 @@
-use denote.Param.Send.{sendable}
+use denote.Param.Send.{sendable, param_send}
 use Rattle.std.proofs.Crossing.{crosses}
-use Rattle.std.proofs.Common.{◌≡◌, ◌∙◌, ◌++◌, map, ap₂}
+use Rattle.std.proofs.Common.{All, Bor, List, ℕ, map, rules, subst, sym}
 use Rattle.std.proofs.lemmas.Result.{IfOk-at_ok}
-use Rattle.fb_types.specs.Headline.{system_of}
-use Rattle.fb_types.specs.Numbers.{line_of}
-use Rattle.fb_types.specs.Text.{lines_text}
 use Rattle.fb_types.proofs.run.Form.TheSendSync as form_crosses
 use Rattle.fb_types.proofs.run.Line.TheSendSync as line_crosses
+use Rattle.fb_types.specs.declared.run.Line.{Line}
+use Rattle.fb_sim.proofs.printing.+parts.Lts-halves_by.{arg-4-1}
+use Rattle.fb_types.specs.Headline.{system_of}
+use Rattle.fb_system.specs.Lines.{BelongsTo}
+use Rattle.fb_sim.specs.Weaving.{IsWovenText}
 use Rattle.fb_sim.proofs.Crossing.{system_sync}
-use Rattle.fb_sim.proofs.Texts.{parts_text}
+use Rattle.fb_sim.proofs.Texts.{woven_text-joined}
+use Rattle.fb_sim.proofs.Weaving.{parts_each}
 use Rattle.fb_sim.proofs.printing.+parts.Goals as goal
 
 pub halves_by-join-a-requires-send-F : goal.halves_by-join-a-requires-send-F
-halves_by-join-a-requires-send-F g t c κs within = search (sendable, crosses, system_sync, line_crosses.the_field_sync, form_crosses.the_field_send) depth 40
+halves_by-join-a-requires-send-F g t c κs within =
+    param_send 1 (arg-4-1 g.row.R g.R.laws g.R.Threads-dict κs) (search (sendable, crosses, system_sync, line_crosses.the_field_sync, form_crosses.the_field_send) depth 40)
+
+pub halves_by-join-a-requires-after_bounds : goal.halves_by-join-a-requires-after_bounds
+halves_by-join-a-requires-after_bounds g t c =
+    let belong = parts_each (BelongsTo (system_of c.args.system.now)) c.args.lists.now c.in_ok-firsts.firsts.items c.in_ok-firsts.lasts.items c.in_ok-firsts.ensures c.requires.belong in
+    let first : All (λ q. All (BelongsTo (system_of c.args.system.now)) q.now) c.as_slice-first.result.now =
+    subst (λ (qs : List (Bor (List Line))). All (λ q. All (BelongsTo (system_of c.args.system.now)) q.now) qs) (sym c.as_slice-first.ensures.value) belong.0 in
+    let last : All (λ q. All (BelongsTo (system_of c.args.system.now)) q.now) c.as_slice-last.result.now =
+    subst (λ (qs : List (Bor (List Line))). All (λ q. All (BelongsTo (system_of c.args.system.now)) q.now) qs) (sym c.as_slice-last.ensures.value) belong.1 in
+    search (rules, first, last)
 
 pub halves_by-returns : goal.halves_by-returns
 halves_by-returns g t c =
-    let sys = system_of c.args.system.now in
+    let i = c.args.system.now in
     let form = c.args.form in
-    ap₂ ◌++◌
-    (IfOk-at_ok (λ v. v.items ≡ lines_text form sys (map (line_of sys) c.split_at.result.0.now)) c.in_ok-text.was c.join-a.ensures.first)
-    (IfOk-at_ok (λ v. v.items ≡ lines_text form sys (map (line_of sys) c.split_at.result.1.now)) c.in_ok-rest.was c.join-a.ensures.second)
-    ∙ parts_text form sys _ _ _ c.split_at.ensures.by_index.0
+    woven_text-joined i form _ (map (λ (q : Bor (List Line)). q.now) c.in_ok-firsts.firsts.items) (map (λ (q : Bor (List Line)). q.now) c.in_ok-firsts.lasts.items) c.in_ok-firsts.ensures
+    c.in_ok-text.text.items c.in_ok-rest.rest.items
+    (subst (λ (qs : List (Bor (List Line))). IsWovenText i form (map (λ q. q.now) qs) c.in_ok-text.text.items) c.as_slice-first.ensures.value
+    (IfOk-at_ok (λ v. IsWovenText i form (map (λ (q : Bor (List Line)). q.now) c.as_slice-first.result.now) v.items) c.in_ok-text.was c.join-a.ensures.first))
+    (subst (λ (qs : List (Bor (List Line))). IsWovenText i form (map (λ q. q.now) qs) c.in_ok-rest.rest.items) c.as_slice-last.ensures.value
+    (IfOk-at_ok (λ v. IsWovenText i form (map (λ (q : Bor (List Line)). q.now) c.as_slice-last.result.now) v.items) c.in_ok-rest.was c.join-a.ensures.second))

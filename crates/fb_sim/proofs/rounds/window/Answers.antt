@@ -1,4 +1,8 @@
-use Rattle.std.proofs.Common.{ℕ, subst, sym, ◌∙◌}
+use Rattle.std.proofs.Common.{ℕ, All, subst, sym, ◌∙◌}
+use Rattle.std.specs.Global.{Vec}
+use Rattle.fb_types.specs.Headline.{Inputs, system_of}
+use Rattle.fb_types.specs.declared.run.Line.{Line}
+use Rattle.fb_system.specs.Lines.{BelongsTo}
 use Rattle.fb_window.specs.Leaving.{AreLegal}
 use Rattle.fb_window.specs.Reached.{KeepHorizon}
 use Rattle.fb_window.specs.Reaching.{OfEachCore}
@@ -21,18 +25,25 @@ jobs-requires-clause-legal g c =
     subst (λ (n : ℕ). OfEachCore c.args.core.system c.args.core.steps c.args.core.resources.items (λ d. AreLegal c.args.core.system c.args.core.steps n d c.bounds-bounds.result.all)) (sym c.bounds-bounds.ensures.horizon)
     c.bounds-bounds.ensures.legal
 
-pub settle-requires-clause-system : goal.settle-requires-clause-system
-settle-requires-clause-system g c =
+pub settle_apart-requires-clause-system : goal.settle_apart-requires-clause-system
+settle_apart-requires-clause-system g c =
     let kept = c.in_ok-away.ensures.kept in
     sym (kept.0 ∙ c.requires.come.1.of.inputs)
 
-pub settle-requires-clause-done : goal.settle-requires-clause-done
-settle-requires-clause-done g c =
+pub settle_apart-requires-clause-done : goal.settle_apart-requires-clause-done
+settle_apart-requires-clause-done g c =
     let kept = c.in_ok-away.ensures.kept in
     are_done c.args.system.now c.args.options.steps c.args.options.horizon c.args.core c.requires.come.0 c.requires.come.1 c.bounds-bounds.result.all _ kept.0 kept.1 kept.3 c.in_ok-away.ensures.away _ _ c.in_ok-away.ensures.jobs c.in_ok-dones.ensures.done
 
 pub returns-clause-home : goal.returns-clause-home
 returns-clause-home g c ls h =
     let kept = c.in_ok-away.ensures.kept in
+    λ all m.
     is_home c.args.system.now c.args.options.steps c.args.options.horizon c.args.core ls h c.bounds-bounds.result.all _ kept.0 kept.1 kept.3 c.in_ok-away.ensures.away _
-    (record { accepted = c.facts.ensures.accepted; limits = c.facts.ensures.limits }) (kept.2 ∙ c.bounds-bounds.ensures.horizon) c.bounds-bounds.ensures.legal _ c.bounds-bounds.ensures.bounds c.in_ok-settled.ensures
+    (record { accepted = c.facts.ensures.accepted; limits = c.facts.ensures.limits }) (kept.2 ∙ c.bounds-bounds.ensures.horizon) c.bounds-bounds.ensures.legal _ c.bounds-bounds.ensures.bounds
+    (c.in_ok-reach.ensures.settles all m)
+
+pub returns-clause-belong : goal.returns-clause-belong
+returns-clause-belong g c =
+    let kept = c.in_ok-away.ensures.kept in
+    subst (λ (i : Inputs). All (λ (p : Vec Line). All (BelongsTo (system_of i)) p.items) c.in_ok-reach.finals.items) (kept.0 ∙ c.requires.come.1.of.inputs) c.in_ok-reach.ensures.belong

@@ -1,7 +1,6 @@
 use Rattle.std.proofs.Common.{◌≡◌, ◌<◌, ℕ, List, length, refl, sym, ap, subst, ◌∙◌, arith, All}
 use Rattle.std.specs.Global.{Vec}
 use Rattle.std.specs.List.{AllZip}
-use Rattle.std.specs.List.Sorted.{IsPermutation}
 use Rattle.std.specs.Prelude.{Some, None, slice_get}
 use Rattle.fb_types.specs.Headline.{AreAccepted, Inputs, system_of}
 use Rattle.fb_types.specs.Limits.{IsWithinLimits}
@@ -14,15 +13,16 @@ use Rattle.fb_laws.specs.Sound.{AreGood}
 use Rattle.fb_resource.specs.declared.resource.Resource.{Resource}
 use Rattle.fb_window.specs.Homes.{AreHome}
 use Rattle.fb_window.specs.Jobs.{Does}
-use Rattle.fb_trace.specs.Merging.{AreMerged, AreRising, flat}
+use Rattle.fb_trace.proofs.Together.{kept}
+use Rattle.fb_window.specs.Settling.{IsMerged}
 use Rattle.fb_window.specs.Frontiers.{AreCut, IsEnd, IsFrontier, edge_of}
 use Rattle.fb_window.specs.Mails.{ArePosted}
 use Rattle.fb_window.proofs.Passes.{few_resources}
 use Rattle.fb_window.proofs.Rounds.{HasGathered, settle_going, settle_ended, settle_reached, settle_stopped}
 use Rattle.fb_window.proofs.Walks.{made_ok}
-use Rattle.fb_window.proofs.Targets.{lines_belong, merged_in, rests_in, targets_in}
-use Rattle.fb_window.proofs.cores.AwayState.settle.Goals as goal
-use Rattle.fb_window.proofs.cores.AwayState.settle.Goals.{After-end_of-end}
+use Rattle.fb_window.proofs.Targets.{fronts_in, lines_belong, rests_in, targets_in}
+use Rattle.fb_window.proofs.cores.AwayState.settle_apart.Goals as goal
+use Rattle.fb_window.proofs.cores.AwayState.settle_apart.Goals.{After-end_of-end}
 
 pub come_home-requires : goal.come_home-requires
 come_home-requires c =
@@ -81,33 +81,28 @@ posted c =
     (made_ok _ c.post-posted.result c.in_ok-kept.resources c.in_ok-kept.ensures.made c.post-posted.ensures)
 
 -- how the lines that were kept were cut
-found : (c : After-end_of-end) → (finals : List (Vec Line)) × AreCut (edge_of c.frontier_of-frontier.result) c.in_ok-home.home.pending.items finals c.in_ok-resources.cut.1.items
-    × (AreRising finals → AreMerged finals c.in_ok-resources.cut.0.items) × IsPermutation (flat finals) c.in_ok-resources.cut.0.items
+found : (c : After-end_of-end) → AreCut (edge_of c.frontier_of-frontier.result) c.in_ok-home.home.pending.items c.in_ok-resources.cut.0.items c.in_ok-resources.cut.1.items
 found c =
-    let t = made_ok _ c.final_lines.result c.in_ok-resources.cut c.in_ok-resources.ensures.made c.final_lines.ensures in (
-      t.0,
-      subst (λ (v : Vec (Vec Line)). AreCut (edge_of c.frontier_of-frontier.result) v.items t.0 c.in_ok-resources.cut.1.items) c.in_ok-kept.ensures.kept t.1,
-      t.2,
-      t.3,
-    )
+    subst (λ (v : Vec (Vec Line)). AreCut (edge_of c.frontier_of-frontier.result) v.items c.in_ok-resources.cut.0.items c.in_ok-resources.cut.1.items) c.in_ok-kept.ensures.kept
+    (made_ok _ c.cut_all.result c.in_ok-resources.cut c.in_ok-resources.ensures.made c.cut_all.ensures)
 
--- what all three returns rest on
-gathered : (c : After-end_of-end) → HasGathered c.args.self.system c.args.self.steps c.args.self.horizon c.args.self.resting.items c.args.self.pending.items c.args.dones.items c.in_ok-home.home
-    c.in_ok-kept.resources.items (found c).0 c.in_ok-resources.cut.1.items c.in_ok-resources.cut.0.items c.end_of-end.result
-gathered c =
+-- the lines that came home are lines of the system
+came : (c : After-end_of-end) → All (λ (p : Vec Line). All (BelongsTo (system_of c.args.self.system)) p.items) c.in_ok-home.home.pending.items
+came c =
     let a = c.args.self in
     let b = c.requires.away in
     let done = subst (λ z. AllZip Does z c.args.dones.items) b.left.jobs c.requires.done in
     let h = c.in_ok-home.home in
     let home : AreHome a.system a.steps b.bounds b.resources a.pending.items h = c.in_ok-home.ensures a.system a.steps b.bounds b.resources b.left.resting done in
-    let zs = c.in_ok-kept.resources.items in
+    lines_belong a.system a.steps b.bounds b.resources a.pending.items h home b.belong
+
+-- what all three returns rest on
+gathered : (c : After-end_of-end) → HasGathered c.args.self.system c.args.self.steps c.args.self.horizon c.args.self.resting.items c.args.self.pending.items c.args.dones.items c.in_ok-home.home
+    c.in_ok-kept.resources.items c.in_ok-resources.cut.0.items c.in_ok-resources.cut.1.items c.end_of-end.result
+gathered c =
+    let a = c.args.self in
     let least = c.least_next-least.result in
     let edge = edge_of c.frontier_of-frontier.result in
-    let f = found c in
-    let fronts = f.0 in
-    let rests = c.in_ok-resources.cut.1.items in
-    let out = c.in_ok-resources.cut.0.items in
-    let belong : All (λ (p : Vec Line). All (BelongsTo (system_of a.system)) p.items) h.pending.items = lines_belong a.system a.steps b.bounds b.resources a.pending.items h home b.belong in
     record {
       good = record {
         accepted = subst AreAccepted c.requires.system c.facts.ensures.accepted;
@@ -122,19 +117,26 @@ gathered c =
         low = subst (λ (ys : List Resource). (r : ℕ) (x : Resource) (j : Key) → slice_get ys r ≡ Some x → j.tick < least → waiting x.agenda j ≡ None) c.deref.ensures.value c.least_next-least.ensures.low;
         there = subst (λ (ys : List Resource). least < a.horizon → (r : ℕ) × (x : Resource) × (slice_get ys r ≡ Some x) × IsNext x.agenda least) c.deref.ensures.value c.least_next-least.ensures.there;
         frontier = subst (λ (ys : List Resource). IsFrontier least ys edge) c.deref-2.ensures.value c.frontier_of-frontier.ensures;
-        cut = f.1;
-        merged = f.2;
+        cut = found c;
         ends = subst (λ (ys : List Resource). IsEnd a.horizon ys c.end_of-end.result) (c.deref-3.ensures.value ∙ ap (λ (v : Vec Resource). v.items) c.in_ok-resources.ensures.kept) c.end_of-end.ensures;
       };
-      belong = merged_in (BelongsTo (system_of a.system)) edge h.pending.items fronts rests f.1 belong out f.3;
-      belongs = rests_in (BelongsTo (system_of a.system)) edge h.pending.items fronts rests f.1 belong;
+      belongs = rests_in (BelongsTo (system_of a.system)) edge c.in_ok-home.home.pending.items c.in_ok-resources.cut.0.items c.in_ok-resources.cut.1.items (found c) (came c);
     }
+
+-- the lines that are final are lines of the system
+finals : (c : After-end_of-end) → All (λ (p : Vec Line). All (BelongsTo (system_of c.args.self.system)) p.items) c.in_ok-resources.cut.0.items
+finals c =
+    fronts_in (BelongsTo (system_of c.args.self.system)) (edge_of c.frontier_of-frontier.result) c.in_ok-home.home.pending.items c.in_ok-resources.cut.0.items c.in_ok-resources.cut.1.items
+    (found c) (came c)
+
+all_belong : (c : After-end_of-end) (all : List Line) → IsMerged c.in_ok-resources.cut.0.items all → All (BelongsTo (system_of c.args.self.system)) all
+all_belong c all m = kept c.in_ok-resources.cut.0.items all m.moved (BelongsTo (system_of c.args.self.system)) (finals c)
 
 pub invariant_of-core : goal.invariant_of-core
 invariant_of-core c =
     let d = (goal.at.invariant_of-core c).After-end_of-end in
     let b = c.requires.away in
-    settle_reached c.args.self c.args.dones.items c.requires.done c.in_ok-home.home c.in_ok-kept.resources.items (found d).0 c.in_ok-resources.cut.1.items c.in_ok-resources.cut.0.items
+    settle_reached c.args.self c.args.dones.items c.requires.done c.in_ok-home.home c.in_ok-kept.resources.items c.in_ok-resources.cut.0.items c.in_ok-resources.cut.1.items
     c.end_of-end.result (gathered d) b.resources b.bounds b.way.steps (λ r. 0) b.left b.way.schedule b.way.at b.way.legal
     b.way.idle b.some_steps b.few_steps c.in_ok-resources.resources c.in_ok-resources.cut.1 (ap (λ (v : Vec Resource). v.items) c.in_ok-resources.ensures.kept) refl
 
@@ -142,24 +144,33 @@ pub invariant_of-core-in-Horizon : goal.invariant_of-core-in-Horizon
 invariant_of-core-in-Horizon c =
     let d = (goal.at.invariant_of-core-in-Horizon c).After-end_of-end in
     let b = c.requires.away in
-    settle_reached c.args.self c.args.dones.items c.requires.done c.in_ok-home.home c.in_ok-kept.resources.items (found d).0 c.in_ok-resources.cut.1.items c.in_ok-resources.cut.0.items
+    settle_reached c.args.self c.args.dones.items c.requires.done c.in_ok-home.home c.in_ok-kept.resources.items c.in_ok-resources.cut.0.items c.in_ok-resources.cut.1.items
     c.end_of-end.result (gathered d) b.resources b.bounds b.way.steps (λ r. 0) b.left b.way.schedule b.way.at b.way.legal
     b.way.idle b.some_steps b.few_steps c.in_ok-resources.resources c.in_ok-resources.cut.1 (ap (λ (v : Vec Resource). v.items) c.in_ok-resources.ensures.kept) refl
 
-pub returns-in-Open : goal.returns-in-Open
-returns-in-Open c = λ xs bounds es workers left sc at legal.
-    let d = (goal.at.returns-in-Open c).After-end_of-end in
-    settle_going c.args.self c.args.dones.items c.requires.done c.in_ok-home.home c.in_ok-kept.resources.items (found d).0 c.in_ok-resources.cut.1.items c.in_ok-resources.cut.0.items
-    c.end_of-end.result (gathered d) xs bounds es workers left sc at legal _ _ c.in-Open.is refl refl (ap (λ (v : Vec Resource). v.items) c.in_ok-resources.ensures.kept) refl refl
+pub returns-in-Open-clause-settles : goal.returns-in-Open-clause-settles
+returns-in-Open-clause-settles c = λ all m xs bounds es workers left sc at legal.
+    let d = (goal.at.returns-in-Open-clause-settles c).After-end_of-end in
+    settle_going c.args.self c.args.dones.items c.requires.done c.in_ok-home.home c.in_ok-kept.resources.items c.in_ok-resources.cut.0.items c.in_ok-resources.cut.1.items
+    c.end_of-end.result (gathered d) xs bounds es workers left sc at legal _ all m.merged (all_belong d all.items m) c.in-Open.is refl refl (ap (λ (v : Vec Resource). v.items) c.in_ok-resources.ensures.kept) refl
 
-pub returns-in-Horizon : goal.returns-in-Horizon
-returns-in-Horizon c = λ xs bounds es workers left sc at legal.
-    let d = (goal.at.returns-in-Horizon c).After-end_of-end in
-    settle_ended c.args.self c.args.dones.items c.requires.done c.in_ok-home.home c.in_ok-kept.resources.items (found d).0 c.in_ok-resources.cut.1.items c.in_ok-resources.cut.0.items
-    c.end_of-end.result (gathered d) xs bounds es workers left sc at legal _ _ c.in-Horizon.is refl refl (ap (λ (v : Vec Resource). v.items) c.in_ok-resources.ensures.kept) refl refl
+pub returns-in-Horizon-clause-settles : goal.returns-in-Horizon-clause-settles
+returns-in-Horizon-clause-settles c = λ all m xs bounds es workers left sc at legal.
+    let d = (goal.at.returns-in-Horizon-clause-settles c).After-end_of-end in
+    settle_ended c.args.self c.args.dones.items c.requires.done c.in_ok-home.home c.in_ok-kept.resources.items c.in_ok-resources.cut.0.items c.in_ok-resources.cut.1.items
+    c.end_of-end.result (gathered d) xs bounds es workers left sc at legal _ all m.merged (all_belong d all.items m) c.in-Horizon.is refl refl (ap (λ (v : Vec Resource). v.items) c.in_ok-resources.ensures.kept) refl
 
-pub returns : goal.returns
-returns c = λ xs bounds es workers left sc at legal.
-    let d = (goal.at.returns c).After-end_of-end in
-    settle_stopped c.args.self c.args.dones.items c.requires.done c.in_ok-home.home c.in_ok-kept.resources.items (found d).0 c.in_ok-resources.cut.1.items c.in_ok-resources.cut.0.items
-    c.end_of-end.result (gathered d) xs bounds es workers left sc at legal _ c.in-Stop.mark c.in-Stop.is refl
+pub returns-clause-settles : goal.returns-clause-settles
+returns-clause-settles c = λ all m xs bounds es workers left sc at legal.
+    let d = (goal.at.returns-clause-settles c).After-end_of-end in
+    settle_stopped c.args.self c.args.dones.items c.requires.done c.in_ok-home.home c.in_ok-kept.resources.items c.in_ok-resources.cut.0.items c.in_ok-resources.cut.1.items
+    c.end_of-end.result (gathered d) xs bounds es workers left sc at legal all m.merged (all_belong d all.items m) c.in-Stop.mark c.in-Stop.is
+
+pub returns-in-Open-clause-belong : goal.returns-in-Open-clause-belong
+returns-in-Open-clause-belong c = finals (goal.at.returns-in-Open-clause-belong c).After-end_of-end
+
+pub returns-in-Horizon-clause-belong : goal.returns-in-Horizon-clause-belong
+returns-in-Horizon-clause-belong c = finals (goal.at.returns-in-Horizon-clause-belong c).After-end_of-end
+
+pub returns-clause-belong : goal.returns-clause-belong
+returns-clause-belong c = finals (goal.at.returns-clause-belong c).After-end_of-end

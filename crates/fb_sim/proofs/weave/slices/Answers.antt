@@ -1,0 +1,14 @@
+use Rattle.std.proofs.Common.{◌≡◌, ◌+◌, ◌++◌, [], ◌∷◌, map, take, sym, ap, ◌∙◌}
+use Rattle.std.proofs.lemmas.List.{map_push, take_more}
+use Rattle.fb_sim.proofs.weave.slices.Goals as goal
+
+pub loop-list-preserved : goal.loop-list-preserved
+loop-list-preserved c =
+    let xs = c.args.lists.now in
+    let i = c.loop-list.list-index in
+    let v = c.list-item.result in
+    let more : take (i + 1) xs ≡ take i xs ++ v ∷ [] = take_more xs i v c.loop-list-test.true ∙ ap (λ z. take i xs ++ z ∷ []) (sym c.list-item.is) in
+    ap (map (λ q. q.now)) c.in_ok-push.ensures.items ∙ map_push (λ q. q.now) c.loop-list.slices.items c.as_slice.result
+    ∙ ap (λ z. map (λ q. q.now) c.loop-list.slices.items ++ z ∷ []) c.as_slice.ensures.value
+    ∙ ap (λ z. z ++ v.items ∷ []) c.loop-list.invariant
+    ∙ sym (map_push (λ v. v.items) (take i xs) v) ∙ sym (ap (map (λ v. v.items)) more)

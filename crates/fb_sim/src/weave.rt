@@ -1,0 +1,230 @@
+//! The text of lines that lie in several lists, in the order of the trace. The lines stay where they are.
+
+ghost use Rattle.std.specs.Prelude.{◌≡◌, ◌++◌, ◌<◌, ◌≤◌, drop, length, map, nat_lt, take, All, IfOk, OnOk};
+ghost use Rattle.fb_types.specs.Machines.{Each};
+ghost use Rattle.fb_types.specs.OfSystem.{line_of, lines_text};
+ghost use Rattle.fb_system.specs.OfSystem.{BelongsTo};
+ghost use Rattle.fb_trace.specs.Fronts as fronts;
+ghost use Rattle.fb_trace.specs.Fronts.{IsLeast, all_early, all_late, early, late, tick_at};
+ghost use Rattle.fb_trace.specs.Merging.{Rises, tick_of};
+ghost use Rattle.fb_sim.specs.Weaving.{AreDivided, IsWovenText, until};
+
+use fb_system::System;
+use fb_trace::write_lines;
+use fb_types::{Form, Line};
+use std::alloc::{AllocError, Global};
+
+/// Each list as a slice.
+///
+/// # Errors
+/// When memory runs out.
+pub(crate) fn slices<'a>(
+    alloc: Global,
+    lists: &'a [Vec<Line>],
+) -> Result<Vec<&'a [Line]>, AllocError>
+    ensures { IfOk result (λ v. map (λ q. q.now) v.items ≡ map (λ q. q.items) lists.now) }
+{
+    let mut slices = Vec::with_capacity(alloc, lists.len())?;
+    for list in lists {
+        slices.push(list.as_slice())?;
+    }
+    Ok(slices)
+}
+
+/// The tick of the first line, if there is one.
+fn first_tick(list: &[Line]) -> Option<u64>
+    ensures { result ≡ tick_at list.now }
+{
+    match list.first() {
+        Some(line) => Some(line.key.tick),
+        None => None,
+    }
+}
+
+/// The least tick of all first lines, if there is a line.
+fn least_tick(lists: &[&[Line]]) -> Option<u64>
+    ensures { IsLeast (map (λ q. q.now) lists.now) result }
+{
+    let mut least = None;
+    for list in lists {
+        least = lesser(least, first_tick(*list));
+    }
+    least
+}
+
+/// The lesser of two ticks, or the one that is there.
+fn lesser(one: Option<u64>, other: Option<u64>) -> Option<u64>
+    ensures { result ≡ fronts.lesser one other }
+{
+    match (one, other) {
+        (Some(a), Some(b)) => { if b < a { Some(b) } else { Some(a) } }
+        (one, None) => one,
+        (None, other) => other,
+    }
+}
+
+/// How many lines are before the first one past a tick.
+fn early_count(list: &[Line], tick: u64) -> usize
+    ensures within { result ≤ length list.now }
+    ensures early { take result list.now ≡ early tick list.now }
+    ensures late { drop result list.now ≡ late tick list.now }
+{
+    let mut count = 0;
+    while count < list.len() {
+        if list[count].key.tick > tick {
+            return count;
+        }
+        count += 1;
+    }
+    count
+}
+
+/// Appends the text of the lines up to a tick of each list in turn, and returns the lists that have lines left.
+fn append_early<'a>(
+    alloc: Global,
+    text: &mut Vec<u8>,
+    system: &System,
+    form: Form,
+    lists: &[&'a [Line]],
+    tick: u64,
+) -> Result<Vec<&'a [Line]>, AllocError>
+    requires { All (λ q. All (BelongsTo system.now) q.now) lists.now }
+    ensures text { OnOk result (text.new.items ≡ text.old.items ++ lines_text form system.now (map (line_of system.now) (all_early tick (map (λ q. q.now) lists.now)))) }
+    ensures left { IfOk result (λ v. map (λ q. q.now) v.items ≡ all_late tick (map (λ q. q.now) lists.now)) }
+{
+    let mut left = Vec::with_capacity(alloc, lists.len())?;
+    for list in lists {
+        let (now, later) = list.split_at(early_count(*list, tick));
+        append_text(text, system, form, now)?;
+        if !later.is_empty() {
+            left.push(later)?;
+        }
+    }
+    Ok(left)
+}
+
+/// Appends the text of lines.
+fn append_text(
+    text: &mut Vec<u8>,
+    system: &System,
+    form: Form,
+    lines: &[Line],
+) -> Result<(), AllocError>
+    requires { All (BelongsTo system.now) lines.now }
+    ensures { OnOk result (text.new.items ≡ text.old.items ++ lines_text form system.now (map (line_of system.now) lines.now)) }
+{
+    match write_lines(text, system, form, lines) {
+        Ok(()) => Ok(()),
+        // A writer into memory fails for memory alone.
+        Err(_) => Err(AllocError),
+    }
+}
+
+/// The text of the lines of all lists, tick by tick, those of a tick list by list.
+///
+/// # Errors
+/// When memory runs out.
+pub(crate) fn woven_text(
+    alloc: Global,
+    system: &System,
+    form: Form,
+    lists: &[&[Line]],
+) -> Result<Vec<u8>, AllocError>
+    requires { All (λ q. All (BelongsTo system.now) q.now) lists.now }
+    ensures { IfOk result (λ v. IsWovenText system.now form (map (λ q. q.now) lists.now) v.items) }
+{
+    let mut text = Vec::new(alloc);
+    let mut left = Vec::from_slice(alloc, lists)?;
+    let mut next = least_tick(&left);
+    while let Some(tick) = next {
+        left = append_early(alloc, &mut text, system, form, &left, tick)?;
+        next = least_tick(&left);
+    }
+    Ok(text)
+}
+
+/// A position in the order of lines: before it are the lines before the tick, and those at the tick of the lists
+/// before the list.
+#[derive(Clone, Copy)]
+pub(crate) struct Cut {
+    tick: u64,
+    list: usize,
+}
+
+/// The longest list.
+fn longest<'a>(lists: &[&'a [Line]]) -> &'a [Line] {
+    let mut longest: &'a [Line] = &[];
+    for list in lists {
+        if list.len() > longest.len() {
+            longest = *list;
+        }
+    }
+    longest
+}
+
+/// A cut before which some of a number of equal parts of all lines are, if each list is like the longest.
+fn cut_at(lists: &[&[Line]], some: usize, parts: usize) -> Cut {
+    let list = longest(lists);
+    let index = list.len().saturating_mul(some) / parts.max(1);
+    match list.get(index) {
+        Some(line) => {
+            let tick = line.key.tick;
+            let start = list.partition_point(|line| line.key.tick < tick);
+            let end = list.partition_point(|line| line.key.tick <= tick);
+            let before = index.saturating_sub(start);
+            let all = end.saturating_sub(start).max(1);
+            Cut {
+                tick,
+                list: lists.len().saturating_mul(before) / all,
+            }
+        }
+        None => Cut { tick: 0, list: 0 },
+    }
+}
+
+impl Cut {
+    /// Whether a line of the list at an index, at a tick, is before it.
+    fn is_after(&self, index: usize, tick: u64) -> bool
+        ensures { result ≡ nat_lt tick (until self.now index) }
+    {
+        if index < self.list {
+            tick <= self.tick
+        } else {
+            tick < self.tick
+        }
+    }
+}
+
+/// How many lines of the list at an index are before a cut, if its ticks do not fall.
+fn count_before(list: &[Line], index: usize, cut: &Cut) -> usize
+    ensures within { result ≤ length list.now }
+    ensures before { Rises tick_of list.now → Each (λ x. tick_of x < until cut.now index) (take result list.now) }
+    ensures from { Rises tick_of list.now → Each (λ x. until cut.now index ≤ tick_of x) (drop result list.now) }
+{
+    list.partition_point(|line| cut.is_after(index, line.key.tick))
+}
+
+/// Each list in two parts, so that all lines of the first parts come before those of the last ones. The first parts
+/// have some of a number of equal parts of all lines, if each list is like the longest.
+///
+/// # Errors
+/// When memory runs out.
+pub(crate) fn divide<'a>(
+    alloc: Global,
+    lists: &[&'a [Line]],
+    some: usize,
+    parts: usize,
+) -> Result<(Vec<&'a [Line]>, Vec<&'a [Line]>), AllocError>
+    ensures { IfOk result (λ r. AreDivided (map (λ q. q.now) lists.now) (map (λ q. q.now) r.0.items) (map (λ q. q.now) r.1.items)) }
+{
+    let cut = cut_at(lists, some, parts);
+    let mut firsts = Vec::with_capacity(alloc, lists.len())?;
+    let mut lasts = Vec::with_capacity(alloc, lists.len())?;
+    for list in lists {
+        let count = count_before(*list, firsts.len(), &cut);
+        let (first, last) = list.split_at(count);
+        firsts.push(first)?;
+        lasts.push(last)?;
+    }
+    Ok((firsts, lasts))
+}
