@@ -1,4 +1,4 @@
-//! States that no transition leaves (L06), transitions behind one that always clears (L07), event inputs that no
+//! States that no transition leaves (L06), transitions after one that always clears (L07), event inputs that no
 //! transition names (L08), algorithms that no action runs (L09), and event outputs that no action emits (L11).
 
 ghost use Rattle.std.specs.Prelude.{◌≡◌, ◌++◌, OnOk};
@@ -72,7 +72,7 @@ fn is_shadowed(later: &Transition, earlier: &[Transition]) -> bool
     earlier.iter().any(|earlier| shadows(later, earlier))
 }
 
-/// Adds the transitions behind one that always clears.
+/// Adds the transitions after one that always clears.
 pub(crate) fn push_shadowed_transitions(
     all: &mut Vec<Warning>,
     block: usize,

@@ -1,5 +1,6 @@
 pub mod Steps
 pub mod Named
+mod Leaving
 mod Resuming
 mod TypePorts
 mod Placed

@@ -1,10 +1,13 @@
 -- The place at which a position is shown.
-use Rattle.std.proofs.Common.{◌≡◌, Option, Some, None, subst}
+use Rattle.std.proofs.Common.{◌≡◌, ◌++◌, ◌∷◌, [], ◌+◌, ◌<◌, ℕ, List, Option, Some, None, get_or, length, sym, subst, take, ◌∙◌, ap}
+use Rattle.std.specs.List.{AllZip}
+use Rattle.std.proofs.lemmas.List.{take_more}
+use Rattle.std.proofs.lemmas.Slice.Zip.{all_zipped_more}
 use Rattle.std.specs.Prelude.{IfSome}
 use Rattle.fb_types.specs.declared.library.Library.{Library}
 use Rattle.fb_read.specs.Blank.{Text}
 use Rattle.fb_read.specs.declared.token.Span.{Span}
-use Rattle.fb_read_positions.specs.Locations.{IsLocation, IsPlaceAt, IsStretch}
+use Rattle.fb_read_positions.specs.Locations.{IsLocation, IsPlaceAt, IsPlaceFor, IsStretch}
 use Rattle.fb_read_positions.specs.Places.{IsAt}
 use Rattle.fb_read_positions.specs.declared.position.Position.{Position}
 use Rattle.fb_read_positions.specs.declared.text_locations.TextLocation.{TextLocation}
@@ -21,3 +24,20 @@ placed text library p s (Some place) at located there = record { span = s; at = 
 pub found_at : (text : Text) (library : Library) (p : Position) (place : Option TextLocation) → IfSome place (IsPlaceAt text library p) → IfSome place (IsLocation text)
 found_at text library p None h = tt
 found_at text library p (Some place) h = h.located
+
+-- ---- Places one after another
+
+pub none_placed : (text : Text) (library : Library) (places : List (Option TextLocation)) → places ≡ [] → AllZip (IsPlaceFor text library) [] places
+none_placed text library places none = subst (λ (os : List (Option TextLocation)). AllZip (IsPlaceFor text library) [] os) (sym none) tt
+
+-- one place more
+pub one_placed :
+    (text : Text) (library : Library) (positions : List (Option Position)) (i : ℕ) (places more : List (Option TextLocation)) (p : Option Position) (place : Option TextLocation) → i < length positions
+    → p ≡ get_or positions i p → more ≡ places ++ place ∷ [] → AllZip (IsPlaceFor text library) (take i positions) places → IsPlaceFor text library p place
+    → AllZip (IsPlaceFor text library) (take (i + 1) positions) more
+one_placed text library positions i places more p place within is added before here =
+    let R = IsPlaceFor text library in
+    let q = get_or positions i p in
+    subst (λ (os : List (Option TextLocation)). AllZip R (take (i + 1) positions) os) (sym added)
+    (subst (λ (ps : List (Option Position)). AllZip R ps (places ++ place ∷ [])) (sym (take_more positions i p within))
+    (all_zipped_more R (take i positions) places q place before (subst (λ (o : Option Position). R o place) is here)))

@@ -1,96 +1,42 @@
 -- Walks that go on where an earlier one has been.
-use Rattle.std.proofs.Common.{◌≡◌, ◌-◌, ◌+◌, ◌≤◌, ℕ, zero, suc, List, [], ◌∷◌, ◌++◌, map, length, drop, Some, None, Result, Ok, Err, refl, sym, ◌∙◌, ap, subst, arith}
+use Rattle.std.proofs.Common.{◌≡◌, ◌-◌, ◌+◌, ◌≤◌, ℕ, zero, suc, Bool, true, false, cond, List, [], ◌∷◌, ◌++◌, map, length, drop, Option, Some, None, Result, Ok, Err, refl, sym, ◌∙◌, ap, subst, arith}
+use Rattle.std.specs.Prelude.{◌&&◌}
 use Rattle.std.proofs.lemmas.List.{length-append, length-map}
-use Rattle.std.proofs.lemmas.Option.{same_Some}
 use Rattle.fb_read.specs.Blocks.{block}
-use Rattle.fb_types.specs.Names.{Name}
-use Rattle.fb_read.specs.Network.{application, connection, instance, parameters}
-use Rattle.fb_read.specs.Nodes.{instance_of}
-use Rattle.fb_read.specs.Parser.{Outcome, Parser, Reads, RuleFault, ◌>>=◌, ◌>>◌, and_then, expect, many, name, pure, run_after, section, sees, syntax, too_deep}
+use Rattle.fb_read.specs.Charts.{action, algorithm, state, transition}
+use Rattle.fb_read.specs.Network.{connection, instance, parameter}
+use Rattle.fb_read.specs.Parser.{Outcome, Parser, Reads, ◌>>◌, expect, name, pure}
+use Rattle.fb_read.specs.Ports.{event}
+use Rattle.fb_read.specs.Statements.{begins_statement}
 use Rattle.fb_read.specs.declared.fault.ParseFault.{ParseFault}
 use Rattle.fb_read.specs.Tokens.{Tokens, tokens_of}
 use Rattle.fb_read.specs.declared.token.Located.{Located}
 use Rattle.fb_read.specs.declared.token.Mark.TheVariants as mark
 use Rattle.fb_read.specs.declared.token.Token.{Token}
-use Rattle.fb_read.proofs.Local.{Local, local-bind, local-if, local-pure, shape, is_read, is_stuck, is_deep}
-use Rattle.fb_read.proofs.LocalLibrary.{advances-block, local-block}
-use Rattle.fb_read.proofs.LocalLoops.{IsNoneAtEnd, local-many, local-run_after, local-section, sees-head}
-use Rattle.fb_read.proofs.LocalRules.{advances-bind, advances-connection, advances-name, local-application, local-connection, local-instance, local-parameters, none-bind, none-connection, none-name}
-use Rattle.fb_read.proofs.LocalSteps.{Advances, local-expect, local-name}
+use Rattle.fb_read.specs.declared.token.Token.TheVariants as token
 use Rattle.fb_read.proofs.Steps.{both_ok}
-use Rattle.fb_read_positions.specs.Resumed.{IsReached, Leaves, block_of}
-use Rattle.fb_read_positions.specs.Walks.{Walk, from_block, from_item, index_of, list_of, pass, pass_blocks, pass_listed, past_application, skip, to_application, to_block, to_item, to_list, to_network, to_network_part, to_position}
-use Rattle.fb_read_positions.specs.declared.network.NetworkList.{NetworkList}
-use Rattle.fb_read_positions.specs.declared.network.NetworkList.TheVariants as network_list
-use Rattle.fb_read_positions.specs.declared.position.NetworkPart.{NetworkPart}
+use Rattle.fb_read_positions.specs.Lists.{item_of, outer}
+use Rattle.fb_read_positions.specs.Resumed.{IsAhead, IsListed, IsReached, IsStop, Leaves}
+use Rattle.fb_read_positions.specs.Walks.{Walk, by_way_of, from_item, opens, pass, pass_blocks, pass_in_basic, pass_in_network, pass_in_ports, pass_inner, pass_items, pass_outer, pass_separated, pass_variables, past_application, past_variable, skip, to_application, to_first, to_item, to_name, to_outer, to_owner, to_position, to_statement}
+use Rattle.fb_read_positions.specs.declared.lists.BasicList.{BasicList}
+use Rattle.fb_read_positions.specs.declared.lists.BasicList.TheVariants as basic_list
+use Rattle.fb_read_positions.specs.declared.lists.InnerList.{InnerList}
+use Rattle.fb_read_positions.specs.declared.lists.InnerList.TheVariants as inner_list
+use Rattle.fb_read_positions.specs.declared.lists.Item.{Item}
+use Rattle.fb_read_positions.specs.declared.lists.ItemList.{ItemList}
+use Rattle.fb_read_positions.specs.declared.lists.ItemList.TheVariants as item_list
+use Rattle.fb_read_positions.specs.declared.lists.NetworkList.{NetworkList}
+use Rattle.fb_read_positions.specs.declared.lists.NetworkList.TheVariants as network_list
+use Rattle.fb_read_positions.specs.declared.lists.OuterList.{OuterList}
+use Rattle.fb_read_positions.specs.declared.lists.OuterList.TheVariants as outer_list
+use Rattle.fb_read_positions.specs.declared.lists.PortList.{PortList}
+use Rattle.fb_read_positions.specs.declared.lists.PortList.TheVariants as port_list
 use Rattle.fb_read_positions.specs.declared.position.Position.{Position}
-use Rattle.fb_read_positions.specs.declared.position.Position.TheVariants as position
+use Rattle.fb_read_positions.specs.declared.resume.Listed.{Listed}
 use Rattle.fb_read_positions.specs.declared.resume.Reached.{Reached}
-use Rattle.fb_read_positions.proofs.Steps.{blocks_more, pass_more, then_on}
-
--- ---- What walks leave
-
-local-skip : {A : Type 0} (p : Parser A) → Local p → Local (skip p)
-unfolding skip
-local-skip p l = local-bind p _ l (λ _. local-pure tt)
-
-local-past : Local past_application
-unfolding past_application
-local-past = local-if (sees mark.Application) (skip application) (pure tt) (sees-head mark.Application) (local-skip application local-application) (local-pure tt)
-
-pub local-blocks : (n : ℕ) → Local (pass_blocks n)
-unfolding pass_blocks
-local-blocks zero = local-pure tt
-local-blocks (suc n) = local-bind past_application _ local-past (λ _. local-bind (skip block) _ (local-skip block local-block) (λ _. local-blocks n))
-
-local-network : Local to_network
-unfolding to_network to_application
-local-network =
-    local-bind _ _
-    (local-bind (skip (run_after block mark.FunctionBlock [])) _ (local-skip _ (local-run_after block mark.FunctionBlock local-block advances-block [])) (λ _. local-expect mark.Application))
-    (λ _. local-skip name local-name)
-
--- what follows the name of an instance
-typed : (first : Name) → Local (expect mark.Colon >>= (λ _. name >>= (λ t. parameters >>= (λ given. expect mark.Semicolon >>= (λ _. pure (instance_of first t given))))))
-typed first =
-    local-bind (expect mark.Colon) _ (local-expect mark.Colon) (λ _. local-bind name _ local-name (λ t. local-bind parameters _ local-parameters (λ given.
-    local-bind (expect mark.Semicolon) _ (local-expect mark.Semicolon) (λ _. local-pure (instance_of first t given)))))
-
-advances-instance : Advances instance
-unfolding instance
-advances-instance = advances-bind name _ advances-name (λ first. typed first)
-
-none-instance : IsNoneAtEnd instance
-unfolding instance
-none-instance = none-bind name _ none-name
-
-local-instances : Local (skip (many instance mark.EndFbs))
-local-instances = local-skip _ (local-many instance mark.EndFbs local-instance advances-instance none-instance)
-
-local-events : Local (skip (section connection mark.EventConnections mark.EndConnections))
-local-events = local-skip _ (local-section connection mark.EventConnections mark.EndConnections local-connection advances-connection none-connection)
-
-local-list : (list : NetworkList) → Local (to_list list)
-unfolding to_list
-local-list network_list.Instances = local-expect mark.Fbs
-local-list network_list.EventConnections =
-    local-bind (expect mark.Fbs) _ (local-expect mark.Fbs) (λ _. local-bind _ _ local-instances (λ _. local-expect mark.EventConnections))
-local-list network_list.DataConnections =
-    local-bind (expect mark.Fbs) _ (local-expect mark.Fbs) (λ _. local-bind _ _ local-instances (λ _. local-bind _ _ local-events (λ _. local-expect mark.DataConnections)))
-
-local-pass : {A : Type 0} (item : Parser A) → Local item → (n : ℕ) → Local (pass item n)
-unfolding pass
-local-pass item l zero = local-pure tt
-local-pass item l (suc n) = local-bind (skip item) _ (local-skip item l) (λ _. local-pass item l n)
-
-local-listed : (list : NetworkList) (n : ℕ) → Local (pass_listed list n)
-local-listed network_list.Instances n = local-pass instance local-instance n
-local-listed network_list.EventConnections n = local-pass connection local-connection n
-local-listed network_list.DataConnections n = local-pass connection local-connection n
-
-local-item : (list : NetworkList) (n : ℕ) → Local (to_item list n)
-unfolding to_item
-local-item list n = local-bind to_network _ local-network (λ _. local-bind (to_list list) _ (local-list list) (λ _. local-listed list n))
+use Rattle.fb_read_positions.specs.declared.resume.Stop.{Stop}
+use Rattle.fb_read_positions.proofs.Leaving.{Ends, ends-item, ends-owner, nothing_read}
+use Rattle.fb_read_positions.proofs.Steps.{at_statement, blocks_more, pass_more, past_token, separated_more, then_on, variables_more}
 
 -- ---- The tokens that are left
 
@@ -104,9 +50,9 @@ drop-map f (suc n) [] = refl
 drop-map f (suc n) (x ∷ xs) = drop-map f n xs
 
 -- the last tokens, as many as are left
-pub last_tokens : {w : Walk} (ps : List Located) (mid : Tokens) → Local w → w (tokens_of ps) ≡ Ok (tt, mid) → tokens_of (drop (length ps - length mid) ps) ≡ mid
-last_tokens ps mid local e =
-    let left = local.looks.left (tokens_of ps) mid tt e in
+last_tokens : (w : Walk) (ps : List Located) (mid : Tokens) → Ends w → w (tokens_of ps) ≡ Ok (tt, mid) → tokens_of (drop (length ps - length mid) ps) ≡ mid
+last_tokens w ps mid ends e =
+    let left = ends (tokens_of ps) mid tt e in
     let f : Located → Token = λ p. p.token in
     let long : length left.before + length mid ≡ length ps = sym (length-append left.before mid) ∙ ap (λ (ts : Tokens). length ts) left.joined ∙ length-map ps f in
     drop-map f (length ps - length mid) ps
@@ -114,144 +60,194 @@ last_tokens ps mid local e =
     ∙ ap (λ (ts : Tokens). drop (length left.before) ts) (sym left.joined)
     ∙ drop_front left.before mid
 
--- ---- More block types
-
-none_passed : (ts mid : Tokens) → pass_blocks 0 ts ≡ Ok (tt, mid) → ts ≡ mid
-unfolding pass_blocks
-none_passed ts mid e = ap (rest_or ts) e
-  where
-    -- what a walk leaves, or these tokens
-    rest_or : Tokens → Outcome (Unit {0}) → Tokens
-    rest_or us (Ok p) = p.1
-    rest_or us (Err f) = us
-
--- what a part refuses is not read
-refused : {A B : Type 0} (o : Outcome A) (f : A → Parser B) (e : RuleFault) (y : B × Tokens) → o ≡ Err e → and_then o f ≡ Ok y → ⊥
-refused {A} {B} o f e y h k = let no : fault_of {A = B} e ≡ Ok y = ap (λ (x : Outcome A). and_then x f) (sym h) ∙ k in cc
-  where
-    fault_of : {A : Type 0} → RuleFault → Outcome A
-    fault_of e = Err e
-
--- the walk over some block types, and then over others, is one over all
-pub more_blocks : (j m : ℕ) (ts mid : Tokens) → pass_blocks j ts ≡ Ok (tt, mid) → pass_blocks (j + m) ts ≡ pass_blocks m mid
-unfolding pass_blocks
-more_blocks zero m ts mid e =
-    let same : ts ≡ mid = none_passed ts mid e in
-    ap (λ n. pass_blocks n ts) (let n : 0 + m ≡ m = omega arith in n) ∙ ap (pass_blocks m) same
-more_blocks (suc j) m ts mid e =
-    let after : Unit {0} → Walk = λ x. pass_blocks j in
-    let first : Unit {0} → Walk = λ x. skip block >> pass_blocks j in
-    elim (shape (past_application ts)) [
-      | is_read x r h ↦
-          let rest : and_then (skip block r) after ≡ Ok (tt, mid) = sym (then_on (past_application ts) first x r h) ∙ e in
-          (elim (shape (skip block r)) [
-            | is_read y q g ↦
-                let passed : pass_blocks j q ≡ Ok (tt, mid) = sym (then_on (skip block r) after y q g) ∙ rest in
-                ap (λ n. pass_blocks n ts) (let n : suc j + m ≡ suc (j + m) = omega arith in n) ∙ blocks_more (j + m) ts r q h g ∙ more_blocks j m q mid passed
-            | is_stuck f g ↦ absurd (refused (skip block r) after (syntax f) (tt, mid) g rest)
-            | is_deep g ↦ absurd (refused (skip block r) after too_deep (tt, mid) g rest)
-          ])
-      | is_stuck f h ↦ absurd (refused (past_application ts) first (syntax f) (tt, mid) h e)
-      | is_deep h ↦ absurd (refused (past_application ts) first too_deep (tt, mid) h e)
-    ]
-
--- ---- Where a text was read
+-- from the tokens that a walk left
+from_left : (w : Walk) (ps : List Located) (n : ℕ) (ts : Tokens) → Ends w → (there : Leaves w ps n) → ts ≡ tokens_of (drop (length ps - n) ps) → ts ≡ there.0
+from_left w ps n ts ends there is =
+    is ∙ ap (λ m. tokens_of (drop (length ps - m) ps)) (sym there.2) ∙ last_tokens w ps there.0 ends there.1
 
 -- a walk that read
 pub was_read : (o : Outcome (Unit {0})) (new : Tokens) (r : Result (Unit {0}) ParseFault) → Reads o r new → r ≡ Ok tt → o ≡ Ok (tt, new)
 was_read o new r reads ok = subst (λ (x : Result (Unit {0}) ParseFault). Reads o x new) ok reads
 
-pub reached_none : (ps : List Located) → IsReached ps (record { blocks = 0; left = length ps; listed = None })
+-- ---- Some items, and then others
+
+from_zero : (w : ℕ → Walk) (m : ℕ) (ts mid : Tokens) → ts ≡ mid → w (0 + m) ts ≡ w m mid
+from_zero w m ts mid same = ap (λ n. w n ts) (let n : 0 + m ≡ m = omega arith in n) ∙ ap (w m) same
+
+from_more : (w : ℕ → Walk) (j m : ℕ) (ts : Tokens) → w (suc j + m) ts ≡ w (suc (j + m)) ts
+from_more w j m ts = ap (λ n. w n ts) (let n : suc j + m ≡ suc (j + m) = omega arith in n)
+
+blocks_further : (j m : ℕ) (ts mid : Tokens) → pass_blocks j ts ≡ Ok (tt, mid) → pass_blocks (j + m) ts ≡ pass_blocks m mid
 unfolding pass_blocks
-reached_none ps =
-    let f : Located → Token = λ p. p.token in
-    record { blocks = (tokens_of ps, refl, length-map ps f); listed = tt }
+blocks_further zero m ts mid e = from_zero pass_blocks m ts mid (nothing_read ts mid tt e)
+blocks_further (suc j) m ts mid e =
+    let w = both_ok (past_application ts) (λ x. skip block >> pass_blocks j) (tt, mid) e in
+    let v = both_ok (skip block w.1) (λ x. pass_blocks j) (tt, mid) w.3 in
+    from_more pass_blocks j m ts ∙ blocks_more (j + m) ts w.1 v.1 w.2 v.2 ∙ blocks_further j m v.1 mid v.3
 
-pub reached_again : (ps : List Located) (r : Reached) → IsReached ps r → IsReached ps (record { blocks = 0; left = length ps; listed = r.listed })
-reached_again ps r is = record { blocks = (reached_none ps).blocks; listed = is.listed }
-
--- from the tokens that a walk left
-pub from_left : {w : Walk} (ps : List Located) (n : ℕ) (ts : Tokens) → Local w → (there : Leaves w ps n) → ts ≡ tokens_of (drop (length ps - n) ps) → ts ≡ there.0
-from_left {w} ps n ts local there is =
-    is ∙ ap (λ m. tokens_of (drop (length ps - m) ps)) (sym there.2) ∙ last_tokens {w = w} ps there.0 local there.1
-
--- block types that were read after others
-pub passed_on :
-    (ps : List Located) (r : Reached) (k : ℕ) (ts new : Tokens) → IsReached ps r → r.blocks ≤ k → ts ≡ tokens_of (drop (length ps - r.left) ps)
-    → pass_blocks (k - r.blocks) ts ≡ Ok (tt, new) → pass_blocks k (tokens_of ps) ≡ Ok (tt, new)
-passed_on ps r k ts new is below from e =
-    let there = is.blocks in
-    let same : ts ≡ there.0 = from_left {w = pass_blocks r.blocks} ps r.left ts (local-blocks r.blocks) there from in
-    ap (λ n. pass_blocks n (tokens_of ps)) (let n : k ≡ r.blocks + (k - r.blocks) = omega (arith, below) in n)
-    ∙ more_blocks r.blocks (k - r.blocks) (tokens_of ps) there.0 there.1
-    ∙ ap (pass_blocks (k - r.blocks)) (sym same) ∙ e
-
-at_block : (ps : List Located) (j k : ℕ) (new : Tokens) → Some j ≡ Some k → pass_blocks k (tokens_of ps) ≡ Ok (tt, new) → pass_blocks j (tokens_of ps) ≡ Ok (tt, new)
-at_block ps j k new is passed = ap (λ n. pass_blocks n (tokens_of ps)) (same_Some j k is) ∙ passed
-
--- a position in a block type that was reached
-pub in_block :
-    (ps : List Located) (p : Position) (k : ℕ) (new here : Tokens) → block_of p ≡ Some k → pass_blocks k (tokens_of ps) ≡ Ok (tt, new) → from_block p new ≡ Ok (tt, here)
-    → to_position p (tokens_of ps) ≡ Ok (tt, here)
-unfolding to_position to_block
-in_block ps position.Application k new here is passed e = absurd (cc)
-in_block ps (position.InApplication part) k new here is passed e = absurd (cc)
-in_block ps (position.Block j) k new here is passed e = then_on (pass_blocks j (tokens_of ps)) (λ x. from_block (position.Block j)) tt new (at_block ps j k new is passed) ∙ e
-in_block ps (position.InPorts j part) k new here is passed e = then_on (pass_blocks j (tokens_of ps)) (λ x. from_block (position.InPorts j part)) tt new (at_block ps j k new is passed) ∙ e
-in_block ps (position.InBasic j part) k new here is passed e = then_on (pass_blocks j (tokens_of ps)) (λ x. from_block (position.InBasic j part)) tt new (at_block ps j k new is passed) ∙ e
-in_block ps (position.InComposite j part) k new here is passed e = then_on (pass_blocks j (tokens_of ps)) (λ x. from_block (position.InComposite j part)) tt new (at_block ps j k new is passed) ∙ e
-
--- ---- Items of a list
-
--- the walk over some items, and then over others, is one over all
 pass_further : {A : Type 0} (item : Parser A) (j m : ℕ) (ts mid : Tokens) → pass item j ts ≡ Ok (tt, mid) → pass item (j + m) ts ≡ pass item m mid
 unfolding pass
-pass_further item zero m ts mid e = ap (λ n. pass item n ts) (let n : 0 + m ≡ m = omega arith in n) ∙ ap (pass item m) (rest_is ts mid e)
-  where
-    rest_or : Tokens → Outcome (Unit {0}) → Tokens
-    rest_or us (Ok p) = p.1
-    rest_or us (Err f) = us
-
-    rest_is : (us mid : Tokens) → pass item 0 us ≡ Ok (tt, mid) → us ≡ mid
-    rest_is us mid e = ap (rest_or us) e
+pass_further item zero m ts mid e = from_zero (pass item) m ts mid (nothing_read ts mid tt e)
 pass_further item (suc j) m ts mid e =
     let w = both_ok (skip item ts) (λ x. pass item j) (tt, mid) e in
-    ap (λ n. pass item n ts) (let n : suc j + m ≡ suc (j + m) = omega arith in n) ∙ pass_more item (j + m) ts w.1 w.2 ∙ pass_further item j m w.1 mid w.3
+    from_more (pass item) j m ts ∙ pass_more item (j + m) ts w.1 w.2 ∙ pass_further item j m w.1 mid w.3
 
-listed_further : (list : NetworkList) (j m : ℕ) (ts mid : Tokens) → pass_listed list j ts ≡ Ok (tt, mid) → pass_listed list (j + m) ts ≡ pass_listed list m mid
-listed_further network_list.Instances j m ts mid e = pass_further instance j m ts mid e
-listed_further network_list.EventConnections j m ts mid e = pass_further connection j m ts mid e
-listed_further network_list.DataConnections j m ts mid e = pass_further connection j m ts mid e
+separated_further : {A : Type 0} (item : Parser A) (j m : ℕ) (ts mid : Tokens) → pass_separated item j ts ≡ Ok (tt, mid) → pass_separated item (j + m) ts ≡ pass_separated item m mid
+unfolding pass_separated
+separated_further item zero m ts mid e = from_zero (pass_separated item) m ts mid (nothing_read ts mid tt e)
+separated_further item (suc j) m ts mid e =
+    let w = both_ok (skip item ts) (λ x. expect mark.Comma >> pass_separated item j) (tt, mid) e in
+    let v = both_ok (expect mark.Comma w.1) (λ x. pass_separated item j) (tt, mid) w.3 in
+    from_more (pass_separated item) j m ts ∙ separated_more item (j + m) ts w.1 v.1 w.2 v.2 ∙ separated_further item j m v.1 mid v.3
 
-item_further : (list : NetworkList) (j m : ℕ) (ts mid : Tokens) → to_item list j ts ≡ Ok (tt, mid) → to_item list (j + m) ts ≡ pass_listed list m mid
+variables_further : (j m : ℕ) (ts mid : Tokens) → pass_variables j ts ≡ Ok (tt, mid) → pass_variables (j + m) ts ≡ pass_variables m mid
+unfolding pass_variables
+variables_further zero m ts mid e = from_zero pass_variables m ts mid (nothing_read ts mid tt e)
+variables_further (suc j) m ts mid e =
+    let w = both_ok (past_variable ts) (λ x. pass_variables j) (tt, mid) e in
+    from_more pass_variables j m ts ∙ variables_more (j + m) ts w.1 w.2 ∙ variables_further j m w.1 mid w.3
+
+names_further : (ts mid : Tokens) (j m : ℕ) → to_name ts j ≡ Ok (tt, mid) → to_name ts (j + m) ≡ to_name mid m
+unfolding to_name
+names_further [] mid j m e = absurd cc
+names_further (token.Name text ∷ ts) mid zero m e = from_zero (λ n us. to_name us n) m (token.Name text ∷ ts) mid (nothing_read (token.Name text ∷ ts) mid tt e)
+names_further (token.Name text ∷ ts) mid (suc j) m e = from_more (λ n us. to_name us n) j m (token.Name text ∷ ts) ∙ names_further ts mid j m e
+names_further (token.Mark k ∷ ts) mid j m e = names_further ts mid j m e
+names_further (token.Whole n ∷ ts) mid j m e = names_further ts mid j m e
+names_further (token.Time n ∷ ts) mid j m e = names_further ts mid j m e
+
+first_true : (a b : Bool) → (a && b) ≡ true → a ≡ true
+first_true true b e = refl
+first_true false b e = e
+
+both_true : (a b : Bool) → (a && b) ≡ true → b ≡ true
+both_true true b e = e
+both_true false b e = absurd (let no : false ≡ true = e in cc)
+
+one_fewer : (b : Bool) (j m : ℕ) → cond b (j + m) (suc (j + m)) ≡ cond b j (suc j) + m
+one_fewer true j m = refl
+one_fewer false j m = omega arith
+
+statements_further : (ts mid : Tokens) (ready : Bool) (j m : ℕ) → to_statement ts ready j ≡ Ok (tt, mid) → to_statement ts ready (j + m) ≡ to_statement mid true m
+unfolding to_statement
+statements_further [] mid ready j m e = absurd cc
+statements_further (t ∷ ts) mid ready zero m e =
+    go (ready && begins_statement (t ∷ ts)) refl (λ h. statements_further ts mid (opens (t ∷ ts)) zero m h)
+  where
+    go : (b : Bool) → (ready && begins_statement (t ∷ ts)) ≡ b → (to_statement ts (opens (t ∷ ts)) zero ≡ Ok (tt, mid) → to_statement ts (opens (t ∷ ts)) (0 + m) ≡ to_statement mid true m)
+        → to_statement (t ∷ ts) ready (0 + m) ≡ to_statement mid true m
+    go true begins more =
+        let ready_is = first_true ready (begins_statement (t ∷ ts)) begins in
+        let here = at_statement (t ∷ ts) ready ready_is (both_true ready (begins_statement (t ∷ ts)) begins) in
+        from_zero (λ n us. to_statement us ready n) m (t ∷ ts) mid (nothing_read (t ∷ ts) mid tt (sym here ∙ e))
+        ∙ ap (λ a. to_statement mid a m) ready_is
+    go false none more = past_token (t ∷ ts) ready (0 + m) none ∙ more (sym (past_token (t ∷ ts) ready zero none) ∙ e)
+statements_further (t ∷ ts) mid ready (suc j) m e =
+    let b = ready && begins_statement (t ∷ ts) in
+    from_more (λ n us. to_statement us ready n) j m (t ∷ ts)
+    ∙ ap (λ n. to_statement ts (opens (t ∷ ts)) n) (one_fewer b j m)
+    ∙ statements_further ts mid (opens (t ∷ ts)) (cond b j (suc j)) m e
+
+network_further : (l : NetworkList) (j m : ℕ) (ts mid : Tokens) → pass_in_network l j ts ≡ Ok (tt, mid) → pass_in_network l (j + m) ts ≡ pass_in_network l m mid
+network_further network_list.Instances j m ts mid e = pass_further instance j m ts mid e
+network_further network_list.EventConnections j m ts mid e = pass_further connection j m ts mid e
+network_further network_list.DataConnections j m ts mid e = pass_further connection j m ts mid e
+
+ports_further : (l : PortList) (j m : ℕ) (ts mid : Tokens) → pass_in_ports l j ts ≡ Ok (tt, mid) → pass_in_ports l (j + m) ts ≡ pass_in_ports l m mid
+ports_further port_list.EventInputs j m ts mid e = pass_further event j m ts mid e
+ports_further port_list.EventOutputs j m ts mid e = pass_further event j m ts mid e
+ports_further port_list.Inputs j m ts mid e = variables_further j m ts mid e
+ports_further port_list.Outputs j m ts mid e = variables_further j m ts mid e
+
+basic_further : (l : BasicList) (j m : ℕ) (ts mid : Tokens) → pass_in_basic l j ts ≡ Ok (tt, mid) → pass_in_basic l (j + m) ts ≡ pass_in_basic l m mid
+basic_further basic_list.Internals j m ts mid e = variables_further j m ts mid e
+basic_further basic_list.States j m ts mid e = pass_further state j m ts mid e
+basic_further basic_list.Transitions j m ts mid e = pass_further transition j m ts mid e
+basic_further basic_list.Algorithms j m ts mid e = pass_further algorithm j m ts mid e
+
+inner_further : (l : InnerList) (j m : ℕ) (ts mid : Tokens) → pass_inner l j ts ≡ Ok (tt, mid) → pass_inner l (j + m) ts ≡ pass_inner l m mid
+inner_further inner_list.With j m ts mid e = separated_further name j m ts mid e
+inner_further inner_list.Parameters j m ts mid e = separated_further parameter j m ts mid e
+inner_further inner_list.Actions j m ts mid e = separated_further action j m ts mid e
+inner_further inner_list.Statements j m ts mid e = statements_further ts mid true j m e
+inner_further inner_list.Mentions j m ts mid e = names_further ts mid j m e
+
+outer_further : (l : OuterList) (j m : ℕ) (ts mid : Tokens) → pass_outer l j ts ≡ Ok (tt, mid) → pass_outer l (j + m) ts ≡ pass_outer l m mid
+outer_further outer_list.Blocks j m ts mid e = blocks_further j m ts mid e
+outer_further (outer_list.InApplication l) j m ts mid e = network_further l j m ts mid e
+outer_further (outer_list.InPorts k l) j m ts mid e = ports_further l j m ts mid e
+outer_further (outer_list.InBasic k l) j m ts mid e = basic_further l j m ts mid e
+outer_further (outer_list.InComposite k l) j m ts mid e = network_further l j m ts mid e
+
+items_further : (l : ItemList) (j m : ℕ) (ts mid : Tokens) → pass_items l j ts ≡ Ok (tt, mid) → pass_items l (j + m) ts ≡ pass_items l m mid
+items_further (item_list.Outer l) j m ts mid e = outer_further l j m ts mid e
+items_further (item_list.Inner l n inside) j m ts mid e = inner_further inside j m ts mid e
+
+-- ---- Up to an item
+
+abbrev item_at : ItemList → ℕ → Item
+item_at l n = record { list = l; index = n }
+
+item_further : (l : ItemList) (j m : ℕ) (ts mid : Tokens) → to_item (item_at l j) ts ≡ Ok (tt, mid) → to_item (item_at l (j + m)) ts ≡ pass_items l m mid
 unfolding to_item
-item_further list j m ts mid e =
-    let w = both_ok (to_network ts) (λ x. to_list list >> pass_listed list j) (tt, mid) e in
-    let v = both_ok (to_list list w.1) (λ x. pass_listed list j) (tt, mid) w.3 in
-    then_on (to_network ts) (λ x. to_list list >> pass_listed list (j + m)) w.0 w.1 w.2
-    ∙ then_on (to_list list w.1) (λ x. pass_listed list (j + m)) v.0 v.1 v.2 ∙ listed_further list j m v.1 mid v.3
+item_further l j m ts mid e =
+    let w = both_ok (to_owner l ts) (λ x. to_first l >> pass_items l j) (tt, mid) e in
+    let v = both_ok (to_first l w.1) (λ x. pass_items l j) (tt, mid) w.3 in
+    then_on (to_owner l ts) (λ x. to_first l >> pass_items l (j + m)) w.0 w.1 w.2
+    ∙ then_on (to_first l w.1) (λ x. pass_items l (j + m)) v.0 v.1 v.2 ∙ items_further l j m v.1 mid v.3
 
--- items that were read after others
-pub listed_on :
-    (ps : List Located) (list : NetworkList) (j k n : ℕ) (ts new : Tokens) → Leaves (to_item list j) ps n → j ≤ k → ts ≡ tokens_of (drop (length ps - n) ps)
-    → pass_listed list (k - j) ts ≡ Ok (tt, new) → to_item list k (tokens_of ps) ≡ Ok (tt, new)
-listed_on ps list j k n ts new there below from e =
-    let same : ts ≡ there.0 = from_left {w = to_item list j} ps n ts (local-item list j) there from in
-    ap (λ m. to_item list m (tokens_of ps)) (let m : k ≡ j + (k - j) = omega (arith, below) in m)
-    ∙ item_further list j (k - j) (tokens_of ps) there.0 there.1
-    ∙ ap (pass_listed list (k - j)) (sym same) ∙ e
+-- from an earlier item of its list
+pub item_after :
+    (ps : List Located) (i : Item) (from : Listed) (ts new : Tokens) → IsListed ps from → IsAhead i from → ts ≡ tokens_of (drop (length ps - from.left) ps)
+    → pass_items i.list (i.index - from.item.index) ts ≡ Ok (tt, new) → to_item i (tokens_of ps) ≡ Ok (tt, new)
+item_after ps i from ts new listed ahead given e =
+    let j = from.item.index in
+    let there : Leaves (to_item (item_at i.list j)) ps from.left = subst (λ (l : ItemList). Leaves (to_item (item_at l j)) ps from.left) ahead.list_is listed in
+    let same : ts ≡ there.0 = from_left (to_item (item_at i.list j)) ps from.left ts (ends-item (item_at i.list j)) there given in
+    ap (λ n. to_item (item_at i.list n) (tokens_of ps)) (let n : i.index ≡ j + (i.index - j) = omega (arith, ahead.below) in n)
+    ∙ item_further i.list j (i.index - j) (tokens_of ps) there.0 there.1
+    ∙ ap (pass_items i.list (i.index - j)) (sym same) ∙ e
 
--- a part of an item of the network of the application, which was reached
-pub in_network :
-    (ps : List Located) (part : NetworkPart) (n : ℕ) (ts here : Tokens) → Leaves (to_item (list_of part) (index_of part)) ps n → ts ≡ tokens_of (drop (length ps - n) ps)
-    → from_item part ts ≡ Ok (tt, here) → to_position (position.InApplication part) (tokens_of ps) ≡ Ok (tt, here)
-unfolding to_position to_item to_network_part
-in_network ps part n ts here there from e =
-    let list = list_of part in
-    let k = index_of part in
-    let w = both_ok (to_network (tokens_of ps)) (λ x. to_list list >> pass_listed list k) (tt, there.0) there.1 in
-    let v = both_ok (to_list list w.1) (λ x. pass_listed list k) (tt, there.0) w.3 in
-    then_on (to_network (tokens_of ps)) (λ x. to_network_part part) w.0 w.1 w.2
-    ∙ then_on (to_list list w.1) (λ x. pass_listed list k >> from_item part) v.0 v.1 v.2
-    ∙ then_on (pass_listed list k v.1) (λ x. from_item part) tt there.0 v.3
-    ∙ ap (from_item part) (sym (from_left {w = to_item list k} ps n ts (local-item list k) there from)) ∙ e
+-- from where what has its list begins
+pub item_within :
+    (ps : List Located) (i : Item) (n : ℕ) (ts mid new : Tokens) → Leaves (to_owner i.list) ps n → ts ≡ tokens_of (drop (length ps - n) ps)
+    → to_first i.list ts ≡ Ok (tt, mid) → pass_items i.list i.index mid ≡ Ok (tt, new) → to_item i (tokens_of ps) ≡ Ok (tt, new)
+unfolding to_item
+item_within ps i n ts mid new there given first e =
+    let same : ts ≡ there.0 = from_left (to_owner i.list) ps n ts (ends-owner i.list) there given in
+    then_on (to_owner i.list (tokens_of ps)) (λ x. to_first i.list >> pass_items i.list i.index) tt there.0 there.1
+    ∙ then_on (to_first i.list there.0) (λ x. pass_items i.list i.index) tt mid (ap (to_first i.list) (sym same) ∙ first) ∙ e
+
+-- what has a list, in place of the walk up to it
+pub stop_as : (ps : List Located) (v w : Walk) (s : Stop) → v ≡ w → IsStop ps w s → IsStop ps v s
+stop_as ps v w s same is = subst (λ (x : Walk). IsStop ps x s) (sym same) is
+
+-- all tokens are left where nothing was read
+pub stop_at_start : (ps : List Located) (w : Walk) (s : Stop) → w ≡ pure tt → s.left ≡ length ps → IsReached ps s.reached → IsStop ps w s
+stop_at_start ps w s none all reached =
+    let f : Located → Token = λ p. p.token in
+    record { at = subst (λ (v : Walk). Leaves v ps s.left) (sym none) (tokens_of ps, refl, length-map ps f ∙ sym all); reached = reached }
+
+-- the item of a list that is in no item
+pub outer_item : (l : OuterList) (n : ℕ) → to_item (outer l n) ≡ to_outer l n
+unfolding to_item to_outer
+outer_item l n = refl
+
+pub block_item : (k : ℕ) → to_item (outer outer_list.Blocks k) ≡ pass_blocks k
+unfolding to_item
+block_item k = refl
+
+-- ---- Up to a position
+
+pub at_position :
+    (ps : List Located) (p : Position) (i : Item) (n : ℕ) (ts here : Tokens) → item_of p ≡ Some i → Leaves (to_item i) ps n → ts ≡ tokens_of (drop (length ps - n) ps)
+    → from_item p ts ≡ Ok (tt, here) → to_position p (tokens_of ps) ≡ Ok (tt, here)
+unfolding to_position
+at_position ps p i n ts here is there given e =
+    ap (λ (o : Option Item). by_way_of o (from_item p) (tokens_of ps)) is
+    ∙ then_on (to_item i (tokens_of ps)) (λ x. from_item p) tt there.0 there.1
+    ∙ ap (from_item p) (sym (from_left (to_item i) ps n ts (ends-item i) there given)) ∙ e
+
+pub at_application : (p : Position) → item_of p ≡ None → to_position p ≡ to_application
+unfolding to_position
+at_application p none = ap (λ (o : Option Item). by_way_of o (from_item p)) none

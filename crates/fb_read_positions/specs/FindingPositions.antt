@@ -76,8 +76,8 @@ twice_in_network (in_network.Instance pair) = network_part.Instance pair.1
 twice_in_network (in_network.Parameter instance pair) = network_part.Parameter instance pair.1
 twice_in_network (in_network.Connection pair) = network_part.EventConnection pair.1 connection_part.From
 
--- The name at an index in the list of the event inputs, event outputs, inputs, outputs and internal variables: the name in
--- the first of these lists that has so many, else in the list after it.
+-- The name at an index in the list of the event inputs, event outputs, inputs, outputs and internal variables. It is the
+-- name in the first of these lists if that is long enough, else in the list after it.
 abbrev pub port_or : (n : ℕ) → (here : ℕ → Position) → ℕ → (later : ℕ → Position) → Position
 port_or n here index later = if nat_lt index n then here index else later (index - n)
 

@@ -1,3 +1,4 @@
+pub mod Lists
 pub mod Walks
 pub mod Places
 pub mod Resumed

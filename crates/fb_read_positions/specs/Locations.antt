@@ -1,5 +1,5 @@
 -- Locations in a text, with their lines and columns (this project's own).
-use Rattle.std.specs.Prelude.{◌≡◌, ◌≤◌, ℕ, List, IfSome, ◌+◌, ◌==◌, not, length, take, count_by}
+use Rattle.std.specs.Prelude.{◌≡◌, ◌≤◌, ℕ, List, Option, Some, None, IfSome, ◌+◌, ◌==◌, not, length, take, count_by}
 use Rattle.std.specs.List.{suffix_len}
 use Rattle.fb_read.specs.Blank.{Text}
 use Rattle.fb_read.specs.Tokens.{after_mark}
@@ -34,6 +34,12 @@ pub record IsLocation (text : Text) (location : TextLocation) : Type 0 where
   pub line : location.line ≡ line_at text location.start
   pub column : location.column ≡ column_at text location.start
 
+-- the offsets are in the text, after its byte order mark
+pub record IsWithin (text : Text) (start end : ℕ) : Type 0 where
+  pub after : length text ≤ start + length (after_mark text)
+  pub ordered : start ≤ end
+  pub within : end ≤ length text
+
 -- it is between these offsets
 pub record IsStretch (start end : ℕ) (location : TextLocation) : Type 0 where
   pub start_is : location.start ≡ start
@@ -46,6 +52,11 @@ pub record IsPlaceAt (text : Text) (library : Library) (position : Position) (pl
   pub at : IsAt text library position span
   pub there : IsStretch span.start span.end place
   pub located : IsLocation text place
+
+-- The place is that of the position. Where there is no position, there is no place.
+abbrev pub IsPlaceFor : Text → Library → Option Position → Option TextLocation → Type 0
+IsPlaceFor text library None place = place ≡ None
+IsPlaceFor text library (Some position) place = IfSome place (IsPlaceAt text library position)
 
 -- A place in the text, if there is one, and how far the tokens were read for it.
 pub record IsFound (text : Text) (tokens : List Located) (f : FoundPlace) : Type 0 where

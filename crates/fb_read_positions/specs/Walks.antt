@@ -1,6 +1,6 @@
 -- What the parser reads up to a position of a declaration: the entries before it, as the grammar has them (this project's
 -- own). What is left begins at the position.
-use Rattle.std.specs.Prelude.{ℕ, zero, suc, ◌-◌, ◌==◌, Bool, true, ◌&&◌, ◌||◌, if◌then◌else◌, [], ◌∷◌, Ok, Err, codes}
+use Rattle.std.specs.Prelude.{ℕ, zero, suc, ◌-◌, ◌==◌, Bool, true, ◌&&◌, ◌||◌, if◌then◌else◌, [], ◌∷◌, Option, Some, None, Ok, Err, codes}
 use Rattle.fb_read.specs.declared.token.Mark.{Mark}
 use Rattle.fb_read.specs.declared.token.Mark.TheVariants as mark
 use Rattle.fb_read.specs.declared.token.Token.TheVariants as token
@@ -11,16 +11,26 @@ use Rattle.fb_read.specs.Ports.{event, ports, variables}
 use Rattle.fb_read.specs.Charts.{action, algorithm, state, states, transition, transitions}
 use Rattle.fb_read.specs.Blocks.{block}
 use Rattle.fb_read.specs.Statements.{begins_statement}
+use Rattle.fb_read_positions.specs.Lists.{item_of}
 use Rattle.fb_read_positions.specs.declared.position.BasicPart.{BasicPart}
 use Rattle.fb_read_positions.specs.declared.position.BasicPart.TheVariants as basic_part
 use Rattle.fb_read_positions.specs.declared.position.ConnectionPart.{ConnectionPart}
 use Rattle.fb_read_positions.specs.declared.position.ConnectionPart.TheVariants as connection_part
-use Rattle.fb_read_positions.specs.declared.network.NetworkList.{NetworkList}
-use Rattle.fb_read_positions.specs.declared.network.NetworkList.TheVariants as network_list
+use Rattle.fb_read_positions.specs.declared.lists.BasicList.{BasicList}
+use Rattle.fb_read_positions.specs.declared.lists.BasicList.TheVariants as basic_list
+use Rattle.fb_read_positions.specs.declared.lists.InnerList.{InnerList}
+use Rattle.fb_read_positions.specs.declared.lists.InnerList.TheVariants as inner_list
+use Rattle.fb_read_positions.specs.declared.lists.Item.{Item}
+use Rattle.fb_read_positions.specs.declared.lists.ItemList.{ItemList}
+use Rattle.fb_read_positions.specs.declared.lists.ItemList.TheVariants as item_list
+use Rattle.fb_read_positions.specs.declared.lists.NetworkList.{NetworkList}
+use Rattle.fb_read_positions.specs.declared.lists.NetworkList.TheVariants as network_list
+use Rattle.fb_read_positions.specs.declared.lists.OuterList.{OuterList}
+use Rattle.fb_read_positions.specs.declared.lists.OuterList.TheVariants as outer_list
+use Rattle.fb_read_positions.specs.declared.lists.PortList.{PortList}
+use Rattle.fb_read_positions.specs.declared.lists.PortList.TheVariants as port_list
 use Rattle.fb_read_positions.specs.declared.position.NetworkPart.{NetworkPart}
 use Rattle.fb_read_positions.specs.declared.position.NetworkPart.TheVariants as network_part
-use Rattle.fb_read_positions.specs.declared.position.PortPart.{PortPart}
-use Rattle.fb_read_positions.specs.declared.position.PortPart.TheVariants as port_part
 use Rattle.fb_read_positions.specs.declared.position.Position.{Position}
 use Rattle.fb_read_positions.specs.declared.position.Position.TheVariants as position
 use Rattle.fb_read_positions.specs.declared.position.TransitionPart.{TransitionPart}
@@ -77,64 +87,43 @@ to_end connection_part.ToPort = do
   expect mark.Dot
 
 -- up to the first item of a list
-unfoldable pub to_list : NetworkList → Walk
-to_list network_list.Instances = expect mark.Fbs
-to_list network_list.EventConnections = do
+unfoldable pub to_network_list : NetworkList → Walk
+to_network_list network_list.Instances = expect mark.Fbs
+to_network_list network_list.EventConnections = do
   expect mark.Fbs
   skip (many instance mark.EndFbs)
   expect mark.EventConnections
-to_list network_list.DataConnections = do
+to_network_list network_list.DataConnections = do
   expect mark.Fbs
   skip (many instance mark.EndFbs)
   skip (section connection mark.EventConnections mark.EndConnections)
   expect mark.DataConnections
 
 -- this many items of a list
-abbrev pub pass_listed : NetworkList → ℕ → Walk
-pass_listed network_list.Instances n = pass instance n
-pass_listed network_list.EventConnections n = pass connection n
-pass_listed network_list.DataConnections n = pass connection n
-
--- the list in which a part is, and the item to which it belongs
-abbrev pub list_of : NetworkPart → NetworkList
-list_of (network_part.Instance k) = network_list.Instances
-list_of (network_part.InstanceType k) = network_list.Instances
-list_of (network_part.Parameter k n) = network_list.Instances
-list_of (network_part.EventConnection k part) = network_list.EventConnections
-list_of (network_part.DataConnection k part) = network_list.DataConnections
-
-abbrev pub index_of : NetworkPart → ℕ
-index_of (network_part.Instance k) = k
-index_of (network_part.InstanceType k) = k
-index_of (network_part.Parameter k n) = k
-index_of (network_part.EventConnection k part) = k
-index_of (network_part.DataConnection k part) = k
+abbrev pub pass_in_network : NetworkList → ℕ → Walk
+pass_in_network network_list.Instances n = pass instance n
+pass_in_network network_list.EventConnections n = pass connection n
+pass_in_network network_list.DataConnections n = pass connection n
 
 unfoldable pub to_instance_type : Walk
 to_instance_type = do
   skip name
   expect mark.Colon
 
-unfoldable pub to_parameter : ℕ → Walk
-to_parameter n = do
+-- up to the parameters of the instance that is next
+unfoldable pub to_parameters : Walk
+to_parameters = do
   to_instance_type
   skip name
   expect mark.Open
-  pass_separated parameter n
 
 -- from the beginning of its item up to a part
-abbrev pub from_item : NetworkPart → Walk
-from_item (network_part.Instance k) = pure tt
-from_item (network_part.InstanceType k) = to_instance_type
-from_item (network_part.Parameter k n) = to_parameter n
-from_item (network_part.EventConnection k part) = to_end part
-from_item (network_part.DataConnection k part) = to_end part
-
-unfoldable pub to_network_part : NetworkPart → Walk
-to_network_part part = do
-  to_list (list_of part)
-  pass_listed (list_of part) (index_of part)
-  from_item part
+abbrev pub to_network_part : NetworkPart → Walk
+to_network_part (network_part.Instance n) = pure tt
+to_network_part (network_part.InstanceType n) = to_instance_type
+to_network_part (network_part.Parameter n k) = pure tt
+to_network_part (network_part.EventConnection n part) = to_end part
+to_network_part (network_part.DataConnection n part) = to_end part
 
 -- ---- Interfaces
 
@@ -159,23 +148,11 @@ pass_variables (suc n) = do
   past_variable
   pass_variables n
 
-unfoldable pub to_variable : Mark → ℕ → Walk
-to_variable begin n = do
-  expect begin
-  pass_variables n
-
-unfoldable pub to_event : Mark → ℕ → Walk
-to_event begin n = do
-  expect begin
-  pass event n
-
--- a variable in the WITH list of an event
-unfoldable pub to_with : Mark → ℕ → ℕ → Walk
-to_with begin n k = do
-  to_event begin n
+-- up to the variables WITH the event that is next
+unfoldable pub to_with : Walk
+to_with = do
   skip name
   expect mark.With
-  pass_separated name k
 
 unfoldable pub past_event_inputs : Walk
 past_event_inputs = skip (section event mark.EventInput mark.EndEvent)
@@ -185,47 +162,39 @@ past_events = do
   past_event_inputs
   skip (section event mark.EventOutput mark.EndEvent)
 
-abbrev pub to_port_part : PortPart → Walk
-to_port_part (port_part.EventInput n) = to_event mark.EventInput n
-to_port_part (port_part.WithInput n k) = to_with mark.EventInput n k
-to_port_part (port_part.EventOutput n) = do
+-- up to the first item of a list
+abbrev pub to_port_list : PortList → Walk
+to_port_list port_list.EventInputs = expect mark.EventInput
+to_port_list port_list.EventOutputs = do
   past_event_inputs
-  to_event mark.EventOutput n
-to_port_part (port_part.WithOutput n k) = do
-  past_event_inputs
-  to_with mark.EventOutput n k
-to_port_part (port_part.Input n) = do
+  expect mark.EventOutput
+to_port_list port_list.Inputs = do
   past_events
-  to_variable mark.VarInput n
-to_port_part (port_part.Output n) = do
+  expect mark.VarInput
+to_port_list port_list.Outputs = do
   past_events
   skip (variables mark.VarInput)
-  to_variable mark.VarOutput n
+  expect mark.VarOutput
+
+-- this many items of a list
+abbrev pub pass_in_ports : PortList → ℕ → Walk
+pass_in_ports port_list.EventInputs n = pass event n
+pass_in_ports port_list.EventOutputs n = pass event n
+pass_in_ports port_list.Inputs n = pass_variables n
+pass_in_ports port_list.Outputs n = pass_variables n
 
 -- ---- Charts and algorithms
 
-unfoldable pub to_state : ℕ → Walk
-to_state n = do
-  skip (variables mark.Var)
-  expect mark.EcStates
-  pass state n
-
-unfoldable pub to_action : ℕ → ℕ → Walk
-to_action n k = do
-  to_state n
+-- up to the actions of the state that is next
+unfoldable pub to_actions : Walk
+to_actions = do
   skip name
   expect mark.Colon
-  pass_separated action k
 
-unfoldable pub to_output_after : ℕ → ℕ → Walk
-to_output_after n k = do
-  to_action n k
+-- up to the output event of the action that is next, after its algorithm
+unfoldable pub to_output : Walk
+to_output = do
   skip name
-  expect mark.Arrow
-
-unfoldable pub to_output_alone : ℕ → ℕ → Walk
-to_output_alone n k = do
-  to_action n k
   expect mark.Arrow
 
 unfoldable pub to_entered : Walk
@@ -259,23 +228,30 @@ past_states = do
   skip (variables mark.Var)
   skip states
 
-unfoldable pub to_transition : ℕ → TransitionPart → Walk
-to_transition n part = do
+-- up to the first item of a list
+abbrev pub to_basic_list : BasicList → Walk
+to_basic_list basic_list.Internals = expect mark.Var
+to_basic_list basic_list.States = do
+  skip (variables mark.Var)
+  expect mark.EcStates
+to_basic_list basic_list.Transitions = do
   past_states
   expect mark.EcTransitions
-  pass transition n
-  to_transition_part part
-
-unfoldable pub to_algorithm : ℕ → Walk
-to_algorithm n = do
+to_basic_list basic_list.Algorithms = do
   past_states
   skip transitions
-  pass algorithm n
-  expect mark.Algorithm
 
-unfoldable pub to_body : ℕ → Walk
-to_body n = do
-  to_algorithm n
+-- this many items of a list
+abbrev pub pass_in_basic : BasicList → ℕ → Walk
+pass_in_basic basic_list.Internals n = pass_variables n
+pass_in_basic basic_list.States n = pass state n
+pass_in_basic basic_list.Transitions n = pass transition n
+pass_in_basic basic_list.Algorithms n = pass algorithm n
+
+-- up to the statements of the algorithm that is next
+unfoldable pub to_body : Walk
+to_body = do
+  expect mark.Algorithm
   skip name
   word (codes "IN")
   word (codes "ST")
@@ -319,24 +295,18 @@ to_clause [] depth n = Err (syntax [])
 to_clause (t ∷ ts) depth zero = if begins_clause (t ∷ ts) depth then Ok (tt, t ∷ ts) else to_clause ts (depth_after (t ∷ ts) depth) zero
 to_clause (t ∷ ts) depth (suc n) = to_clause ts (depth_after (t ∷ ts) depth) (if begins_clause (t ∷ ts) depth then n else suc n)
 
+-- from the beginning of its item up to a part
 abbrev pub to_basic_part : BasicPart → Walk
-to_basic_part (basic_part.Internal n) = to_variable mark.Var n
-to_basic_part (basic_part.State n) = to_state n
-to_basic_part (basic_part.Action n k) = to_action n k
-to_basic_part (basic_part.OutputAlone n k) = to_output_alone n k
-to_basic_part (basic_part.OutputAfter n k) = to_output_after n k
-to_basic_part (basic_part.Transition n part) = to_transition n part
-to_basic_part (basic_part.Algorithm n) = to_algorithm n
-to_basic_part (basic_part.Statement n k) = do
-  to_body n
-  (λ ts. to_statement ts true k)
-to_basic_part (basic_part.Clause n k j) = do
-  to_body n
-  (λ ts. to_statement ts true k)
-  (λ ts. to_clause ts 0 j)
-to_basic_part (basic_part.Mention n k) = do
-  to_body n
-  (λ ts. to_name ts k)
+to_basic_part (basic_part.Internal n) = pure tt
+to_basic_part (basic_part.State n) = pure tt
+to_basic_part (basic_part.Action n k) = pure tt
+to_basic_part (basic_part.OutputAlone n k) = expect mark.Arrow
+to_basic_part (basic_part.OutputAfter n k) = to_output
+to_basic_part (basic_part.Transition n part) = to_transition_part part
+to_basic_part (basic_part.Algorithm n) = expect mark.Algorithm
+to_basic_part (basic_part.Statement n k) = pure tt
+to_basic_part (basic_part.Clause n k j) = λ ts. to_clause ts 0 j
+to_basic_part (basic_part.Mention n k) = pure tt
 
 -- ---- Whole libraries
 
@@ -381,40 +351,102 @@ to_network = do
   to_application
   skip name
 
--- up to an item of a list of the network of the application
-unfoldable pub to_item : NetworkList → ℕ → Walk
-to_item list k = do
-  to_network
-  to_list list
-  pass_listed list k
+-- ---- Lists that are in no item
 
--- up to a position in the block type that is next
-abbrev pub from_block : Position → Walk
-from_block position.Application = λ ts. Err (syntax ts)
-from_block (position.InApplication part) = λ ts. Err (syntax ts)
-from_block (position.Block k) = begun
-from_block (position.InPorts k part) = do
+-- up to what has the list: the text, or a block type
+abbrev pub to_outer_owner : OuterList → Walk
+to_outer_owner outer_list.Blocks = pure tt
+to_outer_owner (outer_list.InApplication l) = pure tt
+to_outer_owner (outer_list.InPorts k l) = pass_blocks k
+to_outer_owner (outer_list.InBasic k l) = pass_blocks k
+to_outer_owner (outer_list.InComposite k l) = pass_blocks k
+
+-- from there up to the first item
+abbrev pub to_first_outer : OuterList → Walk
+to_first_outer outer_list.Blocks = pure tt
+to_first_outer (outer_list.InApplication l) = do
+  to_network
+  to_network_list l
+to_first_outer (outer_list.InPorts k l) = do
   to_ports
-  to_port_part part
-from_block (position.InBasic k part) = do
+  to_port_list l
+to_first_outer (outer_list.InBasic k l) = do
   to_inside
-  to_basic_part part
-from_block (position.InComposite k part) = do
+  to_basic_list l
+to_first_outer (outer_list.InComposite k l) = do
   to_inside
-  to_network_part part
+  to_network_list l
 
--- up to a position in the block type at an index
-unfoldable pub to_block : ℕ → Position → Walk
-to_block k position = do
-  pass_blocks k
-  from_block position
+-- this many items
+abbrev pub pass_outer : OuterList → ℕ → Walk
+pass_outer outer_list.Blocks n = pass_blocks n
+pass_outer (outer_list.InApplication l) n = pass_in_network l n
+pass_outer (outer_list.InPorts k l) n = pass_in_ports l n
+pass_outer (outer_list.InBasic k l) n = pass_in_basic l n
+pass_outer (outer_list.InComposite k l) n = pass_in_network l n
 
+-- up to an item
+unfoldable pub to_outer : OuterList → ℕ → Walk
+to_outer l n = do
+  to_outer_owner l
+  to_first_outer l
+  pass_outer l n
+
+-- ---- Lists of items
+
+-- from the beginning of what has the list up to the first item
+abbrev pub to_first_inner : InnerList → Walk
+to_first_inner inner_list.With = to_with
+to_first_inner inner_list.Parameters = to_parameters
+to_first_inner inner_list.Actions = to_actions
+to_first_inner inner_list.Statements = to_body
+to_first_inner inner_list.Mentions = to_body
+
+-- from the first item up to the item at an index
+abbrev pub pass_inner : InnerList → ℕ → Walk
+pass_inner inner_list.With n = pass_separated name n
+pass_inner inner_list.Parameters n = pass_separated parameter n
+pass_inner inner_list.Actions n = pass_separated action n
+pass_inner inner_list.Statements n = λ ts. to_statement ts true n
+pass_inner inner_list.Mentions n = λ ts. to_name ts n
+
+-- ---- Items of all lists
+
+abbrev pub to_owner : ItemList → Walk
+to_owner (item_list.Outer l) = to_outer_owner l
+to_owner (item_list.Inner l n inside) = to_outer l n
+
+abbrev pub to_first : ItemList → Walk
+to_first (item_list.Outer l) = to_first_outer l
+to_first (item_list.Inner l n inside) = to_first_inner inside
+
+abbrev pub pass_items : ItemList → ℕ → Walk
+pass_items (item_list.Outer l) n = pass_outer l n
+pass_items (item_list.Inner l n inside) k = pass_inner inside k
+
+-- up to an item
+unfoldable pub to_item : Item → Walk
+to_item i = do
+  to_owner i.list
+  to_first i.list
+  pass_items i.list i.index
+
+-- ---- Positions
+
+-- from the beginning of its item up to a position
+abbrev pub from_item : Position → Walk
+from_item position.Application = λ ts. Err (syntax ts)
+from_item (position.Block k) = begun
+from_item (position.InApplication part) = to_network_part part
+from_item (position.InPorts k part) = pure tt
+from_item (position.InBasic k part) = to_basic_part part
+from_item (position.InComposite k part) = to_network_part part
+
+-- up to an item, and from there on; up to the name of the application if there is none
+abbrev pub by_way_of : Option Item → Walk → Walk
+by_way_of None walk = to_application
+by_way_of (Some i) walk = to_item i >> walk
+
+-- up to a position of a declaration
 unfoldable pub to_position : Position → Walk
-to_position position.Application = to_application
-to_position (position.InApplication part) = do
-  to_network
-  to_network_part part
-to_position (position.Block k) = to_block k (position.Block k)
-to_position (position.InPorts k part) = to_block k (position.InPorts k part)
-to_position (position.InBasic k part) = to_block k (position.InBasic k part)
-to_position (position.InComposite k part) = to_block k (position.InComposite k part)
+to_position position = by_way_of (item_of position) (from_item position)

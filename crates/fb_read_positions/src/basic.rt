@@ -1,55 +1,34 @@
-//! Positions in basic types, after their interfaces.
+//! Lists and positions of basic types, after their interfaces.
 
 ghost use Rattle.std.specs.Prelude.{◌≡◌, ◌<◌, ◌^◌, true};
 ghost use Rattle.fb_read.specs.Charts.{states, transitions};
 ghost use Rattle.fb_read.specs.Parser.{Reads, name_if};
 ghost use Rattle.fb_read_positions.specs.Walks as spec;
 
-use crate::ports::{skip_variables, to_variable};
+use crate::lists::BasicList;
+use crate::ports::{pass_variables, skip_variables};
 use crate::position::{BasicPart, TransitionPart};
-use crate::skip::{pass, pass_separated, skip, to_name};
+use crate::skip::{pass, skip, to_name};
 use fb_read::chart::{states, transitions};
 use fb_read::cursor::Cursor;
 use fb_read::fault::ParseFault;
 use fb_read::token::Mark;
-use fb_types::{Action, Algorithm, Name, State, Transition};
+use fb_types::{Algorithm, Name, State, Transition};
 
-/// Reads up to a state.
-#[tactic(auto, unfolding(crate::specs::Walks::to_state))]
-fn to_state(cursor: &mut Cursor<'_>, index: usize) -> Result<(), ParseFault>
-    ensures { Reads (spec.to_state index cursor.old) result cursor.new }
+/// Reads up to the actions of the state that is next.
+#[tactic(auto, unfolding(crate::specs::Walks::to_actions))]
+pub fn to_actions(cursor: &mut Cursor<'_>) -> Result<(), ParseFault>
+    ensures { Reads (spec.to_actions cursor.old) result cursor.new }
 {
-    skip_variables(cursor, Mark::Var)?;
-    cursor.expect(Mark::EcStates)?;
-    pass::<State>(cursor, index)
-}
-
-/// Reads up to an action of a state.
-#[tactic(auto, unfolding(crate::specs::Walks::to_action))]
-fn to_action(cursor: &mut Cursor<'_>, state: usize, action: usize) -> Result<(), ParseFault>
-    ensures { Reads (spec.to_action state action cursor.old) result cursor.new }
-{
-    to_state(cursor, state)?;
     skip::<Name>(cursor)?;
-    cursor.expect(Mark::Colon)?;
-    pass_separated::<Action>(cursor, action)
+    cursor.expect(Mark::Colon)
 }
 
-/// Reads up to the output event of an action that has no algorithm.
-#[tactic(auto, unfolding(crate::specs::Walks::to_output_alone))]
-fn to_output_alone(cursor: &mut Cursor<'_>, state: usize, action: usize) -> Result<(), ParseFault>
-    ensures { Reads (spec.to_output_alone state action cursor.old) result cursor.new }
+/// Reads up to the output event of the action that is next, after its algorithm.
+#[tactic(auto, unfolding(crate::specs::Walks::to_output))]
+fn to_output(cursor: &mut Cursor<'_>) -> Result<(), ParseFault>
+    ensures { Reads (spec.to_output cursor.old) result cursor.new }
 {
-    to_action(cursor, state, action)?;
-    cursor.expect(Mark::Arrow)
-}
-
-/// Reads up to the output event of an action that has an algorithm too.
-#[tactic(auto, unfolding(crate::specs::Walks::to_output_after))]
-fn to_output_after(cursor: &mut Cursor<'_>, state: usize, action: usize) -> Result<(), ParseFault>
-    ensures { Reads (spec.to_output_after state action cursor.old) result cursor.new }
-{
-    to_action(cursor, state, action)?;
     skip::<Name>(cursor)?;
     cursor.expect(Mark::Arrow)
 }
@@ -135,38 +114,49 @@ fn skip_transitions(cursor: &mut Cursor<'_>) -> Result<(), ParseFault>
     Ok(())
 }
 
-/// Reads up to a part of a transition.
-#[tactic(auto, unfolding(crate::specs::Walks::to_transition))]
-fn to_transition(
+/// Reads up to the first item of a list of the basic type that is next, from the end of its interface on.
+pub fn to_basic_list(cursor: &mut Cursor<'_>, list: BasicList) -> Result<(), ParseFault>
+    ensures { Reads (spec.to_basic_list list cursor.old) result cursor.new }
+{
+    match list {
+        BasicList::Internals => cursor.expect(Mark::Var),
+        BasicList::States => {
+            skip_variables(cursor, Mark::Var)?;
+            cursor.expect(Mark::EcStates)
+        }
+        BasicList::Transitions => {
+            past_states(cursor)?;
+            cursor.expect(Mark::EcTransitions)
+        }
+        BasicList::Algorithms => {
+            past_states(cursor)?;
+            skip_transitions(cursor)
+        }
+    }
+}
+
+/// Reads this many items of a list of a basic type.
+pub fn pass_in_basic(
     cursor: &mut Cursor<'_>,
-    index: usize,
-    part: TransitionPart,
+    list: BasicList,
+    count: usize,
 ) -> Result<(), ParseFault>
-    ensures { Reads (spec.to_transition index part cursor.old) result cursor.new }
+    ensures { Reads (spec.pass_in_basic list count cursor.old) result cursor.new }
 {
-    past_states(cursor)?;
-    cursor.expect(Mark::EcTransitions)?;
-    pass::<Transition>(cursor, index)?;
-    to_transition_part(cursor, part)
+    match list {
+        BasicList::Internals => pass_variables(cursor, count),
+        BasicList::States => pass::<State>(cursor, count),
+        BasicList::Transitions => pass::<Transition>(cursor, count),
+        BasicList::Algorithms => pass::<Algorithm>(cursor, count),
+    }
 }
 
-/// Reads up to the name of an algorithm.
-#[tactic(auto, unfolding(crate::specs::Walks::to_algorithm))]
-fn to_algorithm(cursor: &mut Cursor<'_>, index: usize) -> Result<(), ParseFault>
-    ensures { Reads (spec.to_algorithm index cursor.old) result cursor.new }
-{
-    past_states(cursor)?;
-    skip_transitions(cursor)?;
-    pass::<Algorithm>(cursor, index)?;
-    cursor.expect(Mark::Algorithm)
-}
-
-/// Reads up to the statements of an algorithm.
+/// Reads up to the statements of the algorithm that is next.
 #[tactic(auto, unfolding(crate::specs::Walks::to_body))]
-fn to_body(cursor: &mut Cursor<'_>, index: usize) -> Result<(), ParseFault>
-    ensures { Reads (spec.to_body index cursor.old) result cursor.new }
+pub fn to_body(cursor: &mut Cursor<'_>) -> Result<(), ParseFault>
+    ensures { Reads (spec.to_body cursor.old) result cursor.new }
 {
-    to_algorithm(cursor, index)?;
+    cursor.expect(Mark::Algorithm)?;
     skip::<Name>(cursor)?;
     cursor.word(b"IN")?;
     cursor.word(b"ST")?;
@@ -186,7 +176,7 @@ fn opens(cursor: &Cursor<'_>) -> bool
 }
 
 /// Reads up to the statement at this index among those that begin in what follows, at whose front one may begin.
-fn to_statement(cursor: &mut Cursor<'_>, index: usize) -> Result<(), ParseFault>
+pub fn to_statement(cursor: &mut Cursor<'_>, index: usize) -> Result<(), ParseFault>
     ensures { Reads (spec.to_statement cursor.old true index) result cursor.new }
 {
     let mut ready = true;
@@ -266,30 +256,20 @@ fn to_clause(cursor: &mut Cursor<'_>, index: usize) -> Result<(), ParseFault>
     Err(ParseFault::Syntax)
 }
 
-/// Reads up to a part of a basic type, from the end of its interface on.
+/// Reads up to a part of a basic type, from the beginning of the item to which it belongs.
 pub fn to_basic_part(cursor: &mut Cursor<'_>, part: BasicPart) -> Result<(), ParseFault>
     ensures { Reads (spec.to_basic_part part cursor.old) result cursor.new }
 {
     match part {
-        BasicPart::Internal(variable) => to_variable(cursor, Mark::Var, variable),
-        BasicPart::State(state) => to_state(cursor, state),
-        BasicPart::Action(state, action) => to_action(cursor, state, action),
-        BasicPart::OutputAlone(state, action) => to_output_alone(cursor, state, action),
-        BasicPart::OutputAfter(state, action) => to_output_after(cursor, state, action),
-        BasicPart::Transition(transition, part) => to_transition(cursor, transition, part),
-        BasicPart::Algorithm(algorithm) => to_algorithm(cursor, algorithm),
-        BasicPart::Statement(algorithm, statement) => {
-            to_body(cursor, algorithm)?;
-            to_statement(cursor, statement)
-        }
-        BasicPart::Clause(algorithm, statement, clause) => {
-            to_body(cursor, algorithm)?;
-            to_statement(cursor, statement)?;
-            to_clause(cursor, clause)
-        }
-        BasicPart::Mention(algorithm, mention) => {
-            to_body(cursor, algorithm)?;
-            to_name(cursor, mention)
-        }
+        BasicPart::OutputAlone(_, _) => cursor.expect(Mark::Arrow),
+        BasicPart::OutputAfter(_, _) => to_output(cursor),
+        BasicPart::Transition(_, part) => to_transition_part(cursor, part),
+        BasicPart::Algorithm(_) => cursor.expect(Mark::Algorithm),
+        BasicPart::Clause(_, _, clause) => to_clause(cursor, clause),
+        BasicPart::Internal(_)
+        | BasicPart::State(_)
+        | BasicPart::Action(_, _)
+        | BasicPart::Statement(_, _)
+        | BasicPart::Mention(_, _) => Ok(()),
     }
 }

@@ -10,6 +10,7 @@ ghost use Rattle.fb_read.specs.Tokens.{after_mark};
 ghost use Rattle.fb_read.specs.Whole.{most_bytes};
 ghost use Rattle.fb_read_positions.specs.Places.{IsAt, IsNameOf, IsNamed};
 ghost use Rattle.fb_read_positions.specs.Resumed.{IsReached, IsStop};
+ghost use Rattle.fb_read_positions.specs.Walks.{to_position};
 
 use crate::names::name_at;
 use crate::position::Position;
@@ -83,7 +84,7 @@ pub fn discard(tokens: Items<Located>) {
 
 /// The bytes of a token, and how far its text was read.
 #[derive(Clone, Copy)]
-pub struct Found {
+pub(crate) struct Found {
     /// The bytes of the token at the position. `None` if there is no such position.
     pub span: Option<Span>,
     /// How far the text was read.
@@ -100,7 +101,7 @@ fn span_at_stop(
     stop: Stop,
 ) -> Result<Option<Span>, AllocError>
     requires located { AreLocated text.now tokens.now (after_mark text.now) }
-    requires stop { IsStop tokens.now position stop }
+    requires stop { IsStop tokens.now (to_position position) stop }
     ensures { IfOk result (λ o. IfSome o (IsAt text.now library.now position)) }
 {
     let span = span_before(alloc, text, tokens, stop.left)?;
@@ -117,7 +118,7 @@ fn span_at_stop(
 /// # Errors
 ///
 /// When memory runs out.
-pub fn span_from(
+pub(crate) fn span_from(
     alloc: Global,
     text: &[u8],
     tokens: &[Located],
@@ -164,7 +165,7 @@ pub fn span_of(
     match lex(alloc, text) {
         Ok(tokens) => {
             let tokens = tokens.as_slice();
-            let found = span_from(alloc, text, tokens, library, beginning(tokens), position)?;
+            let found = span_from(alloc, text, tokens, library, beginning(), position)?;
             Ok(found.span)
         }
         Err(ReadFault::Memory) => Err(AllocError),

@@ -2,15 +2,14 @@
 //! and so on. Says where a position is in the text, which position a finding of a check has, and what the position is called.
 //! No offset is kept in a `Library`; a text is read once more for a position.
 //!
-//! Guarantees to callers. `find::span_of`, and `find::span_from`, which goes on from an earlier position: the bytes are those
-//! of a token of the text. The parser of `fb_read` reads the tokens before it as the entries before the position. If the
-//! library has a name at the position, the token is this name. `place`: a place has the line and the column of the token at
-//! its position. `finding_positions`: a finding is shown at the position of what it is about, and what is given twice at its
+//! Guarantees to callers. `find::span_of`: the bytes are those of a token of the text. The parser of `fb_read` reads the tokens
+//! before it as the entries before the position. If the library has a name at the position, the token is this name. `place`:
+//! a place has the line and the column of the token at its position. `finding_positions`: a finding is shown at the position of what it is about, and what is given twice at its
 //! later occurrence. `lookup::BlockTypes` has the ports of the type that a name represents. The words of `headings`, and what
 //! `source_line` shows, are not part of any contract.
 //!
-//! Read in this order: `position`; `skip`, `network`, `ports`, `basic` and `walk`, what is read up to a position; `resume`,
-//! from one position to the next; `names`, the names that a library has at positions; `find`; `text_locations` and `place`,
+//! Read in this order: `position`; `lists`, the item to which a position belongs; `skip`, `network`, `ports`, `basic` and
+//! `walk`, what is read up to it; `resume`, from one position of a list to the next; `names`, the names that a library has at positions; `find`; `text_locations` and `place`,
 //! lines and columns; `finding_positions`. Then words: `words`, texts that grow; `lookup`, the meaning of names; `headings`,
 //! what a position is called; `source_line`, the source line of a place. All of this runs only after a refusal, and for
 //! warnings and stops.
@@ -20,26 +19,25 @@ mod basic;
 pub mod find;
 pub mod finding_positions;
 pub mod headings;
+mod lists;
 pub mod lookup;
 mod names;
 mod network;
 pub mod place;
 mod ports;
 pub mod position;
-pub mod resume;
+mod resume;
 mod skip;
 pub mod source_line;
 pub mod text_locations;
 mod walk;
 pub mod words;
 
-pub use find::{Found, discard, span_from, span_of, tokens_of};
+pub use find::{discard, span_of, tokens_of};
 pub use lookup::BlockTypes;
 pub use names::name_at;
-pub use network::NetworkList;
-pub use place::{FoundPlace, no_place, place_at, place_from};
+pub use place::{place_at, places_of};
 pub use position::{BasicPart, ConnectionPart, NetworkPart, PortPart, Position, TransitionPart};
-pub use resume::{Listed, Reached, beginning};
 pub use source_line::excerpt;
-pub use text_locations::{TextLocation, after_mark, location_at, location_in};
+pub use text_locations::{TextLocation, after_mark, location_at};
 pub use words::Text;

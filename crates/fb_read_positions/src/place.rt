@@ -1,16 +1,18 @@
 //! Where a position is in the text of a declaration, with its line and its column.
 
-ghost use Rattle.std.specs.Prelude.{◌≤◌, IfOk, IfSome, length};
+ghost use Rattle.std.specs.Prelude.{◌≤◌, List, IfOk, IfSome, length};
+ghost use Rattle.std.specs.List.{AllZip};
 ghost use Rattle.fb_read.specs.Blank.{Text};
 ghost use Rattle.fb_read.specs.Located.{AreLocated};
 ghost use Rattle.fb_read.specs.Tokens.{after_mark};
 ghost use Rattle.fb_read.specs.Whole.{most_bytes};
-ghost use Rattle.fb_read_positions.specs.Locations.{IsFound, IsLocation, IsPlaceAt};
+ghost use Rattle.fb_read.specs.declared.token.Located.{Located};
+ghost use Rattle.fb_read_positions.specs.Locations.{IsFound, IsLocation, IsPlaceAt, IsPlaceFor};
 ghost use Rattle.fb_read_positions.specs.Places.{IsAt};
 ghost use Rattle.fb_read_positions.specs.declared.position.Position.{Position};
 ghost use Rattle.fb_types.specs.declared.library.Library.{Library};
 
-use crate::find::{span_from, span_of};
+use crate::find::{discard, span_from, span_of, tokens_of};
 use crate::position::Position;
 use crate::resume::{Reached, beginning};
 use crate::text_locations::{TextLocation, location_at, location_from};
@@ -39,20 +41,20 @@ pub fn place_at(
 
 /// A place in a text, and how far the text was read for it.
 #[derive(Clone, Copy)]
-pub struct FoundPlace {
+struct FoundPlace {
     /// The place. `None` if there is none in the text.
-    pub place: Option<TextLocation>,
+    place: Option<TextLocation>,
     /// How far the text was read.
-    pub reached: Reached,
+    reached: Reached,
 }
 
 /// Before all places.
-pub fn no_place(tokens: &[Located]) -> FoundPlace
-    ensures { (text : Text) → IsFound text tokens.now result }
+fn no_place() -> FoundPlace
+    ensures { (text : Text) (tokens : List Located) → IsFound text tokens result }
 {
     FoundPlace {
         place: None,
-        reached: beginning(tokens),
+        reached: beginning(),
     }
 }
 
@@ -72,11 +74,7 @@ fn place_of(
 }
 
 /// Where a position of a library is, from the tokens of the text that declares it, and from where an earlier place was found.
-///
-/// # Errors
-///
-/// When memory runs out.
-pub fn place_from(
+fn place_from(
     alloc: Global,
     declaration: &[u8],
     tokens: &[Located],
@@ -95,4 +93,70 @@ pub fn place_from(
         place: place_of(declaration, from.place, found.span),
         reached: found.reached,
     })
+}
+
+/// Where a position is, if one is given.
+fn next_place(
+    alloc: Global,
+    declaration: &[u8],
+    tokens: &[Located],
+    library: &Library,
+    from: FoundPlace,
+    position: Option<Position>,
+) -> Result<FoundPlace, AllocError>
+    requires few { length tokens.now ≤ most_bytes }
+    requires located { AreLocated declaration.now tokens.now (after_mark declaration.now) }
+    requires from { IsFound declaration.now tokens.now from }
+    ensures place { IfOk result (λ f. IsPlaceFor declaration.now library.now position f.place) }
+    ensures found { IfOk result (IsFound declaration.now tokens.now) }
+{
+    match position {
+        Some(position) => place_from(alloc, declaration, tokens, library, from, position),
+        None => Ok(FoundPlace {
+            place: None,
+            ..from
+        }),
+    }
+}
+
+/// Where positions of a library are, from the tokens of the text that declares it.
+fn places_among(
+    alloc: Global,
+    declaration: &[u8],
+    tokens: &[Located],
+    library: &Library,
+    positions: &[Option<Position>],
+) -> Result<Vec<Option<TextLocation>>, AllocError>
+    requires few { length tokens.now ≤ most_bytes }
+    requires located { AreLocated declaration.now tokens.now (after_mark declaration.now) }
+    ensures { IfOk result (λ places. AllZip (IsPlaceFor declaration.now library.now) positions.now places.items) }
+{
+    let mut places = Vec::new(alloc);
+    let mut found = no_place();
+    for position in positions {
+        found = next_place(alloc, declaration, tokens, library, found, *position)?;
+        places.push(found.place)?;
+    }
+    Ok(places)
+}
+
+/// Where positions of a library are in the text that declares it, each at the index of its position. `None` stands for no
+/// position and no place. The text is read once more for that; positions that follow the order of a list are found by one
+/// walk.
+///
+/// # Errors
+///
+/// When memory runs out.
+pub fn places_of(
+    alloc: Global,
+    declaration: &[u8],
+    library: &Library,
+    positions: &[Option<Position>],
+) -> Result<Vec<Option<TextLocation>>, AllocError>
+    ensures { IfOk result (λ places. AllZip (IsPlaceFor declaration.now library.now) positions.now places.items) }
+{
+    let tokens = tokens_of(alloc, declaration)?;
+    let places = places_among(alloc, declaration, tokens.as_slice(), library, positions);
+    discard(tokens);
+    places
 }

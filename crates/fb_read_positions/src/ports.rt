@@ -1,11 +1,11 @@
-//! Positions in interfaces.
+//! Lists of interfaces.
 
 ghost use Rattle.fb_read.specs.Parser.{Reads};
 ghost use Rattle.fb_read.specs.Ports.{variables};
 ghost use Rattle.fb_read_positions.specs.Walks as spec;
 
-use crate::position::PortPart;
-use crate::skip::{pass, pass_separated, skip, skip_optional, skip_section};
+use crate::lists::PortList;
+use crate::skip::{pass, skip, skip_optional, skip_section};
 use fb_read::cursor::Cursor;
 use fb_read::fault::ParseFault;
 use fb_read::ports::variables;
@@ -46,7 +46,7 @@ fn past_variable(cursor: &mut Cursor<'_>) -> Result<(), ParseFault>
 }
 
 /// Reads this many variables.
-fn pass_variables(cursor: &mut Cursor<'_>, count: usize) -> Result<(), ParseFault>
+pub fn pass_variables(cursor: &mut Cursor<'_>, count: usize) -> Result<(), ParseFault>
     ensures { Reads (spec.pass_variables count cursor.old) result cursor.new }
 {
     for _turn in 0..count {
@@ -55,38 +55,13 @@ fn pass_variables(cursor: &mut Cursor<'_>, count: usize) -> Result<(), ParseFaul
     Ok(())
 }
 
-/// Reads up to a variable in the section that begins with this mark.
-#[tactic(auto, unfolding(crate::specs::Walks::to_variable))]
-pub fn to_variable(cursor: &mut Cursor<'_>, begin: Mark, index: usize) -> Result<(), ParseFault>
-    ensures { Reads (spec.to_variable begin index cursor.old) result cursor.new }
-{
-    cursor.expect(begin)?;
-    pass_variables(cursor, index)
-}
-
-/// Reads up to an event in the section that begins with this mark.
-#[tactic(auto, unfolding(crate::specs::Walks::to_event))]
-fn to_event(cursor: &mut Cursor<'_>, begin: Mark, index: usize) -> Result<(), ParseFault>
-    ensures { Reads (spec.to_event begin index cursor.old) result cursor.new }
-{
-    cursor.expect(begin)?;
-    pass::<EventPort>(cursor, index)
-}
-
-/// Reads up to a variable WITH an event in the section that begins with this mark.
+/// Reads up to the variables WITH the event that is next.
 #[tactic(auto, unfolding(crate::specs::Walks::to_with))]
-fn to_with(
-    cursor: &mut Cursor<'_>,
-    begin: Mark,
-    event: usize,
-    variable: usize,
-) -> Result<(), ParseFault>
-    ensures { Reads (spec.to_with begin event variable cursor.old) result cursor.new }
+pub fn to_with(cursor: &mut Cursor<'_>) -> Result<(), ParseFault>
+    ensures { Reads (spec.to_with cursor.old) result cursor.new }
 {
-    to_event(cursor, begin, event)?;
     skip::<Name>(cursor)?;
-    cursor.expect(Mark::With)?;
-    pass_separated::<Name>(cursor, variable)
+    cursor.expect(Mark::With)
 }
 
 /// Reads the section of event inputs, if there is one.
@@ -106,29 +81,40 @@ fn past_events(cursor: &mut Cursor<'_>) -> Result<(), ParseFault>
     skip_section::<EventPort>(cursor, Mark::EventOutput, Mark::EndEvent)
 }
 
-/// Reads up to a part of the interface that is next.
-pub fn to_port_part(cursor: &mut Cursor<'_>, part: PortPart) -> Result<(), ParseFault>
-    ensures { Reads (spec.to_port_part part cursor.old) result cursor.new }
+/// Reads up to the first item of a list of the interface that is next.
+pub fn to_port_list(cursor: &mut Cursor<'_>, list: PortList) -> Result<(), ParseFault>
+    ensures { Reads (spec.to_port_list list cursor.old) result cursor.new }
 {
-    match part {
-        PortPart::EventInput(event) => to_event(cursor, Mark::EventInput, event),
-        PortPart::WithInput(event, variable) => to_with(cursor, Mark::EventInput, event, variable),
-        PortPart::EventOutput(event) => {
+    match list {
+        PortList::EventInputs => cursor.expect(Mark::EventInput),
+        PortList::EventOutputs => {
             past_event_inputs(cursor)?;
-            to_event(cursor, Mark::EventOutput, event)
+            cursor.expect(Mark::EventOutput)
         }
-        PortPart::WithOutput(event, variable) => {
-            past_event_inputs(cursor)?;
-            to_with(cursor, Mark::EventOutput, event, variable)
-        }
-        PortPart::Input(variable) => {
+        PortList::Inputs => {
             past_events(cursor)?;
-            to_variable(cursor, Mark::VarInput, variable)
+            cursor.expect(Mark::VarInput)
         }
-        PortPart::Output(variable) => {
+        PortList::Outputs => {
             past_events(cursor)?;
             skip_variables(cursor, Mark::VarInput)?;
-            to_variable(cursor, Mark::VarOutput, variable)
+            cursor.expect(Mark::VarOutput)
         }
+    }
+}
+
+/// Reads this many items of a list of an interface.
+pub fn pass_in_ports(
+    cursor: &mut Cursor<'_>,
+    list: PortList,
+    count: usize,
+) -> Result<(), ParseFault>
+    ensures { Reads (spec.pass_in_ports list count cursor.old) result cursor.new }
+{
+    match list {
+        PortList::EventInputs => pass::<EventPort>(cursor, count),
+        PortList::EventOutputs => pass::<EventPort>(cursor, count),
+        PortList::Inputs => pass_variables(cursor, count),
+        PortList::Outputs => pass_variables(cursor, count),
     }
 }

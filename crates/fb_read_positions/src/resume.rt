@@ -1,43 +1,42 @@
-//! Positions one after another: a text is read once up to all of them, where they follow the order of the block types, or
-//! that of a list of the network of the application.
+//! Positions one after another: a position goes on from where an earlier one of the same list was.
 
-ghost use Rattle.std.specs.Prelude.{◌≡◌, ◌≤◌, ◌-◌, IfOk, IfSome, IsTrue, Ok, Some, drop, length};
+ghost use Rattle.std.specs.Prelude.{◌≡◌, ◌≤◌, ◌-◌, List, IfOk, IfSome, IsTrue, Ok, drop, length};
+ghost use Rattle.fb_read.specs.Parser.{pure};
 ghost use Rattle.fb_read.specs.Whole.{most_bytes};
-ghost use Rattle.fb_read_positions.specs.Resumed.{IsEarlier, IsListed, IsReached, IsStop, Leaves, block_of};
-ghost use Rattle.fb_read_positions.specs.Walks.{to_item};
-ghost use Rattle.fb_read_positions.specs.declared.position.Position.TheVariants as position;
+ghost use Rattle.fb_read.specs.declared.token.Located.{Located};
+ghost use Rattle.fb_read_positions.specs.Resumed.{IsAhead, IsListed, IsReached, IsStop, Leaves};
+ghost use Rattle.fb_read_positions.specs.Walks.{pass_blocks, to_application, to_item, to_outer, to_owner, to_position};
+ghost use Rattle.fb_read_positions.specs.declared.lists.ItemList.TheVariants as item_list;
 
-use crate::network::{NetworkList, from_item, index_of, list_of, pass_listed};
-use crate::position::{NetworkPart, Position};
-use crate::walk::{from_block, pass_blocks, to_item, to_position};
+use crate::lists::{Item, ItemList, OuterList, is_same, item_of, outer};
+use crate::position::Position;
+use crate::walk::{from_item, pass_items, to_application, to_first};
 use fb_read::cursor::Cursor;
 use fb_read::fault::ParseFault;
 use fb_read::token::Located;
 use std::alloc::{AllocError, Global};
 
-/// How far a list of the network of the application was read.
+/// How far a list was read.
 #[derive(Clone, Copy)]
 pub struct Listed {
-    /// The list.
-    pub list: NetworkList,
-    /// The number of its items that were read.
-    pub count: usize,
-    /// The number of tokens that are left after them.
+    /// The item up to which it was read.
+    pub item: Item,
+    /// The number of tokens that are left at this item.
     pub left: usize,
 }
 
 /// How far a text was read.
 #[derive(Clone, Copy)]
 pub struct Reached {
-    /// The number of block types that were read.
-    pub blocks: usize,
-    /// The number of tokens that are left after them.
-    pub left: usize,
-    /// How far the network of the application was read, if it was.
-    pub listed: Option<Listed>,
+    /// The last list of the text itself: the block types, or a list of the network of the application.
+    pub in_text: Option<Listed>,
+    /// The last list of a block type.
+    pub in_block: Option<Listed>,
+    /// The last list of an item: of an event, an instance, a state or an algorithm.
+    pub in_item: Option<Listed>,
 }
 
-/// A position that was reached.
+/// Where a walk through a text has ended.
 #[derive(Clone, Copy)]
 pub struct Stop {
     /// The number of tokens that are left there.
@@ -47,13 +46,13 @@ pub struct Stop {
 }
 
 /// Before all tokens.
-pub fn beginning(tokens: &[Located]) -> Reached
-    ensures { IsReached tokens.now result }
+pub(crate) fn beginning() -> Reached
+    ensures { (tokens : List Located) → IsReached tokens result }
 {
     Reached {
-        blocks: 0,
-        left: tokens.len(),
-        listed: None,
+        in_text: None,
+        in_block: None,
+        in_item: None,
     }
 }
 
@@ -76,151 +75,264 @@ fn is_read(read: Result<(), ParseFault>) -> Result<bool, AllocError>
     }
 }
 
-/// The part of what was read that is before a block type: all of it, or nothing if the block type is among it.
-fn before(tokens: &[Located], reached: Reached, block: usize) -> Reached
-    requires { IsReached tokens.now reached }
-    ensures reached { IsReached tokens.now result }
-    ensures below { result.blocks ≤ block }
+/// How far the list of an item was read, if it was not read past the item.
+fn earlier(reached: Reached, item: Item) -> Option<Listed>
+    ensures ahead { IfSome result (IsAhead item) }
+    ensures listed { (tokens : List Located) → IsReached tokens reached → IfSome result (IsListed tokens) }
 {
-    if reached.blocks <= block {
-        return reached;
-    }
-    Reached {
-        blocks: 0,
-        left: tokens.len(),
-        listed: reached.listed,
+    match listed_of(reached, item.list) {
+        Some(from) if from.item.index <= item.index && is_same(from.item.list, item.list) => {
+            Some(from)
+        }
+        _ => None,
     }
 }
 
-/// Reads up to a position in the block type at this index.
+/// How far the last list was read that is as deep as this one.
+fn listed_of(reached: Reached, list: ItemList) -> Option<Listed>
+    ensures { (tokens : List Located) → IsReached tokens reached → IfSome result (IsListed tokens) }
+{
+    match list {
+        ItemList::Outer(OuterList::Blocks) => reached.in_text,
+        ItemList::Outer(OuterList::InApplication(_)) => reached.in_text,
+        ItemList::Outer(_) => reached.in_block,
+        ItemList::Inner(_, _, _) => reached.in_item,
+    }
+}
+
+/// What was read, after this list too.
+fn noted(reached: Reached, listed: Listed) -> Reached
+    ensures { (tokens : List Located) → IsReached tokens reached → IsListed tokens listed → IsReached tokens result }
+{
+    let Reached {
+        in_text,
+        in_block,
+        in_item,
+    } = reached;
+    let now = Some(listed);
+    match listed.item.list {
+        ItemList::Outer(OuterList::Blocks) => Reached {
+            in_text: now,
+            in_block,
+            in_item,
+        },
+        ItemList::Outer(OuterList::InApplication(_)) => Reached {
+            in_text: now,
+            in_block,
+            in_item,
+        },
+        ItemList::Outer(_) => Reached {
+            in_text,
+            in_block: now,
+            in_item,
+        },
+        ItemList::Inner(_, _, _) => Reached {
+            in_text,
+            in_block,
+            in_item: now,
+        },
+    }
+}
+
+/// The end of a walk up to an item, at which this number of tokens is left.
+fn stop_at(reached: Reached, item: Item, left: usize) -> Stop
+    ensures { (tokens : List Located) → IsReached tokens reached → Leaves (to_item item) tokens left → IsStop tokens (to_item item) result }
+{
+    Stop {
+        left,
+        reached: noted(reached, Listed { item, left }),
+    }
+}
+
+/// The number of tokens that are left at an item, from an earlier one of its list on.
+fn left_after(
+    alloc: Global,
+    tokens: &[Located],
+    from: Listed,
+    item: Item,
+) -> Result<Option<usize>, AllocError>
+    requires few { length tokens.now ≤ most_bytes }
+    requires listed { IsListed tokens.now from }
+    requires ahead { IsAhead item from }
+    ensures { IfOk result (λ o. IfSome o (Leaves (to_item item) tokens.now)) }
+{
+    let mut cursor = Cursor::new(alloc, last(tokens, from.left));
+    if !is_read(pass_items(&mut cursor, item.list, item.index - from.item.index))? {
+        return Ok(None);
+    }
+    Ok(Some(cursor.left()))
+}
+
+/// The number of tokens that are left at an item, from where what has its list begins.
+fn left_within(
+    alloc: Global,
+    tokens: &[Located],
+    owner: usize,
+    item: Item,
+) -> Result<Option<usize>, AllocError>
+    requires few { length tokens.now ≤ most_bytes }
+    requires owner { Leaves (to_owner item.list) tokens.now owner }
+    ensures { IfOk result (λ o. IfSome o (Leaves (to_item item) tokens.now)) }
+{
+    let mut cursor = Cursor::new(alloc, last(tokens, owner));
+    if !is_read(to_first(&mut cursor, item.list))? {
+        return Ok(None);
+    }
+    if !is_read(pass_items(&mut cursor, item.list, item.index))? {
+        return Ok(None);
+    }
+    Ok(Some(cursor.left()))
+}
+
+/// Reads up to an item, if its list was read before and not past it.
+fn reach_again(
+    alloc: Global,
+    tokens: &[Located],
+    reached: Reached,
+    item: Item,
+) -> Result<Option<Stop>, AllocError>
+    requires few { length tokens.now ≤ most_bytes }
+    requires reached { IsReached tokens.now reached }
+    ensures { IfOk result (λ o. IfSome o (IsStop tokens.now (to_item item))) }
+{
+    let Some(from) = earlier(reached, item) else {
+        return Ok(None);
+    };
+    match left_after(alloc, tokens, from, item)? {
+        Some(left) => Ok(Some(stop_at(reached, item, left))),
+        None => Ok(None),
+    }
+}
+
+/// Reads up to an item, from where what has its list begins.
+fn reach_within(
+    alloc: Global,
+    tokens: &[Located],
+    owner: Stop,
+    item: Item,
+) -> Result<Option<Stop>, AllocError>
+    requires few { length tokens.now ≤ most_bytes }
+    requires owner { IsStop tokens.now (to_owner item.list) owner }
+    ensures { IfOk result (λ o. IfSome o (IsStop tokens.now (to_item item))) }
+{
+    match left_within(alloc, tokens, owner.left, item)? {
+        Some(left) => Ok(Some(stop_at(owner.reached, item, left))),
+        None => Ok(None),
+    }
+}
+
+/// Before all tokens of the text.
+fn before_all(tokens: &[Located], reached: Reached) -> Stop
+    ensures { IsReached tokens.now reached → IsStop tokens.now (pure tt) result }
+{
+    Stop {
+        left: tokens.len(),
+        reached,
+    }
+}
+
+/// Reads up to an item of a list that the text itself has.
+fn reach_in_text(
+    alloc: Global,
+    tokens: &[Located],
+    reached: Reached,
+    item: Item,
+) -> Result<Option<Stop>, AllocError>
+    requires few { length tokens.now ≤ most_bytes }
+    requires reached { IsReached tokens.now reached }
+    requires owner { to_owner item.list ≡ pure tt }
+    ensures { IfOk result (λ o. IfSome o (IsStop tokens.now (to_item item))) }
+{
+    if let Some(stop) = reach_again(alloc, tokens, reached, item)? {
+        return Ok(Some(stop));
+    }
+    reach_within(alloc, tokens, before_all(tokens, reached), item)
+}
+
+/// Reads up to an item of a list of the block type at this index.
 fn reach_in_block(
     alloc: Global,
     tokens: &[Located],
     reached: Reached,
     block: usize,
-    position: Position,
+    item: Item,
 ) -> Result<Option<Stop>, AllocError>
     requires few { length tokens.now ≤ most_bytes }
     requires reached { IsReached tokens.now reached }
-    requires inside { block_of position ≡ Some block }
-    ensures { IfOk result (λ o. IfSome o (IsStop tokens.now position)) }
+    requires owner { to_owner item.list ≡ pass_blocks block }
+    ensures { IfOk result (λ o. IfSome o (IsStop tokens.now (to_item item))) }
 {
-    let from = before(tokens, reached, block);
-    let mut cursor = Cursor::new(alloc, last(tokens, from.left));
-    if !is_read(pass_blocks(&mut cursor, block - from.blocks))? {
-        return Ok(None);
+    if let Some(stop) = reach_again(alloc, tokens, reached, item)? {
+        return Ok(Some(stop));
     }
-    let reached = Reached {
-        blocks: block,
-        left: cursor.left(),
-        listed: from.listed,
-    };
-    if !is_read(from_block(&mut cursor, position))? {
-        return Ok(None);
-    }
-    Ok(Some(Stop {
-        left: cursor.left(),
-        reached,
-    }))
-}
-
-/// Whether two lists are the same one.
-fn is_same(left: NetworkList, right: NetworkList) -> bool
-    ensures { IsTrue result → left ≡ right }
-{
-    match (left, right) {
-        (NetworkList::Instances, NetworkList::Instances) => true,
-        (NetworkList::EventConnections, NetworkList::EventConnections) => true,
-        (NetworkList::DataConnections, NetworkList::DataConnections) => true,
-        _ => false,
+    match reach_in_text(alloc, tokens, reached, outer(OuterList::Blocks, block))? {
+        Some(at_block) => reach_within(alloc, tokens, at_block, item),
+        None => Ok(None),
     }
 }
 
-/// What was read of a list, if it was not read past this index.
-fn earlier(reached: Reached, list: NetworkList, index: usize) -> Option<Listed>
-    ensures { IfSome result (IsEarlier reached list index) }
-{
-    match reached.listed {
-        Some(listed) if listed.count <= index && is_same(listed.list, list) => Some(listed),
-        _ => None,
-    }
-}
-
-/// The number of tokens that are left before an item of a list, from an earlier one on.
-fn left_after(
-    alloc: Global,
-    tokens: &[Located],
-    from: Listed,
-    index: usize,
-) -> Result<Option<usize>, AllocError>
-    requires few { length tokens.now ≤ most_bytes }
-    requires listed { IsListed tokens.now from }
-    requires below { from.count ≤ index }
-    ensures { IfOk result (λ o. IfSome o (Leaves (to_item from.list index) tokens.now)) }
-{
-    let mut cursor = Cursor::new(alloc, last(tokens, from.left));
-    if !is_read(pass_listed(&mut cursor, from.list, index - from.count))? {
-        return Ok(None);
-    }
-    Ok(Some(cursor.left()))
-}
-
-/// The number of tokens that are left before an item of a list of the network of the application.
-fn left_before(
+/// Reads up to an item of this list, which is in no item.
+fn reach_outer(
     alloc: Global,
     tokens: &[Located],
     reached: Reached,
-    list: NetworkList,
-    index: usize,
-) -> Result<Option<usize>, AllocError>
-    requires few { length tokens.now ≤ most_bytes }
-    requires reached { IsReached tokens.now reached }
-    ensures { IfOk result (λ o. IfSome o (Leaves (to_item list index) tokens.now)) }
-{
-    if let Some(from) = earlier(reached, list, index) {
-        return left_after(alloc, tokens, from, index);
-    }
-    let mut cursor = Cursor::new(alloc, tokens);
-    if !is_read(to_item(&mut cursor, list, index))? {
-        return Ok(None);
-    }
-    Ok(Some(cursor.left()))
-}
-
-/// Reads up to a part of the network of the application.
-fn reach_in_network(
-    alloc: Global,
-    tokens: &[Located],
-    reached: Reached,
-    part: NetworkPart,
+    list: OuterList,
+    item: Item,
 ) -> Result<Option<Stop>, AllocError>
     requires few { length tokens.now ≤ most_bytes }
     requires reached { IsReached tokens.now reached }
-    ensures { IfOk result (λ o. IfSome o (IsStop tokens.now (position.InApplication part))) }
+    requires list { item.list ≡ item_list.Outer list }
+    ensures { IfOk result (λ o. IfSome o (IsStop tokens.now (to_item item))) }
 {
-    let list = list_of(part);
-    let index = index_of(part);
-    let Some(before) = left_before(alloc, tokens, reached, list, index)? else {
-        return Ok(None);
-    };
-    let mut cursor = Cursor::new(alloc, last(tokens, before));
-    if !is_read(from_item(&mut cursor, part))? {
-        return Ok(None);
+    match list {
+        OuterList::Blocks => reach_in_text(alloc, tokens, reached, item),
+        OuterList::InApplication(_) => reach_in_text(alloc, tokens, reached, item),
+        OuterList::InPorts(block, _) => reach_in_block(alloc, tokens, reached, block, item),
+        OuterList::InBasic(block, _) => reach_in_block(alloc, tokens, reached, block, item),
+        OuterList::InComposite(block, _) => reach_in_block(alloc, tokens, reached, block, item),
     }
-    let listed = Listed {
-        list,
-        count: index,
-        left: before,
-    };
-    let reached = Reached {
-        blocks: reached.blocks,
-        left: reached.left,
-        listed: Some(listed),
-    };
-    Ok(Some(Stop {
-        left: cursor.left(),
-        reached,
-    }))
+}
+
+/// Reads up to an item of a list of the item at this index of a list.
+fn reach_inner(
+    alloc: Global,
+    tokens: &[Located],
+    reached: Reached,
+    list: OuterList,
+    index: usize,
+    item: Item,
+) -> Result<Option<Stop>, AllocError>
+    requires few { length tokens.now ≤ most_bytes }
+    requires reached { IsReached tokens.now reached }
+    requires owner { to_owner item.list ≡ to_outer list index }
+    ensures { IfOk result (λ o. IfSome o (IsStop tokens.now (to_item item))) }
+{
+    if let Some(stop) = reach_again(alloc, tokens, reached, item)? {
+        return Ok(Some(stop));
+    }
+    match reach_outer(alloc, tokens, reached, list, outer(list, index))? {
+        Some(at_owner) => reach_within(alloc, tokens, at_owner, item),
+        None => Ok(None),
+    }
+}
+
+/// Reads up to an item of a list.
+fn reach_item(
+    alloc: Global,
+    tokens: &[Located],
+    reached: Reached,
+    item: Item,
+) -> Result<Option<Stop>, AllocError>
+    requires few { length tokens.now ≤ most_bytes }
+    requires reached { IsReached tokens.now reached }
+    ensures { IfOk result (λ o. IfSome o (IsStop tokens.now (to_item item))) }
+{
+    match item.list {
+        ItemList::Outer(list) => reach_outer(alloc, tokens, reached, list, item),
+        ItemList::Inner(list, index, _) => {
+            reach_inner(alloc, tokens, reached, list, index, item)
+        }
+    }
 }
 
 /// Reads up to the name of the application.
@@ -231,10 +343,10 @@ fn reach_application(
 ) -> Result<Option<Stop>, AllocError>
     requires few { length tokens.now ≤ most_bytes }
     requires reached { IsReached tokens.now reached }
-    ensures { IfOk result (λ o. IfSome o (IsStop tokens.now position.Application)) }
+    ensures { IfOk result (λ o. IfSome o (IsStop tokens.now to_application)) }
 {
     let mut cursor = Cursor::new(alloc, tokens);
-    if !is_read(to_position(&mut cursor, Position::Application))? {
+    if !is_read(to_application(&mut cursor))? {
         return Ok(None);
     }
     Ok(Some(Stop {
@@ -252,14 +364,20 @@ pub(crate) fn reach(
 ) -> Result<Option<Stop>, AllocError>
     requires few { length tokens.now ≤ most_bytes }
     requires reached { IsReached tokens.now reached }
-    ensures { IfOk result (λ o. IfSome o (IsStop tokens.now position)) }
+    ensures { IfOk result (λ o. IfSome o (IsStop tokens.now (to_position position))) }
 {
-    match position {
-        Position::Application => reach_application(alloc, tokens, reached),
-        Position::InApplication(part) => reach_in_network(alloc, tokens, reached, part),
-        Position::Block(block) => reach_in_block(alloc, tokens, reached, block, position),
-        Position::InPorts(block, _) => reach_in_block(alloc, tokens, reached, block, position),
-        Position::InBasic(block, _) => reach_in_block(alloc, tokens, reached, block, position),
-        Position::InComposite(block, _) => reach_in_block(alloc, tokens, reached, block, position),
+    let Some(item) = item_of(position) else {
+        return reach_application(alloc, tokens, reached);
+    };
+    let Some(at_item) = reach_item(alloc, tokens, reached, item)? else {
+        return Ok(None);
+    };
+    let mut cursor = Cursor::new(alloc, last(tokens, at_item.left));
+    if !is_read(from_item(&mut cursor, position))? {
+        return Ok(None);
     }
+    Ok(Some(Stop {
+        left: cursor.left(),
+        reached: at_item.reached,
+    }))
 }

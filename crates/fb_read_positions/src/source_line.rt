@@ -35,7 +35,7 @@ fn shown_in_line(byte: u8) -> u8 {
 }
 
 /// Adds the line of a text that begins at an offset, cut round the byte at the other offset, and a line with a mark under
-/// this byte. A tab before the byte is a tab in the line of the mark too, so that the mark stands under the byte.
+/// this byte. A tab before the byte is a tab in the line of the mark too, so that the mark is under the byte.
 fn push_marked(text: &mut Text, bytes: &[u8], start: usize, marked: usize) {
     let line = rest_of_line(bytes, start);
     let at = marked.saturating_sub(start);

@@ -1,9 +1,10 @@
 //! Locations in a text.
 
-ghost use Rattle.std.specs.Prelude.{◌≡◌, ◌≤◌, ◌<◌, ◌+◌, IfSome, length};
+ghost use Rattle.std.specs.Prelude.{◌≡◌, ◌≤◌, ◌<◌, IfSome, IsTrue, length};
+ghost use Rattle.std.specs.Option.{is_some};
 ghost use Rattle.fb_read.specs.Blank as spec;
 ghost use Rattle.fb_read.specs.Tokens.{after_mark};
-ghost use Rattle.fb_read_positions.specs.Locations.{IsCounted, IsLocation, IsStretch};
+ghost use Rattle.fb_read_positions.specs.Locations.{IsCounted, IsLocation, IsStretch, IsWithin};
 
 /// A location in a text: the bytes from `start` up to `end`, both offsets in bytes. It is empty at the end of the text.
 #[derive(Clone, Copy)]
@@ -83,26 +84,9 @@ fn count_from(text: &[u8], earlier: Option<TextLocation>, to: usize) -> Counted
     }
 }
 
-/// The location of the bytes between two offsets of a text.
-pub fn location_in(text: &[u8], start: usize, end: usize) -> TextLocation
-    requires columns { length text.now ≤ start + length (after_mark text.now) }
-    requires ordered { start ≤ end }
-    requires within { end ≤ length text.now }
-    ensures location { IsLocation text.now result }
-    ensures there { IsStretch start end result }
-{
-    let Counted { line, column } = count_from(text, None, start);
-    TextLocation {
-        start,
-        end,
-        line,
-        column,
-    }
-}
-
 /// The bytes between two offsets, if the text has them after its byte order mark. Lines are counted on from an earlier
 /// location, if one is given.
-pub fn location_from(
+pub(crate) fn location_from(
     text: &[u8],
     earlier: Option<TextLocation>,
     start: usize,
@@ -111,6 +95,7 @@ pub fn location_from(
     requires { IfSome earlier (IsLocation text.now) }
     ensures location { IfSome result (IsLocation text.now) }
     ensures there { IfSome result (λ location. IsStretch start end location) }
+    ensures within { IsWithin text.now start end → IsTrue (is_some result) }
 {
     if start > end || end > text.len() || start < text.len() - after_mark(text).len() {
         return None;
@@ -128,6 +113,7 @@ pub fn location_from(
 pub fn location_at(text: &[u8], start: usize, end: usize) -> Option<TextLocation>
     ensures location { IfSome result (IsLocation text.now) }
     ensures there { IfSome result (λ location. IsStretch start end location) }
+    ensures within { IsWithin text.now start end → IsTrue (is_some result) }
 {
     location_from(text, None, start, end)
 }

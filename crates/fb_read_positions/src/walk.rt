@@ -1,4 +1,4 @@
-//! Positions in a whole declaration.
+//! Lists and positions of a whole declaration.
 
 ghost use Rattle.std.specs.Prelude.{[]};
 ghost use Rattle.fb_read.specs.Parser.{Reads, run_after};
@@ -6,16 +6,19 @@ ghost use Rattle.fb_read.specs.Blocks.{block};
 ghost use Rattle.fb_read.specs.declared.token.Mark.TheVariants as mark;
 ghost use Rattle.fb_read_positions.specs.Walks as spec;
 
-use crate::basic::to_basic_part;
-use crate::network::{NetworkList, pass_listed, to_list, to_network_part};
-use crate::ports::to_port_part;
+use crate::basic::{
+    pass_in_basic, to_actions, to_basic_list, to_basic_part, to_body, to_statement,
+};
+use crate::lists::{InnerList, ItemList, OuterList};
+use crate::network::{pass_in_network, to_network_list, to_network_part, to_parameters};
+use crate::ports::{pass_in_ports, to_port_list, to_with};
 use crate::position::Position;
-use crate::skip::skip;
+use crate::skip::{pass_separated, skip, to_name};
 use fb_read::cursor::Cursor;
 use fb_read::fault::ParseFault;
 use fb_read::rule::run_after;
 use fb_read::token::Mark;
-use fb_types::{Application, BlockType, Name, Ports};
+use fb_types::{Action, Application, BlockType, Name, Parameter, Ports};
 
 /// Reads the application, if it is next.
 #[tactic(auto, unfolding(crate::specs::Walks::past_application))]
@@ -67,28 +70,6 @@ fn to_inside(cursor: &mut Cursor<'_>) -> Result<(), ParseFault>
     skip::<Ports>(cursor)
 }
 
-/// Reads up to a position in the block type that is next.
-pub fn from_block(cursor: &mut Cursor<'_>, position: Position) -> Result<(), ParseFault>
-    ensures { Reads (spec.from_block position cursor.old) result cursor.new }
-{
-    match position {
-        Position::Application | Position::InApplication(_) => Err(ParseFault::Syntax),
-        Position::Block(_) => begun(cursor),
-        Position::InPorts(_, part) => {
-            to_ports(cursor)?;
-            to_port_part(cursor, part)
-        }
-        Position::InBasic(_, part) => {
-            to_inside(cursor)?;
-            to_basic_part(cursor, part)
-        }
-        Position::InComposite(_, part) => {
-            to_inside(cursor)?;
-            to_network_part(cursor, part)
-        }
-    }
-}
-
 /// Reads the block types before the application.
 #[tactic(auto, unfolding(crate::specs::Walks::skip))]
 fn skip_blocks(cursor: &mut Cursor<'_>) -> Result<(), ParseFault>
@@ -101,7 +82,7 @@ fn skip_blocks(cursor: &mut Cursor<'_>) -> Result<(), ParseFault>
 
 /// Reads up to the name of the application.
 #[tactic(auto, unfolding(crate::specs::Walks::to_application))]
-fn to_application(cursor: &mut Cursor<'_>) -> Result<(), ParseFault>
+pub fn to_application(cursor: &mut Cursor<'_>) -> Result<(), ParseFault>
     ensures { Reads (spec.to_application cursor.old) result cursor.new }
 {
     skip_blocks(cursor)?;
@@ -117,39 +98,100 @@ fn to_network(cursor: &mut Cursor<'_>) -> Result<(), ParseFault>
     skip::<Name>(cursor)
 }
 
-/// Reads up to an item of a list of the network of the application.
-#[tactic(auto, unfolding(crate::specs::Walks::to_item))]
-pub fn to_item(cursor: &mut Cursor<'_>, list: NetworkList, index: usize) -> Result<(), ParseFault>
-    ensures { Reads (spec.to_item list index cursor.old) result cursor.new }
+/// Reads up to the first item of a list that is in no item, from the beginning of the text or the block type that has it.
+fn to_first_outer(cursor: &mut Cursor<'_>, list: OuterList) -> Result<(), ParseFault>
+    ensures { Reads (spec.to_first_outer list cursor.old) result cursor.new }
 {
-    to_network(cursor)?;
-    to_list(cursor, list)?;
-    pass_listed(cursor, list, index)
+    match list {
+        OuterList::Blocks => Ok(()),
+        OuterList::InApplication(list) => {
+            to_network(cursor)?;
+            to_network_list(cursor, list)
+        }
+        OuterList::InPorts(_, list) => {
+            to_ports(cursor)?;
+            to_port_list(cursor, list)
+        }
+        OuterList::InBasic(_, list) => {
+            to_inside(cursor)?;
+            to_basic_list(cursor, list)
+        }
+        OuterList::InComposite(_, list) => {
+            to_inside(cursor)?;
+            to_network_list(cursor, list)
+        }
+    }
 }
 
-/// Reads up to a position in the block type at this index.
-#[tactic(auto, unfolding(crate::specs::Walks::to_block))]
-fn to_block(cursor: &mut Cursor<'_>, block: usize, position: Position) -> Result<(), ParseFault>
-    ensures { Reads (spec.to_block block position cursor.old) result cursor.new }
+/// Reads this many items of a list that is in no item.
+fn pass_outer(cursor: &mut Cursor<'_>, list: OuterList, count: usize) -> Result<(), ParseFault>
+    ensures { Reads (spec.pass_outer list count cursor.old) result cursor.new }
 {
-    pass_blocks(cursor, block)?;
-    from_block(cursor, position)
+    match list {
+        OuterList::Blocks => pass_blocks(cursor, count),
+        OuterList::InApplication(list) => pass_in_network(cursor, list, count),
+        OuterList::InPorts(_, list) => pass_in_ports(cursor, list, count),
+        OuterList::InBasic(_, list) => pass_in_basic(cursor, list, count),
+        OuterList::InComposite(_, list) => pass_in_network(cursor, list, count),
+    }
 }
 
-/// Reads up to a position in a declaration.
-#[tactic(auto, unfolding(crate::specs::Walks::to_position))]
-pub fn to_position(cursor: &mut Cursor<'_>, position: Position) -> Result<(), ParseFault>
-    ensures { Reads (spec.to_position position cursor.old) result cursor.new }
+/// Reads up to the first item of a list of the item that is next.
+fn to_first_inner(cursor: &mut Cursor<'_>, list: InnerList) -> Result<(), ParseFault>
+    ensures { Reads (spec.to_first_inner list cursor.old) result cursor.new }
+{
+    match list {
+        InnerList::With => to_with(cursor),
+        InnerList::Parameters => to_parameters(cursor),
+        InnerList::Actions => to_actions(cursor),
+        InnerList::Statements => to_body(cursor),
+        InnerList::Mentions => to_body(cursor),
+    }
+}
+
+/// Reads on to an item of a list of an item, this many items after the one that is next.
+fn pass_inner(cursor: &mut Cursor<'_>, list: InnerList, count: usize) -> Result<(), ParseFault>
+    ensures { Reads (spec.pass_inner list count cursor.old) result cursor.new }
+{
+    match list {
+        InnerList::With => pass_separated::<Name>(cursor, count),
+        InnerList::Parameters => pass_separated::<Parameter>(cursor, count),
+        InnerList::Actions => pass_separated::<Action>(cursor, count),
+        InnerList::Statements => to_statement(cursor, count),
+        InnerList::Mentions => to_name(cursor, count),
+    }
+}
+
+/// Reads up to the first item of a list, from the beginning of the text, the block type or the item that has it.
+pub fn to_first(cursor: &mut Cursor<'_>, list: ItemList) -> Result<(), ParseFault>
+    ensures { Reads (spec.to_first list cursor.old) result cursor.new }
+{
+    match list {
+        ItemList::Outer(list) => to_first_outer(cursor, list),
+        ItemList::Inner(_, _, list) => to_first_inner(cursor, list),
+    }
+}
+
+/// Reads on to an item of a list, this many items after the one that is next.
+pub fn pass_items(cursor: &mut Cursor<'_>, list: ItemList, count: usize) -> Result<(), ParseFault>
+    ensures { Reads (spec.pass_items list count cursor.old) result cursor.new }
+{
+    match list {
+        ItemList::Outer(list) => pass_outer(cursor, list, count),
+        ItemList::Inner(_, _, list) => pass_inner(cursor, list, count),
+    }
+}
+
+/// Reads up to a position, from the beginning of the item to which it belongs.
+pub fn from_item(cursor: &mut Cursor<'_>, position: Position) -> Result<(), ParseFault>
+    ensures { Reads (spec.from_item position cursor.old) result cursor.new }
 {
     match position {
-        Position::Application => to_application(cursor),
-        Position::InApplication(part) => {
-            to_network(cursor)?;
-            to_network_part(cursor, part)
-        }
-        Position::Block(block)
-        | Position::InPorts(block, _)
-        | Position::InBasic(block, _)
-        | Position::InComposite(block, _) => to_block(cursor, block, position),
+        Position::Application => Err(ParseFault::Syntax),
+        Position::Block(_) => begun(cursor),
+        Position::InApplication(part) => to_network_part(cursor, part),
+        Position::InPorts(_, _) => Ok(()),
+        Position::InBasic(_, part) => to_basic_part(cursor, part),
+        Position::InComposite(_, part) => to_network_part(cursor, part),
     }
 }

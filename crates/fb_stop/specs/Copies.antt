@@ -1,4 +1,4 @@
--- What the copies of basic blocks represent that react beside a run (this project's own).
+-- What the copies of basic blocks represent that react to the events of a run (this project's own).
 use Rattle.std.specs.Prelude.{◌≡◌, ◌<◌, ℕ, List, [], ◌∷◌, length, Option, Some, None, slice_get, slice_set}
 use Rattle.fb_types.specs.Blocks.{Basic}
 use Rattle.fb_types.specs.Charts.{ChartReacts, Position}

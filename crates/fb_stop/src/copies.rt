@@ -1,12 +1,10 @@
-//! Copies of the basic blocks, which react beside a run to the same events. A run shows nobody the memory of its blocks,
-//! and after a stop it has what the reaction left: the copies still have what the block remembered before.
+//! Copies of the basic blocks, which react to the same events as those of a run. A run shows nobody the memory of its
+//! blocks, and after a stop it has what the reaction left: the copies still have what the block remembered before.
 
 ghost use Rattle.std.specs.Prelude.{◌≡◌, ◌<◌, IfNone, IfOk, IfSome, OnOk, Some, length};
 ghost use Rattle.fb_types.specs.Blocks.{Basic};
-ghost use Rattle.fb_types.specs.Headline.{system_of};
-ghost use Rattle.fb_types.specs.Numbers.{path_at};
-ghost use Rattle.fb_types.specs.Simulation.{opening_block, opening_state};
 ghost use Rattle.fb_types.specs.declared.library.BasicType.{BasicType as Declared};
+ghost use Rattle.fb_types.specs.OfSystem.{IsInstance, kind_at, opening_block, opening_state, path_at};
 ghost use Rattle.fb_net.specs.Opening.{AreCharts};
 ghost use Rattle.fb_stop.specs.Copies.{AreAllCopies, HasFollowed, HasLocated, IsCopy, IsWhole};
 
@@ -23,9 +21,9 @@ use std::collections::BTreeMap;
 
 /// The type of an instance, if it is a basic one.
 pub(crate) fn basic_type(system: &System, instance: u32) -> Option<&BasicType>
-    requires { instance < length (system_of system.now).paths }
-    ensures some { IfSome result (λ t. (system_of system.now).kind (path_at (system_of system.now) instance) ≡ Some (Basic t.now)) }
-    ensures none { IfNone result ((t : Declared) → ¬ ((system_of system.now).kind (path_at (system_of system.now) instance) ≡ Some (Basic t))) }
+    requires { IsInstance system.now instance }
+    ensures some { IfSome result (λ t. kind_at system.now (path_at system.now instance) ≡ Some (Basic t.now)) }
+    ensures none { IfNone result ((t : Declared) → ¬ (kind_at system.now (path_at system.now instance) ≡ Some (Basic t))) }
 {
     match system.kind(instance) {
         TypeNumber::Event(_) => None,
@@ -43,9 +41,9 @@ fn copy_of(
     instance: u32,
     charts: &mut Charts,
 ) -> Result<Option<BasicState>, AllocError>
-    requires instance { instance < length (system_of system.now).paths }
+    requires instance { IsInstance system.now instance }
     requires charts { AreCharts system.now charts.old }
-    ensures copy { IfOk result (IsCopy system.now instance (opening_block (system_of system.now) (path_at (system_of system.now) instance))) }
+    ensures copy { IfOk result (IsCopy system.now instance (opening_block system.now (path_at system.now instance))) }
     ensures charts { OnOk result (AreCharts system.now charts.new) }
 {
     match block_of(alloc, system, instance, Items::new(alloc), charts)? {
@@ -59,7 +57,7 @@ pub(crate) fn open_copies(
     alloc: Global,
     system: &System,
 ) -> Result<Vec<Option<BasicState>>, AllocError>
-    ensures { IfOk result (λ v. AreAllCopies system.now (opening_state (system_of system.now)) v.items) }
+    ensures { IfOk result (λ v. AreAllCopies system.now (opening_state system.now) v.items) }
 {
     system.facts();
     let mut charts = BTreeMap::new(alloc);
@@ -95,7 +93,7 @@ pub(crate) fn follow(
     }
 }
 
-/// Where the reaction of a copy stops, as for `follow`, or `None` if it comes to rest.
+/// Where the reaction of a copy stops, as for `follow`, or `None` if it rests.
 pub(crate) fn locate_in(
     copy: &mut Option<BasicState>,
     block: &BasicType,

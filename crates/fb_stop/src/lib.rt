@@ -3,9 +3,9 @@
 //! out.
 //!
 //! A run keeps no places, and after a stop its blocks have what the reaction left. So the simulation is run again up to the
-//! stop, and nothing is written. Beside the run a copy of each basic block reacts to the same events.
+//! stop, and nothing is written. A copy of each basic block reacts to the same events.
 //!
-//! Guarantees to callers: `find::find_stop` returns the stop of the simulation (`IsStop`), or none if it comes to its
+//! Guarantees to callers: `find::find_stop` returns the stop of the simulation (`IsStop`), or none if it reaches its
 //! horizon. `place::position_of` returns the position of a stop in the declaration. `body::run_body` runs a body as
 //! `fb_st::exec` does, and a reason comes with the statement that gives it; after it the frame has what the variables hold
 //! there. Within the crate `reaction::locate` returns where the reaction of one block stops (`ReactionStops`), and
@@ -14,7 +14,7 @@
 //! Read in this order: `fault`, a reason and its statement, and `number`, how statements are counted; `part`, what
 //! statements do that hold no statements, `running`, the runs of statements, and `body`. Then `site`, a place in a chart,
 //! and `before` and `reaction`, which find it; `found`, a stop; `run`, the run event by event; `copies` and `replay`, the
-//! copies that react beside it; `find`; `spent`, the steps of a tick. Last `operation` and `statement`, the operation that
+//! copies that react to its events; `find`; `spent`, the steps of a tick. Last `operation` and `statement`, the operation that
 //! has no value; `place`, `shown` and `words`, how a stop is shown. All of this runs only after a stop.
 #![tactic(auto)]
 

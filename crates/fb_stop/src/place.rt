@@ -2,8 +2,8 @@
 
 ghost use Rattle.std.specs.Prelude.{◌≡◌, ◌<◌, ◌≤◌, IfNone, IfSome, IsTrue, length};
 ghost use Rattle.std.specs.List.{filter};
-ghost use Rattle.fb_types.specs.Headline.{system_of};
 ghost use Rattle.fb_types.specs.Names.{same_name};
+ghost use Rattle.fb_types.specs.OfSystem.{IsInstance};
 ghost use Rattle.fb_stop.specs.Places as spec;
 ghost use Rattle.fb_stop.specs.Places.{IsActionPart, IsAlgorithmAt, IsAlgorithmPart, IsNth, IsShown, IsSitePart, IsStopPosition, shown_part};
 
@@ -135,7 +135,7 @@ fn part_of(block: &BasicType, site: Site) -> Option<BasicPart>
 
 /// Whether there is an instance of this number.
 pub(crate) fn has_instance(system: &System, instance: u32) -> bool
-    ensures { IsTrue result → instance < length (system_of system.now).paths }
+    ensures { IsTrue result → IsInstance system.now instance }
 {
     (instance as usize) < system.count()
 }

@@ -105,7 +105,7 @@ fn link(
     }
 }
 
-/// Where the reaction of a basic block to the event input at an index stops, or `None` if it comes to rest. `values` are
+/// Where the reaction of a basic block to the event input at an index stops, or `None` if it rests. `values` are
 /// the sampled values of the variables WITH the event, in the order of the declaration, and `meter` has the steps that
 /// are left. The block and the emissions are afterwards what the reaction makes of them.
 ///

@@ -1,14 +1,14 @@
 //! A run with copies of its basic blocks, which react to the same events.
 
-ghost use Rattle.std.specs.Prelude.{◌≡◌, ◌^◌, ◌<◌, ◌≤◌, ℕ, suc, IfNone, IfOk, IfSome, None, OnOk, length};
+ghost use Rattle.std.specs.Prelude.{◌≡◌, ◌^◌, ◌≤◌, ℕ, suc, IfNone, IfOk, IfSome, None, OnOk};
 ghost use Rattle.fb_types.specs.Headline.{system_of, stimuli_of};
 ghost use Rattle.fb_types.specs.Keys.{without};
-ghost use Rattle.fb_types.specs.Simulation.{opening_agenda, opening_state};
 ghost use Rattle.fb_types.specs.States.{State};
 ghost use Rattle.fb_types.specs.States as model;
 ghost use Rattle.fb_types.specs.Takes.{begun};
+ghost use Rattle.fb_types.specs.OfSystem.{IsResource, opening_agenda, opening_state};
+ghost use Rattle.fb_laws.specs.OfSystem.{IsTypedEvent};
 ghost use Rattle.fb_net.specs.Events.{IsEventIn, IsKeyOf, event_of};
-ghost use Rattle.fb_laws.specs.Typed.{IsTypedEvent};
 ghost use Rattle.fb_resource.specs.Counts.{IsMetered, meter_of};
 ghost use Rattle.fb_sim.specs.Machines.{IsAt, IsReady};
 ghost use Rattle.fb_sim.specs.Runs.{IsSpent};
@@ -80,8 +80,8 @@ impl Replay {
     /// When memory runs out.
     pub(crate) fn open(alloc: Global, system: &System) -> Result<Replay, AllocError>
         ensures ready { IfOk result (λ m. (limit : ℕ) → IsReady system.now limit 0 (machine_of m.run)) }
-        ensures at { IfOk result (λ m. IsAt system.now (opening_state (system_of system.now)) (opening_agenda (system_of system.now) (stimuli_of system.now)) (machine_of m.run)) }
-        ensures copies { IfOk result (λ m. AreAllCopies system.now (opening_state (system_of system.now)) m.copies.items) }
+        ensures at { IfOk result (λ m. IsAt system.now (opening_state system.now) (opening_agenda system.now (stimuli_of system.now)) (machine_of m.run)) }
+        ensures copies { IfOk result (λ m. AreAllCopies system.now (opening_state system.now) m.copies.items) }
     {
         let run = Run::open(alloc, system)?;
         let copies = open_copies(alloc, system)?;
@@ -195,8 +195,8 @@ impl Replay {
         requires represents { (s : State) × (a : model.Agenda) × IsAt system.now s (without key.now a) (machine_of self.old.run) × AreAllCopies system.now s self.old.copies.items }
         requires event { IsEventIn system.now key.now.resource event.now }
         requires own { IsKeyOf key.now event.now }
-        requires typed { IsTypedEvent (system_of system.now) (event_of system.now event.now) }
-        requires named { key.now.resource < length (system_of system.now).resource_names }
+        requires typed { IsTypedEvent system.now (event_of system.now event.now) }
+        requires named { IsResource system.now key.now.resource }
         requires early { key.now.tick ≤ 10 ^ 12 }
         requires few { limit ≤ 10 ^ 7 }
         ensures steps { IfOk result (λ found. (s : State) (a : model.Agenda) → IsAt system.now s (without key.now a) (machine_of self.old.run) → AreAllCopies system.now s self.old.copies.items
@@ -232,8 +232,8 @@ impl Replay {
         limit: u64,
     ) -> Result<Option<FoundStop>, AllocError>
         requires ready { IsReady system.now limit 0 (machine_of self.old.run) }
-        requires at { IsAt system.now (opening_state (system_of system.now)) (opening_agenda (system_of system.now) (stimuli_of system.now)) (machine_of self.old.run) }
-        requires copies { AreAllCopies system.now (opening_state (system_of system.now)) self.old.copies.items }
+        requires at { IsAt system.now (opening_state system.now) (opening_agenda system.now (stimuli_of system.now)) (machine_of self.old.run) }
+        requires copies { AreAllCopies system.now (opening_state system.now) self.old.copies.items }
         requires early { horizon ≤ 10 ^ 12 }
         requires few { limit ≤ 10 ^ 7 }
         ensures { IfOk result (Finds system.now horizon limit) }

@@ -1,15 +1,15 @@
 //! A run of all resources from one agenda, event by event. It does what `fb_sim::one_agenda` does, and nothing else; here
 //! a caller looks at each event before and after it is taken.
 
-ghost use Rattle.std.specs.Prelude.{◌≡◌, ◌^◌, ◌<◌, ◌≤◌, ℕ, [], length, map, All, IfOk, None, OnOk};
+ghost use Rattle.std.specs.Prelude.{◌≡◌, ◌^◌, ◌<◌, ◌≤◌, ℕ, [], map, All, IfOk, None, OnOk};
 ghost use Rattle.fb_types.specs.Headline.{Inputs, system_of, stimuli_of};
 ghost use Rattle.fb_types.specs.Keys.{found, or_else, without};
-ghost use Rattle.fb_types.specs.Simulation.{opening_agenda, opening_state};
 ghost use Rattle.fb_types.specs.States.{State};
 ghost use Rattle.fb_types.specs.States as model;
 ghost use Rattle.fb_types.specs.declared.key.Key as keys;
+ghost use Rattle.fb_types.specs.OfSystem.{IsResource, opening_agenda, opening_state, resource_count};
+ghost use Rattle.fb_laws.specs.OfSystem.{IsTypedEvent};
 ghost use Rattle.fb_net.specs.Events.{IsEventIn, IsKeyOf, event_of};
-ghost use Rattle.fb_laws.specs.Typed.{IsTypedEvent};
 ghost use Rattle.fb_resource.specs.Posts.{IsMessage, arriving, key_of};
 ghost use Rattle.fb_resource.specs.Waiting.{IsInOrder, meaning};
 ghost use Rattle.fb_sim.specs.Machines.{IsAt, IsReady, IsTaken};
@@ -77,7 +77,7 @@ fn deliver(agenda: &mut Agenda, mail: &mut Vec<Message>, system: &System) -> Res
 
 /// The blocks of all resources, as they begin.
 fn open_trees(alloc: Global, system: &System) -> Result<Vec<Tree>, AllocError>
-    ensures { IfOk result (λ v. AreOpened system.now (length (system_of system.now).resource_names) v.items) }
+    ensures { IfOk result (λ v. AreOpened system.now (resource_count system.now) v.items) }
 {
     system.facts();
     let mut trees = Vec::new(alloc);
@@ -95,7 +95,7 @@ impl Run {
     /// When memory runs out.
     pub(crate) fn open(alloc: Global, system: &System) -> Result<Run, AllocError>
         ensures ready { IfOk result (λ m. (limit : ℕ) → IsReady system.now limit 0 (machine_of m)) }
-        ensures at { IfOk result (λ m. IsAt system.now (opening_state (system_of system.now)) (opening_agenda (system_of system.now) (stimuli_of system.now)) (machine_of m)) }
+        ensures at { IfOk result (λ m. IsAt system.now (opening_state system.now) (opening_agenda system.now (stimuli_of system.now)) (machine_of m)) }
     {
         system.facts();
         let agenda = open_agenda(alloc, system, None)?;
@@ -138,8 +138,8 @@ impl Run {
         requires represents { (s : State) × (a : model.Agenda) × IsAt system.now s a (machine_of self.old) }
         requires event { IsEventIn system.now key.now.resource event.now }
         requires own { IsKeyOf key.now event.now }
-        requires typed { IsTypedEvent (system_of system.now) (event_of system.now event.now) }
-        requires named { key.now.resource < length (system_of system.now).resource_names }
+        requires typed { IsTypedEvent system.now (event_of system.now event.now) }
+        requires named { IsResource system.now key.now.resource }
         requires early { key.now.tick ≤ 10 ^ 12 }
         requires few { limit ≤ 10 ^ 7 }
         ensures taken { IfOk result (λ stop. (s : State) (a : model.Agenda) → IsAt system.now s (without key.now a) (machine_of self.old)

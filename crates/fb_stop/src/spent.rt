@@ -3,12 +3,12 @@
 ghost use Rattle.std.specs.Prelude.{◌≡◌, ◌^◌, ◌<◌, ◌≤◌, ◌==◌, ◌&&◌, ℕ, IfOk, IfSome, IsTrue, None, OnOk, Some, length, replicate, slice_get};
 ghost use Rattle.fb_types.specs.Headline.{system_of, stimuli_of};
 ghost use Rattle.fb_types.specs.Keys.{without};
-ghost use Rattle.fb_types.specs.Simulation.{opening_agenda, opening_state};
 ghost use Rattle.fb_types.specs.States.{State};
 ghost use Rattle.fb_types.specs.States as model;
 ghost use Rattle.fb_types.specs.Takes.{begun};
+ghost use Rattle.fb_types.specs.OfSystem.{IsResource, instance_count, opening_agenda, opening_state};
+ghost use Rattle.fb_laws.specs.OfSystem.{IsTypedEvent};
 ghost use Rattle.fb_net.specs.Events.{IsEventIn, IsKeyOf, event_of};
-ghost use Rattle.fb_laws.specs.Typed.{IsTypedEvent};
 ghost use Rattle.fb_resource.specs.Counts.{meter_of};
 ghost use Rattle.fb_resource.specs.declared.tick_counts.TickCounts as counted;
 ghost use Rattle.fb_sim.specs.Machines.{IsAt, IsReady};
@@ -69,7 +69,7 @@ fn is_there(key: &Key, moment: Moment) -> bool
 /// Adds the steps of an event to those of the instance at which it arrives.
 fn charge_event(spent: &mut Vec<u64>, system: &System, event: &Event, used: u64)
     requires event { (resource : ℕ) × IsEventIn system.now resource event.now }
-    requires counted { length spent.old.items ≡ length (system_of system.now).paths }
+    requires counted { length spent.old.items ≡ instance_count system.now }
     ensures { ChargesEvent (system_of system.now) (event_of system.now event.now) used spent.old.items spent.new.items }
 {
     system.facts();
@@ -95,11 +95,11 @@ fn step(
     requires represents { (s : State) × (a : model.Agenda) × IsAt system.now s (without key.now a) (machine_of run.old) }
     requires event { IsEventIn system.now key.now.resource event.now }
     requires own { IsKeyOf key.now event.now }
-    requires typed { IsTypedEvent (system_of system.now) (event_of system.now event.now) }
-    requires named { key.now.resource < length (system_of system.now).resource_names }
+    requires typed { IsTypedEvent system.now (event_of system.now event.now) }
+    requires named { IsResource system.now key.now.resource }
     requires early { key.now.tick ≤ 10 ^ 12 }
     requires few { limit ≤ 10 ^ 7 }
-    requires counted { length spent.old.items ≡ length (system_of system.now).paths }
+    requires counted { length spent.old.items ≡ instance_count system.now }
     ensures spent { IfOk result (λ stop. (s : State) (a : model.Agenda) → IsAt system.now s (without key.now a) (machine_of run.old)
         → HasSpent system.now limit moment s a key.now (event_of system.now event.now) stop (machine_of run.new) spent.old.items spent.new.items) }
     ensures ready { OnOk result (IsReady system.now limit key.now.tick (machine_of run.new)) }
@@ -128,12 +128,12 @@ fn go_on(
     limit: u64,
 ) -> Result<bool, AllocError>
     requires ready { IsReady system.now limit 0 (machine_of run.old) }
-    requires at { IsAt system.now (opening_state (system_of system.now)) (opening_agenda (system_of system.now) (stimuli_of system.now)) (machine_of run.old) }
+    requires at { IsAt system.now (opening_state system.now) (opening_agenda system.now (stimuli_of system.now)) (machine_of run.old) }
     requires early { horizon ≤ 10 ^ 12 }
     requires few { limit ≤ 10 ^ 7 }
-    requires counted { length spent.old.items ≡ length (system_of system.now).paths }
+    requires counted { length spent.old.items ≡ instance_count system.now }
     ensures spent { IfOk result (λ stops. IsTrue stops → AreSpent system.now horizon limit moment spent.old.items spent.new.items) }
-    ensures counted { OnOk result (length spent.new.items ≡ length (system_of system.now).paths) }
+    ensures counted { OnOk result (length spent.new.items ≡ instance_count system.now) }
 {
     let mut least = Least::new();
     while run.agenda.take_least_into(horizon, &mut least) {
@@ -160,8 +160,8 @@ pub(crate) fn steps_spent(
 ) -> Result<Option<Vec<u64>>, AllocError>
     requires early { horizon ≤ 10 ^ 12 }
     requires few { limit ≤ 10 ^ 7 }
-    ensures spent { IfOk result (λ o. IfSome o (λ v. AreSpent system.now horizon limit (record { tick = tick; resource = resource }) (replicate (length (system_of system.now).paths) 0) v.items)) }
-    ensures counted { IfOk result (λ o. IfSome o (λ v. length v.items ≡ length (system_of system.now).paths)) }
+    ensures spent { IfOk result (λ o. IfSome o (λ v. AreSpent system.now horizon limit (record { tick = tick; resource = resource }) (replicate (instance_count system.now) 0) v.items)) }
+    ensures counted { IfOk result (λ o. IfSome o (λ v. length v.items ≡ instance_count system.now)) }
 {
     let moment = Moment { tick, resource };
     let mut run = Run::open(alloc, system)?;

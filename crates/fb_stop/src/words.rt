@@ -1,7 +1,7 @@
 //! The words of a stop.
 
 ghost use Rattle.std.specs.Prelude.{◌≡◌, OnOk, length};
-ghost use Rattle.fb_types.specs.Headline.{system_of};
+ghost use Rattle.fb_types.specs.OfSystem.{instance_count};
 
 use crate::found::{FoundStop, StopSite, instance_of};
 use crate::place::{has_instance, transition_index};
@@ -199,7 +199,7 @@ fn push_most(
     limit: u64,
     tick: u64,
 ) -> Result<(), AllocError>
-    requires { length spent.old.items ≡ length (system_of system.now).paths }
+    requires { length spent.old.items ≡ instance_count system.now }
     ensures { OnOk result (length spent.new.items ≡ length spent.old.items) }
 {
     system.facts();

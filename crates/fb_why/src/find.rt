@@ -13,7 +13,7 @@ use crate::hints::misses_semicolon;
 use fb_read::read::span_before;
 use fb_read::token::Located;
 use fb_read::{ReadFault, Refusal, TextFault, discard, read_located};
-use fb_read_positions::{TextLocation, location_at, location_in, tokens_of};
+use fb_read_positions::{TextLocation, location_at, tokens_of};
 use std::alloc::{AllocError, Global};
 
 /// Why a declaration text is refused, and where it shows.
@@ -83,9 +83,12 @@ fn shown(alloc: Global, text: &[u8], refusal: Refusal) -> TextLocation
     ensures location { IsLocation text.now result }
     ensures shown { IsShownFor text.now refusal.fault refusal.start refusal.end result }
 {
-    match place_of_semicolon(alloc, text, refusal) {
+    if let Some(location) = place_of_semicolon(alloc, text, refusal) {
+        return location;
+    }
+    match location_at(text, refusal.start, refusal.end) {
         Some(location) => location,
-        None => location_in(text, refusal.start, refusal.end),
+        None => unreachable!(),
     }
 }
 

@@ -1,19 +1,16 @@
 //! The findings of one number.
 
-ghost use Rattle.std.specs.Prelude.{◌≡◌, ◌≤◌, All, IfOk, false, length, map, nat_lt, take};
+ghost use Rattle.std.specs.Prelude.{◌≡◌, All, IfOk, false, length, map, nat_lt, take};
 ghost use Rattle.std.specs.Option.{option_to_list};
-ghost use Rattle.fb_read.specs.Located.{AreLocated};
-ghost use Rattle.fb_read.specs.Tokens.{after_mark};
-ghost use Rattle.fb_read.specs.Whole.{IsLibraryText, most_bytes};
+ghost use Rattle.fb_read.specs.Whole.{IsLibraryText};
 ghost use Rattle.fb_why.specs.Listings.{locations_of, most_findings};
 ghost use Rattle.fb_why.specs.Places.{IsPlacedFinding};
 
 use crate::flaw_messages::flaw_message;
-use crate::place::{PlacedFinding, place_among};
+use crate::place::{PlacedFinding, positions_of};
 use crate::spot::{Finding, Spot};
 use fb_check::Case;
-use fb_read::token::Located;
-use fb_read_positions::{BlockTypes, TextLocation, discard, no_place, tokens_of};
+use fb_read_positions::{BlockTypes, TextLocation, places_of};
 use std::alloc::{AllocError, Global};
 
 /// The greatest number of findings that are shown.
@@ -56,26 +53,21 @@ fn finding_at(
     Ok(PlacedFinding { finding, place })
 }
 
-/// What is wrong at each of these locations, with the places in the text that declares the library.
+/// What is wrong at each of these locations of inputs, with its place at the same index.
 fn findings_at(
     alloc: Global,
-    declaration: &[u8],
-    tokens: &[Located],
     types: &BlockTypes,
     case: &Case,
     locations: &[Spot],
+    places: &[Option<TextLocation>],
 ) -> Result<Vec<PlacedFinding>, AllocError>
-    requires read { IsLibraryText declaration.now case.now.library.now }
-    requires few { length tokens.now ≤ most_bytes }
-    requires located { AreLocated declaration.now tokens.now (after_mark declaration.now) }
+    requires { length places.now ≡ length locations.now }
     ensures found { IfOk result (λ all. map (λ r. r.finding.location) all.items ≡ locations.now) }
-    ensures placed { IfOk result (λ all. All (IsPlacedFinding declaration.now) all.items) }
+    ensures placed { IfOk result (λ all. map (λ r. r.place) all.items ≡ places.now) }
 {
     let mut all = Vec::new(alloc);
-    let mut found = no_place(tokens);
-    for location in locations {
-        found = place_among(alloc, declaration, tokens, case.library, found, *location)?;
-        all.push(finding_at(alloc, types, case, *location, found.place)?)?;
+    for (location, place) in locations.iter().zip(places) {
+        all.push(finding_at(alloc, types, case, *location, *place)?)?;
     }
     Ok(all)
 }
@@ -106,13 +98,10 @@ pub(crate) fn listed(
     let more = locations.len() > MOST_FINDINGS;
     let first = first_of(locations);
     let types = BlockTypes::new(alloc, case.library)?;
-    let tokens = tokens_of(alloc, declaration)?;
-    let shown = findings_at(alloc, declaration, tokens.as_slice(), &types, case, first);
-    discard(tokens);
-    Ok(Findings {
-        shown: shown?,
-        more,
-    })
+    let positions = positions_of(alloc, case.library, first)?;
+    let places = places_of(alloc, declaration, case.library, positions.as_slice())?;
+    let shown = findings_at(alloc, &types, case, first, places.as_slice())?;
+    Ok(Findings { shown, more })
 }
 
 /// Frees findings. Each crate that drops some proves their destructors once more, so other crates call this function.

@@ -1,22 +1,16 @@
 //! Where a location is in the text of the declaration: its position, and the place of that.
 
-ghost use Rattle.std.specs.Prelude.{◌≡◌, ◌≤◌, IfOk, IfSome, length};
-ghost use Rattle.fb_read.specs.Located.{AreLocated};
-ghost use Rattle.fb_read.specs.Tokens.{after_mark};
-ghost use Rattle.fb_read.specs.Whole.{IsLibraryText, most_bytes};
-ghost use Rattle.fb_read_positions.specs.Locations.{IsFound};
-ghost use Rattle.fb_why.specs.Places.{IsShown};
+ghost use Rattle.std.specs.Prelude.{◌≡◌, IfOk, map};
 ghost use Rattle.fb_why.specs.Positions as spec;
 
 use crate::spot::{Finding, Spot};
 use fb_check::Limit;
 use fb_check_names::{Joined, Misjoin, Site};
-use fb_read::token::Located;
 use fb_read_positions::finding_positions::{
     data_position, descent_position, misfit_position, twice_position, unknown_position,
     unlinked_position, unmapped_position,
 };
-use fb_read_positions::{FoundPlace, Position, TextLocation, place_from};
+use fb_read_positions::{Position, TextLocation};
 use fb_types::Library;
 use std::alloc::{AllocError, Global};
 
@@ -58,26 +52,17 @@ fn later_position(joined: Joined) -> Position
     data_position(joined.site, connection)
 }
 
-/// Where a location of a library is, from the tokens of the text that declares it.
-pub(crate) fn place_among(
+/// The positions at which these locations are shown, each at the index of its location.
+pub(crate) fn positions_of(
     alloc: Global,
-    declaration: &[u8],
-    tokens: &[Located],
     library: &Library,
-    from: FoundPlace,
-    location: Spot,
-) -> Result<FoundPlace, AllocError>
-    requires few { length tokens.now ≤ most_bytes }
-    requires located { AreLocated declaration.now tokens.now (after_mark declaration.now) }
-    requires from { IsFound declaration.now tokens.now from }
-    ensures place { IsLibraryText declaration.now library.now → IfOk result (λ f. IfSome f.place (IsShown declaration.now location)) }
-    ensures found { IfOk result (IsFound declaration.now tokens.now) }
+    locations: &[Spot],
+) -> Result<Vec<Option<Position>>, AllocError>
+    ensures { IfOk result (λ positions. positions.items ≡ map (spec.position_of library.now) locations.now) }
 {
-    match position_of(library, location) {
-        Some(position) => place_from(alloc, declaration, tokens, library, from, position),
-        None => Ok(FoundPlace {
-            place: None,
-            ..from
-        }),
+    let mut positions = Vec::new(alloc);
+    for location in locations {
+        positions.push(position_of(library, *location))?;
     }
+    Ok(positions)
 }

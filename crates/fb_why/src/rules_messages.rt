@@ -1,20 +1,24 @@
 //! The texts that say where rules are refused.
 
 use crate::deployment_messages::{item_at, push_further};
-use fb_expect::{RuleFault, RuleKey, RulesPlace, key_text};
+use fb_expect::{RuleFault, RuleKey, RulesLocation, key_text};
 use fb_read_positions::words::{Text, front};
 use std::alloc::{AllocError, Global};
 use toml::Table;
 
 /// Where rules are refused, and what was expected there.
-pub fn rules_message(alloc: Global, bytes: &[u8], place: RulesPlace) -> Result<String, AllocError> {
+pub fn rules_message(
+    alloc: Global,
+    bytes: &[u8],
+    location: RulesLocation,
+) -> Result<String, AllocError> {
     let mut text = Text::new(alloc);
     text.words("rules: ");
-    match place {
-        RulesPlace::Bytes => text.words("there are more than 1,048,576 bytes"),
-        RulesPlace::Document(at) => push_position(&mut text, bytes, at),
-        RulesPlace::Crowded => text.words("there are more than 1,000 rules"),
-        _ => push_read(alloc, &mut text, bytes, place),
+    match location {
+        RulesLocation::Bytes => text.words("there are more than 1,048,576 bytes"),
+        RulesLocation::Document(at) => push_position(&mut text, bytes, at),
+        RulesLocation::Crowded => text.words("there are more than 1,000 rules"),
+        _ => push_read(alloc, &mut text, bytes, location),
     }
     text.into_string()
 }
@@ -35,25 +39,25 @@ fn push_position(text: &mut Text, bytes: &[u8], at: usize) {
     text.numbered(", column ", column, ": this is no TOML");
 }
 
-/// Adds what is at a place in a document.
-fn push_read(alloc: Global, text: &mut Text, bytes: &[u8], place: RulesPlace) {
+/// Adds what is at a location in a document.
+fn push_read(alloc: Global, text: &mut Text, bytes: &[u8], location: RulesLocation) {
     match toml::table_from_slice(alloc, bytes) {
-        Ok(keys) => push_place(text, &keys, place),
+        Ok(keys) => push_location(text, &keys, location),
         Err(_) => text.give_up(),
     }
 }
 
-fn push_place(text: &mut Text, keys: &Table, place: RulesPlace) {
-    match place {
-        RulesPlace::Rule { rule, fault } => {
+fn push_location(text: &mut Text, keys: &Table, location: RulesLocation) {
+    match location {
+        RulesLocation::Rule { rule, fault } => {
             text.placed("", rule, " rule: ");
             push_fault(text, item_at(keys, "rule", rule), fault);
         }
-        RulesPlace::Pattern { rule, key } => {
+        RulesLocation::Pattern { rule, key } => {
             text.placed("", rule, " rule: ");
             push_pattern(text, item_at(keys, "rule", rule), key);
         }
-        RulesPlace::Number { rule, key } => {
+        RulesLocation::Number { rule, key } => {
             text.placed("", rule, " rule: ");
             text.words(key_text(key));
             text.words(range_of(key));

@@ -1,11 +1,16 @@
+use Rattle.std.proofs.Common.{◌≡◌, Option, None, false, subst, true}
+use Rattle.std.specs.Prelude.{IsTrue}
+use Rattle.std.specs.Option.{is_some}
 use Rattle.fb_read.proofs.PlaceLaws.{inside}
+use Rattle.fb_read_positions.specs.Locations.{IsWithin}
+use Rattle.fb_read_positions.specs.declared.text_locations.TextLocation.{TextLocation}
 use Rattle.fb_why.proofs.find.shown.Goals as goal
 
-pub location_in-requires-clause-columns : goal.location_in-requires-clause-columns
-location_in-requires-clause-columns c = (inside c.args.refusal.fault c.args.text.now c.args.refusal.start c.args.refusal.end c.requires).after
+none_there : (o : Option TextLocation) → IsTrue (is_some o) → o ≡ None → ⊥
+none_there o some none = let no : false ≡ true = subst (λ (x : Option TextLocation). IsTrue (is_some x)) none some in cc
 
-pub location_in-requires-clause-ordered : goal.location_in-requires-clause-ordered
-location_in-requires-clause-ordered c = (inside c.args.refusal.fault c.args.text.now c.args.refusal.start c.args.refusal.end c.requires).ordered
-
-pub location_in-requires-clause-within : goal.location_in-requires-clause-within
-location_in-requires-clause-within c = (inside c.args.refusal.fault c.args.text.now c.args.refusal.start c.args.refusal.end c.requires).within
+pub unreachable-requires : goal.unreachable-requires
+unreachable-requires c =
+    let w = inside c.args.refusal.fault c.args.text.now c.args.refusal.start c.args.refusal.end c.requires in
+    let there : IsWithin c.args.text.now c.args.refusal.start c.args.refusal.end = record { after = w.after; ordered = w.ordered; within = w.within } in
+    none_there c.location_at.result (c.location_at.ensures.within there) c.in-None.is

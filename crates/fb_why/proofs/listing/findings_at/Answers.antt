@@ -1,37 +1,33 @@
-use Rattle.std.proofs.Common.{List, map, sym, subst, ◌∙◌, ap}
-use Rattle.std.specs.Prelude.{All}
-use Rattle.std.proofs.lemmas.List.{take_all}
-use Rattle.std.proofs.lemmas.List.Elements.{All-nil, All-push}
-use Rattle.fb_why.specs.Places.{IsPlacedFinding}
+use Rattle.std.proofs.Common.{◌≡◌, length, map, take, sym, ◌∙◌, ap, arith}
+use Rattle.std.proofs.lemmas.List.{length_push, take_all}
+use Rattle.std.proofs.lemmas.Slice.Zip.{zip_end, zip_turn}
 use Rattle.fb_why.specs.declared.place.PlacedFinding.{PlacedFinding}
-use Rattle.fb_why.specs.declared.spot.Spot.{Spot}
-use Rattle.fb_check_names.proofs.Repeating.{same_within}
-use Rattle.fb_why.proofs.Shown.{located, placed_at}
+use Rattle.fb_why.proofs.Shown.{located, placed_more}
 use Rattle.fb_why.proofs.listing.findings_at.Goals as goal
 
 pub loop-location-init : goal.loop-location-init
-loop-location-init c = (
-  ap (map (λ (r : PlacedFinding). r.finding.location)) c.new-all.ensures.items,
-  subst (λ (rs : List PlacedFinding). All (IsPlacedFinding c.args.declaration.now) rs) (sym c.new-all.ensures.items) (All-nil (IsPlacedFinding c.args.declaration.now)),
-  c.no_place-found.ensures c.args.declaration.now,
-)
+loop-location-init c = (ap (map (λ (r : PlacedFinding). r.finding.location)) c.new-all.ensures.items, ap (map (λ (r : PlacedFinding). r.place)) c.new-all.ensures.items)
 
 pub loop-location-preserved : goal.loop-location-preserved
 loop-location-preserved c =
-    let text = c.args.declaration.now in
-    let at : PlacedFinding → Spot = λ r. r.finding.location in
-    let r = c.in_ok-finding_at.field-0 in (
-      located c.loop-location.all.items c.push.new.self.items r c.args.locations.now c.loop-location.location-index _ c.loop-location-test.true
-          (same_within c.args.locations.now c.loop-location.location-index _ _ c.loop-location-test.true)
-          c.in_ok-push.ensures.items c.in_ok-finding_at.ensures.found c.loop-location.invariant.0,
-      subst (λ (rs : List PlacedFinding). All (IsPlacedFinding text) rs) (sym c.in_ok-push.ensures.items)
-          (All-push (IsPlacedFinding text) c.loop-location.all.items r c.loop-location.invariant.1
-          (placed_at text r _ c.in_ok-found.found.place c.in_ok-finding_at.ensures.found c.in_ok-finding_at.ensures.placed (c.in_ok-found.ensures.place c.requires.read))),
-      c.in_ok-found.ensures.found,
+    let l = c.loop-location in
+    let ss = c.args.locations.now in
+    let os = c.args.places.now in
+    let r = c.in_ok-finding_at.field-0 in
+    let turn = zip_turn ss os l.yielded c.into_iter-location-iterator.result l.location-iterator c.next.new.self c.next.result (cc) (cc) l.yielded_by (c.in-Some.location, c.in-Some.place) c.in-Some.is c.next.ensures.steps in
+    rw (length_push l.yielded (c.in-Some.location, c.in-Some.place)) (
+      located l.all.items c.push.new.self.items r ss (length l.yielded) c.in-Some.location.now turn.0 (turn.2 c.in-Some.location.now) c.in_ok-push.ensures.items c.in_ok-finding_at.ensures.found l.invariant.0,
+      placed_more l.all.items c.push.new.self.items r os (length l.yielded) c.in-Some.place.now turn.1 (turn.3 c.in-Some.place.now) c.in_ok-push.ensures.items c.in_ok-finding_at.ensures.placed l.invariant.1,
     )
 
 pub returns-clause-found : goal.returns-clause-found
-returns-clause-found c = c.loop-location.invariant.0 ∙ take_all c.loop-location.location-index c.args.locations.now c.loop-location-test.false
+returns-clause-found c =
+    let l = c.loop-location in
+    let end = zip_end c.args.locations.now c.args.places.now l.yielded c.into_iter-location-iterator.result l.location-iterator c.next.new.self c.next.result (cc) (cc) l.yielded_by c.in-None.is c.next.ensures.steps in
+    l.invariant.0 ∙ take_all (length l.yielded) c.args.locations.now (omega (arith, end, c.requires))
 
 pub returns-clause-placed : goal.returns-clause-placed
-returns-clause-placed c = c.loop-location.invariant.1
+returns-clause-placed c =
+    let l = c.loop-location in
+    let end = zip_end c.args.locations.now c.args.places.now l.yielded c.into_iter-location-iterator.result l.location-iterator c.next.new.self c.next.result (cc) (cc) l.yielded_by c.in-None.is c.next.ensures.steps in
+    l.invariant.1 ∙ take_all (length l.yielded) c.args.places.now (omega (arith, end, c.requires))

@@ -1,10 +1,7 @@
-use Rattle.std.proofs.Common.{◌≡◌, map, take}
-use Rattle.std.specs.Prelude.{All}
-use Rattle.fb_read_positions.specs.Locations.{IsFound}
-use Rattle.fb_why.specs.Places.{IsPlacedFinding}
+use Rattle.std.proofs.Common.{◌≡◌, length, map, take}
 use Rattle.fb_why.specs.declared.place.PlacedFinding.{PlacedFinding}
 use Rattle.fb_why.proofs.listing.findings_at.Given as goal
 
 abbrev pub invariant-loop-location : goal.invariant-loop-location
 invariant-loop-location l =
-    (map (λ (r : PlacedFinding). r.finding.location) l.all.items ≡ take l.location-index l.locations) × All (IsPlacedFinding l.declaration) l.all.items × IsFound l.declaration l.tokens l.found
+    (map (λ (r : PlacedFinding). r.finding.location) l.all.items ≡ take (length l.yielded) l.locations) × (map (λ (r : PlacedFinding). r.place) l.all.items ≡ take (length l.yielded) l.places)

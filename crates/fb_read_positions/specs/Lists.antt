@@ -1,0 +1,69 @@
+-- The item of a list to which a position of a declaration belongs (this project's own).
+use Rattle.std.specs.Prelude.{ℕ, Option, Some, None}
+use Rattle.fb_read_positions.specs.declared.lists.BasicList.TheVariants as basic_list
+use Rattle.fb_read_positions.specs.declared.lists.InnerList.{InnerList}
+use Rattle.fb_read_positions.specs.declared.lists.InnerList.TheVariants as inner_list
+use Rattle.fb_read_positions.specs.declared.lists.Item.{Item}
+use Rattle.fb_read_positions.specs.declared.lists.ItemList.TheVariants as item_list
+use Rattle.fb_read_positions.specs.declared.lists.NetworkList.{NetworkList}
+use Rattle.fb_read_positions.specs.declared.lists.NetworkList.TheVariants as network_list
+use Rattle.fb_read_positions.specs.declared.lists.OuterList.{OuterList}
+use Rattle.fb_read_positions.specs.declared.lists.OuterList.TheVariants as outer_list
+use Rattle.fb_read_positions.specs.declared.lists.PortList.TheVariants as port_list
+use Rattle.fb_read_positions.specs.declared.position.BasicPart.{BasicPart}
+use Rattle.fb_read_positions.specs.declared.position.BasicPart.TheVariants as basic_part
+use Rattle.fb_read_positions.specs.declared.position.NetworkPart.{NetworkPart}
+use Rattle.fb_read_positions.specs.declared.position.NetworkPart.TheVariants as network_part
+use Rattle.fb_read_positions.specs.declared.position.PortPart.{PortPart}
+use Rattle.fb_read_positions.specs.declared.position.PortPart.TheVariants as port_part
+use Rattle.fb_read_positions.specs.declared.position.Position.{Position}
+use Rattle.fb_read_positions.specs.declared.position.Position.TheVariants as position
+
+-- the item at this index of a list that is in no item
+abbrev pub outer : OuterList → ℕ → Item
+outer l n = record { list = item_list.Outer l; index = n }
+
+-- the item at the index `k` of a list of the item at the index `n` of a list
+abbrev pub inner : OuterList → ℕ → InnerList → ℕ → Item
+inner l n inside k = record { list = item_list.Inner l n inside; index = k }
+
+-- a list of the network of a block type, or else of the application
+abbrev pub list_in_network : Option ℕ → NetworkList → OuterList
+list_in_network (Some k) l = outer_list.InComposite k l
+list_in_network None l = outer_list.InApplication l
+
+abbrev pub item_in_network : Option ℕ → NetworkPart → Item
+item_in_network o (network_part.Instance n) = outer (list_in_network o network_list.Instances) n
+item_in_network o (network_part.InstanceType n) = outer (list_in_network o network_list.Instances) n
+item_in_network o (network_part.Parameter n j) = inner (list_in_network o network_list.Instances) n inner_list.Parameters j
+item_in_network o (network_part.EventConnection n part) = outer (list_in_network o network_list.EventConnections) n
+item_in_network o (network_part.DataConnection n part) = outer (list_in_network o network_list.DataConnections) n
+
+abbrev pub item_in_ports : ℕ → PortPart → Item
+item_in_ports k (port_part.EventInput n) = outer (outer_list.InPorts k port_list.EventInputs) n
+item_in_ports k (port_part.WithInput n j) = inner (outer_list.InPorts k port_list.EventInputs) n inner_list.With j
+item_in_ports k (port_part.EventOutput n) = outer (outer_list.InPorts k port_list.EventOutputs) n
+item_in_ports k (port_part.WithOutput n j) = inner (outer_list.InPorts k port_list.EventOutputs) n inner_list.With j
+item_in_ports k (port_part.Input n) = outer (outer_list.InPorts k port_list.Inputs) n
+item_in_ports k (port_part.Output n) = outer (outer_list.InPorts k port_list.Outputs) n
+
+abbrev pub item_in_basic : ℕ → BasicPart → Item
+item_in_basic k (basic_part.Internal n) = outer (outer_list.InBasic k basic_list.Internals) n
+item_in_basic k (basic_part.State n) = outer (outer_list.InBasic k basic_list.States) n
+item_in_basic k (basic_part.Action n j) = inner (outer_list.InBasic k basic_list.States) n inner_list.Actions j
+item_in_basic k (basic_part.OutputAlone n j) = inner (outer_list.InBasic k basic_list.States) n inner_list.Actions j
+item_in_basic k (basic_part.OutputAfter n j) = inner (outer_list.InBasic k basic_list.States) n inner_list.Actions j
+item_in_basic k (basic_part.Transition n part) = outer (outer_list.InBasic k basic_list.Transitions) n
+item_in_basic k (basic_part.Algorithm n) = outer (outer_list.InBasic k basic_list.Algorithms) n
+item_in_basic k (basic_part.Statement n j) = inner (outer_list.InBasic k basic_list.Algorithms) n inner_list.Statements j
+item_in_basic k (basic_part.Clause n j c) = inner (outer_list.InBasic k basic_list.Algorithms) n inner_list.Statements j
+item_in_basic k (basic_part.Mention n j) = inner (outer_list.InBasic k basic_list.Algorithms) n inner_list.Mentions j
+
+-- the item to which a position belongs; the name of the application belongs to none
+abbrev pub item_of : Position → Option Item
+item_of position.Application = None
+item_of (position.Block k) = Some (outer outer_list.Blocks k)
+item_of (position.InApplication part) = Some (item_in_network None part)
+item_of (position.InPorts k part) = Some (item_in_ports k part)
+item_of (position.InBasic k part) = Some (item_in_basic k part)
+item_of (position.InComposite k part) = Some (item_in_network (Some k) part)
