@@ -1,8 +1,8 @@
 //! The marks before the first trace.
 
-ghost use Rattle.std.specs.Prelude.{◌≡◌, ◌<◌, IfOk, length, map};
+ghost use Rattle.std.specs.Prelude.{◌≡◌, IfOk, map};
 ghost use Rattle.fb_types.specs.Headline.{system_of};
-ghost use Rattle.fb_types.specs.Numbers.{path_at};
+ghost use Rattle.fb_types.specs.OfSystem.{IsInstance, path_at};
 ghost use Rattle.fb_coverage.specs.Openings as spec;
 
 use crate::part::{Part, Side, basic_of, events_of, is_used, part_count};
@@ -55,8 +55,8 @@ fn port_row(
     side: Side,
     instance: u32,
 ) -> Result<Items<bool>, AllocError>
-    requires { instance < length (system_of system.now).paths }
-    ensures { IfOk result (λ flags. flags ≡ spec.port_row (system_of system.now) side (path_at (system_of system.now) instance)) }
+    requires { IsInstance system.now instance }
+    ensures { IfOk result (λ flags. flags ≡ spec.port_row (system_of system.now) side (path_at system.now instance)) }
 {
     match basic_of(system, instance) {
         Some(_) => Ok(Items::new(alloc)),

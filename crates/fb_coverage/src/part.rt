@@ -1,8 +1,8 @@
 //! The parts of types and of instances that have marks.
 
-ghost use Rattle.std.specs.Prelude.{◌≡◌, ◌<◌, IsTrue, length, slice_get, option_map};
+ghost use Rattle.std.specs.Prelude.{◌≡◌, IsTrue, slice_get, option_map};
 ghost use Rattle.fb_types.specs.Headline.{system_of};
-ghost use Rattle.fb_types.specs.Numbers.{path_at};
+ghost use Rattle.fb_types.specs.OfSystem.{IsInstance, kind_at, path_at};
 ghost use Rattle.fb_coverage.specs.Openings as spec;
 
 use fb_check_names::TypeNumber;
@@ -50,8 +50,8 @@ pub(crate) fn events_of(side: Side, ports: &Ports) -> &[EventPort]
 
 /// The basic type of an instance, if it is a basic block.
 pub(crate) fn basic_of(system: &System, instance: u32) -> Option<&BasicType>
-    requires { instance < length (system_of system.now).paths }
-    ensures { option_map (λ b. b.now) result ≡ spec.basic_of ((system_of system.now).kind (path_at (system_of system.now) instance)) }
+    requires { IsInstance system.now instance }
+    ensures { option_map (λ b. b.now) result ≡ spec.basic_of (kind_at system.now (path_at system.now instance)) }
 {
     match system.kind(instance) {
         TypeNumber::Event(_) => None,
@@ -64,8 +64,8 @@ pub(crate) fn basic_of(system: &System, instance: u32) -> Option<&BasicType>
 
 /// Whether an instance is a basic block of the type with this name.
 fn has_type(system: &System, instance: u32, name: &Name) -> bool
-    requires { instance < length (system_of system.now).paths }
-    ensures { result ≡ spec.has_type name.now ((system_of system.now).kind (path_at (system_of system.now) instance)) }
+    requires { IsInstance system.now instance }
+    ensures { result ≡ spec.has_type name.now (kind_at system.now (path_at system.now instance)) }
 {
     match basic_of(system, instance) {
         Some(basic) => basic.name.is(name),

@@ -1,8 +1,8 @@
 //! What is not covered of the event ports of instances that are no basic blocks.
 
-ghost use Rattle.std.specs.Prelude.{◌≡◌, ◌++◌, ◌<◌, OnOk, length};
+ghost use Rattle.std.specs.Prelude.{◌≡◌, ◌++◌, OnOk};
 ghost use Rattle.fb_types.specs.Headline.{system_of};
-ghost use Rattle.fb_types.specs.Numbers.{path_at};
+ghost use Rattle.fb_types.specs.OfSystem.{IsInstance, path_at};
 ghost use Rattle.fb_coverage.specs.Reports as spec;
 ghost use Rattle.fb_coverage.specs.Reports.{listed};
 
@@ -55,8 +55,8 @@ fn put_instance(
     marks: &Marks,
     instance: u32,
 ) -> Result<(), AllocError>
-    requires { instance < length (system_of system.now).paths }
-    ensures { OnOk result (text.new.items ≡ text.old.items ++ spec.instance_text (system_of system.now) marks.now instance (path_at (system_of system.now) instance)) }
+    requires { IsInstance system.now instance }
+    ensures { OnOk result (text.new.items ≡ text.old.items ++ spec.instance_text (system_of system.now) marks.now instance (path_at system.now instance)) }
 {
     if basic_of(system, instance).is_some() {
         return Ok(());

@@ -18,7 +18,7 @@ use Rattle.fb_expect.specs.declared.verdict.Verdict.TheVariants.{Holds, Broken, 
 use Rattle.fb_expect.specs.declared.watch.Mark.{Mark}
 use Rattle.fb_expect.proofs.Counts.{enough-over, fewer-over}
 use Rattle.fb_expect.proofs.Growing.{first}
-use Rattle.fb_expect.proofs.Places.{inside, test-none}
+use Rattle.fb_expect.proofs.Indexes.{inside, test-none}
 
 there-line : (hs : List Hit) (end : End) (k : ℕ) → k < length hs → tick_there hs end k ≡ tick_at hs k
 there-line hs end k lt = ap (λ (b : Bool). if b then tick_at hs k else tick_of end) (lt-ltb k (length hs) lt)
@@ -49,13 +49,13 @@ see-holds within hs end knows = (
 )
 
 first-unanswered :
-    (within : ℕ) (hs : List Hit) (end : End) (b : Breach) (place : ℕ) → b.line ≡ place + 1 → b.tick ≡ tick_at hs place → b.fault ≡ Unanswered → place < length hs
-    → AreMet within hs place → IsUnanswered within hs end place → IsVerdict (See within) hs end (Broken b)
-first-unanswered within hs end b place line tick fault lt before x =
+    (within : ℕ) (hs : List Hit) (end : End) (b : Breach) (index : ℕ) → b.line ≡ index + 1 → b.tick ≡ tick_at hs index → b.fault ≡ Unanswered → index < length hs
+    → AreMet within hs index → IsUnanswered within hs end index → IsVerdict (See within) hs end (Broken b)
+first-unanswered within hs end b index line tick fault lt before x =
     record {
-      place = place;
+      index = index;
       line = line;
-      tick = tick ∙ sym (there-line hs end place lt);
+      tick = tick ∙ sym (there-line hs end index lt);
       breaks = inr (fault, x);
       first = λ k f less y. (let u = see-breaks within hs end k f y in met-is-answered within hs end k (before k less u.unmet.first) u);
     }
@@ -64,10 +64,10 @@ pub see-late : (within : ℕ) (hs : List Hit) (end : End) (b : Breach) → IsBel
 see-late within hs end b below l =
     let far = l.over in
     let most = below l.later in
-    first-unanswered within hs end b l.place l.line l.tick l.fault l.inside l.before
+    first-unanswered within hs end b l.index l.line l.tick l.fault l.inside l.before
     (record { unmet = record { first = l.first; none = l.none }; over = omega arith })
 
-waits-unmet : (within : ℕ) (hs : List Hit) (m : Mark) (w : Waits within hs m) → (j : ℕ) → w.place < j → (hit_at hs j).second ≡ true → tick_at hs w.place + within < tick_at hs j
+waits-unmet : (within : ℕ) (hs : List Hit) (m : Mark) (w : Waits within hs m) → (j : ℕ) → w.index < j → (hit_at hs j).second ≡ true → tick_at hs w.index + within < tick_at hs j
 waits-unmet within hs m w j after is = absurd (w.none j after is)
 
 pub see-over :
@@ -75,29 +75,29 @@ pub see-over :
     → IsVerdict (See within) hs end (Broken (record { line = m.line; tick = m.tick; fault = Unanswered }))
 see-over within hs end m over w =
     let same = w.tick in
-    first-unanswered within hs end _ w.place w.line w.tick refl (inside first hs w.place refl w.first) w.before
+    first-unanswered within hs end _ w.index w.line w.tick refl (inside first hs w.index refl w.first) w.before
     (record { unmet = record { first = w.first; none = waits-unmet within hs m w }; over = omega arith })
 
 pub see-amid :
     (within : ℕ) (hs : List Hit) (end : End) (m : Mark) → tick_of end ≤ m.tick + within → Waits within hs m → IsVerdict (See within) hs end Undecided
 see-amid within hs end m amid w =
     let same = w.tick in
-    (λ k f x. none k (see-breaks within hs end k f x), (w.place, record { unmet = record { first = w.first; none = waits-unmet within hs m w }; amid = omega arith }))
+    (λ k f x. none k (see-breaks within hs end k f x), (w.index, record { unmet = record { first = w.first; none = waits-unmet within hs m w }; amid = omega arith }))
   where
     none : (k : ℕ) → IsUnanswered within hs end k → ⊥
     none k u =
         let over = u.over in
         let same = w.tick in
-        elim (cases_lt k w.place) [
+        elim (cases_lt k w.index) [
           | inl before ↦ met-is-answered within hs end k (w.before k before u.unmet.first) u
-          | inr le ↦ after (cases_lt w.place k) le
+          | inr le ↦ after (cases_lt w.index k) le
         ]
       where
-        after : (w.place < k) ⊎ (k ≤ w.place) → w.place ≤ k → ⊥
+        after : (w.index < k) ⊎ (k ≤ w.index) → w.index ≤ k → ⊥
         after (inl more) le = let up = w.after k more u.unmet.first in omega (arith, u.over, w.tick)
         after (inr less) le =
-            let at : k ≡ w.place = omega arith in
-            let tick : tick_at hs k ≡ tick_at hs w.place = ap (tick_at hs) at in
+            let at : k ≡ w.index = omega arith in
+            let tick : tick_at hs k ≡ tick_at hs w.index = ap (tick_at hs) at in
             omega (arith, u.over, w.tick)
 
 -- ---- Rules that no end breaks
@@ -109,14 +109,14 @@ pub broken-here :
 broken-here n hs end b none x =
     let lt = x.inside in
     record {
-      place = x.place;
+      index = x.index;
       line = x.line;
-      tick = x.tick ∙ sym (there-line hs end x.place lt);
+      tick = x.tick ∙ sym (there-line hs end x.index lt);
       breaks = inl x.breaks;
       first = λ k f less y. either k f less y;
     }
   where
-    either : (k : ℕ) (f : Fault) → k < x.place → Breaks n hs end k f → ⊥
+    either : (k : ℕ) (f : Fault) → k < x.index → Breaks n hs end k f → ⊥
     either k f less (inl y) = x.before k f less y
     either k f less (inr y) = none k f (let lt = x.inside in omega arith) y
 
@@ -132,7 +132,7 @@ pub not-amid :
     → IsVerdict (Not within) hs end Undecided
 not-amid within hs end last amid knows clean =
     let same = knows.same in
-    (clean-nowhere (Not within) hs end (λ k f x. x) clean, (knows.place, record { first = knows.is; amid = omega arith }))
+    (clean-nowhere (Not within) hs end (λ k f x. x) clean, (knows.index, record { first = knows.is; amid = omega arith }))
 
 pub not-holds :
     (within : ℕ) (hs : List Hit) (end : End) (last : Option ℕ) → ((t : ℕ) → last ≡ Some t → t + within < tick_of end) → KnowsLast first hs last → IsClean (Not within) hs
@@ -166,7 +166,7 @@ pub count-fewer :
 count-fewer least most every hs end window count line number knows clean lacks =
     let w = fewer-over every least hs window count (windows_over every end) knows lacks in
     record {
-      place = length hs;
+      index = length hs;
       line = number;
       tick = sym at-end;
       breaks = inr (

@@ -12,7 +12,7 @@ use Rattle.fb_expect.specs.Rules.{IsFewerAtLine, IsMore, IsOver, count_in, windo
 use Rattle.fb_expect.specs.Watching.{IsBelow, KnowsCount, Lacks}
 use Rattle.fb_expect.specs.declared.hit.Hit.{Hit}
 use Rattle.fb_expect.proofs.Growing.{first}
-use Rattle.fb_expect.proofs.Places.{at-new, new-back, test-none, tick-new, tick-old}
+use Rattle.fb_expect.proofs.Indexes.{at-new, new-back, test-none, tick-new, tick-old}
 
 -- ---- Windows rise with ticks
 

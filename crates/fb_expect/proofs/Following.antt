@@ -98,7 +98,7 @@ judged-one es end [] (k ∷ js) r j are is = absurd are
 judged-one es end (s ∷ rs) [] r j are is = absurd are
 judged-one es end (s ∷ rs) (k ∷ js) r j (one, more) is = (one, judged-one es end rs js r j more is)
 
--- rules before a place follow the events with one more, and the others those before it
+-- rules before a index follow the events with one more, and the others those before it
 abbrev pub AreAt : (es fs : List Event) → ℕ → List Watcher → Type 0
 AreAt es fs i ws = (k : ℕ) (d : Watcher) → k < length ws → (k < i → Follows fs (get_or ws k d)) × (i ≤ k → Follows es (get_or ws k d))
 

@@ -1,4 +1,4 @@
--- What breaks a rule at a place, whatever comes after it: it stays when lines come, and comes with none of them.
+-- What breaks a rule at a index, whatever comes after it: it stays when lines come, and comes with none of them.
 use Rattle.std.proofs.Common.{◌≡◌, ℕ, ◌+◌, ◌<◌, ◌≤◌, Bool, List, [], ◌∷◌, ◌++◌, length, take, refl, sym, subst, ◌∙◌, arith, inl, inr}
 use Rattle.std.specs.Prelude.{Option}
 use Rattle.std.proofs.lemmas.Bool.{cases_lt}
@@ -11,7 +11,7 @@ use Rattle.fb_expect.specs.declared.rule.Need.{Need}
 use Rattle.fb_expect.specs.declared.rule.Need.TheVariants.{See, Not, Before, Never, Count}
 use Rattle.fb_expect.specs.declared.verdict.Breach.{Breach}
 use Rattle.fb_expect.specs.declared.verdict.Fault.{Fault}
-use Rattle.fb_expect.proofs.Places.{back, inside, kept, tick-new, tick-old}
+use Rattle.fb_expect.proofs.Indexes.{back, inside, kept, tick-new, tick-old}
 
 abbrev pub first : Hit → Bool
 first h = h.first
@@ -22,7 +22,7 @@ second h = h.second
 abbrev pub third : Hit → Bool
 third h = h.third
 
--- ---- A stretch up to a place
+-- ---- A stretch up to a index
 
 pub within-old : (f : Bool) (hs : List Hit) (h : Hit) (k : ℕ) → k < length hs → IsWithin f (hs ++ h ∷ []) k → IsWithin f hs k
 within-old f hs h k lt (inl s) = inl (record { counts = s.counts; none = λ j le is. s.none j le (kept third hs h j (omega arith) is) })
@@ -46,7 +46,7 @@ within-kept f hs h k lt (inr s) =
       none = λ j more le is. s.none j more le (back third hs h j (omega arith) is);
     })
 
--- ---- The lines before a place
+-- ---- The lines before a index
 
 pub front : (hs : List Hit) (h : Hit) (k : ℕ) → k ≤ length hs → take k (hs ++ h ∷ []) ≡ take k hs
 front hs h k le = take-append-le k hs (h ∷ []) le
@@ -181,7 +181,7 @@ pub broken-new :
     → IsBroken n (hs ++ h ∷ []) (record { line = line; tick = h.tick; fault = f })
 broken-new n hs h line f number clean x =
     record {
-      place = length hs;
+      index = length hs;
       line = number;
       tick = sym (tick-new hs h);
       inside = here-inside n (hs ++ h ∷ []) (length hs) f x;
@@ -195,10 +195,10 @@ broken-kept n hs h b x =
     let lt = x.inside in
     let long = length_push hs h in
     record {
-      place = x.place;
+      index = x.index;
       line = x.line;
-      tick = x.tick ∙ sym (tick-old hs h x.place lt);
+      tick = x.tick ∙ sym (tick-old hs h x.index lt);
       inside = omega arith;
-      breaks = here-kept n hs h x.place b.fault lt x.breaks;
+      breaks = here-kept n hs h x.index b.fault lt x.breaks;
       before = λ k g less y. x.before k g less (here-old n hs h k g (omega arith) y);
     }

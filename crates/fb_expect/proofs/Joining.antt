@@ -12,7 +12,7 @@ joined-push : (ts : List Text) (t : Text) → joined (ts ++ t ∷ []) ≡ joined
 joined-push [] t = append-nil t
 joined-push (u ∷ ts) t = ap (λ (z : Text). u ++ z) (joined-push ts t) ∙ sym (append_assoc u (joined ts) t)
 
--- the part at a place
+-- the part at a index
 abbrev pub part_at : List (Bor Text) → ℕ → Text
 part_at ps i = (get_or ps i (record { ref_ptr = (0, 0); now = [] })).now
 

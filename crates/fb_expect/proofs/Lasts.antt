@@ -6,12 +6,12 @@ use Rattle.fb_expect.specs.Rules.{IsAnswered, IsUnprepared}
 use Rattle.fb_expect.specs.Watching.{IsBelow, IsLastTick, IsPast, KnowsLast}
 use Rattle.fb_expect.specs.declared.hit.Hit.{Hit}
 use Rattle.fb_expect.proofs.Growing.{first, second}
-use Rattle.fb_expect.proofs.Places.{Found, at-new, back, found, inside, kept, new-back, test-none, tick-new, tick-old}
+use Rattle.fb_expect.proofs.Indexes.{Found, at-new, back, found, inside, kept, new-back, test-none, tick-new, tick-old}
 
 -- the last line of a kind is the new one
 pub last-new : (test : Hit → Bool) (hs : List Hit) (h : Hit) → test no_hit ≡ false → IsBelow hs h.tick → test h ≡ true → IsLastTick test (hs ++ h ∷ []) h.tick
 last-new test hs h none below is =
-    record { place = length hs; is = at-new test hs h is; same = sym (tick-new hs h); most = λ i sure. most i (found test hs h i none sure) }
+    record { index = length hs; is = at-new test hs h is; same = sym (tick-new hs h); most = λ i sure. most i (found test hs h i none sure) }
   where
     most : (i : ℕ) → Found test hs h i → tick_at (hs ++ h ∷ []) i ≤ h.tick
     most i (inl old) = let a = tick-old hs h i old.0 in let b = below i in omega arith
@@ -25,11 +25,11 @@ last-same test hs h None none off knows = λ i is. by i (found test hs h i none 
     by i (inl old) = knows i old.1
     by i (inr new) = test-none (test h) new.1 off
 last-same test hs h (Some t) none off knows =
-    let lt = inside test hs knows.place none knows.is in
+    let lt = inside test hs knows.index none knows.is in
     record {
-      place = knows.place;
-      is = kept test hs h knows.place lt knows.is;
-      same = knows.same ∙ sym (tick-old hs h knows.place lt);
+      index = knows.index;
+      is = kept test hs h knows.index lt knows.is;
+      same = knows.same ∙ sym (tick-old hs h knows.index lt);
       most = λ i sure. most i (found test hs h i none sure);
     }
   where
@@ -42,15 +42,15 @@ last-same test hs h (Some t) none off knows =
 pub answered : (within : ℕ) (hs : List Hit) (h : Hit) (last : Option ℕ) → h.second ≡ true → KnowsLast first hs last → (IsPast last within h.tick → ⊥) → IsAnswered within (hs ++ h ∷ []) (length hs)
 answered within hs h None is knows soon = absurd (soon tt)
 answered within hs h (Some t) is knows soon =
-    let lt = inside first hs knows.place refl knows.is in
+    let lt = inside first hs knows.index refl knows.is in
     let same = knows.same in
     let new = tick-new hs h in
-    let old = tick-old hs h knows.place lt in
+    let old = tick-old hs h knows.index lt in
     record {
       second = at-new second hs h is;
-      cause = knows.place;
+      cause = knows.index;
       before = lt;
-      first = kept first hs h knows.place lt knows.is;
+      first = kept first hs h knows.index lt knows.is;
       soon = omega (arith, soon);
     }
 
@@ -82,11 +82,11 @@ unprepared within hs h last is knows past = record { first = at-new first hs h i
 pub prepared : (within : ℕ) (hs : List Hit) (h : Hit) (last : Option ℕ) → KnowsLast second hs last → (IsPast last within h.tick → ⊥) → IsUnprepared within (hs ++ h ∷ []) (length hs) → ⊥
 prepared within hs h None knows soon x = soon tt
 prepared within hs h (Some t) knows soon x =
-    let lt = inside second hs knows.place refl knows.is in
+    let lt = inside second hs knows.index refl knows.is in
     let same = knows.same in
     let new = tick-new hs h in
-    let old = tick-old hs h knows.place lt in
-    let far = x.none knows.place lt (kept second hs h knows.place lt knows.is) in
+    let old = tick-old hs h knows.index lt in
+    let far = x.none knows.index lt (kept second hs h knows.index lt knows.is) in
     soon (omega arith)
 
 pub no-first : (within : ℕ) (hs : List Hit) (h : Hit) → h.first ≡ false → IsUnprepared within (hs ++ h ∷ []) (length hs) → ⊥

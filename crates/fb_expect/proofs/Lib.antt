@@ -1,4 +1,4 @@
-pub mod Places
+pub mod Indexes
 pub mod Seeing
 pub mod Growing
 pub mod Lasts
@@ -20,5 +20,5 @@ mod Values
 mod Outcomes
 pub mod Gathering
 pub mod Parted
-mod Placing
+mod Locating
 mod Numbering

@@ -101,7 +101,7 @@ parted n number a b a-now b-now a-new b-new left right counted p l r other =
         → MayFind a b left right (Some number)
     by None b same l r = tt
     by (Some x) None same l r = tt
-    by (Some x) (Some y) same l r = record { place = n; counted = counted; same = same; is_left = sym l; is_right = sym r; differ = other }
+    by (Some x) (Some y) same l r = record { index = n; counted = counted; same = same; is_left = sym l; is_right = sym r; differ = other }
 
 -- nothing is left of both
 pub ended :

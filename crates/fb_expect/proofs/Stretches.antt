@@ -8,7 +8,7 @@ use Rattle.fb_expect.specs.Rules.{IsForbidden}
 use Rattle.fb_expect.specs.Watching.{IsWithin, KnowsStretch}
 use Rattle.fb_expect.specs.declared.hit.Hit.{Hit}
 use Rattle.fb_expect.proofs.Growing.{first, second, third}
-use Rattle.fb_expect.proofs.Places.{Found, at-new, back, found, inside, kept, new-back, test-none}
+use Rattle.fb_expect.proofs.Indexes.{Found, at-new, back, found, inside, kept, new-back, test-none}
 
 -- a stretch that comes up to a line has it, unless it is an R
 pub within-new : (f : Bool) (hs : List Hit) (h : Hit) → h.third ≡ false → IsWithin f hs (length hs) → IsWithin f (hs ++ h ∷ []) (length hs)

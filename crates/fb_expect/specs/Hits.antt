@@ -22,14 +22,14 @@ hits_of r es = map (hit_of r) es
 abbrev pub no_hit : Hit
 no_hit = record { tick = 0; first = false; second = false; third = false }
 
--- The line at a place, counted from 0. No line comes after the last.
+-- The line at a index, counted from 0. No line comes after the last.
 abbrev pub hit_at : List Hit → ℕ → Hit
 hit_at hs i = slice_index_or hs i no_hit
 
 abbrev pub tick_at : List Hit → ℕ → ℕ
 tick_at hs i = (hit_at hs i).tick
 
--- a P, a Q or an R is at a place
+-- a P, a Q or an R is at a index
 abbrev pub IsFirst : List Hit → ℕ → Type 0
 IsFirst hs i = (hit_at hs i).first ≡ true
 

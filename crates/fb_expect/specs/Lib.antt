@@ -5,7 +5,7 @@ pub mod Written
 pub mod Drafts
 pub mod Needs
 pub mod Reading
-pub mod Places
+pub mod Locations
 pub mod Fingerprints
 pub mod Lines
 pub mod Events

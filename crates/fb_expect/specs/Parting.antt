@@ -23,11 +23,11 @@ AreSame n a b = (k : ℕ) → k < n → line_at k a ≡ line_at k b
 
 -- the lines of this number are these, and differ, and all before them are the same
 pub record PartAt (a b : Text) (number : ℕ) (left right : Text) : Type 0 where
-  pub place : ℕ
-  pub counted : number ≡ place + 1
-  pub same : AreSame place a b
-  pub is_left : line_at place a ≡ left
-  pub is_right : line_at place b ≡ right
+  pub index : ℕ
+  pub counted : number ≡ index + 1
+  pub same : AreSame index a b
+  pub is_left : line_at index a ≡ left
+  pub is_right : line_at index b ≡ right
   pub differ : left ≡ right → ⊥
 
 -- two texts are the same, or part first at these lines

@@ -15,7 +15,7 @@ use Rattle.fb_expect.specs.declared.verdict.Verdict.TheVariants.{Holds, Broken, 
 
 -- ---- Each P is followed by a Q at most this many ticks later
 
--- no Q after a place comes in time
+-- no Q after a index comes in time
 abbrev pub HasNoAnswer : (within : ℕ) → List Hit → ℕ → Type 0
 HasNoAnswer within hs i = (j : ℕ) → i < j → IsSecond hs j → tick_at hs i + within < tick_at hs j
 
@@ -58,18 +58,18 @@ pub record IsUnprepared (within : ℕ) (hs : List Hit) (i : ℕ) : Type 0 where
 
 -- ---- No P between a Q and the next R
 
--- no R comes after a place and up to another
+-- no R comes after a index and up to another
 abbrev pub HasNoThird : List Hit → ℕ → ℕ → Type 0
 HasNoThird hs i k = (j : ℕ) → i < j → j ≤ k → IsThird hs j → ⊥
 
--- a Q before a place, and no R since
+-- a Q before a index, and no R since
 pub record IsSince (hs : List Hit) (k : ℕ) : Type 0 where
   pub start : ℕ
   pub before : start < k
   pub second : IsSecond hs start
   pub none : HasNoThird hs start k
 
--- no R from the beginning up to a place, where that counts
+-- no R from the beginning up to a index, where that counts
 pub record IsFromStart (from_start : Bool) (hs : List Hit) (k : ℕ) : Type 0 where
   pub counts : from_start ≡ true
   pub none : (j : ℕ) → j ≤ k → IsThird hs j → ⊥
@@ -106,7 +106,7 @@ is_amid (Some length) (Cut t) = true
 abbrev pub count_in : (every : Option ℕ) → (window : ℕ) → List Hit → ℕ
 count_in every window hs = count_by (λ h. h.first && (window_of every h.tick == window)) hs
 
--- a window that is over has too few, of the lines before a place
+-- a window that is over has too few, of the lines before a index
 pub record HasFewer (every : Option ℕ) (least over : ℕ) (hs : List Hit) (k : ℕ) : Type 0 where
   pub window : ℕ
   pub is_over : window < over
@@ -132,7 +132,7 @@ pub record IsMore (every most : Option ℕ) (hs : List Hit) (k : ℕ) : Type 0 w
 
 -- ---- Rules
 
--- What breaks a rule at a place, whatever comes after it.
+-- What breaks a rule at a index, whatever comes after it.
 abbrev pub BreaksHere : Need → List Hit → ℕ → Fault → Type 0
 BreaksHere (See within) hs k fault = ⊥
 BreaksHere (Not within) hs k fault = (fault ≡ Answered) × IsAnswered within hs k
@@ -140,7 +140,7 @@ BreaksHere (Before within) hs k fault = (fault ≡ Unprepared) × IsUnprepared w
 BreaksHere (Never from_start) hs k fault = (fault ≡ Forbidden) × IsForbidden from_start hs k
 BreaksHere (Count least most every) hs k fault = ((fault ≡ Fewer) × IsFewerAtLine every least hs k) ⊎ ((fault ≡ More) × IsMore every most hs k)
 
--- What breaks a rule at a place only with what comes after it, or with the end.
+-- What breaks a rule at a index only with what comes after it, or with the end.
 abbrev pub BreaksLater : Need → List Hit → End → ℕ → Fault → Type 0
 BreaksLater (See within) hs end k fault = (fault ≡ Unanswered) × IsUnanswered within hs end k
 BreaksLater (Not within) hs end k fault = ⊥
@@ -148,7 +148,7 @@ BreaksLater (Before within) hs end k fault = ⊥
 BreaksLater (Never from_start) hs end k fault = ⊥
 BreaksLater (Count least most every) hs end k fault = (fault ≡ Fewer) × IsFewerAtEnd every least hs end k
 
--- What breaks a rule at a place. The last line comes after all others.
+-- What breaks a rule at a index. The last line comes after all others.
 abbrev pub Breaks : Need → List Hit → End → ℕ → Fault → Type 0
 Breaks need hs end k fault = BreaksHere need hs k fault ⊎ BreaksLater need hs end k fault
 
@@ -166,11 +166,11 @@ tick_there hs end k = if nat_lt k (length hs) then tick_at hs k else tick_of end
 
 -- The rule breaks at this line, and at none before.
 pub record BreaksFirst (need : Need) (hs : List Hit) (end : End) (b : Breach) : Type 0 where
-  pub place : ℕ
-  pub line : b.line ≡ place + 1
-  pub tick : b.tick ≡ tick_there hs end place
-  pub breaks : Breaks need hs end place b.fault
-  pub first : (k : ℕ) (fault : Fault) → k < place → Breaks need hs end k fault → ⊥
+  pub index : ℕ
+  pub line : b.line ≡ index + 1
+  pub tick : b.tick ≡ tick_there hs end index
+  pub breaks : Breaks need hs end index b.fault
+  pub first : (k : ℕ) (fault : Fault) → k < index → Breaks need hs end k fault → ⊥
 
 abbrev pub BreaksNowhere : Need → List Hit → End → Type 0
 BreaksNowhere need hs end = (k : ℕ) (fault : Fault) → Breaks need hs end k fault → ⊥

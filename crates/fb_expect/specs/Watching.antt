@@ -25,26 +25,26 @@ IsClean n hs = (k : ℕ) (fault : Fault) → BreaksHere n hs k fault → ⊥
 
 -- ---- Followed in time
 
--- a Q follows a place in time
+-- a Q follows a index in time
 pub record IsMet (within : ℕ) (hs : List Hit) (i : ℕ) : Type 0 where
   pub answer : ℕ
   pub after : i < answer
   pub second : IsSecond hs answer
   pub soon : tick_at hs answer ≤ tick_at hs i + within
 
--- all P before a place are followed in time
+-- all P before a index are followed in time
 abbrev pub AreMet : (within : ℕ) → List Hit → ℕ → Type 0
-AreMet within hs place = (i : ℕ) → i < place → IsFirst hs i → IsMet within hs i
+AreMet within hs index = (i : ℕ) → i < index → IsFirst hs i → IsMet within hs i
 
 -- The marked line is the first P that no Q follows yet, and no later one is of an earlier tick.
 pub record Waits (within : ℕ) (hs : List Hit) (m : Mark) : Type 0 where
-  pub place : ℕ
-  pub line : m.line ≡ place + 1
-  pub tick : m.tick ≡ tick_at hs place
-  pub first : IsFirst hs place
-  pub none : (j : ℕ) → place < j → IsSecond hs j → ⊥
-  pub before : AreMet within hs place
-  pub after : (i : ℕ) → place < i → IsFirst hs i → tick_at hs place ≤ tick_at hs i
+  pub index : ℕ
+  pub line : m.line ≡ index + 1
+  pub tick : m.tick ≡ tick_at hs index
+  pub first : IsFirst hs index
+  pub none : (j : ℕ) → index < j → IsSecond hs j → ⊥
+  pub before : AreMet within hs index
+  pub after : (i : ℕ) → index < i → IsFirst hs i → tick_at hs index ≤ tick_at hs i
 
 abbrev pub KnowsSee : (within : ℕ) → List Hit → Option Mark → Type 0
 KnowsSee within hs None = (i : ℕ) → IsFirst hs i → IsMet within hs i
@@ -68,16 +68,16 @@ WaitsNext old line hit new =
 
 -- No Q followed in time, and a line of a later tick came.
 pub record IsLate (within : ℕ) (hs : List Hit) (b : Breach) : Type 0 where
-  pub place : ℕ
-  pub line : b.line ≡ place + 1
-  pub tick : b.tick ≡ tick_at hs place
+  pub index : ℕ
+  pub line : b.line ≡ index + 1
+  pub tick : b.tick ≡ tick_at hs index
   pub fault : b.fault ≡ Unanswered
-  pub inside : place < length hs
-  pub first : IsFirst hs place
-  pub none : HasNoAnswer within hs place
-  pub before : AreMet within hs place
+  pub inside : index < length hs
+  pub first : IsFirst hs index
+  pub none : HasNoAnswer within hs index
+  pub before : AreMet within hs index
   pub later : ℕ
-  pub over : tick_at hs place + within < tick_at hs later
+  pub over : tick_at hs index + within < tick_at hs later
 
 -- ---- The last line of a kind
 
@@ -87,9 +87,9 @@ IsPast None within tick = Unit {0}
 IsPast (Some from) within tick = from + within < tick
 
 pub record IsLastTick (test : Hit → Bool) (hs : List Hit) (tick : ℕ) : Type 0 where
-  pub place : ℕ
-  pub is : test (hit_at hs place) ≡ true
-  pub same : tick ≡ tick_at hs place
+  pub index : ℕ
+  pub is : test (hit_at hs index) ≡ true
+  pub same : tick ≡ tick_at hs index
   pub most : (i : ℕ) → test (hit_at hs i) ≡ true → tick_at hs i ≤ tick
 
 abbrev pub KnowsLast : (test : Hit → Bool) → List Hit → Option ℕ → Type 0
@@ -122,12 +122,12 @@ Lacks least window count next = (window < next) × ((count < least) ⊎ ((window
 
 -- a line breaks the rule, and none before it
 pub record IsBroken (n : Need) (hs : List Hit) (b : Breach) : Type 0 where
-  pub place : ℕ
-  pub line : b.line ≡ place + 1
-  pub tick : b.tick ≡ tick_at hs place
-  pub inside : place < length hs
-  pub breaks : BreaksHere n hs place b.fault
-  pub before : (k : ℕ) (fault : Fault) → k < place → BreaksHere n hs k fault → ⊥
+  pub index : ℕ
+  pub line : b.line ≡ index + 1
+  pub tick : b.tick ≡ tick_at hs index
+  pub inside : index < length hs
+  pub breaks : BreaksHere n hs index b.fault
+  pub before : (k : ℕ) (fault : Fault) → k < index → BreaksHere n hs k fault → ⊥
 
 -- What is known of a rule when these lines were read.
 abbrev pub Knows : Need → List Hit → Watch → Type 0

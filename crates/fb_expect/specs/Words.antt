@@ -20,7 +20,7 @@ after_front front z = if bytes_eq (take (length front) z) front then Some (drop 
 abbrev pub before : (end : Text) → Text → Option Text
 before end z = if bytes_eq (drop (length z - length end) z) end then Some (take (length z - length end) z) else None
 
--- what comes before the first place of a mark, and what comes after it
+-- what comes before the first index of a mark, and what comes after it
 unfoldable pub split_at_mark : ℕ → Text → Option (Text × Text)
 split_at_mark mark z = option_map (λ i. (take i z, drop (i + 1) z)) (position (nat_eq mark) z)
 

@@ -8,7 +8,7 @@
 //! The report and the text of a difference are the texts that the definitions make of these answers.
 //!
 //! Read in this order: `error`; `rule` and `pattern`, the data of rules; `words`, `number` and `names`, parts of texts;
-//! `document` and `rules`, how rules are read; `place`, where they are refused. Then `event` and `ending`, the meaning of a
+//! `document` and `rules`, how rules are read; `location`, where they are refused. Then `event` and `ending`, the meaning of a
 //! line; `meeting`, whether it meets a pattern; `hit`, `watch` and `verdict`, the state and the answer of a rule; `sight`,
 //! what a trace never has; `fingerprint` and `port_set`, which lines are passed over. Then `judging`, a trace line by line;
 //! `tap`, the report; `parting` and `difference_report`, where two texts first differ.
@@ -25,12 +25,12 @@ mod fingerprint;
 mod hit;
 pub mod judging;
 pub mod lines;
+pub mod location;
 pub mod meeting;
 mod names;
 mod number;
 pub mod parting;
 pub mod pattern;
-pub mod place;
 pub mod port_pattern;
 mod port_set;
 pub mod rule;
@@ -47,10 +47,10 @@ pub use error::{RulesError, UNKNOWN_NAME};
 pub use fault::TraceError;
 pub use judging::{Cut, Judged, judge};
 pub use lines::ReadFault;
+pub use location::{RuleFault, RuleKey, RulesLocation, key_text, pattern_keys, rules_location};
 pub use meeting::is_at;
 pub use parting::{Difference, part};
 pub use pattern::{Comparison, Condition, Pattern, Way};
-pub use place::{RuleFault, RuleKey, RulesPlace, key_text, pattern_keys, rules_place};
 pub use port_pattern::PortPattern;
 pub use rule::{Need, Rule};
 pub use rules::{MOST_RULES, read_rules};

@@ -10,7 +10,7 @@ use Rattle.fb_types.specs.Numbers.{emission_of, line_of, path_at, ports_at}
 use Rattle.fb_types.specs.Reactions.{memory_of}
 use Rattle.fb_types.specs.States as model
 use Rattle.fb_types.specs.declared.event_kind.EventKind.{EventKind}
-use Rattle.fb_types.specs.declared.event_kind.EventKind.TheVariants.{Restart, Split, Merge, Rendezvous, Permit, Select, Switch, Delay, Cycle, SetReset, DataLatch, RisingEdge, FallingEdge, CountUp}
+use Rattle.fb_types.specs.declared.event_kind.EventKind.TheVariants.{Restart, Delay, Cycle}
 use Rattle.fb_types.specs.declared.library.Ports.{Ports}
 use Rattle.fb_types.specs.declared.run.Emission as run
 use Rattle.fb_types.specs.declared.run.Line.{Line}
@@ -46,19 +46,9 @@ cycle_once (blocks.Count n p) tick = none_at
 
 expiry_once : (k : EventKind) (m : blocks.Memory) (tick : ℕ) → IsAtMostOne (blocks.expiry k m tick).emits
 expiry_once Restart m tick = one_at _
-expiry_once Split m tick = none_at
-expiry_once Merge m tick = none_at
-expiry_once Rendezvous m tick = none_at
-expiry_once Permit m tick = none_at
-expiry_once Select m tick = none_at
-expiry_once Switch m tick = none_at
 expiry_once Delay m tick = one_at _
 expiry_once Cycle m tick = cycle_once m tick
-expiry_once SetReset m tick = none_at
-expiry_once DataLatch m tick = none_at
-expiry_once RisingEdge m tick = none_at
-expiry_once FallingEdge m tick = none_at
-expiry_once CountUp m tick = none_at
+expiry_once _ m tick = none_at
 
 mapped_once : (f : Name → Emission) (ns : List Name) → IsAtMostOne ns → (x : Emission) (xs : List Emission) → x ∷ xs ≡ map f ns → xs ≡ []
 mapped_once f [] once x xs e = absurd (cc)

@@ -1,22 +1,22 @@
 //! The inside of a basic block before a taking, and what is not as it was after it.
 
-ghost use Rattle.std.specs.Prelude.{◌≡◌, ◌<◌, ◌++◌, [], IfNone, IfSome, OnOk, Some, if◌then◌else◌, length, map, slice_get};
+ghost use Rattle.std.specs.Prelude.{◌≡◌, ◌++◌, [], IfNone, IfSome, OnOk, Some, if◌then◌else◌, length, map, slice_get};
 ghost use Rattle.fb_types.specs.Blocks.{Basic, variable_names};
-ghost use Rattle.fb_types.specs.Headline.{system_of};
 ghost use Rattle.fb_types.specs.Names.{Name};
-ghost use Rattle.fb_types.specs.Numbers.{path_at};
 ghost use Rattle.fb_types.specs.Values.{same_value};
 ghost use Rattle.fb_types.specs.declared.library.BasicType.{BasicType};
+ghost use Rattle.fb_types.specs.OfSystem.{IsInstance, kind_at, path_at};
 ghost use Rattle.fb_st.specs.Frames.{values_of};
 ghost use Rattle.fb_coverage.specs.Reports.{listed};
 ghost use Rattle.fb_ecc.specs.Indexes.{state_at};
 ghost use Rattle.fb_inspect.specs.Looks.{Look, Seen};
 ghost use Rattle.fb_inspect.specs.Notes.{own_variables};
-ghost use Rattle.fb_inspect.specs.Walking.{AreKept, IsChartKept};
+ghost use Rattle.fb_inspect.specs.Walking.{IsChartKept};
 ghost use Rattle.fb_inspect.specs.declared.blocks.Chart.{Chart};
 ghost use Rattle.fb_inspect.specs.declared.blocks.Remembered.TheVariants as kept;
 ghost use Rattle.fb_inspect.specs.Inner as spec;
 ghost use Rattle.fb_inspect.specs.Saved.{IsBefore, IsSaved};
+ghost use Rattle.fb_inspect.specs.OfSystem.{AreKept};
 
 use crate::blocks::{Chart, Remembered, basic_type, keep_values};
 use crate::inner::{put_lost, put_state, put_value};
@@ -50,11 +50,11 @@ pub(crate) fn inside_of<'a>(
     blocks: &'a [Remembered],
     instance: u32,
 ) -> Option<Inside<'a>>
-    requires { instance < length (system_of system.now).paths }
-    ensures some { (look : Look) → AreKept (system_of system.now) blocks.now look → let p = path_at (system_of system.now) instance in
-        IfSome result (λ x. ((system_of system.now).kind p ≡ Some (Basic x.block.now)) × IsChartKept x.block.now x.chart.now (look.blocks p)) }
-    ensures none { (look : Look) → AreKept (system_of system.now) blocks.now look →
-        IfNone result ((t : BasicType) → (system_of system.now).kind (path_at (system_of system.now) instance) ≡ Some (Basic t) → ⊥) }
+    requires { IsInstance system.now instance }
+    ensures some { (look : Look) → AreKept system.now blocks.now look → let p = path_at system.now instance in
+        IfSome result (λ x. (kind_at system.now p ≡ Some (Basic x.block.now)) × IsChartKept x.block.now x.chart.now (look.blocks p)) }
+    ensures none { (look : Look) → AreKept system.now blocks.now look →
+        IfNone result ((t : BasicType) → kind_at system.now (path_at system.now instance) ≡ Some (Basic t) → ⊥) }
 {
     let block = basic_type(system, instance)?;
     let chart = chart_at(blocks, instance)?;
@@ -184,10 +184,10 @@ impl Before {
         blocks: &[Remembered],
         instance: u32,
     ) -> Result<(), AllocError>
-        requires instance { instance < length (system_of system.now).paths }
-        requires kept { (look : Look) × AreKept (system_of system.now) blocks.now look }
-        ensures { (look : Look) → AreKept (system_of system.now) blocks.now look → let p = path_at (system_of system.now) instance in
-            OnOk result (IsBefore ((system_of system.now).kind p) self.new (look.blocks p)) }
+        requires instance { IsInstance system.now instance }
+        requires kept { (look : Look) × AreKept system.now blocks.now look }
+        ensures { (look : Look) → AreKept system.now blocks.now look → let p = path_at system.now instance in
+            OnOk result (IsBefore (kind_at system.now p) self.new (look.blocks p)) }
     {
         let Some(inside) = inside_of(system, blocks, instance) else {
             return Ok(());
@@ -228,12 +228,12 @@ impl Before {
         instance: u32,
         is_lost: bool,
     ) -> Result<(), AllocError>
-        requires instance { instance < length (system_of system.now).paths }
-        requires kept { (look : Look) × AreKept (system_of system.now) blocks.now look }
-        requires saved { (s : Seen) × IsBefore ((system_of system.now).kind (path_at (system_of system.now) instance)) self.now s }
-        ensures { (a : Seen) (look : Look) → let p = path_at (system_of system.now) instance in
-            IsBefore ((system_of system.now).kind p) self.now a → AreKept (system_of system.now) blocks.now look
-            → OnOk result (text.new.items ≡ text.old.items ++ spec.of_chart (spec.chart_changes instance a (look.blocks p) is_lost) ((system_of system.now).kind p)) }
+        requires instance { IsInstance system.now instance }
+        requires kept { (look : Look) × AreKept system.now blocks.now look }
+        requires saved { (s : Seen) × IsBefore (kind_at system.now (path_at system.now instance)) self.now s }
+        ensures { (a : Seen) (look : Look) → let p = path_at system.now instance in
+            IsBefore (kind_at system.now p) self.now a → AreKept system.now blocks.now look
+            → OnOk result (text.new.items ≡ text.old.items ++ spec.of_chart (spec.chart_changes instance a (look.blocks p) is_lost) (kind_at system.now p)) }
     {
         let Some(inside) = inside_of(system, blocks, instance) else {
             return Ok(());

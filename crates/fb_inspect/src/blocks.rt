@@ -1,21 +1,21 @@
 //! What the blocks of a system remember.
 
-ghost use Rattle.std.specs.Prelude.{◌≡◌, ◌≢◌, ◌<◌, ◌++◌, IfNone, IfOk, IfSome, OnOk, Some, length, map, slice_get};
+ghost use Rattle.std.specs.Prelude.{◌≡◌, ◌≢◌, ◌++◌, IfNone, IfOk, IfSome, OnOk, Some, map, slice_get};
 ghost use Rattle.fb_types.specs.Blocks.{Basic, Event, variable_names};
 ghost use Rattle.fb_types.specs.Headline.{system_of};
-ghost use Rattle.fb_types.specs.Numbers.{path_at};
-ghost use Rattle.fb_types.specs.Simulation.{opening_block};
 ghost use Rattle.fb_types.specs.declared.library.BasicType.{BasicType};
 ghost use Rattle.fb_types.specs.declared.library.BlockType.TheVariants as declared;
+ghost use Rattle.fb_types.specs.OfSystem.{IsInstance, instance_count, kind_at, opening_block, path_at};
 ghost use Rattle.fb_st.specs.Frames.{values_of};
 ghost use Rattle.fb_net.specs.Blocks as net;
 ghost use Rattle.fb_net.specs.Opening.{AreCharts};
-ghost use Rattle.fb_net.specs.Worlds.{Represents};
 ghost use Rattle.fb_net.specs.declared.block.Block.TheVariants as block;
+ghost use Rattle.fb_net.specs.OfSystem.{Represents};
 ghost use Rattle.fb_inspect.specs.Looks as spec;
 ghost use Rattle.fb_inspect.specs.Notes.{own_variables};
-ghost use Rattle.fb_inspect.specs.Walking.{OpenAll, OpensAs};
+ghost use Rattle.fb_inspect.specs.Walking.{OpenAll};
 ghost use Rattle.fb_inspect.specs.declared.blocks.Remembered.TheVariants as kept;
+ghost use Rattle.fb_inspect.specs.OfSystem.{OpensAs};
 
 use fb_check_names::TypeNumber;
 use fb_ecc::BasicState;
@@ -125,10 +125,10 @@ fn own_of(alloc: Global, block: &BasicType) -> Result<Vec<Reference>, AllocError
 }
 
 /// The basic type of an instance, if it has one.
-pub fn basic_type(system: &System, instance: u32) -> Option<&BasicType>
-    requires { instance < length (system_of system.now).paths }
-    ensures basic { IfSome result (λ t. (system_of system.now).kind (path_at (system_of system.now) instance) ≡ Some (Basic t.now)) }
-    ensures other { IfNone result ((t : BasicType) → (system_of system.now).kind (path_at (system_of system.now) instance) ≢ Some (Basic t)) }
+pub(crate) fn basic_type(system: &System, instance: u32) -> Option<&BasicType>
+    requires { IsInstance system.now instance }
+    ensures basic { IfSome result (λ t. kind_at system.now (path_at system.now instance) ≡ Some (Basic t.now)) }
+    ensures other { IfNone result ((t : BasicType) → kind_at system.now (path_at system.now instance) ≢ Some (Basic t)) }
 {
     match system.kind(instance) {
         TypeNumber::Event(_) => None,
@@ -141,8 +141,8 @@ pub fn basic_type(system: &System, instance: u32) -> Option<&BasicType>
 
 /// The number of the type of a basic block among the declared types.
 pub(crate) fn type_number(system: &System, instance: u32) -> usize
-    requires { instance < length (system_of system.now).paths }
-    ensures { (t : BasicType) → (system_of system.now).kind (path_at (system_of system.now) instance) ≡ Some (Basic t)
+    requires { IsInstance system.now instance }
+    ensures { (t : BasicType) → kind_at system.now (path_at system.now instance) ≡ Some (Basic t)
         → slice_get system.now.library.blocks result ≡ Some (declared.Basic t) }
 {
     match system.kind(instance) {
@@ -168,9 +168,9 @@ fn opened_chart(
     instance: u32,
     state: BasicState,
 ) -> Result<Chart, AllocError>
-    requires instance { instance < length (system_of system.now).paths }
-    requires stands { let p = path_at (system_of system.now) instance in Represents (system_of system.now) p (net.own_of (block.Basic state)) (opening_block (system_of system.now) p) }
-    ensures { IfOk result (λ chart. OpensAs (system_of system.now) instance (kept.Basic chart)) }
+    requires instance { IsInstance system.now instance }
+    requires stands { let p = path_at system.now instance in Represents system.now p (net.own_of (block.Basic state)) (opening_block system.now p) }
+    ensures { IfOk result (λ chart. OpensAs system.now instance (kept.Basic chart)) }
 {
     let Some(block) = basic_type(system, instance) else {
         unreachable!()
@@ -190,9 +190,9 @@ fn opened_block(
     instance: u32,
     state: EventState,
 ) -> Result<EventBlock, AllocError>
-    requires instance { instance < length (system_of system.now).paths }
-    requires stands { let p = path_at (system_of system.now) instance in Represents (system_of system.now) p (net.own_of (block.Event state)) (opening_block (system_of system.now) p) }
-    ensures { IfOk result (λ b. OpensAs (system_of system.now) instance (kept.Event b)) }
+    requires instance { IsInstance system.now instance }
+    requires stands { let p = path_at system.now instance in Represents system.now p (net.own_of (block.Event state)) (opening_block system.now p) }
+    ensures { IfOk result (λ b. OpensAs system.now instance (kept.Event b)) }
 {
     system.facts();
     accepted_are_typed();
@@ -208,9 +208,9 @@ fn opened(
     instance: u32,
     charts: &mut Charts,
 ) -> Result<Remembered, AllocError>
-    requires instance { instance < length (system_of system.now).paths }
+    requires instance { IsInstance system.now instance }
     requires charts { AreCharts system.now charts.old }
-    ensures opens { IfOk result (OpensAs (system_of system.now) instance) }
+    ensures opens { IfOk result (OpensAs system.now instance) }
     ensures charts { OnOk result (AreCharts system.now charts.new) }
 {
     match block_of(alloc, system, instance, Items::new(alloc), charts)? {
@@ -222,7 +222,7 @@ fn opened(
 
 /// What all instances remember before the first event, each at its number.
 pub(crate) fn opened_all(alloc: Global, system: &System) -> Result<Vec<Remembered>, AllocError>
-    ensures { IfOk result (λ all. OpenAll (system_of system.now) (length (system_of system.now).paths) all.items) }
+    ensures { IfOk result (λ all. OpenAll (system_of system.now) (instance_count system.now) all.items) }
 {
     let mut all = Vec::new(alloc);
     let mut charts = BTreeMap::new(alloc);

@@ -2,6 +2,7 @@
 
 ghost use Rattle.std.specs.Prelude.{◌≡◌, ◌≤◌, IfErr, IfOk, IfSome};
 ghost use Rattle.fb_types.specs.Headline.{system_of};
+ghost use Rattle.fb_wave.specs.Tables.{system_in};
 ghost use Rattle.fb_wave.specs.Named.{HasNames};
 ghost use Rattle.fb_inspect.specs.Covering.{Covers};
 ghost use Rattle.fb_inspect.specs.Looks.{most};
@@ -69,8 +70,8 @@ fn cover_with<R: BufRead>(
     input: &mut R,
 ) -> Result<Covered, InspectError>
     ensures covered { IfOk result (λ covered. IfSome (R.remaining input.old) (λ text. Covers terms.cut table.now.system.now terms.steps text marks covered.marks covered.extent)) }
-    ensures refused { HasNames (system_of table.now.system.now) → terms.steps ≤ most
-        → IfErr result (OfRefusal (λ n. IfSome (R.remaining input.old) (IsWrongAt (system_of table.now.system.now) terms.steps n))) }
+    ensures refused { HasNames (system_in table.now) → terms.steps ≤ most
+        → IfErr result (OfRefusal (λ n. IfSome (R.remaining input.old) (IsWrongAt (system_in table.now) terms.steps n))) }
 {
     table.system.facts();
     let mut line = Vec::new(alloc);

@@ -1,11 +1,11 @@
 //! The reactions of event blocks.
 
 ghost use Rattle.std.specs.Prelude.{◌≡◌, ◌≤◌, ◌^◌, ◌++◌, ◌&&◌, [], All, IfErr, IfOk, IsTrue, None, OnOk, false, if◌then◌else◌, true};
-ghost use Rattle.fb_types.specs.Headline.{system_of};
 ghost use Rattle.fb_event.specs.Reactions.{FitInputs, IsWellFormed, expiry_of, reaction_to};
 ghost use Rattle.fb_event.specs.Seen.{seen_memory};
 ghost use Rattle.fb_wave.specs.Lines.{IsTextOf};
 ghost use Rattle.fb_wave.specs.Named.{HasNames};
+ghost use Rattle.fb_inspect.specs.Walks.{system_in};
 ghost use Rattle.fb_inspect.specs.Lines.{IsNext, IsPlain};
 ghost use Rattle.fb_inspect.specs.Looks as spec;
 ghost use Rattle.fb_inspect.specs.Looks.{Seen, emissions_by};
@@ -160,15 +160,15 @@ pub(crate) fn react_block<R: BufRead>(
     line: &Line,
     input: &mut R,
 ) -> Result<(), InspectError>
-    requires line { IsBlockLine (system_of fixed.now.table.now.system.now) block.old line.now }
+    requires line { IsBlockLine (system_in fixed.now) block.old line.now }
     requires taken { line.now.taken ≡ true }
-    requires next { IsNext (system_of fixed.now.table.now.system.now) fixed.now.form line.now.key.tick trail.old.reading.line.items trail.old.reading.next }
-    ensures turned { (s : Seen) → IsBlockKept block.old.state.kind block.old s → OnOk result (let sys = system_of fixed.now.table.now.system.now in
+    requires next { IsNext (system_in fixed.now) fixed.now.form line.now.key.tick trail.old.reading.line.items trail.old.reading.next }
+    ensures turned { (s : Seen) → IsBlockKept block.old.state.kind block.old s → OnOk result (let sys = system_in fixed.now in
         BlockGoes sys fixed.now.form block.old.state.kind line.now (taken_reaction sys block.old.state.kind s line.now) (taken_variables sys s line.now) s.due s block.new trail.old trail.new (R.remaining input.old) (R.remaining input.new)) }
-    ensures refused { (s : Seen) → IsBlockKept block.old.state.kind block.old s → let sys = system_of fixed.now.table.now.system.now in
+    ensures refused { (s : Seen) → IsBlockKept block.old.state.kind block.old s → let sys = system_in fixed.now in
         HasNames sys → IsPlain fixed.now.form line.now.key
         → IfErr result (OfRefusal (λ n. EmitsFail sys fixed.now.form line.now (emissions_by block.old.state.kind (taken_reaction sys block.old.state.kind s line.now)) trail.old.reading trail.new.reading (R.remaining input.old) (R.remaining input.new) n)) }
-    ensures next { OnOk result (IsNext (system_of fixed.now.table.now.system.now) fixed.now.form line.now.key.tick trail.new.reading.line.items trail.new.reading.next) }
+    ensures next { OnOk result (IsNext (system_in fixed.now) fixed.now.form line.now.key.tick trail.new.reading.line.items trail.new.reading.next) }
     ensures charts { trail.new.marks.charts ≡ trail.old.marks.charts }
 {
     let alloc = fixed.alloc;
@@ -238,14 +238,14 @@ pub(crate) fn expire_block<R: BufRead>(
     line: &Line,
     input: &mut R,
 ) -> Result<(), InspectError>
-    requires line { IsBlockLine (system_of fixed.now.table.now.system.now) block.old line.now }
-    requires text { IsTextOf (system_of fixed.now.table.now.system.now) fixed.now.form line.now trail.old.reading.line.items }
-    ensures turned { (s : Seen) → IsBlockKept block.old.state.kind block.old s → OnOk result (let sys = system_of fixed.now.table.now.system.now in
+    requires line { IsBlockLine (system_in fixed.now) block.old line.now }
+    requires text { IsTextOf (system_in fixed.now) fixed.now.form line.now trail.old.reading.line.items }
+    ensures turned { (s : Seen) → IsBlockKept block.old.state.kind block.old s → OnOk result (let sys = system_in fixed.now in
         TimerGoes sys fixed.now.form block.old.state.kind line.now s block.new trail.old trail.new (R.remaining input.old) (R.remaining input.new)) }
-    ensures refused { (s : Seen) → IsBlockKept block.old.state.kind block.old s → let sys = system_of fixed.now.table.now.system.now in
+    ensures refused { (s : Seen) → IsBlockKept block.old.state.kind block.old s → let sys = system_in fixed.now in
         HasNames sys → IsPlain fixed.now.form line.now.key
         → IfErr result (OfRefusal (λ n. IsNotDue sys block.old.state.kind s line.now trail.old.reading trail.new.reading n)) }
-    ensures next { OnOk result (IsNext (system_of fixed.now.table.now.system.now) fixed.now.form line.now.key.tick trail.new.reading.line.items trail.new.reading.next) }
+    ensures next { OnOk result (IsNext (system_in fixed.now) fixed.now.form line.now.key.tick trail.new.reading.line.items trail.new.reading.next) }
     ensures charts { trail.new.marks.charts ≡ trail.old.marks.charts }
 {
     let before = seen_of(block);

@@ -2,8 +2,9 @@
 
 ghost use Rattle.std.specs.Prelude.{◌≡◌, ◌<◌, IfNone, IfSome, MatchOption, length};
 ghost use Rattle.fb_types.specs.Headline.{system_of};
-ghost use Rattle.fb_types.specs.Numbers.{event_at, path_at};
+ghost use Rattle.fb_types.specs.Numbers.{event_at};
 ghost use Rattle.fb_types.specs.Text.{path_text};
+ghost use Rattle.fb_types.specs.OfSystem.{IsInstance, path_at};
 ghost use Rattle.fb_wave.specs.Ports.{events};
 ghost use Rattle.fb_inspect.specs.LineFaults.{IsNoEvent, IsNoInstance, IsNoSign, sign_text};
 
@@ -15,8 +16,8 @@ const MOST_EVENTS: usize = 1 << 32;
 
 /// The number of the instance with a path.
 pub(crate) fn instance_of(system: &System, path: &[u8]) -> Option<u32>
-    ensures within { IfSome result (λ i. i < length (system_of system.now).paths) }
-    ensures found { IfSome result (λ i. path.now ≡ path_text (path_at (system_of system.now) i)) }
+    ensures within { IfSome result (λ i. IsInstance system.now i) }
+    ensures found { IfSome result (λ i. path.now ≡ path_text (path_at system.now i)) }
     ensures none { IfNone result (IsNoInstance (system_of system.now) path.now) }
 {
     system.facts();

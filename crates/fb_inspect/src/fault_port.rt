@@ -2,8 +2,8 @@
 
 ghost use Rattle.std.specs.Prelude.{◌≡◌, List, ℕ, IfErr, IfOk, MatchOption};
 ghost use Rattle.fb_types.specs.Headline.{system_of};
-ghost use Rattle.fb_wave.specs.Ports.{IsPortOf};
 ghost use Rattle.fb_wave.specs.Words.{AreThree};
+ghost use Rattle.fb_wave.specs.OfSystem.{IsPortOf};
 ghost use Rattle.fb_inspect.specs.LineFaults.{IsOfPort, IsPortFault, path_event, sign_text};
 
 use crate::fault_names::{event_of, events_of, instance_of, taken_of};
@@ -13,11 +13,10 @@ use crate::line_fault::PortFault;
 use fb_system::System;
 use fb_wave::Port;
 use fb_wave::last::resource_of;
-use fb_wave::ports::holder_of;
 
 /// The port of the second and the third word of a line.
 fn port_of<'a>(system: &System, words: &ThreeWords<'a>) -> Result<Port, PortFault<'a>>
-    ensures port { IfOk result (IsPortOf (system_of system.now)) }
+    ensures port { IfOk result (IsPortOf system.now) }
     ensures sign { IfOk result (λ p. words.now.sign.now ≡ sign_text p.taken) }
     ensures named { IfOk result (λ p. words.now.port.now ≡ path_event (system_of system.now) p) }
     ensures fault { (text : List ℕ) → AreThree text words.now.resource.now words.now.sign.now words.now.port.now words.now.rest.now
@@ -60,7 +59,9 @@ pub(crate) fn port_fault<'a>(system: &System, text: &'a [u8]) -> Option<PortFaul
         Ok(port) => port,
         Err(fault) => return Some(fault),
     };
-    if system.resource_name(holder_of(system, port) as usize) != words.resource {
+    system.facts();
+    let holder = system.resource(port.instance);
+    if system.resource_name(holder) != words.resource {
         return Some(PortFault::Elsewhere(port));
     }
     match port_values_fault(system, port, words.rest) {

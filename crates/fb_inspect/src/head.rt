@@ -1,15 +1,15 @@
 //! The head of a dump with the inside of basic blocks.
 
-ghost use Rattle.std.specs.Prelude.{◌≡◌, ◌<◌, ◌+◌, ◌-◌, ◌++◌, true, IfOk, OnOk, length};
+ghost use Rattle.std.specs.Prelude.{◌≡◌, ◌+◌, ◌-◌, ◌++◌, true, IfOk, OnOk, length};
 ghost use Rattle.fb_types.specs.Headline.{system_of};
 ghost use Rattle.fb_types.specs.Numbers.{path_at, ports_at};
+ghost use Rattle.fb_types.specs.OfSystem.{IsInstance};
 ghost use Rattle.fb_wave.specs.Scopes as ports;
 ghost use Rattle.fb_wave.specs.Signals.{first_signal};
-ghost use Rattle.fb_wave.specs.Writing.{AreFirsts};
-ghost use Rattle.fb_inspect.specs.Looks.{opening_look};
-ghost use Rattle.fb_inspect.specs.Walking.{AreKept};
+ghost use Rattle.fb_wave.specs.OfSystem.{AreFirsts};
 ghost use Rattle.fb_inspect.specs.Heads as spec;
 ghost use Rattle.fb_inspect.specs.Inner.{inner_begun, inner_declared};
+ghost use Rattle.fb_inspect.specs.OfSystem.{AreKept, opening_look};
 
 use crate::before::{inside_of, put_inside};
 use crate::blocks::{Remembered, basic_type};
@@ -21,7 +21,7 @@ use std::alloc::{AllocError, Global};
 
 /// Declares the inside of an instance.
 fn put_inner(text: &mut Vec<u8>, system: &System, instance: u32) -> Result<(), AllocError>
-    requires { instance < length (system_of system.now).paths }
+    requires { IsInstance system.now instance }
     ensures { OnOk result (text.new.items ≡ text.old.items ++ inner_declared (system_of system.now) (path_at (system_of system.now) instance)) }
 {
     system.facts();
@@ -40,8 +40,8 @@ fn put_whole(
     depth: usize,
     instance: u32,
 ) -> Result<usize, AllocError>
-    requires firsts { AreFirsts (system_of system.now) firsts.now }
-    requires instance { instance < length (system_of system.now).paths }
+    requires firsts { AreFirsts system.now firsts.now }
+    requires instance { IsInstance system.now instance }
     ensures height { IfOk result (λ h. h ≡ length (path_at (system_of system.now) instance)) }
     ensures text { OnOk result (let sys = system_of system.now in let p = path_at sys instance in
         text.new.items ≡ text.old.items ++ (ports.closed (depth + 1 - length p) ++ ports.opened (ports.own_name p) ++ ports.ports_declared (first_signal sys instance) (ports_at sys p) ++ inner_declared sys p)) }
@@ -58,7 +58,7 @@ fn put_instances(
     firsts: &[usize],
     resource: usize,
 ) -> Result<(), AllocError>
-    requires { AreFirsts (system_of system.now) firsts.now }
+    requires { AreFirsts system.now firsts.now }
     ensures { OnOk result (text.new.items ≡ text.old.items
         ++ spec.instances_opened true (system_of system.now) resource 0 0 (system_of system.now).paths) }
 {
@@ -75,7 +75,7 @@ fn put_instances(
 
 /// Puts the scopes of all resources.
 fn put_resources(text: &mut Vec<u8>, system: &System, firsts: &[usize]) -> Result<(), AllocError>
-    requires { AreFirsts (system_of system.now) firsts.now }
+    requires { AreFirsts system.now firsts.now }
     ensures { OnOk result (text.new.items ≡ text.old.items
         ++ spec.resources_opened true (system_of system.now) 0 (system_of system.now).resource_names) }
 {
@@ -94,8 +94,8 @@ fn put_inner_begun(
     blocks: &[Remembered],
     instance: u32,
 ) -> Result<(), AllocError>
-    requires instance { instance < length (system_of system.now).paths }
-    requires blocks { AreKept (system_of system.now) blocks.now (opening_look (system_of system.now)) }
+    requires instance { IsInstance system.now instance }
+    requires blocks { AreKept system.now blocks.now (opening_look system.now) }
     ensures { OnOk result (text.new.items ≡ text.old.items ++ inner_begun (system_of system.now) (path_at (system_of system.now) instance)) }
 {
     system.facts();
@@ -111,7 +111,7 @@ fn put_insides_begun(
     system: &System,
     blocks: &[Remembered],
 ) -> Result<(), AllocError>
-    requires { AreKept (system_of system.now) blocks.now (opening_look (system_of system.now)) }
+    requires { AreKept system.now blocks.now (opening_look system.now) }
     ensures { OnOk result (text.new.items ≡ text.old.items ++ spec.insides_begun true (system_of system.now) (system_of system.now).paths) }
 {
     system.facts();
@@ -129,8 +129,8 @@ pub(crate) fn put_head(
     firsts: &[usize],
     blocks: &[Remembered],
 ) -> Result<(), AllocError>
-    requires firsts { AreFirsts (system_of system.now) firsts.now }
-    requires blocks { AreKept (system_of system.now) blocks.now (opening_look (system_of system.now)) }
+    requires firsts { AreFirsts system.now firsts.now }
+    requires blocks { AreKept system.now blocks.now (opening_look system.now) }
     ensures { OnOk result (text.new.items ≡ text.old.items ++ spec.state_head true (system_of system.now)) }
 {
     text.extend_from_slice(b"$timescale 1 ms $end\n")?;

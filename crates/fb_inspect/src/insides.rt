@@ -1,10 +1,12 @@
 //! What happens inside the blocks of a trace.
 
-ghost use Rattle.std.specs.Prelude.{◌≡◌, ◌≤◌, IfErr, IfOk, IfSome, IsTrue, OnErr, OnOk, length, true};
+ghost use Rattle.std.specs.Prelude.{◌≡◌, ◌≤◌, IfErr, IfOk, IfSome, IsTrue, OnErr, OnOk, true};
 ghost use Rattle.std.specs.List.{list_any};
 ghost use Rattle.fb_types.specs.Headline.{system_of};
 ghost use Rattle.fb_types.specs.Names.{Path};
 ghost use Rattle.fb_types.specs.Text.{path_text};
+ghost use Rattle.fb_types.specs.OfSystem.{resource_count};
+ghost use Rattle.fb_wave.specs.Tables.{system_in};
 ghost use Rattle.fb_wave.specs.CutOff.{is_unended};
 ghost use Rattle.fb_inspect.specs.Inspections as spec;
 ghost use Rattle.fb_inspect.specs.Inspections.{IsShownBy, ShowsFront};
@@ -120,7 +122,7 @@ fn have_paths(system: &System, only: &[Name]) -> bool {
 
 /// No steps were made in any resource.
 pub(crate) fn steps_of(alloc: Global, system: &System) -> Result<Vec<TickSteps>, AllocError>
-    ensures { IfOk result (λ all. AreUnused (length (system_of system.now).resource_names) all.items) }
+    ensures { IfOk result (λ all. AreUnused (resource_count system.now) all.items) }
 {
     let mut all = Vec::new(alloc);
     for _ in 0..system.resources() {
@@ -137,7 +139,7 @@ pub fn first_reading(
     line: Vec<u8>,
 ) -> Result<Reading, AllocError>
     ensures line { IfOk result (λ r. r.line.items ≡ line.items) }
-    ensures next { IfOk result (λ r. IsNext (system_of table.now.system.now) form 0 r.line.items r.next) }
+    ensures next { IfOk result (λ r. IsNext (system_in table.now) form 0 r.line.items r.next) }
     ensures number { IfOk result (λ r. r.number ≡ 1) }
 {
     let mut guess = Guess::new(alloc, table)?;
@@ -211,10 +213,10 @@ fn inspect_with<R: BufRead, W: Write>(
     input: &mut R,
     out: &mut W,
 ) -> Result<(), InspectError>
-    ensures whole { OnOk result (IfSome (R.remaining input.old) (λ text. IsShownBy inspection.entry.terms.cut (system_of table.now.system.now) inspection.entry.only.now inspection.entry.terms.steps text (W.contents out.old) (W.contents out.new))) }
-    ensures fault { OnErr result (ShowsFront (system_of table.now.system.now) inspection.entry.only.now inspection.entry.terms.steps (W.contents out.old) (W.contents out.new)) }
-    ensures refused { HasNames (system_of table.now.system.now) → inspection.entry.terms.steps ≤ most
-        → IfErr result (OfRefusal (λ n. IfSome (R.remaining input.old) (IsWrongAt (system_of table.now.system.now) inspection.entry.terms.steps n))) }
+    ensures whole { OnOk result (IfSome (R.remaining input.old) (λ text. IsShownBy inspection.entry.terms.cut (system_in table.now) inspection.entry.only.now inspection.entry.terms.steps text (W.contents out.old) (W.contents out.new))) }
+    ensures fault { OnErr result (ShowsFront (system_in table.now) inspection.entry.only.now inspection.entry.terms.steps (W.contents out.old) (W.contents out.new)) }
+    ensures refused { HasNames (system_in table.now) → inspection.entry.terms.steps ≤ most
+        → IfErr result (OfRefusal (λ n. IfSome (R.remaining input.old) (IsWrongAt (system_in table.now) inspection.entry.terms.steps n))) }
 {
     let mut line = Vec::new(alloc);
     next_line(input, &mut line)?;

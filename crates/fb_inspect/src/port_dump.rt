@@ -4,12 +4,11 @@ ghost use Rattle.std.specs.Prelude.{◌≡◌, ◌∷◌, ◌++◌, ℕ, List, [
 ghost use Rattle.fb_types.specs.Headline.{system_of};
 ghost use Rattle.fb_types.specs.Systems.{System as Flat};
 ghost use Rattle.fb_types.specs.declared.run.Line as run;
-ghost use Rattle.fb_system.specs.Lines.{BelongsTo};
+ghost use Rattle.fb_system.specs.OfSystem.{BelongsTo};
 ghost use Rattle.fb_trace.specs.End.{ending_of};
-ghost use Rattle.fb_inspect.specs.Looks.{opening_look};
-ghost use Rattle.fb_inspect.specs.Walking.{AreKept};
 ghost use Rattle.fb_inspect.specs.Dumping.{IsPortDump, IsTurned, Shows, ShowsLines, ShowsUntaken};
 ghost use Rattle.fb_inspect.specs.StateDumps.{Taken, cut_dump, state_dump};
+ghost use Rattle.fb_inspect.specs.OfSystem.{AreKept, opening_look};
 
 use crate::blocks::Remembered;
 use crate::head::put_head;
@@ -37,7 +36,7 @@ impl PortDump {
         blocks: &[Remembered],
         text: &mut Vec<u8>,
     ) -> Result<PortDump, AllocError>
-        requires { AreKept (system_of system.now) blocks.now (opening_look (system_of system.now)) }
+        requires { AreKept system.now blocks.now (opening_look system.now) }
         ensures numbers { IfOk result (IsPortDump (system_of system.now)) }
         ensures shown { text.old.items ≡ [] → IfOk result (Shows (system_of system.now) [] text.new.items) }
     {
@@ -64,7 +63,7 @@ impl PortDump {
     /// Shows a line of the tick.
     pub(crate) fn show_line(&mut self, system: &System, line: &Line) -> Result<(), AllocError>
         requires dump { IsPortDump (system_of system.now) self.old }
-        requires line { BelongsTo (system_of system.now) line.now }
+        requires line { BelongsTo system.now line.now }
         ensures numbers { OnOk result (IsPortDump (system_of system.now) self.new) }
         ensures shown { OnOk result (ShowsLines (system_of system.now) (line.now ∷ []) self.old self.new) }
     {
@@ -74,7 +73,7 @@ impl PortDump {
     /// Shows lines of the tick.
     pub(crate) fn show_lines(&mut self, system: &System, lines: &[Line]) -> Result<(), AllocError>
         requires dump { IsPortDump (system_of system.now) self.old }
-        requires lines { All (BelongsTo (system_of system.now)) lines.now }
+        requires lines { All (BelongsTo system.now) lines.now }
         ensures numbers { OnOk result (IsPortDump (system_of system.now) self.new) }
         ensures shown { OnOk result (ShowsLines (system_of system.now) lines.now self.old self.new) }
     {

@@ -3,23 +3,25 @@
 ghost use Rattle.std.specs.Prelude.{◌≡◌, ◌<◌, ◌≤◌, ◌+◌, ◌∷◌, ◌++◌, ℕ, List, Option, Some, [], All, IfErr, IfOk, IfSome, IsTrue, OnErr, OnOk, length, true, false};
 ghost use Rattle.std.specs.Io.KnownBytes.{Consumes, IsAtEnd};
 ghost use Rattle.fb_types.specs.Headline.{system_of};
-ghost use Rattle.fb_types.specs.Numbers.{path_at};
 ghost use Rattle.fb_types.specs.Systems.{System as Flat};
 ghost use Rattle.fb_types.specs.declared.run.Line as run;
-ghost use Rattle.fb_system.specs.Lines.{BelongsTo};
+ghost use Rattle.fb_types.specs.OfSystem.{IsInstance, kind_at, path_at};
+ghost use Rattle.fb_system.specs.OfSystem.{BelongsTo};
+ghost use Rattle.fb_inspect.specs.Walks.{system_in};
 ghost use Rattle.fb_inspect.specs.Inspections.{most};
 ghost use Rattle.fb_inspect.specs.Lines.{IsNext};
 ghost use Rattle.fb_inspect.specs.Looks.{Look};
 ghost use Rattle.fb_inspect.specs.Moves.{IsLineAt};
 ghost use Rattle.fb_inspect.specs.Refusals.{IsNoRefusal, IsWrongAt, OfRefusal};
 ghost use Rattle.fb_inspect.specs.Standing.{GoesAfter, StandsWell};
-ghost use Rattle.fb_inspect.specs.Walking.{AreKept, IsLookOf, unread};
+ghost use Rattle.fb_inspect.specs.Walking.{IsLookOf, unread};
 ghost use Rattle.fb_wave.specs.Named.{HasNames};
 ghost use Rattle.fb_inspect.specs.Dumping.{IsPortDump, Shows, ShowsUntaken};
 ghost use Rattle.fb_inspect.specs.Saved.{IsBefore};
 ghost use Rattle.fb_inspect.specs.StateDumps.{Taken};
 ghost use Rattle.fb_inspect.specs.StateWaves.{IsShownWith, WritesFront};
 ghost use Rattle.fb_inspect.specs.Waving.{CanShow, Finishes, FinishesCut, HasGoneOn, HasWaved, IsNextKept, SendsCutPart, SendsPart, ShowsTaking, WaveStarts};
+ghost use Rattle.fb_inspect.specs.OfSystem.{AreKept};
 
 use crate::Terms;
 use crate::ahead::Ahead;
@@ -69,8 +71,8 @@ fn keep_next(
     system: &System,
     walk: &Walk,
 ) -> Result<Option<EventAt>, AllocError>
-    requires next { (line : run.Line) → walk.now.trail.reading.next ≡ Next.Event line → line.instance < length (system_of system.now).paths }
-    requires kept { (look : Look) × AreKept (system_of system.now) walk.now.blocks.items look }
+    requires next { (line : run.Line) → walk.now.trail.reading.next ≡ Next.Event line → IsInstance system.now line.instance }
+    requires kept { (look : Look) × AreKept system.now walk.now.blocks.items look }
     ensures { IfOk result (IsNextKept (system_of system.now) walk.now before.new) }
 {
     let Next::Event(line) = &walk.trail.reading.next else {
@@ -118,9 +120,9 @@ impl StateWave {
         requires { CanShow (system_of system.now) at self.old }
         ensures numbers { OnOk result (IsPortDump (system_of system.now) self.new.dump) }
         ensures walk { self.new.walk ≡ self.old.walk }
-        ensures shown { (look after : Look) → let p = path_at (system_of system.now) at.instance in
-            IsBefore ((system_of system.now).kind p) self.old.before (look.blocks p)
-            → AreKept (system_of system.now) self.old.walk.blocks.items after
+        ensures shown { (look after : Look) → let p = path_at system.now at.instance in
+            IsBefore (kind_at system.now p) self.old.before (look.blocks p)
+            → AreKept system.now self.old.walk.blocks.items after
             → OnOk result (ShowsTaking (system_of system.now) at look after self.old self.new) }
     {
         system.facts();
@@ -137,8 +139,8 @@ impl StateWave {
     /// Shows the line of the event in which the trace is cut off, and those of its block that come after it.
     fn show_untaken(&mut self, system: &System, ahead: &Ahead) -> Result<(), AllocError>
         requires dump { IsPortDump (system_of system.now) self.old.dump }
-        requires next { (line : run.Line) × (self.old.walk.trail.reading.next ≡ Next.Event line) × BelongsTo (system_of system.now) line }
-        requires rows { All (BelongsTo (system_of system.now)) ahead.now.rows.items }
+        requires next { (line : run.Line) × (self.old.walk.trail.reading.next ≡ Next.Event line) × BelongsTo system.now line }
+        requires rows { All (BelongsTo system.now) ahead.now.rows.items }
         ensures numbers { OnOk result (IsPortDump (system_of system.now) self.new.dump) }
         ensures shown { (line : run.Line) (xs : List Taken) (sent : List ℕ) → self.old.walk.trail.reading.next ≡ Next.Event line
             → All (IsLineAt (system_of system.now) line.key.tick) ahead.now.rows.items
@@ -161,15 +163,15 @@ impl StateWave {
         ahead: &mut Ahead,
         input: &mut R,
     ) -> Result<Step, InspectError>
-        requires look { (look : Look) × IsLookOf (system_of fixed.now.table.now.system.now) self.old.walk.blocks.items self.old.walk.steps.items look }
-        requires next { (tick : ℕ) × IsNext (system_of fixed.now.table.now.system.now) fixed.now.form tick self.old.walk.trail.reading.line.items self.old.walk.trail.reading.next }
+        requires look { (look : Look) × IsLookOf (system_in fixed.now) self.old.walk.blocks.items self.old.walk.steps.items look }
+        requires next { (tick : ℕ) × IsNext (system_in fixed.now) fixed.now.form tick self.old.walk.trail.reading.line.items self.old.walk.trail.reading.next }
         requires limit { fixed.now.limit ≡ most }
         requires kept { self.old.walk.trail.passed.are_kept ≡ true }
-        requires dump { IsPortDump (system_of fixed.now.table.now.system.now) self.old.dump }
-        ensures goes { (known old new : Option (List ℕ)) → let sys = system_of fixed.now.table.now.system.now in
+        requires dump { IsPortDump (system_in fixed.now) self.old.dump }
+        ensures goes { (known old new : Option (List ℕ)) → let sys = system_in fixed.now in
             HasWaved sys fixed.now.form terms.steps self.old known (unread ahead.old (R.remaining input.old)) old new
             → IfOk result (HasGoneOn sys fixed.now.form terms.steps self.new known (unread ahead.new (R.remaining input.new)) old new) }
-        ensures stands { (rest text : List ℕ) → let sys = system_of fixed.now.table.now.system.now in terms.steps ≤ most → HasNames sys → R.remaining input.old ≡ Some rest
+        ensures stands { (rest text : List ℕ) → let sys = system_in fixed.now in terms.steps ≤ most → HasNames sys → R.remaining input.old ≡ Some rest
             → StandsWell sys fixed.now.form terms.steps self.old.walk ahead.old rest text → GoesAfter sys fixed.now.form terms.steps self.new.walk ahead.new (R.remaining input.new) text result }
         ensures cut { IfOk result (λ step. step ≡ Step.CutOff → terms.cut ≡ Cut.Allowed) }
     {
@@ -230,13 +232,13 @@ impl StateWave {
         input: &mut R,
         out: &mut W,
     ) -> Result<(), InspectError>
-        requires starts { WaveStarts (system_of fixed.now.table.now.system.now) fixed.now.form self.old }
+        requires starts { WaveStarts (system_in fixed.now) fixed.now.form self.old }
         requires limit { fixed.now.limit ≡ most }
         requires empty { ahead.old.text.items ≡ [] }
         ensures whole { (known : Option (List ℕ)) → Consumes known (R.remaining input.old) self.old.walk.trail.reading.line.items
-            → OnOk result (IfSome known (λ text. IsShownWith terms.cut (system_of fixed.now.table.now.system.now) terms.steps text (W.contents out.old) (W.contents out.new))) }
-        ensures fault { OnErr result (WritesFront (system_of fixed.now.table.now.system.now) terms.steps (W.contents out.old) (W.contents out.new)) }
-        ensures refused { (rest text : List ℕ) → let sys = system_of fixed.now.table.now.system.now in
+            → OnOk result (IfSome known (λ text. IsShownWith terms.cut (system_in fixed.now) terms.steps text (W.contents out.old) (W.contents out.new))) }
+        ensures fault { OnErr result (WritesFront (system_in fixed.now) terms.steps (W.contents out.old) (W.contents out.new)) }
+        ensures refused { (rest text : List ℕ) → let sys = system_in fixed.now in
             terms.steps ≤ most → HasNames sys → R.remaining input.old ≡ Some rest → StandsWell sys fixed.now.form terms.steps self.old.walk ahead.old rest text → text ≡ self.old.walk.trail.reading.line.items ++ rest
             → IfErr result (OfRefusal (λ n. IsWrongAt sys terms.steps n text)) }
     {

@@ -2,6 +2,7 @@
 
 ghost use Rattle.std.specs.Prelude.{◌≤◌, IfErr, IfOk, IfSome, OnErr, OnOk};
 ghost use Rattle.fb_types.specs.Headline.{system_of};
+ghost use Rattle.fb_wave.specs.Tables.{system_in};
 ghost use Rattle.fb_wave.specs.Named.{HasNames};
 ghost use Rattle.fb_inspect.specs.Looks.{most};
 ghost use Rattle.fb_inspect.specs.Refusals.{IsWrongAt, OfRefusal};
@@ -53,10 +54,10 @@ fn write_with<R: BufRead, W: Write>(
     input: &mut R,
     out: &mut W,
 ) -> Result<(), InspectError>
-    ensures whole { OnOk result (IfSome (R.remaining input.old) (λ text. IsShownWith terms.cut (system_of table.now.system.now) terms.steps text (W.contents out.old) (W.contents out.new))) }
-    ensures fault { OnErr result (WritesFront (system_of table.now.system.now) terms.steps (W.contents out.old) (W.contents out.new)) }
-    ensures refused { HasNames (system_of table.now.system.now) → terms.steps ≤ most
-        → IfErr result (OfRefusal (λ n. IfSome (R.remaining input.old) (IsWrongAt (system_of table.now.system.now) terms.steps n))) }
+    ensures whole { OnOk result (IfSome (R.remaining input.old) (λ text. IsShownWith terms.cut (system_in table.now) terms.steps text (W.contents out.old) (W.contents out.new))) }
+    ensures fault { OnErr result (WritesFront (system_in table.now) terms.steps (W.contents out.old) (W.contents out.new)) }
+    ensures refused { HasNames (system_in table.now) → terms.steps ≤ most
+        → IfErr result (OfRefusal (λ n. IfSome (R.remaining input.old) (IsWrongAt (system_in table.now) terms.steps n))) }
 {
     let mut line = Vec::new(alloc);
     next_line(input, &mut line)?;

@@ -18,3 +18,5 @@ pub mod Copying
 pub mod CutOff
 pub mod CurrentLines
 pub mod Faults
+pub mod Tables
+pub mod OfSystem

@@ -4,8 +4,8 @@ ghost use Rattle.std.specs.Prelude.{◌≡◌, ◌<◌, ◌+◌, ◌^◌, ◌++�
 ghost use Rattle.fb_types.specs.Blocks.{variable_names};
 ghost use Rattle.fb_types.specs.Headline.{system_of};
 ghost use Rattle.fb_types.specs.Names.{Name};
-ghost use Rattle.fb_types.specs.Numbers.{path_at, ports_at};
 ghost use Rattle.fb_types.specs.declared.value.Value.{Value};
+ghost use Rattle.fb_types.specs.OfSystem.{IsInstance, path_at, ports_at};
 ghost use Rattle.fb_wave.specs.Scopes as spec;
 ghost use Rattle.fb_wave.specs.Signals.{size_of};
 
@@ -102,10 +102,10 @@ pub(crate) fn put_instance(
     first: usize,
     instance: u32,
 ) -> Result<(), AllocError>
-    requires instance { instance < length (system_of system.now).paths }
-    requires first { first + size_of (ports_at (system_of system.now) (path_at (system_of system.now) instance)) < 2 ^ 64 }
-    ensures { OnOk result (let sys = system_of system.now in let p = path_at sys instance in
-        text.new.items ≡ text.old.items ++ spec.ports_begun (spec.initial_in sys p) first (ports_at sys p)) }
+    requires instance { IsInstance system.now instance }
+    requires first { first + size_of (ports_at system.now (path_at system.now instance)) < 2 ^ 64 }
+    ensures { OnOk result (let p = path_at system.now instance in
+        text.new.items ≡ text.old.items ++ spec.ports_begun (spec.initial_in (system_of system.now) p) first (ports_at system.now p)) }
 {
     let inputs = system.initial_inputs(alloc, instance)?;
     let outputs = system.initial_outputs(alloc, instance)?;

@@ -1,14 +1,16 @@
 //! A dump, line by line.
 
-ghost use Rattle.std.specs.Prelude.{◌≡◌, ℕ, List, [], ◌∷◌, ◌++◌, slice_index_or, length, IfOk, OnOk};
+ghost use Rattle.std.specs.Prelude.{◌≡◌, ℕ, List, [], ◌∷◌, ◌++◌, length, IfOk, OnOk};
 ghost use Rattle.fb_types.specs.Headline.{system_of};
 ghost use Rattle.fb_types.specs.Systems.{System as Flat};
 ghost use Rattle.fb_types.specs.Text.{reason_text};
-ghost use Rattle.fb_system.specs.Lines.{BelongsTo};
+ghost use Rattle.fb_types.specs.OfSystem.{resource_name};
+ghost use Rattle.fb_system.specs.OfSystem.{BelongsTo};
 ghost use Rattle.fb_trace.specs.End.{ending_of};
 ghost use Rattle.fb_wave.specs.CutOff.{cut_text};
 ghost use Rattle.fb_wave.specs.Dumps.{dump_text, end_text, stop_comment};
-ghost use Rattle.fb_wave.specs.Writing.{HasShown, IsDump, Shows, Turns};
+ghost use Rattle.fb_wave.specs.Writing.{HasShown, Shows, Turns};
+ghost use Rattle.fb_wave.specs.OfSystem.{IsDump};
 
 use crate::change::{put_changes, put_time};
 use crate::head::put_head;
@@ -39,7 +41,7 @@ fn reason_text(reason: Reason) -> &'static [u8]
 
 /// The name of the resource with this number. Where there is none, it is empty.
 fn name_of(system: &System, resource: u32) -> &[u8]
-    ensures { result.now ≡ slice_index_or (system_of system.now).resource_names resource [] }
+    ensures { result.now ≡ resource_name system.now resource }
 {
     if (resource as usize) < system.resources() {
         system.resource_name(resource as usize)
@@ -97,7 +99,7 @@ impl Dump {
         system: &System,
         text: &mut Vec<u8>,
     ) -> Result<Dump, AllocError>
-        ensures numbers { IfOk result (IsDump (system_of system.now)) }
+        ensures numbers { IfOk result (IsDump system.now) }
         ensures shown { text.old.items ≡ [] → IfOk result (HasShown (system_of system.now) [] text.new.items) }
     {
         let signals = Signals::of(alloc, system)?;
@@ -112,9 +114,9 @@ impl Dump {
         line: &Line,
         text: &mut Vec<u8>,
     ) -> Result<(), AllocError>
-        requires dump { IsDump (system_of system.now) self.old }
-        requires line { BelongsTo (system_of system.now) line.now }
-        ensures numbers { OnOk result (IsDump (system_of system.now) self.new) }
+        requires dump { IsDump system.now self.old }
+        requires line { BelongsTo system.now line.now }
+        ensures numbers { OnOk result (IsDump system.now self.new) }
         ensures shown { (ls : List Line) (sent : List ℕ) → HasShown (system_of system.now) ls (sent ++ text.old.items) self.old
             → OnOk result (HasShown (system_of system.now) (ls ++ line.now ∷ []) (sent ++ text.new.items) self.new) }
     {

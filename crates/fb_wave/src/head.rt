@@ -1,11 +1,11 @@
 //! The head of a dump: scopes, signals and their initial state.
 
-ghost use Rattle.std.specs.Prelude.{◌≡◌, ◌<◌, ◌≤◌, ◌+◌, ◌-◌, ◌++◌, IfOk, OnOk, drop, length};
+ghost use Rattle.std.specs.Prelude.{◌≡◌, ◌≤◌, ◌+◌, ◌-◌, ◌++◌, IfOk, OnOk, drop, length};
 ghost use Rattle.fb_types.specs.Headline.{system_of};
-ghost use Rattle.fb_types.specs.Numbers.{path_at, ports_at};
+ghost use Rattle.fb_types.specs.OfSystem.{IsInstance, path_at, ports_at};
 ghost use Rattle.fb_wave.specs.Scopes as spec;
 ghost use Rattle.fb_wave.specs.Signals.{first_signal};
-ghost use Rattle.fb_wave.specs.Writing.{AreFirsts};
+ghost use Rattle.fb_wave.specs.OfSystem.{AreFirsts};
 
 use crate::begun;
 use crate::scopes::{put_closed, put_opened};
@@ -23,8 +23,8 @@ fn rest_from(text: &[u8], count: usize) -> &[u8]
 
 /// The last part of the path of an instance: its name in its network.
 pub(crate) fn own_name(system: &System, instance: u32) -> &[u8]
-    requires { instance < length (system_of system.now).paths }
-    ensures { result.now ≡ spec.own_name (path_at (system_of system.now) instance) }
+    requires { IsInstance system.now instance }
+    ensures { result.now ≡ spec.own_name (path_at system.now instance) }
 {
     system.facts();
     let path = system.path(instance);
@@ -43,11 +43,11 @@ pub fn put_instance(
     depth: usize,
     instance: u32,
 ) -> Result<usize, AllocError>
-    requires firsts { AreFirsts (system_of system.now) firsts.now }
-    requires instance { instance < length (system_of system.now).paths }
-    ensures height { IfOk result (λ h. h ≡ length (path_at (system_of system.now) instance)) }
-    ensures text { OnOk result (let sys = system_of system.now in let p = path_at sys instance in
-        text.new.items ≡ text.old.items ++ (spec.closed (depth + 1 - length p) ++ spec.opened (spec.own_name p) ++ spec.ports_declared (first_signal sys instance) (ports_at sys p))) }
+    requires firsts { AreFirsts system.now firsts.now }
+    requires instance { IsInstance system.now instance }
+    ensures height { IfOk result (λ h. h ≡ length (path_at system.now instance)) }
+    ensures text { OnOk result (let p = path_at system.now instance in
+        text.new.items ≡ text.old.items ++ (spec.closed (depth + 1 - length p) ++ spec.opened (spec.own_name p) ++ spec.ports_declared (first_signal (system_of system.now) instance) (ports_at system.now p))) }
 {
     system.facts();
     let height = system.route(instance).len();
@@ -67,7 +67,7 @@ fn put_instances(
     firsts: &[usize],
     resource: usize,
 ) -> Result<(), AllocError>
-    requires { AreFirsts (system_of system.now) firsts.now }
+    requires { AreFirsts system.now firsts.now }
     ensures { OnOk result (text.new.items ≡ text.old.items
         ++ spec.instances_declared (system_of system.now) resource 0 0 (system_of system.now).paths) }
 {
@@ -89,7 +89,7 @@ pub fn put_begun(
     system: &System,
     firsts: &[usize],
 ) -> Result<(), AllocError>
-    requires { AreFirsts (system_of system.now) firsts.now }
+    requires { AreFirsts system.now firsts.now }
     ensures { OnOk result (text.new.items ≡ text.old.items
         ++ spec.instances_begun (system_of system.now) 0 (system_of system.now).paths) }
 {
@@ -102,7 +102,7 @@ pub fn put_begun(
 
 /// Appends the scopes of all resources.
 fn put_resources(text: &mut Vec<u8>, system: &System, firsts: &[usize]) -> Result<(), AllocError>
-    requires { AreFirsts (system_of system.now) firsts.now }
+    requires { AreFirsts system.now firsts.now }
     ensures { OnOk result (text.new.items ≡ text.old.items
         ++ spec.resources_declared (system_of system.now) 0 (system_of system.now).resource_names) }
 {
@@ -121,7 +121,7 @@ pub(crate) fn put_head(
     system: &System,
     firsts: &[usize],
 ) -> Result<(), AllocError>
-    requires { AreFirsts (system_of system.now) firsts.now }
+    requires { AreFirsts system.now firsts.now }
     ensures { OnOk result (text.new.items ≡ text.old.items ++ spec.head_text (system_of system.now)) }
 {
     text.extend_from_slice(b"$timescale 1 ms $end\n")?;

@@ -1,11 +1,12 @@
 //! The last line of a trace.
 
-ghost use Rattle.std.specs.Prelude.{◌≡◌, ◌<◌, ◌^◌, ℕ, ◌++◌, [], ◌∷◌, IfNone, IfSome, MatchOption, length, slice_index_or, codes, decimal};
+ghost use Rattle.std.specs.Prelude.{◌≡◌, ◌<◌, ◌^◌, ℕ, ◌++◌, [], ◌∷◌, IfNone, IfSome, MatchOption, codes, decimal};
 ghost use Rattle.fb_types.specs.Headline.{system_of};
 ghost use Rattle.fb_types.specs.Simulation.{AtStop};
-ghost use Rattle.fb_types.specs.Text.{last_line, tick_and_resource_text, reason_text};
+ghost use Rattle.fb_types.specs.Text.{tick_and_resource_text, reason_text};
+ghost use Rattle.fb_types.specs.OfSystem.{IsResource, last_line, resource_name};
 ghost use Rattle.fb_wave.specs.Lines.{IsLast, IsNoLast, IsNoStop, IsStop};
-ghost use Rattle.fb_wave.specs.Named.{HasNames};
+ghost use Rattle.fb_wave.specs.OfSystem.{HasNames};
 
 use crate::number::{magnitude, tick};
 use crate::words::{after_front, cut};
@@ -15,10 +16,10 @@ use fb_types::{Reason, StopMark};
 
 /// The number of the resource with a name.
 pub fn resource_of(system: &System, name: &[u8]) -> Option<u32>
-    ensures within { IfSome result (λ r. r < length (system_of system.now).resource_names) }
-    ensures named { IfSome result (λ r. name.now ≡ slice_index_or (system_of system.now).resource_names r []) }
-    ensures none { IfNone result ((r : ℕ) → r < length (system_of system.now).resource_names
-        → name.now ≡ slice_index_or (system_of system.now).resource_names r [] → ⊥) }
+    ensures within { IfSome result (λ r. IsResource system.now r) }
+    ensures named { IfSome result (λ r. name.now ≡ resource_name system.now r) }
+    ensures none { IfNone result ((r : ℕ) → IsResource system.now r
+        → name.now ≡ resource_name system.now r → ⊥) }
 {
     system.facts();
     for resource in 0..system.resources() {
@@ -59,7 +60,7 @@ fn horizon_of(text: &[u8]) -> Option<u64>
 /// The stop of a resource in a text, with its line feed.
 fn stop_of(system: &System, text: &[u8]) -> Option<StopMark>
     ensures stop { IfSome result (IsStop (system_of system.now) text.now) }
-    ensures none { HasNames (system_of system.now) → IfNone result (IsNoStop (system_of system.now) text.now) }
+    ensures none { HasNames system.now → IfNone result (IsNoStop (system_of system.now) text.now) }
 {
     let tick = tick(text)?;
     let name = cut(tick.1)?;
@@ -75,7 +76,7 @@ fn stop_of(system: &System, text: &[u8]) -> Option<StopMark>
 /// The end in a text, with its line feed.
 pub fn read_last(system: &System, text: &[u8]) -> Option<Outcome>
     ensures last { IfSome result (IsLast (system_of system.now) text.now) }
-    ensures none { HasNames (system_of system.now) → IfNone result (IsNoLast (system_of system.now) text.now) }
+    ensures none { HasNames system.now → IfNone result (IsNoLast (system_of system.now) text.now) }
 {
     // A line that begins with a number is the line of an event.
     if let Some(b'0'..=b'9') = text.first() {

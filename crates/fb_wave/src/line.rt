@@ -2,11 +2,13 @@
 
 ghost use Rattle.std.specs.Prelude.{◌≡◌, ◌≤◌, ◌^◌, ◌++◌, IfNone, IfOk, IfSome, MatchOption};
 ghost use Rattle.fb_types.specs.Headline.{AreAccepted, system_of};
-ghost use Rattle.fb_types.specs.Numbers.{event_at, path_at, ports_at};
+ghost use Rattle.fb_types.specs.Numbers.{event_at};
 ghost use Rattle.fb_types.specs.Text.{key_text};
+ghost use Rattle.fb_types.specs.OfSystem.{path_at, ports_at};
+ghost use Rattle.fb_wave.specs.Tables.{system_in};
 ghost use Rattle.fb_wave.specs.Lines.{AreInRange, AreNoValuesOf, AreValuesOf, HasNoHead, IsHead, IsNoTextOf, IsTextOf};
 ghost use Rattle.fb_wave.specs.Named.{HasNames};
-ghost use Rattle.fb_wave.specs.Ports.{IsPortOf};
+ghost use Rattle.fb_wave.specs.OfSystem.{IsPortOf};
 
 use crate::number::{number, tick};
 use crate::ports::{Port, holder_of};
@@ -70,7 +72,7 @@ fn port_values(
     port: Port,
     text: &[u8],
 ) -> Result<Option<Values>, AllocError>
-    requires { IsPortOf (system_of system.now) port }
+    requires { IsPortOf system.now port }
     ensures values { IfOk result (λ o. IfSome o (AreValuesOf (system_of system.now) port text.now)) }
     ensures none { AreAccepted system.now → IfOk result (λ o. IfNone o (AreNoValuesOf (system_of system.now) port text.now)) }
 {
@@ -92,8 +94,8 @@ pub fn read_line(
     form: Form,
     text: &[u8],
 ) -> Result<Option<Line>, AllocError>
-    ensures line { IfOk result (λ o. IfSome o (λ l. IsTextOf (system_of table.now.system.now) form l text.now)) }
-    ensures none { HasNames (system_of table.now.system.now) → IfOk result (λ o. IfNone o (IsNoTextOf (system_of table.now.system.now) form text.now)) }
+    ensures line { IfOk result (λ o. IfSome o (λ l. IsTextOf (system_in table.now) form l text.now)) }
+    ensures none { HasNames (system_in table.now) → IfOk result (λ o. IfNone o (IsNoTextOf (system_in table.now) form text.now)) }
 {
     let Some(head) = parts_of(form, text) else {
         return Ok(None);

@@ -3,8 +3,9 @@
 ghost use Rattle.std.specs.Prelude.{◌≡◌, ◌<◌, ◌||◌, ℕ, [], IsTrue, true, false, length, slice_index_or};
 ghost use Rattle.std.specs.List.{list_all};
 ghost use Rattle.fb_types.specs.Headline.{system_of};
+ghost use Rattle.fb_types.specs.OfSystem.{IsInstance};
 ghost use Rattle.fb_wave.specs.Named as named;
-ghost use Rattle.fb_wave.specs.Named.{HasNames, is_named_at};
+ghost use Rattle.fb_wave.specs.OfSystem.{HasNames, is_named_at};
 
 use crate::head::own_name;
 use crate::words::is_digit;
@@ -80,15 +81,15 @@ fn are_ports_named(ports: &Ports) -> bool
 
 /// Whether an instance has a name, and all its ports.
 fn is_instance_named(system: &System, instance: u32) -> bool
-    requires { instance < length (system_of system.now).paths }
-    ensures { result ≡ is_named_at (system_of system.now) instance }
+    requires { IsInstance system.now instance }
+    ensures { result ≡ is_named_at system.now instance }
 {
     is_name(own_name(system, instance)) && are_ports_named(system.ports(instance))
 }
 
 fn are_instances_named(system: &System) -> bool
-    ensures named { IsTrue result → (k : ℕ) → k < length (system_of system.now).paths → is_named_at (system_of system.now) k ≡ true }
-    ensures unnamed { result ≡ false → (k : ℕ) × (k < length (system_of system.now).paths) × (is_named_at (system_of system.now) k ≡ false) }
+    ensures named { IsTrue result → (k : ℕ) → IsInstance system.now k → is_named_at system.now k ≡ true }
+    ensures unnamed { result ≡ false → (k : ℕ) × (IsInstance system.now k) × (is_named_at system.now k ≡ false) }
 {
     system.facts();
     for index in 0..system.count() {
@@ -113,8 +114,8 @@ fn are_resources_named(system: &System) -> bool
 
 /// Whether the resources of a system, its instances and their ports have names.
 pub(crate) fn has_names(system: &System) -> bool
-    ensures named { IsTrue result → HasNames (system_of system.now) }
-    ensures unnamed { result ≡ false → HasNames (system_of system.now) → ⊥ }
+    ensures named { IsTrue result → HasNames system.now }
+    ensures unnamed { result ≡ false → HasNames system.now → ⊥ }
 {
     are_resources_named(system) && are_instances_named(system)
 }

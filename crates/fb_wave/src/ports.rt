@@ -2,9 +2,10 @@
 
 ghost use Rattle.std.specs.Prelude.{◌≡◌, ◌<◌, ◌^◌, All, Contains, IfOk, OnOk, length, codes, if◌then◌else◌};
 ghost use Rattle.fb_types.specs.Headline.{system_of};
-ghost use Rattle.fb_types.specs.Numbers.{event_at, path_at, ports_at};
+ghost use Rattle.fb_types.specs.Numbers.{event_at};
 ghost use Rattle.fb_types.specs.Repeated.{Twice};
 ghost use Rattle.fb_types.specs.Systems.{System as Flat};
+ghost use Rattle.fb_types.specs.OfSystem.{IsResource, path_at, ports_at, resource_at};
 ghost use Rattle.fb_wave.specs.Ports as spec;
 ghost use Rattle.fb_wave.specs.Ports.{AreAdded, HasNone, IsPortOf};
 
@@ -86,10 +87,10 @@ fn event_name(ports: &Ports, taken: bool, event: u32) -> &[u8]
 }
 
 /// The number of the resource that holds a port.
-pub fn holder_of(system: &System, port: Port) -> u32
+pub(crate) fn holder_of(system: &System, port: Port) -> u32
     requires { IsPortOf (system_of system.now) port }
-    ensures held { result ≡ (system_of system.now).resource (path_at (system_of system.now) port.instance) }
-    ensures within { result < length (system_of system.now).resource_names }
+    ensures held { result ≡ resource_at system.now (path_at system.now port.instance) }
+    ensures within { IsResource system.now result }
 {
     system.facts();
     system.resource(port.instance) as u32

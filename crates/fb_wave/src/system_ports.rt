@@ -1,11 +1,10 @@
 //! The event ports of a system, with the texts that lines have of them.
 
 ghost use Rattle.std.specs.Prelude.{◌≡◌, All, Contains, IfOk, map};
-ghost use Rattle.fb_types.specs.Headline.{system_of};
 ghost use Rattle.fb_types.specs.Repeated.{Twice};
 ghost use Rattle.fb_wave.specs.Ports as spec;
-ghost use Rattle.fb_wave.specs.Ports.{IsPortOf};
 ghost use Rattle.fb_wave.specs.declared.ports.Port as declared;
+ghost use Rattle.fb_wave.specs.OfSystem.{IsPortOf, port_text};
 
 use crate::ports::{Port, port_text, ports_of};
 use fb_system::System;
@@ -22,16 +21,16 @@ pub struct SystemPorts<'a> {
     /// The text of each port, at the same index.
     pub(crate) texts: Vec<Name>,
     // The ports are those of the system, each once.
-    ghost are: { All (IsPortOf (system_of system.now)) ports.items },
-    ghost all: { (p : declared.Port) → IsPortOf (system_of system.now) p → ∥ Contains ports.items p ∥₁ },
+    ghost are: { All (IsPortOf system.now) ports.items },
+    ghost all: { (p : declared.Port) → IsPortOf system.now p → ∥ Contains ports.items p ∥₁ },
     ghost once: { ¬ (Twice ports.items) },
-    ghost texts_are: { texts.items ≡ map (spec.port_text (system_of system.now)) ports.items },
+    ghost texts_are: { texts.items ≡ map (port_text system.now) ports.items },
 }
 
 /// The texts of ports, each at the index of its port.
 fn texts_of(alloc: Global, system: &System, ports: &[Port]) -> Result<Vec<Name>, AllocError>
-    requires { All (IsPortOf (system_of system.now)) ports.now }
-    ensures { IfOk result (λ v. v.items ≡ map (spec.port_text (system_of system.now)) ports.now) }
+    requires { All (IsPortOf system.now) ports.now }
+    ensures { IfOk result (λ v. v.items ≡ map (port_text system.now) ports.now) }
 {
     let mut texts = Vec::new(alloc);
     for port in ports {

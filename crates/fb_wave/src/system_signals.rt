@@ -2,11 +2,12 @@
 
 ghost use Rattle.std.specs.Prelude.{◌≡◌, ◌<◌, ℕ, ◌+◌, List, [], ◌∷◌, ◌++◌, map, length, All, IfOk, OnOk};
 ghost use Rattle.fb_types.specs.Headline.{system_of};
-ghost use Rattle.fb_system.specs.Lines.{BelongsTo};
+ghost use Rattle.fb_system.specs.OfSystem.{BelongsTo};
 ghost use Rattle.fb_wave.specs.Levels.{AreLevels};
 ghost use Rattle.fb_wave.specs.LineSignals.{fired, pairs, set_by, touched};
 ghost use Rattle.fb_wave.specs.Signals as spec;
-ghost use Rattle.fb_wave.specs.Writing.{AreFirsts, AreMarks, AreSignals};
+ghost use Rattle.fb_wave.specs.Writing.{AreMarks};
+ghost use Rattle.fb_wave.specs.OfSystem.{AreFirsts, AreSignals};
 
 use crate::levels::Levels;
 use fb_system::System;
@@ -35,8 +36,8 @@ pub(crate) struct Marks<'a> {
 
 /// The signals of a line, by the numbers of the first signals of instances.
 fn marks_of<'a>(firsts: &[usize], system: &'a System, line: &Line) -> Marks<'a>
-    requires firsts { AreFirsts (system_of system.now) firsts.now }
-    requires line { BelongsTo (system_of system.now) line.now }
+    requires firsts { AreFirsts system.now firsts.now }
+    requires line { BelongsTo system.now line.now }
     ensures { AreMarks (system_of system.now) line.now result }
 {
     let ports = system.ports(line.instance);
@@ -72,7 +73,7 @@ fn add_ports(levels: &mut Levels, ports: &Ports) -> Result<(), AllocError>
 /// the count of signals.
 fn firsts_of(alloc: Global, system: &System, levels: &mut Levels) -> Result<Vec<usize>, AllocError>
     requires { AreLevels 0 [] [] [] levels.old }
-    ensures firsts { IfOk result (λ v. AreFirsts (system_of system.now) v.items) }
+    ensures firsts { IfOk result (λ v. AreFirsts system.now v.items) }
     ensures levels { OnOk result (AreLevels (spec.sizes_of (system_of system.now) (system_of system.now).paths) [] [] [] levels.new) }
 {
     system.facts();
@@ -126,7 +127,7 @@ fn show_all(
 impl Signals {
     /// The signals of a system before its first line.
     pub fn of(alloc: Global, system: &System) -> Result<Signals, AllocError>
-        ensures signals { IfOk result (AreSignals (system_of system.now)) }
+        ensures signals { IfOk result (AreSignals system.now) }
         ensures levels { IfOk result (λ s. AreLevels (spec.sizes_of (system_of system.now) (system_of system.now).paths) [] [] [] s.levels) }
     {
         let mut levels = Levels::new(alloc);
@@ -136,9 +137,9 @@ impl Signals {
 
     /// Notes the event of a line, and the values with it.
     pub fn show(&mut self, system: &System, line: &Line) -> Result<(), AllocError>
-        requires signals { AreSignals (system_of system.now) self.old }
-        requires line { BelongsTo (system_of system.now) line.now }
-        ensures signals { AreSignals (system_of system.now) self.new }
+        requires signals { AreSignals system.now self.old }
+        requires line { BelongsTo system.now line.now }
+        ensures signals { AreSignals system.now self.new }
         ensures levels { (n : ℕ) (fires : List ℕ) (sets : List (ℕ × Value)) (touches : List ℕ) → AreLevels n fires sets touches self.old.levels
             → OnOk result (let sys = system_of system.now in
             AreLevels n (fires ++ fired sys line.now ∷ []) (sets ++ set_by sys line.now) (touches ++ touched sys line.now) self.new.levels) }

@@ -5,10 +5,10 @@ ghost use Rattle.fb_types.specs.Headline.{AreAccepted, system_of};
 ghost use Rattle.fb_types.specs.Limits.{IsWithinLimits};
 ghost use Rattle.fb_check_names.specs.Indexes.{IsIndex, names_in};
 ghost use Rattle.fb_wave.specs.Ports as spec;
-ghost use Rattle.fb_wave.specs.Named.{HasNames};
-ghost use Rattle.fb_wave.specs.Ports.{BeginsWith, HasNoPort, IsPortOf};
+ghost use Rattle.fb_wave.specs.Ports.{HasNoPort};
 ghost use Rattle.fb_wave.specs.declared.ports.Port as declared;
 ghost use Rattle.fb_wave.specs.Words.{HasNoThree, HasThree, is_ended};
+ghost use Rattle.fb_wave.specs.OfSystem.{BeginsWith, HasNames, IsPortOf, port_text};
 
 use crate::ports::Port;
 use crate::system_ports::SystemPorts;
@@ -29,10 +29,10 @@ pub struct PortTable<'a> {
     // The ports are those of the system. Each has its text, and the map has the indexes of the texts.
     ghost accepted: { AreAccepted system.now },
     ghost limits: { IsWithinLimits system.now.plan },
-    ghost ports_are: { All (IsPortOf (system_of system.now)) ports.now },
-    ghost all: { (p : declared.Port) → IsPortOf (system_of system.now) p → ∥ Contains ports.now p ∥₁ },
-    ghost texts_are: { texts.now ≡ map (spec.port_text (system_of system.now)) ports.now },
-    ghost index: { IsIndex (map (spec.port_text (system_of system.now)) ports.now) indexes },
+    ghost ports_are: { All (IsPortOf system.now) ports.now },
+    ghost all: { (p : declared.Port) → IsPortOf system.now p → ∥ Contains ports.now p ∥₁ },
+    ghost texts_are: { texts.now ≡ map (port_text system.now) ports.now },
+    ghost index: { IsIndex (map (port_text system.now) ports.now) indexes },
 }
 
 /// A guess of the port of the next line: the port that came last after the port of this line. A wrong guess only costs
@@ -113,7 +113,7 @@ impl<'a> PortTable<'a> {
         ports: &'a SystemPorts<'_>,
     ) -> Result<Option<PortTable<'a>>, AllocError>
         ensures system { IfOk result (λ o. IfSome o (λ t. t.system.now ≡ ports.now.system.now)) }
-        ensures some { HasNames (system_of ports.now.system.now) → IfOk result IsSome }
+        ensures some { HasNames ports.now.system.now → IfOk result IsSome }
     {
         ports.system.facts();
         let names = names_of(alloc, ports.texts.as_slice())?;
@@ -130,9 +130,9 @@ impl<'a> PortTable<'a> {
 
     /// The port at an index, if a text begins with its text, and what comes after it.
     fn at<'b>(&self, index: usize, text: &'b [u8]) -> Option<(Port, &'b [u8])>
-        ensures found { IfSome result (λ p. BeginsWith (system_of self.now.system.now) text.now p.0 p.1.now) }
+        ensures found { IfSome result (λ p. BeginsWith self.now.system.now text.now p.0 p.1.now) }
         ensures none { IfNone result ((p : Port) (rest : List ℕ) → slice_get self.now.ports.now index ≡ Some p
-            → BeginsWith (system_of self.now.system.now) text.now p rest → ⊥) }
+            → BeginsWith self.now.system.now text.now p rest → ⊥) }
     {
         let port = self.ports.get(index)?;
         let name = self.texts.get(index)?;
@@ -146,8 +146,8 @@ impl<'a> PortTable<'a> {
     /// The port whose text is the beginning of a text, and what comes after it. Its index is guessed, and looked up if the
     /// guess is wrong.
     pub fn find<'b>(&self, guess: &mut Guess, text: &'b [u8]) -> Option<(Port, &'b [u8])>
-        ensures found { IfSome result (λ p. BeginsWith (system_of self.now.system.now) text.now p.0 p.1.now) }
-        ensures none { HasNames (system_of self.now.system.now) → IfNone result (HasNoPort (system_of self.now.system.now) text.now) }
+        ensures found { IfSome result (λ p. BeginsWith self.now.system.now text.now p.0 p.1.now) }
+        ensures none { HasNames self.now.system.now → IfNone result (HasNoPort (system_of self.now.system.now) text.now) }
     {
         let guessed = guess.index();
         if let Some(found) = self.at(guessed, text) {

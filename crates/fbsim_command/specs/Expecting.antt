@@ -8,14 +8,14 @@ use Rattle.fb_types.specs.Headline.{Inputs, system_of}
 use Rattle.fb_sim.specs.Given.{Given}
 use Rattle.fb_sim.specs.Serial.{Declares}
 use Rattle.fb_expect.specs.Judging.{Judges}
-use Rattle.fb_expect.specs.Places.{IsPlace, number_at}
+use Rattle.fb_expect.specs.Locations.{IsLocation, number_at}
 use Rattle.fb_expect.specs.Reading.{most_bytes, rules_of}
 use Rattle.fb_expect.specs.Reports.{are_well, plan, points}
 use Rattle.fb_expect.specs.declared.judging.Cut.{Cut}
 use Rattle.fb_expect.specs.declared.judging.Cut.TheVariants as cut
 use Rattle.fb_expect.specs.declared.judging.Judged.{Judged}
-use Rattle.fb_expect.specs.declared.place.RuleKey.{RuleKey}
-use Rattle.fb_expect.specs.declared.place.RulesPlace.{RulesPlace}
+use Rattle.fb_expect.specs.declared.location.RuleKey.{RuleKey}
+use Rattle.fb_expect.specs.declared.location.RulesLocation.{RulesLocation}
 use Rattle.fb_expect.specs.declared.rule.Rule.{Rule}
 use Rattle.fbsim_command.specs.Failures.{IsPartWritten, failure_of_source, refused_trace}
 use Rattle.fbsim_command.specs.Known.{IsUnknownAt, has_names}
@@ -304,10 +304,10 @@ Holds opens x old new bytes declared a b (Err BadOption) = ⊥
 -- ---- Notes
 
 -- The bytes are refused with this number at a place that is known.
-pub record IsPlaceOf (bytes : Text) (number : ℕ) : Type 0 where
-  pub place : RulesPlace
-  pub is : IsPlace bytes place
-  pub number_is : number_at place ≡ number
+pub record IsLocationOf (bytes : Text) (number : ℕ) : Type 0 where
+  pub location : RulesLocation
+  pub is : IsLocation bytes location
+  pub number_is : number_at location ≡ number
 
 -- The bytes are rules, and what is declared is refused with this number, as the note of a check says.
 pub record IsPlanNote (x : Expect) (lines : List ℕ) (declared : Option Given) (number : ℕ) (note : Text) : Type 0 where
@@ -316,7 +316,7 @@ pub record IsPlanNote (x : Expect) (lines : List ℕ) (declared : Option Given) 
   pub noted : IsNoteOfNumber (types_of x) (own_of x.declaration) (input_names_of x) lines given number note
 
 -- The bytes are rules, and what is declared does not have the pattern at a key of a rule.
-pub record IsUnknownPlace (bytes : Text) (declared : Option Given) (rule : ℕ) (key : RuleKey) : Type 0 where
+pub record IsUnknownLocation (bytes : Text) (declared : Option Given) (rule : ℕ) (key : RuleKey) : Type 0 where
   pub rules : List Rule
   pub are : rules_of bytes ≡ Ok rules
   pub given : Given
@@ -328,7 +328,7 @@ pub record IsUnknownPlace (bytes : Text) (declared : Option Given) (rule : ℕ) 
 -- The note is that of a place at which the refusal of this number applies.
 abbrev pub IsNoteAt : Expect → (bytes : Text) → (lines : List ℕ) → Option Given → (number : ℕ) → Text → Type 0
 IsNoteAt x bytes lines declared number note =
-    IsPlaceOf bytes number ⊎ IsPlanNote x lines declared number note ⊎ ((number ≡ 45) × ((rule : ℕ) × (key : RuleKey) × IsUnknownPlace bytes declared rule key))
+    IsLocationOf bytes number ⊎ IsPlanNote x lines declared number note ⊎ ((number ≡ 45) × ((rule : ℕ) × (key : RuleKey) × IsUnknownLocation bytes declared rule key))
 
 -- where a call that has read these files fails, such a note
 abbrev pub NotesRules : Expect → (bytes : Text) → (lines : List ℕ) → Option Given → End → Option Text → Type 0

@@ -13,9 +13,9 @@ use Rattle.fb_expect.specs.Events.{Event}
 use Rattle.fb_expect.specs.Patterns as patterns
 use Rattle.fb_expect.specs.declared.pattern.Condition.{Condition}
 use Rattle.fb_expect.specs.declared.pattern.Pattern.{Pattern}
-use Rattle.fb_expect.specs.Places.{pattern_keys}
-use Rattle.fb_expect.specs.declared.place.RuleKey.{RuleKey}
-use Rattle.fb_expect.specs.declared.place.RuleKey.TheVariants.{To}
+use Rattle.fb_expect.specs.Locations.{pattern_keys}
+use Rattle.fb_expect.specs.declared.location.RuleKey.{RuleKey}
+use Rattle.fb_expect.specs.declared.location.RuleKey.TheVariants.{To}
 use Rattle.fb_expect.specs.declared.rule.Rule.{Rule}
 
 -- ---- Ports

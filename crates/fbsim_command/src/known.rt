@@ -5,8 +5,9 @@ ghost use Rattle.std.specs.List.{list_any};
 ghost use Rattle.fb_system.specs.IndexLists.{AreIndexes, variable_at};
 ghost use Rattle.fb_types.specs.Headline.{system_of};
 ghost use Rattle.fb_types.specs.Names.{same_name};
-ghost use Rattle.fb_types.specs.Numbers.{event_at, path_at, ports_at};
+ghost use Rattle.fb_types.specs.Numbers.{event_at};
 ghost use Rattle.fb_types.specs.Text.{path_text};
+ghost use Rattle.fb_types.specs.OfSystem.{IsInstance, path_at, ports_at, resource_at};
 ghost use Rattle.fb_expect.specs.Patterns as patterns;
 ghost use Rattle.fbsim_command.specs.Known as spec;
 
@@ -50,7 +51,7 @@ fn event_name(ports: &Ports, taken: bool, event: u32) -> &[u8]
 
 /// The indexes of the variables WITH an event of an instance.
 fn indexes_with(system: &System, instance: u32, taken: bool, event: u32) -> &[u32]
-    requires instance { instance < length (system_of system.now).paths }
+    requires instance { IsInstance system.now instance }
     requires event { event < length (spec.events_of (spec.ports_of (system_of system.now) instance) taken) }
     ensures { let its = spec.ports_of (system_of system.now) instance in AreIndexes (spec.variables_of its taken) (spec.names_with its taken event) result.now }
 {
@@ -100,8 +101,8 @@ fn port_text(alloc: Global, path: &[u8], event: &[u8]) -> Result<Vec<u8>, AllocE
 
 /// The name of the resource that holds an instance.
 fn resource_name(system: &System, instance: u32) -> &[u8]
-    requires { instance < length (system_of system.now).paths }
-    ensures { result.now ≡ slice_index_or (system_of system.now).resource_names ((system_of system.now).resource (path_at (system_of system.now) instance)) [] }
+    requires { IsInstance system.now instance }
+    ensures { result.now ≡ slice_index_or (system_of system.now).resource_names (resource_at system.now (path_at system.now instance)) [] }
 {
     system.facts();
     system.resource_name(system.resource(instance))
@@ -116,7 +117,7 @@ fn is_there(
     taken: bool,
     event: u32,
 ) -> Result<bool, AllocError>
-    requires instance { instance < length (system_of system.now).paths }
+    requires instance { IsInstance system.now instance }
     requires event { event < length (spec.events_of (spec.ports_of (system_of system.now) instance) taken) }
     ensures { IfOk result (λ b. b ≡ patterns.is_at pattern.now (spec.event_there (system_of system.now) instance taken event)) }
 {
@@ -139,7 +140,7 @@ fn is_of(
     taken: bool,
     event: u32,
 ) -> Result<bool, AllocError>
-    requires instance { instance < length (system_of system.now).paths }
+    requires instance { IsInstance system.now instance }
     requires event { event < length (spec.events_of (spec.ports_of (system_of system.now) instance) taken) }
     ensures { IfOk result (λ b. b ≡ spec.is_of (system_of system.now) pattern.now instance taken event) }
 {
@@ -157,7 +158,7 @@ fn any_event(
     instance: u32,
     taken: bool,
 ) -> Result<bool, AllocError>
-    requires { instance < length (system_of system.now).paths }
+    requires { IsInstance system.now instance }
     ensures { IfOk result (λ b. b ≡ spec.any_event (system_of system.now) pattern.now instance taken) }
 {
     let count = events_of(system.ports(instance), taken).len();
@@ -176,7 +177,7 @@ fn any_port(
     pattern: &Pattern,
     instance: u32,
 ) -> Result<bool, AllocError>
-    requires { instance < length (system_of system.now).paths }
+    requires { IsInstance system.now instance }
     ensures { IfOk result (λ b. b ≡ spec.any_port (system_of system.now) pattern.now instance) }
 {
     let is_taken = any_event(alloc, system, pattern, instance, true)?;
@@ -252,7 +253,7 @@ fn unknown_key(alloc: Global, system: &System, rule: &Rule) -> Result<Option<Rul
 }
 
 /// The first rule with a pattern that no port has, counted from 0, and its key.
-pub(crate) fn unknown_place(
+pub(crate) fn unknown_location(
     alloc: Global,
     system: &System,
     rules: &[Rule],

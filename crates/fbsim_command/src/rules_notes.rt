@@ -1,10 +1,10 @@
-//! What is reported after the line of a call that holds rules against traces and fails: its place.
+//! What is reported after the line of a call that holds rules against traces and fails: its location.
 
 ghost use Rattle.std.specs.Prelude.{◌≡◌, ℕ, IfOk, IfSome, Some, option_map, string_bytes};
 ghost use Rattle.fb_types.specs.Headline.{Inputs, system_of};
-ghost use Rattle.fb_expect.specs.declared.place.RuleKey.{RuleKey};
+ghost use Rattle.fb_expect.specs.declared.location.RuleKey.{RuleKey};
 ghost use Rattle.fb_sim.specs.Serial.{Declares};
-ghost use Rattle.fbsim_command.specs.Expecting.{IsNamesFileNote, IsNoteAt, IsPlaceOf, IsRulesFileNote, IsUnknownPlace, NotesRules, input_names_of, own_of, types_of};
+ghost use Rattle.fbsim_command.specs.Expecting.{IsNamesFileNote, IsNoteAt, IsLocationOf, IsRulesFileNote, IsUnknownLocation, NotesRules, input_names_of, own_of, types_of};
 ghost use Rattle.fbsim_command.specs.Known.{IsUnknownAt};
 ghost use Rattle.fbsim_command.specs.Notes.{IsNoteOfNumber, Notes};
 ghost use Rattle.fbsim_command.specs.Texts.{given_of, lines_of, may_lines_of};
@@ -13,12 +13,12 @@ use crate::Expect;
 use crate::expect::{files_of, own_name};
 use crate::failure::Failure;
 use crate::input_notes::InputNames;
-use crate::known::unknown_place;
+use crate::known::unknown_location;
 use crate::notes::{note_of_file, note_of_name, note_of_number, number_of};
 use crate::sources::SourceFault;
 use crate::statuses::Done;
 use crate::texts::{Texts, Unread};
-use fb_expect::{Rule, RuleKey, UNKNOWN_NAME, read_rules, rules_place};
+use fb_expect::{Rule, RuleKey, UNKNOWN_NAME, read_rules, rules_location};
 use fb_sim::{discard, open};
 use fb_why::{rules_message, unknown_key_message};
 use std::alloc::Global;
@@ -54,16 +54,16 @@ pub(crate) fn note_of_names(alloc: Global, expect: &Expect<'_>, unread: Unread) 
 }
 
 /// Where rules are refused with this number.
-fn note_of_place(alloc: Global, number: u8, bytes: &[u8]) -> Option<String>
-    ensures { IfSome result (λ note. IsPlaceOf bytes.now number) }
+fn note_of_location(alloc: Global, number: u8, bytes: &[u8]) -> Option<String>
+    ensures { IfSome result (λ note. IsLocationOf bytes.now number) }
 {
-    let Ok(Some(place)) = rules_place(alloc, bytes) else {
+    let Ok(Some(location)) = rules_location(alloc, bytes) else {
         return None;
     };
-    if place.number() != number {
+    if location.number() != number {
         return None;
     }
-    match rules_message(alloc, bytes, place) {
+    match rules_message(alloc, bytes, location) {
         Ok(note) => Some(note),
         Err(_) => None,
     }
@@ -78,15 +78,15 @@ fn unknown_of(
     ensures { IfOk result (λ o. IfSome o (λ p. (i : Inputs) × Declares (given_of texts.now) i × IsUnknownAt (system_of i) rules.now p.0 p.1)) }
 {
     let system = open(alloc, &texts.inputs())?;
-    let place = unknown_place(alloc, &system, rules);
+    let location = unknown_location(alloc, &system, rules);
     // Dropped by one call: the end of its scope would prove the drop part by part.
     discard(system);
-    Ok(place?)
+    Ok(location?)
 }
 
 /// Which pattern of the rules is unknown to what is declared.
 fn note_of_unknown(alloc: Global, bytes: &[u8], texts: &Texts) -> Option<String>
-    ensures { IfSome result (λ note. (rule : ℕ) × (key : RuleKey) × IsUnknownPlace bytes.now (Some (given_of texts.now)) rule key) }
+    ensures { IfSome result (λ note. (rule : ℕ) × (key : RuleKey) × IsUnknownLocation bytes.now (Some (given_of texts.now)) rule key) }
 {
     let Ok(rules) = read_rules(alloc, bytes) else {
         return None;
@@ -130,7 +130,7 @@ fn note_at(
             return note_of_plan(alloc, expect, number, texts);
         }
     }
-    note_of_place(alloc, number, bytes)
+    note_of_location(alloc, number, bytes)
 }
 
 /// The note to a call that has read these files and ends so, where one is asked for.

@@ -1,16 +1,15 @@
 //! Whether lines and ends belong to a system, which is what may be written.
 
 ghost use Rattle.std.specs.Prelude.{◌↔◌, All, IsTrue};
-ghost use Rattle.fb_types.specs.Headline.{system_of};
-ghost use Rattle.fb_system.specs.Lines.{BelongsTo};
-ghost use Rattle.fb_trace.specs.End.{EndsIn};
+ghost use Rattle.fb_system.specs.OfSystem.{BelongsTo};
+ghost use Rattle.fb_trace.specs.OfSystem.{EndsIn};
 
 use fb_system::System;
 use fb_trace::Outcome;
 use fb_types::Line;
 
 fn belongs(system: &System, line: &Line) -> bool
-    ensures { IsTrue result → BelongsTo (system_of system.now) line.now }
+    ensures { IsTrue result → BelongsTo system.now line.now }
 {
     if line.instance as usize >= system.count()
         || line.key.resource as usize >= system.resources()
@@ -29,7 +28,7 @@ fn belongs(system: &System, line: &Line) -> bool
 }
 
 pub fn all_belong(system: &System, lines: &[Line]) -> bool
-    ensures { IsTrue result → All (BelongsTo (system_of system.now)) lines.now }
+    ensures { IsTrue result → All (BelongsTo system.now) lines.now }
 {
     for line in lines {
         if !belongs(system, line) {
@@ -40,7 +39,7 @@ pub fn all_belong(system: &System, lines: &[Line]) -> bool
 }
 
 pub fn ends_in(system: &System, end: &Outcome) -> bool
-    ensures { IsTrue result → EndsIn (system_of system.now) end.now }
+    ensures { IsTrue result → EndsIn system.now end.now }
 {
     match end {
         Outcome::End(_) => true,

@@ -1,13 +1,13 @@
 //! Resources of accepted systems, and the calls on them, each with what the next one asks for.
 
-ghost use Rattle.std.specs.Prelude.{◌≡◌, ◌<◌, ℕ, All, IsTrue, None, length};
-ghost use Rattle.fb_types.specs.Headline.{system_of};
+ghost use Rattle.std.specs.Prelude.{◌≡◌, ◌<◌, ℕ, All, IsTrue, None};
 ghost use Rattle.fb_types.specs.Reactions.{World};
 ghost use Rattle.fb_types.specs.declared.key.Key.{Key};
+ghost use Rattle.fb_types.specs.OfSystem.{IsResource};
+ghost use Rattle.fb_laws.specs.OfSystem.{AreTyped};
 ghost use Rattle.fb_agenda.specs.Agendas.{waiting};
-ghost use Rattle.fb_laws.specs.Typed.{AreTyped};
+ghost use Rattle.fb_system.specs.OfSystem.{BelongsTo};
 ghost use Rattle.fb_net.specs.Worlds.{IsForest};
-ghost use Rattle.fb_system.specs.Lines.{BelongsTo};
 ghost use Rattle.fb_resource.specs.Posts.{IsMessage};
 ghost use Rattle.fb_resource.specs.Resources.{IsFor, IsOf};
 
@@ -80,8 +80,8 @@ pub fn opened(rt: &impl Abort, alloc: Global, system: &System, number: u32) -> R
 
 /// The blocks of the resource of a number, as they are before the first event. Their values fit their types.
 pub fn built(rt: &impl Abort, alloc: Global, system: &System, number: u32) -> Tree
-    ensures belongs { (w : World) × IsForest system.now result w × AreTyped (system_of system.now) w }
-    ensures named { result.resource < length (system_of system.now).resource_names }
+    ensures belongs { (w : World) × IsForest system.now result w × AreTyped system.now w }
+    ensures named { IsResource system.now result.resource }
     ensures number { result.resource ≡ number }
 {
     assert!(rt; (number as usize) < system.resources());
@@ -113,7 +113,7 @@ pub fn run(
     steps: u64,
 ) -> Ran
     requires { IsOf system.now resource }
-    ensures lines { All (BelongsTo (system_of system.now)) result.lines.items }
+    ensures lines { All (BelongsTo system.now) result.lines.items }
     ensures sent { All (IsMessage system.now) result.sent.items }
 {
     assert!(rt; resource.stopped().is_none() && to >= resource.clock());
@@ -148,7 +148,7 @@ pub fn expect_text(
     lines: &[Line],
     text: &[u8],
 )
-    requires { All (BelongsTo (system_of system.now)) lines.now }
+    requires { All (BelongsTo system.now) lines.now }
 {
     for step in [1, 2, 3, ALL_AT_ONCE] {
         let mut out = Narrow::new(alloc, step);

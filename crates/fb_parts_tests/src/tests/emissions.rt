@@ -43,14 +43,15 @@ fn an_emission_with_a_value_stays(rt: HostRuntime) {
 #[test]
 fn the_only_emission_with_one_value_is_its_event_and_the_value(rt: HostRuntime) {
     let mut emits = Emits::new(rt.alloc());
-    assert!(rt; emits.pop_one().is_none());
+    assert!(rt; emits.only().is_none());
     emits.push_bare(7).expect(&rt, "memory");
-    assert!(rt; emits.pop_one().is_none());
+    assert!(rt; emits.only().is_none());
     assert!(rt; emits.pop_bare() == Some(7));
     emits.push_one(3, Value::Whole(5)).expect(&rt, "memory");
-    let Some((event, value)) = emits.pop_one() else {
+    let Some((event, value)) = emits.only() else {
         panic!(rt; "one emission with one value");
     };
-    assert!(rt; event == 3 && value == Value::Whole(5));
+    assert!(rt; event == 3 && *value == Value::Whole(5));
+    emits.clear();
     assert!(rt; emits.is_empty());
 }

@@ -2,9 +2,8 @@
 
 ghost use Rattle.std.specs.Prelude.{◌^◌, ◌≤◌, List, All};
 ghost use Rattle.std.specs.List.{AllZip};
-ghost use Rattle.fb_types.specs.Headline.{system_of};
 ghost use Rattle.fb_types.specs.States as model;
-ghost use Rattle.fb_system.specs.Lines.{BelongsTo};
+ghost use Rattle.fb_system.specs.OfSystem.{BelongsTo};
 ghost use Rattle.fb_window.specs.Jobs.{Does};
 ghost use Rattle.fb_sim.specs.Rounds.{HasCome};
 ghost use Rattle.fb_sim_tests.specs.ByHand.{IsPutBack};
@@ -133,7 +132,7 @@ fn window<R: Abort>(
 
 /// Writes lines that a round hands out.
 fn hand_out<R: Abort>(rt: &R, system: &System, form: Form, lines: Vec<Line>, out: &mut Vec<u8>)
-    requires { All (BelongsTo (system_of system.now)) lines.items }
+    requires { All (BelongsTo system.now) lines.items }
 {
     write_lines(out, system, form, lines.as_slice()).expect(rt, "written");
     forget(lines);

@@ -1,8 +1,10 @@
-use Rattle.std.proofs.Common.{◌≡◌, [], get_or, refl, sym, ap, ◌∙◌}
+use Rattle.std.proofs.Common.{◌≡◌, ◌<◌, ℕ, [], get_or, length, refl, sym, subst, ap, ◌∙◌}
 use Rattle.std.proofs.lemmas.Bool.Decides.{Decides-eqb}
 use Rattle.std.proofs.lemmas.Slice.Eq.{slice_eq-Decides}
 use Rattle.fb_types.specs.Headline.{system_of}
+use Rattle.fb_types.specs.Numbers.{path_at}
 use Rattle.fb_wave.specs.Ports.{holder_name}
+use Rattle.fb_wave.proofs.Bounds.{resource_named}
 use Rattle.fb_inspect.specs.LineFaults.{path_event, sign_text}
 use Rattle.fb_inspect.proofs.Named.{alike, differ}
 use Rattle.fb_inspect.proofs.Ported.{begins_with, renamed}
@@ -15,12 +17,18 @@ returns-in_default-resource_of c =
 pub returns-in-Err : goal.returns-in-Err
 returns-in-Err c = c.in-Err.ensures.fault c.args.text.now c.in-Some.ensures
 
+pub resource_name-requires : goal.resource_name-requires
+resource_name-requires c =
+    let sys = system_of c.args.system.now in
+    subst (λ (r : ℕ). r < length sys.resource_names) (sym c.resource-holder.ensures)
+    (resource_named c.args.system.now (path_at sys c.in-Ok.port.instance) c.facts.ensures.limits)
+
 pub returns-then-ne : goal.returns-then-ne
 returns-then-ne c =
     let sys = system_of c.args.system.now in
     let w = c.in-Some.words in
     let p = c.in-Ok.port in
-    let held : c.resource_name.result.now ≡ holder_name sys p.instance = c.resource_name.ensures ∙ ap (λ r. get_or sys.resource_names r []) c.holder_of.ensures.held in (
+    let held : c.resource_name.result.now ≡ holder_name sys p.instance = c.resource_name.ensures ∙ ap (λ r. get_or sys.resource_names r []) c.resource-holder.ensures in (
       w.resource.now,
       w.rest.now,
       renamed c.args.text.now w.resource.now w.sign.now w.port.now w.rest.now (sign_text p.taken) (path_event sys p) c.in-Ok.ensures.sign c.in-Ok.ensures.named c.in-Some.ensures,
@@ -33,7 +41,7 @@ returns-in-Some-port_values_fault c =
     let sys = system_of c.args.system.now in
     let w = c.in-Some.words in
     let p = c.in-Ok.port in
-    let held : c.resource_name.result.now ≡ holder_name sys p.instance = c.resource_name.ensures ∙ ap (λ r. get_or sys.resource_names r []) c.holder_of.ensures.held in
+    let held : c.resource_name.result.now ≡ holder_name sys p.instance = c.resource_name.ensures ∙ ap (λ r. get_or sys.resource_names r []) c.resource-holder.ensures in
     let home : c.resource_name.result.now ≡ w.resource.now =
     alike _ c.ne.result (slice_eq-Decides Decides-eqb c.resource_name.result.now w.resource.now _ refl) c.ne.ensures c.if-ne.false
     in (
@@ -47,7 +55,7 @@ returns-in-None c =
     let sys = system_of c.args.system.now in
     let w = c.in-Some.words in
     let p = c.in-Ok.port in
-    let held : c.resource_name.result.now ≡ holder_name sys p.instance = c.resource_name.ensures ∙ ap (λ r. get_or sys.resource_names r []) c.holder_of.ensures.held in
+    let held : c.resource_name.result.now ≡ holder_name sys p.instance = c.resource_name.ensures ∙ ap (λ r. get_or sys.resource_names r []) c.resource-holder.ensures in
     let home : c.resource_name.result.now ≡ w.resource.now =
     alike _ c.ne.result (slice_eq-Decides Decides-eqb c.resource_name.result.now w.resource.now _ refl) c.ne.ensures c.if-ne.false
     in

@@ -2,7 +2,7 @@ use Rattle.std.proofs.Common.{List, ℕ, ◌≡◌, Bor, option_map, subst}
 use Rattle.toml.specs.Data.{get_member}
 use Rattle.toml.specs.View.{table_view, view}
 use Rattle.toml.proofs.Views.{table_get}
-use Rattle.fb_expect.proofs.place.value_at.Goals as goal
+use Rattle.fb_expect.proofs.location.value_at.Goals as goal
 
 pub returns : goal.returns
 returns c =

@@ -1,4 +1,4 @@
--- Where rules are refused (E40 to E44), with `--why`: the place, and what is wrong there (docs/FORMATS.md; this project's own).
+-- Where rules are refused (E40 to E44), with `--why`: the location, and what is wrong there (docs/FORMATS.md; this project's own).
 use Rattle.std.specs.Prelude.{◌≡◌, ◌⊎◌, ◌≤◌, ℕ, Bool, true, false, not, if◌then◌else◌, nat_le, nat_lt, ℤ, List, length, Option, Some, None, is_some, slice_get, codes}
 use Rattle.toml.specs.Data.{Data, Members, get_member, as_str, as_integer, as_table}
 use Rattle.fb_expect.specs.Drafts.{RuleText, rule_text, rules_in, texts_of}
@@ -10,12 +10,12 @@ use Rattle.fb_expect.specs.Words.{Text}
 use Rattle.fb_expect.specs.Written.{pattern_of}
 use Rattle.fb_expect.specs.declared.document.NeedDraft.{NeedDraft}
 use Rattle.fb_expect.specs.declared.document.NeedDraft.TheVariants as draft
-use Rattle.fb_expect.specs.declared.place.RuleKey.{RuleKey}
-use Rattle.fb_expect.specs.declared.place.RuleKey.TheVariants as key
-use Rattle.fb_expect.specs.declared.place.RuleFault.{RuleFault}
-use Rattle.fb_expect.specs.declared.place.RuleFault.TheVariants as fault
-use Rattle.fb_expect.specs.declared.place.RulesPlace.{RulesPlace}
-use Rattle.fb_expect.specs.declared.place.RulesPlace.TheVariants as place
+use Rattle.fb_expect.specs.declared.location.RuleKey.{RuleKey}
+use Rattle.fb_expect.specs.declared.location.RuleKey.TheVariants as key
+use Rattle.fb_expect.specs.declared.location.RuleFault.{RuleFault}
+use Rattle.fb_expect.specs.declared.location.RuleFault.TheVariants as fault
+use Rattle.fb_expect.specs.declared.location.RulesLocation.{RulesLocation}
+use Rattle.fb_expect.specs.declared.location.RulesLocation.TheVariants as location
 use Rattle.fb_expect.specs.declared.rule.Need.{Need}
 use Rattle.fb_expect.specs.declared.rule.Need.TheVariants as need
 
@@ -145,8 +145,8 @@ pub record IsRuleAt (ds : List Data) (i : ℕ) (f : RuleFault) : Type 0 where
   pub there : slice_get ds i ≡ Some value
   pub so : IsRuleFault value f
 
-abbrev pub IsAmongValues : List Data → RulesPlace → Type 0
-IsAmongValues ds (place.Rule i f) = IsRuleAt ds i f
+abbrev pub IsAmongValues : List Data → RulesLocation → Type 0
+IsAmongValues ds (location.Rule i f) = IsRuleAt ds i f
 IsAmongValues ds _ = ⊥
 
 -- A text of the rule at an index is no pattern.
@@ -161,30 +161,30 @@ pub record IsNumberAt (ts : List RuleText) (i : ℕ) (k : RuleKey) : Type 0 wher
   pub there : slice_get ts i ≡ Some rule
   pub so : IsNumberFault rule k
 
-abbrev pub IsAmongTexts : List RuleText → RulesPlace → Type 0
-IsAmongTexts ts (place.Pattern i k) = IsPatternAt ts i k
-IsAmongTexts ts (place.Number i k) = IsNumberAt ts i k
-IsAmongTexts ts place.Crowded = nat_lt most_rules (length ts) ≡ true
+abbrev pub IsAmongTexts : List RuleText → RulesLocation → Type 0
+IsAmongTexts ts (location.Pattern i k) = IsPatternAt ts i k
+IsAmongTexts ts (location.Number i k) = IsNumberAt ts i k
+IsAmongTexts ts location.Crowded = nat_lt most_rules (length ts) ≡ true
 IsAmongTexts ts _ = ⊥
 
 -- This is wrong with a document.
-abbrev pub IsDocumentFault : Members → RulesPlace → Type 0
-IsDocumentFault keys place.List = rules_in keys ≡ None
-IsDocumentFault keys (place.Rule i f) = (ds : List Data) × (rules_in keys ≡ Some ds) × IsRuleAt ds i f
+abbrev pub IsDocumentFault : Members → RulesLocation → Type 0
+IsDocumentFault keys location.List = rules_in keys ≡ None
+IsDocumentFault keys (location.Rule i f) = (ds : List Data) × (rules_in keys ≡ Some ds) × IsRuleAt ds i f
 IsDocumentFault keys p = (ts : List RuleText) × (texts_of keys ≡ Some ts) × IsAmongTexts ts p
 
 -- This is wrong with bytes.
-abbrev pub IsPlace : Text → RulesPlace → Type 0
-IsPlace bytes place.Bytes = nat_le (length bytes) most_bytes ≡ false
-IsPlace bytes (place.Document at) = (document bytes ≡ None) × (at ≤ length bytes)
-IsPlace bytes p = (keys : Members) × (document bytes ≡ Some keys) × IsDocumentFault keys p
+abbrev pub IsLocation : Text → RulesLocation → Type 0
+IsLocation bytes location.Bytes = nat_le (length bytes) most_bytes ≡ false
+IsLocation bytes (location.Document at) = (document bytes ≡ None) × (at ≤ length bytes)
+IsLocation bytes p = (keys : Members) × (document bytes ≡ Some keys) × IsDocumentFault keys p
 
 -- the number of the refusal
-abbrev pub number_at : RulesPlace → ℕ
-number_at place.Bytes = over_limit
-number_at place.Crowded = over_limit
-number_at (place.Document at) = no_document
-number_at place.List = bad_shape
-number_at (place.Rule i f) = bad_shape
-number_at (place.Pattern i k) = bad_pattern
-number_at (place.Number i k) = bad_number
+abbrev pub number_at : RulesLocation → ℕ
+number_at location.Bytes = over_limit
+number_at location.Crowded = over_limit
+number_at (location.Document at) = no_document
+number_at location.List = bad_shape
+number_at (location.Rule i f) = bad_shape
+number_at (location.Pattern i k) = bad_pattern
+number_at (location.Number i k) = bad_number

@@ -4,13 +4,13 @@ use Rattle.std.specs.Prelude.{is_some}
 use Rattle.toml.specs.Errors.{IsMemory}
 use Rattle.toml.specs.View.{table_view}
 use Rattle.fb_expect.proofs.Outcomes.{is_document, is_no_document}
-use Rattle.fb_expect.proofs.Placing.{placed}
-use Rattle.fb_expect.proofs.place.rules_place.Goals as goal
+use Rattle.fb_expect.proofs.Locating.{located}
+use Rattle.fb_expect.proofs.location.rules_location.Goals as goal
 
 pub returns-in-Ok : goal.returns-in-Ok
 returns-in-Ok c =
     let keys = table_view c.in-Ok.keys in
-    placed c.args.bytes.now keys c.document_place.result (is_document c.args.bytes.now keys c.in-Ok.ensures.ok.0 c.in-Ok.ensures.ok.1) c.document_place.ensures
+    located c.args.bytes.now keys c.document_location.result (is_document c.args.bytes.now keys c.in-Ok.ensures.ok.0 c.in-Ok.ensures.ok.1) c.document_location.ensures
 
 pub returns-in-Some : goal.returns-in-Some
 returns-in-Some c =

@@ -3,7 +3,7 @@
 ghost use Rattle.std.specs.Prelude.{◌≡◌, IfOk, IfSome, map, option_map};
 ghost use Rattle.toml.specs.View.{table_view, view};
 ghost use Rattle.fb_expect.specs.Drafts.{text_of};
-ghost use Rattle.fb_expect.specs.Places as spec;
+ghost use Rattle.fb_expect.specs.Locations as spec;
 
 use crate::document::{Draft, NeedDraft, draft_of, drafts_of, rules_in};
 use crate::rule::Need;
@@ -47,7 +47,7 @@ pub enum RuleFault {
 
 /// Where rules are refused. Rules are counted from 0.
 #[derive(Clone, Copy)]
-pub enum RulesPlace {
+pub enum RulesLocation {
     /// There are too many bytes (E40).
     Bytes,
     /// The bytes are not TOML; the reader found this at this byte, or past the last one (E41).
@@ -64,17 +64,17 @@ pub enum RulesPlace {
     Crowded,
 }
 
-impl RulesPlace {
+impl RulesLocation {
     /// The number of the refusal, 40 to 44.
     pub fn number(self) -> u8
         ensures { result ≡ spec.number_at self }
     {
         match self {
-            RulesPlace::Bytes | RulesPlace::Crowded => 40,
-            RulesPlace::Document(_) => 41,
-            RulesPlace::List | RulesPlace::Rule { .. } => 42,
-            RulesPlace::Pattern { .. } => 43,
-            RulesPlace::Number { .. } => 44,
+            RulesLocation::Bytes | RulesLocation::Crowded => 40,
+            RulesLocation::Document(_) => 41,
+            RulesLocation::List | RulesLocation::Rule { .. } => 42,
+            RulesLocation::Pattern { .. } => 43,
+            RulesLocation::Number { .. } => 44,
         }
     }
 }
@@ -293,12 +293,12 @@ fn rule_fault(value: &Value) -> Option<RuleFault>
 }
 
 /// The first rule whose shape is wrong.
-fn shape_place(values: &[Value]) -> Option<RulesPlace>
+fn shape_location(values: &[Value]) -> Option<RulesLocation>
     ensures { IfSome result (spec.IsAmongValues (map view values.now)) }
 {
     for (rule, value) in values.iter().enumerate() {
         if let Some(fault) = rule_fault(value) {
-            return Some(RulesPlace::Rule { rule, fault });
+            return Some(RulesLocation::Rule { rule, fault });
         }
     }
     None
@@ -354,12 +354,15 @@ fn pattern_key(alloc: Global, draft: &Draft<'_>) -> Result<Option<RuleKey>, Allo
 }
 
 /// The first rule with a text that is no pattern.
-fn pattern_place(alloc: Global, drafts: &[Draft<'_>]) -> Result<Option<RulesPlace>, AllocError>
+fn pattern_location(
+    alloc: Global,
+    drafts: &[Draft<'_>],
+) -> Result<Option<RulesLocation>, AllocError>
     ensures { IfOk result (λ o. IfSome o (spec.IsAmongTexts (map text_of drafts.now))) }
 {
     for (rule, draft) in drafts.iter().enumerate() {
         if let Some(key) = pattern_key(alloc, draft)? {
-            return Ok(Some(RulesPlace::Pattern { rule, key }));
+            return Ok(Some(RulesLocation::Pattern { rule, key }));
         }
     }
     Ok(None)
@@ -399,43 +402,43 @@ fn number_key(draft: &Draft<'_>) -> Option<RuleKey>
 }
 
 /// The first rule with a number out of its range, or that there are too many rules.
-fn number_place(drafts: &[Draft<'_>]) -> Option<RulesPlace>
+fn number_location(drafts: &[Draft<'_>]) -> Option<RulesLocation>
     ensures { IfSome result (spec.IsAmongTexts (map text_of drafts.now)) }
 {
     for (rule, draft) in drafts.iter().enumerate() {
         if let Some(key) = number_key(draft) {
-            return Some(RulesPlace::Number { rule, key });
+            return Some(RulesLocation::Number { rule, key });
         }
     }
     if MOST_RULES < drafts.len() {
-        Some(RulesPlace::Crowded)
+        Some(RulesLocation::Crowded)
     } else {
         None
     }
 }
 
 /// Where rules with the right shape are refused.
-fn drafts_place(alloc: Global, drafts: &[Draft<'_>]) -> Result<Option<RulesPlace>, AllocError>
+fn drafts_location(alloc: Global, drafts: &[Draft<'_>]) -> Result<Option<RulesLocation>, AllocError>
     ensures { IfOk result (λ o. IfSome o (spec.IsAmongTexts (map text_of drafts.now))) }
 {
-    match pattern_place(alloc, drafts)? {
-        Some(place) => Ok(Some(place)),
-        None => Ok(number_place(drafts)),
+    match pattern_location(alloc, drafts)? {
+        Some(location) => Ok(Some(location)),
+        None => Ok(number_location(drafts)),
     }
 }
 
 /// Where a document is refused.
-fn document_place(alloc: Global, keys: &Table) -> Result<Option<RulesPlace>, AllocError>
+fn document_location(alloc: Global, keys: &Table) -> Result<Option<RulesLocation>, AllocError>
     ensures { IfOk result (λ o. IfSome o (spec.IsDocumentFault (table_view keys.now))) }
 {
     let Some(values) = rules_in(keys) else {
-        return Ok(Some(RulesPlace::List));
+        return Ok(Some(RulesLocation::List));
     };
-    if let Some(place) = shape_place(values) {
-        return Ok(Some(place));
+    if let Some(location) = shape_location(values) {
+        return Ok(Some(location));
     }
     match drafts_of(alloc, keys)? {
-        Some(drafts) => drafts_place(alloc, drafts.as_slice()),
+        Some(drafts) => drafts_location(alloc, drafts.as_slice()),
         None => Ok(None),
     }
 }
@@ -445,16 +448,16 @@ fn document_place(alloc: Global, keys: &Table) -> Result<Option<RulesPlace>, All
 /// # Errors
 ///
 /// When memory runs out.
-pub fn rules_place(alloc: Global, bytes: &[u8]) -> Result<Option<RulesPlace>, AllocError>
-    ensures { IfOk result (λ o. IfSome o (spec.IsPlace bytes.now)) }
+pub fn rules_location(alloc: Global, bytes: &[u8]) -> Result<Option<RulesLocation>, AllocError>
+    ensures { IfOk result (λ o. IfSome o (spec.IsLocation bytes.now)) }
 {
     if bytes.len() > MOST_BYTES {
-        return Ok(Some(RulesPlace::Bytes));
+        return Ok(Some(RulesLocation::Bytes));
     }
     match toml::table_from_slice(alloc, bytes) {
-        Ok(keys) => document_place(alloc, &keys),
+        Ok(keys) => document_location(alloc, &keys),
         Err(error) => match error.span() {
-            Some(span) => Ok(Some(RulesPlace::Document(span.start))),
+            Some(span) => Ok(Some(RulesLocation::Document(span.start))),
             None => Err(AllocError),
         },
     }

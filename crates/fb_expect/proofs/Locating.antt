@@ -1,0 +1,25 @@
+-- Where a document is refused, its bytes are.
+use Rattle.std.proofs.Common.{◌≡◌, Option, Some, None, Result, Ok, Err}
+use Rattle.std.specs.Prelude.{IfOk, IfSome}
+use Rattle.toml.specs.Data.{Members}
+use Rattle.fb_expect.specs.Locations.{IsDocumentFault, IsLocation}
+use Rattle.fb_expect.specs.Reading.{document}
+use Rattle.fb_expect.specs.Words.{Text}
+use Rattle.fb_expect.specs.declared.location.RulesLocation.{RulesLocation}
+use Rattle.fb_expect.specs.declared.location.RulesLocation.TheVariants as location
+
+location-of : (bytes : Text) (keys : Members) (p : RulesLocation) → document bytes ≡ Some keys → IsDocumentFault keys p → IsLocation bytes p
+location-of bytes keys location.Bytes is at = absurd at.2
+location-of bytes keys (location.Document start) is at = absurd at.2
+location-of bytes keys location.List is at = (keys, is, at)
+location-of bytes keys (location.Rule i f) is at = (keys, is, at)
+location-of bytes keys (location.Pattern i k) is at = (keys, is, at)
+location-of bytes keys (location.Number i k) is at = (keys, is, at)
+location-of bytes keys location.Crowded is at = (keys, is, at)
+
+pub located :
+    {E : Type 0} (bytes : Text) (keys : Members) (r : Result (Option RulesLocation) E) → document bytes ≡ Some keys → IfOk r (λ o. IfSome o (IsDocumentFault keys))
+    → IfOk r (λ o. IfSome o (IsLocation bytes))
+located bytes keys (Err e) is at = tt
+located bytes keys (Ok None) is at = tt
+located bytes keys (Ok (Some p)) is at = location-of bytes keys p is at
