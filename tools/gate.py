@@ -61,7 +61,7 @@ import stops
 import traces
 import waves
 import wide
-from kit import KEEPS, TOP, rt, rtlib
+from kit import EACH, KEEPS, TOP, rt, rtlib
 from lanes import in_lanes
 from must_fail import add_edits, try_all
 
@@ -84,7 +84,10 @@ sys.exit(os.WEXITSTATUS(status))
 TASKS = ("proof", "tests", "edits", "runs")
 # The folder of a copy of a crate in which a wrong implementation is tried.
 OF_EDITS = re.compile(r"/(rt-edit|gate-edits)-")
-# The lines of a library whose proof takes as long as both compilers take for the program.
+# What a line of a crate takes of each task, where its proof takes one. LLVM compiles tests with all that they reach.
+WORK = {"tests": 2, "edits": 0.5}
+# The lines of a library whose proof takes as long as both compilers take for the program. By its own few lines the program would begin
+# after everything that can run at the same time, and then alone.
 LINES_OF_COMPILERS = 2000
 # The line in src/lib.rt of a crate that has only tests.
 TESTS_ALONE = re.compile(r"(//.*\n)*#!\[tactic\(auto\)\]\n(\s*#\[cfg\(test\)\]\nmod \w+;\n)+")
@@ -221,17 +224,17 @@ def call_after_each_run():
 
 
 def share_processors():
-    """Has the tasks share the processors by lanes.py, with an estimate of what both compilers take for the program. By its own few
-    lines the program would begin after everything that can run at the same time, and then alone."""
+    """Has the tasks share the processors by lanes.py, with an estimate of their work, in lines that are proved, and of their memory."""
 
-    def with_compilers(tasks):
-        proof = calls.PROGRAM, "proof"
-        if proof in tasks:
-            waits, lines, *rest = tasks[proof]
-            tasks[proof] = (waits, lines + LINES_OF_COMPILERS, *rest)
+    def by_work(tasks):
+        for key, (waits, lines, needs, call) in tasks.items():
+            more = LINES_OF_COMPILERS if key == (calls.PROGRAM, "proof") else 0
+            # (a check of edits proves few of the crate's functions)
+            needs = (EACH + needs) // 2 if key[1] == "edits" else needs
+            tasks[key] = (waits, int(lines * WORK.get(key[1], 1)) + more, needs, call)
         return in_lanes(tasks)
 
-    rt.in_lanes = with_compilers
+    rt.in_lanes = by_work
 
 
 class Beside:

@@ -31,11 +31,20 @@ def once_for_each_crate(work):
 
 rtlib.Crate.stamp = once_for_each_crate(rtlib.Crate.stamp)
 
-# The part of the memory that the kit reckons with for a check which is kept for it. Those of this repository take about half of what the
-# kit reckons, of which the gate shows each crate's most; by all of it the longest chain of crates waits for room that nobody takes.
-TAKEN = 0.6
-_reckoned = rt.need
-rt.need = lambda crate: int(TAKEN * _reckoned(crate))
+# The memory that a check takes, in bytes: what each takes, what a line of its crate and one of the crates below add, and what LLVM takes
+# for tests or a program. The kit's own figure is up to three times as much for large crates, and by it the longest chain of crates waits for
+# room that nobody takes. The gate shows the most that a check of each crate took.
+EACH, OF_LINE, OF_LINE_BELOW, OF_LLVM = 1_200_000_000, 500_000, 25_000, 2_500_000_000
+
+
+def need(crate):
+    """Returns about how much memory a check of the crate takes, in bytes."""
+    below = sum(it.count(rb"\n") for it in crate.below())
+    compiles = crate.is_program or crate.has_tests()
+    return EACH + OF_LINE * crate.count(rb"\n") + OF_LINE_BELOW * below + OF_LLVM * compiles
+
+
+rt.need = need
 
 # The checker's allocator gives memory that it does not use back to the system, and asks for it again soon after. A check that keeps it takes a
 # twentieth less of processor time, and a thirtieth more of memory.

@@ -1,11 +1,11 @@
 """Shares the processors among the gate's tasks: the proof of each crate, that of its tests, and the tries of its wrong implementations.
 
 The kit gives a proof all processors that no other proof waits for. A check by four jobs takes up to twice the processor time of one by
-a single job, since each job loads the libraries, and the tries of wrong implementations wait meanwhile. Here each task has one job, and
-those with the longest chain of others after them begin first. Only where fewer tasks are ready than processors are free do the proofs
-among them share the rest. (By a model of these tasks, a second job for each proof at the head of the longest chain takes four minutes off the gate
-on four processors, and adds four minutes of processor time.) A check of few lines always has one job: most of its time is the loading of libraries,
-which each job does."""
+a single job, since a job is a copy of the process that checks some functions, and what it made is read back; and the tries of wrong
+implementations wait meanwhile. Here each task has one job, and those with the longest chain of others after them begin first. The proofs
+share what other tasks leave free, and one that all waits for has two jobs: it heads the longest chain, and that takes longer than the
+processors need for all that is left. (By a model of the tasks on four processors that takes four minutes off the gate, and half a minute
+off ./simulate.) A check of few lines always has one job: most of its time is the loading of libraries, which comes before the jobs."""
 
 from concurrent.futures import FIRST_COMPLETED, ThreadPoolExecutor, wait
 
@@ -13,13 +13,16 @@ from kit import rt
 
 # The kinds of tasks that can make use of several jobs.
 PROOFS = ("proof", "tests")
-# The most jobs of one check. What each job more takes of memory, as a part of what the first takes, is the kit's figure.
+# The most jobs of one check, and what each job more takes of memory, as a part of what the first takes. (Three jobs of `fb_types` took 1.8 GB together,
+# and one takes 1.6 GB: each begins as a copy of a process that has loaded everything.)
 MOST_JOBS = 4
-MORE_MEMORY = 0.6
+MORE_MEMORY = 0.2
 # A check of fewer lines has one job.
-FEW_LINES = 2_000
+FEW_LINES = 1_000
 # The part of the free memory that is used.
 MEMORY = 0.85
+# By how much the longest chain must be longer than the processors' share of all that is left.
+URGENT = 1.2
 
 
 def chains(tasks):
@@ -32,11 +35,11 @@ def chains(tasks):
     return after
 
 
-def jobs_of(key, lines, idle, ready):
+def jobs_of(key, lines, idle, ready, is_urgent):
     """Returns how many jobs a task gets that may begin, while `idle` processors are free and `ready` tasks are ready, this one among them."""
     if key[1] not in PROOFS or lines < FEW_LINES:
         return 1
-    return min(1 + max(idle - ready, 0), MOST_JOBS)
+    return min(max(1 + is_urgent, 1 + idle - ready), MOST_JOBS)
 
 
 def in_lanes(tasks):
@@ -44,6 +47,12 @@ def in_lanes(tasks):
     what it waits for, its work in lines, its memory, and a call that gets what was given and how many jobs it may use."""
     lanes, memory, after = rt.processors(), MEMORY * rt.free(), chains(tasks)
     left, running, given = sorted(tasks, key=lambda it: (it[1] not in PROOFS, -after[it])), {}, {}
+
+    def is_urgent(key):
+        begun = [it for it, _, _ in running.values()]
+        rest = sum(tasks[it][1] for it in left) + sum(tasks[it][1] for it in begun) / 2
+        return after[key] == max(after[it] for it in [*left, *begun]) and lanes * after[key] > URGENT * rest
+
     with rt.ending(), ThreadPoolExecutor(lanes) as pool:
         while left or running:
             ready = [it for it in left if all(below in given for below in tasks[it][0])]
@@ -58,7 +67,9 @@ def in_lanes(tasks):
                 if running and needs > room:
                     lacks = True
                     continue
-                jobs = jobs_of(key, lines, idle, len(ready) - number)
+                # (what has no lines has no work)
+                others = sum(tasks[it][1] > 0 for it in ready[number:])
+                jobs = jobs_of(key, lines, idle, others, is_urgent(key))
                 jobs = max(1, min(jobs, 1 + int((room / needs - 1) / MORE_MEMORY)))
                 left.remove(key)
                 running[pool.submit(call, given, jobs)] = key, needs * (1 + MORE_MEMORY * (jobs - 1)), jobs
