@@ -44,6 +44,20 @@ fn emit_with(
     if let [slot] = slots {
         return emits.push_one(event, frame.value_at(*slot));
     }
+    emit_with_several(event, slots, frame, emits)
+}
+
+/// The same as `emit_with`, for any variables.
+#[inline(never)]
+fn emit_with_several(
+    event: u32,
+    slots: &[usize],
+    frame: &Frame,
+    emits: &mut Emits,
+) -> Result<(), AllocError>
+    ensures ok { OnOk result ((names : List Name) → AreAt (declared_in frame.now) names slots.now → emits.new ≡ emits.old ++ record { event = event; values = map (values_of frame.now) names } ∷ []) }
+    ensures err { OnErr result (emits.new ≡ emits.old) }
+{
     let values = shown_values(emits.allocator(), slots, frame)?;
     emits.push(Emission { event, values })
 }

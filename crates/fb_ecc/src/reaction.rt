@@ -25,7 +25,7 @@ pub(crate) fn sample(slots: &[usize], values: &[Value], frame: &mut Frame)
 {
     if let [slot] = slots {
         if let Some(value) = values.first() {
-            frame.put_at(*slot, *value);
+            frame.put_at(*slot, value);
             return;
         }
     }
@@ -40,7 +40,7 @@ fn sample_all(slots: &[usize], values: &[Value], frame: &mut Frame)
 {
     for (index, slot) in slots.iter().enumerate() {
         if let Some(value) = values.get(index) {
-            frame.put_at(*slot, *value);
+            frame.put_at(*slot, value);
         }
     }
 }

@@ -134,4 +134,12 @@ pub shown : (k : EventKind) (m : EventMemory) (head : Option Ty) (result : Bool)
     → is_some head ≡ not result → result ≡ false → values_of (state_of k m) ≡ values_in m
 shown k m head result h is none f = h.values ∙ shown-of m (ports_of_event_block k).outputs head result is none f
 
-pub ruleset shown_values = (bare, shown)
+-- what shows no values has none
+nothing-of : (m : EventMemory) (vs : List Variable) → values_in m ≡ [] → values_if_any vs m ≡ []
+nothing-of m [] e = refl
+nothing-of m (x ∷ xs) e = e
+
+pub nothing : (k : EventKind) (m : EventMemory) → IsInRange k m → values_in m ≡ [] → values_of (state_of k m) ≡ []
+nothing k m h e = h.values ∙ nothing-of m (ports_of_event_block k).outputs e
+
+pub ruleset shown_values = (bare, shown, nothing)

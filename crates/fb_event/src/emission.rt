@@ -105,7 +105,8 @@ fn emit(
     emits.push(Emission { event, values })
 }
 
-/// Whether a block has no data outputs, as most.
+/// Whether a block has no data outputs, as most. What it remembers says so mostly, and the table is asked where it
+/// does not.
 #[tactic(auto, using(crate::proofs::Emissions::shown_values))]
 #[inline(always)]
 fn is_bare(kind: EventKind, memory: EventMemory) -> bool
@@ -113,7 +114,10 @@ fn is_bare(kind: EventKind, memory: EventMemory) -> bool
     ensures bare { IsTrue result → values_of (state_of kind memory) ≡ [] }
     ensures shown { result ≡ false → values_of (state_of kind memory) ≡ values_in memory }
 {
-    event_block_output(kind, 0).is_none()
+    match memory {
+        EventMemory::Idle | EventMemory::Marks { .. } | EventMemory::Running(_) => true,
+        EventMemory::Flag(_) | EventMemory::Count { .. } => event_block_output(kind, 0).is_none(),
+    }
 }
 
 /// The values of the data outputs, of a block that has any.

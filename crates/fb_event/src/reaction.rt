@@ -71,6 +71,7 @@ pub fn passes_to(kind: EventKind) -> Option<u32>
 /// # Errors
 /// `Halt::Memory` where memory ran out, and never a stop. Nothing is said of what the block remembers then.
 /// A reaction that emits nothing takes no memory.
+#[inline(always)]
 pub fn expire(
     state: &mut EventState,
     tick: u64,

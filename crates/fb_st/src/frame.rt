@@ -129,7 +129,7 @@ impl Frame {
         ensures declared { declared_in self.new ≡ declared_in self.old }
     {
         match self.slots.index(variable) {
-            Some(index) => self.slots.set(index, value),
+            Some(index) => self.slots.set(index, &value),
             None => unreachable!(),
         }
     }
@@ -149,8 +149,8 @@ impl Frame {
     /// Gives the variable of a slot a value and does not check its type, as when a value is sampled. A slot without a variable
     /// is skipped.
     #[inline(always)]
-    pub fn put_at(&mut self, slot: usize, value: Value)
-        ensures value { MatchOption (slice_get (declared_in self.old) slot) (self.new ≡ self.old) (λ d. values_of self.new ≡ with_value d.0 value (values_of self.old)) }
+    pub fn put_at(&mut self, slot: usize, value: &Value)
+        ensures value { MatchOption (slice_get (declared_in self.old) slot) (self.new ≡ self.old) (λ d. values_of self.new ≡ with_value d.0 value.now (values_of self.old)) }
         ensures declared { declared_in self.new ≡ declared_in self.old }
     {
         if self.slots.has_index(slot) {
@@ -176,7 +176,7 @@ impl Frame {
         if !self.slots.holds(index, value) {
             return Err(Reason::Range);
         }
-        self.slots.set(index, value);
+        self.slots.set(index, &value);
         Ok(())
     }
 

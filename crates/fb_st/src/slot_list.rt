@@ -66,13 +66,13 @@ fn value_of(ty: Ty, word: i64) -> Value
 
 /// The word of a value, if the type holds the value.
 #[inline(always)]
-fn word_of(ty: Ty, value: Value) -> Option<i64>
-    ensures { MatchOption result (fits ty value ≡ false) (λ z. (fits ty value ≡ true) × (value_of_word ty z ≡ value)) }
+fn word_of(ty: Ty, value: &Value) -> Option<i64>
+    ensures { MatchOption result (fits ty value.now ≡ false) (λ z. (fits ty value.now ≡ true) × (value_of_word ty z ≡ value.now)) }
 {
     match value {
-        Value::Bool(truth) if ty.holds(value) => Some(i64::from(truth)),
+        Value::Bool(truth) if ty.holds(*value) => Some(i64::from(*truth)),
         Value::Bool(_) => None,
-        Value::Whole(number) => layout::word_of(ty, number).ok(),
+        Value::Whole(number) => layout::word_of(ty, *number).ok(),
     }
 }
 
@@ -80,7 +80,7 @@ fn word_of(ty: Ty, value: Value) -> Option<i64>
 fn parted(ty: Ty, value: Value) -> (i64, Option<Value>)
     ensures { unwrap_or result.1 (value_of_word ty result.0) ≡ value }
 {
-    match word_of(ty, value) {
+    match word_of(ty, &value) {
         Some(word) => (word, None),
         None => (0, Some(value)),
     }
@@ -243,9 +243,9 @@ impl SlotList {
 
     /// Gives the variable at an index a value. Mostly its type holds the value, as it held all before.
     #[inline(always)]
-    pub(crate) fn set(&mut self, index: usize, value: Value)
+    pub(crate) fn set(&mut self, index: usize, value: &Value)
         requires { index < length self.old }
-        ensures { (s : Slot) → slice_get self.old index ≡ Some s → self.new ≡ slice_set self.old index (record s { value = value }) }
+        ensures { (s : Slot) → slice_get self.old index ≡ Some s → self.new ≡ slice_set self.old index (record s { value = value.now }) }
     {
         match word_of(self.kept[index].ty, value) {
             Some(word) if self.is_plain => self.words[index] = word,
@@ -255,12 +255,12 @@ impl SlotList {
 
     /// The same as `set`, for any values.
     #[inline(never)]
-    fn set_any(&mut self, index: usize, value: Value)
+    fn set_any(&mut self, index: usize, value: &Value)
         requires { index < length self.old }
-        ensures { (s : Slot) → slice_get self.old index ≡ Some s → self.new ≡ slice_set self.old index (record s { value = value }) }
+        ensures { (s : Slot) → slice_get self.old index ≡ Some s → self.new ≡ slice_set self.old index (record s { value = value.now }) }
     {
         let kept = &mut self.kept[index];
-        let (word, odd) = parted(kept.ty, value);
+        let (word, odd) = parted(kept.ty, *value);
         let is_plain = odd.is_none();
         kept.odd = odd;
         self.words[index] = word;

@@ -15,8 +15,3 @@ returns-in-len1-clause-ok c =
     let value = read_there _ at.0 c.value_at.result vars c.value_at.ensures at.1 in
     let values : c.value_at.result ∷ [] ≡ map vars names = ap (λ (v : Value). v ∷ []) value ∙ ap (map vars) (sym at.2) in
     grown ∙ ap (λ (vs : List Value). c.args.emits.now ++ record { event = c.args.event; values = vs } ∷ []) values)
-
-pub returns-clause-ok : goal.returns-clause-ok
-returns-clause-ok c =
-    on_ok c.push.result c.push.ensures.ok
-    (λ grown. λ names are. grown ∙ ap (λ (vs : List Value). c.args.emits.now ++ record { event = c.args.event; values = vs } ∷ []) (c.in_ok-values.ensures names are))

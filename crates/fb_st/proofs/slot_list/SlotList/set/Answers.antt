@@ -27,6 +27,6 @@ returns-in-Some c = λ s at.
     let fit : SFits w64 c.in-Some.word = search rules in
     let within = kept_within ks zs c.args.self.now i c.self.invariant.0 c.self.view_is c.requires in
     rw (to_z-of_z fit)
-    (set_word ks zs i k s c.in-Some.word c.args.value c.self.invariant.0 (c.self.invariant.1 c.if-self.true) (slice_get_read ks (length ks) i k refl within c.index.ensures)
+    (set_word ks zs i k s c.in-Some.word c.args.value.now c.self.invariant.0 (c.self.invariant.1 c.if-self.true) (slice_get_read ks (length ks) i k refl within c.index.ensures)
     (ap (λ l. slice_get l i) c.self.view_is ∙ at) c.in-Some.ensures.1
-    ∙ ap (λ (l : List Slot). set l i (record s { value = c.args.value })) c.self.view_is)
+    ∙ ap (λ (l : List Slot). set l i (record s { value = c.args.value.now })) c.self.view_is)

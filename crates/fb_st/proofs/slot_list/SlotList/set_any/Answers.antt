@@ -27,6 +27,6 @@ returns c = λ s at.
     let fit : SFits w64 c.parted-word.result.0 = search rules in
     let within = kept_within ks zs c.args.self.now i c.self.invariant.0 c.self.view_is c.requires in
     rw (to_z-of_z fit)
-    (set_both ks zs i k s c.parted-word.result.0 c.parted-word.result.1 c.args.value c.self.invariant.0 (slice_get_read ks (length ks) i k refl within c.index_mut-kept.ensures.value)
+    (set_both ks zs i k s c.parted-word.result.0 c.parted-word.result.1 c.args.value.now c.self.invariant.0 (slice_get_read ks (length ks) i k refl within c.index_mut-kept.ensures.value)
     (ap (λ l. slice_get l i) c.self.view_is ∙ at) c.parted-word.ensures
-    ∙ ap (λ (l : List Slot). set l i (record s { value = c.args.value })) c.self.view_is)
+    ∙ ap (λ (l : List Slot). set l i (record s { value = c.args.value.now })) c.self.view_is)
