@@ -61,8 +61,8 @@ fn is_now_noted(now: &Queue, later: &Calendar) -> bool
     later.is_past(Moment::of(&first))
 }
 
-/// Whether the queue has an event, and no event of `later` comes before its first. The moment of the first event of
-/// `later` is noted for the next calls.
+/// Whether the queue has an event, and no event of `later` comes before its first. If so, it is noted for the next calls
+/// up to which moment no event of `later` waits.
 #[inline(always)]
 fn is_now_first(now: &Queue, later: &mut Calendar) -> bool
     requires { AreRising (local_events now.now) }
@@ -73,10 +73,11 @@ fn is_now_first(now: &Queue, later: &mut Calendar) -> bool
     let Some(first) = now.first() else {
         return false;
     };
-    let Some(other) = later.note_first() else {
+    let Some(other) = later.first_rank() else {
         return true;
     };
     if Moment::of(&first).is_before(other.moment) {
+        later.note_quiet(other.moment);
         return true;
     }
     // Of one moment, all other events come before the local ones.

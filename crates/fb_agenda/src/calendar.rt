@@ -9,7 +9,7 @@ ghost use Rattle.fb_types.specs.declared.run.Event.TheVariants.{Timer};
 ghost use Rattle.fb_agenda.specs.Agendas.{AreRising, IsFirst, IsFirstTick};
 ghost use Rattle.fb_agenda.specs.Calendars.{BeginsAt, Leads, Sets};
 ghost use Rattle.fb_agenda.specs.Indexes.{taken};
-ghost use Rattle.fb_agenda.specs.Moments.{HasRank, IsPast};
+ghost use Rattle.fb_agenda.specs.Moments.{HasRank, IsPast, IsQuiet};
 
 use crate::least::Least;
 use crate::moment::{Moment, Rank, TIMER};
@@ -188,7 +188,7 @@ impl Calendar {
 
     /// The rank of an event before whose moment no event waits. It compares no keys.
     #[inline(always)]
-    fn first_rank(&self) -> Option<Rank>
+    pub(crate) fn first_rank(&self) -> Option<Rank>
         ensures some { IfSome result (HasRank self.now) }
         ensures none { IfNone result (self.now ≡ []) }
     {
@@ -206,16 +206,13 @@ impl Calendar {
         Some(timer)
     }
 
-    /// The rank of an event before whose moment no event waits. The moment is noted.
+    /// Notes that no event waits before a moment.
     #[inline(always)]
-    pub(crate) fn note_first(&mut self) -> Option<Rank>
-        ensures some { IfSome result (HasRank self.old) }
-        ensures none { IfNone result (self.old ≡ []) }
-        ensures kept { self.new ≡ self.old }
+    pub(crate) fn note_quiet(&mut self, moment: Moment)
+        requires { IsQuiet moment self.old }
+        ensures { self.new ≡ self.old }
     {
-        let first = self.first_rank()?;
-        self.quiet = first.moment;
-        Some(first)
+        self.quiet = moment;
     }
 
     /// Whether it is noted that no event waits at this moment or before.

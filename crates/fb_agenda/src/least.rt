@@ -35,8 +35,8 @@ impl Least {
         let Some((key, event)) = found else {
             return false;
         };
-        self.key = key;
         self.event = event;
+        self.key = key;
         true
     }
 

@@ -101,9 +101,21 @@ impl Store {
         ensures absent { OnErr result (lookup (same_key key) self.old ≡ None) }
         ensures err { OnErr result (self.new ≡ self.old) }
     {
+        // Usually all of them are in the row.
         if self.many.is_empty() && fits_in(&self.few, &key) {
             return rising::insert(&mut self.few, key, event);
         }
+        self.insert_aside(key, event)
+    }
+
+    /// The same as `insert`, where the map is not empty or gets the event. It is apart since the built program clears its
+    /// locals, which are large.
+    #[inline(never)]
+    fn insert_aside(&mut self, key: Key, event: Event) -> Result<(), AllocError>
+        ensures put { OnOk result (Sets key (Some event) self.old self.new) }
+        ensures absent { OnErr result (lookup (same_key key) self.old ≡ None) }
+        ensures err { OnErr result (self.new ≡ self.old) }
+    {
         if let Some(index) = rising::index_of(&self.few, &key) {
             self.few[index] = (key, event);
             return Ok(());

@@ -1,12 +1,9 @@
-use Rattle.std.proofs.Common.{◌≡◌, ◌∙◌, Some, None, ap}
-use Rattle.std.specs.Prelude.{slice_set}
+use Rattle.std.proofs.Common.{◌≡◌, None, ap}
 use Rattle.std.specs.Map.{lookup}
 use Rattle.std.proofs.lemmas.List.{nil_from_length}
-use Rattle.fb_types.specs.Keys.{or_else, same_key}
-use Rattle.fb_agenda.proofs.Calendars.{alone, err_known, few_sets, few_split, lookup_both, many_sets, many_split, over_is, put_absent, put_both, put_rises, put_sets, put_split}
+use Rattle.fb_types.specs.Keys.{same_key}
+use Rattle.fb_agenda.proofs.Calendars.{put_absent, put_both, put_split}
 use Rattle.fb_agenda.proofs.store.Store.insert.Goals as goal
-
--- ---- The map is empty
 
 pub invariant_of-self : goal.invariant_of-self
 invariant_of-self c =
@@ -30,52 +27,3 @@ returns-then-fits_in-clause-absent c =
     let many = c.self.inside.many.entries in
     let none : lookup (same_key c.args.key) many ≡ None = ap (lookup (same_key c.args.key)) (nil_from_length many (c.is_empty.ensures.0 c.if-is_empty.true)) in
     rw (← c.self.view_is) (put_absent few many c.self.invariant c.args.key c.args.event c.insert.result c.insert.new.events.items none c.insert.ensures.absent)
-
--- ---- The key is in the row
-
-pub invariant_of-self-in-Some : goal.invariant_of-self-in-Some
-invariant_of-self-in-Some c =
-    let few = c.self.inside.few.items in
-    let many = c.self.inside.many.entries in
-    let k = c.args.key in
-    let e = c.args.event in
-    let i = c.in-Some.index in
-    let new = slice_set few i (k, e) in
-    let is = over_is few k e i c.self.invariant.rising c.in-Some.ensures.there in
-    let sets = put_sets few new k e is in
-    let none = alone few many c.self.invariant k i c.in-Some.ensures.there in
-    few_split few many c.self.invariant k (Some e) new sets (put_rises few new k e c.self.invariant.rising is) none
-
-pub returns-in-Some-clause-put : goal.returns-in-Some-clause-put
-returns-in-Some-clause-put c =
-    let few = c.self.inside.few.items in
-    let many = c.self.inside.many.entries in
-    let k = c.args.key in
-    let e = c.args.event in
-    let i = c.in-Some.index in
-    let new = slice_set few i (k, e) in
-    let is = over_is few k e i c.self.invariant.rising c.in-Some.ensures.there in
-    rw (← c.self.view_is) (few_sets few many c.self.invariant k (Some e) new (put_sets few new k e is) (alone few many c.self.invariant k i c.in-Some.ensures.there))
-
--- ---- The key is not in the row
-
-pub returns-in_err-insert-clause-absent : goal.returns-in_err-insert-clause-absent
-returns-in_err-insert-clause-absent c =
-    let few = c.self.inside.few.items in
-    let many = c.self.inside.many.entries in
-    let k = c.args.key in
-    err_known c.from_residual.result
-    (rw (← c.self.view_is) (lookup_both k few many ∙ ap (λ o. or_else o (lookup (same_key k) many)) c.in_default.ensures.absent ∙ c.in_err-insert.ensures.absent))
-
-pub invariant_of-self-2 : goal.invariant_of-self-2
-invariant_of-self-2 c =
-    let few = c.self.inside.few.items in
-    let many = c.self.inside.many.entries in
-    let new = c.insert-2.new.self.entries in
-    let sets = c.in_ok-insert.ensures.updates.0 in
-    many_split few many c.self.invariant c.args.key (Some c.args.event) new sets c.in_default.ensures.absent
-
-pub returns-clause-put : goal.returns-clause-put
-returns-clause-put c =
-    rw (← c.self.view_is)
-    (many_sets c.self.inside.few.items c.self.inside.many.entries c.self.invariant c.args.key (Some c.args.event) c.insert-2.new.self.entries c.in_ok-insert.ensures.updates.0 c.in_default.ensures.absent)
