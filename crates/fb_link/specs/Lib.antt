@@ -1,3 +1,4 @@
 pub mod Arrivals
 pub mod Exchanges
 pub mod Messages
+pub mod OfSystem

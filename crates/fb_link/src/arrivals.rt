@@ -2,8 +2,8 @@
 
 ghost use Rattle.std.specs.Prelude.{◌≡◌, ◌+◌, ◌^◌, ◌<◌, ◌≤◌};
 ghost use Rattle.fb_types.specs.Flat as spec;
-ghost use Rattle.fb_types.specs.Headline.{system_of};
 ghost use Rattle.fb_types.specs.OfSystem.{link_count};
+ghost use Rattle.fb_system.specs.OfSystem.{arrival_over};
 ghost use Rattle.fb_link.specs.Arrivals.{arrival_at, IsEarliest};
 
 use fb_system::System;
@@ -41,7 +41,7 @@ fn arrival_by(latency: &Latency, sent_tick: u64) -> u64
 pub fn arrival(system: &System, link: u32, sent_tick: u64) -> u64
     requires link { link < link_count system.now }
     requires room { sent_tick + 10 ^ 6 < 2 ^ 64 }
-    ensures value { result ≡ (system_of system.now).arrival link sent_tick }
+    ensures value { result ≡ arrival_over system.now link sent_tick }
     ensures later { sent_tick < result }
     ensures soon { result ≤ sent_tick + 10 ^ 6 }
 {

@@ -2,10 +2,10 @@
 
 ghost use Rattle.std.specs.Prelude.{◌≡◌, ◌++◌, ℕ, [], All, IfOk, OnOk, List, Some, Vec, length, slice_get};
 ghost use Rattle.std.specs.declared.alloc.Global as global;
-ghost use Rattle.fb_types.specs.Headline.{system_of};
 ghost use Rattle.fb_types.specs.declared.run.Message as model;
 ghost use Rattle.fb_types.specs.OfSystem.{IsInstance, resource_count};
-ghost use Rattle.fb_link.specs.Exchanges.{all_of, AreDealt, AreFor, AreSorted};
+ghost use Rattle.fb_link.specs.Exchanges.{all_of, AreSorted};
+ghost use Rattle.fb_link.specs.OfSystem.{AreDealt, AreFor};
 
 use fb_system::System;
 use fb_types::Message;
@@ -32,8 +32,8 @@ fn deal(
     requires targets { All (λ m. IsInstance system.now m.target.instance) outbox.items }
     requires counted { length inboxes.old.items ≡ resource_count system.now }
     ensures counted { OnOk result (length inboxes.new.items ≡ length inboxes.old.items) }
-    ensures dealt { OnOk result ((all : List model.Message) → AreDealt (system_of system.now) all inboxes.old.items
-        → AreDealt (system_of system.now) (all ++ outbox.items) inboxes.new.items) }
+    ensures dealt { OnOk result ((all : List model.Message) → AreDealt system.now all inboxes.old.items
+        → AreDealt system.now (all ++ outbox.items) inboxes.new.items) }
 {
     system.facts();
     for message in outbox {
@@ -64,7 +64,7 @@ pub fn exchange(
     requires targets { All (λ box. All (λ m. IsInstance system.now m.target.instance) box.items) outboxes.items }
     ensures counted { IfOk result (λ v. length v.items ≡ resource_count system.now) }
     ensures each { IfOk result (λ v. (r : ℕ) (list : Vec model.Message global.Global) → slice_get v.items r ≡ Some list
-        → AreFor (system_of system.now) r (all_of outboxes.items) list.items) }
+        → AreFor system.now r (all_of outboxes.items) list.items) }
 {
     let mut inboxes = empty_lists(alloc, system.resources())?;
     for outbox in outboxes {

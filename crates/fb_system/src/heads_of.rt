@@ -1,12 +1,11 @@
 //! Makes the heads of the lines of a system.
 
 ghost use Rattle.std.specs.Prelude.{◌≡◌, ◌<◌, List, [], ◌++◌, codes, length, if◌then◌else◌, IfNone, IfOk, IfSome, OnOk};
-ghost use Rattle.fb_types.specs.Headline.{system_of};
 ghost use Rattle.fb_types.specs.Names.{Name};
 ghost use Rattle.fb_types.specs.OfSystem.{IsInstance, IsResource};
 ghost use Rattle.fb_system.specs.IndexLists.{AreIndexes};
-ghost use Rattle.fb_system.specs.Heads.{IsRowOfHead, first_text, head_event};
-ghost use Rattle.fb_system.specs.OfSystem.{AreHeads, IsOfHead, head_variables};
+ghost use Rattle.fb_system.specs.Heads.{first_text};
+ghost use Rattle.fb_system.specs.OfSystem.{AreHeads, IsOfHead, IsRowOfHead, head_event, head_variables};
 
 use crate::heads::{Firsts, Head, HeadOf, Heads, MOST_ROWS, ROW};
 use crate::system::System;
@@ -16,7 +15,7 @@ use std::alloc::{AllocError, Global};
 /// The name of the event of a head.
 fn event_name(system: &System, of: HeadOf) -> &[u8]
     requires { IsOfHead system.now of }
-    ensures { result.now ≡ head_event (system_of system.now) of }
+    ensures { result.now ≡ head_event system.now of }
 {
     let ports = system.ports(of.instance);
     let event = of.event as usize;
@@ -114,7 +113,7 @@ fn add_first(text: &mut Vec<u8>, first: Option<&[u8]>) -> Result<(), AllocError>
 /// The row of a head. The text is joined in the buffer.
 fn row_of(system: &System, text: &mut Vec<u8>, of: HeadOf) -> Result<Head, AllocError>
     requires { IsOfHead system.now of }
-    ensures { IfOk result (IsRowOfHead (system_of system.now)) }
+    ensures { IfOk result (IsRowOfHead system.now) }
 {
     let parts = Parts {
         resource: system.resource_name(of.resource as usize),

@@ -1,10 +1,8 @@
 //! Rows of event ports, as the tables of a system give them.
 
-ghost use Rattle.std.specs.Prelude.{◌≡◌};
-ghost use Rattle.fb_types.specs.Headline.{system_of};
 ghost use Rattle.fb_system.specs.IndexLists.{AreIndexes};
-ghost use Rattle.fb_system.specs.PortRows.{IsPortRow, IsWith, port_names, port_variables};
-ghost use Rattle.fb_system.specs.OfSystem.{IsPort};
+ghost use Rattle.fb_system.specs.PortRows.{IsPortRow};
+ghost use Rattle.fb_system.specs.OfSystem.{IsPort, IsWith, port_names, port_variables};
 
 use crate::port_row::{PortRow, With};
 use crate::system::System;
@@ -26,7 +24,7 @@ impl System {
     /// The indices of the variables WITH the event of a port.
     fn indexes_with(&self, at: Target) -> &[u32]
         requires { IsPort self.now at }
-        ensures { AreIndexes (port_variables (system_of self.now) at) (port_names (system_of self.now) at) result.now }
+        ensures { AreIndexes (port_variables self.now at) (port_names self.now at) result.now }
     {
         if at.is_output {
             self.outputs_with(at.instance, at.event)
@@ -38,7 +36,7 @@ impl System {
     /// The variables WITH the event of a port.
     fn port_with(&self, at: Target) -> With
         requires { IsPort self.now at }
-        ensures { IsWith (system_of self.now) at result }
+        ensures { IsWith self.now at result }
     {
         match self.indexes_with(at) {
             [] => With::Nothing,

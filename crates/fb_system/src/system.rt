@@ -3,21 +3,20 @@
 ghost use Rattle.std.specs.Prelude.{◌≡◌, ◌+◌, ◌<◌, ◌≤◌, [], List, ℕ, length, option_map, slice_get, ◌↔◌, IfOk, IfSome, IsTrue};
 ghost use Rattle.std.specs.Arc.{arc_value};
 ghost use Rattle.fb_types.specs.Flat.{latency_at};
-ghost use Rattle.fb_types.specs.Headline.{AreAccepted, system_of, inputs};
+ghost use Rattle.fb_types.specs.Headline.{AreAccepted, inputs};
 ghost use Rattle.fb_types.specs.Limits.{IsWithinLimits};
 ghost use Rattle.fb_types.specs.Numbers.{event_at};
 ghost use Rattle.fb_types.specs.Blocks.{inputs_with, outputs_with};
 ghost use Rattle.fb_system.specs.IndexLists.{AreIndexes, AreWithIndexes};
-ghost use Rattle.fb_system.specs.Stimuli.{IsStimulusAt, initial_inputs, initial_outputs};
+ghost use Rattle.fb_system.specs.Stimuli.{IsStimulusAt};
 ghost use Rattle.fb_types.specs.Text.{path_text};
 ghost use Rattle.fb_types.specs.OfSystem.{IsInstance, IsResource, instance_count, kind_at, link_count, path_at, port_of, ports_at, resource_at, resource_count, resource_name, targets_at};
 ghost use Rattle.fb_system.specs.Layouts.{AreComponents, AreNumbers, IsParent, route_to};
 ghost use Rattle.fb_check_names.specs.Numbers.{kind_of_number};
 ghost use Rattle.fb_system.specs.Linking.{AreHomes, IsLinked};
-ghost use Rattle.fb_system.specs.Ports.{IsSource};
 ghost use Rattle.fb_system.specs.PortRows.{IsPortRow};
 ghost use Rattle.fb_system.specs.Systems.{inputs_of, IsBare, IsGiven, IsKept, AreTables};
-ghost use Rattle.fb_system.specs.OfSystem.{ComesFrom, IsHead, IsPort, IsTarget, IsVariable, LeadsTo, variable_of};
+ghost use Rattle.fb_system.specs.OfSystem.{ComesFrom, IsHead, IsPort, IsSource, IsTarget, IsVariable, LeadsTo, arrival_over, initial_inputs, initial_outputs, link_between, number_at, receiver_of, sender_of, source_at, variable_of};
 
 use crate::given::Given;
 use crate::heads::{Head, HeadOf};
@@ -169,7 +168,7 @@ impl System {
         ensures accepted { AreAccepted self.now }
         ensures limits { IsWithinLimits self.now.plan }
         ensures few { instance_count self.now ≤ 4096 }
-        ensures numbered { (i : ℕ) → IsInstance self.now i → (system_of self.now).number (path_at self.now i) ≡ i }
+        ensures numbered { (i : ℕ) → IsInstance self.now i → number_at self.now (path_at self.now i) ≡ i }
     {
         let whole = &*self.whole;
         let _plan = whole.deploy.plan();
@@ -297,8 +296,8 @@ impl System {
     #[inline(always)]
     pub fn source(&self, to: InstanceVariable) -> Option<InstanceVariable>
         requires { IsVariable self.now to }
-        ensures comes { option_map (variable_of self.now) result ≡ (system_of self.now).source (variable_of self.now to) }
-        ensures within { IfSome result (IsSource (system_of self.now)) }
+        ensures comes { option_map (variable_of self.now) result ≡ source_at self.now (variable_of self.now to) }
+        ensures within { IfSome result (IsSource self.now) }
     {
         match self.whole.kept.ends.source(to) {
             Some(row) => row.source,
@@ -352,21 +351,21 @@ impl System {
     pub fn link(&self, from: usize, to: usize) -> usize
         requires from { IsResource self.now from }
         requires to { IsResource self.now to }
-        ensures { result ≡ (system_of self.now).link from to }
+        ensures { result ≡ link_between self.now from to }
     {
         self.whole.links.between(from, to).unwrap_or(0)
     }
 
     /// The resource from which a link leads.
     pub fn sender(&self, link: usize) -> usize
-        ensures { result ≡ (system_of self.now).sender link }
+        ensures { result ≡ sender_of self.now link }
     {
         self.whole.links.sender(link)
     }
 
     /// The resource to which a link leads.
     pub fn receiver(&self, link: usize) -> usize
-        ensures { result ≡ (system_of self.now).receiver link }
+        ensures { result ≡ receiver_of self.now link }
     {
         self.whole.links.receiver(link)
     }
@@ -374,7 +373,7 @@ impl System {
     /// The latencies of a link.
     pub fn latency(&self, link: usize) -> &Latency
         requires { link < link_count self.now }
-        ensures { (sent : ℕ) → (system_of self.now).arrival link sent ≡ sent + latency_at result.now sent }
+        ensures { (sent : ℕ) → arrival_over self.now link sent ≡ sent + latency_at result.now sent }
     {
         &self.whole.deploy.plan().links.as_slice()[link].latency
     }
@@ -434,7 +433,7 @@ impl System {
     /// When memory runs out.
     pub fn initial_inputs(&self, alloc: Global, instance: u32) -> Result<Items<Value>, AllocError>
         requires { IsInstance self.now instance }
-        ensures { IfOk result (λ vs. vs ≡ initial_inputs (system_of self.now) (path_at self.now instance)) }
+        ensures { IfOk result (λ vs. vs ≡ initial_inputs self.now (path_at self.now instance)) }
     {
         let netlist = &self.whole.netlist;
         let declared = netlist.declared(instance);
@@ -453,7 +452,7 @@ impl System {
     /// When memory runs out.
     pub fn initial_outputs(&self, alloc: Global, instance: u32) -> Result<Items<Value>, AllocError>
         requires { IsInstance self.now instance }
-        ensures { IfOk result (λ vs. vs ≡ initial_outputs (system_of self.now) (path_at self.now instance)) }
+        ensures { IfOk result (λ vs. vs ≡ initial_outputs self.now (path_at self.now instance)) }
     {
         self.facts();
         output_values(alloc, self.ports(instance))
