@@ -23,6 +23,18 @@ row_put a k bytes new row room wide same =
 together : (a b c d : List ℕ) → a ++ b ++ c ++ d ≡ a ++ (b ++ c ++ d)
 together a b c d = rw (append_assoc a b c, append_assoc a (b ++ c) d) refl
 
+-- the first bytes of two rows
+pub fronts_of_rows : (used n m wide high : ℕ) (bytes new row next line : List ℕ) → used + (wide + high) ≤ length bytes → n ≤ wide → m ≤ high
+    → length row ≡ wide → length line ≡ high → new ≡ row → next ≡ line
+    → take (used + n + m) (put_mid (used + n) (used + n + high - (used + n)) (put_mid used (used + wide - used) bytes new) next)
+    ≡ take used bytes ++ (take n row ++ take m line)
+fronts_of_rows used n m wide high bytes new row next line room few some its_width its_height same again =
+    let mid = put_mid used (used + wide - used) bytes new in
+    let one : length mid ≡ length bytes = row_put used wide bytes new row (omega (arith, room)) its_width same in
+    front_of_row (used + n) m (used + n + high - (used + n)) mid next line (omega (arith, room, few, one)) (omega (arith, some, its_height)) again
+    ∙ ap (λ l. l ++ take m line) (front_of_row used n (used + wide - used) bytes new row (omega (arith, room)) (omega (arith, few, its_width)) same)
+    ∙ append_assoc (take used bytes) (take n row) (take m line)
+
 -- the first bytes of two rows, and a byte
 pub fronts_and_byte : (used n m wide high : ℕ) (bytes new row next line : List ℕ) (byte : ℕ) → used + (wide + high + 1) ≤ length bytes → n ≤ wide → m ≤ high
     → length row ≡ wide → length line ≡ high → new ≡ row → next ≡ line

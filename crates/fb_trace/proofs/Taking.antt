@@ -9,14 +9,9 @@ use Rattle.fb_types.specs.Machines.{Each}
 use Rattle.fb_types.proofs.EachLaws.{each_map, each_both, each_append}
 use Rattle.fb_types.specs.declared.run.Line.{Line}
 use Rattle.fb_trace.specs.Merging.{Lists, tick_of, Rises, AreRising, AreMerged, flat}
-use Rattle.fb_trace.specs.Fronts.{lesser, tick_at, early, late, before, present, all_early, all_late, BeginsFrom, IsEmpty, IsLeast}
+use Rattle.fb_trace.specs.Fronts.{lesser, tick_at, early, late, before, present, joint, all_early, all_late, BeginsFrom, IsEmpty, IsLeast}
 use Rattle.fb_trace.proofs.Sorting.{filter_nothing, filter_joined, rises_append, tie, tie_less, tie_apart}
 use Rattle.fb_trace.proofs.Together.{merged}
-
--- all lines, one list after another
-abbrev pub joint : List (List Line) → List Line
-joint [] = []
-joint (xs ∷ rest) = xs ++ joint rest
 
 -- the ticks of no list fall
 abbrev pub AllRise : List (List Line) → Type 0

@@ -34,6 +34,11 @@ abbrev pub present : List (List Line) → List (List Line)
 present [] = []
 present (xs ∷ rest) = before xs (present rest)
 
+-- all lines, one list after another
+abbrev pub joint : List (List Line) → List Line
+joint [] = []
+joint (xs ∷ rest) = xs ++ joint rest
+
 -- the early lines of all lists, one list after another
 abbrev pub all_early : (tick : ℕ) → List (List Line) → List Line
 all_early t [] = []

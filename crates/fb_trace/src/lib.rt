@@ -23,5 +23,5 @@ mod start;
 pub use fault::WriteFault;
 pub use front::write_front;
 pub use last::{Outcome, write_last};
-pub use lines::{write_lines, write_lines_with_count};
+pub use lines::{write_lines, write_lines_with_count, write_parts};
 pub use merging::merge;

@@ -6,6 +6,7 @@ ghost use Rattle.fb_types.specs.Text.{values_text};
 ghost use Rattle.fb_types.specs.declared.run.Form.TheVariants.{One};
 ghost use Rattle.fb_types.specs.OfSystem.{line_of, line_text, lines_text, path_at, ports_at};
 ghost use Rattle.fb_system.specs.OfSystem.{BelongsTo, IsHead};
+ghost use Rattle.fb_trace.specs.Fronts.{joint};
 ghost use Rattle.fb_trace.specs.Starts.{head_of_line};
 ghost use Rattle.fb_trace.specs.Progress.{Gathers, IsPartWritten, bounded};
 
@@ -198,26 +199,45 @@ fn append_line(page: &mut Page, system: &System, form: Form, tick: &LastNumber, 
     true
 }
 
-/// Puts the text of lines.
+/// Puts the text of lines. The tick of the last line is kept as digits.
 fn put_lines<W: Write>(
     page: &mut Page,
     out: &mut W,
     system: &System,
     form: Form,
+    tick: &mut LastNumber,
     lines: &[Line],
 ) -> Result<(), WriteFault>
     requires { All (BelongsTo system.now) lines.now }
     ensures { Gathers (W.contents out.old) (W.contents out.new) page.old page.new
         (lines_text form system.now (map (line_of system.now) lines.now)) result }
 {
-    let mut tick = LastNumber::of(0);
     for line in lines {
         tick.replace(line.key.tick);
         // Most lines are put in one step, and need no result: the built program clears a result when it makes one.
-        if append_line(page, system, form, &tick, line) {
+        if append_line(page, system, form, tick, line) {
             continue;
         }
-        put_any(page, out, system, form, &tick, line)?;
+        put_any(page, out, system, form, tick, line)?;
+    }
+    Ok(())
+}
+
+/// Puts the text of the lines of parts, one part after another.
+fn put_parts<W: Write>(
+    page: &mut Page,
+    out: &mut W,
+    system: &System,
+    form: Form,
+    parts: &[&[Line]],
+) -> Result<(), WriteFault>
+    requires { All (λ q. All (BelongsTo system.now) q.now) parts.now }
+    ensures { Gathers (W.contents out.old) (W.contents out.new) page.old page.new
+        (lines_text form system.now (map (line_of system.now) (joint (map (λ q. q.now) parts.now)))) result }
+{
+    let mut tick = LastNumber::of(0);
+    for part in parts {
+        put_lines(page, out, system, form, &mut tick, *part)?;
     }
     Ok(())
 }
@@ -240,7 +260,8 @@ pub fn write_lines_with_count<W: Write>(
     ensures part { IfErr result (λ fault. IsPartWritten (W.contents out.old) (W.contents out.new) (lines_text form system.now (map (line_of system.now) lines.now)) fault.written) }
 {
     let mut page = Page::new();
-    put_lines(&mut page, out, system, form, lines)?;
+    let mut tick = LastNumber::of(0);
+    put_lines(&mut page, out, system, form, &mut tick, lines)?;
     page.flush(out)?;
     Ok(page.written())
 }
@@ -262,4 +283,24 @@ pub fn write_lines<W: Write>(
 {
     write_lines_with_count(out, system, form, lines)?;
     Ok(())
+}
+
+/// Writes the text of the lines of parts, one part after another, as `write_lines` does. All parts have one page: so many
+/// small parts take not much longer than one list of their lines.
+///
+/// # Errors
+/// Those of `write_lines`.
+pub fn write_parts<W: Write>(
+    out: &mut W,
+    system: &System,
+    form: Form,
+    parts: &[&[Line]],
+) -> Result<(), WriteFault>
+    requires { All (λ q. All (BelongsTo system.now) q.now) parts.now }
+    ensures whole { OnOk result (Appends (W.contents out.old) (W.contents out.new) (lines_text form system.now (map (line_of system.now) (joint (map (λ q. q.now) parts.now))))) }
+    ensures part { IfErr result (λ fault. IsPartWritten (W.contents out.old) (W.contents out.new) (lines_text form system.now (map (line_of system.now) (joint (map (λ q. q.now) parts.now)))) fault.written) }
+{
+    let mut page = Page::new();
+    put_parts(&mut page, out, system, form, parts)?;
+    page.flush(out)
 }

@@ -1,6 +1,6 @@
 //! A buffer for text, so that a long trace does not call the writer for each line.
 
-ghost use Rattle.std.specs.Prelude.{◌≡◌, ◌+◌, ◌-◌, ◌^◌, ◌<◌, ◌≤◌, [], ◌∷◌, ◌++◌, length, min, take, decimal, IfOk, IfErr, IsTrue, OnOk};
+ghost use Rattle.std.specs.Prelude.{◌≡◌, ◌+◌, ◌-◌, ◌^◌, ◌<◌, ◌≤◌, ◌↔◌, [], ◌∷◌, ◌++◌, length, min, take, decimal, IfOk, IfErr, IsTrue, OnOk};
 ghost use Rattle.std.specs.Io.KnownBytes.{Appends};
 ghost use Rattle.fb_trace.specs.Progress.{Gathers, Fails, bounded};
 
@@ -53,6 +53,16 @@ fn write_all<W: Write>(out: &mut W, bytes: &[u8], written: u128) -> Result<u128,
         return Err(WriteFault { written });
     }
     Ok(written)
+}
+
+/// The number of bytes that are free after the first ones, which are used.
+#[inline(always)]
+fn free_in(bytes: &[u8; SIZE], used: usize) -> usize
+    requires { used ≤ SIZE }
+    ensures rest { result ≡ SIZE - used }
+    ensures long { length bytes.now ≡ SIZE }
+{
+    bytes.len() - used
 }
 
 impl Page {
@@ -133,9 +143,9 @@ impl Page {
     #[inline(always)]
     pub(crate) fn has_room(&self, count: usize) -> bool
         requires { count ≤ SIZE }
-        ensures { IsTrue result → length self.now.waiting + count ≤ SIZE }
+        ensures { IsTrue result ↔ (length self.now.waiting + count ≤ SIZE) }
     {
-        count <= SIZE - self.used
+        count <= free_in(&self.bytes, self.used)
     }
 
     /// Appends the first bytes of a row. The whole row fits, and is copied: a copy of constant length is faster than one
@@ -150,6 +160,28 @@ impl Page {
         let used = self.used;
         copy_row(&mut self.bytes[used..used + N], row);
         self.used = used + count;
+    }
+
+    /// Appends the fronts of two rows, one after the other. The whole rows fit, and are copied.
+    #[inline(always)]
+    pub(crate) fn append_both<const N: usize, const M: usize>(
+        &mut self,
+        first: &[u8; N],
+        count: usize,
+        second: &[u8; M],
+        more: usize,
+    )
+        requires count { count ≤ N }
+        requires more { more ≤ M }
+        requires room { length self.old.waiting + (N + M) ≤ SIZE }
+        ensures text { self.new ≡ record self.old { waiting = self.old.waiting ++ (take count first.now ++ take more second.now) } }
+        ensures length { length self.new.waiting ≡ length self.old.waiting + (count + more) }
+    {
+        let used = self.used;
+        copy_row(&mut self.bytes[used..used + N], first);
+        let next = used + count;
+        copy_row(&mut self.bytes[next..next + M], second);
+        self.used = next + more;
     }
 
     /// Appends the fronts of two rows, one after the other, and a byte. The whole rows fit, and are copied.
@@ -215,7 +247,7 @@ impl Page {
 
     /// Appends the digits of a number below 10,000, one by one.
     #[inline(always)]
-    fn append_four(&mut self, number: u32)
+    pub(crate) fn append_four(&mut self, number: u32)
         requires number { number < 10000 }
         requires room { length self.old.waiting + 4 ≤ SIZE }
         ensures text { self.new ≡ record self.old { waiting = self.old.waiting ++ decimal number } }
@@ -240,19 +272,15 @@ impl Page {
         self.digits.row(number)
     }
 
-    /// Appends the digits of a number below 10,000. Those of a small number are copied from its row.
+    /// Appends the digits of a small number, which are copied from its row.
     #[inline(always)]
-    pub(crate) fn append_short(&mut self, number: u32)
-        requires number { number < 10000 }
-        requires room { length self.old.waiting + 4 ≤ SIZE }
+    pub(crate) fn append_small(&mut self, number: usize)
+        requires number { number < MOST }
+        requires room { length self.old.waiting + ROW ≤ SIZE }
         ensures text { self.new ≡ record self.old { waiting = self.old.waiting ++ decimal number } }
-        ensures length { length self.new.waiting ≤ length self.old.waiting + 4 }
+        ensures length { length self.new.waiting ≤ length self.old.waiting + ROW }
     {
-        let index = number as usize;
-        if index >= MOST {
-            return self.append_four(number);
-        }
-        let row = self.digits_of(index);
+        let row = self.digits_of(number);
         self.append_front(&row.text, row.width as usize);
     }
 

@@ -1,13 +1,14 @@
 //! The pieces of a line.
 
 ghost use Rattle.std.specs.Prelude.{◌≡◌, ◌<◌, ◌≤◌, ◌+◌, ◌++◌, ℕ, List, Option, length, map, All, codes, decimal, if◌then◌else◌};
-ghost use Rattle.fb_types.specs.Headline.{system_of};
 ghost use Rattle.fb_types.specs.Numbers.{pair_up};
-ghost use Rattle.fb_types.specs.Text.{key_text, tick_and_resource_text, value_text, values_text};
+ghost use Rattle.fb_types.specs.Text.{key_text, value_text, values_text};
 ghost use Rattle.fb_types.specs.OfSystem.{IsResource};
 ghost use Rattle.fb_system.specs.IndexLists.{variable_at};
 ghost use Rattle.fb_trace.specs.Progress.{Gathers, Puts};
+ghost use Rattle.fb_trace.specs.OfSystem.{tick_and_resource_text};
 
+use crate::digit_rows::MOST;
 use crate::fault::WriteFault;
 use crate::number::{LAST_TICK, LastNumber};
 use crate::page::{Page, SHORT, SIZE};
@@ -51,7 +52,7 @@ pub(crate) fn put_tick_and_resource<W: Write>(
     resource: u32,
 ) -> Result<(), WriteFault>
     requires { IsResource system.now resource }
-    ensures { Gathers (W.contents out.old) (W.contents out.new) page.old page.new (tick_and_resource_text (system_of system.now) tick resource) result }
+    ensures { Gathers (W.contents out.old) (W.contents out.new) page.old page.new (tick_and_resource_text system.now tick resource) result }
 {
     page.put_number(out, tick as u128)?;
     page.put(out, b" ")?;
@@ -161,8 +162,11 @@ fn append_whole(page: &mut Page, number: i128)
     ensures text { page.new ≡ record page.old { waiting = page.old.waiting ++ value_text (Value.Whole number) } }
     ensures length { length page.new.waiting ≤ length page.old.waiting + VALUE }
 {
+    if number >= 0 && number < MOST as i128 {
+        return page.append_small(number as usize);
+    }
     if number >= 0 && number < 10000 {
-        return page.append_short(number as u32);
+        return page.append_four(number as u32);
     }
     if number < 0 {
         page.append_byte(b'-');

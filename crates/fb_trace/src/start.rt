@@ -50,7 +50,6 @@ pub(crate) fn append_start(page: &mut Page, tick: &LastNumber, head: &Head, valu
     ensures length { length page.new.waiting ≤ length page.old.waiting + START }
 {
     let (row, width) = tick.text();
-    page.append_front(row, width);
-    page.append_front(&head.text, head.width as usize);
+    page.append_both(row, width, &head.text, head.width as usize);
     append_first(page, values);
 }

@@ -1,6 +1,6 @@
 use Rattle.std.proofs.Common.{◌++◌, List, ℕ, take, ap, ◌∙◌}
 use Rattle.fb_trace.specs.Page.{Page}
-use Rattle.fb_trace.proofs.page.Page.append_short.Goals as goal
+use Rattle.fb_trace.proofs.page.Page.append_small.Goals as goal
 
 pub returns-clause-text : goal.returns-clause-text
 returns-clause-text c =

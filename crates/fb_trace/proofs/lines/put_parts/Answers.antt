@@ -1,0 +1,25 @@
+use Rattle.std.proofs.Common.{◌+◌, List, Bor, take, drop, map}
+use Rattle.fb_types.specs.Headline.{system_of}
+use Rattle.fb_types.specs.Numbers.{line_of}
+use Rattle.fb_types.specs.Text.{lines_text}
+use Rattle.fb_types.specs.declared.run.Line.{Line}
+use Rattle.fb_trace.specs.Fronts.{joint}
+use Rattle.fb_trace.proofs.Steps.{Puts-more, Fails-before, Fails-after, Gathers-passed}
+use Rattle.fb_trace.proofs.Texts.{parts_text-more, parts_text-parts}
+use Rattle.fb_trace.proofs.lines.put_parts.Goals as goal
+
+pub loop-part-preserved : goal.loop-part-preserved
+loop-part-preserved g c =
+    rw (parts_text-more c.args.form (system_of c.args.system.now) c.args.parts.now c.loop-part.part-index c.part-item.result c.loop-part-test.true c.part-item.is)
+    (Puts-more c.loop-part.invariant c.in_ok-put_lines.ensures.whole)
+
+pub returns-in_err-put_lines : goal.returns-in_err-put_lines
+returns-in_err-put_lines g c =
+    let sys = system_of c.args.system.now in
+    let xss = map (λ (q : Bor (List Line)). q.now) c.args.parts.now in
+    let i = c.loop-part.part-index in
+    Gathers-passed _ c.from_residual.ensures.1
+    (rw (← parts_text-parts c.args.form sys (i + 1) xss)
+    (Fails-before {x = lines_text c.args.form sys (map (line_of sys) (joint (take (i + 1) xss)))} (lines_text c.args.form sys (map (line_of sys) (joint (drop (i + 1) xss))))
+    (rw (parts_text-more c.args.form sys c.args.parts.now i c.part-item.result c.loop-part-test.true c.part-item.is)
+    (Fails-after {x = lines_text c.args.form sys (map (line_of sys) (joint (take i xss)))} c.loop-part.invariant c.in_err-put_lines.ensures.part))))

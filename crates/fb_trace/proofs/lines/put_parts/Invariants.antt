@@ -1,0 +1,13 @@
+use Rattle.std.proofs.Common.{take, map}
+use Rattle.fb_types.specs.Headline.{system_of}
+use Rattle.fb_types.specs.Numbers.{line_of}
+use Rattle.fb_types.specs.Text.{lines_text}
+use Rattle.fb_trace.specs.Fronts.{joint}
+use Rattle.fb_trace.specs.Progress.{Puts}
+use Rattle.fb_trace.proofs.lines.put_parts.Given as goal
+
+abbrev pub invariant-loop-part : goal.invariant-loop-part
+invariant-loop-part g l =
+    let sys = system_of l.system in
+    Puts (g.W.Write.contents l.initial.out) (g.W.Write.contents l.out) l.initial.page l.page
+    (lines_text l.form sys (map (line_of sys) (joint (take l.part-index (map (λ q. q.now) l.parts)))))
