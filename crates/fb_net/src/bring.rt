@@ -2,14 +2,13 @@
 
 ghost use Rattle.std.specs.Prelude.{◌≡◌, ◌<◌, ◌≢◌, false, length, All, Some};
 ghost use Rattle.fb_types.specs.Blocks.{Basic};
-ghost use Rattle.fb_types.specs.Headline.{system_of};
 ghost use Rattle.fb_types.specs.declared.library.BasicType.{BasicType};
 ghost use Rattle.fb_types.specs.OfSystem.{IsInstance, kind_at, path_at, ports_at};
 ghost use Rattle.fb_system.specs.IndexLists.{AreIndexes};
 ghost use Rattle.fb_system.specs.OfSystem.{IsCarried, IsPort};
 ghost use Rattle.fb_net.specs.Changes.{Changes};
-ghost use Rattle.fb_net.specs.Samples.{HoldsAll, all_sampled, slots_set};
-ghost use Rattle.fb_net.specs.OfSystem.{names_in};
+ghost use Rattle.fb_net.specs.Samples.{HoldsAll, all_sampled};
+ghost use Rattle.fb_net.specs.OfSystem.{names_in, slots_set};
 
 use crate::resource::Forest;
 use fb_system::{SlotValue, System};
@@ -45,7 +44,7 @@ pub fn keep_samples(
 pub fn set_slots(forest: &mut Forest, system: &System, instance: u32, sets: &[SlotValue])
     requires instance { IsInstance system.now instance }
     requires within { All (λ s. s.index < length (ports_at system.now (path_at system.now instance)).inputs) sets.now }
-    ensures { Changes system.now forest.old instance (slots_set (system_of system.now) instance sets.now) forest.new }
+    ensures { Changes system.now forest.old instance (slots_set system.now instance sets.now) forest.new }
 {
     for set in sets {
         let input = InstanceVariable {

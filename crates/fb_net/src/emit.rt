@@ -1,19 +1,17 @@
 //! Emissions, and where events go.
 
 ghost use Rattle.std.specs.Prelude.{◌≡◌, ◌≢◌, ◌++◌, ◌∷◌, [], ◌<◌, length, map, All, IfOk, OnOk, true};
-ghost use Rattle.fb_types.specs.Headline.{system_of};
 ghost use Rattle.fb_types.specs.Blocks.{outputs_with};
 ghost use Rattle.fb_types.specs.Numbers.{event_at};
 ghost use Rattle.fb_types.specs.OfSystem.{IsInstance, IsResource, carried_of, line_of, path_at, port_of, ports_at, resource_at, spread, targets_at};
-ghost use Rattle.fb_system.specs.Ends.{LeadsTo};
 ghost use Rattle.fb_system.specs.Lines.{IsEmission};
 ghost use Rattle.fb_system.specs.IndexLists.{AreIndexes};
 ghost use Rattle.fb_system.specs.PortRows.{IsPortRow};
-ghost use Rattle.fb_system.specs.OfSystem.{BelongsTo, IsCarried, IsPort, IsTarget};
+ghost use Rattle.fb_system.specs.OfSystem.{BelongsTo, IsCarried, IsPort, IsTarget, LeadsTo};
 ghost use Rattle.fb_net.specs.Changes.{Changes};
-ghost use Rattle.fb_net.specs.Emitting.{PutsOut, bare, carried_by, others, outputs_at, outputs_shown};
-ghost use Rattle.fb_net.specs.Steps.{ArePutOut, EmitsAll, EmitsWell, IsKept, IsSame, MayEmit, ports_in, system_in};
-ghost use Rattle.fb_net.specs.OfSystem.{IsOut, out_of};
+ghost use Rattle.fb_net.specs.Emitting.{bare, carried_by, others, outputs_shown};
+ghost use Rattle.fb_net.specs.Steps.{ArePutOut, EmitsAll, EmitsWell, IsKept, IsSame, MayEmit, ports_in};
+ghost use Rattle.fb_net.specs.OfSystem.{IsOut, PutsOut, out_of, outputs_at};
 
 use crate::outbox::{Out, Outbox, OutgoingMessage};
 use crate::resource::Forest;
@@ -40,7 +38,7 @@ fn put_out(
     requires resource { IsResource system.now resource }
     requires target { IsTarget system.now target }
     requires carried { All (IsCarried system.now) (carried_by instance indexes.now values.now) }
-    ensures { OnOk result (PutsOut (system_of system.now) resource (map (carried_of system.now) (carried_by instance indexes.now values.now)) (port_of system.now target) outs.old.items outs.new.items) }
+    ensures { OnOk result (PutsOut system.now resource (map (carried_of system.now) (carried_by instance indexes.now values.now)) (port_of system.now target) outs.old.items outs.new.items) }
 {
     if system.resource(target.instance) != resource {
         return put_message(outs, resource, system, target, instance, indexes, values);
@@ -66,7 +64,7 @@ fn put_message(
     requires target { IsTarget system.now target }
     requires away { resource_at system.now (path_at system.now target.instance) ≢ resource }
     requires carried { All (IsCarried system.now) (carried_by instance indexes.now values.now) }
-    ensures { OnOk result (PutsOut (system_of system.now) resource (map (carried_of system.now) (carried_by instance indexes.now values.now)) (port_of system.now target) outs.old.items outs.new.items) }
+    ensures { OnOk result (PutsOut system.now resource (map (carried_of system.now) (carried_by instance indexes.now values.now)) (port_of system.now target) outs.old.items outs.new.items) }
 {
     // There are at most 1,024 links, so that the number of one fits.
     system.facts();
@@ -97,7 +95,7 @@ pub fn send_out(
 ) -> Result<(), AllocError>
     requires resource { IsResource system.now forest.now.resource }
     requires port { IsPort system.now from }
-    requires first { LeadsTo (system_of system.now) from 0 first.now }
+    requires first { LeadsTo system.now from 0 first.now }
     requires carried { All (IsCarried system.now) (carried_by from.instance indexes.now values.now) }
     ensures sent { OnOk result (map (out_of system.now) outs.new.items ≡ map (out_of system.now) outs.old.items
         ++ spread system.now forest.now.resource (map (carried_of system.now) (carried_by from.instance indexes.now values.now)) (targets_at system.now (port_of system.now from))) }
@@ -255,7 +253,7 @@ fn publish_all(
 )
     requires instance { IsInstance system.now instance }
     requires within { All (λ k. k < length (ports_at system.now (path_at system.now instance)).outputs) indexes.now }
-    ensures { Changes system.now forest.old instance (outputs_shown (outputs_at (system_of system.now) instance indexes.now values.now)) forest.new }
+    ensures { Changes system.now forest.old instance (outputs_shown (outputs_at system.now instance indexes.now values.now)) forest.new }
 {
     for (index, value) in indexes.iter().zip(values) {
         let output = InstanceVariable {
@@ -414,7 +412,7 @@ impl Taking<'_> {
     ) -> Result<(), AllocError>
         requires index { MayEmit self.old instance }
         requires event { event < length (ports_in self.old instance).event_outputs }
-        requires first { LeadsTo (system_in self.old) (record { instance = instance; event = event; is_output = true }) 0 first.now }
+        requires first { LeadsTo self.old.system.now (record { instance = instance; event = event; is_output = true }) 0 first.now }
         requires indexes { let its = ports_in self.old instance in AreIndexes its.outputs (outputs_with its (event_at its.event_outputs event)) (variable ∷ []) }
         ensures emitted { OnOk result (EmitsWell self.old instance (record { event = event; values = value.now ∷ [] } ∷ []) self.new) }
 
@@ -465,7 +463,7 @@ impl Taking<'_> {
     ) -> Result<(), AllocError>
         requires index { MayEmit self.old instance }
         requires emission { IsEmission (ports_in self.old instance) emission }
-        requires first { LeadsTo (system_in self.old) (record { instance = instance; event = emission.event; is_output = true }) 0 first.now }
+        requires first { LeadsTo self.old.system.now (record { instance = instance; event = emission.event; is_output = true }) 0 first.now }
         requires indexes { let its = ports_in self.old instance in AreIndexes its.outputs (outputs_with its (event_at its.event_outputs emission.event)) indexes.now }
         ensures emitted { OnOk result (EmitsWell self.old instance (emission ∷ []) self.new) }
 

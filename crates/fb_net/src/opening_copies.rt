@@ -1,9 +1,8 @@
 //! The held copies of a resource before the first event.
 
-ghost use Rattle.std.specs.Prelude.{◌≡◌, ◌≤◌, ℕ, IfOk, OnOk};
-ghost use Rattle.fb_types.specs.Headline.{system_of};
+ghost use Rattle.std.specs.Prelude.{◌≡◌, IfOk, OnOk};
 ghost use Rattle.fb_types.specs.OfSystem.{IsInstance};
-ghost use Rattle.fb_system.specs.OfSystem.{IsVariable, variable_of};
+ghost use Rattle.fb_system.specs.OfSystem.{IsVariable, initial_at, variable_of};
 ghost use Rattle.fb_net.specs.Opening.{Covers, CoversAll, CoversIndexes, KeepsCovers};
 
 use crate::resource::HeldCopies;
@@ -15,7 +14,7 @@ use std::collections::BTreeMap;
 /// What a variable begins with.
 fn initial(alloc: Global, system: &System, variable: InstanceVariable) -> Result<Value, AllocError>
     requires { IsVariable system.now variable }
-    ensures { IfOk result (λ v. v ≡ (system_of system.now).initial (variable_of system.now variable)) }
+    ensures { IfOk result (λ v. v ≡ initial_at system.now (variable_of system.now variable)) }
 {
     let values = if variable.is_output {
         system.initial_outputs(alloc, variable.instance)?

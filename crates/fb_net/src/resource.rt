@@ -4,13 +4,12 @@ ghost use Rattle.std.specs.Prelude.{◌≡◌, ◌∷◌, option_map, slice_get,
 ghost use Rattle.std.specs.BTreeMap.{get};
 ghost use Rattle.std.specs.Option.{option_copied};
 ghost use Rattle.fb_types.specs.Flat.{zero_value};
-ghost use Rattle.fb_types.specs.Headline.{system_of};
 ghost use Rattle.fb_types.specs.Reactions.{World};
 ghost use Rattle.fb_types.specs.OfSystem.{IsInstance, path_at};
 ghost use Rattle.fb_system.specs.OfSystem.{ComesFrom, IsVariable, variable_of};
 ghost use Rattle.fb_net.specs.Changes.{Changes, Holds, ShowsInside, input_sampled, output_shown, slot_set};
-ghost use Rattle.fb_net.specs.Worlds.{TakesSamples, Found, InForest, IsForest, Reads, Samples, Sees, Shows, key_cmp, key_of, seat_in, value_in, way_in, with_seated};
-ghost use Rattle.fb_net.specs.OfSystem.{IsComposite};
+ghost use Rattle.fb_net.specs.Worlds.{Found, InForest, IsForest, Reads, Samples, Sees, Shows, key_cmp, key_of, seat_in, value_in, way_in, with_seated};
+ghost use Rattle.fb_net.specs.OfSystem.{IsComposite, TakesSamples};
 
 use crate::block::Block;
 use crate::shell::Shell;
@@ -292,7 +291,7 @@ impl Forest {
     pub(crate) fn set_input(&mut self, system: &System, input: InstanceVariable, value: Value)
         requires variable { IsVariable system.now input }
         requires input { input.is_output ≡ false }
-        requires takes { TakesSamples (system_of system.now) input }
+        requires takes { TakesSamples system.now input }
         ensures { Changes system.now self.old input.instance (input_sampled (variable_of system.now input).name value) self.new }
     {
         system.facts();

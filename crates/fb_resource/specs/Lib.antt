@@ -6,3 +6,4 @@ pub mod Postings
 pub mod Waiting
 pub mod Resources
 pub mod Runs
+pub mod OfSystem

@@ -1,15 +1,14 @@
 //! The events that wait at the beginning: the stimuli, and the timers that start by themselves.
 
 ghost use Rattle.std.specs.Prelude.{◌≡◌, ◌+◌, ◌<◌, ℕ, length, IfOk, OnOk, Some};
-ghost use Rattle.fb_types.specs.Headline.{system_of};
 ghost use Rattle.fb_types.specs.Keys.{found, or_else};
-ghost use Rattle.fb_types.specs.Simulation.{restart_of};
 ghost use Rattle.fb_types.specs.declared.key.Key as keys;
 ghost use Rattle.fb_types.specs.declared.run.Event.TheVariants.{Stimulus};
 ghost use Rattle.fb_types.specs.OfSystem.{IsInstance, IsResource, instance_count, link_count, opening_state, path_at, resource_at};
 ghost use Rattle.fb_resource.specs.Openings.{AreOpenedApart, HasRestarts, HasStimuli, HasTimersBelow, IsOpened, IsStimulusKey, OneEach, is_of};
 ghost use Rattle.fb_resource.specs.Posts.{CountsAre};
 ghost use Rattle.fb_resource.specs.Waiting.{IsInOrder, MayWait, meaning};
+ghost use Rattle.fb_resource.specs.OfSystem.{restart_of};
 
 use fb_agenda::Agenda;
 use fb_check_names::TypeNumber;
@@ -77,7 +76,7 @@ fn start_restart(agenda: &mut Agenda, system: &System, instance: u32) -> Result<
     requires due { length agenda.old.due ≡ instance_count system.now }
     requires order { IsInOrder system.now 0 agenda.old }
     requires timers { HasTimersBelow instance agenda.old }
-    ensures put { OnOk result ((j : keys.Key) → meaning system.now agenda.new j ≡ or_else (found j (restart_of (system_of system.now) (path_at system.now instance))) (meaning system.now agenda.old j)) }
+    ensures put { OnOk result ((j : keys.Key) → meaning system.now agenda.new j ≡ or_else (found j (restart_of system.now (path_at system.now instance))) (meaning system.now agenda.old j)) }
     ensures order { OnOk result (IsInOrder system.now 0 agenda.new) }
     ensures timers { OnOk result (HasTimersBelow (instance + 1) agenda.new) }
     ensures due { length agenda.new.due ≡ length agenda.old.due }

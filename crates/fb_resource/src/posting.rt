@@ -1,16 +1,17 @@
 //! Posting what taking an event puts out: the timer, local events onto the agenda, messages after the mail.
 
 ghost use Rattle.std.specs.Prelude.{◌≡◌, ◌+◌, ◌<◌, ◌≤◌, ◌^◌, ◌++◌, ◌∷◌, ℕ, [], length, All, IfSome, OnOk, slice_index, slice_set};
-ghost use Rattle.fb_types.specs.Headline.{system_of};
 ghost use Rattle.fb_types.specs.Keys.{local_key};
 ghost use Rattle.fb_types.specs.States.{path_of};
 ghost use Rattle.fb_types.specs.declared.run.Event.TheVariants.{Local};
 ghost use Rattle.fb_types.specs.declared.run.TimerAsk.TheVariants.{Keep};
 ghost use Rattle.fb_types.specs.OfSystem.{IsInstance, IsResource, link_count, path_at};
+ghost use Rattle.fb_system.specs.OfSystem.{arrival_over, number_at};
 ghost use Rattle.fb_net.specs.Events.{IsEventIn, IsNumbered, event_of};
 ghost use Rattle.fb_net.specs.declared.outbox.Out.TheVariants as put_out;
-ghost use Rattle.fb_resource.specs.Posts.{IsPostable, IsPut, message_of};
+ghost use Rattle.fb_resource.specs.Posts.{IsPostable, IsPut};
 ghost use Rattle.fb_resource.specs.Takings.{IsEmptied, IsLater, IsLone};
+ghost use Rattle.fb_resource.specs.OfSystem.{message_of};
 
 use fb_agenda::Agenda;
 use fb_link::arrival;
@@ -53,9 +54,9 @@ fn post_message(
     requires link { sending.link < link_count system.now }
     requires counted { length sent.old.items ≡ link_count system.now }
     requires early { key.now.tick ≤ 10 ^ 12 }
-    ensures put { OnOk result (mail.new.items ≡ mail.old.items ++ message_of (system_of system.now) key.now sending (slice_index sent.old.items sending.link) ∷ []) }
+    ensures put { OnOk result (mail.new.items ≡ mail.old.items ++ message_of system.now key.now sending (slice_index sent.old.items sending.link) ∷ []) }
     ensures counted { OnOk result (sent.new.items ≡ slice_set sent.old.items sending.link (slice_index sent.old.items sending.link + 1)) }
-    ensures later { OnOk result (key.now.tick < (system_of system.now).arrival sending.link key.now.tick) }
+    ensures later { OnOk result (key.now.tick < arrival_over system.now sending.link key.now.tick) }
 {
     let number = sent[sending.link as usize];
     let next = number.checked_add(1).ok_or(AllocError)?;
@@ -159,7 +160,7 @@ pub(crate) struct Posting<'a> {
     // The key names a resource of the deployment, its tick is at most 10^12, and each instance has its number.
     ghost named: { IsResource system.now key.now.resource },
     ghost early: { key.now.tick ≤ 10 ^ 12 },
-    ghost numbered: { (i : ℕ) → IsInstance system.now i → (system_of system.now).number (path_at system.now i) ≡ i },
+    ghost numbered: { (i : ℕ) → IsInstance system.now i → number_at system.now (path_at system.now i) ≡ i },
 }
 
 impl Posting<'_> {

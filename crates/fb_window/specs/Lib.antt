@@ -12,3 +12,4 @@ pub mod Reached
 pub mod Walking
 pub mod Noting
 pub mod Turning
+pub mod OfSystem

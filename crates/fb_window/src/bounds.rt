@@ -4,16 +4,14 @@ ghost use Rattle.std.specs.Prelude.{◌≡◌, ◌^◌, ◌<◌, ◌≤◌, ℕ,
 ghost use Rattle.fb_agenda.specs.Agendas.{IsNext, waiting};
 ghost use Rattle.fb_resource.specs.declared.resource.Resource.{Resource};
 ghost use Rattle.fb_types.specs.Cores.{floor_of};
-ghost use Rattle.fb_types.specs.Headline.{system_of};
-ghost use Rattle.fb_types.specs.Parts.{count_of};
 ghost use Rattle.fb_types.specs.declared.key.Key.{Key};
-ghost use Rattle.fb_types.specs.OfSystem.{link_count};
-ghost use Rattle.fb_window.specs.Bounding.{AreGreatest};
-ghost use Rattle.fb_laws.specs.Cuts.{IsCut, LinkAllows, StopAllows};
+ghost use Rattle.fb_types.specs.OfSystem.{link_count, resource_count};
+ghost use Rattle.fb_laws.specs.Cuts.{IsCut, StopAllows};
 ghost use Rattle.fb_window.specs.Jobs.{AreOf};
 ghost use Rattle.fb_window.specs.Reached.{KeepHorizon};
 ghost use Rattle.fb_window.specs.Reaching.{OfEachCore};
 ghost use Rattle.fb_window.specs.Leaving.{AreLegal};
+ghost use Rattle.fb_window.specs.OfSystem.{AreGreatest, LinkAllows};
 
 use crate::cores::{Bounds, Core, CoreState};
 use crate::links::SystemLinks;
@@ -31,7 +29,7 @@ impl Core {
         requires early { horizon ≤ 10 ^ 12 }
         requires cap { 1 ≤ cap }
         ensures horizon { result.horizon ≡ horizon }
-        ensures bounds { OfEachCore self.now.system self.now.steps self.now.resources.items (λ c. AreGreatest (system_of self.now.system) self.now.steps horizon cap c result.all) }
+        ensures bounds { OfEachCore self.now.system self.now.steps self.now.resources.items (λ c. AreGreatest self.now.system self.now.steps horizon cap c result.all) }
         ensures legal { OfEachCore self.now.system self.now.steps self.now.resources.items (λ c. AreLegal self.now.system self.now.steps horizon c result.all) }
     {
         self.state.bounds(horizon, cap)
@@ -46,7 +44,7 @@ impl CoreState {
         requires early { horizon ≤ 10 ^ 12 }
         requires cap { 1 ≤ cap }
         ensures horizon { result.horizon ≡ horizon }
-        ensures bounds { OfEachCore self.now.system self.now.steps self.now.resources.items (λ c. AreGreatest (system_of self.now.system) self.now.steps horizon cap c result.all) }
+        ensures bounds { OfEachCore self.now.system self.now.steps self.now.resources.items (λ c. AreGreatest self.now.system self.now.steps horizon cap c result.all) }
         ensures legal { OfEachCore self.now.system self.now.steps self.now.resources.items (λ c. AreLegal self.now.system self.now.steps horizon c result.all) }
     {
         self.system.facts();
@@ -107,10 +105,10 @@ fn arrivals(
     least: u64,
     top: u64,
 ) -> [u64; MOST_RESOURCES]
-    requires counted { length resources.now ≡ count_of (system_of system.now) }
+    requires counted { length resources.now ≡ resource_count system.now }
     requires early { top ≤ 10 ^ 12 }
     ensures long { length result ≡ 256 }
-    ensures cut { (r : ℕ) → r < 256 → IsCut (LinkAllows (λ (x : Resource). x.clock) (λ (x : Resource). x.stopped) (system_of system.now) resources.now least r) top (link_count system.now) (slice_index result r) }
+    ensures cut { (r : ℕ) → r < 256 → IsCut (LinkAllows system.now resources.now least r) top (link_count system.now) (slice_index result r) }
 {
     let mut all = [top; MOST_RESOURCES];
     for link in system.rows() {

@@ -3,13 +3,13 @@
 ghost use Rattle.std.specs.Prelude.{◌≡◌, ◌<◌, ◌++◌, ℕ, [], ◌∷◌, true, All, IfOk, OnOk, Some, length, slice_get};
 ghost use Rattle.std.specs.Global.{Vec};
 ghost use Rattle.std.specs.Vec.Iter.{into_iter_items};
-ghost use Rattle.fb_types.specs.Headline.{system_of};
 ghost use Rattle.fb_types.specs.declared.run.Message as model;
 ghost use Rattle.fb_types.specs.OfSystem.{IsInstance, resource_count};
 ghost use Rattle.fb_link.specs.Exchanges.{all_of};
 ghost use Rattle.fb_resource.specs.Resources.{HasReceived};
 ghost use Rattle.fb_resource.specs.declared.resource.Resource.{Resource};
-ghost use Rattle.fb_window.specs.Mails.{AreDelivered, ArePosted};
+ghost use Rattle.fb_window.specs.Mails.{AreDelivered};
+ghost use Rattle.fb_window.specs.OfSystem.{ArePosted};
 
 use fb_link::exchange;
 use fb_resource::Resource;
@@ -96,7 +96,7 @@ pub(crate) fn post(
 ) -> Result<Vec<Resource>, AllocError>
     requires counted { length resources.items ≡ resource_count system.now }
     requires targets { All (λ box. All (λ m. IsInstance system.now m.target.instance) box.items) outboxes.items }
-    ensures { IfOk result (λ v. ArePosted (system_of system.now) (all_of outboxes.items) resources.items v.items) }
+    ensures { IfOk result (λ v. ArePosted system.now (all_of outboxes.items) resources.items v.items) }
 {
     if are_empty(&outboxes) {
         return Ok(resources);

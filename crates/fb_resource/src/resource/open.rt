@@ -1,12 +1,10 @@
 //! How a resource begins.
 
 ghost use Rattle.std.specs.Prelude.{◌≡◌, ℕ, None, Some, IfOk};
-ghost use Rattle.fb_types.specs.Headline.{stimuli_of, system_of};
-ghost use Rattle.fb_types.specs.Parts.{local_of};
-ghost use Rattle.fb_types.specs.Simulation.{opening};
 ghost use Rattle.fb_types.specs.OfSystem.{IsResource};
 ghost use Rattle.fb_resource.specs.Openings.{IsOpened};
 ghost use Rattle.fb_resource.specs.Resources.{AreOpened, IsFresh, IsOf, Represents};
+ghost use Rattle.fb_resource.specs.OfSystem.{opening_part};
 
 use crate::opening::{open_agenda, open_agendas, open_sent};
 use crate::resource::Resource;
@@ -46,7 +44,7 @@ impl Resource {
     pub fn open(alloc: Global, system: &System, number: u32) -> Result<Resource, AllocError>
         requires { IsResource system.now number }
         ensures of { IfOk result (IsOf system.now) }
-        ensures opened { IfOk result (λ x. (limit : ℕ) → Represents system.now limit (local_of (system_of system.now) limit number (opening (system_of system.now) (stimuli_of system.now)) None) x) }
+        ensures opened { IfOk result (λ x. (limit : ℕ) → Represents system.now limit (opening_part system.now limit number) x) }
         ensures fresh { IfOk result (λ x. (x.tree.resource ≡ number) × (x.clock ≡ 0) × (x.stopped ≡ None)) }
     {
         let agenda = open_agenda(alloc, system, Some(number))?;
