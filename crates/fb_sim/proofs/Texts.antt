@@ -1,11 +1,11 @@
 -- The text of a trace that is written piece by piece, with the counts of its bytes.
-use Rattle.std.proofs.Common.{◌≡◌, ℕ, zero, suc, ◌+◌, ◌^◌, ◌<◌, List, [], ◌∷◌, ◌++◌, map, length, take, Option, refl, sym, ap, ap₂, ◌∙◌, subst, arith, append_assoc, length-append}
+use Rattle.std.proofs.Common.{◌≡◌, ℕ, zero, suc, ◌+◌, ◌^◌, ◌<◌, List, [], ◌∷◌, ◌++◌, map, length, take, Option, refl, sym, ap, ap₂, ◌∙◌, subst, arith, append_assoc, append-nil, length-append, get_or, drop, take-append-drop}
 use native.Mathlib.Nat.{le_refl}
 use denote.RawPtr.{null_ptr}
 use Rattle.std.specs.Global.{Global, Vec}
 use Rattle.std.specs.Io.KnownBytes.{Appends}
 use Rattle.std.proofs.KnownBytes.{Appends-trans}
-use Rattle.std.proofs.lemmas.List.{map-append}
+use Rattle.std.proofs.lemmas.List.{map-append, take_more}
 use Rattle.std.proofs.lemmas.List.Sorted.{length_permutation}
 use Rattle.fb_types.specs.Headline.{Inputs, system_of}
 use Rattle.fb_types.specs.Numbers.{line_of}
@@ -17,7 +17,7 @@ use Rattle.fb_types.specs.declared.run.Line as run
 use Rattle.fb_trace.specs.Merging.{Lists, flat}
 use Rattle.fb_trace.specs.Progress.{IsPartWritten, bounded}
 use Rattle.fb_window.specs.Settling.{IsMerged}
-use Rattle.fb_sim.specs.Weaving.{AreDivided, IsWovenText}
+use Rattle.fb_sim.specs.Weaving.{AreDivided, IsWovenText, all_bytes}
 use Rattle.fb_sim.proofs.Weaving.{woven_joined, woven_merged}
 
 -- the text of lines, and then of more lines
@@ -34,13 +34,6 @@ parts_text form sys xs ys zs e =
     sym (lines_text-append form sys (map (line_of sys) xs) (map (line_of sys) ys))
     ∙ ap (lines_text form sys) (sym (map-append (line_of sys) xs ys))
     ∙ ap (λ (ls : List run.Line). lines_text form sys (map (line_of sys) ls)) (sym e)
-
--- the text of some lines, and then of more
-pub text_more : (form : Form) (sys : System) (old mid new : List ℕ) (xs ys : List run.Line) → mid ≡ old ++ lines_text form sys (map (line_of sys) xs)
-    → new ≡ mid ++ lines_text form sys (map (line_of sys) ys) → new ≡ old ++ lines_text form sys (map (line_of sys) (xs ++ ys))
-text_more form sys old mid new xs ys e f =
-    f ∙ ap (λ z. z ++ lines_text form sys (map (line_of sys) ys)) e ∙ append_assoc old (lines_text form sys (map (line_of sys) xs)) (lines_text form sys (map (line_of sys) ys))
-    ∙ ap (λ z. old ++ z) (parts_text form sys xs ys (xs ++ ys) refl)
 
 -- the texts of two parts of lists, one after the other
 pub woven_text-joined : (i : Inputs) (form : Form) (lists firsts lasts : List (List run.Line)) → AreDivided lists firsts lasts → (x y : List ℕ)
@@ -101,3 +94,18 @@ part-after {old} {mid} {new} x {y} {n} {m} got counted p = record {
   got = subst (λ (t : List ℕ). Appends old new t) (sym (take_after x y p.count)) (Appends-trans old mid new x (take p.count y) got p.got);
   counted = let c = p.counted in omega arith;
 }
+
+-- ---- Texts, one after another
+
+all_bytes-append : (vs ws : List (Vec ℕ)) → all_bytes (vs ++ ws) ≡ all_bytes vs ++ all_bytes ws
+all_bytes-append [] ws = refl
+all_bytes-append (v ∷ vs) ws = ap (λ z. v.items ++ z) (all_bytes-append vs ws) ∙ sym (append_assoc v.items (all_bytes vs) (all_bytes ws))
+
+pub all_bytes-snoc : (vs : List (Vec ℕ)) (v : Vec ℕ) → all_bytes (vs ++ v ∷ []) ≡ all_bytes vs ++ v.items
+all_bytes-snoc vs v = all_bytes-append vs (v ∷ []) ∙ ap (λ z. all_bytes vs ++ z) (append-nil v.items)
+
+pub all_bytes-parts : (i : ℕ) (vs : List (Vec ℕ)) → all_bytes (take i vs) ++ all_bytes (drop i vs) ≡ all_bytes vs
+all_bytes-parts i vs = sym (all_bytes-append (take i vs) (drop i vs)) ∙ ap all_bytes (take-append-drop i vs)
+
+pub all_bytes-more : (vs : List (Vec ℕ)) (i : ℕ) (v : Vec ℕ) → i < length vs → v ≡ get_or vs i v → all_bytes (take (i + 1) vs) ≡ all_bytes (take i vs) ++ v.items
+all_bytes-more vs i v within read = ap all_bytes (take_more vs i v within ∙ ap (λ z. take i vs ++ z ∷ []) (sym read)) ∙ all_bytes-snoc (take i vs) v

@@ -1,7 +1,7 @@
 -- Lists whose lines are taken tick by tick, and lists that are cut in two.
 use Rattle.std.proofs.Common.{◌≡◌, ℕ, zero, suc, ◌+◌, ◌<◌, ◌≤◌, Bool, true, false, Some, List, [], ◌∷◌, ◌++◌, length, get_or, take, drop, map, filter, refl, sym, ap, ap₂, ◌∙◌, subst, ⊎_elim, arith, All, Bor, Vec, IsPermutation, append-nil, append_assoc}
 use Rattle.std.specs.Prelude.{nat_lt, slice_get, if◌then◌else◌}
-use Rattle.std.proofs.lemmas.Bool.{cases_lt, cond_both, cond-true, cond-false, lt-ltb, le-ltb, ltb-true, ltb-false}
+use Rattle.std.proofs.lemmas.Bool.{cases_lt, cond-true, cond-false, lt-ltb, le-ltb, ltb-true, ltb-false}
 use Rattle.std.proofs.lemmas.List.Elements.{All-nil, All-cons, All-head, All-tail, All-from_recursion, recursion_from_All}
 use Rattle.std.specs.List.Sorted.{IsPartitionedBy, IsPartitionPoint}
 use Rattle.std.proofs.lemmas.List.Sorted.{All-permutation, IsPartitionedBy-ltb, IsPermutation-refl, IsPermutation-trans, IsPermutation-append, IsPermutation-append_left, IsPermutation-append_right, IsPermutation-append_comm}
@@ -9,15 +9,14 @@ use Rattle.std.specs.declared.alloc.Global.{Global}
 use Rattle.fb_types.specs.Machines.{Each}
 use Rattle.fb_types.proofs.EachLaws.{each_map, each_append}
 use Rattle.fb_types.specs.declared.run.Line.{Line}
-use Rattle.fb_trace.specs.Fronts.{IsEmpty, all_late, before, early, late}
+use Rattle.fb_trace.specs.Fronts.{IsEmpty, early, joint, late}
 use Rattle.fb_trace.specs.Merging.{Lists, tick_of, Rises, AreRising, flat}
 use Rattle.fb_window.specs.Settling.{IsMerged}
-use Rattle.fb_sim.specs.Weaving.{AreCut, AreDivided, IsWoven, joint, until}
+use Rattle.fb_sim.specs.Weaving.{AreCut, AreDivided, IsWoven, until}
 use Rattle.fb_sim.specs.declared.weave.Cut.{Cut}
 use Rattle.fb_trace.proofs.Sorting.{filter_nothing, filter_joined, rises_append, tie, tie_less, tie_more}
 use Rattle.fb_trace.proofs.Taking.{IsTaken, none_early, one_early, one_late}
 use Rattle.std.proofs.lemmas.List.{drop_all, drop_more, take_more}
-use Rattle.fb_trace.proofs.Taking as taking
 use Rattle.fb_trace.proofs.Together.{merged}
 
 each_left : (P : Line → Type 0) (xs ys : List Line) → Each P (xs ++ ys) → Each P xs
@@ -30,17 +29,13 @@ each_right P (x ∷ xs) ys h = each_right P xs ys h.1
 
 -- ---- Tick by tick
 
-joint_same : (xss : List (List Line)) → taking.joint xss ≡ joint xss
-joint_same [] = refl
-joint_same (xs ∷ rest) = ap (λ z. xs ++ z) (joint_same rest)
-
 pub begin_all : (xss : List (List Line)) → IsTaken xss [] xss
 begin_all xss = record {
-  whole = IsPermutation-refl (taking.joint xss);
+  whole = IsPermutation-refl (joint xss);
   order = λ up. record { up = up; risen = tt; following = tt; stable = λ x. refl };
 }
 
-nothing : (xss : List (List Line)) → Each IsEmpty xss → taking.joint xss ≡ []
+nothing : (xss : List (List Line)) → Each IsEmpty xss → joint xss ≡ []
 nothing [] h = refl
 nothing ([] ∷ rest) h = nothing rest h.1
 nothing ((x ∷ xs) ∷ rest) h = absurd h.0
@@ -48,13 +43,13 @@ nothing ((x ∷ xs) ∷ rest) h = absurd h.0
 -- all lines are taken
 pub all_woven : (xss : List (List Line)) (all : List Line) (left : List (List Line)) → IsTaken xss all left → Each IsEmpty left → IsWoven xss all
 all_woven xss all left it none = record {
-  whole = subst (λ z. IsPermutation z all) (joint_same xss) (subst (IsPermutation (taking.joint xss)) same it.whole);
+  whole = subst (IsPermutation (joint xss)) same it.whole;
   rises = λ up. (it.order up).risen;
   stable = λ up x.
-      subst (λ z. filter (tie tick_of x) z ≡ filter (tie tick_of x) (joint xss)) same ((it.order up).stable x ∙ ap (filter (tie tick_of x)) (joint_same xss));
+      subst (λ z. filter (tie tick_of x) z ≡ filter (tie tick_of x) (joint xss)) same ((it.order up).stable x);
 }
   where
-    same : all ++ taking.joint left ≡ all
+    same : all ++ joint left ≡ all
     same = ap (λ z. all ++ z) (nothing left none) ∙ append-nil all
 
 all_rise : (vs : Lists) → AreRising vs → Each (Rises tick_of) (map (λ v. v.items) vs)
@@ -93,26 +88,6 @@ all_of_each P [] h = All-nil (λ (z : Bor (List Line)). All P z.now)
 all_of_each P (q ∷ qs) h =
     All-cons (λ (z : Bor (List Line)). All P z.now) q qs (All-from_recursion P q.now (each_left P q.now (joint (map (λ (z : Bor (List Line)). z.now) qs)) h))
     (all_of_each P qs (each_right P q.now (joint (map (λ (z : Bor (List Line)). z.now) qs)) h))
-
--- the same, of lists from which lines are taken
-pub left_of_all : (P : Line → Type 0) (qs : List (Bor (List Line))) → All (λ q. All P q.now) qs → Each P (taking.joint (map (λ q. q.now) qs))
-left_of_all P qs h = subst (Each P) (sym (joint_same (map (λ (z : Bor (List Line)). z.now) qs))) (each_of_all P qs h)
-
-pub all_of_left : (P : Line → Type 0) (qs : List (Bor (List Line))) → Each P (taking.joint (map (λ q. q.now) qs)) → All (λ q. All P q.now) qs
-all_of_left P qs h = all_of_each P qs (subst (Each P) (joint_same (map (λ (z : Bor (List Line)). z.now) qs)) h)
-
-module _ (P : Line → Type 0) (t : ℕ) where
-  late_each : (xs : List Line) → Each P xs → Each P (late t xs)
-  late_each [] h = tt
-  late_each (x ∷ xs) h = let k = late_each xs h.1 in cond_both (nat_lt t (tick_of x)) (x ∷ xs) (late t xs) (Each P) (λ e. h) (λ e. k)
-
-  front_each : (xs : List Line) (rest : List (List Line)) → Each P xs → Each P (taking.joint rest) → Each P (taking.joint (before xs rest))
-  front_each [] rest h k = k
-  front_each (x ∷ xs) rest h k = each_append P (x ∷ xs) (taking.joint rest) h k
-
-  pub left_each : (xss : List (List Line)) → Each P (taking.joint xss) → Each P (taking.joint (all_late t xss))
-  left_each [] h = tt
-  left_each (xs ∷ rest) h = front_each (late t xs) (all_late t rest) (late_each xs (each_left P xs (taking.joint rest) h)) (left_each rest (each_right P xs (taking.joint rest) h))
 
 -- ---- What a search finds
 
@@ -394,3 +369,7 @@ module _ (t n : ℕ) (xs : List Line) (before : take n xs ++ early t (drop n xs)
 
     pub end_late : drop n xs ≡ late t xs
     end_late = drop_all n xs end ∙ sym (ap (late t) (drop_all n xs end)) ∙ after
+
+-- what holds of all lines of slices holds of those of the parts that they are woven to
+pub woven_each : (P : Line → Type 0) (qs ps : List (Bor (List Line))) → IsWoven (map (λ q. q.now) qs) (joint (map (λ q. q.now) ps)) → All (λ q. All P q.now) qs → All (λ q. All P q.now) ps
+woven_each P qs ps it h = all_of_each P ps (moved_each P (joint (map (λ (q : Bor (List Line)). q.now) qs)) (joint (map (λ (q : Bor (List Line)). q.now) ps)) it.whole (each_of_all P qs h))

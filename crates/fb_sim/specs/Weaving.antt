@@ -1,7 +1,8 @@
 -- Lines of several lists, taken tick by tick and list by list (this project's profile).
-use Rattle.std.specs.Prelude.{◌≡◌, ℕ, suc, ◌+◌, ◌<◌, ◌≤◌, nat_lt, if◌then◌else◌, List, [], ◌∷◌, ◌++◌, map}
+use Rattle.std.specs.Prelude.{◌≡◌, ℕ, suc, ◌+◌, ◌<◌, ◌≤◌, nat_lt, if◌then◌else◌, List, [], ◌∷◌, ◌++◌, map, Vec}
 use Rattle.std.specs.List.{filter}
 use Rattle.std.specs.List.Sorted.{IsPermutation, ties}
+use Rattle.std.specs.declared.alloc.Global.{Global}
 use Rattle.std.specs.Ordering.{is_lt, nat_cmp}
 use Rattle.fb_types.specs.Headline.{Inputs, system_of}
 use Rattle.fb_types.specs.Machines.{Each}
@@ -9,13 +10,9 @@ use Rattle.fb_types.specs.Numbers.{line_of}
 use Rattle.fb_types.specs.Text.{lines_text}
 use Rattle.fb_types.specs.declared.run.Form.{Form}
 use Rattle.fb_types.specs.declared.run.Line.{Line}
+use Rattle.fb_trace.specs.Fronts.{joint}
 use Rattle.fb_trace.specs.Merging.{Rises, tick_of}
 use Rattle.fb_sim.specs.declared.weave.Cut.{Cut}
-
--- all lines, one list after another
-abbrev pub joint : List (List Line) → List Line
-joint [] = []
-joint (xs ∷ rest) = xs ++ joint rest
 
 -- All lines of the lists; where the ticks of none fall, by tick, those of a tick list by list and in their own order.
 pub record IsWoven (lists : List (List Line)) (all : List Line) : Type 0 where
@@ -29,6 +26,11 @@ pub record IsWovenText (i : Inputs) (form : Form) (lists : List (List Line)) (te
   pub all : List Line
   pub woven : IsWoven lists all
   pub is : text ≡ lines_text form (system_of i) (map (line_of (system_of i)) all)
+
+-- all bytes, one text after another
+abbrev pub all_bytes : List (Vec ℕ Global) → List ℕ
+all_bytes [] = []
+all_bytes (v ∷ vs) = v.items ++ all_bytes vs
 
 -- the tick before which the lines of the list at an index are before a cut
 abbrev pub until : Cut → (index : ℕ) → ℕ

@@ -143,24 +143,28 @@ pub(crate) struct RoundTrial {
 
 impl RoundTrial {
     /// Before the first round.
-    pub(crate) fn new<C: Clock>(clock: &C) -> RoundTrial {
+    pub(crate) fn new() -> RoundTrial {
         RoundTrial {
             rounds: 0,
-            watch: Stopwatch::start(clock),
+            watch: Stopwatch { began: None },
             all: Pace::none(),
             slowest: Pace::none(),
         }
     }
 
-    /// Counts a round that gave this many lines. It answers whether the rounds have taken long enough to be judged, or
-    /// can't be judged.
+    /// Begins a round.
+    pub(crate) fn begin<C: Clock>(&mut self, clock: &C) {
+        self.watch = Stopwatch::start(clock);
+    }
+
+    /// Counts the round that has ended, which gave this many lines. It answers whether the rounds have taken long enough
+    /// to be judged, or can't be judged.
     pub(crate) fn count<C: Clock>(&mut self, clock: &C, lines: u128) -> bool {
         let Some(nanoseconds) = self.watch.passed(clock) else {
             self.watch = Stopwatch { began: None };
             return true;
         };
         self.rounds = self.rounds.saturating_add(1);
-        self.watch = Stopwatch::start(clock);
         if self.rounds <= UNTIMED_ROUNDS {
             return false;
         }
@@ -243,14 +247,14 @@ impl AgendaTrial {
         }
     }
 
-    /// What one agenda is that took these nanoseconds. The trial ends early where one of the two takes half as long again
-    /// as the other.
+    /// What one agenda is that took these nanoseconds. Rounds get quicker as they go on, so one agenda has to be quicker by
+    /// a fifth. The trial ends early where one of the two takes half as long again as the other.
     fn judge(&self, nanoseconds: u128) -> Verdict {
         let agenda = self.pace(nanoseconds);
         let is_whole = nanoseconds >= self.rounds.nanoseconds || self.lines >= self.rounds.lines;
         let is_part = nanoseconds >= self.rounds.nanoseconds / 8;
         if is_whole {
-            if agenda.is_slower(100, self.rounds) {
+            if agenda.is_slower(80, self.rounds) {
                 Verdict::Slower
             } else {
                 Verdict::Quicker

@@ -7,7 +7,7 @@ ghost use denote.Param.Send.{IsSync};
 ghost use Rattle.fb_trace.specs.Merging.{flat};
 ghost use Rattle.fb_trace.specs.Progress.{bounded};
 ghost use Rattle.fb_sim.specs.Rounds.{FailsToHandOut, HandsOut, WritesPartOf};
-ghost use Rattle.fb_sim.specs.Weaving.{IsWovenText};
+ghost use Rattle.fb_sim.specs.Weaving.{IsWovenText, all_bytes};
 
 use crate::drive::later;
 use crate::options::Options;
@@ -28,58 +28,75 @@ const MANY: usize = 4096;
 /// A round gives fewer lines than this.
 const MOST: usize = 1_000_000_000_000;
 
-/// The text of the lines of lists in two parts, which this many threads make.
-#[cycle(parts)]
-fn halves_by<R: Threads + Sync>(
-    rt: &R,
+/// The text of the lines of lists in one part.
+fn one_text(
     alloc: Global,
     system: &System,
     form: Form,
     lists: &[&[Line]],
-    threads: usize,
-) -> Result<(Vec<u8>, Vec<u8>), AllocError>
-    requires belong { All (λ q. All (BelongsTo system.now) q.now) lists.now }
-    requires several { 2 ≤ threads }
-    ensures { IfOk result (λ r. IsWovenText system.now form (map (λ q. q.now) lists.now) (r.0.items ++ r.1.items)) }
+) -> Result<Vec<Vec<u8>>, AllocError>
+    requires { All (λ q. All (BelongsTo system.now) q.now) lists.now }
+    ensures { IfOk result (λ v. IsWovenText system.now form (map (λ q. q.now) lists.now) (all_bytes v.items)) }
 {
-    let low = threads / 2;
-    let high = threads - low;
-    let (firsts, lasts) = divide(alloc, lists, low, threads)?;
-    let first = firsts.as_slice();
-    let last = lasts.as_slice();
-    let front = move || -> Result<Vec<u8>, AllocError>
-        requires { IsSync R.row × All (λ q. All (BelongsTo system.now) q.now) first.now }
-        ensures { IfOk result (λ v. IsWovenText system.entry.now form (map (λ q. q.now) first.entry.now) v.items) }
-    { text_by(rt, alloc, system, form, first, low) };
-    let back = move || -> Result<Vec<u8>, AllocError>
-        requires { IsSync R.row × All (λ q. All (BelongsTo system.now) q.now) last.now }
-        ensures { IfOk result (λ v. IsWovenText system.entry.now form (map (λ q. q.now) last.entry.now) v.items) }
-    { text_by(rt, alloc, system, form, last, high) };
-    let (a, b) = thread::join(rt, front, back);
-    let text = a?;
-    let rest = b?;
-    Ok((text, rest))
+    let text = woven_text(alloc, system, form, lists)?;
+    let mut texts = Vec::new(alloc);
+    texts.push(text)?;
+    Ok(texts)
 }
 
-/// The text of the lines of lists, made by this many threads: each makes a part, and the parts are joined in order.
+/// The text of the lines of lists in parts, each of which one of this many threads makes: all but the last one, and this.
 #[cycle(parts)]
-fn text_by<R: Threads + Sync>(
+fn parts_by<R: Threads + Sync>(
     rt: &R,
     alloc: Global,
     system: &System,
     form: Form,
     lists: &[&[Line]],
     threads: usize,
-) -> Result<Vec<u8>, AllocError>
+) -> Result<(Vec<Vec<u8>>, Vec<u8>), AllocError>
+    requires belong { All (λ q. All (BelongsTo system.now) q.now) lists.now }
+    requires several { 2 ≤ threads }
+    ensures { IfOk result (λ r. IsWovenText system.now form (map (λ q. q.now) lists.now) (all_bytes r.0.items ++ r.1.items)) }
+{
+    let fewer = threads - 1;
+    let (firsts, lasts) = divide(alloc, lists, fewer, threads)?;
+    let first = firsts.as_slice();
+    let last = lasts.as_slice();
+    let back = move || -> Result<Vec<u8>, AllocError>
+        requires { All (λ q. All (BelongsTo system.now) q.now) last.now }
+        ensures { IfOk result (λ v. IsWovenText system.entry.now form (map (λ q. q.now) last.entry.now) v.items) }
+    { woven_text(alloc, system, form, last) };
+    let front = move || -> Result<Vec<Vec<u8>>, AllocError>
+        requires { IsSync R.row × All (λ q. All (BelongsTo system.now) q.now) first.now }
+        ensures { IfOk result (λ v. IsWovenText system.entry.now form (map (λ q. q.now) first.entry.now) (all_bytes v.items)) }
+    { texts_by(rt, alloc, system, form, first, fewer) };
+    // The first closure gets a thread, and the second one runs here: so this thread starts all others. One that starts a
+    // thread and works on often keeps it waiting for its own processor.
+    let (b, a) = thread::join(rt, back, front);
+    let texts = a?;
+    let text = b?;
+    Ok((texts, text))
+}
+
+/// The text of the lines of lists in parts, one after another, each of which one of this many threads makes.
+#[cycle(parts)]
+fn texts_by<R: Threads + Sync>(
+    rt: &R,
+    alloc: Global,
+    system: &System,
+    form: Form,
+    lists: &[&[Line]],
+    threads: usize,
+) -> Result<Vec<Vec<u8>>, AllocError>
     requires { All (λ q. All (BelongsTo system.now) q.now) lists.now }
-    ensures { IfOk result (λ v. IsWovenText system.now form (map (λ q. q.now) lists.now) v.items) }
+    ensures { IfOk result (λ v. IsWovenText system.now form (map (λ q. q.now) lists.now) (all_bytes v.items)) }
 {
     if threads < 2 {
-        return woven_text(alloc, system, form, lists);
+        return one_text(alloc, system, form, lists);
     }
-    let (mut text, mut rest) = halves_by(rt, alloc, system, form, lists, threads)?;
-    text.append(&mut rest)?;
-    Ok(text)
+    let (mut texts, last) = parts_by(rt, alloc, system, form, lists, threads)?;
+    texts.push(last)?;
+    Ok(texts)
 }
 
 /// Writes a text, and answers how many bytes it has.
@@ -94,16 +111,19 @@ fn write_text<W: Write>(out: &mut W, text: &[u8]) -> Result<u128, RunError>
     Ok(count as u128)
 }
 
-/// Writes a text and the one that follows it, and answers how many bytes they have.
-fn write_both<W: Write>(out: &mut W, first: &[u8], last: &[u8]) -> Result<u128, RunError>
-    ensures whole { IfOk result (λ n. Appends (W.contents out.old) (W.contents out.new) (first.now ++ last.now) × (n ≡ bounded (length (first.now ++ last.now)))) }
-    ensures part { IfErr result (WritesPartOf (W.contents out.old) (W.contents out.new) (first.now ++ last.now)) }
+/// Writes texts, one after another, and answers how many bytes they have.
+fn write_texts<W: Write>(out: &mut W, texts: &[Vec<u8>]) -> Result<u128, RunError>
+    ensures whole { IfOk result (λ n. Appends (W.contents out.old) (W.contents out.new) (all_bytes texts.now) × (n ≡ bounded (length (all_bytes texts.now)))) }
+    ensures part { IfErr result (WritesPartOf (W.contents out.old) (W.contents out.new) (all_bytes texts.now)) }
 {
-    let begun = write_text(out, first)?;
-    match write_text(out, last) {
-        Ok(count) => Ok(begun.saturating_add(count)),
-        Err(error) => Err(later(begun, error)),
+    let mut written: u128 = 0;
+    for text in texts {
+        match write_text(out, text.as_slice()) {
+            Ok(count) => written = written.saturating_add(count),
+            Err(error) => return Err(later(written, error)),
+        }
     }
+    Ok(written)
 }
 
 /// How many lines are in the lists, up to the greatest `usize`.
@@ -117,7 +137,7 @@ fn count_in(lists: &[Vec<Line>]) -> usize
     count
 }
 
-/// The text of many lines in two parts, which several threads make.
+/// The text of lines in parts, one after another, each of which one of this many threads makes.
 fn texts_of<R: Threads + Sync>(
     rt: &R,
     alloc: Global,
@@ -125,13 +145,12 @@ fn texts_of<R: Threads + Sync>(
     form: Form,
     lists: &[Vec<Line>],
     threads: usize,
-) -> Result<(Vec<u8>, Vec<u8>), AllocError>
-    requires belong { All (λ p. All (BelongsTo system.now) p.items) lists.now }
-    requires several { 2 ≤ threads }
-    ensures { IfOk result (λ r. IsWovenText system.now form (map (λ p. p.items) lists.now) (r.0.items ++ r.1.items)) }
+) -> Result<Vec<Vec<u8>>, AllocError>
+    requires { All (λ p. All (BelongsTo system.now) p.items) lists.now }
+    ensures { IfOk result (λ v. IsWovenText system.now form (map (λ p. p.items) lists.now) (all_bytes v.items)) }
 {
     let whole = slices(alloc, lists)?;
-    halves_by(rt, alloc, system, form, whole.as_slice(), threads)
+    texts_by(rt, alloc, system, form, whole.as_slice(), threads)
 }
 
 /// Writes the lines of lists, one for each resource, in the order of the trace. It answers how many bytes they have, and
@@ -152,8 +171,8 @@ pub(crate) fn hand_out_apart<R: Threads + Sync, W: Write>(
     let Options { form, workers, .. } = options;
     let count = count_in(&lists);
     if workers > 1 && count >= MANY && count < MOST {
-        if let Ok((first, last)) = texts_of(rt, alloc, system, form, &lists, workers as usize) {
-            let bytes = write_both(out, first.as_slice(), last.as_slice())?;
+        if let Ok(texts) = texts_of(rt, alloc, system, form, &lists, workers as usize) {
+            let bytes = write_texts(out, texts.as_slice())?;
             return Ok((bytes, count as u128));
         }
     }

@@ -15,7 +15,7 @@ use crate::options::{Inputs, Options};
 use crate::outcome::RunError;
 use crate::pace::{NoClock, threads_for};
 use crate::reading::open;
-use crate::trial::{choose, run_first, run_rest};
+use crate::trial::{choose, reserve_text, run_first, run_rest};
 use fb_phase::Gate;
 use fb_resource::Resource;
 use fb_system::System;
@@ -83,6 +83,7 @@ fn run_workers<R: Threads + Wait + Sync, W: Write, P: Gate, C: Clock + CpuClock>
     let fewer = Options { workers, ..options };
     let core = open_core(alloc, system, options.steps)?;
     let mut text = Vec::new(alloc);
+    reserve_text(&mut text);
     let (leg, begun, pace) = run_first(rt, alloc, system, core, fewer, &mut text, gate, clock)?;
     let chosen = choose(alloc, system, options, leg, pace, clock)?;
     let Some(leg) = chosen else {
@@ -182,7 +183,7 @@ pub fn run<R: Threads + Wait + Sync, W: Write, P: Gate>(
 
 /// Runs the application of the inputs as `run` does, and lets clocks decide how. Several workers make three rounds, and
 /// then rounds for two milliseconds, two at least, whose text waits in memory. Then one agenda gives at most as many lines
-/// as these: if it is quicker, by the processor time of this thread, the run begins again on it, and goes on so. If a
+/// as these: if it is quicker by a fifth, by the processor time of this thread, the run begins again on it. If a
 /// clock can't be read, rounds go on. The trace is the same.
 ///
 /// # Errors

@@ -17,6 +17,9 @@ const TURNS: u64 = 256;
 /// processor's cache holds them.
 const FULL: usize = 32_768;
 
+/// No more bytes are kept ready for the text of a round.
+const MOST_ROOM: u128 = 4_194_304;
+
 /// How many ticks past the least event a bound may be at most, so that a round does not gather lines without end.
 pub(crate) const LONGEST_WINDOW: u64 = 1024;
 
@@ -109,6 +112,12 @@ impl Tally {
         ensures few { result ≤ 256 }
     {
         if self.is_thin() { TURNS } else { 0 }
+    }
+
+    /// How many bytes the next round will mostly write at most.
+    pub(crate) fn room(&self) -> usize {
+        let bytes = self.bytes.min(MOST_ROOM) as usize;
+        bytes + bytes / 4
     }
 
     /// How many ticks past the least event a bound of the next round may be, where it was this many in this one.

@@ -32,6 +32,26 @@ pub enum Leg {
     Over(Finish),
 }
 
+/// The text of the first rounds mostly has no more bytes. Memory that is reserved and not written costs next to nothing.
+const FIRST_TEXT: usize = 8_388_608;
+
+/// Reserves the memory of the text of the first rounds, if there is any: a text that grows would be copied.
+pub(crate) fn reserve_text(text: &mut Vec<u8>)
+    ensures { text.new.items ≡ text.old.items }
+{
+    let _ = text.reserve(FIRST_TEXT);
+}
+
+/// Writes zeros where this many bytes more of a text will be, if there is memory for them. The system clears a page of
+/// memory when it is written for the first time, which would count as the work of a round.
+fn make_room(text: &mut Vec<u8>, more: usize)
+    ensures { text.new.items ≡ text.old.items }
+{
+    let count = text.len();
+    let _ = text.resize(count.saturating_add(more), 0);
+    text.truncate(count);
+}
+
 /// Makes the first rounds of a run, one at least, as long as the trial takes. Their text goes into memory. The answer has
 /// what is written so, and what the rounds took, if the clock can be read.
 ///
@@ -56,7 +76,7 @@ pub(crate) fn run_first<R: Threads + Wait + Sync, P: Gate, C: Clock>(
     system.facts();
     let mut core = first;
     let mut written = Written { bytes: 0, lines: 0 };
-    let mut trial = RoundTrial::new(clock);
+    let mut trial = RoundTrial::new();
     let mut workers = options.workers;
     let mut turns = 0;
     let mut ticks = first_window(system.count());
@@ -66,6 +86,7 @@ pub(crate) fn run_first<R: Threads + Wait + Sync, P: Gate, C: Clock>(
             turns,
             ticks,
         };
+        trial.begin(clock);
         match round_with_counts(rt, alloc, system, core, plan, text, gate) {
             Ok((round, tally)) => {
                 written = written.with(&tally);
@@ -78,6 +99,7 @@ pub(crate) fn run_first<R: Threads + Wait + Sync, P: Gate, C: Clock>(
                         if is_over {
                             return Ok((Leg::Going(next), written, trial.pace()));
                         }
+                        make_room(text, tally.room());
                         core = next;
                     }
                     Round::Ended(last) => {

@@ -5,12 +5,12 @@ ghost use Rattle.fb_types.specs.Machines.{Each};
 ghost use Rattle.fb_types.specs.OfSystem.{line_of, lines_text};
 ghost use Rattle.fb_system.specs.OfSystem.{BelongsTo};
 ghost use Rattle.fb_trace.specs.Fronts as fronts;
-ghost use Rattle.fb_trace.specs.Fronts.{IsLeast, all_early, all_late, early, late, tick_at};
+ghost use Rattle.fb_trace.specs.Fronts.{IsLeast, all_early, all_late, early, joint, late, tick_at};
 ghost use Rattle.fb_trace.specs.Merging.{Rises, tick_of};
-ghost use Rattle.fb_sim.specs.Weaving.{AreDivided, IsWovenText, until};
+ghost use Rattle.fb_sim.specs.Weaving.{AreDivided, IsWoven, IsWovenText, until};
 
 use fb_system::System;
-use fb_trace::write_lines;
+use fb_trace::write_parts;
 use fb_types::{Form, Line};
 use std::alloc::{AllocError, Global};
 
@@ -79,23 +79,31 @@ fn early_count(list: &[Line], tick: u64) -> usize
     count
 }
 
-/// Appends the text of the lines up to a tick of each list in turn, and returns the lists that have lines left.
-fn append_early<'a>(
+/// Puts lines after the others that are taken, unless there are none.
+fn add<'a>(parts: &mut Vec<&'a [Line]>, part: &'a [Line]) -> Result<(), AllocError>
+    ensures { OnOk result (joint (map (λ q. q.now) parts.new.items) ≡ joint (map (λ q. q.now) parts.old.items) ++ part.now) }
+{
+    if part.is_empty() {
+        return Ok(());
+    }
+    parts.push(part)?;
+    Ok(())
+}
+
+/// Takes the lines up to a tick of each list in turn, and returns the lists that have lines left.
+fn take_early<'a>(
     alloc: Global,
-    text: &mut Vec<u8>,
-    system: &System,
-    form: Form,
+    parts: &mut Vec<&'a [Line]>,
     lists: &[&'a [Line]],
     tick: u64,
 ) -> Result<Vec<&'a [Line]>, AllocError>
-    requires { All (λ q. All (BelongsTo system.now) q.now) lists.now }
-    ensures text { OnOk result (text.new.items ≡ text.old.items ++ lines_text form system.now (map (line_of system.now) (all_early tick (map (λ q. q.now) lists.now)))) }
+    ensures parts { OnOk result (joint (map (λ q. q.now) parts.new.items) ≡ joint (map (λ q. q.now) parts.old.items) ++ all_early tick (map (λ q. q.now) lists.now)) }
     ensures left { IfOk result (λ v. map (λ q. q.now) v.items ≡ all_late tick (map (λ q. q.now) lists.now)) }
 {
     let mut left = Vec::with_capacity(alloc, lists.len())?;
     for list in lists {
         let (now, later) = list.split_at(early_count(*list, tick));
-        append_text(text, system, form, now)?;
+        add(parts, now)?;
         if !later.is_empty() {
             left.push(later)?;
         }
@@ -103,17 +111,31 @@ fn append_early<'a>(
     Ok(left)
 }
 
-/// Appends the text of lines.
-fn append_text(
+/// The lines of all lists in parts, tick by tick, those of a tick list by list.
+fn woven<'a>(alloc: Global, lists: &[&'a [Line]]) -> Result<Vec<&'a [Line]>, AllocError>
+    ensures { IfOk result (λ v. IsWoven (map (λ q. q.now) lists.now) (joint (map (λ q. q.now) v.items))) }
+{
+    let mut parts = Vec::new(alloc);
+    let mut left = Vec::from_slice(alloc, lists)?;
+    let mut next = least_tick(&left);
+    while let Some(tick) = next {
+        left = take_early(alloc, &mut parts, &left, tick)?;
+        next = least_tick(&left);
+    }
+    Ok(parts)
+}
+
+/// Appends the text of the lines of parts.
+fn append_parts(
     text: &mut Vec<u8>,
     system: &System,
     form: Form,
-    lines: &[Line],
+    parts: &[&[Line]],
 ) -> Result<(), AllocError>
-    requires { All (BelongsTo system.now) lines.now }
-    ensures { OnOk result (text.new.items ≡ text.old.items ++ lines_text form system.now (map (line_of system.now) lines.now)) }
+    requires { All (λ q. All (BelongsTo system.now) q.now) parts.now }
+    ensures { OnOk result (text.new.items ≡ text.old.items ++ lines_text form system.now (map (line_of system.now) (joint (map (λ q. q.now) parts.now)))) }
 {
-    match write_lines(text, system, form, lines) {
+    match write_parts(text, system, form, parts) {
         Ok(()) => Ok(()),
         // A writer into memory fails for memory alone.
         Err(_) => Err(AllocError),
@@ -133,13 +155,9 @@ pub(crate) fn woven_text(
     requires { All (λ q. All (BelongsTo system.now) q.now) lists.now }
     ensures { IfOk result (λ v. IsWovenText system.now form (map (λ q. q.now) lists.now) v.items) }
 {
+    let parts = woven(alloc, lists)?;
     let mut text = Vec::new(alloc);
-    let mut left = Vec::from_slice(alloc, lists)?;
-    let mut next = least_tick(&left);
-    while let Some(tick) = next {
-        left = append_early(alloc, &mut text, system, form, &left, tick)?;
-        next = least_tick(&left);
-    }
+    append_parts(&mut text, system, form, &parts)?;
     Ok(text)
 }
 

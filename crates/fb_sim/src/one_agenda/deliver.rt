@@ -1,10 +1,10 @@
 //! Puts messages on the one agenda of all resources.
 
 ghost use Rattle.std.specs.Prelude.{◌≡◌, ◌<◌, ℕ, [], map, All, OnOk};
-ghost use Rattle.fb_types.specs.Headline.{system_of};
 ghost use Rattle.fb_types.specs.Keys.{found, or_else};
 ghost use Rattle.fb_types.specs.declared.key.Key as keys;
-ghost use Rattle.fb_resource.specs.Posts.{IsMessage, arriving, key_of};
+ghost use Rattle.fb_resource.specs.OfSystem.{key_of};
+ghost use Rattle.fb_resource.specs.Posts.{IsMessage, arriving};
 ghost use Rattle.fb_resource.specs.Waiting.{IsInOrder, meaning};
 
 use fb_agenda::Agenda;
@@ -15,7 +15,7 @@ use std::alloc::AllocError;
 /// The key under which a message waits.
 fn key_of_message(system: &System, message: &Message) -> Key
     requires { IsMessage system.now message.now }
-    ensures { result ≡ key_of (system_of system.now) message.now }
+    ensures { result ≡ key_of system.now message.now }
 {
     system.facts();
     let receiver = system.resource(message.target.instance) as u32;

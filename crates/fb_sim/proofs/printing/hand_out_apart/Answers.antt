@@ -1,4 +1,4 @@
-use Rattle.std.proofs.Common.{◌≡◌, ◌<◌, ◌^◌, ◌++◌, ℕ, List, All, map, length, ap, ap₂, ◌∙◌, subst, sym, inr, arith}
+use Rattle.std.proofs.Common.{◌≡◌, ◌<◌, ◌^◌, ℕ, List, All, map, length, ap, ◌∙◌, subst, sym, inr, arith}
 use Rattle.std.specs.Io.KnownBytes.{Appends}
 use Rattle.fb_types.specs.Headline.{system_of}
 use Rattle.fb_types.specs.Numbers.{line_of}
@@ -8,7 +8,7 @@ use Rattle.fb_trace.specs.Merging.{Lists, flat}
 use Rattle.fb_trace.specs.Progress.{bounded}
 use Rattle.fb_trace.proofs.Together.{kept}
 use Rattle.fb_sim.specs.Rounds.{FailsToHandOut, WritesPartOf, text_of}
-use Rattle.fb_sim.specs.Weaving.{IsWovenText}
+use Rattle.fb_sim.specs.Weaving.{IsWovenText, all_bytes}
 use Rattle.fb_sim.proofs.HandedOut.{failed_passed, part_by_list, part_by_text, whole_by_list, whole_by_text}
 use Rattle.fb_sim.proofs.printing.hand_out_apart.Goals as goal
 
@@ -18,12 +18,12 @@ returns-in-Ok-clause-whole g c =
     let form = c.args.options.form in
     let lists = c.args.lists.items in
     let old = g.W.Write.contents c.args.out.now in
-    let new = g.W.Write.contents c.write_both.new.out in
+    let new = g.W.Write.contents c.write_texts.new.out in
     let few : c.count_in-count.result < 10 ^ 12 = omega (arith, c.if-count-lt-MOST.true) in
-    let text = c.in-Ok.first.items ++ c.in-Ok.last.items in
+    let text = all_bytes c.in-Ok.texts.items in
     let woven : IsWovenText i form (map (λ v. v.items) lists) text = subst (λ (vs : Lists). IsWovenText i form (map (λ v. v.items) vs) text) c.deref-then-count-lt-MOST.ensures.value c.in-Ok.ensures in
     let counted : c.count_in-count.result ≡ length (flat lists) = c.count_in-count.ensures few ∙ ap (λ (vs : Lists). length (flat vs)) c.deref.ensures.value in
-    let same : c.as_slice.result.now ++ c.as_slice-in-Ok.result.now ≡ text = ap₂ ◌++◌ c.as_slice.ensures.value c.as_slice-in-Ok.ensures.value in
+    let same : all_bytes c.as_slice.result.now ≡ text = ap all_bytes c.as_slice.ensures.value in
     let whole = c.in_ok-bytes.ensures.whole in
     whole_by_text i form lists old new c.args.alloc c.count_in-count.result text woven few counted c.in_ok-bytes.bytes (subst (λ (t : List ℕ). Appends old new t) same whole.0)
     (subst (λ (t : List ℕ). c.in_ok-bytes.bytes ≡ bounded (length t)) same whole.1)
@@ -34,12 +34,12 @@ returns-in_err-bytes-clause-failed g c =
     let form = c.args.options.form in
     let lists = c.args.lists.items in
     let old = g.W.Write.contents c.args.out.now in
-    let new = g.W.Write.contents c.write_both.new.out in
+    let new = g.W.Write.contents c.write_texts.new.out in
     let few : c.count_in-count.result < 10 ^ 12 = omega (arith, c.if-count-lt-MOST.true) in
-    let text = c.in-Ok.first.items ++ c.in-Ok.last.items in
+    let text = all_bytes c.in-Ok.texts.items in
     let woven : IsWovenText i form (map (λ v. v.items) lists) text = subst (λ (vs : Lists). IsWovenText i form (map (λ v. v.items) vs) text) c.deref-then-count-lt-MOST.ensures.value c.in-Ok.ensures in
     let counted : c.count_in-count.result ≡ length (flat lists) = c.count_in-count.ensures few ∙ ap (λ (vs : Lists). length (flat vs)) c.deref.ensures.value in
-    let same : c.as_slice.result.now ++ c.as_slice-in-Ok.result.now ≡ text = ap₂ ◌++◌ c.as_slice.ensures.value c.as_slice-in-Ok.ensures.value in
+    let same : all_bytes c.as_slice.result.now ≡ text = ap all_bytes c.as_slice.ensures.value in
     let e = c.in_err-bytes.field-0.0 in
     failed_passed (FailsToHandOut i form lists old new) _ e c.from_residual.ensures.1
     (inr (part_by_text i form lists old new c.args.alloc c.count_in-count.result text woven few counted e (subst (λ (t : List ℕ). WritesPartOf old new t e) same c.in_err-bytes.ensures.part)))

@@ -1,4 +1,4 @@
-use Rattle.std.proofs.Common.{[], Some, arith}
+use Rattle.std.proofs.Common.{◌≡◌, [], Some, arith}
 use Rattle.fb_sim.proofs.FirstRounds.{leg_going, leg_over}
 use Rattle.fb_sim.proofs.RunIs.{came_early, came_first, came_more, came_end, came_stop}
 use Rattle.fb_sim.specs.declared.drive.Finish.TheVariants.{AtEnd, AtMark}
@@ -42,8 +42,10 @@ loop-preserved g c = record {
       omega (arith, early);
   came =
       let came = c.loop.invariant.came in
-      rw c.with-written.ensures
-      (came_more c.args.system.now c.args.options [] c.loop.core _ _ (Some c.round_with_counts.new.out.items) c.loop.written c.loop.counter came c.in-Going.next c.in-Ok.tally (rw c.in-Going.is at c.in-Ok.ensures _ came.come));
+      let text : c.make_room.new.text.items ≡ c.round_with_counts.new.out.items = c.make_room.ensures in
+      rw text
+      (rw c.with-written.ensures
+      (came_more c.args.system.now c.args.options [] c.loop.core _ _ (Some c.round_with_counts.new.out.items) c.loop.written c.loop.counter came c.in-Going.next c.in-Ok.tally (rw c.in-Going.is at c.in-Ok.ensures _ came.come)));
 }
 
 pub returns-in-Ended-clause-leg : goal.returns-in-Ended-clause-leg

@@ -1,19 +1,14 @@
-use Rattle.std.proofs.Common.{◌≡◌, ℕ, ◌+◌, ◌++◌, List, [], ◌∷◌, false, true, length, map, take, sym, ap, ◌∙◌, Bor, All, subst}
+use Rattle.std.proofs.Common.{◌≡◌, ◌+◌, ◌++◌, List, [], ◌∷◌, length, map, take, sym, ap, ◌∙◌, Bor, append_assoc}
 use Rattle.std.proofs.lemmas.Bool.{eqb-true, eqb-false}
 use Rattle.std.proofs.lemmas.List.{map_push, nil_from_length, take_more}
-use Rattle.fb_types.specs.Headline.{system_of}
-use Rattle.fb_types.specs.Numbers.{line_of}
-use Rattle.fb_types.specs.Text.{lines_text}
 use Rattle.fb_types.specs.declared.run.Line.{Line}
-use Rattle.fb_trace.specs.Fronts.{all_early, all_late, early, late}
+use Rattle.fb_trace.specs.Fronts.{all_early, all_late, early, joint, late}
 use Rattle.fb_trace.proofs.Taking.{early_more, late_kept, late_passed}
-use Rattle.fb_sim.proofs.Texts.{text_more}
-use Rattle.fb_sim.proofs.weave.append_early.Goals as goal
-use Rattle.fb_sim.proofs.weave.append_early.Goals.{then-not-is_empty+in_ok-push, else-not-is_empty}
+use Rattle.fb_sim.proofs.weave.take_early.Goals as goal
+use Rattle.fb_sim.proofs.weave.take_early.Goals.{then-not-is_empty+in_ok-push, else-not-is_empty}
 
 pub loop-list-preserved : goal.loop-list-preserved
 loop-list-preserved c =
-    let sys = system_of c.args.system.now in
     let t = c.args.tick in
     let xs = c.args.lists.now in
     let i = c.loop-list.list-index in
@@ -24,22 +19,22 @@ loop-list-preserved c =
     let left = map (λ (z : Bor (List Line)). z.now) c.loop-list.left.items in
     let later : c.split_at.result.1.now ≡ late t q.now = c.split_at.ensures.back ∙ c.early_count.ensures.late in
     let now : c.split_at.result.0.now ≡ early t q.now = c.split_at.ensures.front ∙ c.early_count.ensures.early in
-    let text =
-    text_more c.args.form sys c.args.text.now.items c.loop-list.text.items c.append_text.new.text.items (all_early t done) (early t q.now) c.loop-list.invariant.text
-    (c.in_ok-append_text.ensures ∙ ap (λ (z : List Line). c.loop-list.text.items ++ lines_text c.args.form sys (map (line_of sys) z)) now)
-    ∙ ap (λ (z : List Line). c.args.text.now.items ++ lines_text c.args.form sys (map (line_of sys) z)) (sym (early_more t done q.now) ∙ ap (all_early t) (sym lists)) in
+    let old = joint (map (λ (z : Bor (List Line)). z.now) c.args.parts.now.items) in
+    let parts =
+    c.in_ok-add.ensures ∙ ap (λ z. z ++ c.split_at.result.0.now) c.loop-list.invariant.parts ∙ append_assoc old (all_early t done) c.split_at.result.0.now
+    ∙ ap (λ z. old ++ (all_early t done ++ z)) now ∙ ap (λ z. old ++ z) (sym (early_more t done q.now) ∙ ap (all_early t) (sym lists)) in
     elim c.if-not-is_empty.branch [
       | then-not-is_empty+in_ok-push w ↦
           let some = λ (e : late t q.now ≡ []). eqb-false (length c.split_at.result.1.now) 0 (sym c.is_empty.ensures ∙ w.if-not-is_empty.true) (ap length (later ∙ e)) in
           rw w.left-is (record {
-            text = text;
+            parts = parts;
             left = ap (map (λ z. z.now)) w.in_ok-push.ensures.items ∙ map_push (λ z. z.now) c.loop-list.left.items c.split_at.result.1 ∙ ap (λ z. left ++ z ∷ []) later
                 ∙ late_kept t done q.now left c.loop-list.invariant.left some ∙ ap (all_late t) (sym lists);
           })
       | else-not-is_empty w ↦
           let none : late t q.now ≡ [] = sym later ∙ nil_from_length c.split_at.result.1.now (eqb-true (length c.split_at.result.1.now) 0 (sym c.is_empty.ensures ∙ w.if-not-is_empty.false)) in
           rw w.left-is (record {
-            text = text;
+            parts = parts;
             left = late_passed t done q.now left c.loop-list.invariant.left none ∙ ap (all_late t) (sym lists);
           })
     ]
