@@ -6,7 +6,7 @@ use Rattle.fb_read.specs.Blocks.{block}
 use Rattle.fb_read.specs.Charts.{action, algorithm, state, states, transition, transitions}
 use Rattle.fb_read.specs.Network.{application, connection, constant, instance, parameter, parameters}
 use Rattle.fb_read.specs.Nodes.{instance_of}
-use Rattle.fb_read.specs.Parser.{Parser, Outcome, ◌>>=◌, ◌>>◌, eat, expect, many, name, optional, pure, run_after, section, sees, sees_name, syntax, ty_name, word}
+use Rattle.fb_read.specs.Parser.{Parser, Outcome, ◌>>=◌, ◌>>◌, eat, expect, many, name, name_if, optional, pure, run_after, section, sees, sees_name, syntax, ty_name, word}
 use Rattle.fb_read.specs.Ports.{event, ports, variables}
 use Rattle.fb_read.specs.Statements.{begins_statement}
 use Rattle.fb_read.specs.Tokens.{Tokens}
@@ -18,9 +18,9 @@ use Rattle.fb_read.proofs.Local.{IsLeft, Local, left-all, left-left, left-more, 
 use Rattle.fb_read.proofs.LocalLibrary.{advances-block, local-action, local-algorithm, local-block, local-state, local-states, local-transition, local-transitions}
 use Rattle.fb_read.proofs.LocalLoops.{IsNoneAtEnd, local-many, local-run_after, local-section, sees-head}
 use Rattle.fb_read.proofs.LocalRules.{advances-bind, advances-connection, advances-event, advances-name, local-application, local-connection, local-constant, local-event, local-instance, local-parameter, local-parameters, local-ports, local-variables, none-bind, none-connection, none-event, none-name}
-use Rattle.fb_read.proofs.LocalSteps.{Advances, local-eat, local-expect, local-name, local-ty_name, local-word}
+use Rattle.fb_read.proofs.LocalSteps.{Advances, local-eat, local-expect, local-name, local-name_if, local-ty_name, local-word}
 use Rattle.fb_read.proofs.Steps.{both_ok}
-use Rattle.fb_read_positions.specs.Walks.{Walk, begun, opens, pass, pass_blocks, pass_in_basic, pass_in_network, pass_in_ports, pass_inner, pass_items, pass_outer, pass_separated, pass_variables, past_application, past_event_inputs, past_events, past_states, past_type, past_variable, skip, to_actions, to_application, to_basic_list, to_body, to_first, to_first_inner, to_first_outer, to_inside, to_instance_type, to_item, to_name, to_network, to_network_list, to_outer, to_outer_owner, to_owner, to_parameters, to_port_list, to_ports, to_statement, to_with}
+use Rattle.fb_read_positions.specs.Walks.{Walk, begins_clause, begun, depth_after, depth_at, opens, pass, pass_blocks, pass_in_basic, pass_in_network, pass_in_ports, pass_inner, pass_items, pass_outer, pass_separated, pass_variables, past_application, past_event_inputs, past_events, past_states, past_type, past_variable, skip, to_actions, to_application, to_basic_list, to_body, to_clause, to_condition, to_entered, to_first, to_first_inner, to_first_outer, to_guard, to_inner, to_inside, to_instance_type, to_item, to_name, to_network, to_network_list, to_outer, to_outer_owner, to_owner, to_parameters, to_port_list, to_ports, to_statement, to_with}
 use Rattle.fb_read_positions.specs.declared.lists.BasicList.{BasicList}
 use Rattle.fb_read_positions.specs.declared.lists.BasicList.TheVariants as basic_list
 use Rattle.fb_read_positions.specs.declared.lists.InnerList.{InnerList}
@@ -232,6 +232,23 @@ stated_left (t ∷ ts) rest ready zero x e =
     go false more h = more h
 stated_left (t ∷ ts) rest ready (suc n) x e = left-more t rest ts (stated_left ts rest (opens (t ∷ ts)) _ x e)
 
+claused_left : (ts rest : Tokens) (depth n : ℕ) (x : Unit {0}) → to_clause ts depth n ≡ Ok (x, rest) → IsLeft rest ts
+unfolding to_clause
+claused_left [] rest depth n x e = absurd cc
+claused_left (t ∷ ts) rest depth zero x e =
+    go (begins_clause (t ∷ ts) depth) (λ h. left-more t rest ts (claused_left ts rest (depth_after (t ∷ ts) depth) zero x h)) e
+  where
+    go : (b : Bool) → (to_clause ts (depth_after (t ∷ ts) depth) zero ≡ Ok (x, rest) → IsLeft rest (t ∷ ts)) → cond b (found (t ∷ ts)) (to_clause ts (depth_after (t ∷ ts) depth) zero) ≡ Ok (x, rest) → IsLeft rest (t ∷ ts)
+    go true more h = same_left (t ∷ ts) rest x h
+    go false more h = more h
+claused_left (t ∷ ts) rest depth (suc n) x e = left-more t rest ts (claused_left ts rest (depth_after (t ∷ ts) depth) _ x e)
+
+ends-guard : Ends to_guard
+unfolding to_guard to_condition to_entered
+ends-guard =
+    ends-then _ _ (ends-then _ _ (ends-then (skip name) _ (ends-skip name local-name) (ends-expect mark.To)) (ends-then (skip name) _ (ends-skip name local-name) (ends-expect mark.Assign)))
+    (ends-then (skip name_if) _ (ends-skip name_if local-name_if) (ends-expect mark.OpenSquare))
+
 -- ---- Items of lists
 
 ends-separated : {A : Type 0} (item : Parser A) → Local item → (n : ℕ) → Ends (pass_separated item n)
@@ -258,6 +275,7 @@ ends-first_inner inner_list.Parameters = ends-parameters
 ends-first_inner inner_list.Actions = ends-actions
 ends-first_inner inner_list.Statements = ends-body
 ends-first_inner inner_list.Mentions = ends-body
+ends-first_inner inner_list.GuardMentions = ends-guard
 
 ends-inner : (l : InnerList) (n : ℕ) → Ends (pass_inner l n)
 ends-inner inner_list.With n = ends-separated name local-name n
@@ -265,6 +283,7 @@ ends-inner inner_list.Parameters n = ends-separated parameter local-parameter n
 ends-inner inner_list.Actions n = ends-separated action local-action n
 ends-inner inner_list.Statements n = λ ts rest x e. stated_left ts rest true n x e
 ends-inner inner_list.Mentions n = λ ts rest x e. named_left ts rest n x e
+ends-inner inner_list.GuardMentions n = λ ts rest x e. named_left ts rest n x e
 
 ends-first_outer : (l : OuterList) → Ends (to_first_outer l)
 ends-first_outer outer_list.Blocks = ends (local-pure tt)
@@ -291,17 +310,24 @@ ends-outer : (l : OuterList) (n : ℕ) → Ends (to_outer l n)
 unfolding to_outer
 ends-outer l n = ends-then (to_outer_owner l) _ (ends-outer_owner l) (ends-then (to_first_outer l) (pass_outer l n) (ends-first_outer l) (ends-pass_outer l n))
 
+ends-to_inner : (l : OuterList) (n : ℕ) (inside : InnerList) (k : ℕ) → Ends (to_inner l n inside k)
+unfolding to_inner
+ends-to_inner l n inside k = ends-then (to_outer l n) _ (ends-outer l n) (ends-then (to_first_inner inside) (pass_inner inside k) (ends-first_inner inside) (ends-inner inside k))
+
 pub ends-owner : (l : ItemList) → Ends (to_owner l)
 ends-owner (item_list.Outer l) = ends-outer_owner l
 ends-owner (item_list.Inner l n inside) = ends-outer l n
+ends-owner (item_list.Clauses l n k) = ends-to_inner l n inner_list.Statements k
 
-ends-first : (l : ItemList) → Ends (to_first l)
+pub ends-first : (l : ItemList) → Ends (to_first l)
 ends-first (item_list.Outer l) = ends-first_outer l
 ends-first (item_list.Inner l n inside) = ends-first_inner inside
+ends-first (item_list.Clauses l n k) = ends (local-pure tt)
 
 ends-items : (l : ItemList) (n : ℕ) → Ends (pass_items l n)
 ends-items (item_list.Outer l) n = ends-pass_outer l n
 ends-items (item_list.Inner l n inside) k = ends-inner inside k
+ends-items (item_list.Clauses l n k) j = λ ts rest x e. claused_left ts rest (depth_at ts) j x e
 
 pub ends-item : (i : Item) → Ends (to_item i)
 unfolding to_item

@@ -1,5 +1,6 @@
 pub mod Steps
 pub mod Named
+mod ClauseSteps
 mod Leaving
 mod Resuming
 mod TypePorts

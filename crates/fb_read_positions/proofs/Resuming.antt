@@ -1,6 +1,6 @@
 -- Walks that go on where an earlier one has been.
 use Rattle.std.proofs.Common.{◌≡◌, ◌-◌, ◌+◌, ◌≤◌, ℕ, zero, suc, Bool, true, false, cond, List, [], ◌∷◌, ◌++◌, map, length, drop, Option, Some, None, Result, Ok, Err, refl, sym, ◌∙◌, ap, subst, arith}
-use Rattle.std.specs.Prelude.{◌&&◌}
+use Rattle.std.specs.Prelude.{◌&&◌, IfOk, IfSome}
 use Rattle.std.proofs.lemmas.List.{length-append, length-map}
 use Rattle.fb_read.specs.Blocks.{block}
 use Rattle.fb_read.specs.Charts.{action, algorithm, state, transition}
@@ -15,9 +15,9 @@ use Rattle.fb_read.specs.declared.token.Mark.TheVariants as mark
 use Rattle.fb_read.specs.declared.token.Token.{Token}
 use Rattle.fb_read.specs.declared.token.Token.TheVariants as token
 use Rattle.fb_read.proofs.Steps.{both_ok}
-use Rattle.fb_read_positions.specs.Lists.{item_of, outer}
+use Rattle.fb_read_positions.specs.Lists.{inner, item_of, outer}
 use Rattle.fb_read_positions.specs.Resumed.{IsAhead, IsListed, IsReached, IsStop, Leaves}
-use Rattle.fb_read_positions.specs.Walks.{Walk, by_way_of, from_item, opens, pass, pass_blocks, pass_in_basic, pass_in_network, pass_in_ports, pass_inner, pass_items, pass_outer, pass_separated, pass_variables, past_application, past_variable, skip, to_application, to_first, to_item, to_name, to_outer, to_owner, to_position, to_statement}
+use Rattle.fb_read_positions.specs.Walks.{Walk, begins_clause, by_way_of, depth_after, depth_at, from_item, opens, pass, pass_blocks, pass_in_basic, pass_in_network, pass_in_ports, pass_inner, pass_items, pass_outer, pass_separated, pass_variables, past_application, past_variable, skip, to_application, to_clause, to_first, to_inner, to_item, to_name, to_outer, to_owner, to_position, to_statement}
 use Rattle.fb_read_positions.specs.declared.lists.BasicList.{BasicList}
 use Rattle.fb_read_positions.specs.declared.lists.BasicList.TheVariants as basic_list
 use Rattle.fb_read_positions.specs.declared.lists.InnerList.{InnerList}
@@ -35,8 +35,9 @@ use Rattle.fb_read_positions.specs.declared.position.Position.{Position}
 use Rattle.fb_read_positions.specs.declared.resume.Listed.{Listed}
 use Rattle.fb_read_positions.specs.declared.resume.Reached.{Reached}
 use Rattle.fb_read_positions.specs.declared.resume.Stop.{Stop}
-use Rattle.fb_read_positions.proofs.Leaving.{Ends, ends-item, ends-owner, nothing_read}
-use Rattle.fb_read_positions.proofs.Steps.{at_statement, blocks_more, pass_more, past_token, separated_more, then_on, variables_more}
+use Rattle.fb_read_positions.proofs.ClauseSteps.{depth_there}
+use Rattle.fb_read_positions.proofs.Leaving.{Ends, ends-first, ends-item, ends-owner, nothing_read}
+use Rattle.fb_read_positions.proofs.Steps.{at_clause, at_statement, blocks_more, pass_more, past_no_clause, past_token, separated_more, then_on, variables_more}
 
 -- ---- The tokens that are left
 
@@ -148,6 +149,26 @@ statements_further (t ∷ ts) mid ready (suc j) m e =
     ∙ ap (λ n. to_statement ts (opens (t ∷ ts)) n) (one_fewer b j m)
     ∙ statements_further ts mid (opens (t ∷ ts)) (cond b j (suc j)) m e
 
+clauses_further : (ts mid : Tokens) (depth j m : ℕ) → to_clause ts depth j ≡ Ok (tt, mid) → to_clause ts depth (j + m) ≡ to_clause mid (depth_at mid) m
+unfolding to_clause
+clauses_further [] mid depth j m e = absurd cc
+clauses_further (t ∷ ts) mid depth zero m e =
+    go (begins_clause (t ∷ ts) depth) refl (λ h. clauses_further ts mid (depth_after (t ∷ ts) depth) zero m h)
+  where
+    go : (b : Bool) → begins_clause (t ∷ ts) depth ≡ b
+        → (to_clause ts (depth_after (t ∷ ts) depth) zero ≡ Ok (tt, mid) → to_clause ts (depth_after (t ∷ ts) depth) (0 + m) ≡ to_clause mid (depth_at mid) m)
+        → to_clause (t ∷ ts) depth (0 + m) ≡ to_clause mid (depth_at mid) m
+    go true begins more =
+        let same : t ∷ ts ≡ mid = nothing_read (t ∷ ts) mid tt (sym (at_clause (t ∷ ts) depth begins) ∙ e) in
+        from_zero (λ n us. to_clause us depth n) m (t ∷ ts) mid same
+        ∙ ap (λ d. to_clause mid d m) (sym (depth_there (t ∷ ts) depth begins) ∙ ap (λ (us : Tokens). depth_at us) same)
+    go false none more = past_no_clause (t ∷ ts) depth (0 + m) none ∙ more (sym (past_no_clause (t ∷ ts) depth zero none) ∙ e)
+clauses_further (t ∷ ts) mid depth (suc j) m e =
+    let b = begins_clause (t ∷ ts) depth in
+    from_more (λ n us. to_clause us depth n) j m (t ∷ ts)
+    ∙ ap (λ n. to_clause ts (depth_after (t ∷ ts) depth) n) (one_fewer b j m)
+    ∙ clauses_further ts mid (depth_after (t ∷ ts) depth) (cond b j (suc j)) m e
+
 network_further : (l : NetworkList) (j m : ℕ) (ts mid : Tokens) → pass_in_network l j ts ≡ Ok (tt, mid) → pass_in_network l (j + m) ts ≡ pass_in_network l m mid
 network_further network_list.Instances j m ts mid e = pass_further instance j m ts mid e
 network_further network_list.EventConnections j m ts mid e = pass_further connection j m ts mid e
@@ -171,6 +192,7 @@ inner_further inner_list.Parameters j m ts mid e = separated_further parameter j
 inner_further inner_list.Actions j m ts mid e = separated_further action j m ts mid e
 inner_further inner_list.Statements j m ts mid e = statements_further ts mid true j m e
 inner_further inner_list.Mentions j m ts mid e = names_further ts mid j m e
+inner_further inner_list.GuardMentions j m ts mid e = names_further ts mid j m e
 
 outer_further : (l : OuterList) (j m : ℕ) (ts mid : Tokens) → pass_outer l j ts ≡ Ok (tt, mid) → pass_outer l (j + m) ts ≡ pass_outer l m mid
 outer_further outer_list.Blocks j m ts mid e = blocks_further j m ts mid e
@@ -182,6 +204,7 @@ outer_further (outer_list.InComposite k l) j m ts mid e = network_further l j m 
 items_further : (l : ItemList) (j m : ℕ) (ts mid : Tokens) → pass_items l j ts ≡ Ok (tt, mid) → pass_items l (j + m) ts ≡ pass_items l m mid
 items_further (item_list.Outer l) j m ts mid e = outer_further l j m ts mid e
 items_further (item_list.Inner l n inside) j m ts mid e = inner_further inside j m ts mid e
+items_further (item_list.Clauses l n k) j m ts mid e = clauses_further ts mid (depth_at ts) j m e
 
 -- ---- Up to an item
 
@@ -198,25 +221,37 @@ item_further l j m ts mid e =
 
 -- from an earlier item of its list
 pub item_after :
-    (ps : List Located) (i : Item) (from : Listed) (ts new : Tokens) → IsListed ps from → IsAhead i from → ts ≡ tokens_of (drop (length ps - from.left) ps)
-    → pass_items i.list (i.index - from.item.index) ts ≡ Ok (tt, new) → to_item i (tokens_of ps) ≡ Ok (tt, new)
-item_after ps i from ts new listed ahead given e =
+    (ps rest : List Located) (i : Item) (from : Listed) (n : ℕ) → IsListed ps from → IsAhead i from → rest ≡ drop (length ps - from.left) ps
+    → Leaves (pass_items i.list (i.index - from.item.index)) rest n → Leaves (to_item i) ps n
+item_after ps rest i from n listed ahead given passed =
     let j = from.item.index in
     let there : Leaves (to_item (item_at i.list j)) ps from.left = subst (λ (l : ItemList). Leaves (to_item (item_at l j)) ps from.left) ahead.list_is listed in
-    let same : ts ≡ there.0 = from_left (to_item (item_at i.list j)) ps from.left ts (ends-item (item_at i.list j)) there given in
-    ap (λ n. to_item (item_at i.list n) (tokens_of ps)) (let n : i.index ≡ j + (i.index - j) = omega (arith, ahead.below) in n)
+    let same : tokens_of rest ≡ there.0 = from_left (to_item (item_at i.list j)) ps from.left (tokens_of rest) (ends-item (item_at i.list j)) there (ap tokens_of given) in
+    let e : to_item i (tokens_of ps) ≡ Ok (tt, passed.0) =
+    ap (λ k. to_item (item_at i.list k) (tokens_of ps)) (let k : i.index ≡ j + (i.index - j) = omega (arith, ahead.below) in k)
     ∙ item_further i.list j (i.index - j) (tokens_of ps) there.0 there.1
-    ∙ ap (pass_items i.list (i.index - j)) (sym same) ∙ e
+    ∙ ap (pass_items i.list (i.index - j)) (sym same) ∙ passed.1 in
+    (passed.0, e, passed.2)
 
--- from where what has its list begins
+-- from where what has its list begins: `here` from there on, `rest` from its first item on
 pub item_within :
-    (ps : List Located) (i : Item) (n : ℕ) (ts mid new : Tokens) → Leaves (to_owner i.list) ps n → ts ≡ tokens_of (drop (length ps - n) ps)
-    → to_first i.list ts ≡ Ok (tt, mid) → pass_items i.list i.index mid ≡ Ok (tt, new) → to_item i (tokens_of ps) ≡ Ok (tt, new)
+    (ps here rest : List Located) (i : Item) (owner n : ℕ) (mid : Tokens) → Leaves (to_owner i.list) ps owner → here ≡ drop (length ps - owner) ps → to_first i.list (tokens_of here) ≡ Ok (tt, mid)
+    → rest ≡ drop (length here - length mid) here → Leaves (pass_items i.list i.index) rest n → Leaves (to_item i) ps n
 unfolding to_item
-item_within ps i n ts mid new there given first e =
-    let same : ts ≡ there.0 = from_left (to_owner i.list) ps n ts (ends-owner i.list) there given in
+item_within ps here rest i owner n mid there given first left passed =
+    let same : tokens_of here ≡ there.0 = from_left (to_owner i.list) ps owner (tokens_of here) (ends-owner i.list) there (ap tokens_of given) in
+    let begins : tokens_of rest ≡ mid = ap tokens_of left ∙ last_tokens (to_first i.list) here mid (ends-first i.list) first in
+    let e : to_item i (tokens_of ps) ≡ Ok (tt, passed.0) =
     then_on (to_owner i.list (tokens_of ps)) (λ x. to_first i.list >> pass_items i.list i.index) tt there.0 there.1
-    ∙ then_on (to_first i.list there.0) (λ x. pass_items i.list i.index) tt mid (ap (to_first i.list) (sym same) ∙ first) ∙ e
+    ∙ then_on (to_first i.list there.0) (λ x. pass_items i.list i.index) tt mid (ap (to_first i.list) (sym same) ∙ first)
+    ∙ ap (pass_items i.list i.index) (sym begins) ∙ passed.1 in
+    (passed.0, e, passed.2)
+
+-- what holds where a number of tokens is left, of another such walk
+pub left_as : {E : Type 0} (P Q : ℕ → Type 0) (r : Result (Option ℕ) E) → ((n : ℕ) → P n → Q n) → IfOk r (λ o. IfSome o P) → IfOk r (λ o. IfSome o Q)
+left_as P Q (Err e) f h = tt
+left_as P Q (Ok None) f h = tt
+left_as P Q (Ok (Some n)) f h = f n h
 
 -- what has a list, in place of the walk up to it
 pub stop_as : (ps : List Located) (v w : Walk) (s : Stop) → v ≡ w → IsStop ps w s → IsStop ps v s
@@ -232,6 +267,11 @@ stop_at_start ps w s none all reached =
 pub outer_item : (l : OuterList) (n : ℕ) → to_item (outer l n) ≡ to_outer l n
 unfolding to_item to_outer
 outer_item l n = refl
+
+-- the item of a list of an item
+pub inner_item : (l : OuterList) (n : ℕ) (inside : InnerList) (k : ℕ) → to_item (inner l n inside k) ≡ to_inner l n inside k
+unfolding to_item to_inner
+inner_item l n inside k = refl
 
 pub block_item : (k : ℕ) → to_item (outer outer_list.Blocks k) ≡ pass_blocks k
 unfolding to_item

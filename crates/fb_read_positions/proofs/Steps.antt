@@ -166,15 +166,6 @@ past_no_clause [] depth (suc n) none = refl
 past_no_clause (t ∷ ts) depth zero none = rw none refl
 past_no_clause (t ∷ ts) depth (suc n) none = rw none refl
 
-pub moved_clause : (ts us : Tokens) (a b m n : ℕ) → us ≡ ts → b ≡ a → n ≡ m → to_clause ts a m ≡ to_clause us b n
-moved_clause ts us a b m n t o k =
-    ap (λ (x : Tokens). to_clause x a m) (sym t) ∙ ap (λ (x : ℕ). to_clause us x m) (sym o) ∙ ap (λ (x : ℕ). to_clause us b x) (sym k)
-
-pub no_clause_left : (ts : Tokens) (depth n : ℕ) → length ts ≡ 0 → to_clause ts depth n ≡ Err (syntax ts)
-unfolding to_clause
-no_clause_left [] depth n e = refl
-no_clause_left (t ∷ ts) depth n e = absurd (let no : suc (length ts) ≡ 0 = e in cc)
-
 -- one more at most
 pub depth_more : (ts : Tokens) (depth : ℕ) → depth_after ts depth ≤ suc depth
 depth_more ts depth = go (begins_clauses ts) (ends_clauses ts)

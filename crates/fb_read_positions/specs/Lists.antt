@@ -18,6 +18,8 @@ use Rattle.fb_read_positions.specs.declared.position.PortPart.{PortPart}
 use Rattle.fb_read_positions.specs.declared.position.PortPart.TheVariants as port_part
 use Rattle.fb_read_positions.specs.declared.position.Position.{Position}
 use Rattle.fb_read_positions.specs.declared.position.Position.TheVariants as position
+use Rattle.fb_read_positions.specs.declared.position.TransitionPart.{TransitionPart}
+use Rattle.fb_read_positions.specs.declared.position.TransitionPart.TheVariants as transition_part
 
 -- the item at this index of a list that is in no item
 abbrev pub outer : OuterList → ℕ → Item
@@ -26,6 +28,10 @@ outer l n = record { list = item_list.Outer l; index = n }
 -- the item at the index `k` of a list of the item at the index `n` of a list
 abbrev pub inner : OuterList → ℕ → InnerList → ℕ → Item
 inner l n inside k = record { list = item_list.Inner l n inside; index = k }
+
+-- the clause at the index `j` of the statement at the index `k` of the algorithm at the index `n` of a list
+abbrev pub clause : OuterList → ℕ → ℕ → ℕ → Item
+clause l n k j = record { list = item_list.Clauses l n k; index = j }
 
 -- a list of the network of a block type, or else of the application
 abbrev pub list_in_network : Option ℕ → NetworkList → OuterList
@@ -47,16 +53,23 @@ item_in_ports k (port_part.WithOutput n j) = inner (outer_list.InPorts k port_li
 item_in_ports k (port_part.Input n) = outer (outer_list.InPorts k port_list.Inputs) n
 item_in_ports k (port_part.Output n) = outer (outer_list.InPorts k port_list.Outputs) n
 
+abbrev pub item_in_transition : ℕ → ℕ → TransitionPart → Item
+item_in_transition k n transition_part.From = outer (outer_list.InBasic k basic_list.Transitions) n
+item_in_transition k n transition_part.To = outer (outer_list.InBasic k basic_list.Transitions) n
+item_in_transition k n transition_part.Condition = outer (outer_list.InBasic k basic_list.Transitions) n
+item_in_transition k n transition_part.Guard = outer (outer_list.InBasic k basic_list.Transitions) n
+item_in_transition k n (transition_part.Mention j) = inner (outer_list.InBasic k basic_list.Transitions) n inner_list.GuardMentions j
+
 abbrev pub item_in_basic : ℕ → BasicPart → Item
 item_in_basic k (basic_part.Internal n) = outer (outer_list.InBasic k basic_list.Internals) n
 item_in_basic k (basic_part.State n) = outer (outer_list.InBasic k basic_list.States) n
 item_in_basic k (basic_part.Action n j) = inner (outer_list.InBasic k basic_list.States) n inner_list.Actions j
 item_in_basic k (basic_part.OutputAlone n j) = inner (outer_list.InBasic k basic_list.States) n inner_list.Actions j
 item_in_basic k (basic_part.OutputAfter n j) = inner (outer_list.InBasic k basic_list.States) n inner_list.Actions j
-item_in_basic k (basic_part.Transition n part) = outer (outer_list.InBasic k basic_list.Transitions) n
+item_in_basic k (basic_part.Transition n part) = item_in_transition k n part
 item_in_basic k (basic_part.Algorithm n) = outer (outer_list.InBasic k basic_list.Algorithms) n
 item_in_basic k (basic_part.Statement n j) = inner (outer_list.InBasic k basic_list.Algorithms) n inner_list.Statements j
-item_in_basic k (basic_part.Clause n j c) = inner (outer_list.InBasic k basic_list.Algorithms) n inner_list.Statements j
+item_in_basic k (basic_part.Clause n j c) = clause (outer_list.InBasic k basic_list.Algorithms) n j c
 item_in_basic k (basic_part.Mention n j) = inner (outer_list.InBasic k basic_list.Algorithms) n inner_list.Mentions j
 
 -- the item to which a position belongs; the name of the application belongs to none

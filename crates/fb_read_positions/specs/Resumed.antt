@@ -21,6 +21,7 @@ pub record IsReached (tokens : List Located) (r : Reached) : Type 0 where
   pub in_text : IfSome r.in_text (IsListed tokens)
   pub in_block : IfSome r.in_block (IsListed tokens)
   pub in_item : IfSome r.in_item (IsListed tokens)
+  pub in_statement : IfSome r.in_statement (IsListed tokens)
 
 -- The list of the item was read, and not past it.
 pub record IsAhead (item : Item) (l : Listed) : Type 0 where

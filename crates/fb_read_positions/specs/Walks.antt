@@ -219,9 +219,7 @@ to_transition_part transition_part.From = pure tt
 to_transition_part transition_part.To = to_entered
 to_transition_part transition_part.Condition = to_condition
 to_transition_part transition_part.Guard = to_guard
-to_transition_part (transition_part.Mention n) = do
-  to_guard
-  (λ ts. to_name ts n)
+to_transition_part (transition_part.Mention n) = pure tt
 
 unfoldable pub past_states : Walk
 past_states = do
@@ -280,6 +278,10 @@ begins_another ts = sees mark.Elsif ts || sees mark.Until ts
 abbrev pub ends_clauses : Tokens → Bool
 ends_clauses ts = sees mark.EndIf ts || sees mark.EndRepeat ts
 
+-- any of these is so
+abbrev pub is_of_clauses : Tokens → Bool
+is_of_clauses ts = begins_clauses ts || (begins_another ts || ends_clauses ts)
+
 -- how many IFs and REPEATs have begun and not ended, after the next token
 abbrev pub depth_after : Tokens → ℕ → ℕ
 depth_after ts depth = if begins_clauses ts then suc depth else (if ends_clauses ts then depth - 1 else depth)
@@ -295,6 +297,14 @@ to_clause [] depth n = Err (syntax [])
 to_clause (t ∷ ts) depth zero = if begins_clause (t ∷ ts) depth then Ok (tt, t ∷ ts) else to_clause ts (depth_after (t ∷ ts) depth) zero
 to_clause (t ∷ ts) depth (suc n) = to_clause ts (depth_after (t ∷ ts) depth) (if begins_clause (t ∷ ts) depth then n else suc n)
 
+-- how many IFs and REPEATs have begun where a clause is next
+abbrev pub depth_at : Tokens → ℕ
+depth_at ts = if begins_another ts then 1 else 0
+
+-- up to the clause at an index, counted from the one that is next
+abbrev pub pass_clauses : ℕ → Walk
+pass_clauses n = λ ts. to_clause ts (depth_at ts) n
+
 -- from the beginning of its item up to a part
 abbrev pub to_basic_part : BasicPart → Walk
 to_basic_part (basic_part.Internal n) = pure tt
@@ -305,7 +315,7 @@ to_basic_part (basic_part.OutputAfter n k) = to_output
 to_basic_part (basic_part.Transition n part) = to_transition_part part
 to_basic_part (basic_part.Algorithm n) = expect mark.Algorithm
 to_basic_part (basic_part.Statement n k) = pure tt
-to_basic_part (basic_part.Clause n k j) = λ ts. to_clause ts 0 j
+to_basic_part (basic_part.Clause n k j) = pure tt
 to_basic_part (basic_part.Mention n k) = pure tt
 
 -- ---- Whole libraries
@@ -401,6 +411,7 @@ to_first_inner inner_list.Parameters = to_parameters
 to_first_inner inner_list.Actions = to_actions
 to_first_inner inner_list.Statements = to_body
 to_first_inner inner_list.Mentions = to_body
+to_first_inner inner_list.GuardMentions = to_guard
 
 -- from the first item up to the item at an index
 abbrev pub pass_inner : InnerList → ℕ → Walk
@@ -409,20 +420,31 @@ pass_inner inner_list.Parameters n = pass_separated parameter n
 pass_inner inner_list.Actions n = pass_separated action n
 pass_inner inner_list.Statements n = λ ts. to_statement ts true n
 pass_inner inner_list.Mentions n = λ ts. to_name ts n
+pass_inner inner_list.GuardMentions n = λ ts. to_name ts n
+
+-- up to an item
+unfoldable pub to_inner : OuterList → ℕ → InnerList → ℕ → Walk
+to_inner l n inside k = do
+  to_outer l n
+  to_first_inner inside
+  pass_inner inside k
 
 -- ---- Items of all lists
 
 abbrev pub to_owner : ItemList → Walk
 to_owner (item_list.Outer l) = to_outer_owner l
 to_owner (item_list.Inner l n inside) = to_outer l n
+to_owner (item_list.Clauses l n k) = to_inner l n inner_list.Statements k
 
 abbrev pub to_first : ItemList → Walk
 to_first (item_list.Outer l) = to_first_outer l
 to_first (item_list.Inner l n inside) = to_first_inner inside
+to_first (item_list.Clauses l n k) = pure tt
 
 abbrev pub pass_items : ItemList → ℕ → Walk
 pass_items (item_list.Outer l) n = pass_outer l n
 pass_items (item_list.Inner l n inside) k = pass_inner inside k
+pass_items (item_list.Clauses l n k) j = pass_clauses j
 
 -- up to an item
 unfoldable pub to_item : Item → Walk

@@ -1,6 +1,6 @@
 //! Lists and positions of basic types, after their interfaces.
 
-ghost use Rattle.std.specs.Prelude.{◌≡◌, ◌<◌, ◌^◌, true};
+ghost use Rattle.std.specs.Prelude.{◌≡◌, true};
 ghost use Rattle.fb_read.specs.Charts.{states, transitions};
 ghost use Rattle.fb_read.specs.Parser.{Reads, name_if};
 ghost use Rattle.fb_read_positions.specs.Walks as spec;
@@ -8,7 +8,7 @@ ghost use Rattle.fb_read_positions.specs.Walks as spec;
 use crate::lists::BasicList;
 use crate::ports::{pass_variables, skip_variables};
 use crate::position::{BasicPart, TransitionPart};
-use crate::skip::{pass, skip, to_name};
+use crate::skip::{pass, skip};
 use fb_read::chart::{states, transitions};
 use fb_read::cursor::Cursor;
 use fb_read::fault::ParseFault;
@@ -63,7 +63,7 @@ fn skip_event(cursor: &mut Cursor<'_>) -> Result<(), ParseFault>
 
 /// Reads up to the guard of the transition that is next.
 #[tactic(auto, unfolding(crate::specs::Walks::to_guard))]
-fn to_guard(cursor: &mut Cursor<'_>) -> Result<(), ParseFault>
+pub fn to_guard(cursor: &mut Cursor<'_>) -> Result<(), ParseFault>
     ensures { Reads (spec.to_guard cursor.old) result cursor.new }
 {
     to_condition(cursor)?;
@@ -80,10 +80,7 @@ fn to_transition_part(cursor: &mut Cursor<'_>, part: TransitionPart) -> Result<(
         TransitionPart::To => to_entered(cursor),
         TransitionPart::Condition => to_condition(cursor),
         TransitionPart::Guard => to_guard(cursor),
-        TransitionPart::Mention(index) => {
-            to_guard(cursor)?;
-            to_name(cursor, index)
-        }
+        TransitionPart::Mention(_) => Ok(()),
     }
 }
 
@@ -194,68 +191,6 @@ pub fn to_statement(cursor: &mut Cursor<'_>, index: usize) -> Result<(), ParseFa
     Err(ParseFault::Syntax)
 }
 
-/// Whether an IF or a REPEAT begins.
-fn begins_clauses(cursor: &Cursor<'_>) -> bool
-    ensures { result ≡ spec.begins_clauses cursor.now }
-{
-    cursor.sees(Mark::If) || cursor.sees(Mark::Repeat)
-}
-
-/// Whether another clause of an IF or a REPEAT begins.
-fn begins_another(cursor: &Cursor<'_>) -> bool
-    ensures { result ≡ spec.begins_another cursor.now }
-{
-    cursor.sees(Mark::Elsif) || cursor.sees(Mark::Until)
-}
-
-/// Whether an IF or a REPEAT ends.
-fn ends_clauses(cursor: &Cursor<'_>) -> bool
-    ensures { result ≡ spec.ends_clauses cursor.now }
-{
-    cursor.sees(Mark::EndIf) || cursor.sees(Mark::EndRepeat)
-}
-
-/// How many IFs and REPEATs have begun and not ended, after the next token.
-fn depth_after(cursor: &Cursor<'_>, depth: usize) -> usize
-    requires { depth < 2 ^ 32 }
-    ensures { result ≡ spec.depth_after cursor.now depth }
-{
-    if begins_clauses(cursor) {
-        depth + 1
-    } else if ends_clauses(cursor) {
-        depth.saturating_sub(1)
-    } else {
-        depth
-    }
-}
-
-/// Whether the next token begins a clause of an IF or a REPEAT that is in no other one.
-fn begins_clause(cursor: &Cursor<'_>, depth: usize) -> bool
-    ensures { result ≡ spec.begins_clause cursor.now depth }
-{
-    (depth == 0 && begins_clauses(cursor)) || (depth == 1 && begins_another(cursor))
-}
-
-/// Reads up to the clause at this index of the IF or the REPEAT that is next.
-fn to_clause(cursor: &mut Cursor<'_>, index: usize) -> Result<(), ParseFault>
-    ensures { Reads (spec.to_clause cursor.old 0 index) result cursor.new }
-{
-    cursor.bound();
-    let mut depth = 0;
-    let mut before = index;
-    for _turn in 0..cursor.left() {
-        if begins_clause(cursor, depth) {
-            if before == 0 {
-                return Ok(());
-            }
-            before -= 1;
-        }
-        depth = depth_after(cursor, depth);
-        cursor.take();
-    }
-    Err(ParseFault::Syntax)
-}
-
 /// Reads up to a part of a basic type, from the beginning of the item to which it belongs.
 pub fn to_basic_part(cursor: &mut Cursor<'_>, part: BasicPart) -> Result<(), ParseFault>
     ensures { Reads (spec.to_basic_part part cursor.old) result cursor.new }
@@ -265,11 +200,11 @@ pub fn to_basic_part(cursor: &mut Cursor<'_>, part: BasicPart) -> Result<(), Par
         BasicPart::OutputAfter(_, _) => to_output(cursor),
         BasicPart::Transition(_, part) => to_transition_part(cursor, part),
         BasicPart::Algorithm(_) => cursor.expect(Mark::Algorithm),
-        BasicPart::Clause(_, _, clause) => to_clause(cursor, clause),
         BasicPart::Internal(_)
         | BasicPart::State(_)
         | BasicPart::Action(_, _)
         | BasicPart::Statement(_, _)
+        | BasicPart::Clause(_, _, _)
         | BasicPart::Mention(_, _) => Ok(()),
     }
 }

@@ -3,7 +3,7 @@
 ghost use Rattle.std.specs.Prelude.{◌≡◌, IsTrue};
 ghost use Rattle.fb_read_positions.specs.Lists as spec;
 
-use crate::position::{BasicPart, NetworkPart, PortPart, Position};
+use crate::position::{BasicPart, NetworkPart, PortPart, Position, TransitionPart};
 
 /// A list of a network.
 #[derive(Clone, Copy, PartialEq, Eq)]
@@ -59,6 +59,8 @@ pub enum InnerList {
     Statements,
     /// The variables and functions that an algorithm names.
     Mentions,
+    /// The variables and functions that the guard of a transition names.
+    GuardMentions,
 }
 
 /// A list of a declaration.
@@ -68,6 +70,8 @@ pub enum ItemList {
     Outer(OuterList),
     /// A list of an item, by the list of that and its index.
     Inner(OuterList, usize, InnerList),
+    /// The clauses of a statement, by the list of its algorithm, the index of that and that of the statement.
+    Clauses(OuterList, usize, usize),
 }
 
 /// An item of a list.
@@ -88,10 +92,21 @@ pub(crate) fn outer(list: OuterList, index: usize) -> Item
 }
 
 /// An item of a list of an item, by the list of that and both indexes.
-fn inner(list: OuterList, index: usize, inside: InnerList, within: usize) -> Item
+pub(crate) fn inner(list: OuterList, index: usize, inside: InnerList, within: usize) -> Item
     ensures { result ≡ spec.inner list index inside within }
 {
     let list = ItemList::Inner(list, index, inside);
+    Item {
+        list,
+        index: within,
+    }
+}
+
+/// A clause of a statement, by the list of its algorithm and all indexes.
+fn clause(list: OuterList, index: usize, statement: usize, within: usize) -> Item
+    ensures { result ≡ spec.clause list index statement within }
+{
+    let list = ItemList::Clauses(list, index, statement);
     Item {
         list,
         index: within,
@@ -143,6 +158,22 @@ fn item_in_ports(block: usize, part: PortPart) -> Item
     }
 }
 
+/// The item to which a part of a transition belongs.
+fn item_in_transition(block: usize, index: usize, part: TransitionPart) -> Item
+    ensures { result ≡ spec.item_in_transition block index part }
+{
+    let transitions = OuterList::InBasic(block, BasicList::Transitions);
+    match part {
+        TransitionPart::Mention(mention) => {
+            inner(transitions, index, InnerList::GuardMentions, mention)
+        }
+        TransitionPart::From
+        | TransitionPart::To
+        | TransitionPart::Condition
+        | TransitionPart::Guard => outer(transitions, index),
+    }
+}
+
 /// The item to which a part of a basic type belongs.
 fn item_in_basic(block: usize, part: BasicPart) -> Item
     ensures { result ≡ spec.item_in_basic block part }
@@ -159,12 +190,13 @@ fn item_in_basic(block: usize, part: BasicPart) -> Item
         | BasicPart::OutputAfter(index, action) => {
             inner(states, index, InnerList::Actions, action)
         }
-        BasicPart::Transition(index, _) => {
-            outer(OuterList::InBasic(block, BasicList::Transitions), index)
-        }
+        BasicPart::Transition(index, part) => item_in_transition(block, index, part),
         BasicPart::Algorithm(index) => outer(algorithms, index),
-        BasicPart::Statement(index, statement) | BasicPart::Clause(index, statement, _) => {
+        BasicPart::Statement(index, statement) => {
             inner(algorithms, index, InnerList::Statements, statement)
+        }
+        BasicPart::Clause(index, statement, within) => {
+            clause(algorithms, index, statement, within)
         }
         BasicPart::Mention(index, mention) => {
             inner(algorithms, index, InnerList::Mentions, mention)
@@ -208,6 +240,8 @@ pub(crate) fn is_same(left: ItemList, right: ItemList) -> bool
         (ItemList::Outer(left), ItemList::Outer(right)) => is_same_outer(left, right),
         (ItemList::Inner(left, one, kind), ItemList::Inner(right, other, same))
             if one == other && is_same_inner(kind, same) => { is_same_outer(left, right) }
+        (ItemList::Clauses(left, one, first), ItemList::Clauses(right, other, second))
+            if one == other && first == second => { is_same_outer(left, right) }
         _ => false,
     }
 }

@@ -5,12 +5,15 @@ ghost use Rattle.fb_read.specs.Parser.{pure};
 ghost use Rattle.fb_read.specs.Whole.{most_bytes};
 ghost use Rattle.fb_read.specs.declared.token.Located.{Located};
 ghost use Rattle.fb_read_positions.specs.Resumed.{IsAhead, IsListed, IsReached, IsStop, Leaves};
-ghost use Rattle.fb_read_positions.specs.Walks.{pass_blocks, to_application, to_item, to_outer, to_owner, to_position};
+ghost use Rattle.fb_read_positions.specs.Walks as spec;
+ghost use Rattle.fb_read_positions.specs.Walks.{pass_blocks, to_application, to_inner, to_item, to_outer, to_owner, to_position};
+ghost use Rattle.fb_read_positions.specs.declared.lists.InnerList.TheVariants as inner_list;
 ghost use Rattle.fb_read_positions.specs.declared.lists.ItemList.TheVariants as item_list;
 
-use crate::lists::{Item, ItemList, OuterList, is_same, item_of, outer};
+use crate::clauses::clause_left;
+use crate::lists::{InnerList, Item, ItemList, OuterList, inner, is_same, item_of, outer};
 use crate::position::Position;
-use crate::walk::{from_item, pass_items, to_application, to_first};
+use crate::walk::{from_item, pass_inner, pass_outer, to_application, to_first};
 use fb_read::cursor::Cursor;
 use fb_read::fault::ParseFault;
 use fb_read::token::Located;
@@ -32,8 +35,10 @@ pub struct Reached {
     pub in_text: Option<Listed>,
     /// The last list of a block type.
     pub in_block: Option<Listed>,
-    /// The last list of an item: of an event, an instance, a state or an algorithm.
+    /// The last list of an item: of an event, an instance, a state, a transition or an algorithm.
     pub in_item: Option<Listed>,
+    /// The clauses of the last statement.
+    pub in_statement: Option<Listed>,
 }
 
 /// Where a walk through a text has ended.
@@ -53,6 +58,7 @@ pub(crate) fn beginning() -> Reached
         in_text: None,
         in_block: None,
         in_item: None,
+        in_statement: None,
     }
 }
 
@@ -97,6 +103,7 @@ fn listed_of(reached: Reached, list: ItemList) -> Option<Listed>
         ItemList::Outer(OuterList::InApplication(_)) => reached.in_text,
         ItemList::Outer(_) => reached.in_block,
         ItemList::Inner(_, _, _) => reached.in_item,
+        ItemList::Clauses(_, _, _) => reached.in_statement,
     }
 }
 
@@ -104,32 +111,27 @@ fn listed_of(reached: Reached, list: ItemList) -> Option<Listed>
 fn noted(reached: Reached, listed: Listed) -> Reached
     ensures { (tokens : List Located) → IsReached tokens reached → IsListed tokens listed → IsReached tokens result }
 {
-    let Reached {
-        in_text,
-        in_block,
-        in_item,
-    } = reached;
     let now = Some(listed);
     match listed.item.list {
         ItemList::Outer(OuterList::Blocks) => Reached {
             in_text: now,
-            in_block,
-            in_item,
+            ..reached
         },
         ItemList::Outer(OuterList::InApplication(_)) => Reached {
             in_text: now,
-            in_block,
-            in_item,
+            ..reached
         },
         ItemList::Outer(_) => Reached {
-            in_text,
             in_block: now,
-            in_item,
+            ..reached
         },
         ItemList::Inner(_, _, _) => Reached {
-            in_text,
-            in_block,
             in_item: now,
+            ..reached
+        },
+        ItemList::Clauses(_, _, _) => Reached {
+            in_statement: now,
+            ..reached
         },
     }
 }
@@ -141,6 +143,58 @@ fn stop_at(reached: Reached, item: Item, left: usize) -> Stop
     Stop {
         left,
         reached: noted(reached, Listed { item, left }),
+    }
+}
+
+/// The number of tokens that are left where this many items of a list that is in no item were read from these tokens.
+fn left_past_outer(
+    alloc: Global,
+    tokens: &[Located],
+    list: OuterList,
+    count: usize,
+) -> Result<Option<usize>, AllocError>
+    requires { length tokens.now ≤ most_bytes }
+    ensures { IfOk result (λ o. IfSome o (Leaves (spec.pass_outer list count) tokens.now)) }
+{
+    let mut cursor = Cursor::new(alloc, tokens);
+    if !is_read(pass_outer(&mut cursor, list, count))? {
+        return Ok(None);
+    }
+    Ok(Some(cursor.left()))
+}
+
+/// The number of tokens that are left at an item of a list of an item, this many items after the one with which these tokens
+/// begin.
+fn left_past_inner(
+    alloc: Global,
+    tokens: &[Located],
+    list: InnerList,
+    count: usize,
+) -> Result<Option<usize>, AllocError>
+    requires { length tokens.now ≤ most_bytes }
+    ensures { IfOk result (λ o. IfSome o (Leaves (spec.pass_inner list count) tokens.now)) }
+{
+    let mut cursor = Cursor::new(alloc, tokens);
+    if !is_read(pass_inner(&mut cursor, list, count))? {
+        return Ok(None);
+    }
+    Ok(Some(cursor.left()))
+}
+
+/// The number of tokens that are left at an item of a list, this many items after the one with which these tokens begin.
+fn left_past(
+    alloc: Global,
+    tokens: &[Located],
+    list: ItemList,
+    count: usize,
+) -> Result<Option<usize>, AllocError>
+    requires { length tokens.now ≤ most_bytes }
+    ensures { IfOk result (λ o. IfSome o (Leaves (spec.pass_items list count) tokens.now)) }
+{
+    match list {
+        ItemList::Outer(list) => left_past_outer(alloc, tokens, list, count),
+        ItemList::Inner(_, _, list) => left_past_inner(alloc, tokens, list, count),
+        ItemList::Clauses(_, _, _) => Ok(clause_left(tokens, count)),
     }
 }
 
@@ -156,11 +210,8 @@ fn left_after(
     requires ahead { IsAhead item from }
     ensures { IfOk result (λ o. IfSome o (Leaves (to_item item) tokens.now)) }
 {
-    let mut cursor = Cursor::new(alloc, last(tokens, from.left));
-    if !is_read(pass_items(&mut cursor, item.list, item.index - from.item.index))? {
-        return Ok(None);
-    }
-    Ok(Some(cursor.left()))
+    let count = item.index - from.item.index;
+    left_past(alloc, last(tokens, from.left), item.list, count)
 }
 
 /// The number of tokens that are left at an item, from where what has its list begins.
@@ -174,14 +225,12 @@ fn left_within(
     requires owner { Leaves (to_owner item.list) tokens.now owner }
     ensures { IfOk result (λ o. IfSome o (Leaves (to_item item) tokens.now)) }
 {
-    let mut cursor = Cursor::new(alloc, last(tokens, owner));
+    let tokens = last(tokens, owner);
+    let mut cursor = Cursor::new(alloc, tokens);
     if !is_read(to_first(&mut cursor, item.list))? {
         return Ok(None);
     }
-    if !is_read(pass_items(&mut cursor, item.list, item.index))? {
-        return Ok(None);
-    }
-    Ok(Some(cursor.left()))
+    left_past(alloc, last(tokens, cursor.left()), item.list, item.index)
 }
 
 /// Reads up to an item, if its list was read before and not past it.
@@ -316,6 +365,31 @@ fn reach_inner(
     }
 }
 
+/// Reads up to a clause of the statement at this index of the algorithm at this index of a list.
+fn reach_clause(
+    alloc: Global,
+    tokens: &[Located],
+    reached: Reached,
+    list: OuterList,
+    index: usize,
+    statement: usize,
+    item: Item,
+) -> Result<Option<Stop>, AllocError>
+    requires few { length tokens.now ≤ most_bytes }
+    requires reached { IsReached tokens.now reached }
+    requires owner { to_owner item.list ≡ to_inner list index inner_list.Statements statement }
+    ensures { IfOk result (λ o. IfSome o (IsStop tokens.now (to_item item))) }
+{
+    if let Some(stop) = reach_again(alloc, tokens, reached, item)? {
+        return Ok(Some(stop));
+    }
+    let owner = inner(list, index, InnerList::Statements, statement);
+    match reach_inner(alloc, tokens, reached, list, index, owner)? {
+        Some(at_statement) => reach_within(alloc, tokens, at_statement, item),
+        None => Ok(None),
+    }
+}
+
 /// Reads up to an item of a list.
 fn reach_item(
     alloc: Global,
@@ -331,6 +405,9 @@ fn reach_item(
         ItemList::Outer(list) => reach_outer(alloc, tokens, reached, list, item),
         ItemList::Inner(list, index, _) => {
             reach_inner(alloc, tokens, reached, list, index, item)
+        }
+        ItemList::Clauses(list, index, statement) => {
+            reach_clause(alloc, tokens, reached, list, index, statement, item)
         }
     }
 }

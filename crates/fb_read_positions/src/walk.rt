@@ -7,7 +7,7 @@ ghost use Rattle.fb_read.specs.declared.token.Mark.TheVariants as mark;
 ghost use Rattle.fb_read_positions.specs.Walks as spec;
 
 use crate::basic::{
-    pass_in_basic, to_actions, to_basic_list, to_basic_part, to_body, to_statement,
+    pass_in_basic, to_actions, to_basic_list, to_basic_part, to_body, to_guard, to_statement,
 };
 use crate::lists::{InnerList, ItemList, OuterList};
 use crate::network::{pass_in_network, to_network_list, to_network_part, to_parameters};
@@ -124,7 +124,7 @@ fn to_first_outer(cursor: &mut Cursor<'_>, list: OuterList) -> Result<(), ParseF
 }
 
 /// Reads this many items of a list that is in no item.
-fn pass_outer(cursor: &mut Cursor<'_>, list: OuterList, count: usize) -> Result<(), ParseFault>
+pub fn pass_outer(cursor: &mut Cursor<'_>, list: OuterList, count: usize) -> Result<(), ParseFault>
     ensures { Reads (spec.pass_outer list count cursor.old) result cursor.new }
 {
     match list {
@@ -146,11 +146,12 @@ fn to_first_inner(cursor: &mut Cursor<'_>, list: InnerList) -> Result<(), ParseF
         InnerList::Actions => to_actions(cursor),
         InnerList::Statements => to_body(cursor),
         InnerList::Mentions => to_body(cursor),
+        InnerList::GuardMentions => to_guard(cursor),
     }
 }
 
 /// Reads on to an item of a list of an item, this many items after the one that is next.
-fn pass_inner(cursor: &mut Cursor<'_>, list: InnerList, count: usize) -> Result<(), ParseFault>
+pub fn pass_inner(cursor: &mut Cursor<'_>, list: InnerList, count: usize) -> Result<(), ParseFault>
     ensures { Reads (spec.pass_inner list count cursor.old) result cursor.new }
 {
     match list {
@@ -159,26 +160,19 @@ fn pass_inner(cursor: &mut Cursor<'_>, list: InnerList, count: usize) -> Result<
         InnerList::Actions => pass_separated::<Action>(cursor, count),
         InnerList::Statements => to_statement(cursor, count),
         InnerList::Mentions => to_name(cursor, count),
+        InnerList::GuardMentions => to_name(cursor, count),
     }
 }
 
-/// Reads up to the first item of a list, from the beginning of the text, the block type or the item that has it.
+/// Reads up to the first item of a list, from the beginning of the text, the block type, the item or the statement that has
+/// it.
 pub fn to_first(cursor: &mut Cursor<'_>, list: ItemList) -> Result<(), ParseFault>
     ensures { Reads (spec.to_first list cursor.old) result cursor.new }
 {
     match list {
         ItemList::Outer(list) => to_first_outer(cursor, list),
         ItemList::Inner(_, _, list) => to_first_inner(cursor, list),
-    }
-}
-
-/// Reads on to an item of a list, this many items after the one that is next.
-pub fn pass_items(cursor: &mut Cursor<'_>, list: ItemList, count: usize) -> Result<(), ParseFault>
-    ensures { Reads (spec.pass_items list count cursor.old) result cursor.new }
-{
-    match list {
-        ItemList::Outer(list) => pass_outer(cursor, list, count),
-        ItemList::Inner(_, _, list) => pass_inner(cursor, list, count),
+        ItemList::Clauses(_, _, _) => Ok(()),
     }
 }
 

@@ -1,5 +1,6 @@
 //! The text for a location in inputs that can be read (E20 to E30): words for a position, and what is wrong there.
 
+use crate::contents::Contents;
 use crate::kind_messages::{push_misfit, push_misjoin};
 use crate::place::position_of;
 use crate::spot::Spot;
@@ -162,10 +163,10 @@ fn push_unserved(text: &mut Text, network: &Network, plan: &Plan, at: usize) -> 
 }
 
 /// Adds what is wrong at a location, which is at this position if it is in the declaration.
-fn push_flaw(
-    alloc: Global,
+fn push_flaw<'a>(
     text: &mut Text,
-    types: &BlockTypes,
+    types: &BlockTypes<'a>,
+    contents: &mut Contents<'a>,
     case: &Case,
     location: Spot,
     position: Option<Position>,
@@ -174,8 +175,8 @@ fn push_flaw(
     let network = &library.application.network;
     match location {
         Spot::Twice(given) => push_given(text, library, plan, given)?,
-        Spot::Unknown(name) => push_unknown(alloc, text, types, plan, name, position)?,
-        Spot::Misfit(misfit) => push_misfit(alloc, text, types, misfit)?,
+        Spot::Unknown(name) => push_unknown(text, types, contents, plan, name, position)?,
+        Spot::Misfit(misfit) => push_misfit(text, types, contents, misfit)?,
         Spot::Misjoin(misjoin) => push_misjoin(text, types, misjoin)?,
         Spot::Joined(joined) => push_joined(text, library, joined)?,
         Spot::TooHigh(descent) => push_descent(text, library, descent)?,
@@ -207,9 +208,10 @@ fn heading_of(location: Spot, position: Option<Position>) -> Option<Position> {
 }
 
 /// Says where the refusal applies, and what is wrong there.
-pub(crate) fn flaw_message(
+pub(crate) fn flaw_message<'a>(
     alloc: Global,
-    types: &BlockTypes,
+    types: &BlockTypes<'a>,
+    contents: &mut Contents<'a>,
     case: &Case,
     location: Spot,
 ) -> Result<String, AllocError> {
@@ -218,6 +220,6 @@ pub(crate) fn flaw_message(
     if let Some(heading) = heading_of(location, position) {
         push_position(&mut text, case.library, heading);
     }
-    push_flaw(alloc, &mut text, types, case, location, position);
+    push_flaw(&mut text, types, contents, case, location, position);
     text.into_string()
 }

@@ -1,10 +1,10 @@
 //! The texts for a wrong kind (E22) and a wrong range (E23), after the words for its position: what is there, and what was
 //! expected.
 
+use crate::contents::{Contents, Source};
 use fb_check_names::{Misfit, Misjoin, Site, StatementPart, Variables};
 use fb_check_types::{
-    Typing, all_statements, internals_of, port_type, value_kind_of, value_kind_of_type,
-    variable_type,
+    Typing, internals_of, port_type, value_kind_of, value_kind_of_type, variable_type,
 };
 use fb_draw::type_words;
 use fb_read_positions::headings::{basic_at, network_at};
@@ -12,7 +12,6 @@ use fb_read_positions::{BlockTypes, Text};
 use fb_types::{
     BasicType, Expr, Network, PortName, Reference, Stmt, Ty, Value, ValueKind, instance_named,
 };
-use std::alloc::Global;
 
 /// Adds a value, and that one of the type is expected.
 fn push_expected(text: &mut Text, value: Value, ty: Ty) {
@@ -91,10 +90,10 @@ fn push_part(text: &mut Text, basic: &BasicType, stmt: &Stmt, part: StatementPar
 }
 
 /// Adds what is there of a wrong kind, and which kind was expected.
-pub(crate) fn push_misfit(
-    alloc: Global,
+pub(crate) fn push_misfit<'a>(
     text: &mut Text,
-    types: &BlockTypes,
+    types: &BlockTypes<'a>,
+    contents: &mut Contents<'a>,
     misfit: Misfit,
 ) -> Option<()> {
     let library = types.library;
@@ -136,10 +135,12 @@ pub(crate) fn push_misfit(
             part,
         } => {
             let basic = basic_at(library, block)?;
-            match all_statements(alloc, &basic.algorithms.get(algorithm)?.body) {
-                Ok(all) => {
+            let body = &basic.algorithms.get(algorithm)?.body;
+            let source = Source::Algorithm(block, algorithm);
+            match contents.statement(source, body, statement) {
+                Ok(found) => {
                     text.words(": ");
-                    push_part(text, basic, all.get(statement)?.statement, part)?;
+                    push_part(text, basic, found?, part)?;
                 }
                 Err(_) => text.give_up(),
             }

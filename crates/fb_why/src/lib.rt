@@ -9,12 +9,13 @@
 //! column, at which a declaration is refused. The wording of the texts is not part of any contract.
 //!
 //! Read in this order: `explanation` and `table`; `cause` and `spot`, what each number is about, and where. Then the bytes:
-//! `find`, the refusal of a text and its location. Then a location as text: the modules `.._messages`, with `hints`. Then
-//! `refused` and `declared`, locations in bytes and in what they declare; `place` and `input_place`, where a location is in
-//! its text; `listing` and `finding`, which reads the bytes again. All of this runs only after a refusal.
+//! `find`, the refusal of a text and its location. Then a location as text: the modules `.._messages`, with `contents` and
+//! `hints`. Then `refused` and `declared`, locations in bytes and in what they declare; `place` and `input_place`, where a
+//! location is in its text; `listing` and `finding`, which reads the bytes again. All of this runs only after a refusal.
 #![tactic(auto)]
 
 pub mod cause;
+mod contents;
 mod declared;
 pub mod deployment_messages;
 pub mod explanation;

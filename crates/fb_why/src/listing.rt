@@ -6,6 +6,7 @@ ghost use Rattle.fb_read.specs.Whole.{IsLibraryText};
 ghost use Rattle.fb_why.specs.Listings.{locations_of, most_findings};
 ghost use Rattle.fb_why.specs.Places.{IsPlacedFinding};
 
+use crate::contents::Contents;
 use crate::flaw_messages::flaw_message;
 use crate::place::{PlacedFinding, positions_of};
 use crate::spot::{Finding, Spot};
@@ -38,9 +39,10 @@ pub(crate) fn one(alloc: Global, found: Option<PlacedFinding>) -> Result<Finding
 }
 
 /// What is wrong at a location of inputs, at this place.
-fn finding_at(
+fn finding_at<'a>(
     alloc: Global,
-    types: &BlockTypes,
+    types: &BlockTypes<'a>,
+    contents: &mut Contents<'a>,
     case: &Case,
     location: Spot,
     place: Option<TextLocation>,
@@ -48,15 +50,16 @@ fn finding_at(
     ensures found { IfOk result (λ r. r.finding.location ≡ location) }
     ensures placed { IfOk result (λ r. r.place ≡ place) }
 {
-    let text = flaw_message(alloc, types, case, location)?;
+    let text = flaw_message(alloc, types, contents, case, location)?;
     let finding = Finding { location, text };
     Ok(PlacedFinding { finding, place })
 }
 
 /// What is wrong at each of these locations of inputs, with its place at the same index.
-fn findings_at(
+fn findings_at<'a>(
     alloc: Global,
-    types: &BlockTypes,
+    types: &BlockTypes<'a>,
+    contents: &mut Contents<'a>,
     case: &Case,
     locations: &[Spot],
     places: &[Option<TextLocation>],
@@ -67,7 +70,7 @@ fn findings_at(
 {
     let mut all = Vec::new(alloc);
     for (location, place) in locations.iter().zip(places) {
-        all.push(finding_at(alloc, types, case, *location, *place)?)?;
+        all.push(finding_at(alloc, types, contents, case, *location, *place)?)?;
     }
     Ok(all)
 }
@@ -100,7 +103,8 @@ pub(crate) fn listed(
     let types = BlockTypes::new(alloc, case.library)?;
     let positions = positions_of(alloc, case.library, first)?;
     let places = places_of(alloc, declaration, case.library, positions.as_slice())?;
-    let shown = findings_at(alloc, &types, case, first, places.as_slice())?;
+    let mut contents = Contents::new(alloc);
+    let shown = findings_at(alloc, &types, &mut contents, case, first, places.as_slice())?;
     Ok(Findings { shown, more })
 }
 

@@ -1,7 +1,8 @@
 //! The text for an unknown name (E21), after the words for its position: what was expected there.
 
+use crate::contents::{Contents, Source};
 use fb_check_names::{PortKind, Side, UnknownName};
-use fb_check_types::mentions::{Mention, push_body, push_expression};
+use fb_check_types::mentions::Mention;
 use fb_read_positions::headings::{basic_at, composite_at};
 use fb_read_positions::{
     BasicPart, BlockTypes, ConnectionPart, NetworkPart, PortPart, Position, Text, TransitionPart,
@@ -10,7 +11,7 @@ use fb_read_positions::{
 use fb_types::{
     BasicType, CompositeType, Connection, Instance, Library, Name, Network, Plan, instance_named,
 };
-use std::alloc::Global;
+use std::alloc::AllocError;
 
 /// Adds what the type of an instance lacks.
 fn push_lack(
@@ -135,16 +136,18 @@ fn push_at(text: &mut Text, types: &BlockTypes, position: Position) -> Option<()
 }
 
 /// Adds what a guard or an algorithm names.
-fn push_mention(text: &mut Text, basic: &BasicType, mention: &Mention) {
+fn push_mention(text: &mut Text, basic: &BasicType, mention: Result<Option<Mention>, AllocError>) {
     match mention {
-        Mention::Variable(name) => {
+        Ok(Some(Mention::Variable(name))) => {
             text.named(": ", &basic.name);
             text.named(" has no variable ", name);
         }
-        Mention::Function(name) => {
+        Ok(Some(Mention::Function(name))) => {
             text.named(": there is no function ", name);
             text.words(" (there are MIN, MAX, ABS, LIMIT, SEL)");
         }
+        Ok(None) => {}
+        Err(_) => text.give_up(),
     }
 }
 
@@ -175,10 +178,10 @@ fn push_in_plan(text: &mut Text, library: &Library, plan: &Plan, name: UnknownNa
 }
 
 /// Adds what is unknown at a position, or in the deployment, and what was expected there.
-pub(crate) fn push_unknown(
-    alloc: Global,
+pub(crate) fn push_unknown<'a>(
     text: &mut Text,
-    types: &BlockTypes,
+    types: &BlockTypes<'a>,
+    contents: &mut Contents<'a>,
     plan: &Plan,
     name: UnknownName,
     position: Option<Position>,
@@ -186,22 +189,18 @@ pub(crate) fn push_unknown(
     let Some(position) = position else {
         return push_in_plan(text, types.library, plan, name);
     };
-    let mut mentions = Vec::new(alloc);
     match position {
         Position::InBasic(block, BasicPart::Transition(index, TransitionPart::Mention(at))) => {
             let basic = basic_at(types.library, block)?;
             let guard = basic.transitions.get(index)?.condition.guard.as_ref()?;
-            if push_expression(&mut mentions, guard).is_err() {
-                text.give_up();
-            }
-            push_mention(text, basic, mentions.get(at)?);
+            let source = Source::Guard(block, index);
+            push_mention(text, basic, contents.mention_in_guard(source, guard, at));
         }
         Position::InBasic(block, BasicPart::Mention(algorithm, at)) => {
             let basic = basic_at(types.library, block)?;
-            if push_body(&mut mentions, &basic.algorithms.get(algorithm)?.body).is_err() {
-                text.give_up();
-            }
-            push_mention(text, basic, mentions.get(at)?);
+            let body = &basic.algorithms.get(algorithm)?.body;
+            let source = Source::Algorithm(block, algorithm);
+            push_mention(text, basic, contents.mention_in_body(source, body, at));
         }
         _ => push_at(text, types, position)?,
     }

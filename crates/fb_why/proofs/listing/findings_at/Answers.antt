@@ -14,7 +14,9 @@ loop-location-preserved c =
     let ss = c.args.locations.now in
     let os = c.args.places.now in
     let r = c.in_ok-finding_at.field-0 in
-    let turn = zip_turn ss os l.yielded c.into_iter-location-iterator.result l.location-iterator c.next.new.self c.next.result (cc) (cc) l.yielded_by (c.in-Some.location, c.in-Some.place) c.in-Some.is c.next.ensures.steps in
+    let turn = zip_turn ss os l.yielded c.into_iter-location-iterator.result l.location-iterator c.next.new.self c.next.result
+    (rw c.into_iter-location-iterator.ensures.into_iter_gives (rw c.zip-location-items.ensures.first c.iter.ensures.rest))
+    (rw c.into_iter-location-iterator.ensures.into_iter_gives c.zip-location-items.ensures.second.0) l.yielded_by (c.in-Some.location, c.in-Some.place) c.in-Some.is c.next.ensures.steps in
     rw (length_push l.yielded (c.in-Some.location, c.in-Some.place)) (
       located l.all.items c.push.new.self.items r ss (length l.yielded) c.in-Some.location.now turn.0 (turn.2 c.in-Some.location.now) c.in_ok-push.ensures.items c.in_ok-finding_at.ensures.found l.invariant.0,
       placed_more l.all.items c.push.new.self.items r os (length l.yielded) c.in-Some.place.now turn.1 (turn.3 c.in-Some.place.now) c.in_ok-push.ensures.items c.in_ok-finding_at.ensures.placed l.invariant.1,

@@ -1,0 +1,105 @@
+//! What an algorithm or a guard consists of, for the words of findings.
+
+use fb_check_types::mentions::{Mention, push_body, push_expression};
+use fb_check_types::{Standing, all_statements};
+use fb_types::{Body, Expr, Stmt};
+use std::alloc::{AllocError, Global};
+
+/// An algorithm or a guard, by the indices of its block type and its own.
+#[derive(Clone, Copy, PartialEq, Eq)]
+pub(crate) enum Source {
+    Algorithm(usize, usize),
+    Guard(usize, usize),
+}
+
+/// What the last algorithm or guard consists of. Findings follow the order of the text, so each is gone through once for all
+/// that are in it.
+#[derive(Drop)]
+pub(crate) struct Contents<'a> {
+    alloc: Global,
+    /// The algorithm that has these statements.
+    stated: Option<Source>,
+    statements: Vec<Standing<'a>>,
+    /// The algorithm or the guard that has these mentions.
+    mentioned: Option<Source>,
+    mentions: Vec<Mention<'a>>,
+}
+
+impl<'a> Contents<'a> {
+    /// Of nothing so far.
+    pub fn new(alloc: Global) -> Contents<'a> {
+        Contents {
+            alloc,
+            stated: None,
+            statements: Vec::new(alloc),
+            mentioned: None,
+            mentions: Vec::new(alloc),
+        }
+    }
+
+    /// The statement at an index of an algorithm, which has this body.
+    ///
+    /// # Errors
+    ///
+    /// When memory runs out.
+    pub fn statement(
+        &mut self,
+        source: Source,
+        body: &'a Body,
+        index: usize,
+    ) -> Result<Option<&'a Stmt>, AllocError> {
+        if self.stated != Some(source) {
+            self.stated = None;
+            self.statements = all_statements(self.alloc, body)?;
+            self.stated = Some(source);
+        }
+        match self.statements.get(index) {
+            Some(standing) => Ok(Some(standing.statement)),
+            None => Ok(None),
+        }
+    }
+
+    /// What an algorithm with this body names at an index.
+    ///
+    /// # Errors
+    ///
+    /// When memory runs out.
+    pub fn mention_in_body(
+        &mut self,
+        source: Source,
+        body: &'a Body,
+        index: usize,
+    ) -> Result<Option<Mention<'a>>, AllocError> {
+        if self.mentioned != Some(source) {
+            self.begin();
+            push_body(&mut self.mentions, body)?;
+            self.mentioned = Some(source);
+        }
+        Ok(self.mentions.get(index).copied())
+    }
+
+    /// What a guard names at an index.
+    ///
+    /// # Errors
+    ///
+    /// When memory runs out.
+    pub fn mention_in_guard(
+        &mut self,
+        source: Source,
+        guard: &'a Expr,
+        index: usize,
+    ) -> Result<Option<Mention<'a>>, AllocError> {
+        if self.mentioned != Some(source) {
+            self.begin();
+            push_expression(&mut self.mentions, guard)?;
+            self.mentioned = Some(source);
+        }
+        Ok(self.mentions.get(index).copied())
+    }
+
+    /// Begins with the mentions of another algorithm or guard.
+    fn begin(&mut self) {
+        self.mentioned = None;
+        self.mentions.clear();
+    }
+}
