@@ -4,3 +4,4 @@ pub mod Sets
 pub mod Openings
 pub mod Shares
 pub mod Reports
+pub mod OfSystem

@@ -1,9 +1,8 @@
 //! Which marks there are, and how they are set.
 
 ghost use Rattle.std.specs.Prelude.{◌≡◌, IfOk};
-ghost use Rattle.fb_types.specs.Headline.{system_of};
 ghost use Rattle.fb_coverage.specs.Sets as spec;
-ghost use Rattle.fb_coverage.specs.Openings.{opening_marks};
+ghost use Rattle.fb_coverage.specs.OfSystem.{opening_marks};
 
 use crate::opening::{part_table, port_table};
 use crate::part::{Part, Side};
@@ -78,7 +77,7 @@ impl Drop for Marks {
 impl ChartMarks {
     /// The marks of a system before the first event of the first trace.
     fn of(alloc: Global, system: &System) -> Result<ChartMarks, AllocError>
-        ensures { IfOk result (λ marks. marks ≡ (opening_marks system.now.library.blocks (system_of system.now)).charts) }
+        ensures { IfOk result (λ marks. marks ≡ (opening_marks system.now).charts) }
     {
         Ok(ChartMarks {
             states: part_table(alloc, system, Part::States)?,
@@ -160,7 +159,7 @@ impl Marks {
     /// # Errors
     /// When memory runs out.
     pub fn of(alloc: Global, system: &System) -> Result<Marks, AllocError>
-        ensures { IfOk result (λ marks. marks ≡ opening_marks system.now.library.blocks (system_of system.now)) }
+        ensures { IfOk result (λ marks. marks ≡ opening_marks system.now) }
     {
         Ok(Marks {
             charts: ChartMarks::of(alloc, system)?,

@@ -1,9 +1,9 @@
 //! The marks before the first trace.
 
-ghost use Rattle.std.specs.Prelude.{◌≡◌, IfOk, map};
-ghost use Rattle.fb_types.specs.Headline.{system_of};
+ghost use Rattle.std.specs.Prelude.{◌≡◌, IfOk};
 ghost use Rattle.fb_types.specs.OfSystem.{IsInstance, path_at};
 ghost use Rattle.fb_coverage.specs.Openings as spec;
+ghost use Rattle.fb_coverage.specs.OfSystem.{part_row, part_rows, port_row, port_rows};
 
 use crate::part::{Part, Side, basic_of, events_of, is_used, part_count};
 use crate::table::{Table, unset};
@@ -29,7 +29,7 @@ fn part_row(
     part: Part,
     block: &BlockType,
 ) -> Result<Items<bool>, AllocError>
-    ensures { IfOk result (λ flags. flags ≡ spec.part_row (system_of system.now) part block.now) }
+    ensures { IfOk result (λ flags. flags ≡ part_row system.now part block.now) }
 {
     match block {
         BlockType::Basic(basic) if is_used(system, &basic.name) => first_flags(alloc, part, basic),
@@ -39,7 +39,7 @@ fn part_row(
 
 /// The flags of the parts of all declared types.
 pub(crate) fn part_table(alloc: Global, system: &System, part: Part) -> Result<Table, AllocError>
-    ensures { IfOk result (λ table. table.rows ≡ map (spec.part_row (system_of system.now) part) system.now.library.blocks) }
+    ensures { IfOk result (λ table. table.rows ≡ part_rows system.now part) }
 {
     let mut table = Table::new(alloc);
     for block in system.library().blocks.as_slice() {
@@ -56,7 +56,7 @@ fn port_row(
     instance: u32,
 ) -> Result<Items<bool>, AllocError>
     requires { IsInstance system.now instance }
-    ensures { IfOk result (λ flags. flags ≡ spec.port_row (system_of system.now) side (path_at system.now instance)) }
+    ensures { IfOk result (λ flags. flags ≡ port_row system.now side (path_at system.now instance)) }
 {
     match basic_of(system, instance) {
         Some(_) => Ok(Items::new(alloc)),
@@ -66,7 +66,7 @@ fn port_row(
 
 /// The flags of the event ports of all instances.
 pub(crate) fn port_table(alloc: Global, system: &System, side: Side) -> Result<Table, AllocError>
-    ensures { IfOk result (λ table. table.rows ≡ map (spec.port_row (system_of system.now) side) (system_of system.now).paths) }
+    ensures { IfOk result (λ table. table.rows ≡ port_rows system.now side) }
 {
     let mut table = Table::new(alloc);
     system.facts();

@@ -1,9 +1,9 @@
 //! The parts of types and of instances that have marks.
 
-ghost use Rattle.std.specs.Prelude.{◌≡◌, IsTrue, slice_get, option_map};
-ghost use Rattle.fb_types.specs.Headline.{system_of};
+ghost use Rattle.std.specs.Prelude.{◌≡◌, option_map};
 ghost use Rattle.fb_types.specs.OfSystem.{IsInstance, kind_at, path_at};
 ghost use Rattle.fb_coverage.specs.Openings as spec;
+ghost use Rattle.fb_coverage.specs.OfSystem.{is_used};
 
 use fb_check_names::TypeNumber;
 use fb_system::System;
@@ -75,7 +75,7 @@ fn has_type(system: &System, instance: u32, name: &Name) -> bool
 
 /// Whether an instance has the basic type with this name.
 pub(crate) fn is_used(system: &System, name: &Name) -> bool
-    ensures { result ≡ spec.is_used (system_of system.now) name.now }
+    ensures { result ≡ is_used system.now name.now }
 {
     system.facts();
     for instance in 0..system.count() {

@@ -1,10 +1,10 @@
 //! What is not covered of the event ports of instances that are no basic blocks.
 
 ghost use Rattle.std.specs.Prelude.{◌≡◌, ◌++◌, OnOk};
-ghost use Rattle.fb_types.specs.Headline.{system_of};
 ghost use Rattle.fb_types.specs.OfSystem.{IsInstance, path_at};
 ghost use Rattle.fb_coverage.specs.Reports as spec;
 ghost use Rattle.fb_coverage.specs.Reports.{listed};
+ghost use Rattle.fb_coverage.specs.OfSystem.{instance_text, instances_text};
 
 use crate::block_report::{put_titled, put_unless};
 use crate::marks::Marks;
@@ -56,7 +56,7 @@ fn put_instance(
     instance: u32,
 ) -> Result<(), AllocError>
     requires { IsInstance system.now instance }
-    ensures { OnOk result (text.new.items ≡ text.old.items ++ spec.instance_text (system_of system.now) marks.now instance (path_at system.now instance)) }
+    ensures { OnOk result (text.new.items ≡ text.old.items ++ instance_text system.now marks.now instance (path_at system.now instance)) }
 {
     if basic_of(system, instance).is_some() {
         return Ok(());
@@ -73,7 +73,7 @@ pub(crate) fn put_instances(
     system: &System,
     marks: &Marks,
 ) -> Result<(), AllocError>
-    ensures { OnOk result (text.new.items ≡ text.old.items ++ listed (spec.instance_text (system_of system.now) marks.now) 0 (system_of system.now).paths) }
+    ensures { OnOk result (text.new.items ≡ text.old.items ++ instances_text system.now marks.now) }
 {
     system.facts();
     for instance in 0..system.count() {

@@ -1,9 +1,9 @@
 //! The report of what traces do not cover.
 
 ghost use Rattle.std.specs.Prelude.{◌≡◌, ◌++◌, IfOk, OnOk, codes};
-ghost use Rattle.fb_types.specs.Headline.{system_of};
 ghost use Rattle.fb_coverage.specs.Reports as spec;
 ghost use Rattle.fb_coverage.specs.Shares.{none_counted, share_text, with_rows};
+ghost use Rattle.fb_coverage.specs.OfSystem.{report_text};
 
 use crate::block_report::put_blocks;
 use crate::marks::{Marks, PortMarks};
@@ -62,7 +62,7 @@ fn put_counts(alloc: Global, text: &mut Vec<u8>, marks: &Marks) -> Result<(), Al
 /// # Errors
 /// When memory runs out.
 pub fn report_of(alloc: Global, system: &System, marks: &Marks) -> Result<Vec<u8>, AllocError>
-    ensures { IfOk result (λ text. text.items ≡ spec.report_text system.now.library.blocks (system_of system.now) marks.now) }
+    ensures { IfOk result (λ text. text.items ≡ report_text system.now marks.now) }
 {
     let mut text = Vec::new(alloc);
     put_blocks(alloc, &mut text, marks, system.library().blocks.as_slice())?;

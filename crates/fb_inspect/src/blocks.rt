@@ -2,7 +2,6 @@
 
 ghost use Rattle.std.specs.Prelude.{◌≡◌, ◌≢◌, ◌++◌, IfNone, IfOk, IfSome, OnOk, Some, map, slice_get};
 ghost use Rattle.fb_types.specs.Blocks.{Basic, Event, variable_names};
-ghost use Rattle.fb_types.specs.Headline.{system_of};
 ghost use Rattle.fb_types.specs.declared.library.BasicType.{BasicType};
 ghost use Rattle.fb_types.specs.declared.library.BlockType.TheVariants as declared;
 ghost use Rattle.fb_types.specs.OfSystem.{IsInstance, instance_count, kind_at, opening_block, path_at};
@@ -13,9 +12,8 @@ ghost use Rattle.fb_net.specs.declared.block.Block.TheVariants as block;
 ghost use Rattle.fb_net.specs.OfSystem.{Represents};
 ghost use Rattle.fb_inspect.specs.Looks as spec;
 ghost use Rattle.fb_inspect.specs.Notes.{own_variables};
-ghost use Rattle.fb_inspect.specs.Walking.{OpenAll};
 ghost use Rattle.fb_inspect.specs.declared.blocks.Remembered.TheVariants as kept;
-ghost use Rattle.fb_inspect.specs.OfSystem.{OpensAs};
+ghost use Rattle.fb_inspect.specs.OfSystem.{OpenAll, OpensAs};
 
 use fb_check_names::TypeNumber;
 use fb_ecc::BasicState;
@@ -222,7 +220,7 @@ fn opened(
 
 /// What all instances remember before the first event, each at its number.
 pub(crate) fn opened_all(alloc: Global, system: &System) -> Result<Vec<Remembered>, AllocError>
-    ensures { IfOk result (λ all. OpenAll (system_of system.now) (instance_count system.now) all.items) }
+    ensures { IfOk result (λ all. OpenAll system.now (instance_count system.now) all.items) }
 {
     let mut all = Vec::new(alloc);
     let mut charts = BTreeMap::new(alloc);

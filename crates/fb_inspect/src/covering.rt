@@ -1,12 +1,11 @@
 //! What traces cover.
 
 ghost use Rattle.std.specs.Prelude.{◌≡◌, ◌≤◌, IfErr, IfOk, IfSome};
-ghost use Rattle.fb_types.specs.Headline.{system_of};
-ghost use Rattle.fb_wave.specs.Tables.{system_in};
-ghost use Rattle.fb_wave.specs.Named.{HasNames};
+ghost use Rattle.fb_wave.specs.OfSystem.{HasNames};
 ghost use Rattle.fb_inspect.specs.Covering.{Covers};
 ghost use Rattle.fb_inspect.specs.Looks.{most};
-ghost use Rattle.fb_inspect.specs.Refusals.{IsWrongAt, OfRefusal};
+ghost use Rattle.fb_inspect.specs.Refusals.{OfRefusal};
+ghost use Rattle.fb_inspect.specs.OfSystem.{IsWrongAt};
 
 use crate::ahead::Ahead;
 use crate::error::InspectError;
@@ -70,8 +69,8 @@ fn cover_with<R: BufRead>(
     input: &mut R,
 ) -> Result<Covered, InspectError>
     ensures covered { IfOk result (λ covered. IfSome (R.remaining input.old) (λ text. Covers terms.cut table.now.system.now terms.steps text marks covered.marks covered.extent)) }
-    ensures refused { HasNames (system_in table.now) → terms.steps ≤ most
-        → IfErr result (OfRefusal (λ n. IfSome (R.remaining input.old) (IsWrongAt (system_in table.now) terms.steps n))) }
+    ensures refused { HasNames table.now.system.now → terms.steps ≤ most
+        → IfErr result (OfRefusal (λ n. IfSome (R.remaining input.old) (IsWrongAt table.now.system.now terms.steps n))) }
 {
     table.system.facts();
     let mut line = Vec::new(alloc);
@@ -115,8 +114,8 @@ pub fn cover<R: BufRead>(
     input: &mut R,
 ) -> Result<Covered, InspectError>
     ensures covered { IfOk result (λ covered. IfSome (R.remaining input.old) (λ text. Covers terms.cut system.now terms.steps text marks covered.marks covered.extent)) }
-    ensures refused { HasNames (system_of system.now) → terms.steps ≤ most
-        → IfErr result (OfRefusal (λ n. IfSome (R.remaining input.old) (IsWrongAt (system_of system.now) terms.steps n))) }
+    ensures refused { HasNames system.now → terms.steps ≤ most
+        → IfErr result (OfRefusal (λ n. IfSome (R.remaining input.old) (IsWrongAt system.now terms.steps n))) }
 {
     let ports = SystemPorts::of(alloc, system)?;
     let Some(table) = PortTable::of(alloc, &ports)? else {

@@ -1,12 +1,12 @@
 //! Finds instances, events and signs by their texts in lines.
 
 ghost use Rattle.std.specs.Prelude.{◌≡◌, ◌<◌, IfNone, IfSome, MatchOption, length};
-ghost use Rattle.fb_types.specs.Headline.{system_of};
 ghost use Rattle.fb_types.specs.Numbers.{event_at};
 ghost use Rattle.fb_types.specs.Text.{path_text};
 ghost use Rattle.fb_types.specs.OfSystem.{IsInstance, path_at};
 ghost use Rattle.fb_wave.specs.Ports.{events};
-ghost use Rattle.fb_inspect.specs.LineFaults.{IsNoEvent, IsNoInstance, IsNoSign, sign_text};
+ghost use Rattle.fb_inspect.specs.LineFaults.{IsNoEvent, IsNoSign, sign_text};
+ghost use Rattle.fb_inspect.specs.OfSystem.{IsNoInstance};
 
 use fb_system::System;
 use fb_types::{EventPort, Ports};
@@ -18,7 +18,7 @@ const MOST_EVENTS: usize = 1 << 32;
 pub(crate) fn instance_of(system: &System, path: &[u8]) -> Option<u32>
     ensures within { IfSome result (λ i. IsInstance system.now i) }
     ensures found { IfSome result (λ i. path.now ≡ path_text (path_at system.now i)) }
-    ensures none { IfNone result (IsNoInstance (system_of system.now) path.now) }
+    ensures none { IfNone result (IsNoInstance system.now path.now) }
 {
     system.facts();
     for instance in 0..system.count() {

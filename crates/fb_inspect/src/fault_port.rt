@@ -1,10 +1,10 @@
 //! What is wrong with a line after its tick.
 
 ghost use Rattle.std.specs.Prelude.{◌≡◌, List, ℕ, IfErr, IfOk, MatchOption};
-ghost use Rattle.fb_types.specs.Headline.{system_of};
 ghost use Rattle.fb_wave.specs.Words.{AreThree};
 ghost use Rattle.fb_wave.specs.OfSystem.{IsPortOf};
-ghost use Rattle.fb_inspect.specs.LineFaults.{IsOfPort, IsPortFault, path_event, sign_text};
+ghost use Rattle.fb_inspect.specs.LineFaults.{sign_text};
+ghost use Rattle.fb_inspect.specs.OfSystem.{IsOfPort, IsPortFault, path_event};
 
 use crate::fault_names::{event_of, events_of, instance_of, taken_of};
 use crate::fault_values::port_values_fault;
@@ -18,9 +18,9 @@ use fb_wave::last::resource_of;
 fn port_of<'a>(system: &System, words: &ThreeWords<'a>) -> Result<Port, PortFault<'a>>
     ensures port { IfOk result (IsPortOf system.now) }
     ensures sign { IfOk result (λ p. words.now.sign.now ≡ sign_text p.taken) }
-    ensures named { IfOk result (λ p. words.now.port.now ≡ path_event (system_of system.now) p) }
+    ensures named { IfOk result (λ p. words.now.port.now ≡ path_event system.now p) }
     ensures fault { (text : List ℕ) → AreThree text words.now.resource.now words.now.sign.now words.now.port.now words.now.rest.now
-        → IfErr result (IsPortFault (system_of system.now) text) }
+        → IfErr result (IsPortFault system.now text) }
 {
     let Some(taken) = taken_of(words.sign) else {
         return Err(PortFault::Sign(words.sign));
@@ -47,7 +47,7 @@ fn port_of<'a>(system: &System, words: &ThreeWords<'a>) -> Result<Port, PortFaul
 
 /// What is wrong after the tick of a line.
 pub(crate) fn port_fault<'a>(system: &System, text: &'a [u8]) -> Option<PortFault<'a>>
-    ensures { MatchOption result (IsOfPort (system_of system.now) text.now) (IsPortFault (system_of system.now) text.now) }
+    ensures { MatchOption result (IsOfPort system.now text.now) (IsPortFault system.now text.now) }
 {
     let Some(words) = three_words(text) else {
         return Some(PortFault::Short);

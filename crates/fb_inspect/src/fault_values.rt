@@ -1,13 +1,12 @@
 //! What is wrong with the values of a line.
 
 ghost use Rattle.std.specs.Prelude.{◌≡◌, ◌<◌, List, ℕ, false, All, MatchOption, length, slice_index};
-ghost use Rattle.fb_types.specs.Headline.{system_of};
 ghost use Rattle.fb_types.specs.declared.value.Value.{Value};
 ghost use Rattle.fb_system.specs.IndexLists.{AreIndexes};
-ghost use Rattle.fb_wave.specs.Lines.{AreValuesOf, port_side, port_variables};
 ghost use Rattle.fb_wave.specs.Reading.{AreRead, IsUnbound, name_at, type_at};
-ghost use Rattle.fb_wave.specs.OfSystem.{IsPortOf};
-ghost use Rattle.fb_inspect.specs.LineFaults.{HasFirst, IsNoVariable, IsPortValueFault, IsValueFault, variables};
+ghost use Rattle.fb_wave.specs.OfSystem.{AreValuesOf, IsPortOf, port_side, port_variables};
+ghost use Rattle.fb_inspect.specs.LineFaults.{HasFirst, IsNoVariable, IsValueFault, variables};
+ghost use Rattle.fb_inspect.specs.OfSystem.{IsPortValueFault};
 
 use crate::fault_words::named_value;
 use crate::line_fault::ValueFault;
@@ -95,7 +94,7 @@ pub(crate) fn variables_of(ports: &Ports, taken: bool) -> &[Variable]
 /// The indexes of the variables WITH an event.
 fn indexes_with(system: &System, port: Port) -> &[u32]
     requires { IsPortOf system.now port }
-    ensures { AreIndexes (port_side (system_of system.now) port) (port_variables (system_of system.now) port) result.now }
+    ensures { AreIndexes (port_side system.now port) (port_variables system.now port) result.now }
 {
     if port.taken {
         system.inputs_with(port.instance, port.event)
@@ -111,7 +110,7 @@ pub(crate) fn port_values_fault<'a>(
     text: &'a [u8],
 ) -> Option<ValueFault<'a>>
     requires { IsPortOf system.now port }
-    ensures { MatchOption result ((values : List Value) × AreValuesOf (system_of system.now) port text.now values) (IsPortValueFault (system_of system.now) port text.now) }
+    ensures { MatchOption result ((values : List Value) × AreValuesOf system.now port text.now values) (IsPortValueFault system.now port text.now) }
 {
     let variables = variables_of(system.ports(port.instance), port.taken);
     value_fault(variables, indexes_with(system, port), text)

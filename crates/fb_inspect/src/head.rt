@@ -1,15 +1,10 @@
 //! The head of a dump with the inside of basic blocks.
 
-ghost use Rattle.std.specs.Prelude.{◌≡◌, ◌+◌, ◌-◌, ◌++◌, true, IfOk, OnOk, length};
-ghost use Rattle.fb_types.specs.Headline.{system_of};
-ghost use Rattle.fb_types.specs.Numbers.{path_at, ports_at};
-ghost use Rattle.fb_types.specs.OfSystem.{IsInstance};
+ghost use Rattle.std.specs.Prelude.{◌≡◌, ◌+◌, ◌-◌, ◌++◌, IfOk, OnOk, length};
+ghost use Rattle.fb_types.specs.OfSystem.{IsInstance, path_at, ports_at};
 ghost use Rattle.fb_wave.specs.Scopes as ports;
-ghost use Rattle.fb_wave.specs.Signals.{first_signal};
-ghost use Rattle.fb_wave.specs.OfSystem.{AreFirsts};
-ghost use Rattle.fb_inspect.specs.Heads as spec;
-ghost use Rattle.fb_inspect.specs.Inner.{inner_begun, inner_declared};
-ghost use Rattle.fb_inspect.specs.OfSystem.{AreKept, opening_look};
+ghost use Rattle.fb_wave.specs.OfSystem.{AreFirsts, first_signal};
+ghost use Rattle.fb_inspect.specs.OfSystem.{AreKept, inner_begun, inner_declared, insides_begun, instances_opened, opening_look, resources_opened, state_head};
 
 use crate::before::{inside_of, put_inside};
 use crate::blocks::{Remembered, basic_type};
@@ -22,7 +17,7 @@ use std::alloc::{AllocError, Global};
 /// Declares the inside of an instance.
 fn put_inner(text: &mut Vec<u8>, system: &System, instance: u32) -> Result<(), AllocError>
     requires { IsInstance system.now instance }
-    ensures { OnOk result (text.new.items ≡ text.old.items ++ inner_declared (system_of system.now) (path_at (system_of system.now) instance)) }
+    ensures { OnOk result (text.new.items ≡ text.old.items ++ inner_declared system.now (path_at system.now instance)) }
 {
     system.facts();
     match basic_type(system, instance) {
@@ -42,9 +37,9 @@ fn put_whole(
 ) -> Result<usize, AllocError>
     requires firsts { AreFirsts system.now firsts.now }
     requires instance { IsInstance system.now instance }
-    ensures height { IfOk result (λ h. h ≡ length (path_at (system_of system.now) instance)) }
-    ensures text { OnOk result (let sys = system_of system.now in let p = path_at sys instance in
-        text.new.items ≡ text.old.items ++ (ports.closed (depth + 1 - length p) ++ ports.opened (ports.own_name p) ++ ports.ports_declared (first_signal sys instance) (ports_at sys p) ++ inner_declared sys p)) }
+    ensures height { IfOk result (λ h. h ≡ length (path_at system.now instance)) }
+    ensures text { OnOk result (let p = path_at system.now instance in
+        text.new.items ≡ text.old.items ++ (ports.closed (depth + 1 - length p) ++ ports.opened (ports.own_name p) ++ ports.ports_declared (first_signal system.now instance) (ports_at system.now p) ++ inner_declared system.now p)) }
 {
     let height = put_instance(text, system, firsts, depth, instance)?;
     put_inner(text, system, instance)?;
@@ -60,7 +55,7 @@ fn put_instances(
 ) -> Result<(), AllocError>
     requires { AreFirsts system.now firsts.now }
     ensures { OnOk result (text.new.items ≡ text.old.items
-        ++ spec.instances_opened true (system_of system.now) resource 0 0 (system_of system.now).paths) }
+        ++ instances_opened system.now resource) }
 {
     system.facts();
     let mut depth = 0;
@@ -77,7 +72,7 @@ fn put_instances(
 fn put_resources(text: &mut Vec<u8>, system: &System, firsts: &[usize]) -> Result<(), AllocError>
     requires { AreFirsts system.now firsts.now }
     ensures { OnOk result (text.new.items ≡ text.old.items
-        ++ spec.resources_opened true (system_of system.now) 0 (system_of system.now).resource_names) }
+        ++ resources_opened system.now) }
 {
     for resource in 0..system.resources() {
         put_opened(text, system.resource_name(resource))?;
@@ -96,7 +91,7 @@ fn put_inner_begun(
 ) -> Result<(), AllocError>
     requires instance { IsInstance system.now instance }
     requires blocks { AreKept system.now blocks.now (opening_look system.now) }
-    ensures { OnOk result (text.new.items ≡ text.old.items ++ inner_begun (system_of system.now) (path_at (system_of system.now) instance)) }
+    ensures { OnOk result (text.new.items ≡ text.old.items ++ inner_begun system.now (path_at system.now instance)) }
 {
     system.facts();
     match inside_of(system, blocks, instance) {
@@ -112,7 +107,7 @@ fn put_insides_begun(
     blocks: &[Remembered],
 ) -> Result<(), AllocError>
     requires { AreKept system.now blocks.now (opening_look system.now) }
-    ensures { OnOk result (text.new.items ≡ text.old.items ++ spec.insides_begun true (system_of system.now) (system_of system.now).paths) }
+    ensures { OnOk result (text.new.items ≡ text.old.items ++ insides_begun system.now) }
 {
     system.facts();
     for index in 0..system.count() {
@@ -131,7 +126,7 @@ pub(crate) fn put_head(
 ) -> Result<(), AllocError>
     requires firsts { AreFirsts system.now firsts.now }
     requires blocks { AreKept system.now blocks.now (opening_look system.now) }
-    ensures { OnOk result (text.new.items ≡ text.old.items ++ spec.state_head true (system_of system.now)) }
+    ensures { OnOk result (text.new.items ≡ text.old.items ++ state_head system.now) }
 {
     text.extend_from_slice(b"$timescale 1 ms $end\n")?;
     put_resources(text, system, firsts)?;

@@ -2,19 +2,16 @@
 
 ghost use Rattle.std.specs.Prelude.{◌≡◌, ◌≤◌, IfErr, IfOk, IfSome, IsTrue, OnErr, OnOk, true};
 ghost use Rattle.std.specs.List.{list_any};
-ghost use Rattle.fb_types.specs.Headline.{system_of};
 ghost use Rattle.fb_types.specs.Names.{Path};
 ghost use Rattle.fb_types.specs.Text.{path_text};
 ghost use Rattle.fb_types.specs.OfSystem.{resource_count};
-ghost use Rattle.fb_wave.specs.Tables.{system_in};
 ghost use Rattle.fb_wave.specs.CutOff.{is_unended};
 ghost use Rattle.fb_inspect.specs.Inspections as spec;
-ghost use Rattle.fb_inspect.specs.Inspections.{IsShownBy, ShowsFront};
-ghost use Rattle.fb_wave.specs.Named.{HasNames};
-ghost use Rattle.fb_inspect.specs.Lines.{IsNext};
+ghost use Rattle.fb_wave.specs.OfSystem.{HasNames};
 ghost use Rattle.fb_inspect.specs.Looks.{most};
-ghost use Rattle.fb_inspect.specs.Refusals.{IsWrongAt, OfRefusal};
-ghost use Rattle.fb_inspect.specs.Walking.{AreUnused, Begins, ShowsOf};
+ghost use Rattle.fb_inspect.specs.Refusals.{OfRefusal};
+ghost use Rattle.fb_inspect.specs.Walking.{AreUnused};
+ghost use Rattle.fb_inspect.specs.OfSystem.{BeginsWalk, IsNext, IsShownBy, IsWrongAt, ShowsFront, ShowsOf};
 
 use crate::ahead::Ahead;
 use crate::blocks::opened_all;
@@ -88,7 +85,7 @@ fn is_shown(path: &[u8], only: &[Name]) -> bool
 
 /// For each instance whether it is shown.
 fn shown_of(alloc: Global, system: &System, only: &[Name]) -> Result<Vec<bool>, AllocError>
-    ensures { IfOk result (λ shown. ShowsOf (system_of system.now) only.now shown.items) }
+    ensures { IfOk result (λ shown. ShowsOf system.now only.now shown.items) }
 {
     let mut shown = Vec::new(alloc);
     system.facts();
@@ -139,7 +136,7 @@ pub fn first_reading(
     line: Vec<u8>,
 ) -> Result<Reading, AllocError>
     ensures line { IfOk result (λ r. r.line.items ≡ line.items) }
-    ensures next { IfOk result (λ r. IsNext (system_in table.now) form 0 r.line.items r.next) }
+    ensures next { IfOk result (λ r. IsNext table.now.system.now form 0 r.line.items r.next) }
     ensures number { IfOk result (λ r. r.number ≡ 1) }
 {
     let mut guess = Guess::new(alloc, table)?;
@@ -162,7 +159,7 @@ pub fn begun(
     marks: Marks,
     reading: Reading,
 ) -> Result<Walk, AllocError>
-    ensures { IfOk result (λ walk. Begins (system_of system.now) only.now marks reading walk) }
+    ensures { IfOk result (λ walk. BeginsWalk system.now only.now marks reading walk) }
 {
     let blocks = opened_all(alloc, system)?;
     let steps = steps_of(alloc, system)?;
@@ -213,10 +210,10 @@ fn inspect_with<R: BufRead, W: Write>(
     input: &mut R,
     out: &mut W,
 ) -> Result<(), InspectError>
-    ensures whole { OnOk result (IfSome (R.remaining input.old) (λ text. IsShownBy inspection.entry.terms.cut (system_in table.now) inspection.entry.only.now inspection.entry.terms.steps text (W.contents out.old) (W.contents out.new))) }
-    ensures fault { OnErr result (ShowsFront (system_in table.now) inspection.entry.only.now inspection.entry.terms.steps (W.contents out.old) (W.contents out.new)) }
-    ensures refused { HasNames (system_in table.now) → inspection.entry.terms.steps ≤ most
-        → IfErr result (OfRefusal (λ n. IfSome (R.remaining input.old) (IsWrongAt (system_in table.now) inspection.entry.terms.steps n))) }
+    ensures whole { OnOk result (IfSome (R.remaining input.old) (λ text. IsShownBy inspection.entry.terms.cut table.now.system.now inspection.entry.only.now inspection.entry.terms.steps text (W.contents out.old) (W.contents out.new))) }
+    ensures fault { OnErr result (ShowsFront table.now.system.now inspection.entry.only.now inspection.entry.terms.steps (W.contents out.old) (W.contents out.new)) }
+    ensures refused { HasNames table.now.system.now → inspection.entry.terms.steps ≤ most
+        → IfErr result (OfRefusal (λ n. IfSome (R.remaining input.old) (IsWrongAt table.now.system.now inspection.entry.terms.steps n))) }
 {
     let mut line = Vec::new(alloc);
     next_line(input, &mut line)?;
@@ -262,10 +259,10 @@ pub fn inspect<R: BufRead, W: Write>(
     input: &mut R,
     out: &mut W,
 ) -> Result<(), InspectError>
-    ensures whole { OnOk result (IfSome (R.remaining input.old) (λ text. IsShownBy inspection.entry.terms.cut (system_of system.now) inspection.entry.only.now inspection.entry.terms.steps text (W.contents out.old) (W.contents out.new))) }
-    ensures fault { OnErr result (ShowsFront (system_of system.now) inspection.entry.only.now inspection.entry.terms.steps (W.contents out.old) (W.contents out.new)) }
-    ensures refused { HasNames (system_of system.now) → inspection.entry.terms.steps ≤ most
-        → IfErr result (OfRefusal (λ n. IfSome (R.remaining input.old) (IsWrongAt (system_of system.now) inspection.entry.terms.steps n))) }
+    ensures whole { OnOk result (IfSome (R.remaining input.old) (λ text. IsShownBy inspection.entry.terms.cut system.now inspection.entry.only.now inspection.entry.terms.steps text (W.contents out.old) (W.contents out.new))) }
+    ensures fault { OnErr result (ShowsFront system.now inspection.entry.only.now inspection.entry.terms.steps (W.contents out.old) (W.contents out.new)) }
+    ensures refused { HasNames system.now → inspection.entry.terms.steps ≤ most
+        → IfErr result (OfRefusal (λ n. IfSome (R.remaining input.old) (IsWrongAt system.now inspection.entry.terms.steps n))) }
 {
     if !have_paths(system, inspection.only) {
         return Err(InspectError::Unknown);

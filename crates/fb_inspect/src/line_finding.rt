@@ -1,8 +1,7 @@
 //! What is wrong with the line of a trace that was read last.
 
 ghost use Rattle.std.specs.Prelude.{MatchOption};
-ghost use Rattle.fb_types.specs.Headline.{system_of};
-ghost use Rattle.fb_inspect.specs.LineFaults.{Applies, CanGoOn, IsLineNext};
+ghost use Rattle.fb_inspect.specs.OfSystem.{Applies, CanGoOn, IsLineNext};
 
 use crate::fault_port::port_fault;
 use crate::line_fault::LineFault;
@@ -21,7 +20,7 @@ fn is_like_end(text: &[u8]) -> bool {
 
 /// What is wrong with a line of an event.
 fn event_line_fault<'a>(system: &System, current: &'a CurrentLine) -> Option<LineFault<'a>>
-    ensures { MatchOption result (IsLineNext (system_of system.now) current.now) (Applies (system_of system.now) current.now) }
+    ensures { MatchOption result (IsLineNext system.now current.now) (Applies system.now current.now) }
 {
     system.facts();
     let Some(head) = parts_of(current.form, current.text.as_slice()) else {
@@ -41,7 +40,7 @@ fn event_line_fault<'a>(system: &System, current: &'a CurrentLine) -> Option<Lin
 
 /// The first thing that is wrong in the line that was read last. If there is nothing, a trace can go on with the line.
 pub fn fault_of<'a>(system: &System, current: &'a CurrentLine) -> Option<LineFault<'a>>
-    ensures { MatchOption result (CanGoOn (system_of system.now) current.now) (Applies (system_of system.now) current.now) }
+    ensures { MatchOption result (CanGoOn system.now current.now) (Applies system.now current.now) }
 {
     let text = current.text.as_slice();
     if current.after_end {

@@ -1,14 +1,14 @@
 //! The part of the ports in a dump with the inside of basic blocks.
 
 ghost use Rattle.std.specs.Prelude.{◌≡◌, ◌∷◌, ◌++◌, ℕ, List, [], All, IfOk, OnOk, true};
-ghost use Rattle.fb_types.specs.Headline.{system_of};
 ghost use Rattle.fb_types.specs.Systems.{System as Flat};
 ghost use Rattle.fb_types.specs.declared.run.Line as run;
 ghost use Rattle.fb_system.specs.OfSystem.{BelongsTo};
 ghost use Rattle.fb_trace.specs.End.{ending_of};
-ghost use Rattle.fb_inspect.specs.Dumping.{IsPortDump, IsTurned, Shows, ShowsLines, ShowsUntaken};
-ghost use Rattle.fb_inspect.specs.StateDumps.{Taken, cut_dump, state_dump};
-ghost use Rattle.fb_inspect.specs.OfSystem.{AreKept, opening_look};
+ghost use Rattle.fb_inspect.specs.Dumping.{IsTurned};
+ghost use Rattle.fb_inspect.specs.Dumping as dumping;
+ghost use Rattle.fb_inspect.specs.StateDumps.{Taken, cut_dump};
+ghost use Rattle.fb_inspect.specs.OfSystem.{AreKept, IsPortDump, Shows, ShowsLines, opening_look, state_dump};
 
 use crate::blocks::Remembered;
 use crate::head::put_head;
@@ -37,8 +37,8 @@ impl PortDump {
         text: &mut Vec<u8>,
     ) -> Result<PortDump, AllocError>
         requires { AreKept system.now blocks.now (opening_look system.now) }
-        ensures numbers { IfOk result (IsPortDump (system_of system.now)) }
-        ensures shown { text.old.items ≡ [] → IfOk result (Shows (system_of system.now) [] text.new.items) }
+        ensures numbers { IfOk result (IsPortDump system.now) }
+        ensures shown { text.old.items ≡ [] → IfOk result (Shows system.now [] text.new.items) }
     {
         let signals = Signals::of(alloc, system)?;
         put_head(alloc, text, system, signals.firsts.as_slice(), blocks)?;
@@ -47,8 +47,8 @@ impl PortDump {
 
     /// Goes on to a tick: puts what changed at ports in the one before after a text, unless it is the same.
     pub(crate) fn turn(&mut self, tick: u64, text: &mut Vec<u8>) -> Result<(), AllocError>
-        ensures numbers { (sys : Flat) → IsPortDump sys self.old → OnOk result (IsPortDump sys self.new) }
-        ensures turned { (sys : Flat) (xs : List Taken) (sent : List ℕ) → Shows sys xs (sent ++ text.old.items) self.old
+        ensures numbers { (sys : Flat) → dumping.IsPortDump sys self.old → OnOk result (dumping.IsPortDump sys self.new) }
+        ensures turned { (sys : Flat) (xs : List Taken) (sent : List ℕ) → dumping.Shows sys xs (sent ++ text.old.items) self.old
             → OnOk result (IsTurned sys xs (sent ++ text.new.items) tick self.new) }
     {
         if tick == self.tick {
@@ -62,20 +62,20 @@ impl PortDump {
 
     /// Shows a line of the tick.
     pub(crate) fn show_line(&mut self, system: &System, line: &Line) -> Result<(), AllocError>
-        requires dump { IsPortDump (system_of system.now) self.old }
+        requires dump { IsPortDump system.now self.old }
         requires line { BelongsTo system.now line.now }
-        ensures numbers { OnOk result (IsPortDump (system_of system.now) self.new) }
-        ensures shown { OnOk result (ShowsLines (system_of system.now) (line.now ∷ []) self.old self.new) }
+        ensures numbers { OnOk result (IsPortDump system.now self.new) }
+        ensures shown { OnOk result (ShowsLines system.now (line.now ∷ []) self.old self.new) }
     {
         self.signals.show(system, line)
     }
 
     /// Shows lines of the tick.
     pub(crate) fn show_lines(&mut self, system: &System, lines: &[Line]) -> Result<(), AllocError>
-        requires dump { IsPortDump (system_of system.now) self.old }
+        requires dump { IsPortDump system.now self.old }
         requires lines { All (BelongsTo system.now) lines.now }
-        ensures numbers { OnOk result (IsPortDump (system_of system.now) self.new) }
-        ensures shown { OnOk result (ShowsLines (system_of system.now) lines.now self.old self.new) }
+        ensures numbers { OnOk result (IsPortDump system.now self.new) }
+        ensures shown { OnOk result (ShowsLines system.now lines.now self.old self.new) }
     {
         for line in lines {
             self.show_line(system, line)?;
@@ -90,8 +90,8 @@ impl PortDump {
         end: Outcome,
         text: &mut Vec<u8>,
     ) -> Result<(), AllocError>
-        ensures { (xs : List Taken) (sent : List ℕ) → Shows (system_of system.now) xs (sent ++ text.old.items) self.old
-            → OnOk result (sent ++ text.new.items ≡ state_dump true (system_of system.now) xs (ending_of end)) }
+        ensures { (xs : List Taken) (sent : List ℕ) → Shows system.now xs (sent ++ text.old.items) self.old
+            → OnOk result (sent ++ text.new.items ≡ state_dump system.now xs (ending_of end)) }
     {
         put_changes(text, &mut self.signals.levels)?;
         put_end(text, system, self.tick, end)
@@ -99,7 +99,7 @@ impl PortDump {
 
     /// Puts what changed at ports in the last tick, and that the trace is cut off, after a text.
     pub(crate) fn cut_off(&mut self, text: &mut Vec<u8>) -> Result<(), AllocError>
-        ensures { (sys : Flat) (xs : List Taken) (us : List run.Line) (sent : List ℕ) → ShowsUntaken sys xs us (sent ++ text.old.items) self.old
+        ensures { (sys : Flat) (xs : List Taken) (us : List run.Line) (sent : List ℕ) → dumping.ShowsUntaken sys xs us (sent ++ text.old.items) self.old
             → OnOk result (sent ++ text.new.items ≡ cut_dump true sys xs us) }
     {
         put_changes(text, &mut self.signals.levels)?;

@@ -2,7 +2,6 @@
 
 ghost use Rattle.std.specs.Prelude.{◌≡◌, ◌<◌, ◌≤◌, ◌+◌, ◌∷◌, ◌++◌, ℕ, List, Option, Some, [], All, IfErr, IfOk, IfSome, IsTrue, OnErr, OnOk, length, true, false};
 ghost use Rattle.std.specs.Io.KnownBytes.{Consumes, IsAtEnd};
-ghost use Rattle.fb_types.specs.Headline.{system_of};
 ghost use Rattle.fb_types.specs.Systems.{System as Flat};
 ghost use Rattle.fb_types.specs.declared.run.Line as run;
 ghost use Rattle.fb_types.specs.OfSystem.{IsInstance, kind_at, path_at};
@@ -11,17 +10,15 @@ ghost use Rattle.fb_inspect.specs.Walks.{system_in};
 ghost use Rattle.fb_inspect.specs.Inspections.{most};
 ghost use Rattle.fb_inspect.specs.Lines.{IsNext};
 ghost use Rattle.fb_inspect.specs.Looks.{Look};
-ghost use Rattle.fb_inspect.specs.Moves.{IsLineAt};
 ghost use Rattle.fb_inspect.specs.Refusals.{IsNoRefusal, IsWrongAt, OfRefusal};
 ghost use Rattle.fb_inspect.specs.Standing.{GoesAfter, StandsWell};
 ghost use Rattle.fb_inspect.specs.Walking.{IsLookOf, unread};
 ghost use Rattle.fb_wave.specs.Named.{HasNames};
-ghost use Rattle.fb_inspect.specs.Dumping.{IsPortDump, Shows, ShowsUntaken};
 ghost use Rattle.fb_inspect.specs.Saved.{IsBefore};
 ghost use Rattle.fb_inspect.specs.StateDumps.{Taken};
 ghost use Rattle.fb_inspect.specs.StateWaves.{IsShownWith, WritesFront};
-ghost use Rattle.fb_inspect.specs.Waving.{CanShow, Finishes, FinishesCut, HasGoneOn, HasWaved, IsNextKept, SendsCutPart, SendsPart, ShowsTaking, WaveStarts};
-ghost use Rattle.fb_inspect.specs.OfSystem.{AreKept};
+ghost use Rattle.fb_inspect.specs.Waving.{FinishesCut, HasGoneOn, HasWaved, SendsCutPart, WaveStarts};
+ghost use Rattle.fb_inspect.specs.OfSystem.{AreKept, CanShow, Finishes, IsLineAt, IsNextKept, IsPortDump, SendsPart, Shows, ShowsTaking, ShowsUntaken};
 
 use crate::Terms;
 use crate::ahead::Ahead;
@@ -73,7 +70,7 @@ fn keep_next(
 ) -> Result<Option<EventAt>, AllocError>
     requires next { (line : run.Line) → walk.now.trail.reading.next ≡ Next.Event line → IsInstance system.now line.instance }
     requires kept { (look : Look) × AreKept system.now walk.now.blocks.items look }
-    ensures { IfOk result (IsNextKept (system_of system.now) walk.now before.new) }
+    ensures { IfOk result (IsNextKept system.now walk.now before.new) }
 {
     let Next::Event(line) = &walk.trail.reading.next else {
         return Ok(None);
@@ -117,13 +114,13 @@ fn is_at_end<R: BufRead>(
 impl StateWave {
     /// Shows the taking of an event that the walk has passed.
     fn show(&mut self, system: &System, at: EventAt) -> Result<(), AllocError>
-        requires { CanShow (system_of system.now) at self.old }
-        ensures numbers { OnOk result (IsPortDump (system_of system.now) self.new.dump) }
+        requires { CanShow system.now at self.old }
+        ensures numbers { OnOk result (IsPortDump system.now self.new.dump) }
         ensures walk { self.new.walk ≡ self.old.walk }
         ensures shown { (look after : Look) → let p = path_at system.now at.instance in
             IsBefore (kind_at system.now p) self.old.before (look.blocks p)
             → AreKept system.now self.old.walk.blocks.items after
-            → OnOk result (ShowsTaking (system_of system.now) at look after self.old self.new) }
+            → OnOk result (ShowsTaking system.now at look after self.old self.new) }
     {
         system.facts();
         let text = &mut self.page.text;
@@ -138,14 +135,14 @@ impl StateWave {
 
     /// Shows the line of the event in which the trace is cut off, and those of its block that come after it.
     fn show_untaken(&mut self, system: &System, ahead: &Ahead) -> Result<(), AllocError>
-        requires dump { IsPortDump (system_of system.now) self.old.dump }
+        requires dump { IsPortDump system.now self.old.dump }
         requires next { (line : run.Line) × (self.old.walk.trail.reading.next ≡ Next.Event line) × BelongsTo system.now line }
         requires rows { All (BelongsTo system.now) ahead.now.rows.items }
-        ensures numbers { OnOk result (IsPortDump (system_of system.now) self.new.dump) }
+        ensures numbers { OnOk result (IsPortDump system.now self.new.dump) }
         ensures shown { (line : run.Line) (xs : List Taken) (sent : List ℕ) → self.old.walk.trail.reading.next ≡ Next.Event line
-            → All (IsLineAt (system_of system.now) line.key.tick) ahead.now.rows.items
-            → Shows (system_of system.now) xs (sent ++ self.old.page.text.items) self.old.dump
-            → OnOk result (ShowsUntaken (system_of system.now) xs (line ∷ ahead.now.rows.items) (sent ++ self.new.page.text.items) self.new.dump) }
+            → All (IsLineAt system.now line.key.tick) ahead.now.rows.items
+            → Shows system.now xs (sent ++ self.old.page.text.items) self.old.dump
+            → OnOk result (ShowsUntaken system.now xs (line ∷ ahead.now.rows.items) (sent ++ self.new.page.text.items) self.new.dump) }
     {
         let Next::Event(line) = &self.walk.trail.reading.next else {
             unreachable!()
@@ -167,7 +164,7 @@ impl StateWave {
         requires next { (tick : ℕ) × IsNext (system_in fixed.now) fixed.now.form tick self.old.walk.trail.reading.line.items self.old.walk.trail.reading.next }
         requires limit { fixed.now.limit ≡ most }
         requires kept { self.old.walk.trail.passed.are_kept ≡ true }
-        requires dump { IsPortDump (system_in fixed.now) self.old.dump }
+        requires dump { IsPortDump fixed.now.table.now.system.now self.old.dump }
         ensures goes { (known old new : Option (List ℕ)) → let sys = system_in fixed.now in
             HasWaved sys fixed.now.form terms.steps self.old known (unread ahead.old (R.remaining input.old)) old new
             → IfOk result (HasGoneOn sys fixed.now.form terms.steps self.new known (unread ahead.new (R.remaining input.new)) old new) }
@@ -200,8 +197,8 @@ impl StateWave {
         input: &mut R,
         out: &mut W,
     ) -> Result<(), InspectError>
-        ensures finishes { OnOk result (Finishes (system_of system.now) end self.old (unread ahead.now (R.remaining input.old)) (W.contents out.old) (W.contents out.new)) }
-        ensures fault { OnErr result (SendsPart (system_of system.now) end self.old (W.contents out.old) (W.contents out.new)) }
+        ensures finishes { OnOk result (Finishes system.now end self.old (unread ahead.now (R.remaining input.old)) (W.contents out.old) (W.contents out.new)) }
+        ensures fault { OnErr result (SendsPart system.now end self.old (W.contents out.old) (W.contents out.new)) }
         ensures refused { IfErr result (OfRefusal (λ n. (n ≡ self.old.walk.trail.reading.number + 1) × IfSome (unread ahead.now (R.remaining input.old)) (λ rest. 0 < length rest))) }
     {
         self.dump.end(system, end, &mut self.page.text)?;

@@ -1,13 +1,10 @@
 //! The dump of a trace with the inside of basic blocks.
 
 ghost use Rattle.std.specs.Prelude.{◌≤◌, IfErr, IfOk, IfSome, OnErr, OnOk};
-ghost use Rattle.fb_types.specs.Headline.{system_of};
-ghost use Rattle.fb_wave.specs.Tables.{system_in};
-ghost use Rattle.fb_wave.specs.Named.{HasNames};
+ghost use Rattle.fb_wave.specs.OfSystem.{HasNames};
 ghost use Rattle.fb_inspect.specs.Looks.{most};
-ghost use Rattle.fb_inspect.specs.Refusals.{IsWrongAt, OfRefusal};
-ghost use Rattle.fb_inspect.specs.StateWaves.{IsShownWith, WritesFront};
-ghost use Rattle.fb_inspect.specs.Waving.{Begins};
+ghost use Rattle.fb_inspect.specs.Refusals.{OfRefusal};
+ghost use Rattle.fb_inspect.specs.OfSystem.{BeginsWave, IsShownWith, IsWrongAt, WritesFront};
 
 use crate::ahead::Ahead;
 use crate::before::Before;
@@ -29,7 +26,7 @@ use std::io::{BufRead, Write};
 
 /// A dump that was begun, with the first line of a trace.
 fn begin(alloc: Global, system: &System, reading: Reading) -> Result<StateWave, AllocError>
-    ensures { IfOk result (Begins (system_of system.now) reading) }
+    ensures { IfOk result (BeginsWave system.now reading) }
 {
     let only = none_shown(alloc)?;
     let mut walk = begun(alloc, system, only.as_slice(), Marks::none(alloc), reading)?;
@@ -54,10 +51,10 @@ fn write_with<R: BufRead, W: Write>(
     input: &mut R,
     out: &mut W,
 ) -> Result<(), InspectError>
-    ensures whole { OnOk result (IfSome (R.remaining input.old) (λ text. IsShownWith terms.cut (system_in table.now) terms.steps text (W.contents out.old) (W.contents out.new))) }
-    ensures fault { OnErr result (WritesFront (system_in table.now) terms.steps (W.contents out.old) (W.contents out.new)) }
-    ensures refused { HasNames (system_in table.now) → terms.steps ≤ most
-        → IfErr result (OfRefusal (λ n. IfSome (R.remaining input.old) (IsWrongAt (system_in table.now) terms.steps n))) }
+    ensures whole { OnOk result (IfSome (R.remaining input.old) (λ text. IsShownWith terms.cut table.now.system.now terms.steps text (W.contents out.old) (W.contents out.new))) }
+    ensures fault { OnErr result (WritesFront table.now.system.now terms.steps (W.contents out.old) (W.contents out.new)) }
+    ensures refused { HasNames table.now.system.now → terms.steps ≤ most
+        → IfErr result (OfRefusal (λ n. IfSome (R.remaining input.old) (IsWrongAt table.now.system.now terms.steps n))) }
 {
     let mut line = Vec::new(alloc);
     next_line(input, &mut line)?;
@@ -102,10 +99,10 @@ pub fn write_states<R: BufRead, W: Write>(
     input: &mut R,
     out: &mut W,
 ) -> Result<(), InspectError>
-    ensures whole { OnOk result (IfSome (R.remaining input.old) (λ text. IsShownWith terms.cut (system_of system.now) terms.steps text (W.contents out.old) (W.contents out.new))) }
-    ensures fault { OnErr result (WritesFront (system_of system.now) terms.steps (W.contents out.old) (W.contents out.new)) }
-    ensures refused { HasNames (system_of system.now) → terms.steps ≤ most
-        → IfErr result (OfRefusal (λ n. IfSome (R.remaining input.old) (IsWrongAt (system_of system.now) terms.steps n))) }
+    ensures whole { OnOk result (IfSome (R.remaining input.old) (λ text. IsShownWith terms.cut system.now terms.steps text (W.contents out.old) (W.contents out.new))) }
+    ensures fault { OnErr result (WritesFront system.now terms.steps (W.contents out.old) (W.contents out.new)) }
+    ensures refused { HasNames system.now → terms.steps ≤ most
+        → IfErr result (OfRefusal (λ n. IfSome (R.remaining input.old) (IsWrongAt system.now terms.steps n))) }
 {
     let ports = SystemPorts::of(alloc, system)?;
     let Some(table) = PortTable::of(alloc, &ports)? else {

@@ -12,3 +12,4 @@ pub mod Copies
 pub mod Places
 pub mod Spent
 pub mod Shown
+pub mod OfSystem

@@ -1,7 +1,7 @@
 //! A run with copies of its basic blocks, which react to the same events.
 
 ghost use Rattle.std.specs.Prelude.{◌≡◌, ◌^◌, ◌≤◌, ℕ, suc, IfNone, IfOk, IfSome, None, OnOk};
-ghost use Rattle.fb_types.specs.Headline.{system_of, stimuli_of};
+ghost use Rattle.fb_types.specs.Headline.{stimuli_of};
 ghost use Rattle.fb_types.specs.Keys.{without};
 ghost use Rattle.fb_types.specs.States.{State};
 ghost use Rattle.fb_types.specs.States as model;
@@ -13,7 +13,8 @@ ghost use Rattle.fb_resource.specs.Counts.{IsMetered, meter_of};
 ghost use Rattle.fb_sim.specs.Machines.{IsAt, IsReady};
 ghost use Rattle.fb_sim.specs.Runs.{IsSpent};
 ghost use Rattle.fb_stop.specs.Copies.{AreAllCopies, IsFollowed, IsLocated, IsSiteBy, Steps, Stopping};
-ghost use Rattle.fb_stop.specs.Found.{ArrivesAt, Finds};
+ghost use Rattle.fb_stop.specs.Found.{Finds};
+ghost use Rattle.fb_stop.specs.OfSystem.{ArrivesAt};
 ghost use Rattle.fb_stop.specs.Runs.{machine_of};
 
 use crate::copies::{basic_type, follow, locate_in, open_copies};
@@ -49,7 +50,7 @@ impl Drop for Replay {
 /// Where an event arrives.
 pub(crate) fn site_of(system: &System, event: &Event) -> EventSite
     requires { (resource : ℕ) × IsEventIn system.now resource event.now }
-    ensures { ArrivesAt (system_of system.now) (event_of system.now event.now) result }
+    ensures { ArrivesAt system.now (event_of system.now event.now) result }
 {
     match event {
         Event::Stimulus(row) => EventSite::Port(system.stimulus(*row).target),
@@ -101,7 +102,7 @@ impl Replay {
         left: Option<u64>,
     ) -> Result<(), AllocError>
         requires copies { (s : State) × AreAllCopies system.now s self.old.copies.items }
-        requires arrives { (e : model.Event) × ArrivesAt (system_of system.now) e at }
+        requires arrives { (e : model.Event) × ArrivesAt system.now e at }
         ensures followed { OnOk result (IsFollowed system.now at left self.old.run.given.outbox.lines.items self.old.copies.items self.new.copies.items) }
         ensures run { self.new.run ≡ self.old.run }
     {

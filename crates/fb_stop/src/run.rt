@@ -2,7 +2,7 @@
 //! a caller looks at each event before and after it is taken.
 
 ghost use Rattle.std.specs.Prelude.{◌≡◌, ◌^◌, ◌<◌, ◌≤◌, ℕ, [], map, All, IfOk, None, OnOk};
-ghost use Rattle.fb_types.specs.Headline.{Inputs, system_of, stimuli_of};
+ghost use Rattle.fb_types.specs.Headline.{Inputs, stimuli_of};
 ghost use Rattle.fb_types.specs.Keys.{found, or_else, without};
 ghost use Rattle.fb_types.specs.States.{State};
 ghost use Rattle.fb_types.specs.States as model;
@@ -10,7 +10,8 @@ ghost use Rattle.fb_types.specs.declared.key.Key as keys;
 ghost use Rattle.fb_types.specs.OfSystem.{IsResource, opening_agenda, opening_state, resource_count};
 ghost use Rattle.fb_laws.specs.OfSystem.{IsTypedEvent};
 ghost use Rattle.fb_net.specs.Events.{IsEventIn, IsKeyOf, event_of};
-ghost use Rattle.fb_resource.specs.Posts.{IsMessage, arriving, key_of};
+ghost use Rattle.fb_resource.specs.OfSystem.{key_of};
+ghost use Rattle.fb_resource.specs.Posts.{IsMessage, arriving};
 ghost use Rattle.fb_resource.specs.Waiting.{IsInOrder, meaning};
 ghost use Rattle.fb_sim.specs.Machines.{IsAt, IsReady, IsTaken};
 ghost use Rattle.fb_sim.specs.Openings.{AreOpened};
@@ -50,7 +51,7 @@ impl Drop for Run {
 /// The key under which a message waits.
 fn key_of_message(system: &System, message: &Message) -> Key
     requires { IsMessage system.now message.now }
-    ensures { result ≡ key_of (system_of system.now) message.now }
+    ensures { result ≡ key_of system.now message.now }
 {
     system.facts();
     let receiver = system.resource(message.target.instance) as u32;

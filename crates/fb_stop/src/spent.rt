@@ -1,7 +1,7 @@
 //! How the steps of one tick were used, up to the stop of a simulation.
 
 ghost use Rattle.std.specs.Prelude.{◌≡◌, ◌^◌, ◌<◌, ◌≤◌, ◌==◌, ◌&&◌, ℕ, IfOk, IfSome, IsTrue, None, OnOk, Some, length, replicate, slice_get};
-ghost use Rattle.fb_types.specs.Headline.{system_of, stimuli_of};
+ghost use Rattle.fb_types.specs.Headline.{stimuli_of};
 ghost use Rattle.fb_types.specs.Keys.{without};
 ghost use Rattle.fb_types.specs.States.{State};
 ghost use Rattle.fb_types.specs.States as model;
@@ -14,7 +14,8 @@ ghost use Rattle.fb_resource.specs.declared.tick_counts.TickCounts as counted;
 ghost use Rattle.fb_sim.specs.Machines.{IsAt, IsReady};
 ghost use Rattle.fb_sim.specs.Runs.{IsSpent};
 ghost use Rattle.fb_stop.specs.Runs.{machine_of};
-ghost use Rattle.fb_stop.specs.Spent.{AreSpent, Charges, ChargesEvent, HasSpent, IsMost, is_of};
+ghost use Rattle.fb_stop.specs.Spent.{AreSpent, Charges, HasSpent, IsMost, is_of};
+ghost use Rattle.fb_stop.specs.OfSystem.{ChargesEvent};
 
 use crate::found::instance_of;
 use crate::replay::site_of;
@@ -70,7 +71,7 @@ fn is_there(key: &Key, moment: Moment) -> bool
 fn charge_event(spent: &mut Vec<u64>, system: &System, event: &Event, used: u64)
     requires event { (resource : ℕ) × IsEventIn system.now resource event.now }
     requires counted { length spent.old.items ≡ instance_count system.now }
-    ensures { ChargesEvent (system_of system.now) (event_of system.now event.now) used spent.old.items spent.new.items }
+    ensures { ChargesEvent system.now (event_of system.now event.now) used spent.old.items spent.new.items }
 {
     system.facts();
     let at = site_of(system, event);

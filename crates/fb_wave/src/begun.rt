@@ -2,12 +2,12 @@
 
 ghost use Rattle.std.specs.Prelude.{◌≡◌, ◌<◌, ◌+◌, ◌^◌, ◌++◌, OnOk, length, map};
 ghost use Rattle.fb_types.specs.Blocks.{variable_names};
-ghost use Rattle.fb_types.specs.Headline.{system_of};
 ghost use Rattle.fb_types.specs.Names.{Name};
 ghost use Rattle.fb_types.specs.declared.value.Value.{Value};
 ghost use Rattle.fb_types.specs.OfSystem.{IsInstance, path_at, ports_at};
 ghost use Rattle.fb_wave.specs.Scopes as spec;
 ghost use Rattle.fb_wave.specs.Signals.{size_of};
+ghost use Rattle.fb_wave.specs.OfSystem.{initial_in};
 
 use crate::change::put_value;
 use crate::digits::put_line;
@@ -105,7 +105,7 @@ pub(crate) fn put_instance(
     requires instance { IsInstance system.now instance }
     requires first { first + size_of (ports_at system.now (path_at system.now instance)) < 2 ^ 64 }
     ensures { OnOk result (let p = path_at system.now instance in
-        text.new.items ≡ text.old.items ++ spec.ports_begun (spec.initial_in (system_of system.now) p) first (ports_at system.now p)) }
+        text.new.items ≡ text.old.items ++ spec.ports_begun (initial_in system.now p) first (ports_at system.now p)) }
 {
     let inputs = system.initial_inputs(alloc, instance)?;
     let outputs = system.initial_outputs(alloc, instance)?;

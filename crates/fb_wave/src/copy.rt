@@ -2,18 +2,17 @@
 
 ghost use Rattle.std.specs.Prelude.{◌≡◌, ◌<◌, ◌↔◌, ℕ, ◌+◌, ◌^◌, List, [], ◌∷◌, ◌++◌, true, false, length, if◌then◌else◌, IfErr, IfOk, IfSome, OnOk, IsTrue};
 ghost use Rattle.std.specs.Io.KnownBytes.{Consumes, IsAtEnd};
-ghost use Rattle.fb_types.specs.Headline.{system_of};
 ghost use Rattle.fb_types.specs.Systems.{System as Flat};
 ghost use Rattle.fb_wave.specs.Tables.{system_in};
-ghost use Rattle.fb_wave.specs.Lines.{IsLast};
 ghost use Rattle.fb_wave.specs.Writing.{HasShown, IsDump};
-ghost use Rattle.fb_wave.specs.Copying.{IsAfter, IsCutFinished, IsCutUnfinished, IsFinished, IsFirstLine, IsNoWriteFault, IsRefusedAt, IsTaken, IsUnfinished, RefusesEnd, RefusesLine};
+ghost use Rattle.fb_wave.specs.Copying.{IsAfter, IsCutFinished, IsCutUnfinished, IsFirstLine, IsNoWriteFault, IsRefusedAt, IsTaken, RefusesEnd, RefusesLine};
 ghost use Rattle.fb_wave.specs.CutOff.{BlamesShown, FailsShown, IsShown};
 ghost use Rattle.fb_wave.specs.CurrentLines.{IsRefusedLine};
 ghost use Rattle.fb_wave.specs.Faults.{IsReadFault};
 ghost use Rattle.fb_wave.specs.Named as named;
 ghost use Rattle.fb_wave.specs.Named.{HasNames};
 ghost use Rattle.fb_wave.specs.Words.{is_word};
+ghost use Rattle.fb_wave.specs.OfSystem.{IsFinished, IsLast, IsUnfinished};
 
 use crate::current_line::CurrentLine;
 use crate::dump::Dump;
@@ -140,9 +139,9 @@ impl Progress {
         out: &mut W,
     ) -> Result<(), WaveError>
         requires number { number + 1 < 2 ^ 64 }
-        requires end { IsLast (system_of system.now) current.old.text.items end }
-        ensures whole { OnOk result (IsFinished (system_of system.now) end self.old (R.remaining input.old) (W.contents out.old) (W.contents out.new)) }
-        ensures part { IfErr result (IsUnfinished (system_of system.now) self.old (W.contents out.old) (W.contents out.new)) }
+        requires end { IsLast system.now current.old.text.items end }
+        ensures whole { OnOk result (IsFinished system.now end self.old (R.remaining input.old) (W.contents out.old) (W.contents out.new)) }
+        ensures part { IfErr result (IsUnfinished system.now self.old (W.contents out.old) (W.contents out.new)) }
         ensures refused { IfErr result (RefusesEnd end self.old.tick number (R.remaining input.old)) }
         ensures tick { self.new.tick ≡ self.old.tick }
         ensures current { IfErr result (IsRefusedAt end self.old.tick number (R.remaining input.old) current.old current.new) }

@@ -1,16 +1,16 @@
 //! A dump, line by line.
 
 ghost use Rattle.std.specs.Prelude.{◌≡◌, ℕ, List, [], ◌∷◌, ◌++◌, length, IfOk, OnOk};
-ghost use Rattle.fb_types.specs.Headline.{system_of};
 ghost use Rattle.fb_types.specs.Systems.{System as Flat};
 ghost use Rattle.fb_types.specs.Text.{reason_text};
 ghost use Rattle.fb_types.specs.OfSystem.{resource_name};
 ghost use Rattle.fb_system.specs.OfSystem.{BelongsTo};
 ghost use Rattle.fb_trace.specs.End.{ending_of};
 ghost use Rattle.fb_wave.specs.CutOff.{cut_text};
-ghost use Rattle.fb_wave.specs.Dumps.{dump_text, end_text, stop_comment};
-ghost use Rattle.fb_wave.specs.Writing.{HasShown, Shows, Turns};
-ghost use Rattle.fb_wave.specs.OfSystem.{IsDump};
+ghost use Rattle.fb_wave.specs.Dumps.{stop_comment};
+ghost use Rattle.fb_wave.specs.Writing.{Shows, Turns};
+ghost use Rattle.fb_wave.specs.Writing as writing;
+ghost use Rattle.fb_wave.specs.OfSystem.{HasShown, IsDump, dump_text, end_text};
 
 use crate::change::{put_changes, put_time};
 use crate::head::put_head;
@@ -57,7 +57,7 @@ pub fn put_end(
     shown: u64,
     end: Outcome,
 ) -> Result<(), AllocError>
-    ensures { OnOk result (text.new.items ≡ text.old.items ++ end_text (system_of system.now) shown (ending_of end)) }
+    ensures { OnOk result (text.new.items ≡ text.old.items ++ end_text system.now shown (ending_of end)) }
 {
     match end {
         Outcome::End(horizon) => put_time(text, shown, horizon),
@@ -100,7 +100,7 @@ impl Dump {
         text: &mut Vec<u8>,
     ) -> Result<Dump, AllocError>
         ensures numbers { IfOk result (IsDump system.now) }
-        ensures shown { text.old.items ≡ [] → IfOk result (HasShown (system_of system.now) [] text.new.items) }
+        ensures shown { text.old.items ≡ [] → IfOk result (HasShown system.now [] text.new.items) }
     {
         let signals = Signals::of(alloc, system)?;
         put_head(alloc, text, system, signals.firsts.as_slice())?;
@@ -117,8 +117,8 @@ impl Dump {
         requires dump { IsDump system.now self.old }
         requires line { BelongsTo system.now line.now }
         ensures numbers { OnOk result (IsDump system.now self.new) }
-        ensures shown { (ls : List Line) (sent : List ℕ) → HasShown (system_of system.now) ls (sent ++ text.old.items) self.old
-            → OnOk result (HasShown (system_of system.now) (ls ++ line.now ∷ []) (sent ++ text.new.items) self.new) }
+        ensures shown { (ls : List Line) (sent : List ℕ) → HasShown system.now ls (sent ++ text.old.items) self.old
+            → OnOk result (HasShown system.now (ls ++ line.now ∷ []) (sent ++ text.new.items) self.new) }
     {
         turn(&mut self.signals.levels, self.tick, line.key.tick, text)?;
         self.tick = line.key.tick;
@@ -127,7 +127,7 @@ impl Dump {
 
     /// Appends what changed in the last tick, and that the trace is cut off.
     pub(crate) fn cut_off(&mut self, text: &mut Vec<u8>) -> Result<(), AllocError>
-        ensures { (sys : Flat) (ls : List Line) (sent : List ℕ) → HasShown sys ls (sent ++ text.old.items) self.old
+        ensures { (sys : Flat) (ls : List Line) (sent : List ℕ) → writing.HasShown sys ls (sent ++ text.old.items) self.old
             → OnOk result (sent ++ text.new.items ≡ cut_text sys ls) }
     {
         put_changes(text, &mut self.signals.levels)?;
@@ -141,8 +141,8 @@ impl Dump {
         end: Outcome,
         text: &mut Vec<u8>,
     ) -> Result<(), AllocError>
-        ensures { (ls : List Line) (sent : List ℕ) → HasShown (system_of system.now) ls (sent ++ text.old.items) self.old
-            → OnOk result (sent ++ text.new.items ≡ dump_text (system_of system.now) ls (ending_of end)) }
+        ensures { (ls : List Line) (sent : List ℕ) → HasShown system.now ls (sent ++ text.old.items) self.old
+            → OnOk result (sent ++ text.new.items ≡ dump_text system.now ls (ending_of end)) }
     {
         put_changes(text, &mut self.signals.levels)?;
         put_end(text, system, self.tick, end)

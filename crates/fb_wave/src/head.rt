@@ -1,11 +1,9 @@
 //! The head of a dump: scopes, signals and their initial state.
 
 ghost use Rattle.std.specs.Prelude.{◌≡◌, ◌≤◌, ◌+◌, ◌-◌, ◌++◌, IfOk, OnOk, drop, length};
-ghost use Rattle.fb_types.specs.Headline.{system_of};
 ghost use Rattle.fb_types.specs.OfSystem.{IsInstance, path_at, ports_at};
 ghost use Rattle.fb_wave.specs.Scopes as spec;
-ghost use Rattle.fb_wave.specs.Signals.{first_signal};
-ghost use Rattle.fb_wave.specs.OfSystem.{AreFirsts};
+ghost use Rattle.fb_wave.specs.OfSystem.{AreFirsts, first_signal, head_text, instances_begun, instances_declared, resources_declared};
 
 use crate::begun;
 use crate::scopes::{put_closed, put_opened};
@@ -47,7 +45,7 @@ pub fn put_instance(
     requires instance { IsInstance system.now instance }
     ensures height { IfOk result (λ h. h ≡ length (path_at system.now instance)) }
     ensures text { OnOk result (let p = path_at system.now instance in
-        text.new.items ≡ text.old.items ++ (spec.closed (depth + 1 - length p) ++ spec.opened (spec.own_name p) ++ spec.ports_declared (first_signal (system_of system.now) instance) (ports_at system.now p))) }
+        text.new.items ≡ text.old.items ++ (spec.closed (depth + 1 - length p) ++ spec.opened (spec.own_name p) ++ spec.ports_declared (first_signal system.now instance) (ports_at system.now p))) }
 {
     system.facts();
     let height = system.route(instance).len();
@@ -69,7 +67,7 @@ fn put_instances(
 ) -> Result<(), AllocError>
     requires { AreFirsts system.now firsts.now }
     ensures { OnOk result (text.new.items ≡ text.old.items
-        ++ spec.instances_declared (system_of system.now) resource 0 0 (system_of system.now).paths) }
+        ++ instances_declared system.now resource) }
 {
     system.facts();
     let mut depth = 0;
@@ -91,7 +89,7 @@ pub fn put_begun(
 ) -> Result<(), AllocError>
     requires { AreFirsts system.now firsts.now }
     ensures { OnOk result (text.new.items ≡ text.old.items
-        ++ spec.instances_begun (system_of system.now) 0 (system_of system.now).paths) }
+        ++ instances_begun system.now) }
 {
     system.facts();
     for index in 0..system.count() {
@@ -104,7 +102,7 @@ pub fn put_begun(
 fn put_resources(text: &mut Vec<u8>, system: &System, firsts: &[usize]) -> Result<(), AllocError>
     requires { AreFirsts system.now firsts.now }
     ensures { OnOk result (text.new.items ≡ text.old.items
-        ++ spec.resources_declared (system_of system.now) 0 (system_of system.now).resource_names) }
+        ++ resources_declared system.now) }
 {
     for resource in 0..system.resources() {
         put_opened(text, system.resource_name(resource))?;
@@ -122,7 +120,7 @@ pub(crate) fn put_head(
     firsts: &[usize],
 ) -> Result<(), AllocError>
     requires { AreFirsts system.now firsts.now }
-    ensures { OnOk result (text.new.items ≡ text.old.items ++ spec.head_text (system_of system.now)) }
+    ensures { OnOk result (text.new.items ≡ text.old.items ++ head_text system.now) }
 {
     text.extend_from_slice(b"$timescale 1 ms $end\n")?;
     put_resources(text, system, firsts)?;

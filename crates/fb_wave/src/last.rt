@@ -1,12 +1,9 @@
 //! The last line of a trace.
 
 ghost use Rattle.std.specs.Prelude.{◌≡◌, ◌<◌, ◌^◌, ℕ, ◌++◌, [], ◌∷◌, IfNone, IfSome, MatchOption, codes, decimal};
-ghost use Rattle.fb_types.specs.Headline.{system_of};
-ghost use Rattle.fb_types.specs.Simulation.{AtStop};
-ghost use Rattle.fb_types.specs.Text.{tick_and_resource_text, reason_text};
-ghost use Rattle.fb_types.specs.OfSystem.{IsResource, last_line, resource_name};
-ghost use Rattle.fb_wave.specs.Lines.{IsLast, IsNoLast, IsNoStop, IsStop};
-ghost use Rattle.fb_wave.specs.OfSystem.{HasNames};
+ghost use Rattle.fb_types.specs.Text.{reason_text};
+ghost use Rattle.fb_types.specs.OfSystem.{IsResource, resource_name};
+ghost use Rattle.fb_wave.specs.OfSystem.{HasNames, IsLast, IsNoLast, IsNoStop, IsStop};
 
 use crate::number::{magnitude, tick};
 use crate::words::{after_front, cut};
@@ -59,8 +56,8 @@ fn horizon_of(text: &[u8]) -> Option<u64>
 
 /// The stop of a resource in a text, with its line feed.
 fn stop_of(system: &System, text: &[u8]) -> Option<StopMark>
-    ensures stop { IfSome result (IsStop (system_of system.now) text.now) }
-    ensures none { HasNames system.now → IfNone result (IsNoStop (system_of system.now) text.now) }
+    ensures stop { IfSome result (IsStop system.now text.now) }
+    ensures none { HasNames system.now → IfNone result (IsNoStop system.now text.now) }
 {
     let tick = tick(text)?;
     let name = cut(tick.1)?;
@@ -75,8 +72,8 @@ fn stop_of(system: &System, text: &[u8]) -> Option<StopMark>
 
 /// The end in a text, with its line feed.
 pub fn read_last(system: &System, text: &[u8]) -> Option<Outcome>
-    ensures last { IfSome result (IsLast (system_of system.now) text.now) }
-    ensures none { HasNames system.now → IfNone result (IsNoLast (system_of system.now) text.now) }
+    ensures last { IfSome result (IsLast system.now text.now) }
+    ensures none { HasNames system.now → IfNone result (IsNoLast system.now text.now) }
 {
     // A line that begins with a number is the line of an event.
     if let Some(b'0'..=b'9') = text.first() {

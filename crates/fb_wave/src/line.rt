@@ -1,14 +1,11 @@
 //! Lines of a trace.
 
-ghost use Rattle.std.specs.Prelude.{◌≡◌, ◌≤◌, ◌^◌, ◌++◌, IfNone, IfOk, IfSome, MatchOption};
-ghost use Rattle.fb_types.specs.Headline.{AreAccepted, system_of};
-ghost use Rattle.fb_types.specs.Numbers.{event_at};
-ghost use Rattle.fb_types.specs.Text.{key_text};
-ghost use Rattle.fb_types.specs.OfSystem.{path_at, ports_at};
+ghost use Rattle.std.specs.Prelude.{◌≡◌, ◌≤◌, ◌^◌, IfNone, IfOk, IfSome, MatchOption};
+ghost use Rattle.fb_types.specs.Headline.{AreAccepted};
 ghost use Rattle.fb_wave.specs.Tables.{system_in};
-ghost use Rattle.fb_wave.specs.Lines.{AreInRange, AreNoValuesOf, AreValuesOf, HasNoHead, IsHead, IsNoTextOf, IsTextOf};
+ghost use Rattle.fb_wave.specs.Lines.{AreInRange, HasNoHead, IsHead, IsNoTextOf, IsTextOf};
 ghost use Rattle.fb_wave.specs.Named.{HasNames};
-ghost use Rattle.fb_wave.specs.OfSystem.{IsPortOf};
+ghost use Rattle.fb_wave.specs.OfSystem.{AreNoValuesOf, AreValuesOf, IsPortOf};
 
 use crate::number::{number, tick};
 use crate::ports::{Port, holder_of};
@@ -73,8 +70,8 @@ fn port_values(
     text: &[u8],
 ) -> Result<Option<Values>, AllocError>
     requires { IsPortOf system.now port }
-    ensures values { IfOk result (λ o. IfSome o (AreValuesOf (system_of system.now) port text.now)) }
-    ensures none { AreAccepted system.now → IfOk result (λ o. IfNone o (AreNoValuesOf (system_of system.now) port text.now)) }
+    ensures values { IfOk result (λ o. IfSome o (AreValuesOf system.now port text.now)) }
+    ensures none { AreAccepted system.now → IfOk result (λ o. IfNone o (AreNoValuesOf system.now port text.now)) }
 {
     let ports = system.ports(port.instance);
     if port.taken {

@@ -1,9 +1,8 @@
 //! Whether the names of a system are those of a declaration and a deployment.
 
-ghost use Rattle.std.specs.Prelude.{◌≡◌, ◌<◌, ◌||◌, ℕ, [], IsTrue, true, false, length, slice_index_or};
+ghost use Rattle.std.specs.Prelude.{◌≡◌, ◌||◌, ℕ, IsTrue, true, false};
 ghost use Rattle.std.specs.List.{list_all};
-ghost use Rattle.fb_types.specs.Headline.{system_of};
-ghost use Rattle.fb_types.specs.OfSystem.{IsInstance};
+ghost use Rattle.fb_types.specs.OfSystem.{IsInstance, IsResource, resource_name};
 ghost use Rattle.fb_wave.specs.Named as named;
 ghost use Rattle.fb_wave.specs.OfSystem.{HasNames, is_named_at};
 
@@ -101,8 +100,8 @@ fn are_instances_named(system: &System) -> bool
 }
 
 fn are_resources_named(system: &System) -> bool
-    ensures named { let names = (system_of system.now).resource_names in IsTrue result → (k : ℕ) → k < length names → named.is_name (slice_index_or names k []) ≡ true }
-    ensures unnamed { let names = (system_of system.now).resource_names in result ≡ false → (k : ℕ) × (k < length names) × (named.is_name (slice_index_or names k []) ≡ false) }
+    ensures named { IsTrue result → (k : ℕ) → IsResource system.now k → named.is_name (resource_name system.now k) ≡ true }
+    ensures unnamed { result ≡ false → (k : ℕ) × (IsResource system.now k) × (named.is_name (resource_name system.now k) ≡ false) }
 {
     for resource in 0..system.resources() {
         if !is_name(system.resource_name(resource)) {

@@ -1,13 +1,13 @@
 //! The event ports of a system.
 
 ghost use Rattle.std.specs.Prelude.{◌≡◌, ◌<◌, ◌^◌, All, Contains, IfOk, OnOk, length, codes, if◌then◌else◌};
-ghost use Rattle.fb_types.specs.Headline.{system_of};
 ghost use Rattle.fb_types.specs.Numbers.{event_at};
 ghost use Rattle.fb_types.specs.Repeated.{Twice};
 ghost use Rattle.fb_types.specs.Systems.{System as Flat};
-ghost use Rattle.fb_types.specs.OfSystem.{IsResource, path_at, ports_at, resource_at};
+ghost use Rattle.fb_types.specs.OfSystem.{IsResource, path_at, resource_at};
 ghost use Rattle.fb_wave.specs.Ports as spec;
-ghost use Rattle.fb_wave.specs.Ports.{AreAdded, HasNone, IsPortOf};
+ghost use Rattle.fb_wave.specs.Ports.{AreAdded, HasNone};
+ghost use Rattle.fb_wave.specs.OfSystem.{IsPortOf, port_text};
 
 use fb_system::System;
 use fb_types::{EventPort, Name, Ports};
@@ -33,8 +33,8 @@ fn push_events(
     taken: bool,
     count: usize,
 ) -> Result<(), AllocError>
-    ensures are { (sys : Flat) → instance < length sys.paths → count ≡ length (spec.side sys instance taken) → All (IsPortOf sys) all.old.items
-        → OnOk result (All (IsPortOf sys) all.new.items) }
+    ensures are { (sys : Flat) → instance < length sys.paths → count ≡ length (spec.side sys instance taken) → All (spec.IsPortOf sys) all.old.items
+        → OnOk result (All (spec.IsPortOf sys) all.new.items) }
     ensures kept { OnOk result ((p : Port) → Contains all.old.items p → Contains all.new.items p) }
     ensures pushed { OnOk result ((p : Port) → p.instance ≡ instance → p.taken ≡ taken → p.event < count → p.event < 2 ^ 32 → Contains all.new.items p) }
     ensures added { OnOk result (AreAdded all.old.items all.new.items instance taken) }
@@ -52,8 +52,8 @@ fn push_events(
 
 /// All event ports of a system.
 pub(crate) fn ports_of(alloc: Global, system: &System) -> Result<Vec<Port>, AllocError>
-    ensures are { IfOk result (λ v. All (IsPortOf (system_of system.now)) v.items) }
-    ensures all { IfOk result (λ v. (p : Port) → IsPortOf (system_of system.now) p → Contains v.items p) }
+    ensures are { IfOk result (λ v. All (IsPortOf system.now) v.items) }
+    ensures all { IfOk result (λ v. (p : Port) → IsPortOf system.now p → Contains v.items p) }
     ensures once { IfOk result (λ v. ¬ (Twice v.items)) }
 {
     system.facts();
@@ -88,7 +88,7 @@ fn event_name(ports: &Ports, taken: bool, event: u32) -> &[u8]
 
 /// The number of the resource that holds a port.
 pub(crate) fn holder_of(system: &System, port: Port) -> u32
-    requires { IsPortOf (system_of system.now) port }
+    requires { IsPortOf system.now port }
     ensures held { result ≡ resource_at system.now (path_at system.now port.instance) }
     ensures within { IsResource system.now result }
 {
@@ -105,8 +105,8 @@ fn sign(taken: bool) -> &'static [u8]
 
 /// The text of a line between its tick and its values: `RESOURCE > PATH.EVENT`, or with `<`.
 pub(crate) fn port_text(alloc: Global, system: &System, port: Port) -> Result<Name, AllocError>
-    requires { IsPortOf (system_of system.now) port }
-    ensures { IfOk result (λ n. n ≡ spec.port_text (system_of system.now) port) }
+    requires { IsPortOf system.now port }
+    ensures { IfOk result (λ n. n ≡ port_text system.now port) }
 {
     let holder = holder_of(system, port);
     let ports = system.ports(port.instance);

@@ -1,13 +1,11 @@
 //! The signals of a system: their numbers, and what they show.
 
 ghost use Rattle.std.specs.Prelude.{◌≡◌, ◌<◌, ℕ, ◌+◌, List, [], ◌∷◌, ◌++◌, map, length, All, IfOk, OnOk};
-ghost use Rattle.fb_types.specs.Headline.{system_of};
 ghost use Rattle.fb_system.specs.OfSystem.{BelongsTo};
 ghost use Rattle.fb_wave.specs.Levels.{AreLevels};
-ghost use Rattle.fb_wave.specs.LineSignals.{fired, pairs, set_by, touched};
+ghost use Rattle.fb_wave.specs.LineSignals.{pairs};
 ghost use Rattle.fb_wave.specs.Signals as spec;
-ghost use Rattle.fb_wave.specs.Writing.{AreMarks};
-ghost use Rattle.fb_wave.specs.OfSystem.{AreFirsts, AreSignals};
+ghost use Rattle.fb_wave.specs.OfSystem.{AreFirsts, AreMarks, AreSignals, fired, set_by, signal_count, touched};
 
 use crate::levels::Levels;
 use fb_system::System;
@@ -38,7 +36,7 @@ pub(crate) struct Marks<'a> {
 fn marks_of<'a>(firsts: &[usize], system: &'a System, line: &Line) -> Marks<'a>
     requires firsts { AreFirsts system.now firsts.now }
     requires line { BelongsTo system.now line.now }
-    ensures { AreMarks (system_of system.now) line.now result }
+    ensures { AreMarks system.now line.now result }
 {
     let ports = system.ports(line.instance);
     let first = firsts[line.instance as usize];
@@ -74,7 +72,7 @@ fn add_ports(levels: &mut Levels, ports: &Ports) -> Result<(), AllocError>
 fn firsts_of(alloc: Global, system: &System, levels: &mut Levels) -> Result<Vec<usize>, AllocError>
     requires { AreLevels 0 [] [] [] levels.old }
     ensures firsts { IfOk result (λ v. AreFirsts system.now v.items) }
-    ensures levels { OnOk result (AreLevels (spec.sizes_of (system_of system.now) (system_of system.now).paths) [] [] [] levels.new) }
+    ensures levels { OnOk result (AreLevels (signal_count system.now) [] [] [] levels.new) }
 {
     system.facts();
     let mut firsts = Vec::new(alloc);
@@ -128,7 +126,7 @@ impl Signals {
     /// The signals of a system before its first line.
     pub fn of(alloc: Global, system: &System) -> Result<Signals, AllocError>
         ensures signals { IfOk result (AreSignals system.now) }
-        ensures levels { IfOk result (λ s. AreLevels (spec.sizes_of (system_of system.now) (system_of system.now).paths) [] [] [] s.levels) }
+        ensures levels { IfOk result (λ s. AreLevels (signal_count system.now) [] [] [] s.levels) }
     {
         let mut levels = Levels::new(alloc);
         let firsts = firsts_of(alloc, system, &mut levels)?;
@@ -141,8 +139,7 @@ impl Signals {
         requires line { BelongsTo system.now line.now }
         ensures signals { AreSignals system.now self.new }
         ensures levels { (n : ℕ) (fires : List ℕ) (sets : List (ℕ × Value)) (touches : List ℕ) → AreLevels n fires sets touches self.old.levels
-            → OnOk result (let sys = system_of system.now in
-            AreLevels n (fires ++ fired sys line.now ∷ []) (sets ++ set_by sys line.now) (touches ++ touched sys line.now) self.new.levels) }
+            → OnOk result (AreLevels n (fires ++ fired system.now line.now ∷ []) (sets ++ set_by system.now line.now) (touches ++ touched system.now line.now) self.new.levels) }
     {
         system.facts();
         let marks = marks_of(self.firsts.as_slice(), system, line);

@@ -1,14 +1,12 @@
 //! Finds the ports of a system by their text in lines.
 
-ghost use Rattle.std.specs.Prelude.{◌≡◌, ◌≤◌, ℕ, List, ◌++◌, All, Contains, IfNone, IfOk, IfSome, IsSome, MatchOption, Some, slice_get, length, map};
-ghost use Rattle.fb_types.specs.Headline.{AreAccepted, system_of};
+ghost use Rattle.std.specs.Prelude.{◌≡◌, ◌≤◌, ℕ, List, All, Contains, IfNone, IfOk, IfSome, IsSome, MatchOption, Some, slice_get, length, map};
+ghost use Rattle.fb_types.specs.Headline.{AreAccepted};
 ghost use Rattle.fb_types.specs.Limits.{IsWithinLimits};
 ghost use Rattle.fb_check_names.specs.Indexes.{IsIndex, names_in};
-ghost use Rattle.fb_wave.specs.Ports as spec;
-ghost use Rattle.fb_wave.specs.Ports.{HasNoPort};
 ghost use Rattle.fb_wave.specs.declared.ports.Port as declared;
 ghost use Rattle.fb_wave.specs.Words.{HasNoThree, HasThree, is_ended};
-ghost use Rattle.fb_wave.specs.OfSystem.{BeginsWith, HasNames, IsPortOf, port_text};
+ghost use Rattle.fb_wave.specs.OfSystem.{BeginsWith, HasNames, HasNoPort, IsPortOf, port_text};
 
 use crate::ports::Port;
 use crate::system_ports::SystemPorts;
@@ -147,7 +145,7 @@ impl<'a> PortTable<'a> {
     /// guess is wrong.
     pub fn find<'b>(&self, guess: &mut Guess, text: &'b [u8]) -> Option<(Port, &'b [u8])>
         ensures found { IfSome result (λ p. BeginsWith self.now.system.now text.now p.0 p.1.now) }
-        ensures none { HasNames self.now.system.now → IfNone result (HasNoPort (system_of self.now.system.now) text.now) }
+        ensures none { HasNames self.now.system.now → IfNone result (HasNoPort self.now.system.now text.now) }
     {
         let guessed = guess.index();
         if let Some(found) = self.at(guessed, text) {

@@ -1,11 +1,7 @@
 //! The dump of a trace.
 
 ghost use Rattle.std.specs.Prelude.{IfErr, IfSome, OnOk};
-ghost use Rattle.fb_types.specs.Headline.{system_of};
-ghost use Rattle.fb_wave.specs.CutOff.{BlamesShown, FailsShown, IsShown};
-ghost use Rattle.fb_wave.specs.CurrentLines.{IsRefusedLine};
-ghost use Rattle.fb_wave.specs.Refusals.{Blames};
-ghost use Rattle.fb_wave.specs.Waves.{FailsWave, IsWave};
+ghost use Rattle.fb_wave.specs.OfSystem.{Blames, BlamesShown, FailsShown, FailsWave, IsRefusedLine, IsShown, IsWave};
 
 use crate::copy::Progress;
 use crate::current_line::CurrentLine;
@@ -50,9 +46,9 @@ pub fn write_wave<R: BufRead, W: Write>(
     input: &mut R,
     out: &mut W,
 ) -> Result<(), WaveError>
-    ensures whole { OnOk result (IfSome (R.remaining input.old) (λ text. IsWave (system_of system.now) text (W.contents out.old) (W.contents out.new))) }
-    ensures part { IfErr result (FailsWave (system_of system.now) (W.contents out.old) (W.contents out.new)) }
-    ensures refused { IfErr result (Blames (system_of system.now) (R.remaining input.old)) }
+    ensures whole { OnOk result (IfSome (R.remaining input.old) (λ text. IsWave system.now text (W.contents out.old) (W.contents out.new))) }
+    ensures part { IfErr result (FailsWave system.now (W.contents out.old) (W.contents out.new)) }
+    ensures refused { IfErr result (Blames system.now (R.remaining input.old)) }
 {
     let mut current = CurrentLine::new(alloc);
     write_wave_with(alloc, system, Cut::Refused, &mut current, input, out)
@@ -73,10 +69,10 @@ pub fn write_wave_with<R: BufRead, W: Write>(
     input: &mut R,
     out: &mut W,
 ) -> Result<(), WaveError>
-    ensures whole { OnOk result (IfSome (R.remaining input.old) (λ text. IsShown cut (system_of system.now) text (W.contents out.old) (W.contents out.new))) }
-    ensures part { IfErr result (FailsShown cut (system_of system.now) (W.contents out.old) (W.contents out.new)) }
-    ensures refused { IfErr result (BlamesShown cut (system_of system.now) (R.remaining input.old)) }
-    ensures current { IfErr result (IsRefusedLine (system_of system.now) (R.remaining input.old) current.new) }
+    ensures whole { OnOk result (IfSome (R.remaining input.old) (λ text. IsShown cut system.now text (W.contents out.old) (W.contents out.new))) }
+    ensures part { IfErr result (FailsShown cut system.now (W.contents out.old) (W.contents out.new)) }
+    ensures refused { IfErr result (BlamesShown cut system.now (R.remaining input.old)) }
+    ensures current { IfErr result (IsRefusedLine system.now (R.remaining input.old) current.new) }
 {
     system.facts();
     if !has_names(system) {

@@ -21,3 +21,4 @@ pub mod Inspecting
 pub mod Stops
 pub mod Covering
 pub mod Command
+pub mod OfSystem

@@ -1,8 +1,7 @@
 //! What happens inside the blocks of a trace.
 
 ghost use Rattle.std.specs.Prelude.{◌≡◌, IfOk, IfSome, OnErr, OnOk, map, option_map, string_bytes};
-ghost use Rattle.fb_types.specs.Headline.{system_of};
-ghost use Rattle.fb_inspect.specs.Inspections.{IsShownBy, ShowsFront};
+ghost use Rattle.fb_inspect.specs.OfSystem.{IsShownBy, ShowsFront};
 ghost use Rattle.fbsim_command.specs.InsideNotes.{NotesInside};
 ghost use Rattle.fbsim_command.specs.Inspecting.{Inspects, ShowsInsides, cut_of, files_of, paths_of, upper};
 
@@ -77,8 +76,8 @@ fn go<R: BufRead, W: Write>(
     trace: &mut R,
     out: &mut W,
 ) -> Result<(), InspectError>
-    ensures whole { OnOk result (IfSome (R.remaining trace.old) (λ text. IsShownBy (cut_of inspect.now) (system_of system.now) (paths_of inspect.now) inspect.now.steps text (W.contents out.old) (W.contents out.new))) }
-    ensures fault { OnErr result (ShowsFront (system_of system.now) (paths_of inspect.now) inspect.now.steps (W.contents out.old) (W.contents out.new)) }
+    ensures whole { OnOk result (IfSome (R.remaining trace.old) (λ text. IsShownBy (cut_of inspect.now) system.now (paths_of inspect.now) inspect.now.steps text (W.contents out.old) (W.contents out.new))) }
+    ensures fault { OnErr result (ShowsFront system.now (paths_of inspect.now) inspect.now.steps (W.contents out.old) (W.contents out.new)) }
 {
     let only = paths_of(alloc, inspect.only.as_slice())?;
     let inspection = Inspection {

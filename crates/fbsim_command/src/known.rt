@@ -1,15 +1,14 @@
 //! Whether a declared system has the names of rules.
 
-ghost use Rattle.std.specs.Prelude.{◌≡◌, ◌<◌, ◌+◌, ◌++◌, ◌^◌, [], All, IfOk, IfSome, codes, length, map, slice_index_or};
+ghost use Rattle.std.specs.Prelude.{◌≡◌, ◌<◌, ◌++◌, All, IfOk, IfSome, codes, length, map};
 ghost use Rattle.std.specs.List.{list_any};
 ghost use Rattle.fb_system.specs.IndexLists.{AreIndexes, variable_at};
-ghost use Rattle.fb_types.specs.Headline.{system_of};
 ghost use Rattle.fb_types.specs.Names.{same_name};
 ghost use Rattle.fb_types.specs.Numbers.{event_at};
-ghost use Rattle.fb_types.specs.Text.{path_text};
-ghost use Rattle.fb_types.specs.OfSystem.{IsInstance, path_at, ports_at, resource_at};
+ghost use Rattle.fb_types.specs.OfSystem.{IsInstance, path_at, resource_at, resource_name};
 ghost use Rattle.fb_expect.specs.Patterns as patterns;
 ghost use Rattle.fbsim_command.specs.Known as spec;
+ghost use Rattle.fbsim_command.specs.OfSystem.{IsUnknownAt, IsUnknownKey, any_event, any_port, event_there, has_names, has_port, has_rule, is_of, may_have_port, ports_of};
 
 use fb_expect::{Condition, Entry, Pattern, Rule, RuleKey, is_at, pattern_keys};
 use fb_system::System;
@@ -52,8 +51,8 @@ fn event_name(ports: &Ports, taken: bool, event: u32) -> &[u8]
 /// The indexes of the variables WITH an event of an instance.
 fn indexes_with(system: &System, instance: u32, taken: bool, event: u32) -> &[u32]
     requires instance { IsInstance system.now instance }
-    requires event { event < length (spec.events_of (spec.ports_of (system_of system.now) instance) taken) }
-    ensures { let its = spec.ports_of (system_of system.now) instance in AreIndexes (spec.variables_of its taken) (spec.names_with its taken event) result.now }
+    requires event { event < length (spec.events_of (ports_of system.now instance) taken) }
+    ensures { let its = ports_of system.now instance in AreIndexes (spec.variables_of its taken) (spec.names_with its taken event) result.now }
 {
     if taken {
         system.inputs_with(instance, event)
@@ -102,7 +101,7 @@ fn port_text(alloc: Global, path: &[u8], event: &[u8]) -> Result<Vec<u8>, AllocE
 /// The name of the resource that holds an instance.
 fn resource_name(system: &System, instance: u32) -> &[u8]
     requires { IsInstance system.now instance }
-    ensures { result.now ≡ slice_index_or (system_of system.now).resource_names (resource_at system.now (path_at system.now instance)) [] }
+    ensures { result.now ≡ resource_name system.now (resource_at system.now (path_at system.now instance)) }
 {
     system.facts();
     system.resource_name(system.resource(instance))
@@ -118,8 +117,8 @@ fn is_there(
     event: u32,
 ) -> Result<bool, AllocError>
     requires instance { IsInstance system.now instance }
-    requires event { event < length (spec.events_of (spec.ports_of (system_of system.now) instance) taken) }
-    ensures { IfOk result (λ b. b ≡ patterns.is_at pattern.now (spec.event_there (system_of system.now) instance taken event)) }
+    requires event { event < length (spec.events_of (ports_of system.now instance) taken) }
+    ensures { IfOk result (λ b. b ≡ patterns.is_at pattern.now (event_there system.now instance taken event)) }
 {
     let name = event_name(system.ports(instance), taken, event);
     let port = port_text(alloc, system.path(instance), name)?;
@@ -141,8 +140,8 @@ fn is_of(
     event: u32,
 ) -> Result<bool, AllocError>
     requires instance { IsInstance system.now instance }
-    requires event { event < length (spec.events_of (spec.ports_of (system_of system.now) instance) taken) }
-    ensures { IfOk result (λ b. b ≡ spec.is_of (system_of system.now) pattern.now instance taken event) }
+    requires event { event < length (spec.events_of (ports_of system.now instance) taken) }
+    ensures { IfOk result (λ b. b ≡ is_of system.now pattern.now instance taken event) }
 {
     let is_there = is_there(alloc, system, pattern, instance, taken, event)?;
     let variables = variables_of(system.ports(instance), taken);
@@ -159,7 +158,7 @@ fn any_event(
     taken: bool,
 ) -> Result<bool, AllocError>
     requires { IsInstance system.now instance }
-    ensures { IfOk result (λ b. b ≡ spec.any_event (system_of system.now) pattern.now instance taken) }
+    ensures { IfOk result (λ b. b ≡ any_event system.now pattern.now instance taken) }
 {
     let count = events_of(system.ports(instance), taken).len();
     for event in 0..count.min(MOST_EVENTS) {
@@ -178,7 +177,7 @@ fn any_port(
     instance: u32,
 ) -> Result<bool, AllocError>
     requires { IsInstance system.now instance }
-    ensures { IfOk result (λ b. b ≡ spec.any_port (system_of system.now) pattern.now instance) }
+    ensures { IfOk result (λ b. b ≡ any_port system.now pattern.now instance) }
 {
     let is_taken = any_event(alloc, system, pattern, instance, true)?;
     let is_emitted = any_event(alloc, system, pattern, instance, false)?;
@@ -188,7 +187,7 @@ fn any_port(
 /// Whether a system has a port for a pattern.
 #[tactic(auto, unfolding(crate::specs::Known::has_port))]
 fn has_port(alloc: Global, system: &System, pattern: &Pattern) -> Result<bool, AllocError>
-    ensures { IfOk result (λ b. b ≡ spec.has_port (system_of system.now) pattern.now) }
+    ensures { IfOk result (λ b. b ≡ has_port system.now pattern.now) }
 {
     system.facts();
     for instance in 0..system.count() {
@@ -205,7 +204,7 @@ fn may_have_port(
     system: &System,
     pattern: &Option<Pattern>,
 ) -> Result<bool, AllocError>
-    ensures { IfOk result (λ b. b ≡ spec.may_have_port (system_of system.now) pattern.now) }
+    ensures { IfOk result (λ b. b ≡ may_have_port system.now pattern.now) }
 {
     match pattern {
         Some(pattern) => has_port(alloc, system, pattern),
@@ -215,7 +214,7 @@ fn may_have_port(
 
 /// Whether a system has a port for each pattern of a rule.
 fn has_rule(alloc: Global, system: &System, rule: &Rule) -> Result<bool, AllocError>
-    ensures { IfOk result (λ b. b ≡ spec.has_rule (system_of system.now) rule.now) }
+    ensures { IfOk result (λ b. b ≡ has_rule system.now rule.now) }
 {
     let first = has_port(alloc, system, &rule.first)?;
     let second = may_have_port(alloc, system, &rule.second)?;
@@ -225,7 +224,7 @@ fn has_rule(alloc: Global, system: &System, rule: &Rule) -> Result<bool, AllocEr
 
 /// Whether a system has a port with all variables for each pattern of the rules.
 pub(crate) fn has_names(alloc: Global, system: &System, rules: &[Rule]) -> Result<bool, AllocError>
-    ensures { IfOk result (λ b. b ≡ spec.has_names (system_of system.now) rules.now) }
+    ensures { IfOk result (λ b. b ≡ has_names system.now rules.now) }
 {
     for rule in rules {
         if !has_rule(alloc, system, rule)? {
@@ -237,7 +236,7 @@ pub(crate) fn has_names(alloc: Global, system: &System, rules: &[Rule]) -> Resul
 
 /// The key of the first pattern of a rule that no port has.
 fn unknown_key(alloc: Global, system: &System, rule: &Rule) -> Result<Option<RuleKey>, AllocError>
-    ensures { IfOk result (λ o. IfSome o (spec.IsUnknownKey (system_of system.now) rule.now)) }
+    ensures { IfOk result (λ o. IfSome o (IsUnknownKey system.now rule.now)) }
 {
     let (first, second) = pattern_keys(rule.need);
     if !has_port(alloc, system, &rule.first)? {
@@ -258,7 +257,7 @@ pub(crate) fn unknown_location(
     system: &System,
     rules: &[Rule],
 ) -> Result<Option<(usize, RuleKey)>, AllocError>
-    ensures { IfOk result (λ o. IfSome o (λ p. spec.IsUnknownAt (system_of system.now) rules.now p.0 p.1)) }
+    ensures { IfOk result (λ o. IfSome o (λ p. IsUnknownAt system.now rules.now p.0 p.1)) }
 {
     for (index, rule) in rules.iter().enumerate() {
         if let Some(key) = unknown_key(alloc, system, rule)? {

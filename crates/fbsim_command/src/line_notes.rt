@@ -1,11 +1,10 @@
 //! What is reported after the refusal of a line of a trace: what is wrong with it.
 
 ghost use Rattle.std.specs.Prelude.{◌≡◌, ◌⊎◌, ◌++◌, ℕ, Err, IfSome, IsTrue, codes, decimal, map, option_map, string_bytes};
-ghost use Rattle.fb_types.specs.Headline.{system_of};
 ghost use Rattle.fb_wave.specs.declared.error.WaveError.TheVariants as failed;
-ghost use Rattle.fbsim_command.specs.LineNotes.{SaysFault};
 ghost use Rattle.fbsim_command.specs.Notes.{NotesOf};
 ghost use Rattle.fbsim_command.specs.Texts.{given_of, lines_of};
+ghost use Rattle.fbsim_command.specs.OfSystem.{SaysFault};
 
 use crate::Task;
 use crate::failure::Failure;
@@ -29,7 +28,7 @@ fn note_with(alloc: Global, line: u64, words: &str) -> Option<String>
 
 /// What is wrong with the line of this number, at which a trace is refused. Without memory for it there is none.
 fn note_of_line(alloc: Global, system: &System, line: u64, current: &CurrentLine) -> Option<String>
-    ensures { IfSome result (λ note. SaysFault (system_of system.now) current.now line (string_bytes note)) }
+    ensures { IfSome result (λ note. SaysFault system.now current.now line (string_bytes note)) }
 {
     let fault = fault_of(system, current)?;
     let Ok(words) = line_message(alloc, system, current, fault) else {
@@ -47,7 +46,7 @@ pub(crate) fn note_of_trace_line(
     current: &CurrentLine,
 ) -> Option<String>
     ensures { IfSome result (λ note. IsTrue why × ((line : ℕ) × (written.now ≡ Err (failed.Refused line))
-        × SaysFault (system_of system.now) current.now line (string_bytes note))) }
+        × SaysFault system.now current.now line (string_bytes note))) }
 {
     if !why {
         return None;

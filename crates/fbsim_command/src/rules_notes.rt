@@ -1,13 +1,13 @@
 //! What is reported after the line of a call that holds rules against traces and fails: its location.
 
 ghost use Rattle.std.specs.Prelude.{◌≡◌, ℕ, IfOk, IfSome, Some, option_map, string_bytes};
-ghost use Rattle.fb_types.specs.Headline.{Inputs, system_of};
+ghost use Rattle.fb_types.specs.Headline.{Inputs};
 ghost use Rattle.fb_expect.specs.declared.location.RuleKey.{RuleKey};
 ghost use Rattle.fb_sim.specs.Serial.{Declares};
 ghost use Rattle.fbsim_command.specs.Expecting.{IsNamesFileNote, IsNoteAt, IsLocationOf, IsRulesFileNote, IsUnknownLocation, NotesRules, input_names_of, own_of, types_of};
-ghost use Rattle.fbsim_command.specs.Known.{IsUnknownAt};
 ghost use Rattle.fbsim_command.specs.Notes.{IsNoteOfNumber, Notes};
 ghost use Rattle.fbsim_command.specs.Texts.{given_of, lines_of, may_lines_of};
+ghost use Rattle.fbsim_command.specs.OfSystem.{IsUnknownAt};
 
 use crate::Expect;
 use crate::expect::{files_of, own_name};
@@ -75,7 +75,7 @@ fn unknown_of(
     texts: &Texts,
     rules: &[Rule],
 ) -> Result<Option<(usize, RuleKey)>, Failure>
-    ensures { IfOk result (λ o. IfSome o (λ p. (i : Inputs) × Declares (given_of texts.now) i × IsUnknownAt (system_of i) rules.now p.0 p.1)) }
+    ensures { IfOk result (λ o. IfSome o (λ p. (i : Inputs) × Declares (given_of texts.now) i × IsUnknownAt i rules.now p.0 p.1)) }
 {
     let system = open(alloc, &texts.inputs())?;
     let location = unknown_location(alloc, &system, rules);
