@@ -4,7 +4,8 @@ Each check loads the libraries below the crate, which takes most of its time. So
 after what it refuses. Each has a function of its own: of several edits of one function the first is in the function itself, and each
 other in a copy of it, with its contract and a copy of its proof under another name. The proof of every function that is not edited is
 a hole, which antt takes by its statement: that they are proved is shown elsewhere, and an implementation is refused by what it calls
-states, not by how that is proved. A function of which the rest does not speak is left out, since rattle takes time for it too.
+states, not by how that is proved. A function of which the rest does not speak is left out, since rattle takes time for it too. Each
+edited function has an answer that is refused, so that rattle does not print what to write for its goals.
 
 An edit is refused where one of its own function's goals is. Another function's goal does not count, in the same cycle of calls or
 not, nor does a name that is no longer there, nor a hole. If anything else is refused over holes, the check is made once more with
@@ -27,6 +28,10 @@ HOLE = """use Rattle.{crate}.{path}.Statement as stated
 pub {name}_spec : {{M : Type 1}} → stated.statement M
 {name}_spec = ?
 """
+# A declaration among a function's answers that antt refuses. Where a goal has no answer, and all that is written is well, rattle runs antt once
+# more to print what to write, which takes longer than to load the libraries. Where something is refused, it does not.
+NOT_OFFERED = "not-offered"
+REFUSED_ANSWER = f"\n{NOT_OFFERED} : no_such_name\n{NOT_OFFERED} = no_such_name\n"
 # What antt says at a place: whether that is a note or an error, the file and line, and the goal or other declaration at fault.
 SAID = re.compile(
     r"(?P<note>note: )?(?:\./)?(?P<file>(?:src|specs|proofs)/\S+?):(?P<line>\d+):\d+: (?P<error>error: )?(?P<text>(?:`(?P<name>[^`]+)`: )?.*)"
@@ -150,12 +155,25 @@ class Trial:
         for it in [*holes, *unneeded]:
             for gone in filter(None, (it.proof(), it.cycle_proof)):
                 shutil.rmtree(f"{room}/{gone}", ignore_errors=True)
+        for it in self.functions.values() if has_holes else []:
+            self.refuse_an_answer(room, it)
         for it in holes:
             os.makedirs(f"{room}/{it.proof()}")
             write_text(f"{room}/{it.proof()}/Proof.antt", HOLE.format(crate=self.crate.name, path=it.proof().replace("/", "."), name=it.name))
         copied = copy.copy(self.crate)
         copied.folder = room
         return copied
+
+    def refuse_an_answer(self, room, function):
+        """Writes a declaration that is refused among an edited function's answers. That it is refused shows nothing of the edit. A function
+        that calls itself has its answers elsewhere. One with a proof by hand, or a proof for each of several types, has none."""
+        body = "\n".join(self.sources.texts[function.path].split("\n")[function.named : function.last])
+        calls = r"(?<![\w.:])" if function.kind == "free" else rf"\b(?:self\.|Self::|{function.impl}::)"
+        calls_itself = function.cycle or re.search(rf"{calls}{function.name}\(", body)
+        folder = f"{room}/{function.proof()}"
+        if function.kind != "any" and not calls_itself and not os.path.exists(f"{folder}/Proof.antt"):
+            os.makedirs(folder, exist_ok=True)
+            write_text(f"{folder}/Answers.antt", (rtlib.text_of(f"{folder}/Answers.antt") or "") + REFUSED_ANSWER)
 
     def with_holes(self):
         """Returns the texts with no body in the functions that can have a hole for a proof, these functions, and those that were left
@@ -228,7 +246,7 @@ def refusal(crate, function, lines):
     # (where what the goals are stated by, or a whole file of answers, cannot be read, it shows nothing that they are not proved)
     if not verdict or any(function.has_proof(it["file"]) and (not it["name"] or "/Invariants." in it["file"]) for it in errors):
         return None
-    answers = [it for it in errors if function.has_goal(it["file"], it["name"])]
+    answers = [it for it in errors if it["name"] != NOT_OFFERED and function.has_goal(it["file"], it["name"])]
     wrong = next((it for it in answers if not NAMES_WHAT_IS_GONE.search(it["text"])), None)
     if wrong:
         return wrong.string

@@ -2,9 +2,9 @@
 """Tests must_fail.py on a small crate that is made for it: tools/must_fail_test.py.
 
 Wrong implementations must be reported as refused, also two of one function. One that the contract allows must be reported as not
-refused. One that does not parse, or names what does not exist, must be reported as no try. What the prover says of one function in a
-cycle of calls must not count for another. This takes a minute of processor time, most of it for the implementation that is not
-refused, which is tried twice."""
+refused, with and without written answers. One that does not parse, or names what does not exist, must be reported as no try. What the
+prover says of one function in a cycle of calls must not count for another. This takes a minute of processor time, most of it for the
+two implementations that are not refused, which are tried twice."""
 
 import os
 import sys
@@ -66,6 +66,7 @@ EDITS = {
     "no_step": ("number + step", "number", "refused, as it must be"),
     "most_is_nothing": ("most: number,", "most: 0,", "refused, as it must be"),
     "a_smaller_part": ("number / 2", "number / 4", "NOT REFUSED"),
+    "a_step_of_one": ("let step = 1;", "let step = 2 - 1;", "NOT REFUSED"),
     "of_no_grammar": ("least: number,", "least: ;", "BAD EDIT"),
     "of_no_name": ("        Range {", "        let gone = missing(number); Range {", "BAD EDIT"),
 }
@@ -106,6 +107,7 @@ LOST = [
     "fn machine::exec::exec: not proved",
     "./proofs/exec/exec/Answers.antt:5:3: error: `returns-clause-run`: `goal.returns-clause-run`: module `Rattle.machine.proofs.exec.exec.Goals` has no `returns-clause-run` that can be named",
 ]
+ADDED = [LOST[0], "./proofs/exec/exec/Answers.antt:9:15: error: `not-offered`: `missing` is not in scope"]
 CASES = [
     # A goal of run counts only for run, whichever function of the cycle is reported as not proved.
     ("run", [NOT_PROVED.format("run")], True),
@@ -128,6 +130,10 @@ CASES = [
     ("exec", [*LOST, "note: src/exec.rt:4:1: it is not proved that `a` holds (`returns-then-clause-fewer`)"], True),
     ("exec", [*LOST, "note: src/exec.rt:4:1: it is not proved that what `step` requires holds at this call (`step-requires`)"], True),
     ("exec", [*LOST, "./proofs/exec/exec/Answers.antt:9:3: error: `returns-in-Some`: expected type `A`"], True),
+    # The declaration that must_fail.py adds does not count, and hides nothing.
+    ("exec", ADDED, False),
+    ("exec", [LOST[0], "./proofs/exec/exec/Answers.antt:9:15: error: `not-offered`: expected type `A`"], False),
+    ("exec", [*ADDED, "note: src/exec.rt:4:1: it is not proved that `a` holds (`returns`)"], True),
     # Nor does a file of answers that cannot be read.
     ("exec", [LOST[0], "./proofs/exec/exec/Answers.antt:4:5: error: module `Rattle.machine.proofs.exec.run.Goals`: is private"], False),
     # A function that is proved except for a hole is not refused.
