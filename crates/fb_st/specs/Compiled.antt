@@ -43,6 +43,7 @@ number_step (NumberExpr-F.UnsignedSlot i) = UnsignedSlot i
 number_step (NumberExpr-F.AddSlots i j) = Binary Add (Slot i) (Slot j)
 number_step (NumberExpr-F.AddConstant i z) = Binary Add (Slot i) (Constant z)
 number_step (NumberExpr-F.AddNested i e) = Binary Add (Slot i) e
+number_step (NumberExpr-F.AddToNested e i) = Binary Add e (Slot i)
 number_step (NumberExpr-F.SubtractSlots i j) = Binary Subtract (Slot i) (Slot j)
 number_step (NumberExpr-F.SubtractConstant i z) = Binary Subtract (Slot i) (Constant z)
 number_step (NumberExpr-F.SubtractNested i e) = Binary Subtract (Slot i) e

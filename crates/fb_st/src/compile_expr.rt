@@ -98,6 +98,16 @@ fn slot_of(expr: &NumberExpr) -> Option<usize>
     }
 }
 
+/// The slot of a variable that is added.
+fn added_slot(operator: BinaryOperator, right: &NumberExpr) -> Option<usize>
+    ensures { IfSome result (λ i. (operator ≡ BinaryOperator.Add) × (number_said right.now ≡ Slot i)) }
+{
+    match operator {
+        BinaryOperator::Add => slot_of(right),
+        _ => None,
+    }
+}
+
 /// An operator between two operands.
 fn binary(
     alloc: Global,
@@ -109,6 +119,10 @@ fn binary(
 {
     if let Some(node) = flat(operator, &left, &right) {
         return Ok(node);
+    }
+    if let Some(i) = added_slot(operator, &right) {
+        let left = Boxed::new(alloc, left)?;
+        return Ok(NumberExpr::AddToNested(left, i));
     }
     let right = Boxed::new(alloc, right)?;
     if let Some(i) = slot_of(&left) {

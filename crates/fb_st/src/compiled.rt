@@ -23,6 +23,8 @@ pub enum NumberExpr {
     AddConstant(usize, i64),
     /// `+` between the variable of a slot and an expression.
     AddNested(usize, Boxed<NumberExpr>),
+    /// `+` between an expression and the variable of a slot.
+    AddToNested(Boxed<NumberExpr>, usize),
     /// `-` between the variables of two slots.
     SubtractSlots(usize, usize),
     /// `-` between the variable of a slot and a number.
@@ -75,6 +77,7 @@ impl Drop for NumberExpr {
             | NumberExpr::AddSlots(_, _)
             | NumberExpr::AddConstant(_, _)
             | NumberExpr::AddNested(_, _)
+            | NumberExpr::AddToNested(_, _)
             | NumberExpr::SubtractSlots(_, _)
             | NumberExpr::SubtractConstant(_, _)
             | NumberExpr::SubtractNested(_, _)

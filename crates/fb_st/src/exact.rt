@@ -166,6 +166,11 @@ pub(crate) fn number(expr: &NumberExpr, words: &[i64]) -> Result<i128, Reason>
         NumberExpr::AddNested(i, right) => {
             of_nested(BinaryOperator::Add, words, *i, number(right.get(), words))
         }
+        NumberExpr::AddToNested(left, i) => of_two(
+            BinaryOperator::Add,
+            number(left.get(), words),
+            Ok(i128::from(word(words, *i))),
+        ),
         NumberExpr::SubtractSlots(i, j) => of_slots(BinaryOperator::Subtract, words, *i, *j),
         NumberExpr::SubtractConstant(i, number) => {
             of_slot(BinaryOperator::Subtract, words, *i, i128::from(*number))

@@ -95,7 +95,8 @@ pub(crate) fn is_true(condition: &TruthExpr, words: &[i64]) -> Result<bool, Reas
 {
     match short::truth(condition, words) {
         Some(is_true) => Ok(is_true),
-        None => exact::truth(condition, words),
+        // Not the result as it is: the built program would test it again where it is known.
+        None => Ok(exact::truth(condition, words)?),
     }
 }
 
@@ -590,10 +591,10 @@ fn short_sum(word: i64, step: i64, end: i64, least: i64, most: i64) -> Option<i6
 /// The next value of the variable of FOR, if the numbers fit 64 bits, the variable's type holds it, and it has not passed the
 /// end. `None` says nothing about it.
 #[inline(always)]
-fn short_next(count: &CountExpr, span: Span, words: &[i64]) -> Option<i64>
+fn short_next(count: &CountExpr, span: &Span, words: &[i64]) -> Option<i64>
     requires { count.now.slot < length words.now }
-    ensures next { IfSome result (λ z. word_at words.now count.now.slot +ℤ span.step ≡ z) }
-    ensures goes_on { IfSome result (λ z. passed span.end span.step z ≡ false) }
+    ensures next { IfSome result (λ z. word_at words.now count.now.slot +ℤ span.now.step ≡ z) }
+    ensures goes_on { IfSome result (λ z. passed span.now.end span.now.step z ≡ false) }
     ensures from { IfSome result (λ z. count.now.least ≤ℤ word_at words.now count.now.slot) }
     ensures low { IfSome result (λ z. count.now.least ≤ℤ z) }
     ensures high { IfSome result (λ z. z ≤ℤ count.now.most) }
@@ -609,16 +610,16 @@ fn short_next(count: &CountExpr, span: Span, words: &[i64]) -> Option<i64>
 #[inline(always)]
 fn advance(
     count: &CountExpr,
-    span: Span,
+    span: &Span,
     layout: &Layout,
     words: &mut [i64],
 ) -> Result<Flow, Reason>
     requires fit { length words.old ≡ length layout.now }
     requires once { ¬ (Twice (map (λ d. d.0) layout.now)) }
     requires slot { is_within_type count.now.least count.now.most (slice_get layout.now count.now.slot) ≡ true }
-    ensures run { (left : ℕ) → Advances (types_in layout.now) (name_at layout.now count.now.slot) span.end span.step (record { vars = values_at layout.now words.old; left = left }) (end_of result) (record { vars = values_at layout.now words.new; left = left }) }
+    ensures run { (left : ℕ) → Advances (types_in layout.now) (name_at layout.now count.now.slot) span.now.end span.now.step (record { vars = values_at layout.now words.old; left = left }) (end_of result) (record { vars = values_at layout.now words.new; left = left }) }
     ensures length { length words.new ≡ length words.old }
-    ensures within { IfOk result (λ flow. flow ≡ Flow.Went → passed span.end span.step (whole (values_at layout.now words.new (name_at layout.now count.now.slot))) ≡ false) }
+    ensures within { IfOk result (λ flow. flow ≡ Flow.Went → passed span.now.end span.now.step (whole (values_at layout.now words.new (name_at layout.now count.now.slot))) ≡ false) }
 {
     match short_next(count, span, words) {
         Some(next) => {
@@ -646,19 +647,19 @@ fn next_of(span: Span, number: i128) -> Option<i128>
 #[inline(never)]
 fn advance_exact(
     count: &CountExpr,
-    span: Span,
+    span: &Span,
     layout: &Layout,
     words: &mut [i64],
 ) -> Result<Flow, Reason>
     requires fit { length words.old ≡ length layout.now }
     requires once { ¬ (Twice (map (λ d. d.0) layout.now)) }
     requires slot { is_within_type count.now.least count.now.most (slice_get layout.now count.now.slot) ≡ true }
-    ensures run { (left : ℕ) → Advances (types_in layout.now) (name_at layout.now count.now.slot) span.end span.step (record { vars = values_at layout.now words.old; left = left }) (end_of result) (record { vars = values_at layout.now words.new; left = left }) }
+    ensures run { (left : ℕ) → Advances (types_in layout.now) (name_at layout.now count.now.slot) span.now.end span.now.step (record { vars = values_at layout.now words.old; left = left }) (end_of result) (record { vars = values_at layout.now words.new; left = left }) }
     ensures length { length words.new ≡ length words.old }
-    ensures within { IfOk result (λ flow. flow ≡ Flow.Went → passed span.end span.step (whole (values_at layout.now words.new (name_at layout.now count.now.slot))) ≡ false) }
+    ensures within { IfOk result (λ flow. flow ≡ Flow.Went → passed span.now.end span.now.step (whole (values_at layout.now words.new (name_at layout.now count.now.slot))) ≡ false) }
 {
     let number = layout.number_of(count.slot, short::word(words, count.slot));
-    let Some(next) = next_of(span, number) else {
+    let Some(next) = next_of(*span, number) else {
         return Ok(Flow::Left);
     };
     words[count.slot] = layout.word_of(count.slot, next)?;
@@ -670,7 +671,7 @@ fn advance_exact(
 #[inline(always)]
 fn turn_of_for(
     count: &CountExpr,
-    span: Span,
+    span: &Span,
     body: &[CompiledStmt],
     layout: &Layout,
     words: &mut [i64],
@@ -680,11 +681,11 @@ fn turn_of_for(
     requires once { ¬ (Twice (map (λ d. d.0) layout.now)) }
     requires right { codes_right layout.now body.now ≡ true }
     requires slot { is_within_type count.now.least count.now.most (slice_get layout.now count.now.slot) ≡ true }
-    ensures run { Step (Then (RunsAll (types_in layout.now) (codes_said layout.now body.now)) (Advances (types_in layout.now) (name_at layout.now count.now.slot) span.end span.step)) (spot layout.now words.old meter.old) (end_of result) (spot layout.now words.new meter.new) }
+    ensures run { Step (Then (RunsAll (types_in layout.now) (codes_said layout.now body.now)) (Advances (types_in layout.now) (name_at layout.now count.now.slot) span.now.end span.now.step)) (spot layout.now words.old meter.old) (end_of result) (spot layout.now words.new meter.new) }
     ensures length { length words.new ≡ length words.old }
     ensures fewer { meter.new.left ≤ meter.old.left }
     ensures less { OnOk result (meter.new.left < meter.old.left) }
-    ensures within { IfOk result (λ flow. flow ≡ Flow.Went → passed span.end span.step (whole (values_at layout.now words.new (name_at layout.now count.now.slot))) ≡ false) }
+    ensures within { IfOk result (λ flow. flow ≡ Flow.Went → passed span.now.end span.now.step (whole (values_at layout.now words.new (name_at layout.now count.now.slot))) ≡ false) }
 {
     meter.step()?;
     match run_each(body, layout, words, meter)? {
@@ -715,7 +716,7 @@ fn run_counts(
     ensures fewer { meter.new.left ≤ meter.old.left }
 {
     loop {
-        match turn_of_for(count, span, body, layout, words, meter)? {
+        match turn_of_for(count, &span, body, layout, words, meter)? {
             Flow::Went => {}
             Flow::Left => return Ok(Flow::Went),
             Flow::Returned => return Ok(Flow::Returned),

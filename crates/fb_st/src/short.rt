@@ -141,6 +141,10 @@ fn any_number(expr: &NumberExpr, words: &[i64]) -> Option<i64>
             let y = number(right.get(), words)?;
             sum(word(words, *i), y)
         }
+        NumberExpr::AddToNested(left, i) => {
+            let x = number(left.get(), words)?;
+            sum(x, word(words, *i))
+        }
         NumberExpr::SubtractNested(i, right) => {
             let y = number(right.get(), words)?;
             difference(word(words, *i), y)
@@ -232,7 +236,8 @@ fn truth_operand(expr: &TruthExpr, words: &[i64]) -> Option<bool>
 {
     match truth_leaf(expr, words) {
         Some(truth) => Some(truth),
-        None => any_truth(expr, words),
+        // Not the result as it is: the built program would test it again for a leaf.
+        None => Some(any_truth(expr, words)?),
     }
 }
 

@@ -46,8 +46,8 @@ returns-in_default-clause-run c = λ left.
     let read = whole_read ds ws c.requires.fit c.requires.once k.slot there.0 there.1 c.word.result c.number_of-number.result c.word.ensures number_is in
     let own : SFits w128 c.number_of-number.result = search rules in
     let past = rw (to_z-of_z own) at c.next_of.ensures.past in
-    advances_past (types_in ds) (name_at ds k.slot) c.args.span.end c.args.span.step (values_at ds ws) left _
-    (ap (λ x. x +ℤ c.args.span.step) read) (past c.in_default.is)
+    advances_past (types_in ds) (name_at ds k.slot) c.args.span.now.end c.args.span.now.step (values_at ds ws) left _
+    (ap (λ x. x +ℤ c.args.span.now.step) read) (past c.in_default.is)
 
 pub returns-in_err-words-clause-run : goal.returns-in_err-words-clause-run
 returns-in_err-words-clause-run c = λ left.
@@ -64,8 +64,8 @@ returns-in_err-words-clause-run c = λ left.
     let no = rw (to_z-of_z wide) at c.in_err-words.ensures.err in
     let x = err_from_is_err_and c.from_residual.result c.from_residual.ensures.1 in
     rw (x.1, x.2, no.0)
-    (advances_not (types_in ds) (name_at ds k.slot) c.args.span.end c.args.span.step (values_at ds ws) left _
-    (ap (λ x. x +ℤ c.args.span.step) read ∙ next.0) next.1
+    (advances_not (types_in ds) (name_at ds k.slot) c.args.span.now.end c.args.span.now.step (values_at ds ws) left _
+    (ap (λ x. x +ℤ c.args.span.now.step) read ∙ next.0) next.1
     (ap (λ t. fits t (value.Whole c.in-Some.next)) (word_type ds ws c.requires.fit c.requires.once k.slot there.0 there.1 ∙ sym (ap ty_or there.1)) ∙ no.1))
 
 pub returns-clause-run : goal.returns-clause-run
@@ -84,8 +84,8 @@ returns-clause-run c = λ left.
     let own : SFits w128 c.number_of-number.result = search rules in
     let next = rw (to_z-of_z own) at c.in-Some.ensures.next in
     rw (to_z-of_z fit)
-    (advances_to (types_in ds) (name_at ds k.slot) c.args.span.end c.args.span.step (values_at ds ws) left c.in-Some.next
-    (ap (λ x. x +ℤ c.args.span.step) read ∙ next.0) (values_at ds (slice_set ws k.slot z)) next.1
+    (advances_to (types_in ds) (name_at ds k.slot) c.args.span.now.end c.args.span.now.step (values_at ds ws) left c.in-Some.next
+    (ap (λ x. x +ℤ c.args.span.now.step) read ∙ next.0) (values_at ds (slice_set ws k.slot z)) next.1
     (ap (λ t. fits t (value.Whole c.in-Some.next)) (word_type ds ws c.requires.fit c.requires.once k.slot there.0 there.1 ∙ sym (ap ty_or there.1)) ∙ yes.0)
     (first_set ds ws c.requires.fit c.requires.once k.slot there.0 there.1 z c.in-Some.next (ap (λ t. value_of_word t z) (sym (ap ty_or there.1)) ∙ yes.1)))
 
@@ -100,6 +100,6 @@ returns-clause-within c = λ went.
     let yes = rw (to_z-of_z wide) at c.in_ok-words.ensures.ok in
     let there = within_there k.least k.most (slice_get ds k.slot) c.requires.slot in
     rw (to_z-of_z fit)
-    (ap (passed c.args.span.end c.args.span.step)
+    (ap (passed c.args.span.now.end c.args.span.now.step)
     (first_read ds ws c.requires.fit c.requires.once k.slot there.0 there.1 z c.in-Some.next (ap (λ t. value_of_word t z) (sym (ap ty_or there.1)) ∙ yes.1))
     ∙ c.in-Some.ensures.next.1)
