@@ -1,8 +1,9 @@
 -- The rows of a chart, made while the transitions are visited.
-use Rattle.std.proofs.Common.{◌≡◌, ℕ, suc, ◌+◌, ◌<◌, true, false, cond, List, [], ◌∷◌, ◌++◌, length, map, set, Some, None, Contains, get_or, take, refl, sym, ◌∙◌, ap, subst, arith, inl, inr}
+use Rattle.std.proofs.Common.{◌≡◌, ℕ, suc, ◌+◌, ◌<◌, Bool, true, false, ◌&&◌, cond, List, [], ◌∷◌, ◌++◌, length, map, set, Some, None, Contains, get_or, take, refl, sym, ◌∙◌, ap, subst, arith, inl, inr}
 use Rattle.std.specs.Prelude.{position, option_map, slice_get, is_some}
 use Rattle.std.proofs.lemmas.Bool.{true≢false, false_from_ne_true}
 use Rattle.std.proofs.lemmas.List.{length-take-le, take_more}
+use Rattle.std.proofs.lemmas.List.Folds.{list_all-append}
 use Rattle.std.proofs.lemmas.Option.{get_or_from_slice_get, slice_get-map}
 use Rattle.fb_types.specs.Names.{Name, same_name}
 use Rattle.fb_types.specs.Repeated.{Twice, state_names}
@@ -14,7 +15,7 @@ use Rattle.fb_types.proofs.Elements.{Contains-cons_cases, Contains-here, Contain
 use Rattle.fb_types.proofs.Positions.{is_some-position, position-first, position_is}
 use Rattle.fb_st.proofs.Indexes.{position-later}
 use Rattle.fb_ecc.specs.Indexed.{row_within}
-use Rattle.fb_ecc.specs.Numbered.{act_of, exit_of, exits_from}
+use Rattle.fb_ecc.specs.Numbered.{act_of, are_waiting, exit_of, exits_from, row_with}
 use Rattle.fb_ecc.specs.declared.chart.Exit.{Exit}
 use Rattle.fb_ecc.specs.declared.chart.ChartState.{ChartState}
 use Rattle.fb_ecc.proofs.Indexing.{some_suc}
@@ -44,6 +45,13 @@ exits_more t n k x within is =
     ap (exits_from t n 0) (take_more t.transitions k x within ∙ ap (λ (y : Transition). take k t.transitions ++ y ∷ []) (sym is))
     ∙ exits_push t n 0 k (take k t.transitions) x (omega (arith, counted))
 
+and_true : (b : Bool) → (b && true) ≡ b
+and_true true = refl
+and_true false = refl
+
+waiting-push : (es : List Exit) (e : Exit) → are_waiting (es ++ e ∷ []) ≡ (are_waiting es && is_some e.event)
+waiting-push es e = list_all-append (λ (f : Exit). is_some f.event) es (e ∷ []) ∙ ap (λ b. are_waiting es && b) (and_true (is_some e.event))
+
 append-nil : {A : Type 0} (xs : List A) → xs ++ [] ≡ xs
 append-nil [] = refl
 append-nil (x ∷ xs) = ap (λ ys. x ∷ ys) (append-nil xs)
@@ -51,20 +59,24 @@ append-nil (x ∷ xs) = ap (λ ys. x ∷ ys) (append-nil xs)
 -- the row of a state that the transition leaves
 row_left :
     (t : BasicType) (k : ℕ) (x : Transition) (s : State) (old new : ChartState) → k < length t.transitions → x ≡ get_or t.transitions k x
-    → same_name x.from s.name ≡ true → old ≡ row_within t k s → new.exits ≡ old.exits ++ exit_of t k x ∷ [] → new.acts ≡ old.acts → new ≡ row_within t (k + 1) s
-row_left t k x s old new within is leaves was exits acts =
+    → same_name x.from s.name ≡ true → old ≡ row_within t k s → new.exits ≡ old.exits ++ exit_of t k x ∷ [] → new.acts ≡ old.acts
+    → new.waits ≡ (old.waits && is_some (exit_of t k x).event) → new ≡ row_within t (k + 1) s
+row_left t k x s old new within is leaves was exits acts waits =
     let more : new.exits ≡ exits_from t s.name 0 (take (k + 1) t.transitions) =
     exits ∙ ap (λ (r : ChartState). r.exits ++ exit_of t k x ∷ []) was
     ∙ sym (exits_more t s.name k x within is ∙ ap (λ b. exits_from t s.name 0 (take k t.transitions) ++ cond b (exit_of t k x ∷ []) []) leaves) in
     let same : new.acts ≡ map (act_of t) s.actions = acts ∙ ap (λ (r : ChartState). r.acts) was in
-    ap (λ (l : List Exit). record new { exits = l }) more ∙ ap (λ l. record (row_within t (k + 1) s) { acts = l }) same
+    let waiting : old.waits ≡ are_waiting old.exits = ap (λ (r : ChartState). r.waits) was ∙ sym (ap (λ (r : ChartState). are_waiting r.exits) was) in
+    let waited : new.waits ≡ are_waiting (exits_from t s.name 0 (take (k + 1) t.transitions)) =
+    waits ∙ ap (λ b. b && is_some (exit_of t k x).event) waiting ∙ sym (waiting-push old.exits (exit_of t k x)) ∙ ap are_waiting (sym exits ∙ more) in
+    λ i. record { exits = more i; acts = same i; waits = waited i }
 
 -- .. and of any other
 row_stays :
     (t : BasicType) (k : ℕ) (x : Transition) (s : State) → k < length t.transitions → x ≡ get_or t.transitions k x
     → same_name x.from s.name ≡ false → row_within t k s ≡ row_within t (k + 1) s
 row_stays t k x s within is apart =
-    ap (λ (l : List Exit). record (row_within t k s) { exits = l })
+    ap (λ (l : List Exit). row_with l (map (act_of t) s.actions))
     (sym
     (exits_more t s.name k x within is ∙ ap (λ b. exits_from t s.name 0 (take k t.transitions) ++ cond b (exit_of t k x ∷ []) []) apart
     ∙ append-nil (exits_from t s.name 0 (take k t.transitions))))
@@ -118,8 +130,9 @@ set_named {A} {B} f g name_of n (y ∷ ys) i x b once found at is others =
 pub rows_left :
     (t : BasicType) (k i : ℕ) (x : Transition) (old after : List ChartState) (now new : ChartState) → k < length t.transitions → x ≡ get_or t.transitions k x
     → ¬ (Twice (state_names t)) → position (same_name x.from) (state_names t) ≡ Some i → old ≡ map (row_within t k) t.states → now ≡ get_or old i now
-    → new.exits ≡ now.exits ++ exit_of t k x ∷ [] → new.acts ≡ now.acts → after ≡ set old i new → after ≡ map (row_within t (k + 1)) t.states
-rows_left t k i x old after now new within is once found was here exits acts written =
+    → new.exits ≡ now.exits ++ exit_of t k x ∷ [] → new.acts ≡ now.acts → new.waits ≡ (now.waits && is_some (exit_of t k x).event)
+    → after ≡ set old i new → after ≡ map (row_within t (k + 1)) t.states
+rows_left t k i x old after now new within is once found was here exits acts waits written =
     let source = position_is (λ (s : State). s.name) x.from t.states i found in
     let s : State = source.0 in
     let leaves : same_name x.from s.name ≡ true =
@@ -130,7 +143,7 @@ rows_left t k i x old after now new within is once found was here exits acts wri
     here ∙ ap (λ (l : List ChartState). get_or l i now) was ∙ get_or_from_slice_get (map (row_within t k) t.states) i (row_within t k s) now there in
     written ∙ ap (λ (l : List ChartState). set l i new) was
     ∙ set_named (row_within t k) (row_within t (k + 1)) (λ (y : State). y.name) x.from t.states i s new once found source.1
-    (row_left t k x s now new within is leaves read exits acts) (λ y apart. row_stays t k x y within is apart)
+    (row_left t k x s now new within is leaves read exits acts waits) (λ y apart. row_stays t k x y within is apart)
 
 -- .. and changes nothing where there is none
 pub rows_stay :

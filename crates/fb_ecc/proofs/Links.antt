@@ -26,7 +26,7 @@ use Rattle.fb_st.proofs.Indexes.{named_at_index}
 use Rattle.fb_ecc.specs.Actions.{AreActions}
 use Rattle.fb_ecc.specs.Links.{Chain, Linked}
 use Rattle.fb_ecc.specs.Located.{AreAt, slots_with, slots_with_each}
-use Rattle.fb_ecc.specs.Numbered.{exits_at, exit_of, exits_from, act_of, row_of, chart_of}
+use Rattle.fb_ecc.specs.Numbered.{are_waiting, exits_at, exit_of, exits_from, act_of, row_of, chart_of}
 use Rattle.fb_ecc.specs.Indexes.{IsStateOf, state_at, Ended}
 use Rattle.fb_ecc.specs.Sound.{Each, IsSound, action_known, actions_known, declared_as, declared_by}
 use Rattle.fb_ecc.specs.Steps.{clearing_exit, clearing_index, first_or}
@@ -58,6 +58,13 @@ module _ (t : BasicType) (present : Option Name) where
 
   pub fails : (p : Position) (left : ℕ) (r : Reason) → trial_at t present p ≡ Fails r left → Chain t present p (Some r) (record p { left = left })
   fails p left r tried = (zero, subst (λ (x : Trial). Rests x p (Some r) (record p { left = left })) (sym tried) (refl, refl))
+
+-- a state was entered from which the chain goes on, or in which it rests
+pub linked_on :
+    (t : BasicType) (present : Option Name) (p m q : Position) (b : Bool) (h : Result Bool Reason) → h ≡ Ok b → (h ≡ Ok true → q ≡ m) → (h ≡ Ok false → Chain t None m None q)
+    → ((stop : Option Reason) (end : Position) → Chain t None m stop end → Chain t present p stop end) → Linked t (Ok b) present p q
+linked_on t present p m q true h is on rests goes = λ stop end rest. goes stop end (subst (λ (r : Position). Chain t None r stop end) (on is) rest)
+linked_on t present p m q false h is on rests goes = goes None q (rests is)
 
 -- ---- Rows
 
@@ -144,6 +151,7 @@ pub record IsRow (t : BasicType) (i : ℕ) (row : ChartState) : Type 0 where
   pub leaving_is : transitions_at t row.exits ≡ leaving t (state_at t i)
   pub exits : Each (IsExit t) row.exits
   pub acts : AreActions t row.acts (actions_of t (state_at t i))
+  pub waiting : row.waits ≡ are_waiting row.exits
 
 abbrev actions_or : Option State → List Action
 actions_or o = elim o [ None ↦ [] | Some x ↦ x.actions ]
@@ -159,6 +167,7 @@ row_here t i s sound at =
       exits = exits_each t s.name 0 t.transitions refl;
       acts = subst (λ (l : List Action). AreActions t (map (act_of t) s.actions) l) (sym actions)
           (acts_are t s.actions (list_all-at (actions_known t) t.states i s sound.actions at));
+      waiting = refl;
     }
 
 pub row_is :

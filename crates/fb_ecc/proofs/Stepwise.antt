@@ -1,5 +1,5 @@
 -- Transitions that are tried one after another, and the actions of a state one by one.
-use Rattle.std.proofs.Common.{◌≡◌, ℕ, zero, suc, ◌+◌, ◌<◌, Bool, List, [], ◌∷◌, length, get_or, drop, map, Option, Some, None, Result, refl, sym, ◌∙◌, ap, subst, arith, inl, inr}
+use Rattle.std.proofs.Common.{◌≡◌, ℕ, zero, suc, ◌+◌, ◌<◌, Bool, true, List, [], ◌∷◌, length, get_or, drop, map, Option, Some, None, Result, refl, sym, ◌∙◌, ap, subst, arith, inl, inr}
 use Rattle.std.specs.Prelude.{slice_get}
 use Rattle.std.proofs.lemmas.List.{length-map}
 use Rattle.std.proofs.lemmas.Option.{slice_get_within, slice_get-get_or, get_or_from_slice_get}
@@ -61,7 +61,7 @@ acts_of_state t i sound (inl none) =
     (subst (λ (l : List Action). AreActions t [] l) (sym (no_states t i none)) tt)
 acts_of_state t i sound (inr within) =
     let s = element_at t.states i within in
-    let unread : ChartState = record { exits = []; acts = [] } in
+    let unread : ChartState = record { exits = []; acts = []; waits = true } in
     let row = row_is t (map (row_of t) t.states) i unread sound refl within in
     let inside : i < length (map (row_of t) t.states) = subst (λ n. i < n) (sym (length-map t.states (row_of t))) within in
     let acts : acts_at (map (row_of t) t.states) i ≡ (get_or (map (row_of t) t.states) i unread).acts = ap acts_or (slice_get-get_or (map (row_of t) t.states) i unread inside) in

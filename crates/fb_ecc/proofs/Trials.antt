@@ -1,5 +1,5 @@
 -- Transitions that are tried by their indexes.
-use Rattle.std.proofs.Common.{◌≡◌, ℕ, zero, suc, ◌+◌, ◌<◌, Bool, true, false, ◌&&◌, ◌||◌, List, [], ◌∷◌, length, get_or, drop, map, Option, Some, None, Result, Ok, refl, sym, ◌∙◌, ap, subst, arith, add-one}
+use Rattle.std.proofs.Common.{◌≡◌, ℕ, zero, suc, ◌+◌, ◌<◌, Bool, true, false, cond, ◌&&◌, ◌||◌, List, [], ◌∷◌, length, get_or, drop, map, Option, Some, None, Result, Ok, refl, sym, ◌∙◌, ap, subst, arith, add-one}
 use Rattle.std.specs.Prelude.{nat_eq, position, option_map, unwrap_or, slice_get, is_some, if◌then◌else◌, IfSome}
 use Rattle.std.specs.List.{list_all}
 use Rattle.std.proofs.Math.Seq.{drop-cons}
@@ -17,14 +17,14 @@ use Rattle.fb_types.proofs.Positions.{position-first}
 use Rattle.fb_st.proofs.Indexes.{position-later}
 use Rattle.fb_ecc.specs.Indexes.{state_at}
 use Rattle.fb_types.specs.Values.{Values}
-use Rattle.fb_types.specs.Charts.{Fails, is_present, is_true, guard_value, trial_of, by_condition}
+use Rattle.fb_types.specs.Charts.{Fails, NoneClears, is_present, is_true, guard_value, trial_of, by_condition}
 use Rattle.fb_types.specs.Numbers.{event_at}
 use Rattle.fb_types.specs.declared.library.BasicType.{BasicType}
 use Rattle.fb_types.specs.declared.library.EventPort.{EventPort}
 use Rattle.fb_types.specs.declared.library.Transition.{Transition}
 use Rattle.fb_types.proofs.NameLaws.{same_from_same_name}
 use Rattle.fb_types.specs.declared.value.Reason.{Reason}
-use Rattle.fb_ecc.specs.Numbered.{number_in}
+use Rattle.fb_ecc.specs.Numbered.{are_waiting, number_in}
 use Rattle.fb_ecc.specs.Sound.{Each, IsSound, AreFirst}
 use Rattle.fb_types.proofs.ByIndex.{element_at}
 use Rattle.fb_ecc.specs.Trials.{nowhere, transition_at, transitions_at, IsExit, is_number_present}
@@ -195,6 +195,45 @@ target_meant t e sound (x, at, is) =
           ∙ ap (λ (y : Transition). y.to) (sym (transition_here t e.transition x at));
       within = subst (λ k. k < length t.states) (sym target) (slice_get_within t.states s.index s.element s.at);
     }
+
+-- ---- Transitions that all wait for an event
+
+absent : (o : Option Name) → is_some o ≡ true → is_present o None ≡ false
+absent None h = absurd (true≢false (sym h))
+absent (Some n) h = refl
+
+some_mapped : {A B : Type 0} (f : A → B) (o : Option A) → is_some (option_map f o) ≡ is_some o
+some_mapped f None = refl
+some_mapped f (Some x) = refl
+
+spent : (t : BasicType) (e : Exit) (vars : Values) → IsExit t e → is_some e.event ≡ true → is_true (transition_at t e.transition).condition None vars ≡ Ok false
+spent t e vars (x, at, is) waits =
+    let event : is_some x.condition.event ≡ true =
+    sym (some_mapped (number_in (λ p. p.name) t.ports.event_inputs) x.condition.event) ∙ sym (ap (λ (f : Exit). is_some f.event) is) ∙ waits in
+    ap (λ (y : Transition). is_true y.condition None vars) (transition_here t e.transition x at)
+    ∙ ap (λ b. cond b (guard_value x.condition.guard vars) (Ok false)) (absent x.condition.event event)
+
+-- none of them clears without one, and each costs a step ..
+pub none_waiting :
+    (t : BasicType) (vars : Values) (exits : List Exit) (left less : ℕ) → Each (IsExit t) exits → are_waiting exits ≡ true → left ≡ length exits + less
+    → trial_of (transitions_at t exits) None vars left ≡ NoneClears less
+none_waiting t vars [] left less each waits is = let same : left ≡ less = omega (arith, is) in ap (λ n. NoneClears n) same
+none_waiting t vars (e ∷ es) left less each waits is =
+    let rest : ℕ = length es + less in
+    let fewer : left ≡ suc rest = omega (arith, is) in
+    ap (λ n. trial_of (transition_at t e.transition ∷ transitions_at t es) None vars n) fewer
+    ∙ ap (λ (b : Result Bool Reason). by_condition b (transition_at t e.transition).to rest (trial_of (transitions_at t es) None vars rest)) (spent t e vars (each 0 e refl) (and_left (is_some e.event) (are_waiting es) waits))
+    ∙ none_waiting t vars es rest less (λ i f at. each (suc i) f at) (and_right (is_some e.event) (are_waiting es) waits) refl
+
+-- .. until none is left
+pub fails_waiting :
+    (t : BasicType) (vars : Values) (exits : List Exit) (left : ℕ) → Each (IsExit t) exits → are_waiting exits ≡ true → left < length exits
+    → trial_of (transitions_at t exits) None vars left ≡ Fails Steps 0
+fails_waiting t vars [] left each waits less = absurd (omega (arith, less))
+fails_waiting t vars (e ∷ es) zero each waits less = refl
+fails_waiting t vars (e ∷ es) (suc left) each waits less =
+    ap (λ (b : Result Bool Reason). by_condition b (transition_at t e.transition).to left (trial_of (transitions_at t es) None vars left)) (spent t e vars (each 0 e refl) (and_left (is_some e.event) (are_waiting es) waits))
+    ∙ fails_waiting t vars es left (λ i f at. each (suc i) f at) (and_right (is_some e.event) (are_waiting es) waits) (omega (arith, less))
 
 -- ---- Trials
 

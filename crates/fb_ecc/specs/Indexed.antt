@@ -7,7 +7,7 @@ use Rattle.fb_types.specs.Repeated.{algorithm_names, state_names}
 use Rattle.fb_types.specs.declared.library.BasicType.{BasicType}
 use Rattle.fb_types.specs.declared.library.State.{State}
 use Rattle.fb_check_names.specs.Indexes.{IsIndex}
-use Rattle.fb_ecc.specs.Numbered.{act_of, exits_from}
+use Rattle.fb_ecc.specs.Numbered.{act_of, exits_from, row_with}
 use Rattle.fb_ecc.specs.declared.chart.ChartState.{ChartState}
 use Rattle.fb_ecc.specs.declared.numbers.Numbers.{Numbers}
 
@@ -31,4 +31,4 @@ picked passes (n ∷ ns) index = if passes n then (index, n) ∷ picked passes n
 
 -- the row of a state, with as many of the first transitions as were visited
 abbrev pub row_within : BasicType → ℕ → State → ChartState
-row_within t count s = record { exits = exits_from t s.name 0 (take count t.transitions); acts = map (act_of t) s.actions }
+row_within t count s = row_with (exits_from t s.name 0 (take count t.transitions)) (map (act_of t) s.actions)

@@ -1,5 +1,6 @@
 -- A chart with indexes in place of names (IEC 61499-1, 5.2; that names represent indexes is this project's profile).
-use Rattle.std.specs.Prelude.{ℕ, suc, List, [], ◌∷◌, map, length, position, option_map, unwrap_or, slice_get, is_some, Some, None, if◌then◌else◌}
+use Rattle.std.specs.Prelude.{ℕ, suc, Bool, List, [], ◌∷◌, map, length, position, option_map, unwrap_or, slice_get, is_some, Some, None, if◌then◌else◌}
+use Rattle.std.specs.List.{list_all}
 use Rattle.fb_types.specs.Names.{Name, same_name}
 use Rattle.fb_types.specs.declared.library.Action.{Action}
 use Rattle.fb_types.specs.declared.library.BasicType.{BasicType}
@@ -38,8 +39,16 @@ act_of t a =
       output = option_map (number_in (λ p. p.name) t.ports.event_outputs) a.output;
     }
 
+-- whether each transition waits for an event
+abbrev pub are_waiting : List Exit → Bool
+are_waiting = list_all (λ e. is_some e.event)
+
+-- a row with these transitions
+abbrev pub row_with : List Exit → List Act → ChartState
+row_with exits acts = record { exits = exits; acts = acts; waits = are_waiting exits }
+
 abbrev pub row_of : BasicType → State → ChartState
-row_of t s = record { exits = exits_from t s.name 0 t.transitions; acts = map (act_of t) s.actions }
+row_of t s = row_with (exits_from t s.name 0 t.transitions) (map (act_of t) s.actions)
 
 -- the transitions that leave the state at an index, none where there is no state
 abbrev pub exits_at : List ChartState → ℕ → List Exit

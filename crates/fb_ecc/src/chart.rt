@@ -1,7 +1,7 @@
 //! The chart of a basic type, with indexes in place of names. It is made once for a type, so that no name of
 //! a state, an algorithm or an event is compared during a reaction.
 
-ghost use Rattle.std.specs.Prelude.{◌≡◌, ◌<◌, ◌+◌, ◌^◌, ◌++◌, ◌∷◌, [], List, IfOk, OnOk, length, map};
+ghost use Rattle.std.specs.Prelude.{◌≡◌, ◌<◌, ◌+◌, ◌^◌, ◌++◌, ◌∷◌, ◌&&◌, [], List, IfOk, OnOk, is_some, length, map};
 ghost use Rattle.fb_types.specs.Names.{Name};
 ghost use Rattle.fb_types.specs.Blocks.{among, event_names, variable_names};
 ghost use Rattle.fb_types.specs.Repeated.{Twice};
@@ -43,6 +43,8 @@ pub struct Act {
 pub struct ChartState {
     pub exits: Items<Exit>,
     pub acts: Items<Act>,
+    /// Set if each of the transitions waits for an event: none of them clears without one.
+    pub waits: bool,
 }
 
 /// A chart: its states, and the slots of the variables WITH each event input and each event output.
@@ -113,7 +115,11 @@ fn rows_begun(
     for state in block.states.as_slice() {
         let acts = acts(alloc, block, numbers, state.actions.as_slice())?;
         let exits = Items::new(alloc);
-        rows.push(ChartState { exits, acts })?;
+        rows.push(ChartState {
+            exits,
+            acts,
+            waits: true,
+        })?;
     }
     Ok(rows)
 }
@@ -122,8 +128,12 @@ fn rows_begun(
 fn add_exit(row: &mut ChartState, exit: Exit) -> Result<(), AllocError>
     ensures exits { OnOk result (row.new.exits ≡ row.old.exits ++ exit ∷ []) }
     ensures acts { OnOk result (row.new.acts ≡ row.old.acts) }
+    ensures waits { OnOk result (row.new.waits ≡ (row.old.waits && is_some exit.event)) }
 {
-    row.exits.push(exit)
+    let waits = row.waits && exit.event.is_some();
+    row.exits.push(exit)?;
+    row.waits = waits;
+    Ok(())
 }
 
 /// The states. The transitions are visited once, and each is added to the state that it leaves.

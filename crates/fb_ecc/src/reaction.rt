@@ -1,6 +1,6 @@
 //! The reaction of a basic block to an event.
 
-ghost use Rattle.std.specs.Prelude.{◌≡◌, ◌<◌, ◌≤◌, List, All, IfSome, OnOk, IfOk, Some, length, option_map, true};
+ghost use Rattle.std.specs.Prelude.{◌≡◌, ◌+◌, ◌<◌, ◌≤◌, List, All, IfErr, IfSome, OnOk, IfOk, Ok, Some, length, option_map, true, false};
 ghost use Rattle.fb_types.specs.Charts.{Acts, ChartReacts, Position, actions_of};
 ghost use Rattle.fb_types.specs.Names.{Name};
 ghost use Rattle.fb_types.specs.Numbers.{event_at, pair_up};
@@ -12,10 +12,11 @@ ghost use Rattle.fb_ecc.specs.Indexes.{Ended, IsBlockOf, IsWellFormed, index, sa
 ghost use Rattle.fb_ecc.specs.Sound.{IsSound};
 
 use crate::action::perform_all;
+use crate::chart::ChartState;
 use crate::state::BasicState;
 use crate::trial::cleared;
 use fb_st::{Frame, Meter};
-use fb_types::{BasicType, Emits, Halt, Value};
+use fb_types::{BasicType, Emits, Halt, Reason, Value};
 
 /// Gives the variables of slots the values that were sampled. Mostly there is one variable, and then there is no call.
 #[inline(always)]
@@ -59,6 +60,7 @@ fn enter(
     requires target { target < length block.now.states }
     ensures performed { let actions = actions_of block.now (state_at block.now target) in
         Ended result (Acts block.now actions meter.old.left) (index block.now target state.old.frame meter.old.left emits.old) (index block.now state.new.state state.new.frame meter.new.left emits.new) }
+    ensures state { state.new.state ≡ target }
     ensures block { IsBlockOf block.now state.new }
     ensures fewer { meter.new.left ≤ meter.old.left }
     ensures well_formed { let IsFit = IsWellFormed block.now in All IsFit emits.old → All IsFit emits.new }
@@ -68,6 +70,27 @@ fn enter(
     let program = state.chart.program();
     let shown = state.chart.shown();
     perform_all(block, program, acts, shown, &mut state.frame, meter, emits)
+}
+
+/// Whether a chain may go on from the state of a row, where no event is present any more. If each of its transitions waits for an
+/// event, none clears: then they are not tried, and their steps are begun at once.
+#[inline(always)]
+fn goes_on(row: &ChartState, meter: &mut Meter) -> Result<bool, Reason>
+    ensures on { result ≡ Ok true → meter.new ≡ meter.old }
+    ensures rests { result ≡ Ok false → (row.now.waits ≡ true) × (meter.old.left ≡ length row.now.exits + meter.new.left) }
+    ensures fails { IfErr result (λ r. (r ≡ Reason.Steps) × (row.now.waits ≡ true) × (meter.old.left < length row.now.exits) × (meter.new.left ≡ 0)) }
+    ensures fewer { meter.new.left ≤ meter.old.left }
+{
+    if !row.waits {
+        return Ok(true);
+    }
+    let steps = row.exits.len() as u64;
+    if meter.left < steps {
+        meter.left = 0;
+        return Err(Reason::Steps);
+    }
+    meter.left -= steps;
+    Ok(false)
 }
 
 /// One link of the chain: the first true transition, and the actions of the state to which it leads. Says
@@ -95,7 +118,8 @@ fn link(
     match cleared(block, program, exits, present, &state.frame, meter)? {
         Some(target) => {
             enter(state, block, target, meter, emits)?;
-            Ok(true)
+            let row = &state.chart.rows()[target];
+            Ok(goes_on(row, meter)?)
         }
         None => Ok(false),
     }

@@ -1,5 +1,5 @@
-use Rattle.std.proofs.Common.{◌≡◌, ◌<◌, ◌∷◌, [], ◌++◌, List, length, get_or, refl, sym, ◌∙◌, ap, subst}
-use Rattle.std.specs.Prelude.{position}
+use Rattle.std.proofs.Common.{◌≡◌, ◌<◌, ◌∷◌, [], ◌++◌, ◌&&◌, List, length, get_or, refl, sym, ◌∙◌, ap, subst}
+use Rattle.std.specs.Prelude.{is_some, position}
 use Rattle.fb_types.specs.Names.{same_name}
 use Rattle.fb_types.specs.Repeated.{state_names}
 use Rattle.fb_types.specs.declared.library.Transition.{Transition}
@@ -25,6 +25,7 @@ loop-index-preserved c =
           (rows_left t c.loop-index.index w.in-Some.source x c.loop-index.rows.items _ w.index_mut.result.now w.add_exit.new.row within here c.requires.states.once (shown ∙ w.in-Some.is)
           c.loop-index.invariant w.index_mut.ensures.value
           (w.in_ok-add_exit.ensures.exits ∙ ap (λ (e : Exit). w.index_mut.result.now.exits ++ e ∷ []) w.numbered_transition-exit.ensures) w.in_ok-add_exit.ensures.acts
+          (w.in_ok-add_exit.ensures.waits ∙ ap (λ (e : Exit). w.index_mut.result.now.waits && is_some e.event) w.numbered_transition-exit.ensures)
           refl)
       | in_default w ↦ rw w.rows-is (c.loop-index.invariant ∙ rows_stay t c.loop-index.index x within here (shown ∙ w.in_default.is))
     ]

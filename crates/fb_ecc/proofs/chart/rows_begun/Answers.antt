@@ -1,4 +1,4 @@
-use Rattle.std.proofs.Common.{◌≡◌, ◌<◌, List, [], ◌∷◌, ◌++◌, length, map, take, get_or, sym, ◌∙◌, ap, subst}
+use Rattle.std.proofs.Common.{◌≡◌, ◌<◌, true, List, [], ◌∷◌, ◌++◌, length, map, take, get_or, sym, ◌∙◌, ap, subst}
 use Rattle.fb_types.specs.declared.library.State.{State}
 use Rattle.fb_types.proofs.LoopSteps.{map_take_more}
 use Rattle.fb_ecc.specs.Indexed.{row_within}
@@ -16,8 +16,8 @@ loop-state-preserved c =
     subst (λ (l : List State). c.loop-state.state-index < length l) c.as_slice-state-items.ensures c.loop-state-test.true in
     let here : s ≡ get_or t.states c.loop-state.state-index s =
     subst (λ (l : List State). s ≡ get_or l c.loop-state.state-index s) c.as_slice-state-items.ensures c.state-item.is in
-    let row : ChartState = record { exits = c.new-exits.result; acts = c.in_ok-acts.acts } in
+    let row : ChartState = record { exits = c.new-exits.result; acts = c.in_ok-acts.acts; waits = true } in
     c.in_ok-push.ensures.items ∙ ap (λ (rows : List ChartState). rows ++ row ∷ []) c.loop-state.invariant
     ∙ ap (λ (row : ChartState). so_far ++ row ∷ [])
-    (λ i. record { exits = c.new-exits.ensures i; acts = (c.in_ok-acts.ensures ∙ ap (map (act_of t)) c.as_slice.ensures) i })
+    (λ i. record { exits = c.new-exits.ensures i; acts = (c.in_ok-acts.ensures ∙ ap (map (act_of t)) c.as_slice.ensures) i; waits = true })
     ∙ sym (map_take_more begun t.states c.loop-state.state-index s within here)
