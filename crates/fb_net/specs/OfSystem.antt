@@ -8,6 +8,7 @@ use Rattle.fb_types.specs.States as model
 use Rattle.fb_types.specs.declared.run.InstanceVariable.{InstanceVariable}
 use Rattle.fb_types.specs.declared.run.Target.{Target}
 use Rattle.fb_types.specs.declared.value.Value.{Value}
+use Rattle.fb_laws.specs.Typed as typed
 use Rattle.fb_system.specs.declared.rows.SlotValue.{SlotValue}
 use Rattle.fb_net.specs.Emitting as emitting
 use Rattle.fb_net.specs.Outs as outs
@@ -29,6 +30,10 @@ IsComposite i = worlds.IsComposite (system_of i)
 
 abbrev pub TakesSamples : Inputs → InstanceVariable → Type 0
 TakesSamples i = worlds.TakesSamples (system_of i)
+
+-- every value is of its type
+abbrev pub IsTypedSystem : Inputs → Type 0
+IsTypedSystem i = typed.IsTypedSystem (system_of i)
 
 -- what a block is after a stimulus has set slots
 abbrev pub slots_set : Inputs → (instance : ℕ) → List SlotValue → model.Block → model.Block

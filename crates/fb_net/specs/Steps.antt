@@ -1,9 +1,11 @@
 -- What each step of taking an event rests on, and what it leaves.
-use Rattle.std.specs.Prelude.{◌≡◌, ◌<◌, ◌≤◌, ℕ, List, true, Result, length, map}
+use Rattle.std.specs.Prelude.{◌≡◌, ◌≢◌, ◌<◌, ◌≤◌, ℕ, List, Some, true, Result, length, map}
+use Rattle.fb_types.specs.Blocks.{Basic, Kind}
 use Rattle.fb_types.specs.Headline.{Inputs, system_of}
 use Rattle.fb_types.specs.Numbers.{emission_of, line_of, path_at, ports_at}
 use Rattle.fb_types.specs.Reactions.{Outcome, World}
 use Rattle.fb_types.specs.Systems.{System}
+use Rattle.fb_types.specs.declared.library.BasicType.{BasicType}
 use Rattle.fb_types.specs.declared.library.Ports.{Ports}
 use Rattle.fb_types.specs.declared.run.Emission.{Emission}
 use Rattle.fb_types.specs.declared.run.Event.{Event}
@@ -15,7 +17,9 @@ use Rattle.fb_net.specs.Arrivals.{Arrives, ComesTo, HasReacted, IsReady, AreType
 use Rattle.fb_net.specs.Emitting.{EmitsSo, HasEmitted}
 use Rattle.fb_net.specs.Events.{HasTaken, IsEventIn, Remembered, event_of}
 use Rattle.fb_net.specs.Outs.{StillAreOuts}
+use Rattle.fb_net.specs.Samples.{names_in, names_out}
 use Rattle.fb_net.specs.declared.taking.Taking.{Taking}
+use Rattle.fb_system.specs.IndexLists.{AreIndexes}
 use Rattle.fb_system.specs.Ports.{IsPort}
 use Rattle.fb_net.specs.Worlds.{InForest, IsForest}
 use Rattle.fb_net.specs.declared.resource.Forest.{Forest}
@@ -26,6 +30,20 @@ system_in t = system_of t.system.now
 -- the interface of an instance
 abbrev pub ports_in : Taking → (instance : ℕ) → Ports
 ports_in t k = ports_at (system_in t) (path_at (system_in t) k)
+
+-- An instance is of a kind, and another is not of a basic type.
+abbrev pub HasKind : Taking → (instance : ℕ) → Kind → Type 0
+HasKind t k kind = (system_in t).kind (path_at (system_in t) k) ≡ Some kind
+
+abbrev pub IsNoBasic : Taking → (instance : ℕ) → Type 0
+IsNoBasic t k = (b : BasicType) → (system_in t).kind (path_at (system_in t) k) ≢ Some (Basic b)
+
+-- The variables WITH an event input, or WITH an event output, are those at these indexes.
+abbrev pub AreInputs : Taking → Target → (indexes : List ℕ) → Type 0
+AreInputs t at = AreIndexes (ports_in t at.instance).inputs (names_in (system_in t) at)
+
+abbrev pub AreOutputs : Taking → Target → (indexes : List ℕ) → Type 0
+AreOutputs t at = AreIndexes (ports_in t at.instance).outputs (names_out (system_in t) at)
 
 -- ---- Before
 

@@ -1,22 +1,18 @@
 //! The arrival of an event at a port of an instance.
 
-ghost use Rattle.std.specs.Prelude.{◌≡◌, ◌≢◌, ◌∷◌, [], ◌≤◌, ◌^◌, All, false, true, length, IfErr, OnOk, Some};
+ghost use Rattle.std.specs.Prelude.{◌≡◌, ◌∷◌, [], ◌≤◌, ◌^◌, All, false, true, length, IfErr, OnOk, Some};
 ghost use Rattle.fb_types.specs.Blocks.{Basic, Event};
-ghost use Rattle.fb_types.specs.Numbers.{path_at};
-ghost use Rattle.fb_types.specs.declared.library.BasicType.{BasicType};
 ghost use Rattle.fb_event.specs.Reactions.{PassesTo};
 ghost use Rattle.fb_net.specs.Arrivals.{AreTypedAt, entering, leaving, reacting, sampling};
 ghost use Rattle.fb_net.specs.Events.{Remembered};
 ghost use Rattle.fb_net.specs.Leaves.{IsOne};
-ghost use Rattle.fb_net.specs.Samples.{AreSampled, names_in, names_out};
-ghost use Rattle.fb_net.specs.Steps.{ArePutOut, HasArrived, HasDone, HasWritten, IsKept, IsSame, MayArrive, MayBegin, ports_in, system_in};
-ghost use Rattle.fb_system.specs.Ends.{ComesFrom, LeadsTo};
+ghost use Rattle.fb_net.specs.OfSystem.{IsTypedSystem, names_in};
+ghost use Rattle.fb_net.specs.Samples.{AreSampled};
+ghost use Rattle.fb_net.specs.Steps.{AreInputs, AreOutputs, ArePutOut, HasArrived, HasDone, HasKind, HasWritten, IsKept, IsNoBasic, IsSame, MayArrive, MayBegin, ports_in};
 ghost use Rattle.fb_system.specs.Lines.{IsEmission};
-ghost use Rattle.fb_system.specs.Ports.{IsCompositeAt, IsTarget};
-ghost use Rattle.fb_system.specs.IndexLists.{AreIndexes};
-ghost use Rattle.fb_system.specs.PortRows.{IsPortRow, IsWith};
+ghost use Rattle.fb_system.specs.OfSystem.{ComesFrom, IsCompositeAt, IsTarget, IsWith, LeadsTo};
+ghost use Rattle.fb_system.specs.PortRows.{IsPortRow};
 ghost use Rattle.fb_net.specs.Worlds.{InForest};
-ghost use Rattle.fb_laws.specs.Typed.{IsTypedSystem};
 
 use crate::basic_blocks::react_basic;
 use crate::bring::keep_samples;
@@ -42,7 +38,7 @@ impl Taking<'_> {
     fn take_samples(&mut self, at: Target) -> Result<(), AllocError>
         requires index { MayArrive self.old at }
         requires input { at.is_output ≡ false }
-        requires no_basic { (t : BasicType) → (system_in self.old).kind (path_at (system_in self.old) at.instance) ≢ Some (Basic t) }
+        requires no_basic { IsNoBasic self.old at.instance }
         ensures taken { OnOk result (HasDone (sampling self.old.system.now self.old.key.now at) self.old self.new) }
         ensures ready { OnOk result (MayBegin self.new) }
         ensures outs { OnOk result (ArePutOut self.old self.new) }
@@ -65,8 +61,8 @@ impl Taking<'_> {
     #[inline(never)]
     fn take_values(&mut self, instance: u32, event: u32, indexes: &[u32]) -> Result<(), AllocError>
         requires index { MayArrive self.old (record { instance = instance; event = event; is_output = false }) }
-        requires no_basic { (t : BasicType) → (system_in self.old).kind (path_at (system_in self.old) instance) ≢ Some (Basic t) }
-        requires indexes { AreIndexes (ports_in self.old instance).inputs (names_in (system_in self.old) (record { instance = instance; event = event; is_output = false })) indexes.now }
+        requires no_basic { IsNoBasic self.old instance }
+        requires indexes { AreInputs self.old (record { instance = instance; event = event; is_output = false }) indexes.now }
         ensures taken { OnOk result (HasDone (sampling self.old.system.now self.old.key.now (record { instance = instance; event = event; is_output = false })) self.old self.new) }
         ensures ready { OnOk result (MayBegin self.new) }
         ensures outs { OnOk result (ArePutOut self.old self.new) }
@@ -106,9 +102,9 @@ impl Taking<'_> {
     ) -> Result<(), AllocError>
         requires index { MayArrive self.old at }
         requires input { at.is_output ≡ false }
-        requires no_basic { (t : BasicType) → (system_in self.old).kind (path_at (system_in self.old) at.instance) ≢ Some (Basic t) }
-        requires represents { AreIndexes (ports_in self.old at.instance).inputs (names_in (system_in self.old) at) (variable ∷ []) }
-        requires source { ComesFrom (system_in self.old) (record { instance = at.instance; variable = variable; is_output = false }) source.now }
+        requires no_basic { IsNoBasic self.old at.instance }
+        requires represents { AreInputs self.old at (variable ∷ []) }
+        requires source { ComesFrom self.old.system.now (record { instance = at.instance; variable = variable; is_output = false }) source.now }
         ensures taken { OnOk result (HasDone (sampling self.old.system.now self.old.key.now at) self.old self.new) }
         ensures ready { OnOk result (MayBegin self.new) }
         ensures outs { OnOk result (ArePutOut self.old self.new) }
@@ -133,7 +129,7 @@ impl Taking<'_> {
     fn pass_on(&mut self, kind: EventKind, at: Target, event: u32) -> Result<(), AllocError>
         requires index { MayArrive self.old at }
         requires input { at.is_output ≡ false }
-        requires kind { (system_in self.old).kind (path_at (system_in self.old) at.instance) ≡ Some (Event kind) }
+        requires kind { HasKind self.old at.instance (Event kind) }
         requires passes { PassesTo kind event }
         ensures reacted { OnOk result (HasDone (reacting self.old.system.now self.old.key.now kind at) self.old self.new) }
         ensures outs { OnOk result (ArePutOut self.old self.new) }
@@ -155,8 +151,8 @@ impl Taking<'_> {
     fn arrive_event(&mut self, kind: EventKind, at: Target, emits: &mut Emits) -> Result<(), Halt>
         requires index { MayArrive self.old at }
         requires input { at.is_output ≡ false }
-        requires kind { (system_in self.old).kind (path_at (system_in self.old) at.instance) ≡ Some (Event kind) }
-        requires sound { IsTypedSystem (system_in self.old) }
+        requires kind { HasKind self.old at.instance (Event kind) }
+        requires sound { IsTypedSystem self.old.system.now }
         requires typed { AreTypedAt self.old.system.now self.old.forest.now }
         ensures reacted { OnOk result (HasDone (reacting self.old.system.now self.old.key.now kind at) self.old self.new) }
         ensures outs { OnOk result (ArePutOut self.old self.new) }
@@ -182,8 +178,8 @@ impl Taking<'_> {
     ) -> Result<(), Halt>
         requires index { MayArrive self.old at }
         requires input { at.is_output ≡ false }
-        requires kind { (system_in self.old).kind (path_at (system_in self.old) at.instance) ≡ Some (Event kind) }
-        requires sound { IsTypedSystem (system_in self.old) }
+        requires kind { HasKind self.old at.instance (Event kind) }
+        requires sound { IsTypedSystem self.old.system.now }
         requires typed { AreTypedAt self.old.system.now self.old.forest.now }
         ensures reacted { OnOk result (HasDone (reacting self.old.system.now self.old.key.now kind at) self.old self.new) }
         ensures outs { OnOk result (ArePutOut self.old self.new) }
@@ -208,8 +204,8 @@ impl Taking<'_> {
     fn take_with(&mut self, at: Target, with: &With) -> Result<(), AllocError>
         requires index { MayArrive self.old at }
         requires input { at.is_output ≡ false }
-        requires no_basic { (t : BasicType) → (system_in self.old).kind (path_at (system_in self.old) at.instance) ≢ Some (Basic t) }
-        requires with { IsWith (system_in self.old) at with.now }
+        requires no_basic { IsNoBasic self.old at.instance }
+        requires with { IsWith self.old.system.now at with.now }
         ensures taken { OnOk result (HasDone (sampling self.old.system.now self.old.key.now at) self.old self.new) }
         ensures ready { OnOk result (MayBegin self.new) }
         ensures outs { OnOk result (ArePutOut self.old self.new) }
@@ -234,7 +230,7 @@ impl Taking<'_> {
     /// An event from outside arrives at an event input of a composite, and goes on inside.
     fn enter(&mut self, instance: u32, event: u32) -> Result<(), AllocError>
         requires index { MayArrive self.old (record { instance = instance; event = event; is_output = false }) }
-        requires composite { IsCompositeAt (system_in self.old) instance }
+        requires composite { IsCompositeAt self.old.system.now instance }
         ensures entered { OnOk result (HasDone (entering self.old.system.now self.old.key.now (record { instance = instance; event = event; is_output = false })) self.old self.new) }
         ensures outs { OnOk result (ArePutOut self.old self.new) }
 
@@ -257,7 +253,7 @@ impl Taking<'_> {
     #[inline(never)]
     fn enter_by_tables(&mut self, instance: u32, event: u32) -> Result<(), AllocError>
         requires index { MayArrive self.old (record { instance = instance; event = event; is_output = false }) }
-        requires composite { IsCompositeAt (system_in self.old) instance }
+        requires composite { IsCompositeAt self.old.system.now instance }
         ensures entered { OnOk result (HasDone (entering self.old.system.now self.old.key.now (record { instance = instance; event = event; is_output = false })) self.old self.new) }
         ensures outs { OnOk result (ArePutOut self.old self.new) }
 
@@ -279,7 +275,7 @@ impl Taking<'_> {
     fn enter_by(&mut self, at: Target, port: &PortRow) -> Result<(), AllocError>
         requires index { MayArrive self.old at }
         requires input { at.is_output ≡ false }
-        requires composite { IsCompositeAt (system_in self.old) at.instance }
+        requires composite { IsCompositeAt self.old.system.now at.instance }
         requires port { IsPortRow self.old.system.now at port.now }
         ensures entered { OnOk result (HasDone (entering self.old.system.now self.old.key.now at) self.old self.new) }
         ensures outs { OnOk result (ArePutOut self.old self.new) }
@@ -304,7 +300,7 @@ impl Taking<'_> {
     /// it.
     fn leave(&mut self, instance: u32, event: u32) -> Result<(), AllocError>
         requires index { MayArrive self.old (record { instance = instance; event = event; is_output = true }) }
-        requires composite { IsCompositeAt (system_in self.old) instance }
+        requires composite { IsCompositeAt self.old.system.now instance }
         ensures left { OnOk result (HasDone (leaving self.old.system.now self.old.key.now (record { instance = instance; event = event; is_output = true })) self.old self.new) }
         ensures outs { OnOk result (ArePutOut self.old self.new) }
 
@@ -327,7 +323,7 @@ impl Taking<'_> {
     #[inline(never)]
     fn leave_by_tables(&mut self, instance: u32, event: u32) -> Result<(), AllocError>
         requires index { MayArrive self.old (record { instance = instance; event = event; is_output = true }) }
-        requires composite { IsCompositeAt (system_in self.old) instance }
+        requires composite { IsCompositeAt self.old.system.now instance }
         ensures left { OnOk result (HasDone (leaving self.old.system.now self.old.key.now (record { instance = instance; event = event; is_output = true })) self.old self.new) }
         ensures outs { OnOk result (ArePutOut self.old self.new) }
 
@@ -349,7 +345,7 @@ impl Taking<'_> {
     fn leave_by(&mut self, at: Target, port: &PortRow) -> Result<(), AllocError>
         requires index { MayArrive self.old at }
         requires output { at.is_output ≡ true }
-        requires composite { IsCompositeAt (system_in self.old) at.instance }
+        requires composite { IsCompositeAt self.old.system.now at.instance }
         requires port { IsPortRow self.old.system.now at port.now }
         ensures left { OnOk result (HasDone (leaving self.old.system.now self.old.key.now at) self.old self.new) }
         ensures outs { OnOk result (ArePutOut self.old self.new) }
@@ -375,10 +371,10 @@ impl Taking<'_> {
     ) -> Result<(), AllocError>
         requires index { MayArrive self.old at }
         requires output { at.is_output ≡ true }
-        requires composite { IsCompositeAt (system_in self.old) at.instance }
-        requires first { LeadsTo (system_in self.old) at 0 first.now }
-        requires represents { AreIndexes (ports_in self.old at.instance).outputs (names_out (system_in self.old) at) (variable ∷ []) }
-        requires source { ComesFrom (system_in self.old) (record { instance = at.instance; variable = variable; is_output = true }) source.now }
+        requires composite { IsCompositeAt self.old.system.now at.instance }
+        requires first { LeadsTo self.old.system.now at 0 first.now }
+        requires represents { AreOutputs self.old at (variable ∷ []) }
+        requires source { ComesFrom self.old.system.now (record { instance = at.instance; variable = variable; is_output = true }) source.now }
         ensures left { OnOk result (HasDone (leaving self.old.system.now self.old.key.now at) self.old self.new) }
         ensures outs { OnOk result (ArePutOut self.old self.new) }
 
@@ -404,8 +400,8 @@ impl Taking<'_> {
         first: &Option<NextTarget>,
     ) -> Result<(), AllocError>
         requires index { MayArrive self.old (record { instance = instance; event = event; is_output = true }) }
-        requires composite { IsCompositeAt (system_in self.old) instance }
-        requires first { LeadsTo (system_in self.old) (record { instance = instance; event = event; is_output = true }) 0 first.now }
+        requires composite { IsCompositeAt self.old.system.now instance }
+        requires first { LeadsTo self.old.system.now (record { instance = instance; event = event; is_output = true }) 0 first.now }
         ensures left { OnOk result (HasDone (leaving self.old.system.now self.old.key.now (record { instance = instance; event = event; is_output = true })) self.old self.new) }
         ensures outs { OnOk result (ArePutOut self.old self.new) }
 
@@ -436,7 +432,7 @@ impl Taking<'_> {
     ) -> Result<(), AllocError>
         requires index { MayArrive self.old at }
         requires input { at.is_output ≡ false }
-        requires counted { length values ≡ length (names_in (system_in self.old) at) }
+        requires counted { length values ≡ length (names_in self.old.system.now at) }
         requires emissions { All (IsEmission (ports_in self.old at.instance)) emits.old }
         ensures wrote { OnOk result (HasWritten self.old at values emits.old self.new) }
         ensures outs { OnOk result (ArePutOut self.old self.new) }
@@ -466,11 +462,11 @@ impl Taking<'_> {
     ) -> Result<(), Halt>
         requires index { MayArrive self.old at }
         requires input { at.is_output ≡ false }
-        requires kind { (system_in self.old).kind (path_at (system_in self.old) at.instance) ≡ Some (Basic block.now) }
+        requires kind { HasKind self.old at.instance (Basic block.now) }
         requires one { IsOne self.old.system.now self.old.forest.now at.instance }
         requires alike { sampled.now ≡ values }
         requires sampled { AreSampled self.old.system.now self.old.forest.now at values }
-        requires counted { length values ≡ length (names_in (system_in self.old) at) }
+        requires counted { length values ≡ length (names_in self.old.system.now at) }
         ensures reacted { HasArrived self.old at meter.old.left result self.new meter.new.left }
         ensures outs { Remembered result (ArePutOut self.old self.new) }
         ensures fewer { meter.new.left ≤ meter.old.left }
@@ -498,10 +494,10 @@ impl Taking<'_> {
     ) -> Result<(), Halt>
         requires index { MayArrive self.old at }
         requires input { at.is_output ≡ false }
-        requires kind { (system_in self.old).kind (path_at (system_in self.old) at.instance) ≡ Some (Basic block.now) }
+        requires kind { HasKind self.old at.instance (Basic block.now) }
         requires one { IsOne self.old.system.now self.old.forest.now at.instance }
-        requires represents { AreIndexes (ports_in self.old at.instance).inputs (names_in (system_in self.old) at) (variable ∷ []) }
-        requires source { ComesFrom (system_in self.old) (record { instance = at.instance; variable = variable; is_output = false }) source.now }
+        requires represents { AreInputs self.old at (variable ∷ []) }
+        requires source { ComesFrom self.old.system.now (record { instance = at.instance; variable = variable; is_output = false }) source.now }
         ensures reacted { HasArrived self.old at meter.old.left result self.new meter.new.left }
         ensures outs { Remembered result (ArePutOut self.old self.new) }
         ensures fewer { meter.new.left ≤ meter.old.left }
@@ -531,7 +527,7 @@ impl Taking<'_> {
         emits: &mut Emits,
     ) -> Result<(), Halt>
         requires index { MayArrive self.old (record { instance = instance; event = event; is_output = false }) }
-        requires kind { (system_in self.old).kind (path_at (system_in self.old) instance) ≡ Some (Basic block.now) }
+        requires kind { HasKind self.old instance (Basic block.now) }
         requires one { IsOne self.old.system.now self.old.forest.now instance }
         ensures reacted { HasArrived self.old (record { instance = instance; event = event; is_output = false }) meter.old.left result self.new meter.new.left }
         ensures outs { Remembered result (ArePutOut self.old self.new) }
@@ -576,7 +572,7 @@ impl Taking<'_> {
         emits: &mut Emits,
     ) -> Result<(), Halt>
         requires index { MayArrive self.old (record { instance = instance; event = event; is_output = false }) }
-        requires kind { (system_in self.old).kind (path_at (system_in self.old) instance) ≡ Some (Basic block.now) }
+        requires kind { HasKind self.old instance (Basic block.now) }
         requires one { IsOne self.old.system.now self.old.forest.now instance }
         ensures reacted { HasArrived self.old (record { instance = instance; event = event; is_output = false }) meter.old.left result self.new meter.new.left }
         ensures outs { Remembered result (ArePutOut self.old self.new) }
@@ -612,7 +608,7 @@ impl Taking<'_> {
     /// `Halt::Stop` where a reason ends the reaction: what was put out before it is kept.
     #[inline(always)]
     pub fn arrive(&mut self, at: Target, meter: &mut Meter, emits: &mut Emits) -> Result<(), Halt>
-        requires target { IsTarget (system_in self.old) at }
+        requires target { IsTarget self.old.system.now at }
         requires here { InForest self.old.system.now self.old.forest.now at.instance }
         requires ready { MayBegin self.old }
         requires typed { AreTypedAt self.old.system.now self.old.forest.now }

@@ -1,12 +1,12 @@
 //! Taking an event, by what it is.
 
-ghost use Rattle.std.specs.Prelude.{◌≡◌, ◌<◌, ◌≤◌, ◌^◌, ℕ, None, IfErr, OnOk, Some, length};
+ghost use Rattle.std.specs.Prelude.{◌≡◌, ◌≤◌, ◌^◌, ℕ, None, IfErr, OnOk};
 ghost use Rattle.fb_types.specs.Blocks as model;
-ghost use Rattle.fb_types.specs.Numbers.{path_at};
+ghost use Rattle.fb_types.specs.OfSystem.{IsInstance};
 ghost use Rattle.fb_net.specs.Arrivals.{expiring};
 ghost use Rattle.fb_net.specs.Events.{Came, event_in};
 ghost use Rattle.fb_net.specs.Leaves.{IsOne};
-ghost use Rattle.fb_net.specs.Steps.{ArePutOut, HasDone, IsKept, IsSame, MayBegin, MayTake, WasTaken, system_in};
+ghost use Rattle.fb_net.specs.Steps.{ArePutOut, HasDone, HasKind, IsKept, IsSame, MayBegin, MayTake, WasTaken};
 ghost use Rattle.fb_net.specs.Worlds.{InForest};
 
 use crate::arrival::Arrival;
@@ -57,8 +57,8 @@ impl Taking<'_> {
     /// # Errors
     /// When memory runs out, and never a stop.
     fn expire(&mut self, kind: EventKind, instance: u32, emits: &mut Emits) -> Result<(), Halt>
-        requires instance { instance < length (system_in self.old).paths }
-        requires kind { (system_in self.old).kind (path_at (system_in self.old) instance) ≡ Some (model.Event kind) }
+        requires instance { IsInstance self.old.system.now instance }
+        requires kind { HasKind self.old instance (model.Event kind) }
         requires here { InForest self.old.system.now self.old.forest.now instance }
         requires one { IsOne self.old.system.now self.old.forest.now instance }
         requires ready { MayBegin self.old }
