@@ -4,6 +4,7 @@ pub mod Timers
 pub mod Placing
 pub mod Moments
 pub mod Calendars
+pub mod Clear
 pub mod Timing
 pub mod Keeping
 pub mod Ranks

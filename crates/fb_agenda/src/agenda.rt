@@ -1,6 +1,6 @@
 //! The events that wait, under their keys.
 
-ghost use Rattle.std.specs.Prelude.{◌≡◌, ◌<◌, [], if◌then◌else◌, length, Some, None, IfSome, IfNone, IfOk, IfErr, OnOk, OnErr, slice_set};
+ghost use Rattle.std.specs.Prelude.{◌≡◌, ◌<◌, ℕ, [], if◌then◌else◌, length, Some, None, IfSome, IfNone, IfOk, IfErr, OnOk, OnErr, slice_set};
 ghost use Rattle.std.specs.Bool.{OnFalse, OnTrue};
 ghost use Rattle.std.specs.Map.{lookup};
 ghost use Rattle.fb_types.specs.Keys.{Precedes, changed_to, found, local_key, or_else, same_key, timer_key};
@@ -250,6 +250,24 @@ impl Agenda {
         }
         arrivals::fill_indexes(&mut self.later.events, receiver, messages);
         Ok(())
+    }
+
+    /// Whether no event waits at this tick (in milliseconds) in this resource, nor before, where the queue is empty. So a local
+    /// event of them would be the next one.
+    #[inline(always)]
+    pub fn is_clear(&mut self, tick: u64, resource: u32) -> bool
+        ensures before { OnTrue result ((j : Key) (n : ℕ) → Precedes j (local_key tick resource n) → waiting self.old j ≡ None) }
+        ensures itself { OnTrue result ((n : ℕ) → waiting self.old (local_key tick resource n) ≡ None) }
+        ensures kept { self.new ≡ self.old }
+    {
+        if !self.now.is_empty() {
+            return false;
+        }
+        let moment = Moment { tick, resource };
+        if self.later.events.is_past(moment) {
+            return true;
+        }
+        self.later.events.comes_past(moment)
     }
 
     /// Takes the event with the least key, if its tick is below the horizon (in milliseconds), and moves it into the

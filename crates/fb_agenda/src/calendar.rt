@@ -215,12 +215,25 @@ impl Calendar {
         self.quiet = moment;
     }
 
+    /// Whether no event waits at this moment or before, by the first events of both lists. It is noted for the next calls.
+    #[inline(never)]
+    pub(crate) fn comes_past(&mut self, moment: Moment) -> bool
+        ensures past { OnTrue result (IsPast moment self.old) }
+        ensures kept { self.new ≡ self.old }
+    {
+        let Some(first) = self.first_rank() else {
+            return true;
+        };
+        self.note_quiet(first.moment);
+        self.is_past(moment)
+    }
+
     /// Whether it is noted that no event waits at this moment or before.
     #[inline(always)]
     pub(crate) fn is_past(&self, moment: Moment) -> bool
         ensures { OnTrue result (IsPast moment self.now) }
     {
-        moment.is_before(self.quiet)
+        moment.is_sooner(&self.quiet)
     }
 
     /// Takes the event with the first key, if its tick is below the horizon, and moves it into the slot. Returns whether it

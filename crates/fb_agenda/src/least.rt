@@ -1,9 +1,11 @@
 //! The slot for the event that is taken.
 
 ghost use Rattle.std.specs.Prelude.{◌≡◌};
+ghost use Rattle.fb_types.specs.Keys.{local_key};
 ghost use Rattle.fb_types.specs.declared.run.Event.TheVariants.{Local};
 ghost use Rattle.fb_agenda.specs.Indexes.{taken};
 
+use crate::moment::LOCAL;
 use fb_types::{Event, Key, Target};
 
 /// An event that was taken from an agenda, with its key.
@@ -40,6 +42,18 @@ impl Least {
         true
     }
 
+    /// Moves the local event of this number into the slot, at the tick and in the resource of the event that was there.
+    #[inline(always)]
+    pub fn follow(&mut self, number: u128, target: &Target)
+        ensures key { self.new.key ≡ local_key self.old.key.tick self.old.key.resource number }
+        ensures event { self.new.event ≡ Local target.now }
+    {
+        self.key.class = LOCAL;
+        self.key.a = number;
+        self.key.b = 0;
+        self.hold_target(target);
+    }
+
     /// Moves a local event into the slot.
     #[inline(always)]
     pub(crate) fn hold_local(&mut self, key: Key, target: &Target)
@@ -47,6 +61,15 @@ impl Least {
         ensures event { self.new.event ≡ Local target.now }
     {
         self.key = key;
+        self.hold_target(target);
+    }
+
+    /// Makes the event in the slot a local one, and keeps the key.
+    #[inline(always)]
+    fn hold_target(&mut self, target: &Target)
+        ensures key { self.new.key ≡ self.old.key }
+        ensures event { self.new.event ≡ Local target.now }
+    {
         // Mostly the event before was local too. Only its target is replaced then: a new event is as large as a message.
         match &mut self.event {
             Event::Local(place) => *place = *target,

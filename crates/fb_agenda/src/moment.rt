@@ -43,6 +43,18 @@ impl Moment {
         self.tick < other.tick || self.tick == other.tick && self.resource < other.resource
     }
 
+    /// Whether this moment comes before another, which is read where it is. Mostly the ticks tell, and its resource is
+    /// not read.
+    #[inline(always)]
+    pub(crate) fn is_sooner(self, other: &Moment) -> bool
+        ensures { OnTrue result (IsSooner self other.now) }
+    {
+        if self.tick < other.tick {
+            return true;
+        }
+        self.tick == other.tick && self.resource < other.resource
+    }
+
     /// The earlier of two moments.
     #[inline(always)]
     pub(crate) fn earlier(self, other: Moment) -> Moment
