@@ -6,6 +6,7 @@ pub mod Leaving
 pub mod Meters
 pub mod Lists
 pub mod Lone
+pub mod Finding
 pub mod OpenIs
 pub mod PostLaws
 pub mod Posted

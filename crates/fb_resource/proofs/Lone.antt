@@ -1,25 +1,76 @@
--- The posting of the one local event that was put out, where nothing is asked of a timer.
-use Rattle.std.proofs.Common.{◌≡◌, ◌+◌, ◌<◌, ℕ, List, [], ◌∷◌, All, length, map, refl, sym, ap, subst, ◌∙◌, append-nil, arith}
+-- The one local event that was put out, where nothing is asked of a timer.
+use Rattle.std.proofs.Common.{◌≡◌, ◌+◌, ◌<◌, ℕ, Bool, true, false, cond, List, [], ◌∷◌, All, length, map, Option, Some, refl, sym, ap, subst, ◌∙◌, append-nil, arith}
+use Rattle.std.specs.Map.{lookup}
+use Rattle.std.specs.Prelude.{option_map}
 use Rattle.std.specs.Global.{Vec}
 use Rattle.fb_types.specs.Headline.{Inputs, system_of}
-use Rattle.fb_types.specs.Keys.{changed_to, local_key}
+use Rattle.fb_types.specs.Keys.{changed_to, local_key, or_else, same_key}
 use Rattle.fb_types.specs.Names.{Path}
+use Rattle.fb_types.specs.States.{State}
+use Rattle.fb_types.specs.States as model
 use Rattle.fb_types.specs.Takes.{Posts, post_all, timer_change}
 use Rattle.fb_types.specs.declared.key.Key.{Key}
+use Rattle.fb_types.proofs.KeyLaws.{same_key_from, same_key_is}
+use Rattle.fb_types.specs.declared.run.Event.{Event}
 use Rattle.fb_types.specs.declared.run.Event.TheVariants.{Local}
 use Rattle.fb_types.specs.declared.run.Message.{Message}
 use Rattle.fb_types.specs.declared.run.Target.{Target}
 use Rattle.fb_types.specs.declared.run.TimerAsk.{TimerAsk}
-use Rattle.fb_agenda.specs.Agendas.{Contents}
+use Rattle.fb_types.specs.declared.run.TimerAsk.TheVariants.{Keep}
+use Rattle.fb_types.specs.declared.value.Reason.{Reason}
+use Rattle.fb_agenda.specs.Agendas.{Contents, waiting}
+use Rattle.fb_net.specs.Events.{event_of}
 use Rattle.fb_net.specs.Outs.{out_of}
 use Rattle.fb_net.specs.declared.outbox.Out.{Out}
 use Rattle.fb_net.specs.declared.outbox.Out.TheVariants as outs
 use Rattle.fb_net.specs.declared.outbox.Outbox.{Outbox}
+use Rattle.fb_net.specs.declared.resource.Forest.{Forest}
 use Rattle.fb_system.specs.Lines.{BelongsTo}
-use Rattle.fb_resource.specs.Posts.{ArePosted, CountsAre, IsPostable, arriving}
-use Rattle.fb_resource.specs.Takings.{AreReady, IsLone, IsSettled}
-use Rattle.fb_resource.specs.Waiting.{meaning}
+use Rattle.fb_resource.specs.Posts.{ArePosted, CountsAre, IsPostable, IsPut, arriving}
+use Rattle.fb_resource.specs.Takings.{AreReady, IsEmptied, IsLone, IsSettled, IsTakenHere, Queues, queues_of, with_event, with_next}
+use Rattle.fb_resource.specs.Waiting.{IsInOrder, meaning}
+use Rattle.fb_resource.specs.declared.given.Given.{Given}
+use Rattle.fb_resource.specs.declared.tick_counts.TickCounts.{TickCounts}
 use Rattle.fb_resource.proofs.PostLaws.{local_waits, order_put, posted_local}
+
+-- ---- On an agenda in addition
+
+symmetric : (j k : Key) → same_key j k ≡ same_key k j
+symmetric j k = go (same_key j k) (same_key k j) refl refl
+  where
+    go : (a b : Bool) → same_key j k ≡ a → same_key k j ≡ b → a ≡ b
+    go true true there back = refl
+    go false false there back = refl
+    go true false there back = sym (same_key_from k j (sym (same_key_is j k there))) ∙ back
+    go false true there back = sym (sym (same_key_from j k (sym (same_key_is k j back))) ∙ there)
+
+pub with_put : (k : Key) (e : Event) (a : Contents) → IsPut a (with_event k e a) k e
+with_put k e a j =
+    ap (λ b. or_else (cond b (Some e) (lookup (same_key j) a.running)) (lookup (same_key j) a.later)) (symmetric j k) ∙ go (same_key k j)
+  where
+    go : (b : Bool) → or_else (cond b (Some e) (lookup (same_key j) a.running)) (lookup (same_key j) a.later)
+        ≡ cond b (Some e) (or_else (lookup (same_key j) a.running) (lookup (same_key j) a.later))
+    go true = refl
+    go false = refl
+
+-- .. if it was raised, and the timers stay
+pub due_next : (b : Bool) (k : Key) (e : Event) (a : Contents) → (with_next b k e a).due ≡ a.due
+due_next true k e a = refl
+due_next false k e a = refl
+
+pub raised_lone :
+    (k : Key) (t : Target) (a : Contents) (before after : ℕ) (from to : Outbox) → from.outs.items ≡ outs.Local t ∷ [] → from.timer ≡ Keep → after ≡ before + 1 → IsEmptied from to
+    → IsLone k t a (with_event (local_key k.tick k.resource before) (Local t) a) before after from to
+raised_lone k t a before after from to alone keeps counted emptied = record {
+  alone = alone;
+  keeps = keeps;
+  put = with_put (local_key k.tick k.resource before) (Local t) a;
+  due = refl;
+  counted = counted;
+  emptied = emptied;
+}
+
+-- ---- Where it waits
 
 module _ (i : Inputs) (k : Key) (t : Target) (old new : Contents) (before after : ℕ) (from to : Outbox) (lone : IsLone k t old new before after from to) (sent : Vec ℕ) (mail : Vec Message) where
   -- it is settled as the model settles it
@@ -52,3 +103,38 @@ module _ (i : Inputs) (k : Key) (t : Target) (old new : Contents) (before after 
     none = lone.emptied.none;
     keeps = lone.emptied.keeps;
   }
+
+-- ---- Put after all
+
+-- what waits alike is in order alike
+order_alike : (i : Inputs) (tick : ℕ) (a b : Contents) → ((j : Key) → waiting b j ≡ waiting a j) → b.due ≡ a.due → IsInOrder i tick a → IsInOrder i tick b
+order_alike i tick a b same due order = record {
+  waits = λ j e is. order.waits j e (sym (same j) ∙ is);
+  timed = λ j s n e is timer. rw due (order.timed j s n e (sym (same j) ∙ is) timer);
+  home = λ j e is one. order.home j e (sym (same j) ∙ is) one;
+}
+
+pub ready_alike : (i : Inputs) (tick : ℕ) (a b : Contents) (sent : Vec ℕ) (g : Given) → ((j : Key) → waiting b j ≡ waiting a j) → b.due ≡ a.due
+    → AreReady i tick (queues_of a sent g) → AreReady i tick (queues_of b sent g)
+ready_alike i tick a b sent g same due had = record {
+  order = order_alike i tick a b same due had.order;
+  due = ap length due ∙ had.due;
+  counted = had.counted;
+  mail = had.mail;
+  lines = had.lines;
+  none = had.none;
+  keeps = had.keeps;
+}
+
+pub taken_alike : (i : Inputs) (limit : ℕ) (s : State) (k : Key) (e : model.Event) (stop : Option Reason) (from : ℕ) (t : Forest) (x : TickCounts) (old : Queues) (a b : Contents) (sent : Vec ℕ) (g : Given)
+    → ((j : Key) → waiting b j ≡ waiting a j) → IsTakenHere i limit s k e stop from t x old (queues_of a sent g) → IsTakenHere i limit s k e stop from t x old (queues_of b sent g)
+taken_alike i limit s k e stop from t x old a b sent g same had = record {
+  effect = had.effect;
+  takes = had.takes;
+  stops = had.stops;
+  here = had.here;
+  counts = had.counts;
+  agenda = λ j. ap (option_map (event_of i)) (same j) ∙ had.agenda j;
+  mail = had.mail;
+  lines = had.lines;
+}

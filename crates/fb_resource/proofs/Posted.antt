@@ -113,8 +113,8 @@ posted_after a b c ask e os same set next counts are =
     })
 
 -- of one event that was put out
-pub lone_local : (os : List Out) (x d : Out) (o : Option Target) → length os ≡ 1 → x ≡ get_or os 0 d → IfSome o (λ t. x ≡ Local t) → IfSome o (λ t. os ≡ Local t ∷ [])
-lone_local os x d None one at is = tt
-lone_local [] x d (Some t) one at is = absurd (omega (arith, one))
-lone_local (y ∷ []) x d (Some t) one at is = ap (λ z. z ∷ []) (sym at ∙ is)
-lone_local (y ∷ z ∷ os) x d (Some t) one at is = absurd (omega (arith, one))
+pub lone_local : {A : Type 0} (os : List Out) (x d : Out) (o : Option A) (target : A → Target) → length os ≡ 1 → x ≡ get_or os 0 d → IfSome o (λ t. x ≡ Local (target t)) → IfSome o (λ t. os ≡ Local (target t) ∷ [])
+lone_local os x d None target one at is = tt
+lone_local [] x d (Some t) target one at is = absurd (omega (arith, one))
+lone_local (y ∷ []) x d (Some t) target one at is = ap (λ z. z ∷ []) (sym at ∙ is)
+lone_local (y ∷ z ∷ os) x d (Some t) target one at is = absurd (omega (arith, one))

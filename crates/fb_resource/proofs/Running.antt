@@ -26,6 +26,7 @@ use Rattle.fb_resource.specs.declared.resource.WindowDone.TheVariants.{Ran}
 use Rattle.fb_resource.specs.declared.tick_counts.TickCounts.{TickCounts}
 use Rattle.fb_resource.proofs.Begins.{ready_empty}
 use Rattle.fb_resource.proofs.Comes.{come_more, come_rest, come_stop}
+use Rattle.fb_resource.proofs.Lone.{ready_alike}
 use Rattle.fb_resource.proofs.Meters.{alike_unused, here_later, unused_alike}
 use Rattle.fb_resource.proofs.Standing.{HasLeft, home_after, item_at, stands_after, takes_alone}
 
@@ -199,25 +200,24 @@ module _ (i : Inputs) (limit : ℕ) (old new : Running) (k : Key) (e : Event) (a
 
 -- ---- The end
 
--- Nothing waits below the tick, and the clock is turned to it.
-module _ (i : Inputs) (limit : ℕ) (old : Running) (a : Contents) (to : ℕ) (kept : a ≡ old.queues.agenda) (none : (j : Key) → j.tick < to → waiting old.queues.agenda j ≡ None)
-    (ahead : old.clock ≤ to) where
-  abbrev turned : Contents → Running
-  turned z = record old { clock = to; queues = record old.queues { agenda = z } }
+-- Nothing waits below the tick, and the clock is turned to it. What waits is the same as before.
+module _ (i : Inputs) (limit : ℕ) (old : Running) (a : Contents) (to : ℕ) (same : (j : Key) → waiting a j ≡ waiting old.queues.agenda j) (due : a.due ≡ old.queues.agenda.due)
+    (none : (j : Key) → j.tick < to → waiting old.queues.agenda j ≡ None) (ahead : old.clock ≤ to) where
+  abbrev turned : Running
+  turned = record old { clock = to; queues = record old.queues { agenda = a } }
 
-  pub running_rest : IsRunning i limit old → IsRunning i limit (turned a)
+  pub running_rest : IsRunning i limit old → IsRunning i limit turned
   running_rest running =
       let past = running.past in
-      let own : IsRunning i limit (turned old.queues.agenda) = record {
+      record {
         named = running.named;
         metered = running.metered;
         past = omega (arith, past, ahead);
-        ready = ready_to i old.clock to old.queues running.ready none;
-        home = running.home;
-      } in
-      subst (λ z. IsRunning i limit (turned z)) (sym kept) own
+        ready = ready_alike i to old.queues.agenda a old.queues.sent (record { mail = old.queues.mail; outbox = old.queues.outbox }) same due (ready_to i old.clock to old.queues running.ready none);
+        home = λ j f h. running.home j f (sym (same j) ∙ h);
+      }
 
-  stands_turned : (l : Local (machine (system_of i) limit)) → RepresentsRunning i limit l old → RepresentsRunning i limit l (turned old.queues.agenda)
+  stands_turned : (l : Local (machine (system_of i) limit)) → RepresentsRunning i limit l old → RepresentsRunning i limit l turned
   stands_turned l s = record {
     state = s.state;
     part = s.part;
@@ -225,16 +225,15 @@ module _ (i : Inputs) (limit : ℕ) (old : Running) (a : Contents) (to : ℕ) (k
     counts = s.counts;
     own = s.own;
     inbox = s.inbox;
-    waits = s.waits;
+    waits = λ j here. s.waits j here ∙ sym (ap (option_map (event_of i)) (same j));
     stop = s.stop;
   }
 
   pub ran_rest : (r : ℕ) (from : Local (machine (system_of i) limit)) → ComesTo i limit r to from old → old.tree.resource ≡ r → IsUnused to (meter_of old.meter)
-      → RanTo i limit from to (at_rest (turned a)) old.queues.outbox.lines.items old.queues.mail.items
+      → RanTo i limit from to (at_rest turned) old.queues.outbox.lines.items old.queues.mail.items
   ran_rest r from c here unused =
-      subst (λ z. RanTo i limit from to (at_rest (turned z)) old.queues.outbox.lines.items old.queues.mail.items) (sym kept)
-      (ran_of i limit r to from c.at (turned old.queues.agenda) here (λ live. unused) (stands_turned c.at c.represents)
-      (come_rest (machine (system_of i) limit) r to from c.at _ _ c.come (λ live j mine below. c.represents.waits j (mine ∙ sym here) ∙ ap (option_map (event_of i)) (none j below))))
+      ran_of i limit r to from c.at turned here (λ live. unused) (stands_turned c.at c.represents)
+      (come_rest (machine (system_of i) limit) r to from c.at _ _ c.come (λ live j mine below. c.represents.waits j (mine ∙ sym here) ∙ ap (option_map (event_of i)) (none j below)))
 
 -- ---- What is handed out
 

@@ -14,7 +14,7 @@ use Rattle.fb_net.specs.Events.{event_of}
 use Rattle.fb_net.specs.Outs.{out_of}
 use Rattle.fb_net.specs.declared.outbox.Out.{Out}
 use Rattle.fb_net.specs.declared.outbox.Outbox.{Outbox}
-use Rattle.fb_resource.specs.Posts.{ArePosted, CountsAre, IsMessage}
+use Rattle.fb_resource.specs.Posts.{ArePosted, CountsAre, IsMessage, IsPostable}
 use Rattle.fb_resource.specs.Takings.{IsSettled, Queues}
 use Rattle.fb_resource.specs.Waiting.{IsInOrder, meaning}
 use Rattle.fb_resource.specs.declared.posting.Posting.{Posting}
@@ -34,6 +34,10 @@ pub record MayPost (p : Posting) : Type 0 where
   pub due : length p.agenda.now.due ≡ length (system_in p).paths
   pub counted : length p.sent.now.items ≡ (system_in p).links
   pub mail : All (IsMessage p.system.now) p.mail.now.items
+
+-- .. and what is put out may: it goes to a port, or over a link, of the resource of the key.
+abbrev pub MayPut : Posting → Out → Type 0
+MayPut p = IsPostable (system_in p) p.key.now.resource
 
 -- ---- After
 

@@ -1,29 +1,34 @@
 -- Taking one event in its resource (this project's profile).
+use Rattle.std.specs.Bool.{OnFalse, OnTrue}
 use Rattle.std.specs.Global.{Vec}
-use Rattle.std.specs.Prelude.{◌≡◌, ◌+◌, ◌≤◌, ◌++◌, ◌∷◌, ℕ, [], All, length, map, Option}
+use Rattle.std.specs.Prelude.{◌≡◌, ◌+◌, ◌<◌, ◌≤◌, ◌++◌, ◌∷◌, ℕ, Bool, true, false, [], All, if◌then◌else◌, length, map, Option, Some, None}
 use Rattle.fb_types.specs.Headline.{Inputs, system_of}
-use Rattle.fb_types.specs.Keys.{changed_to, local_key}
+use Rattle.fb_types.specs.Keys.{Precedes, changed_to, local_key, same_key}
 use Rattle.fb_types.specs.Names.{Path}
 use Rattle.fb_types.specs.Numbers.{line_of}
-use Rattle.fb_types.specs.States.{State}
+use Rattle.fb_types.specs.States.{State, path_of}
 use Rattle.fb_types.specs.States as model
-use Rattle.fb_types.specs.Takes.{Effect, Posts, Takes, timer_change, world_of}
+use Rattle.fb_types.specs.Takes.{Effect, Posts, Takes, post_all, timer_change, world_of}
 use Rattle.fb_types.specs.declared.key.Key.{Key}
+use Rattle.fb_types.specs.declared.run.Event as waiting
 use Rattle.fb_types.specs.declared.run.Event.TheVariants as waits
 use Rattle.fb_types.specs.declared.run.Message.{Message}
 use Rattle.fb_types.specs.declared.run.Target.{Target}
 use Rattle.fb_types.specs.declared.run.TimerAsk.{TimerAsk}
 use Rattle.fb_types.specs.declared.run.TimerAsk.TheVariants.{Keep, Clear, At}
 use Rattle.fb_types.specs.declared.value.Reason.{Reason}
+use Rattle.fb_agenda.specs.Agendas as agendas
 use Rattle.fb_agenda.specs.Agendas.{Contents}
 use Rattle.fb_system.specs.Lines.{BelongsTo}
+use Rattle.fb_net.specs.Events.{event_of}
+use Rattle.fb_net.specs.Outs.{out_of}
 use Rattle.fb_net.specs.Worlds.{IsForest}
 use Rattle.fb_net.specs.declared.outbox.Out.TheVariants.{Local}
 use Rattle.fb_net.specs.declared.outbox.Outbox.{Outbox}
 use Rattle.fb_net.specs.declared.resource.Forest.{Forest}
 use Rattle.fb_laws.specs.Typed.{AreTyped}
 use Rattle.fb_resource.specs.Counts.{BeginAlike, meter_of}
-use Rattle.fb_resource.specs.Posts.{ArePosted, CountsAre, IsMessage, IsPut, arriving}
+use Rattle.fb_resource.specs.Posts.{ArePosted, CountsAre, IsMessage, IsPostable, IsPut, arriving}
 use Rattle.fb_resource.specs.Waiting.{IsInOrder, meaning}
 use Rattle.fb_resource.specs.declared.given.Given.{Given}
 use Rattle.fb_resource.specs.declared.tick_counts.TickCounts.{TickCounts}
@@ -89,6 +94,23 @@ pub record IsSettled (i : Inputs) (k : Key) (at : Path) (ask : TimerAsk) (x : Po
   pub set : (j : Key) → meaning i mid j ≡ changed_to (timer_change (system_of i) k.resource at ask j) (meaning i old.agenda j)
   pub posted : ArePosted i x mid new.agenda old.mail.items new.mail.items locals new.sent.items
 
+-- What taking an event put out may be posted, and its timer set.
+pub record MaySettle (i : Inputs) (k : Key) (q : Queues) : Type 0 where
+  pub order : IsInOrder i k.tick q.agenda
+  pub due : length q.agenda.due ≡ length (system_of i).paths
+  pub counted : length q.sent.items ≡ (system_of i).links
+  pub mail : All (IsMessage i) q.mail.items
+  pub later : IsLater k.tick q.outbox.timer
+  pub outs : All (IsPostable (system_of i) k.resource) q.outbox.outs.items
+  pub lines : All (BelongsTo (system_of i)) q.outbox.lines.items
+
+-- The timer was set and what the outbox puts out was posted, whatever was sent before.
+abbrev pub AreSettled : (i : Inputs) (k : Key) (e : waiting.Event) (before : ℕ) (old new : Queues) (after : ℕ) → Type 0
+AreSettled i k e before old new after =
+    (counts : ℕ → ℕ) → CountsAre old.sent.items counts
+    → IsSettled i k (path_of (event_of i e)) old.outbox.timer
+    (post_all (system_of i) k (map (out_of (system_of i)) old.outbox.outs.items) (record { locals = before; sent = counts; raised = []; messages = [] })) old new after
+
 -- All was posted and nothing is asked of a timer; the lines stay.
 pub record IsEmptied (old new : Outbox) : Type 0 where
   pub lines : new.lines.items ≡ old.lines.items
@@ -103,3 +125,30 @@ pub record IsLone (k : Key) (t : Target) (old new : Contents) (before after : �
   pub due : new.due ≡ old.due
   pub counted : after ≡ before + 1
   pub emptied : IsEmptied from to
+
+-- ---- The next event
+
+-- an agenda on which an event waits in addition
+abbrev pub with_event : Key → waiting.Event → Contents → Contents
+with_event k e a = record a { running = (k, e) ∷ a.running }
+
+-- .. the event in the slot, if it was raised
+abbrev pub with_next : Bool → Key → waiting.Event → Contents → Contents
+with_next true k e a = with_event k e a
+with_next false k e a = a
+
+-- An event with the key of a local one.
+pub record IsRaised (k : Key) (e : waiting.Event) : Type 0 where
+  pub number : ℕ
+  pub target : Target
+  pub key : k ≡ local_key k.tick k.resource number
+  pub event : e ≡ waits.Local target
+
+-- The least event of an agenda, if its tick is below the horizon, was found and left it. Else it is as it was.
+pub record Finds (horizon : ℕ) (was : Contents) (is : Bool) (k : Key) (e : waiting.Event) (now : Contents) : Type 0 where
+  pub found : OnTrue is (agendas.waiting was k ≡ Some e)
+  pub below : OnTrue is (k.tick < horizon)
+  pub least : OnTrue is ((j : Key) → Precedes j k → agendas.waiting was j ≡ None)
+  pub left : OnTrue is ((j : Key) → agendas.waiting now j ≡ (if same_key k j then None else agendas.waiting was j))
+  pub none : OnFalse is ((j : Key) → j.tick < horizon → agendas.waiting was j ≡ None)
+  pub kept : OnFalse is ((j : Key) → agendas.waiting now j ≡ agendas.waiting was j)

@@ -1,6 +1,7 @@
 //! Taking one event in its resource.
 
-ghost use Rattle.std.specs.Prelude.{◌≡◌, ◌^◌, ◌≤◌, ◌<◌, ℕ, [], suc, max, unwrap_or, All, IfOk, OnOk, Some, None};
+ghost use Rattle.std.specs.Prelude.{◌≡◌, ◌+◌, ◌^◌, ◌≤◌, ◌<◌, ℕ, [], suc, max, unwrap_or, All, IfOk, IfSome, OnOk, Some, None};
+ghost use Rattle.std.specs.Bool.{OnTrue};
 ghost use Rattle.fb_types.specs.Reactions.{World};
 ghost use Rattle.fb_types.specs.States.{State};
 ghost use Rattle.fb_types.specs.Takes.{begun};
@@ -12,12 +13,13 @@ ghost use Rattle.fb_net.specs.Worlds.{IsForest};
 ghost use Rattle.fb_net.specs.OfSystem.{AreOuts};
 ghost use Rattle.fb_resource.specs.Counts.{IsMetered, meter_of};
 ghost use Rattle.fb_resource.specs.Posts.{CountsAre};
-ghost use Rattle.fb_resource.specs.Takings.{AreReady, IsHere, IsTakenHere, queues_of};
+ghost use Rattle.fb_resource.specs.Takings.{AreReady, AreSettled, IsHere, IsRaised, IsTakenHere, MaySettle, queues_of, with_next};
 
 use crate::given::Given;
-use crate::posting::{Posting, lone_of, post_lone};
+use crate::posting::{Posting, count_lone, lone_of};
+use crate::taken::Taken;
 use crate::tick_counts::TickCounts;
-use fb_agenda::Agenda;
+use fb_agenda::{Agenda, Least};
 use fb_net::{Outbox, Tree};
 use fb_st::Meter;
 use fb_system::System;
@@ -60,9 +62,47 @@ fn take_in(
     }
 }
 
-/// Takes an event that has left the agenda, at most `limit` steps in each tick of its resource. `Some` is the reason
-/// for which the resource stops; what was put out before the stop is posted and kept. Messages are put after the
-/// mail, and lines after those in the outbox.
+/// Sets the timer and posts what was put out, as the taking of an event asks. It is apart because a function clears its locals
+/// where it begins, and after most events no `Posting` is made.
+///
+/// # Errors
+/// When memory runs out, or a link has carried 2^128 messages.
+#[inline(always)]
+fn settle(
+    agenda: &mut Agenda,
+    sent: &mut Vec<u128>,
+    locals: &mut u128,
+    given: &mut Given,
+    system: &System,
+    key: &Key,
+    event: &Event,
+) -> Result<(), AllocError>
+    requires may { MaySettle system.now key.now (queues_of agenda.old sent.old given.old) }
+    requires event { IsEventIn system.now key.now.resource event.now }
+    requires named { IsResource system.now key.now.resource }
+    requires early { key.now.tick ≤ 10 ^ 12 }
+    requires room { locals.old < 2 ^ 100 }
+    ensures settled { OnOk result (AreSettled system.now key.now event.now locals.old (queues_of agenda.old sent.old given.old) (queues_of agenda.new sent.new given.new) locals.new) }
+    ensures ready { OnOk result (AreReady system.now key.now.tick (queues_of agenda.new sent.new given.new)) }
+    ensures later { OnOk result (All (λ m. key.now.tick < m.arrives) given.old.mail.items → All (λ m. key.now.tick < m.arrives) given.new.mail.items) }
+    ensures few { OnOk result (locals.new ≤ locals.old + 2 ^ 64) }
+    ensures lines { OnOk result (given.new.outbox.lines.items ≡ given.old.outbox.lines.items) }
+{
+    system.facts();
+    let mut posting = Posting {
+        system,
+        key,
+        agenda,
+        mail: &mut given.mail,
+        sent,
+        locals,
+    };
+    posting.settle(&mut given.outbox, event)
+}
+
+/// Takes the event in the slot, which has left the agenda, at most `limit` steps in each tick of its resource. What was put
+/// out before a stop is kept, and posted, except one local event alone: that one moves into the slot. Messages are put after
+/// the mail, and lines after those in the outbox.
 ///
 /// The counts may also be those of a meter that is older than the tick: then the resource counts afresh.
 ///
@@ -77,55 +117,64 @@ pub fn take(
     given: &mut Given,
     system: &System,
     limit: u64,
-    key: &Key,
-    event: &Event,
-) -> Result<Option<Reason>, AllocError>
-    requires tree { tree.old.resource ≡ key.now.resource }
+    least: &mut Least,
+) -> Result<Taken, AllocError>
+    requires tree { tree.old.resource ≡ least.old.key.resource }
     requires counts { IsMetered limit counts.old }
-    requires queues { AreReady system.now key.now.tick (queues_of agenda.old sent.old given.old) }
-    requires represents { (s : State) × IsHere system.now s key.now.resource key.now.tick tree.old counts.old }
-    requires event { IsEventIn system.now key.now.resource event.now }
-    requires own { IsKeyOf key.now event.now }
-    requires typed { IsTypedEvent system.now (event_of system.now event.now) }
-    requires named { IsResource system.now key.now.resource }
-    requires early { key.now.tick ≤ 10 ^ 12 }
+    requires queues { AreReady system.now least.old.key.tick (queues_of agenda.old sent.old given.old) }
+    requires represents { (s : State) × IsHere system.now s least.old.key.resource least.old.key.tick tree.old counts.old }
+    requires event { IsEventIn system.now least.old.key.resource least.old.event }
+    requires own { IsKeyOf least.old.key least.old.event }
+    requires typed { IsTypedEvent system.now (event_of system.now least.old.event) }
+    requires named { IsResource system.now least.old.key.resource }
+    requires early { least.old.key.tick ≤ 10 ^ 12 }
     requires few { limit ≤ 10 ^ 7 }
-    ensures taken { IfOk result (λ stop. (s : State) (from : ℕ) → from ≤ key.now.tick
-        → IsHere system.now s key.now.resource from tree.old counts.old → CountsAre sent.old.items s.sent
-        → IsTakenHere system.now limit s key.now (event_of system.now event.now) stop from tree.new counts.new
-        (queues_of agenda.old sent.old given.old) (queues_of agenda.new sent.new given.new)) }
-    ensures queues { OnOk result (AreReady system.now key.now.tick (queues_of agenda.new sent.new given.new)) }
-    ensures later { OnOk result (All (λ m. key.now.tick < m.arrives) given.old.mail.items → All (λ m. key.now.tick < m.arrives) given.new.mail.items) }
+    ensures taken { IfOk result (λ t. (s : State) (from : ℕ) → from ≤ least.old.key.tick
+        → IsHere system.now s least.old.key.resource from tree.old counts.old → CountsAre sent.old.items s.sent
+        → IsTakenHere system.now limit s least.old.key (event_of system.now least.old.event) t.stop from tree.new counts.new
+        (queues_of agenda.old sent.old given.old) (queues_of (with_next t.raised least.new.key least.new.event agenda.new) sent.new given.new)) }
+    ensures queues { IfOk result (λ t. AreReady system.now least.old.key.tick (queues_of (with_next t.raised least.new.key least.new.event agenda.new) sent.new given.new)) }
+    ensures later { OnOk result (All (λ m. least.old.key.tick < m.arrives) given.old.mail.items → All (λ m. least.old.key.tick < m.arrives) given.new.mail.items) }
     ensures counts { OnOk result (IsMetered limit counts.new) }
-    ensures tick { OnOk result (unwrap_or counts.new.tick 0 ≤ max (unwrap_or counts.old.tick 0) key.now.tick) }
-    ensures spent { IfOk result (λ stop. stop ≡ None → (counts.new.tick ≡ Some key.now.tick) × (suc counts.new.left ≤ (begun limit key.now.tick (meter_of counts.old)).left)) }
+    ensures tick { OnOk result (unwrap_or counts.new.tick 0 ≤ max (unwrap_or counts.old.tick 0) least.old.key.tick) }
+    ensures spent { IfOk result (λ t. t.stop ≡ None → (counts.new.tick ≡ Some least.old.key.tick) × (suc counts.new.left ≤ (begun limit least.old.key.tick (meter_of counts.old)).left)) }
     ensures tree { tree.new.resource ≡ tree.old.resource }
+    ensures raised { IfOk result (λ t. OnTrue t.raised (IsRaised least.new.key least.new.event)) }
+    ensures alone { IfOk result (λ t. OnTrue t.raised ((agenda.new ≡ agenda.old) × (given.new.mail ≡ given.old.mail))) }
+    ensures moment { OnOk result ((least.new.key.tick ≡ least.old.key.tick) × (least.new.key.resource ≡ least.old.key.resource)) }
 {
-    if !counts.step(limit, key.tick) {
-        return Ok(Some(Reason::Steps));
+    if !counts.step(limit, least.key.tick) {
+        return Ok(Taken {
+            stop: Some(Reason::Steps),
+            raised: false,
+        });
     }
     let stop = take_in(
         tree,
         &mut counts.left,
         &mut given.outbox,
         system,
-        key,
-        event,
+        &least.key,
+        &least.event,
     )?;
     system.facts();
     // A reaction that stops posts what it had put out before. Mostly that is one local event.
     if let Some(target) = lone_of(&given.outbox) {
-        post_lone(agenda, &mut counts.locals, key, &mut given.outbox, target)?;
-        return Ok(stop);
+        least.follow(counts.locals, target);
+        count_lone(&mut counts.locals, &mut given.outbox);
+        return Ok(Taken { stop, raised: true });
     }
-    let mut posting = Posting {
-        system,
-        key,
+    settle(
         agenda,
-        mail: &mut given.mail,
         sent,
-        locals: &mut counts.locals,
-    };
-    posting.settle(&mut given.outbox, event)?;
-    Ok(stop)
+        &mut counts.locals,
+        given,
+        system,
+        &least.key,
+        &least.event,
+    )?;
+    Ok(Taken {
+        stop,
+        raised: false,
+    })
 }

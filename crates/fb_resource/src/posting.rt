@@ -9,8 +9,8 @@ ghost use Rattle.fb_types.specs.OfSystem.{IsInstance, IsResource, link_count, pa
 ghost use Rattle.fb_system.specs.OfSystem.{arrival_over, number_at};
 ghost use Rattle.fb_net.specs.Events.{IsEventIn, IsNumbered, event_of};
 ghost use Rattle.fb_net.specs.declared.outbox.Out.TheVariants as put_out;
-ghost use Rattle.fb_resource.specs.Posts.{IsPostable, IsPut};
-ghost use Rattle.fb_resource.specs.Takings.{IsEmptied, IsLater, IsLone};
+ghost use Rattle.fb_resource.specs.Posts.{IsPut};
+ghost use Rattle.fb_resource.specs.Takings.{IsEmptied, IsLater};
 ghost use Rattle.fb_resource.specs.OfSystem.{message_of};
 
 use fb_agenda::Agenda;
@@ -89,19 +89,19 @@ fn instance_of(system: &System, event: &Event) -> u32
 
 /// The target of an event that was put out, if it is local.
 #[inline(always)]
-fn target_of(out: &Out) -> Option<Target>
-    ensures { IfSome result (λ target. out.now ≡ put_out.Local target) }
+fn target_of(out: &Out) -> Option<&Target>
+    ensures { IfSome result (λ target. out.now ≡ put_out.Local target.now) }
 {
     match out {
-        Out::Local(target) => Some(*target),
+        Out::Local(target) => Some(target),
         Out::Send(_) => None,
     }
 }
 
 /// The target of the local event that was put out, if nothing else was.
 #[inline(always)]
-fn lone_target(outs: &[Out]) -> Option<Target>
-    ensures { IfSome result (λ target. outs.now ≡ put_out.Local target ∷ []) }
+fn lone_target(outs: &[Out]) -> Option<&Target>
+    ensures { IfSome result (λ target. outs.now ≡ put_out.Local target.now ∷ []) }
 {
     match outs {
         [only] => target_of(only),
@@ -111,8 +111,8 @@ fn lone_target(outs: &[Out]) -> Option<Target>
 
 /// The target of the local event that was put out, if nothing else was and nothing is asked of the timer, as mostly.
 #[inline(always)]
-pub(crate) fn lone_of(outbox: &Outbox) -> Option<Target>
-    ensures alone { IfSome result (λ target. outbox.now.outs.items ≡ put_out.Local target ∷ []) }
+pub(crate) fn lone_of(outbox: &Outbox) -> Option<&Target>
+    ensures alone { IfSome result (λ target. outbox.now.outs.items ≡ put_out.Local target.now ∷ []) }
     ensures keeps { IfSome result (λ target. outbox.now.timer ≡ Keep) }
 {
     match outbox.timer {
@@ -121,27 +121,19 @@ pub(crate) fn lone_of(outbox: &Outbox) -> Option<Target>
     }
 }
 
-/// Posts the local event that was put out, where nothing else was and nothing is asked of the timer. No `Posting` is made for
-/// it.
-///
-/// # Errors
-/// When memory runs out.
+/// Counts the local event that was put out, where nothing else was and nothing is asked of the timer. It has moved to where
+/// it goes.
 #[inline(always)]
-pub(crate) fn post_lone(
-    agenda: &mut Agenda,
-    locals: &mut u128,
-    key: &Key,
-    outbox: &mut Outbox,
-    target: Target,
-) -> Result<(), AllocError>
-    requires alone { outbox.old.outs.items ≡ put_out.Local target ∷ [] }
+pub(crate) fn count_lone(locals: &mut u128, outbox: &mut Outbox)
+    requires alone { length outbox.old.outs.items ≡ 1 }
     requires keeps { outbox.old.timer ≡ Keep }
     requires room { locals.old < 2 ^ 100 }
-    ensures { OnOk result (IsLone key.now target agenda.old agenda.new locals.old locals.new outbox.old outbox.new) }
+    ensures counted { locals.new ≡ locals.old + 1 }
+    ensures emptied { IsEmptied outbox.old outbox.new }
 {
-    // Its target was read where it is, as in `post_all`.
+    // Its target was read where it is: to move an `Out` is to move as much as a message.
     forget(outbox.outs.pop());
-    post_local(agenda, locals, key, target)
+    *locals += 1;
 }
 
 /// Posting what the taking of one event puts out: the system and the key of the event, which stay, and where local
@@ -164,7 +156,7 @@ pub(crate) struct Posting<'a> {
 }
 
 impl Posting<'_> {
-    ghost use Rattle.fb_resource.specs.Postings.{HasGrown, HasPosted, HasSet, HasSettled, IsSame, MayPost, system_in};
+    ghost use Rattle.fb_resource.specs.Postings.{HasGrown, HasPosted, HasSet, HasSettled, IsSame, MayPost, MayPut};
 
     /// Posts one event that was put out, after all that were posted before.
     ///
@@ -173,7 +165,7 @@ impl Posting<'_> {
     #[inline(always)]
     fn post_one(&mut self, out: Out) -> Result<(), AllocError>
         requires may { MayPost self.old }
-        requires out { IsPostable (system_in self.old) self.old.key.now.resource out }
+        requires out { MayPut self.old out }
         requires room { self.old.locals.now + 1 < 2 ^ 128 }
         ensures posted { OnOk result (HasPosted self.old (out ∷ []) self.new) }
         ensures grown { OnOk result (HasGrown self.old 1 self.new) }
@@ -193,7 +185,7 @@ impl Posting<'_> {
     /// As `post_one`.
     fn post_others(&mut self, outs: &mut Vec<Out>) -> Result<(), AllocError>
         requires may { MayPost self.old }
-        requires outs { All (IsPostable (system_in self.old) self.old.key.now.resource) outs.old.items }
+        requires outs { All (MayPut self.old) outs.old.items }
         requires room { self.old.locals.now + length outs.old.items < 2 ^ 128 }
         ensures posted { OnOk result (HasPosted self.old outs.old.items self.new) }
         ensures grown { OnOk result (HasGrown self.old (length outs.old.items) self.new) }
@@ -216,7 +208,7 @@ impl Posting<'_> {
     #[inline(always)]
     fn post_all(&mut self, outs: &mut Vec<Out>) -> Result<(), AllocError>
         requires may { MayPost self.old }
-        requires outs { All (IsPostable (system_in self.old) self.old.key.now.resource) outs.old.items }
+        requires outs { All (MayPut self.old) outs.old.items }
         requires room { self.old.locals.now + length outs.old.items < 2 ^ 128 }
         ensures posted { OnOk result (HasPosted self.old outs.old.items self.new) }
         ensures grown { OnOk result (HasGrown self.old (length outs.old.items) self.new) }
@@ -278,7 +270,7 @@ impl Posting<'_> {
         requires may { MayPost self.old }
         requires event { IsEventIn self.old.system.now self.old.key.now.resource event.now }
         requires later { IsLater self.old.key.now.tick outbox.old.timer }
-        requires outs { All (IsPostable (system_in self.old) self.old.key.now.resource) outbox.old.outs.items }
+        requires outs { All (MayPut self.old) outbox.old.outs.items }
         requires room { self.old.locals.now < 2 ^ 100 }
         ensures settled { OnOk result (HasSettled self.old outbox.old event.now self.new outbox.new) }
         ensures grown { OnOk result (HasGrown self.old (2 ^ 64) self.new) }

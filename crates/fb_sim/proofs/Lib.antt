@@ -8,6 +8,7 @@ mod Ending
 pub mod FirstRounds
 pub mod Fronts
 pub mod Joined
+pub mod Nexts
 pub mod OneAgendaIs
 mod OnePhase
 mod Onward

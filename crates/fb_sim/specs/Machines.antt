@@ -1,16 +1,17 @@
 -- What the state of a run of all resources represents (this project's profile).
-use Rattle.std.specs.Prelude.{◌≡◌, ◌≤◌, ◌++◌, ℕ, [], length, map, Option, Some, slice_get, unwrap_or}
+use Rattle.std.specs.Prelude.{◌≡◌, ◌≤◌, ◌++◌, ℕ, Bool, [], length, map, Option, Some, slice_get, unwrap_or}
 use Rattle.fb_types.specs.Headline.{Inputs, system_of}
 use Rattle.fb_types.specs.Numbers.{line_of}
 use Rattle.fb_types.specs.States.{State}
 use Rattle.fb_types.specs.States as model
 use Rattle.fb_types.specs.Takes.{Effect, Takes, agenda_after}
 use Rattle.fb_types.specs.declared.key.Key.{Key}
+use Rattle.fb_types.specs.declared.run.Event.{Event}
 use Rattle.fb_types.specs.declared.value.Reason.{Reason}
 use Rattle.fb_net.specs.declared.resource.Forest.{Forest}
 use Rattle.fb_resource.specs.Counts.{IsMetered}
 use Rattle.fb_resource.specs.Posts.{CountsAre}
-use Rattle.fb_resource.specs.Takings.{AreReady, IsHere, queues_of}
+use Rattle.fb_resource.specs.Takings.{AreReady, IsHere, queues_of, with_next}
 use Rattle.fb_resource.specs.Waiting.{meaning}
 use Rattle.fb_resource.specs.declared.tick_counts.TickCounts.{TickCounts}
 use Rattle.fb_sim.specs.declared.one_agenda.machine.Machine.{Machine}
@@ -38,3 +39,7 @@ pub record IsTaken (i : Inputs) (limit : ℕ) (s : State) (a : model.Agenda) (k 
   pub stops : effect.stop ≡ stop
   pub lines : map (line_of (system_of i)) new.given.outbox.lines.items ≡ map (line_of (system_of i)) old.given.outbox.lines.items ++ effect.lines
   pub at : IsAt i effect.state (agenda_after k a effect) new
+
+-- the machine on whose agenda the local event in the slot waits in addition, if it was raised
+abbrev pub with_raised : Bool → Key → Event → Machine → Machine
+with_raised b k e m = record m { agenda = with_next b k e m.agenda }

@@ -22,8 +22,11 @@ use std::io::Write;
 use std::thread;
 use std::thread::Threads;
 
-/// One thread writes fewer lines than this before others have started.
+/// One thread sorts and writes fewer lines than this before others have started.
 const MANY: usize = 4096;
+
+/// Fewer lines than this are sorted and written by one thread, also where they are at few ticks.
+const FEW: usize = 1024;
 
 /// A round gives fewer lines than this.
 const MOST: usize = 1_000_000_000_000;
@@ -137,6 +140,28 @@ fn count_in(lists: &[Vec<Line>]) -> usize
     count
 }
 
+/// How many ticks the lines of a list reach over, where their ticks do not fall.
+fn ticks_in(list: &[Line]) -> u64 {
+    match (list.first(), list.last()) {
+        (Some(first), Some(last)) => last.key.tick.saturating_sub(first.key.tick),
+        _ => 0,
+    }
+}
+
+/// Whether this many lines are at few ticks: then looking at each list in each tick takes less time than sorting them.
+fn are_close(lists: &[Vec<Line>], count: usize) -> bool {
+    let mut ticks: u64 = 0;
+    for list in lists {
+        ticks = ticks.max(ticks_in(list.as_slice()));
+    }
+    ticks.saturating_mul(lists.len() as u64) <= (count as u64).saturating_mul(4)
+}
+
+/// Whether several threads make the text of this many lines.
+fn are_shared(lists: &[Vec<Line>], count: usize) -> bool {
+    count >= MANY || (count >= FEW && are_close(lists, count))
+}
+
 /// The text of lines in parts, one after another, each of which one of this many threads makes.
 fn texts_of<R: Threads + Sync>(
     rt: &R,
@@ -170,7 +195,7 @@ pub(crate) fn hand_out_apart<R: Threads + Sync, W: Write>(
 {
     let Options { form, workers, .. } = options;
     let count = count_in(&lists);
-    if workers > 1 && count >= MANY && count < MOST {
+    if workers > 1 && are_shared(&lists, count) && count < MOST {
         if let Ok(texts) = texts_of(rt, alloc, system, form, &lists, workers as usize) {
             let bytes = write_texts(out, texts.as_slice())?;
             return Ok((bytes, count as u128));

@@ -25,7 +25,7 @@ use fb_agenda::Least;
 use fb_ecc::BasicState;
 use fb_resource::TickCounts;
 use fb_system::System;
-use fb_types::{Emits, Event, Key};
+use fb_types::{Emits, Event};
 use std::alloc::{AllocError, Global};
 
 /// A run, and for each instance that is a basic block a copy of it.
@@ -180,8 +180,8 @@ impl Replay {
         }
     }
 
-    /// Takes an event that was on the agenda, and has left it; the copy of its block reacts to it too. `Some` is where the
-    /// event stops the run.
+    /// Takes the event in the slot, which has left the agenda; the copy of its block reacts to it too. `Some` is where the event
+    /// stops the run.
     ///
     /// # Errors
     /// When memory runs out, or a link has carried 2^128 messages.
@@ -189,33 +189,33 @@ impl Replay {
         &mut self,
         system: &System,
         limit: u64,
-        key: &Key,
-        event: &Event,
+        least: &mut Least,
     ) -> Result<Option<FoundStop>, AllocError>
-        requires ready { IsReady system.now limit key.now.tick (machine_of self.old.run) }
-        requires represents { (s : State) × (a : model.Agenda) × IsAt system.now s (without key.now a) (machine_of self.old.run) × AreAllCopies system.now s self.old.copies.items }
-        requires event { IsEventIn system.now key.now.resource event.now }
-        requires own { IsKeyOf key.now event.now }
-        requires typed { IsTypedEvent system.now (event_of system.now event.now) }
-        requires named { IsResource system.now key.now.resource }
-        requires early { key.now.tick ≤ 10 ^ 12 }
+        requires ready { IsReady system.now limit least.old.key.tick (machine_of self.old.run) }
+        requires represents { (s : State) × (a : model.Agenda) × IsAt system.now s (without least.old.key a) (machine_of self.old.run) × AreAllCopies system.now s self.old.copies.items }
+        requires event { IsEventIn system.now least.old.key.resource least.old.event }
+        requires own { IsKeyOf least.old.key least.old.event }
+        requires typed { IsTypedEvent system.now (event_of system.now least.old.event) }
+        requires named { IsResource system.now least.old.key.resource }
+        requires early { least.old.key.tick ≤ 10 ^ 12 }
         requires few { limit ≤ 10 ^ 7 }
-        ensures steps { IfOk result (λ found. (s : State) (a : model.Agenda) → IsAt system.now s (without key.now a) (machine_of self.old.run) → AreAllCopies system.now s self.old.copies.items
-            → Steps system.now limit s a key.now (event_of system.now event.now) self.new found) }
-        ensures ready { OnOk result (IsReady system.now limit key.now.tick (machine_of self.new.run)) }
-        ensures spent { IfOk result (λ found. found ≡ None → IsSpent limit key.now self.old.run.meters.items self.new.run.meters.items) }
+        ensures steps { IfOk result (λ found. (s : State) (a : model.Agenda) → IsAt system.now s (without least.old.key a) (machine_of self.old.run) → AreAllCopies system.now s self.old.copies.items
+            → Steps system.now limit s a least.old.key (event_of system.now least.old.event) self.new found) }
+        ensures ready { OnOk result (IsReady system.now limit least.old.key.tick (machine_of self.new.run)) }
+        ensures spent { IfOk result (λ found. found ≡ None → IsSpent limit least.old.key self.old.run.meters.items self.new.run.meters.items) }
     {
         system.facts();
         self.run.clear_lines();
-        let at = site_of(system, event);
+        let key = least.key;
+        let at = site_of(system, &least.event);
         let left = steps_left(self.run.meters[key.resource as usize], limit, key.tick);
-        let Some(reason) = self.run.take(system, limit, key, event)? else {
+        let Some(reason) = self.run.take(system, limit, least)? else {
             self.follow_at(system, at, left)?;
             return Ok(None);
         };
         let site = self.site_at(system, at, left)?;
         Ok(Some(FoundStop {
-            key: *key,
+            key,
             at,
             reason,
             site,
@@ -241,7 +241,7 @@ impl Replay {
     {
         let mut least = Least::new();
         while self.run.agenda.take_least_into(horizon, &mut least) {
-            if let Some(found) = self.step(system, limit, &least.key, &least.event)? {
+            if let Some(found) = self.step(system, limit, &mut least)? {
                 return Ok(Some(found));
             }
         }

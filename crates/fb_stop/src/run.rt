@@ -18,9 +18,9 @@ ghost use Rattle.fb_sim.specs.Openings.{AreOpened};
 ghost use Rattle.fb_sim.specs.Runs.{IsSpent};
 ghost use Rattle.fb_stop.specs.Runs.{machine_of};
 
-use fb_agenda::Agenda;
+use fb_agenda::{Agenda, Least};
 use fb_net::Tree;
-use fb_resource::{Given, TickCounts, open_agenda, open_sent, take};
+use fb_resource::{Given, TickCounts, open_agenda, open_sent, put_next, take};
 use fb_system::System;
 use fb_types::{Event, Key, Message, Reason};
 use std::alloc::{AllocError, Global};
@@ -123,8 +123,8 @@ impl Run {
         self.given.outbox.lines.clear();
     }
 
-    /// Takes an event that was on the agenda, and has left it, and delivers the messages that it gave. `Some` is the
-    /// reason for which the resource stops.
+    /// Takes the event in the slot, which has left the agenda, and delivers the messages that it gave. `Some` is the reason for
+    /// which the resource stops. The slot may have another event then, which is on the agenda too.
     ///
     /// # Errors
     /// When memory runs out, or a link has carried 2^128 messages.
@@ -132,24 +132,23 @@ impl Run {
         &mut self,
         system: &System,
         limit: u64,
-        key: &Key,
-        event: &Event,
+        least: &mut Least,
     ) -> Result<Option<Reason>, AllocError>
-        requires ready { IsReady system.now limit key.now.tick (machine_of self.old) }
+        requires ready { IsReady system.now limit least.old.key.tick (machine_of self.old) }
         requires represents { (s : State) × (a : model.Agenda) × IsAt system.now s a (machine_of self.old) }
-        requires event { IsEventIn system.now key.now.resource event.now }
-        requires own { IsKeyOf key.now event.now }
-        requires typed { IsTypedEvent system.now (event_of system.now event.now) }
-        requires named { IsResource system.now key.now.resource }
-        requires early { key.now.tick ≤ 10 ^ 12 }
+        requires event { IsEventIn system.now least.old.key.resource least.old.event }
+        requires own { IsKeyOf least.old.key least.old.event }
+        requires typed { IsTypedEvent system.now (event_of system.now least.old.event) }
+        requires named { IsResource system.now least.old.key.resource }
+        requires early { least.old.key.tick ≤ 10 ^ 12 }
         requires few { limit ≤ 10 ^ 7 }
-        ensures taken { IfOk result (λ stop. (s : State) (a : model.Agenda) → IsAt system.now s (without key.now a) (machine_of self.old)
-            → IsTaken system.now limit s a key.now (event_of system.now event.now) stop (machine_of self.old) (machine_of self.new)) }
-        ensures ready { OnOk result (IsReady system.now limit key.now.tick (machine_of self.new)) }
-        ensures spent { IfOk result (λ stop. stop ≡ None → IsSpent limit key.now self.old.meters.items self.new.meters.items) }
+        ensures taken { IfOk result (λ stop. (s : State) (a : model.Agenda) → IsAt system.now s (without least.old.key a) (machine_of self.old)
+            → IsTaken system.now limit s a least.old.key (event_of system.now least.old.event) stop (machine_of self.old) (machine_of self.new)) }
+        ensures ready { OnOk result (IsReady system.now limit least.old.key.tick (machine_of self.new)) }
+        ensures spent { IfOk result (λ stop. stop ≡ None → IsSpent limit least.old.key self.old.meters.items self.new.meters.items) }
     {
-        let resource = key.resource as usize;
-        let stop = take(
+        let resource = least.key.resource as usize;
+        let taken = take(
             &mut self.trees[resource],
             &mut self.meters[resource],
             &mut self.agenda,
@@ -157,10 +156,10 @@ impl Run {
             &mut self.given,
             system,
             limit,
-            key,
-            event,
+            least,
         )?;
+        put_next(&mut self.agenda, taken.raised, least)?;
         deliver(&mut self.agenda, &mut self.given.mail, system)?;
-        Ok(stop)
+        Ok(taken.stop)
     }
 }

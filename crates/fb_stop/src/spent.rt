@@ -1,6 +1,6 @@
 //! How the steps of one tick were used, up to the stop of a simulation.
 
-ghost use Rattle.std.specs.Prelude.{◌≡◌, ◌^◌, ◌<◌, ◌≤◌, ◌==◌, ◌&&◌, ℕ, IfOk, IfSome, IsTrue, None, OnOk, Some, length, replicate, slice_get};
+ghost use Rattle.std.specs.Prelude.{◌≡◌, ◌^◌, ◌<◌, ◌≤◌, ◌==◌, ◌&&◌, IfOk, IfSome, IsTrue, None, OnOk, Some, length, replicate, slice_get};
 ghost use Rattle.fb_types.specs.Headline.{stimuli_of};
 ghost use Rattle.fb_types.specs.Keys.{without};
 ghost use Rattle.fb_types.specs.States.{State};
@@ -15,15 +15,15 @@ ghost use Rattle.fb_sim.specs.Machines.{IsAt, IsReady};
 ghost use Rattle.fb_sim.specs.Runs.{IsSpent};
 ghost use Rattle.fb_stop.specs.Runs.{machine_of};
 ghost use Rattle.fb_stop.specs.Spent.{AreSpent, Charges, HasSpent, IsMost, is_of};
-ghost use Rattle.fb_stop.specs.OfSystem.{ChargesEvent};
+ghost use Rattle.fb_stop.specs.OfSystem.{ArrivesAt, ChargesEvent};
 
-use crate::found::instance_of;
+use crate::found::{EventSite, instance_of};
 use crate::replay::site_of;
 use crate::run::Run;
 use fb_agenda::Least;
 use fb_resource::TickCounts;
 use fb_system::System;
-use fb_types::{Event, Key, Reason};
+use fb_types::{Key, Reason};
 use std::alloc::{AllocError, Global};
 
 /// A tick of a resource.
@@ -68,17 +68,16 @@ fn is_there(key: &Key, moment: Moment) -> bool
 }
 
 /// Adds the steps of an event to those of the instance at which it arrives.
-fn charge_event(spent: &mut Vec<u64>, system: &System, event: &Event, used: u64)
-    requires event { (resource : ℕ) × IsEventIn system.now resource event.now }
+fn charge_event(spent: &mut Vec<u64>, system: &System, at: EventSite, used: u64)
+    requires arrives { (e : model.Event) × ArrivesAt system.now e at }
     requires counted { length spent.old.items ≡ instance_count system.now }
-    ensures { ChargesEvent system.now (event_of system.now event.now) used spent.old.items spent.new.items }
+    ensures { (e : model.Event) → ArrivesAt system.now e at → ChargesEvent system.now e used spent.old.items spent.new.items }
 {
     system.facts();
-    let at = site_of(system, event);
     charge(spent, instance_of(at), used);
 }
 
-/// Takes an event that was on the agenda, and has left it, and adds its steps up if it is one of the tick and the resource.
+/// Takes the event in the slot, which has left the agenda, and adds its steps up if it is one of the tick and the resource.
 /// `Some` is the reason for which the resource stops.
 ///
 /// # Errors
@@ -89,29 +88,30 @@ fn step(
     moment: Moment,
     system: &System,
     limit: u64,
-    key: &Key,
-    event: &Event,
+    least: &mut Least,
 ) -> Result<Option<Reason>, AllocError>
-    requires ready { IsReady system.now limit key.now.tick (machine_of run.old) }
-    requires represents { (s : State) × (a : model.Agenda) × IsAt system.now s (without key.now a) (machine_of run.old) }
-    requires event { IsEventIn system.now key.now.resource event.now }
-    requires own { IsKeyOf key.now event.now }
-    requires typed { IsTypedEvent system.now (event_of system.now event.now) }
-    requires named { IsResource system.now key.now.resource }
-    requires early { key.now.tick ≤ 10 ^ 12 }
+    requires ready { IsReady system.now limit least.old.key.tick (machine_of run.old) }
+    requires represents { (s : State) × (a : model.Agenda) × IsAt system.now s (without least.old.key a) (machine_of run.old) }
+    requires event { IsEventIn system.now least.old.key.resource least.old.event }
+    requires own { IsKeyOf least.old.key least.old.event }
+    requires typed { IsTypedEvent system.now (event_of system.now least.old.event) }
+    requires named { IsResource system.now least.old.key.resource }
+    requires early { least.old.key.tick ≤ 10 ^ 12 }
     requires few { limit ≤ 10 ^ 7 }
     requires counted { length spent.old.items ≡ instance_count system.now }
-    ensures spent { IfOk result (λ stop. (s : State) (a : model.Agenda) → IsAt system.now s (without key.now a) (machine_of run.old)
-        → HasSpent system.now limit moment s a key.now (event_of system.now event.now) stop (machine_of run.new) spent.old.items spent.new.items) }
-    ensures ready { OnOk result (IsReady system.now limit key.now.tick (machine_of run.new)) }
-    ensures less { IfOk result (λ stop. stop ≡ None → IsSpent limit key.now run.old.meters.items run.new.meters.items) }
+    ensures spent { IfOk result (λ stop. (s : State) (a : model.Agenda) → IsAt system.now s (without least.old.key a) (machine_of run.old)
+        → HasSpent system.now limit moment s a least.old.key (event_of system.now least.old.event) stop (machine_of run.new) spent.old.items spent.new.items) }
+    ensures ready { OnOk result (IsReady system.now limit least.old.key.tick (machine_of run.new)) }
+    ensures less { IfOk result (λ stop. stop ≡ None → IsSpent limit least.old.key run.old.meters.items run.new.meters.items) }
 {
     run.clear_lines();
-    let before = left_in(run, limit, key);
-    let stop = run.take(system, limit, key, event)?;
-    let after = left_in(run, limit, key);
-    if is_there(key, moment) {
-        charge_event(spent, system, event, before.saturating_sub(after));
+    let key = least.key;
+    let at = site_of(system, &least.event);
+    let before = left_in(run, limit, &key);
+    let stop = run.take(system, limit, least)?;
+    let after = left_in(run, limit, &key);
+    if is_there(&key, moment) {
+        charge_event(spent, system, at, before.saturating_sub(after));
     }
     Ok(stop)
 }
@@ -138,7 +138,7 @@ fn go_on(
 {
     let mut least = Least::new();
     while run.agenda.take_least_into(horizon, &mut least) {
-        let stop = step(run, spent, moment, system, limit, &least.key, &least.event)?;
+        let stop = step(run, spent, moment, system, limit, &mut least)?;
         if let Some(_) = stop {
             return Ok(true);
         }

@@ -6,6 +6,7 @@ ghost use Rattle.fb_resource.specs.Takings.{IsEmpty};
 ghost use Rattle.fb_resource.specs.declared.resource.WindowDone.TheVariants.{Ran};
 
 use crate::given::Given;
+use crate::next::{find_next, put_next};
 use crate::one_taking::take;
 use crate::resource::{Output, Resource, WindowDone};
 use crate::tick_counts::TickCounts;
@@ -39,9 +40,10 @@ impl Resource {
         system.facts();
         let mut counts = TickCounts::new();
         let mut least = Least::new();
-        while self.agenda.take_least_into(to, &mut least) {
+        let mut found = self.agenda.take_least_into(to, &mut least);
+        'events: while found {
             self.clock = least.key.tick;
-            self.stopped = take(
+            let taken = take(
                 &mut self.tree,
                 &mut counts,
                 &mut self.agenda,
@@ -49,16 +51,18 @@ impl Resource {
                 given,
                 system,
                 steps,
-                &least.key,
-                &least.event,
+                &mut least,
             )?;
+            self.stopped = taken.stop;
             if let Some(reason) = self.stopped {
+                put_next(&mut self.agenda, taken.raised, &least)?;
                 return Ok(Some(StopMark {
                     tick: least.key.tick,
                     resource: least.key.resource,
                     reason,
                 }));
             }
+            found = find_next(&mut self.agenda, to, taken.raised, &mut least)?;
         }
         self.clock = to;
         Ok(None)

@@ -1,6 +1,7 @@
 //! The state of a run of all resources, and taking one event after another.
 
 ghost use Rattle.std.specs.Prelude.{◌≡◌, ◌^◌, ◌≤◌, ℕ, [], All, IfOk, IfSome, None, OnOk};
+ghost use Rattle.std.specs.Bool.{OnTrue};
 ghost use Rattle.fb_types.specs.Headline.{Inputs};
 ghost use Rattle.fb_types.specs.Keys.{without};
 ghost use Rattle.fb_types.specs.States.{Config, State};
@@ -9,8 +10,9 @@ ghost use Rattle.fb_types.specs.OfSystem.{IsResource};
 ghost use Rattle.fb_laws.specs.OfSystem.{IsTypedEvent};
 ghost use Rattle.fb_system.specs.OfSystem.{BelongsTo};
 ghost use Rattle.fb_net.specs.Events.{IsEventIn, IsKeyOf, event_of};
+ghost use Rattle.fb_resource.specs.Takings.{IsRaised};
 ghost use Rattle.fb_sim.specs.Completions.{Completes};
-ghost use Rattle.fb_sim.specs.Machines.{IsAt, IsReady, IsTaken};
+ghost use Rattle.fb_sim.specs.Machines.{IsAt, IsReady, IsTaken, with_raised};
 ghost use Rattle.fb_sim.specs.Pauses.{IsSooner, Pauses};
 ghost use Rattle.fb_sim.specs.Runs.{IsSpent};
 
@@ -18,9 +20,9 @@ use crate::one_agenda::deliver::deliver;
 use crate::one_agenda::pause::Pause;
 use fb_agenda::{Agenda, Least};
 use fb_net::Tree;
-use fb_resource::{Given, TickCounts, take};
+use fb_resource::{Given, Taken, TickCounts, find_next, put_next, take};
 use fb_system::System;
-use fb_types::{Event, Key, Line, Reason, StopMark};
+use fb_types::{Line, StopMark};
 use std::alloc::AllocError;
 
 /// The one agenda of all resources, with the counts of their messages and what takings give, and the blocks and the counts
@@ -47,30 +49,27 @@ impl Drop for Machine {
 }
 
 impl Machine {
-    /// Takes an event that was on the agenda, and has left it, and delivers the messages that it gave. `Some` is the
-    /// reason why the resource stops.
-    fn take(
-        &mut self,
-        system: &System,
-        limit: u64,
-        key: &Key,
-        event: &Event,
-    ) -> Result<Option<Reason>, AllocError>
-        requires ready { IsReady system.now limit key.now.tick self.old }
+    /// Takes the event in the slot, which has left the agenda, and delivers the messages that it gave. A local event that was put
+    /// out alone moves into the slot.
+    #[inline(always)]
+    fn take(&mut self, system: &System, limit: u64, least: &mut Least) -> Result<Taken, AllocError>
+        requires ready { IsReady system.now limit least.old.key.tick self.old }
         requires represents { (s : State) × (a : model.Agenda) × IsAt system.now s a self.old }
-        requires event { IsEventIn system.now key.now.resource event.now }
-        requires own { IsKeyOf key.now event.now }
-        requires typed { IsTypedEvent system.now (event_of system.now event.now) }
-        requires named { IsResource system.now key.now.resource }
-        requires early { key.now.tick ≤ 10 ^ 12 }
+        requires event { IsEventIn system.now least.old.key.resource least.old.event }
+        requires own { IsKeyOf least.old.key least.old.event }
+        requires typed { IsTypedEvent system.now (event_of system.now least.old.event) }
+        requires named { IsResource system.now least.old.key.resource }
+        requires early { least.old.key.tick ≤ 10 ^ 12 }
         requires few { limit ≤ 10 ^ 7 }
-        ensures taken { IfOk result (λ stop. (s : State) (a : model.Agenda) → IsAt system.now s (without key.now a) self.old
-            → IsTaken system.now limit s a key.now (event_of system.now event.now) stop self.old self.new) }
-        ensures ready { OnOk result (IsReady system.now limit key.now.tick self.new) }
-        ensures spent { IfOk result (λ stop. stop ≡ None → IsSpent limit key.now self.old.meters.items self.new.meters.items) }
+        ensures taken { IfOk result (λ t. (s : State) (a : model.Agenda) → IsAt system.now s (without least.old.key a) self.old
+            → IsTaken system.now limit s a least.old.key (event_of system.now least.old.event) t.stop self.old (with_raised t.raised least.new.key least.new.event self.new)) }
+        ensures ready { IfOk result (λ t. IsReady system.now limit least.old.key.tick (with_raised t.raised least.new.key least.new.event self.new)) }
+        ensures raised { IfOk result (λ t. OnTrue t.raised (IsRaised least.new.key least.new.event)) }
+        ensures moment { OnOk result ((least.new.key.tick ≡ least.old.key.tick) × (least.new.key.resource ≡ least.old.key.resource)) }
+        ensures spent { IfOk result (λ t. t.stop ≡ None → IsSpent limit least.old.key self.old.meters.items self.new.meters.items) }
     {
-        let resource = key.resource as usize;
-        let stop = take(
+        let resource = least.key.resource as usize;
+        let taken = take(
             &mut self.trees[resource],
             &mut self.meters[resource],
             &mut self.agenda,
@@ -78,11 +77,14 @@ impl Machine {
             &mut self.given,
             system,
             limit,
-            key,
-            event,
+            least,
         )?;
+        // Where a local event was put out alone, there is no message.
+        if taken.raised {
+            return Ok(taken);
+        }
         deliver(&mut self.agenda, &mut self.given.mail, system)?;
-        Ok(stop)
+        Ok(taken)
     }
 
     /// Takes events below the horizon, least key first, until there are `many` lines, or up to the first stop. It takes at
@@ -106,8 +108,11 @@ impl Machine {
         ensures sooner { IfOk result (IsSooner horizon limit self.old self.new) }
     {
         let mut least = Least::new();
-        while self.agenda.take_least_into(horizon, &mut least) {
-            if let Some(reason) = self.take(system, limit, &least.key, &least.event)? {
+        let mut found = self.agenda.take_least_into(horizon, &mut least);
+        'events: while found {
+            let taken = self.take(system, limit, &mut least)?;
+            if let Some(reason) = taken.stop {
+                put_next(&mut self.agenda, taken.raised, &least)?;
                 return Ok(Pause::Stop(StopMark {
                     tick: least.key.tick,
                     resource: least.key.resource,
@@ -115,8 +120,10 @@ impl Machine {
                 }));
             }
             if self.given.outbox.lines.len() >= many {
+                put_next(&mut self.agenda, taken.raised, &least)?;
                 return Ok(Pause::Lines);
             }
+            found = find_next(&mut self.agenda, horizon, taken.raised, &mut least)?;
         }
         Ok(Pause::Horizon)
     }

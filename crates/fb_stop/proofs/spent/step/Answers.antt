@@ -9,19 +9,25 @@ use Rattle.fb_stop.proofs.Spending.{has_spent, left_as}
 use Rattle.fb_stop.proofs.spent.step.Goals as goal
 
 pub take-requires-clause-ready : goal.take-requires-clause-ready
-take-requires-clause-ready c = c.clear_lines.ensures.ready c.args.system.now c.args.limit c.args.key.now.tick c.requires.ready
+take-requires-clause-ready c = c.clear_lines.ensures.ready c.args.system.now c.args.limit c.args.least.now.key.tick c.requires.ready
 
 pub take-requires-clause-represents : goal.take-requires-clause-represents
 take-requires-clause-represents c =
     let r = c.requires.represents in
-    (r.0, without c.args.key.now r.1, c.clear_lines.ensures.at c.args.system.now r.0 (without c.args.key.now r.1) r.2)
+    (r.0, without c.args.least.now.key r.1, c.clear_lines.ensures.at c.args.system.now r.0 (without c.args.least.now.key r.1) r.2)
+
+pub site_of-at-requires : goal.site_of-at-requires
+site_of-at-requires c = (c.args.least.now.key.resource, c.requires.event)
+
+pub charge_event-requires-clause-arrives : goal.charge_event-requires-clause-arrives
+charge_event-requires-clause-arrives c = (event_of c.args.system.now c.args.least.now.event, c.site_of-at.ensures)
 
 pub returns-then-is_there-clause-spent : goal.returns-then-is_there-clause-spent
 returns-then-is_there-clause-spent c s a at =
     let i = c.args.system.now in
-    let k = c.args.key.now in
+    let k = c.args.least.now.key in
     let limit = c.args.limit in
-    let e = event_of i c.args.event.now in
+    let e = event_of i c.args.least.now.event in
     let old = machine_of c.clear_lines.new.self in
     let new = machine_of c.take.new.self in
     let cleared = c.clear_lines.ensures.at i s (without k a) at in
@@ -31,14 +37,14 @@ returns-then-is_there-clause-spent c s a at =
     (left_as i s (without k a) limit k old c.left_in-before.result ready cleared c.requires.named c.left_in-before.ensures)
     (left_as i t.effect.state (agenda_after k a t.effect) limit k new c.left_in-after.result c.in_ok-stop.ensures.ready t.at c.requires.named c.left_in-after.ensures)
     true (sym c.is_there.ensures ∙ c.if-is_there.true)
-    (subst (λ (n : ℕ). ChargesEvent (system_of i) e n c.args.spent.now.items c.charge_event.new.spent.items) c.saturating_sub.ensures c.charge_event.ensures)
+    (subst (λ (n : ℕ). ChargesEvent (system_of i) e n c.args.spent.now.items c.charge_event.new.spent.items) c.saturating_sub.ensures (c.charge_event.ensures e c.site_of-at.ensures))
 
 pub returns-else-is_there-clause-spent : goal.returns-else-is_there-clause-spent
 returns-else-is_there-clause-spent c s a at =
     let i = c.args.system.now in
-    let k = c.args.key.now in
+    let k = c.args.least.now.key in
     let limit = c.args.limit in
-    let e = event_of i c.args.event.now in
+    let e = event_of i c.args.least.now.event in
     let old = machine_of c.clear_lines.new.self in
     let new = machine_of c.take.new.self in
     let cleared = c.clear_lines.ensures.at i s (without k a) at in

@@ -1,24 +1,34 @@
-use Rattle.std.proofs.Common.{◌<◌, ◌≤◌, refl, sym, ap, ◌∙◌, arith}
+use Rattle.std.proofs.Common.{◌<◌, ◌≤◌, Bool, refl, sym, ap, subst, ◌∙◌, arith}
 use Rattle.std.specs.Prelude.{unwrap_or}
 use Rattle.fb_laws.proofs.Accepting.{sound_of}
+use Rattle.fb_net.specs.Events.{event_of}
+use Rattle.fb_resource.proofs.Finding.{finds_taken}
 use Rattle.fb_resource.proofs.Fuel.{fuel_falls}
 use Rattle.fb_resource.proofs.Leaving.{ready_left}
+use Rattle.fb_resource.proofs.Lone.{due_next, ready_alike, taken_alike}
 use Rattle.fb_resource.proofs.Meters.{metered_fresh, past_fresh, unused_below, unused_fresh}
 use Rattle.fb_resource.specs.Counts.{meter_of}
 use Rattle.fb_resource.specs.Resources.{mark_of}
 use Rattle.fb_resource.specs.Runs.{Running, in_run}
+use Rattle.fb_resource.specs.Takings.{Finds, queues_of, with_next}
 use Rattle.fb_resource.proofs.Running.{comes_first, comes_more, has_run, here_at, marked, ran_rest, ran_stop, running_first, running_more, running_rest}
 use Rattle.fb_resource.proofs.Standing.{HasLeft}
 use Rattle.fb_resource.proofs.resource.Resource.take_all.Goals as goal
 
-pub loop-counts-init : goal.loop-counts-init
-loop-counts-init c =
+-- The first event was looked for on the agenda of the beginning.
+pub events-init : goal.events-init
+events-init c =
     let i = c.args.system.now in
     let x = c.args.self.now in
     let counts = c.new-counts.result in
     let begins = c.new-counts.ensures in
     let empty = c.requires.empty in
+    let is = c.take_least_into-found.ensures in
+    let slot = c.take_least_into-found.new.index in
     record {
+      was = x.agenda;
+      finds = finds_taken c.args.to x.agenda c.take_least_into-found.new.self c.take_least_into-found.result slot.key slot.event is.found is.below is.least is.left is.none is.kept;
+      due = is.due;
       running = running_first i c.args.steps x counts c.args.given.now empty c.requires.of (metered_fresh c.args.steps counts begins) (past_fresh x.clock counts begins);
       ahead = c.requires.ahead;
       live = c.requires.live;
@@ -27,55 +37,99 @@ loop-counts-init c =
       comes = λ l represents. comes_first i c.args.steps x counts c.args.given.now empty c.args.to l c.requires.live (unused_fresh x.clock counts begins) represents;
     }
 
+-- ---- The event in the slot
+
 pub take-requires-clause-tree : goal.take-requires-clause-tree
-take-requires-clause-tree c = sym (c.loop-counts.invariant.running.home c.take_least_into.new.index.key c.take_least_into.new.index.event c.loop-counts-test.ensures.found)
+take-requires-clause-tree c =
+    let i = c.args.system.now in
+    let inv = c.events.invariant in
+    let k = c.events.least.key in
+    let e = c.events.least.event in
+    let finds = subst (λ (b : Bool). Finds c.args.to inv.was b k e c.events.self.agenda) c.events-test.true inv.finds in
+    let may = inv.running.ready.order.waits k e finds.found in
+    sym (inv.running.home k e finds.found)
 
 pub take-requires-clause-queues : goal.take-requires-clause-queues
 take-requires-clause-queues c =
-    let x = in_run c.loop-counts.self c.loop-counts.counts c.loop-counts.given in
-    let found = c.loop-counts-test.ensures in
-    ready_left c.args.system.now x.clock c.take_least_into.new.index.key x.queues _ c.loop-counts.invariant.running.ready found.left found.least found.due
+    let i = c.args.system.now in
+    let inv = c.events.invariant in
+    let k = c.events.least.key in
+    let e = c.events.least.event in
+    let finds = subst (λ (b : Bool). Finds c.args.to inv.was b k e c.events.self.agenda) c.events-test.true inv.finds in
+    let may = inv.running.ready.order.waits k e finds.found in
+    let old = in_run (record c.events.self { agenda = inv.was }) c.events.counts c.events.given in
+    ready_left i c.events.self.clock k old.queues c.events.self.agenda inv.running.ready finds.left finds.least inv.due
 
 pub take-requires-clause-represents : goal.take-requires-clause-represents
 take-requires-clause-represents c =
-    let x = in_run c.loop-counts.self c.loop-counts.counts c.loop-counts.given in
-    let k = c.take_least_into.new.index.key in
-    let e = c.take_least_into.new.index.event in
-    let inv = c.loop-counts.invariant in
+    let i = c.args.system.now in
+    let inv = c.events.invariant in
+    let k = c.events.least.key in
+    let e = c.events.least.event in
+    let finds = subst (λ (b : Bool). Finds c.args.to inv.was b k e c.events.self.agenda) c.events-test.true inv.finds in
+    let may = inv.running.ready.order.waits k e finds.found in
+    let old = in_run (record c.events.self { agenda = inv.was }) c.events.counts c.events.given in
     let first = c.requires.of.represents c.args.steps in
     let s = (inv.comes first.0 first.1).represents in
-    let found = c.loop-counts-test.ensures.found in
-    (s.state, here_at c.args.system.now s.state k x (inv.running.home k e found) (inv.running.ready.order.waits k e found).later s.here)
+    (s.state, here_at i s.state k old (inv.running.home k e finds.found) may.later s.here)
 
 pub take-requires-clause-event : goal.take-requires-clause-event
-take-requires-clause-event c = (c.loop-counts.invariant.running.ready.order.waits c.take_least_into.new.index.key c.take_least_into.new.index.event c.loop-counts-test.ensures.found).event
+take-requires-clause-event c =
+    let i = c.args.system.now in
+    let inv = c.events.invariant in
+    let k = c.events.least.key in
+    let e = c.events.least.event in
+    let finds = subst (λ (b : Bool). Finds c.args.to inv.was b k e c.events.self.agenda) c.events-test.true inv.finds in
+    let may = inv.running.ready.order.waits k e finds.found in
+    may.event
 
 pub take-requires-clause-own : goal.take-requires-clause-own
-take-requires-clause-own c = (c.loop-counts.invariant.running.ready.order.waits c.take_least_into.new.index.key c.take_least_into.new.index.event c.loop-counts-test.ensures.found).own
+take-requires-clause-own c =
+    let i = c.args.system.now in
+    let inv = c.events.invariant in
+    let k = c.events.least.key in
+    let e = c.events.least.event in
+    let finds = subst (λ (b : Bool). Finds c.args.to inv.was b k e c.events.self.agenda) c.events-test.true inv.finds in
+    let may = inv.running.ready.order.waits k e finds.found in
+    may.own
 
 pub take-requires-clause-typed : goal.take-requires-clause-typed
-take-requires-clause-typed c = (c.loop-counts.invariant.running.ready.order.waits c.take_least_into.new.index.key c.take_least_into.new.index.event c.loop-counts-test.ensures.found).typed
+take-requires-clause-typed c =
+    let i = c.args.system.now in
+    let inv = c.events.invariant in
+    let k = c.events.least.key in
+    let e = c.events.least.event in
+    let finds = subst (λ (b : Bool). Finds c.args.to inv.was b k e c.events.self.agenda) c.events-test.true inv.finds in
+    let may = inv.running.ready.order.waits k e finds.found in
+    may.typed
 
 pub take-requires-clause-named : goal.take-requires-clause-named
-take-requires-clause-named c = (c.loop-counts.invariant.running.ready.order.waits c.take_least_into.new.index.key c.take_least_into.new.index.event c.loop-counts-test.ensures.found).resource
+take-requires-clause-named c =
+    let i = c.args.system.now in
+    let inv = c.events.invariant in
+    let k = c.events.least.key in
+    let e = c.events.least.event in
+    let finds = subst (λ (b : Bool). Finds c.args.to inv.was b k e c.events.self.agenda) c.events-test.true inv.finds in
+    let may = inv.running.ready.order.waits k e finds.found in
+    may.resource
 
--- ---- An event was taken
+-- ---- It stops
 
 pub returns-in-Some : goal.returns-in-Some
 returns-in-Some c =
     let i = c.args.system.now in
-    let k = c.take_least_into.new.index.key in
-    let e = c.take_least_into.new.index.event in
-    let found = c.loop-counts-test.ensures in
-    let inv = c.loop-counts.invariant in
-    let old = in_run c.loop-counts.self c.loop-counts.counts c.loop-counts.given in
-    let a = c.take_least_into.new.self in
-    let gave = c.in_ok-self.ensures in
-    let may = inv.running.ready.order.waits k e found.found in
-    let mine = inv.running.home k e found.found in
+    let inv = c.events.invariant in
+    let k = c.events.least.key in
+    let e = c.events.least.event in
+    let finds = subst (λ (b : Bool). Finds c.args.to inv.was b k e c.events.self.agenda) c.events-test.true inv.finds in
+    let may = inv.running.ready.order.waits k e finds.found in
+    let old = in_run (record c.events.self { agenda = inv.was }) c.events.counts c.events.given in
+    let a = c.events.self.agenda in
+    let gave = c.in_ok-taken.ensures in
+    let taken = c.in_ok-taken.taken in
+    let mine = inv.running.home k e finds.found in
     let sound = sound_of i (record { accepted = c.facts.ensures.accepted; limits = c.facts.ensures.limits }) in
-    let gone : HasLeft k e old.queues.agenda a = record { found = found.found; least = found.least; left = found.left } in
-    let new : Running = in_run (record { tree = c.take.new.tree; clock = k.tick; agenda = c.take.new.agenda; sent = c.take.new.sent; stopped = c.in_ok-self.field-0 }) c.take.new.counts c.take.new.given in
+    let gone : HasLeft k e old.queues.agenda a = record { found = finds.found; least = finds.least; left = finds.left } in
     let now : k.tick ≤ k.tick = omega arith in
     let first = c.requires.of.represents c.args.steps in
     let s = (inv.comes first.0 first.1).represents in
@@ -84,41 +138,71 @@ returns-in-Some c =
     let past = inv.running.past in
     let later = may.later in
     let within : unwrap_or c.take.new.counts.tick 0 ≤ k.tick = omega (arith, tick, past, later) in
+    let apart = c.take.new in
+    let new : Running = in_run (record { tree = apart.tree; clock = k.tick; agenda = c.put_next.new.agenda; sent = apart.sent; stopped = taken.stop }) apart.counts apart.given in
+    let z = apart.least in
+    let mid = with_next taken.raised z.key z.event apart.agenda in
+    let put = c.in_ok-put_next.ensures.put in
+    let went = queues_of a c.events.self.sent c.events.given in
+    let ready = ready_alike i k.tick mid c.put_next.new.agenda apart.sent apart.given put (c.put_next.ensures.due ∙ sym (due_next taken.raised z.key z.event apart.agenda)) gave.queues in
     has_run i c.args.steps c.args.self.now new c.args.to _ c.requires.of
-    (running_more i c.args.steps old new k e a sound gave.tree mine inv.live may.event.here gone inv.running s.state t gave.counts within gave.queues)
+    (running_more i c.args.steps old new k e a sound gave.tree mine inv.live may.event.here gone inv.running s.state
+    (taken_alike i c.args.steps s.state k (event_of i e) taken.stop k.tick apart.tree apart.counts went mid c.put_next.new.agenda apart.sent apart.given put t) gave.counts within ready)
     (gave.tree ∙ inv.tree)
     (λ l represents.
     let comes = inv.comes l represents in
     let m = comes.represents in
     let its = gave.taken m.state k.tick now (here_at i m.state k old mine may.later m.here) m.counts in
-    ran_stop i c.args.steps old new k e a sound gave.tree mine inv.live may.event.here gone c.args.self.now.tree.resource c.args.to l comes inv.tree found.below its c.in-Some.reason c.in-Some.is refl)
-    (marked k c.take.new.tree.resource c.in_ok-self.field-0 c.in-Some.reason (mine ∙ sym gave.tree) c.in-Some.is)
+    ran_stop i c.args.steps old new k e a sound gave.tree mine inv.live may.event.here gone c.args.self.now.tree.resource c.args.to l comes inv.tree finds.below
+    (taken_alike i c.args.steps m.state k (event_of i e) taken.stop k.tick apart.tree apart.counts went mid c.put_next.new.agenda apart.sent apart.given put its) c.in-Some.reason c.in-Some.is refl)
+    (marked z.key apart.tree.resource taken.stop c.in-Some.reason (gave.moment.1 ∙ mine ∙ sym gave.tree) c.in-Some.is ∙ ap (λ t. mark_of apart.tree.resource t taken.stop) gave.moment.0)
 
-pub loop-counts-smaller : goal.loop-counts-smaller
-loop-counts-smaller c =
-    let k = c.take_least_into.new.index.key in
-    let found = c.loop-counts-test.ensures in
-    let running = c.loop-counts.invariant.running in
-    let spent = c.in_ok-self.ensures.spent c.in_default.is in
-    let past = running.past in
-    let later = (running.ready.order.waits k c.take_least_into.new.index.event found.found).later in
-    fuel_falls c.args.to c.args.steps k.tick c.loop-counts.counts c.take.new.counts spent.0 spent.1 (omega (arith, past, later)) found.below
+-- ---- One event more
 
-pub loop-counts-preserved : goal.loop-counts-preserved
-loop-counts-preserved c =
+pub put_next-requires : goal.put_next-requires
+put_next-requires c = c.in_ok-taken.ensures.raised
+
+pub find_next-requires-clause-early : goal.find_next-requires-clause-early
+find_next-requires-clause-early c =
     let i = c.args.system.now in
-    let k = c.take_least_into.new.index.key in
-    let e = c.take_least_into.new.index.event in
-    let found = c.loop-counts-test.ensures in
-    let inv = c.loop-counts.invariant in
-    let old = in_run c.loop-counts.self c.loop-counts.counts c.loop-counts.given in
-    let a = c.take_least_into.new.self in
-    let gave = c.in_ok-self.ensures in
-    let may = inv.running.ready.order.waits k e found.found in
-    let mine = inv.running.home k e found.found in
+    let inv = c.events.invariant in
+    let k = c.events.least.key in
+    let e = c.events.least.event in
+    let finds = subst (λ (b : Bool). Finds c.args.to inv.was b k e c.events.self.agenda) c.events-test.true inv.finds in
+    let may = inv.running.ready.order.waits k e finds.found in
+    subst (λ t. t < c.args.to) (sym c.in_ok-taken.ensures.moment.0) finds.below
+
+pub find_next-requires-clause-raised : goal.find_next-requires-clause-raised
+find_next-requires-clause-raised c = c.in_ok-taken.ensures.raised
+
+pub events-smaller : goal.events-smaller
+events-smaller c =
+    let i = c.args.system.now in
+    let inv = c.events.invariant in
+    let k = c.events.least.key in
+    let e = c.events.least.event in
+    let finds = subst (λ (b : Bool). Finds c.args.to inv.was b k e c.events.self.agenda) c.events-test.true inv.finds in
+    let may = inv.running.ready.order.waits k e finds.found in
+    let spent = c.in_ok-taken.ensures.spent c.in_default.is in
+    let past = inv.running.past in
+    let later = may.later in
+    fuel_falls c.args.to c.args.steps k.tick c.events.counts c.take.new.counts spent.0 spent.1 (omega (arith, past, later)) finds.below
+
+pub events-preserved : goal.events-preserved
+events-preserved c =
+    let i = c.args.system.now in
+    let inv = c.events.invariant in
+    let k = c.events.least.key in
+    let e = c.events.least.event in
+    let finds = subst (λ (b : Bool). Finds c.args.to inv.was b k e c.events.self.agenda) c.events-test.true inv.finds in
+    let may = inv.running.ready.order.waits k e finds.found in
+    let old = in_run (record c.events.self { agenda = inv.was }) c.events.counts c.events.given in
+    let a = c.events.self.agenda in
+    let gave = c.in_ok-taken.ensures in
+    let taken = c.in_ok-taken.taken in
+    let mine = inv.running.home k e finds.found in
     let sound = sound_of i (record { accepted = c.facts.ensures.accepted; limits = c.facts.ensures.limits }) in
-    let gone : HasLeft k e old.queues.agenda a = record { found = found.found; least = found.least; left = found.left } in
-    let new : Running = in_run (record { tree = c.take.new.tree; clock = k.tick; agenda = c.take.new.agenda; sent = c.take.new.sent; stopped = c.in_ok-self.field-0 }) c.take.new.counts c.take.new.given in
+    let gone : HasLeft k e old.queues.agenda a = record { found = finds.found; least = finds.least; left = finds.left } in
     let now : k.tick ≤ k.tick = omega arith in
     let first = c.requires.of.represents c.args.steps in
     let s = (inv.comes first.0 first.1).represents in
@@ -127,20 +211,27 @@ loop-counts-preserved c =
     let past = inv.running.past in
     let later = may.later in
     let within : unwrap_or c.take.new.counts.tick 0 ≤ k.tick = omega (arith, tick, past, later) in
-    let below : k.tick < c.args.to = found.below in
+    let apart = c.take.new in
+    let z = apart.least in
+    let mid = with_next taken.raised z.key z.event apart.agenda in
+    let new : Running = in_run (record { tree = apart.tree; clock = k.tick; agenda = mid; sent = apart.sent; stopped = taken.stop }) apart.counts apart.given in
+    let below : k.tick < c.args.to = finds.below in
     let ahead : k.tick ≤ c.args.to = omega (arith, below) in
     let going = c.in_default.is in
     record {
+      was = mid;
+      finds = c.in_ok-found.ensures.finds;
+      due = c.in_ok-found.ensures.due ∙ sym (due_next taken.raised z.key z.event apart.agenda);
       running = running_more i c.args.steps old new k e a sound gave.tree mine inv.live may.event.here gone inv.running s.state t gave.counts within gave.queues;
       ahead = ahead;
       live = going;
       tree = gave.tree ∙ inv.tree;
-      unused = unused_below c.args.to k.tick (meter_of c.take.new.counts) (gave.spent going).0 below;
+      unused = unused_below c.args.to k.tick (meter_of apart.counts) (gave.spent going).0 below;
       comes = λ l represents.
           let comes = inv.comes l represents in
           let m = comes.represents in
           let its = gave.taken m.state k.tick now (here_at i m.state k old mine may.later m.here) m.counts in
-          comes_more i c.args.steps old new k e a sound gave.tree mine inv.live may.event.here gone c.args.self.now.tree.resource c.args.to l comes inv.tree found.below its going;
+          comes_more i c.args.steps old new k e a sound gave.tree mine inv.live may.event.here gone c.args.self.now.tree.resource c.args.to l comes inv.tree finds.below its going;
     }
 
 -- ---- Nothing is left below the tick
@@ -148,13 +239,13 @@ loop-counts-preserved c =
 pub returns : goal.returns
 returns c =
     let i = c.args.system.now in
-    let inv = c.loop-counts.invariant in
-    let rest = c.loop-counts-test.ensures in
-    let old = in_run c.loop-counts.self c.loop-counts.counts c.loop-counts.given in
-    let a = c.take_least_into.new.self in
+    let inv = c.events.invariant in
+    let old = in_run (record c.events.self { agenda = inv.was }) c.events.counts c.events.given in
+    let a = c.events.self.agenda in
+    let rest = subst (λ (b : Bool). Finds c.args.to inv.was b c.events.least.key c.events.least.event a) c.events-test.false inv.finds in
     let new : Running = record old { clock = c.args.to; queues = record old.queues { agenda = a } } in
     has_run i c.args.steps c.args.self.now new c.args.to _ c.requires.of
-    (running_rest i c.args.steps old a c.args.to rest.kept rest.none inv.ahead inv.running)
+    (running_rest i c.args.steps old a c.args.to rest.kept inv.due rest.none inv.ahead inv.running)
     inv.tree
-    (λ l represents. ran_rest i c.args.steps old a c.args.to rest.kept rest.none inv.ahead c.args.self.now.tree.resource l (inv.comes l represents) inv.tree inv.unused)
-    (sym (ap (mark_of c.loop-counts.self.tree.resource c.args.to) inv.live))
+    (λ l represents. ran_rest i c.args.steps old a c.args.to rest.kept inv.due rest.none inv.ahead c.args.self.now.tree.resource l (inv.comes l represents) inv.tree inv.unused)
+    (sym (ap (mark_of c.events.self.tree.resource c.args.to) inv.live))

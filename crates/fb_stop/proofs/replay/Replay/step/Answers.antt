@@ -11,40 +11,40 @@ use Rattle.fb_stop.proofs.Stepping.{copies_after, has_stepped, is_site, left_is,
 use Rattle.fb_stop.proofs.replay.Replay.step.Goals as goal
 
 pub site_of-at-requires : goal.site_of-at-requires
-site_of-at-requires c = (c.args.key.now.resource, c.requires.event)
+site_of-at-requires c = (c.args.least.now.key.resource, c.requires.event)
 
 pub steps_left-left-requires : goal.steps_left-left-requires
 steps_left-left-requires c =
-    let ready = c.clear_lines.ensures.ready c.args.system.now c.args.limit c.args.key.now.tick c.requires.ready in
+    let ready = c.clear_lines.ensures.ready c.args.system.now c.args.limit c.args.least.now.key.tick c.requires.ready in
     let meters = c.clear_lines.new.self.meters.items in
     let counted = ready.meters_counted in
     let named = c.requires.named in
-    let r = c.args.key.now.resource in
+    let r = c.args.least.now.key.resource in
     let within : r < length meters = omega (arith, counted, named) in
     let meter = c.index.result.now in
     ready.meters r meter (slice_get_read meters (length meters) r meter refl within c.index.ensures)
 
 pub take-requires-clause-ready : goal.take-requires-clause-ready
-take-requires-clause-ready c = c.clear_lines.ensures.ready c.args.system.now c.args.limit c.args.key.now.tick c.requires.ready
+take-requires-clause-ready c = c.clear_lines.ensures.ready c.args.system.now c.args.limit c.args.least.now.key.tick c.requires.ready
 
 pub take-requires-clause-represents : goal.take-requires-clause-represents
 take-requires-clause-represents c =
     let r = c.requires.represents in
-    (r.0, without c.args.key.now r.1, c.clear_lines.ensures.at c.args.system.now r.0 (without c.args.key.now r.1) r.2)
+    (r.0, without c.args.least.now.key r.1, c.clear_lines.ensures.at c.args.system.now r.0 (without c.args.least.now.key r.1) r.2)
 
 pub follow_at-requires-clause-copies : goal.follow_at-requires-clause-copies
 follow_at-requires-clause-copies c = (c.requires.represents.0, c.requires.represents.3)
 
 pub follow_at-requires-clause-arrives : goal.follow_at-requires-clause-arrives
-follow_at-requires-clause-arrives c = (event_of c.args.system.now c.args.event.now, c.site_of-at.ensures)
+follow_at-requires-clause-arrives c = (event_of c.args.system.now c.args.least.now.event, c.site_of-at.ensures)
 
 pub returns-in_default-clause-steps : goal.returns-in_default-clause-steps
 returns-in_default-clause-steps c s a at copies =
     let i = c.args.system.now in
     let sys = system_of i in
-    let k = c.args.key.now in
+    let k = c.args.least.now.key in
     let r = k.resource in
-    let e = event_of i c.args.event.now in
+    let e = event_of i c.args.least.now.event in
     let run = c.clear_lines.new.self in
     let ready = c.clear_lines.ensures.ready i c.args.limit k.tick c.requires.ready in
     let meters_counted = ready.meters_counted in
@@ -72,9 +72,9 @@ site_at-requires c =
     let a = represents.1 in
     let i = c.args.system.now in
     let sys = system_of i in
-    let k = c.args.key.now in
+    let k = c.args.least.now.key in
     let r = k.resource in
-    let e = event_of i c.args.event.now in
+    let e = event_of i c.args.least.now.event in
     let run = c.clear_lines.new.self in
     let ready = c.clear_lines.ensures.ready i c.args.limit k.tick c.requires.ready in
     let meters_counted = ready.meters_counted in
@@ -98,9 +98,9 @@ pub returns-clause-steps : goal.returns-clause-steps
 returns-clause-steps c s a at copies =
     let i = c.args.system.now in
     let sys = system_of i in
-    let k = c.args.key.now in
+    let k = c.args.least.now.key in
     let r = k.resource in
-    let e = event_of i c.args.event.now in
+    let e = event_of i c.args.least.now.event in
     let run = c.clear_lines.new.self in
     let ready = c.clear_lines.ensures.ready i c.args.limit k.tick c.requires.ready in
     let meters_counted = ready.meters_counted in

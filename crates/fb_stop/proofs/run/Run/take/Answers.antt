@@ -4,7 +4,8 @@ use Rattle.std.proofs.lemmas.Option.{slice_get_read}
 use Rattle.fb_types.specs.declared.run.Message.{Message}
 use Rattle.fb_net.specs.Events.{event_of}
 use Rattle.fb_resource.specs.Posts.{IsMessage}
-use Rattle.fb_resource.specs.Takings.{queues_of}
+use Rattle.fb_resource.specs.Takings.{queues_of, with_next}
+use Rattle.fb_resource.proofs.Lone.{due_next, ready_alike, taken_alike}
 use Rattle.fb_resource.proofs.Meters.{here_later}
 use Rattle.fb_sim.proofs.ReadyIs.{ready_after}
 use Rattle.fb_sim.proofs.TakenIs.{taken_at}
@@ -16,7 +17,7 @@ take-requires-clause-tree c =
     let trees = c.args.self.now.trees.items in
     let counted = c.requires.ready.trees_counted in
     let named = c.requires.named in
-    let r = c.args.key.now.resource in
+    let r = c.args.least.now.key.resource in
     let within : r < length trees = omega (arith, counted, named) in
     let tree = c.index_mut.result.now in
     c.requires.ready.trees r tree (slice_get_read trees (length trees) r tree refl within c.index_mut.ensures.value)
@@ -26,7 +27,7 @@ take-requires-clause-counts c =
     let meters = c.args.self.now.meters.items in
     let counted = c.requires.ready.meters_counted in
     let named = c.requires.named in
-    let r = c.args.key.now.resource in
+    let r = c.args.least.now.key.resource in
     let within : r < length meters = omega (arith, counted, named) in
     let meter = c.index_mut-2.result.now in
     c.requires.ready.meters r meter (slice_get_read meters (length meters) r meter refl within c.index_mut-2.ensures.value)
@@ -38,7 +39,7 @@ take-requires-clause-represents c =
     let trees_counted = c.requires.ready.trees_counted in
     let meters_counted = c.requires.ready.meters_counted in
     let named = c.requires.named in
-    let r = c.args.key.now.resource in
+    let r = c.args.least.now.key.resource in
     let has_tree : r < length trees = omega (arith, trees_counted, named) in
     let has_meter : r < length meters = omega (arith, meters_counted, named) in
     let tree = c.index_mut.result.now in
@@ -46,12 +47,15 @@ take-requires-clause-represents c =
     let represents = c.requires.represents in
     let here =
     represents.2.here r tree meter (slice_get_read trees (length trees) r tree refl has_tree c.index_mut.ensures.value) (slice_get_read meters (length meters) r meter refl has_meter c.index_mut-2.ensures.value) in
-    (represents.0, here_later c.args.system.now represents.0 r 0 c.args.key.now.tick tree meter (omega arith) here)
+    (represents.0, here_later c.args.system.now represents.0 r 0 c.args.least.now.key.tick tree meter (omega arith) here)
+
+pub put_next-requires : goal.put_next-requires
+put_next-requires c = c.in_ok-taken.ensures.raised
 
 pub returns-clause-taken : goal.returns-clause-taken
 returns-clause-taken c s a at =
     let i = c.args.system.now in
-    let k = c.args.key.now in
+    let k = c.args.least.now.key in
     let r = k.resource in
     let ready = c.requires.ready in
     let named = c.requires.named in
@@ -65,14 +69,22 @@ returns-clause-taken c s a at =
     let meter = c.index_mut-2.result.now in
     let was = slice_get_read trees (length trees) r tree refl has_tree c.index_mut.ensures.value in
     let had = slice_get_read meters (length meters) r meter refl has_meter c.index_mut-2.ensures.value in
-    taken_at i c.args.limit s a k (event_of i c.args.event.now) _ (machine_of c.args.self.now) _ (queues_of c.take.new.agenda c.take.new.sent c.take.new.given) c.take.new.tree c.take.new.counts
+    let e = event_of i c.args.least.now.event in
+    let old = c.args.self.now in
+    let new = c.take.new in
+    let raised = c.in_ok-taken.taken.raised in
+    let z = new.least in
+    let here = c.in_ok-taken.ensures.taken s 0 (omega arith) (at.here r tree meter was had) at.sent in
+    let taken = taken_alike i c.args.limit s k e c.in_ok-taken.taken.stop 0 new.tree new.counts (queues_of old.agenda old.sent old.given) (with_next raised z.key z.event new.agenda) c.put_next.new.agenda new.sent new.given
+    c.in_ok-put_next.ensures.put here in
+    taken_at i c.args.limit s a k e _ (machine_of old) _ (queues_of c.put_next.new.agenda new.sent new.given) new.tree new.counts
     ready.trees has_tree has_meter c.requires.event.here at ready.delivered
-    (c.in_ok-stop.ensures.taken s 0 (omega arith) (at.here r tree meter was had) at.sent) c.in_ok-deliver.ensures.put refl refl refl refl
+    taken c.in_ok-deliver.ensures.put refl refl refl refl
 
 pub returns-clause-ready : goal.returns-clause-ready
 returns-clause-ready c =
     let i = c.args.system.now in
-    let k = c.args.key.now in
+    let k = c.args.least.now.key in
     let r = k.resource in
     let ready = c.requires.ready in
     let named = c.requires.named in
@@ -86,19 +98,24 @@ returns-clause-ready c =
     let meter = c.index_mut-2.result.now in
     let was = slice_get_read trees (length trees) r tree refl has_tree c.index_mut.ensures.value in
     let had = slice_get_read meters (length meters) r meter refl has_meter c.index_mut-2.ensures.value in
-    let taken = c.in_ok-stop.ensures in
+    let new = c.take.new in
+    let raised = c.in_ok-taken.taken.raised in
+    let z = new.least in
+    let taken = c.in_ok-taken.ensures in
     let put = c.in_ok-deliver.ensures in
     let Later = λ (m : Message). k.tick < m.arrives in
     let later = taken.later (subst (All Later) (sym ready.delivered) (All-nil Later)) in
-    ready_after i c.args.limit k (machine_of c.args.self.now) _ c.take.new.tree meter c.take.new.counts ready has_tree has_meter had taken.counts taken.tick (c.take.ensures.tree ∙ ready.trees r tree was) refl refl
+    let queues = ready_alike i k.tick (with_next raised z.key z.event new.agenda) c.put_next.new.agenda new.sent new.given c.in_ok-put_next.ensures.put
+    (c.put_next.ensures.due ∙ sym (due_next raised z.key z.event new.agenda)) taken.queues in
+    ready_after i c.args.limit k (machine_of c.args.self.now) _ new.tree meter new.counts ready has_tree has_meter had taken.counts taken.tick (c.take.ensures.tree ∙ ready.trees r tree was) refl refl
     (record {
-      order = put.order k.tick taken.queues.order later;
-      due = ap length put.due ∙ taken.queues.due;
-      counted = taken.queues.counted;
+      order = put.order k.tick queues.order later;
+      due = ap length put.due ∙ queues.due;
+      counted = queues.counted;
       mail = subst (All (IsMessage i)) (sym put.none) (All-nil (IsMessage i));
-      lines = taken.queues.lines;
-      none = taken.queues.none;
-      keeps = taken.queues.keeps;
+      lines = queues.lines;
+      none = queues.none;
+      keeps = queues.keeps;
     })
     put.none
 
@@ -107,10 +124,10 @@ returns-clause-spent c going =
     let meters = c.args.self.now.meters.items in
     let counted = c.requires.ready.meters_counted in
     let named = c.requires.named in
-    let r = c.args.key.now.resource in
+    let r = c.args.least.now.key.resource in
     let within : r < length meters = omega (arith, counted, named) in
     let meter = c.index_mut-2.result.now in
-    let spent = c.in_ok-stop.ensures.spent going in
+    let spent = c.in_ok-taken.ensures.spent going in
     record {
       before = meter;
       was = slice_get_read meters (length meters) r meter refl within c.index_mut-2.ensures.value;

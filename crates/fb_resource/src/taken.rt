@@ -1,0 +1,13 @@
+//! What becomes of an event that is taken.
+
+use fb_types::Reason;
+
+/// What became of an event that was taken.
+#[derive(Clone, Copy)]
+pub struct Taken {
+    /// Why its resource stops, if it does.
+    pub stop: Option<Reason>,
+    /// Whether the slot has the local event that was put out, which is on no agenda. That is so if nothing else was put out and
+    /// nothing is asked of the timer. All else is posted.
+    pub raised: bool,
+}
