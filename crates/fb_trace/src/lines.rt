@@ -285,8 +285,8 @@ pub fn write_lines<W: Write>(
     Ok(())
 }
 
-/// Writes the text of the lines of parts, one part after another, as `write_lines` does. All parts have one page: so many
-/// small parts take not much longer than one list of their lines.
+/// Writes the text of the lines of parts, one part after another, as `write_lines` does. All parts use one page, so
+/// thousands of small parts take about as long as one list of their lines.
 ///
 /// # Errors
 /// Those of `write_lines`.
