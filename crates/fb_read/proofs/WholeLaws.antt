@@ -13,11 +13,13 @@ use Rattle.fb_read.specs.Blocks.{library}
 use Rattle.fb_read.specs.BlocksGrammar.{IsLibrary}
 use Rattle.fb_read.specs.Fits.{fits_library}
 use Rattle.fb_read.specs.Whole.{most_bytes, IsDerived, IsLibraryText, IsNesting, HasTokenFault, HasTokens, RefusesWhere, IsMemory, IsGrammarFault, ended, DeclaresOne}
+use Rattle.fb_read.specs.declared.read.Unread.{Unread}
+use Rattle.fb_read.specs.declared.read.Unread.TheVariants as unread
 use Rattle.fb_read.specs.declared.refused.ReadFault.{ReadFault}
 use Rattle.fb_read.specs.declared.refused.ReadFault.TheVariants as fault
 use Rattle.fb_read.specs.declared.refused.TextFault.{TextFault}
 use Rattle.fb_read.specs.declared.refused.TextFault.TheVariants as text_fault
-use Rattle.fb_read.specs.Refusals.{IsFaultAt, IsRefused, IsErrorAt, IsErrorOf, too_long}
+use Rattle.fb_read.specs.Refusals.{IsFaultAt, IsUnread, IsErrorAt, IsErrorFor, too_long}
 use Rattle.fb_read.proofs.TokenLaws.{first-located, front_empty, tokens-located}
 use Rattle.fb_read.proofs.BlocksSound.{library-sound}
 use Rattle.fb_read.proofs.BlocksComplete.{library-complete}
@@ -181,9 +183,10 @@ module _ (text : Text) where
   none-at text_fault.TooLong begin end h = λ x l. let long = h.long in read-short text x l long
   none-at text_fault.Nesting begin end h = nothing-parsed text (tokens_of h.placed) too_deep (tokens-located h.located) h.refused
 
-  pub is-none : (o : ReadFault) (e : ReadError) → IsRefused text o → IsErrorOf text o e → ¬ IsMemory e → Nothing text
-  is-none fault.Memory e h w n = absurd (n (subst IsMemory (sym w) tt))
-  is-none (fault.Refused r) e h w n = none-at r.fault r.start r.end h
+  pub is-none : (o : Unread) (e : ReadError) → IsUnread text o → IsErrorFor text o e → ¬ IsMemory e → Nothing text
+  is-none (unread.Fault fault.Memory) e h w n = absurd (n (subst IsMemory (sym w) tt))
+  is-none (unread.Fault (fault.Refused r)) e h w n = none-at r.fault r.start r.end h
+  is-none (unread.Nesting left) e h w n = nothing-parsed text (tokens_of h.0) too_deep (tokens-located h.1.located) h.1.refused
 
   nesting-at : (why : TextFault) (begin end : ℕ) (e : ReadError) → IsFaultAt why text begin end → IsErrorAt why text begin e → (x : Library) → IsDerived text x → IsNesting e
   nesting-at text_fault.Byte begin end e h w x l = absurd (barren-faulty text bad_byte (first-located h.first) x l)
@@ -195,9 +198,10 @@ module _ (text : Text) where
   nesting-at text_fault.TooLong begin end e h w x l = absurd (let long = h.long in let short = l.short in omega arith)
   nesting-at text_fault.Nesting begin end e h w x l = subst IsNesting (sym w) tt
 
-  pub is-nesting : (o : ReadFault) (e : ReadError) → IsRefused text o → IsErrorOf text o e → ¬ IsMemory e → (x : Library) → IsDerived text x → IsNesting e
-  is-nesting fault.Memory e h w n = absurd (n (subst IsMemory (sym w) tt))
-  is-nesting (fault.Refused r) e h w n = nesting-at r.fault r.start r.end e h w
+  pub is-nesting : (o : Unread) (e : ReadError) → IsUnread text o → IsErrorFor text o e → ¬ IsMemory e → (x : Library) → IsDerived text x → IsNesting e
+  is-nesting (unread.Fault fault.Memory) e h w n = absurd (n (subst IsMemory (sym w) tt))
+  is-nesting (unread.Fault (fault.Refused r)) e h w n = nesting-at r.fault r.start r.end e h w
+  is-nesting (unread.Nesting left) e h w n = λ x l. subst IsNesting (sym w) tt
 
   grammar-at : (why : TextFault) (begin end : ℕ) (e : ReadError) → IsFaultAt why text begin end → IsErrorAt why text begin e → IsGrammarFault e → HasTokens text
   grammar-at text_fault.Byte begin end e h w g = absurd (subst IsGrammarFault w g)
@@ -206,9 +210,10 @@ module _ (text : Text) where
   grammar-at text_fault.TooLong begin end e h w g = absurd (subst IsGrammarFault w g)
   grammar-at text_fault.Nesting begin end e h w g = record { short = h.short; tokens = tokens_of h.placed; read = tokens-located h.located }
 
-  pub is-grammar : (o : ReadFault) (e : ReadError) → IsRefused text o → IsErrorOf text o e → IsGrammarFault e → HasTokens text
-  is-grammar fault.Memory e h w g = absurd (subst IsGrammarFault w g)
-  is-grammar (fault.Refused r) e h w g = grammar-at r.fault r.start r.end e h w g
+  pub is-grammar : (o : Unread) (e : ReadError) → IsUnread text o → IsErrorFor text o e → IsGrammarFault e → HasTokens text
+  is-grammar (unread.Fault fault.Memory) e h w g = absurd (subst IsGrammarFault w g)
+  is-grammar (unread.Fault (fault.Refused r)) e h w g = grammar-at r.fault r.start r.end e h w g
+  is-grammar (unread.Nesting left) e h w g = record { short = h.1.short; tokens = tokens_of h.0; read = tokens-located h.1.located }
 
   -- ---- a fault of a byte or of a token
 
@@ -253,9 +258,10 @@ module _ (text : Text) where
   byte-at text_fault.TooLong begin end e h w = subst AtByte (sym w) (other error.TooLong error.Byte _ (λ g. cc) (too-much bad_byte h.long))
   byte-at text_fault.Nesting begin end e h w = subst AtByte (sym w) (other error.Nesting error.Byte _ (λ g. cc) (with-tokens (tokens_of h.placed) bad_byte (tokens-located h.located)))
 
-  pub is-byte : (o : ReadFault) (e : ReadError) → IsRefused text o → IsErrorOf text o e → AtByte e
-  is-byte fault.Memory e h w = subst AtByte (sym w) (memory error.Byte _ (λ g. cc))
-  is-byte (fault.Refused r) e h w = byte-at r.fault r.start r.end e h w
+  pub is-byte : (o : Unread) (e : ReadError) → IsUnread text o → IsErrorFor text o e → AtByte e
+  is-byte (unread.Fault fault.Memory) e h w = subst AtByte (sym w) (memory error.Byte _ (λ g. cc))
+  is-byte (unread.Fault (fault.Refused r)) e h w = byte-at r.fault r.start r.end e h w
+  is-byte (unread.Nesting left) e h w = subst AtByte (sym w) (other error.Nesting error.Byte _ (λ g. cc) (with-tokens (tokens_of h.0) bad_byte (tokens-located h.1.located)))
 
   token-at : (why : TextFault) (begin end : ℕ) (e : ReadError) → IsFaultAt why text begin end → IsErrorAt why text begin e → AtToken e
   token-at text_fault.Byte begin end e h w = subst AtToken (sym w) (other error.Byte error.Token _ (λ g. cc) (λ k. absurd (apart (fault-unique (first-located h.first) k.first))))
@@ -267,9 +273,10 @@ module _ (text : Text) where
   token-at text_fault.TooLong begin end e h w = subst AtToken (sym w) (other error.TooLong error.Token _ (λ g. cc) (too-much bad_token h.long))
   token-at text_fault.Nesting begin end e h w = subst AtToken (sym w) (other error.Nesting error.Token _ (λ g. cc) (with-tokens (tokens_of h.placed) bad_token (tokens-located h.located)))
 
-  pub is-token : (o : ReadFault) (e : ReadError) → IsRefused text o → IsErrorOf text o e → AtToken e
-  is-token fault.Memory e h w = subst AtToken (sym w) (memory error.Token _ (λ g. cc))
-  is-token (fault.Refused r) e h w = token-at r.fault r.start r.end e h w
+  pub is-token : (o : Unread) (e : ReadError) → IsUnread text o → IsErrorFor text o e → AtToken e
+  is-token (unread.Fault fault.Memory) e h w = subst AtToken (sym w) (memory error.Token _ (λ g. cc))
+  is-token (unread.Fault (fault.Refused r)) e h w = token-at r.fault r.start r.end e h w
+  is-token (unread.Nesting left) e h w = subst AtToken (sym w) (other error.Nesting error.Token _ (λ g. cc) (with-tokens (tokens_of h.0) bad_token (tokens-located h.1.located)))
 
   -- ---- a text that is too long
 
@@ -280,6 +287,7 @@ module _ (text : Text) where
   long-at text_fault.TooLong begin end e h w = (λ g. h.long, λ long. ap Failed w)
   long-at text_fault.Nesting begin end e h w = (λ g. absurd cc, λ long. absurd (let short = h.short in omega arith))
 
-  pub is-too-long : (o : ReadFault) (e : ReadError) → IsRefused text o → IsErrorOf text o e → (most_bytes < length text → o ≡ too_long) → (Failed e ≡ Failed error.TooLong) ↔ (most_bytes < length text)
-  is-too-long fault.Memory e h w long = (λ g. absurd cc, λ l. absurd (let g = long l in cc))
-  is-too-long (fault.Refused r) e h w long = long-at r.fault r.start r.end e h w
+  pub is-too-long : (o : Unread) (e : ReadError) → IsUnread text o → IsErrorFor text o e → (most_bytes < length text → o ≡ unread.Fault too_long) → (Failed e ≡ Failed error.TooLong) ↔ (most_bytes < length text)
+  is-too-long (unread.Fault fault.Memory) e h w long = (λ g. absurd cc, λ l. absurd (let g = long l in cc))
+  is-too-long (unread.Fault (fault.Refused r)) e h w long = long-at r.fault r.start r.end e h w
+  is-too-long (unread.Nesting left) e h w long = (λ g. absurd cc, λ l. absurd (let short = h.1.short in omega arith))

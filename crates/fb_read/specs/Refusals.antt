@@ -7,6 +7,8 @@ use Rattle.fb_read.specs.declared.error.ReadError.TheVariants as error
 use Rattle.fb_read.specs.declared.expected.Expected.{Expected}
 use Rattle.fb_read.specs.declared.refused.ReadFault.{ReadFault}
 use Rattle.fb_read.specs.declared.refused.ReadFault.TheVariants as fault
+use Rattle.fb_read.specs.declared.read.Unread.{Unread}
+use Rattle.fb_read.specs.declared.read.Unread.TheVariants as unread
 use Rattle.fb_read.specs.declared.refused.Refusal.{Refusal}
 use Rattle.fb_read.specs.declared.refused.TextFault.{TextFault}
 use Rattle.fb_read.specs.declared.refused.TextFault.TheVariants as text_fault
@@ -100,6 +102,22 @@ abbrev pub IsRefused : Text → ReadFault → Type 0
 IsRefused text fault.Memory = Unit {0}
 IsRefused text (fault.Refused r) = IsFaultAt r.fault text r.start r.end
 
+-- These are the tokens of the text, and form no library because something nests too deep. Where is not said.
+pub record AreTooDeep (text : Text) (placed : List Located) : Type 0 where
+  pub short : length text ≤ most_bytes
+  pub located : AreLocated text placed (after_mark text)
+  pub refused : IsTooDeep placed
+
+-- the text, which has these tokens, is refused for this
+abbrev pub IsUnreadOf : Text → List Located → Unread → Type 0
+IsUnreadOf text placed (unread.Fault e) = IsRefused text e
+IsUnreadOf text placed (unread.Nesting left) = AreTooDeep text placed
+
+-- the text is refused for this
+abbrev pub IsUnread : Text → Unread → Type 0
+IsUnread text (unread.Fault e) = IsRefused text e
+IsUnread text (unread.Nesting left) = (placed : List Located) × AreTooDeep text placed
+
 -- no kind of tokens
 abbrev pub nothing : Expected
 nothing = record { kinds = 0 }
@@ -148,6 +166,11 @@ IsErrorAt text_fault.Nesting text begin e = e ≡ error.Nesting
 abbrev pub IsErrorOf : Text → ReadFault → ReadError → Type 0
 IsErrorOf text fault.Memory e = e ≡ error.Memory
 IsErrorOf text (fault.Refused r) e = IsErrorAt r.fault text r.start e
+
+-- the refusal, which needs no place
+abbrev pub IsErrorFor : Text → Unread → ReadError → Type 0
+IsErrorFor text (unread.Fault f) e = IsErrorOf text f e
+IsErrorFor text (unread.Nesting left) e = e ≡ error.Nesting
 
 -- the first byte past the greatest length
 abbrev pub too_long : ReadFault

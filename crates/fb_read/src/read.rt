@@ -4,8 +4,9 @@ ghost use Rattle.std.specs.Prelude.{◌≡◌, ◌+◌, ◌-◌, ◌≤◌, ◌<
 ghost use Rattle.fb_types.specs.declared.library.Library.{Library};
 ghost use Rattle.fb_read.specs.Front.{bad_byte, bad_token};
 ghost use Rattle.fb_read.specs.Tokens.{after_mark};
+ghost use Rattle.fb_read.specs.declared.read.Unread.TheVariants.{Fault};
 ghost use Rattle.fb_read.specs.Located.{AreLocated, IsLocatedEnd};
-ghost use Rattle.fb_read.specs.Refusals.{IsAtNext, IsDeepLen, IsErrorAt, IsErrorOf, IsFaultAt, IsFirstDeep, IsNext, IsRefused, IsSameFault, IsTokenLen, IsTooDeep, too_long};
+ghost use Rattle.fb_read.specs.Refusals.{IsAtNext, IsDeepLen, IsErrorAt, IsErrorFor, IsErrorOf, IsFaultAt, IsFirstDeep, IsNext, IsRefused, IsSameFault, IsTokenLen, IsTooDeep, IsUnread, IsUnreadOf, too_long};
 ghost use Rattle.fb_read.specs.Whole.{IsDerived, IsLibraryText, IsNesting, HasTokenFault, HasTokens, RefusesWhere, IsMemory, IsGrammarFault, most_bytes};
 
 use crate::cursor::Cursor;
@@ -19,6 +20,14 @@ use crate::token::{Located, Span};
 use crate::tokens::lex;
 use fb_types::{Items, Library, MOST_BYTES};
 use std::alloc::{AllocError, Global};
+
+/// Why a text is not read. Where it nests too deep isn't searched yet: only the place needs that.
+#[derive(Clone, Copy)]
+enum Unread {
+    Fault(ReadFault),
+    /// Something nests too deep: a rule refuses it with this number of tokens left.
+    Nesting(usize),
+}
 
 /// The length of the token at the front of a text. The token is dropped here, so that no caller has to drop it.
 fn token_len(alloc: Global, z: &[u8]) -> Result<usize, LexFault>
@@ -168,12 +177,12 @@ fn refused_nesting(alloc: Global, text: &[u8], tokens: &[Located], left: usize) 
 }
 
 /// The library that all of the tokens form.
-fn parse(alloc: Global, text: &[u8], tokens: &[Located]) -> Result<Library, ReadFault>
+fn parse(alloc: Global, text: &[u8], tokens: &[Located]) -> Result<Library, Unread>
     requires short { length text.now ≤ most_bytes }
     requires few { length tokens.now ≤ most_bytes }
     requires located { AreLocated text.now tokens.now (after_mark text.now) }
     ensures declared { IfOk result (λ library. IsLibraryText text.now library) }
-    ensures refused { IfErr result (λ e. IsRefused text.now e) }
+    ensures refused { IfErr result (λ e. IsUnreadOf text.now tokens.now e) }
 {
     let mut cursor = Cursor::new(alloc, tokens);
     match Library::read(&mut cursor) {
@@ -183,18 +192,32 @@ fn parse(alloc: Global, text: &[u8], tokens: &[Located]) -> Result<Library, Read
                 Ok(library)
             } else {
                 drop(library);
-                Err(refused_before(alloc, text, tokens, left, TextFault::Syntax))
+                let fault = refused_before(alloc, text, tokens, left, TextFault::Syntax);
+                Err(Unread::Fault(fault))
             }
         }
-        Err(ParseFault::Memory) => Err(ReadFault::Memory),
+        Err(ParseFault::Memory) => Err(Unread::Fault(ReadFault::Memory)),
         Err(ParseFault::Syntax) => {
             let left = cursor.left();
-            Err(refused_before(alloc, text, tokens, left, TextFault::Syntax))
+            let fault = refused_before(alloc, text, tokens, left, TextFault::Syntax);
+            Err(Unread::Fault(fault))
         }
-        Err(ParseFault::Nesting) => {
-            let left = cursor.left();
-            Err(refused_nesting(alloc, text, tokens, left))
-        }
+        Err(ParseFault::Nesting) => Err(Unread::Nesting(cursor.left())),
+    }
+}
+
+/// The library that all of the tokens form, or where they are refused.
+fn parse_located(alloc: Global, text: &[u8], tokens: &[Located]) -> Result<Library, ReadFault>
+    requires short { length text.now ≤ most_bytes }
+    requires few { length tokens.now ≤ most_bytes }
+    requires located { AreLocated text.now tokens.now (after_mark text.now) }
+    ensures declared { IfOk result (λ library. IsLibraryText text.now library) }
+    ensures refused { IfErr result (λ e. IsRefused text.now e) }
+{
+    match parse(alloc, text, tokens) {
+        Ok(found) => Ok(found),
+        Err(Unread::Fault(fault)) => Err(fault),
+        Err(Unread::Nesting(left)) => Err(refused_nesting(alloc, text, tokens, left)),
     }
 }
 
@@ -263,21 +286,24 @@ pub fn read_located(alloc: Global, text: &[u8]) -> Result<Library, ReadFault>
     ensures too_long { most_bytes < length text.now → result ≡ Err too_long }
 {
     let tokens = tokens_in(alloc, text)?;
-    match parse(alloc, text, tokens.as_slice()) {
+    match parse_located(alloc, text, tokens.as_slice()) {
         Ok(found) => Ok(found),
         Err(ReadFault::Memory) => Err(ReadFault::Memory),
         Err(ReadFault::Refused(refusal)) => Err(with_expected(alloc, tokens, refusal)),
     }
 }
 
-/// Reads the library that a declaration text declares. What was expected in place of a syntax fault is not searched.
-fn read_placed(alloc: Global, text: &[u8]) -> Result<Library, ReadFault>
+/// Reads the library that a declaration text declares. Neither what was expected in place of a syntax fault nor the place of
+/// a nesting is searched.
+fn read_unplaced(alloc: Global, text: &[u8]) -> Result<Library, Unread>
     ensures declared { IfOk result (λ library. IsLibraryText text.now library) }
-    ensures refused { IfErr result (λ e. IsRefused text.now e) }
-    ensures too_long { most_bytes < length text.now → result ≡ Err too_long }
+    ensures refused { IfErr result (λ e. IsUnread text.now e) }
+    ensures too_long { most_bytes < length text.now → result ≡ Err (Fault too_long) }
 {
-    let tokens = tokens_in(alloc, text)?;
-    parse(alloc, text, tokens.as_slice())
+    match tokens_in(alloc, text) {
+        Ok(tokens) => parse(alloc, text, tokens.as_slice()),
+        Err(fault) => Err(Unread::Fault(fault)),
+    }
 }
 
 /// The line of an offset, counted from 1 by line feeds.
@@ -320,6 +346,17 @@ fn error_of(text: &[u8], fault: ReadFault) -> ReadError
     }
 }
 
+/// The refusal, which needs no place.
+fn error_for(text: &[u8], unread: Unread) -> ReadError
+    requires { IsUnread text.now unread }
+    ensures { IsErrorFor text.now unread result }
+{
+    match unread {
+        Unread::Fault(fault) => error_of(text, fault),
+        Unread::Nesting(_) => ReadError::Nesting,
+    }
+}
+
 /// Reads the library that a declaration text declares.
 ///
 /// # Errors
@@ -338,8 +375,8 @@ pub fn read_library(alloc: Global, text: &[u8]) -> Result<Library, ReadError>
     ensures token { RefusesWhere result ReadError.Token (HasTokenFault bad_token text.now) }
     ensures grammar { IfErr result (λ e. IsGrammarFault e → HasTokens text.now) }
 {
-    match read_placed(alloc, text) {
+    match read_unplaced(alloc, text) {
         Ok(library) => Ok(library),
-        Err(fault) => Err(error_of(text, fault)),
+        Err(unread) => Err(error_for(text, unread)),
     }
 }

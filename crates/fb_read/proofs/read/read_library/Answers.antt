@@ -13,20 +13,20 @@ pub returns-in-Ok-clause-too_long : goal.returns-in-Ok-clause-too_long
 returns-in-Ok-clause-too_long c = (λ e. absurd cc, λ long. absurd (read-short c.args.text.now c.in-Ok.library c.in-Ok.ensures.declared long))
 
 pub returns-in-Err-clause-none : goal.returns-in-Err-clause-none
-returns-in-Err-clause-none c = is-none c.args.text.now c.in-Err.fault c.error_of.result c.in-Err.ensures.refused c.error_of.ensures
+returns-in-Err-clause-none c = is-none c.args.text.now c.in-Err.unread c.error_for.result c.in-Err.ensures.refused c.error_for.ensures
 
 pub returns-in-Err-clause-nesting : goal.returns-in-Err-clause-nesting
-returns-in-Err-clause-nesting c = is-nesting c.args.text.now c.in-Err.fault c.error_of.result c.in-Err.ensures.refused c.error_of.ensures
+returns-in-Err-clause-nesting c = is-nesting c.args.text.now c.in-Err.unread c.error_for.result c.in-Err.ensures.refused c.error_for.ensures
 
 pub returns-in-Err-clause-grammar : goal.returns-in-Err-clause-grammar
-returns-in-Err-clause-grammar c = is-grammar c.args.text.now c.in-Err.fault c.error_of.result c.in-Err.ensures.refused c.error_of.ensures
+returns-in-Err-clause-grammar c = is-grammar c.args.text.now c.in-Err.unread c.error_for.result c.in-Err.ensures.refused c.error_for.ensures
 
 pub returns-in-Err-clause-byte : goal.returns-in-Err-clause-byte
-returns-in-Err-clause-byte c = is-byte c.args.text.now c.in-Err.fault c.error_of.result c.in-Err.ensures.refused c.error_of.ensures
+returns-in-Err-clause-byte c = is-byte c.args.text.now c.in-Err.unread c.error_for.result c.in-Err.ensures.refused c.error_for.ensures
 
 pub returns-in-Err-clause-token : goal.returns-in-Err-clause-token
-returns-in-Err-clause-token c = is-token c.args.text.now c.in-Err.fault c.error_of.result c.in-Err.ensures.refused c.error_of.ensures
+returns-in-Err-clause-token c = is-token c.args.text.now c.in-Err.unread c.error_for.result c.in-Err.ensures.refused c.error_for.ensures
 
 pub returns-in-Err-clause-too_long : goal.returns-in-Err-clause-too_long
 returns-in-Err-clause-too_long c =
-    is-too-long c.args.text.now c.in-Err.fault c.error_of.result c.in-Err.ensures.refused c.error_of.ensures (λ long. let e = c.in-Err.ensures.too_long long in cc)
+    is-too-long c.args.text.now c.in-Err.unread c.error_for.result c.in-Err.ensures.refused c.error_for.ensures (λ long. let e = c.in-Err.ensures.too_long long in cc)
