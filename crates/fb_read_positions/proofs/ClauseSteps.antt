@@ -89,7 +89,7 @@ none_of_clauses ts depth e = go (begins_clauses ts) (begins_another ts) (ends_cl
 -- ---- One token
 
 module _ (ps : List Located) (i : ℕ) (x : Located) (within : i < length ps) (is : x ≡ get_or ps i x) where
-  next_is : tokens_of (drop i ps) ≡ x.token ∷ tokens_of (drop (i + 1) ps)
+  pub next_is : tokens_of (drop i ps) ≡ x.token ∷ tokens_of (drop (i + 1) ps)
   next_is = at_drop_more tokens_of ps i x within ∙ ap (λ (y : Located). y.token ∷ tokens_of (drop (i + 1) ps)) (sym is)
 
   pub clause_here : (depth : ℕ) → begins_clause (x.token ∷ []) depth ≡ true → to_clause (tokens_of (drop i ps)) depth 0 ≡ Ok (tt, tokens_of (drop i ps))

@@ -185,11 +185,6 @@ unfolding to_name
 none_named [] n e = refl
 none_named (t ∷ ts) n e = absurd (let no : suc (length ts) ≡ 0 = e in cc)
 
-pub none_stated : (ts : Tokens) (ready : Bool) (n : ℕ) → length ts ≡ 0 → to_statement ts ready n ≡ Err (syntax ts)
-unfolding to_statement
-none_stated [] ready n e = refl
-none_stated (t ∷ ts) ready n e = absurd (let no : suc (length ts) ≡ 0 = e in cc)
-
 pub fewer : (ts : Tokens) (k : ℕ) → length ts ≡ suc k → length (rest_of ts) ≡ k
 fewer [] k e = absurd (let no : 0 ≡ suc k = e in cc)
 fewer (t ∷ ts) k e = let is : suc (length ts) ≡ suc k = e in cc

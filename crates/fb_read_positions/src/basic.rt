@@ -160,37 +160,6 @@ pub fn to_body(cursor: &mut Cursor<'_>) -> Result<(), ParseFault>
     cursor.expect(Mark::Colon)
 }
 
-/// Whether a statement may begin after the next token.
-fn opens(cursor: &Cursor<'_>) -> bool
-    ensures { result ≡ spec.opens cursor.now }
-{
-    cursor.sees(Mark::Semicolon)
-        || cursor.sees(Mark::Then)
-        || cursor.sees(Mark::Else)
-        || cursor.sees(Mark::Do)
-        || cursor.sees(Mark::Repeat)
-        || cursor.sees(Mark::Colon)
-}
-
-/// Reads up to the statement at this index among those that begin in what follows, at whose front one may begin.
-pub fn to_statement(cursor: &mut Cursor<'_>, index: usize) -> Result<(), ParseFault>
-    ensures { Reads (spec.to_statement cursor.old true index) result cursor.new }
-{
-    let mut ready = true;
-    let mut before = index;
-    for _turn in 0..cursor.left() {
-        if ready && cursor.begins_statement() {
-            if before == 0 {
-                return Ok(());
-            }
-            before -= 1;
-        }
-        ready = opens(cursor);
-        cursor.take();
-    }
-    Err(ParseFault::Syntax)
-}
-
 /// Reads up to a part of a basic type, from the beginning of the item to which it belongs.
 pub fn to_basic_part(cursor: &mut Cursor<'_>, part: BasicPart) -> Result<(), ParseFault>
     ensures { Reads (spec.to_basic_part part cursor.old) result cursor.new }

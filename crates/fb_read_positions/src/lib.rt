@@ -8,11 +8,12 @@
 //! later occurrence. `lookup::BlockTypes` has the ports of the type that a name represents. The words of `headings`, and what
 //! `source_line` shows, are not part of any contract.
 //!
-//! Read in this order: `position`; `lists`, the item to which a position belongs; `skip`, `network`, `ports`, `basic`, `clauses`
-//! and `walk`, what is read up to it; `resume`, from one position of a list to the next; `names`, the names that a library has at positions; `find`; `text_locations` and `place`,
-//! lines and columns; `finding_positions`. Then words: `words`, texts that grow; `lookup`, the meaning of names; `headings`,
-//! what a position is called; `source_line`, the source line of a place. All of this runs only after a refusal, and for
-//! warnings and stops.
+//! Read in this order: `position`; `lists`, the item to which a position belongs; `skip`, `network`, `ports`, `basic` and
+//! `walk`, what is read up to it; `statements` and `clauses`, which are searched in the tokens; `resume`, from one position of
+//! a list to the next; `names`, the names that a library has at positions; `find`; `text_locations` and `place`, lines and
+//! columns; `finding_positions`. Then words: `words`, texts that grow; `lookup`, the meaning of names; `headings`, what a
+//! position is called; `source_line`, the source line of a place. All of this runs only after a refusal, and for warnings
+//! and stops.
 #![tactic(auto)]
 
 mod basic;
@@ -30,6 +31,7 @@ pub mod position;
 mod resume;
 mod skip;
 pub mod source_line;
+mod statements;
 pub mod text_locations;
 mod walk;
 pub mod words;

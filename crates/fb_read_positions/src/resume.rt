@@ -1,6 +1,6 @@
 //! Positions one after another: a position goes on from where an earlier one of the same list was.
 
-ghost use Rattle.std.specs.Prelude.{◌≡◌, ◌≤◌, ◌-◌, List, IfOk, IfSome, IsTrue, Ok, drop, length};
+ghost use Rattle.std.specs.Prelude.{◌≡◌, ◌≢◌, ◌≤◌, ◌-◌, List, IfOk, IfSome, IsTrue, Ok, drop, length};
 ghost use Rattle.fb_read.specs.Parser.{pure};
 ghost use Rattle.fb_read.specs.Whole.{most_bytes};
 ghost use Rattle.fb_read.specs.declared.token.Located.{Located};
@@ -13,6 +13,7 @@ ghost use Rattle.fb_read_positions.specs.declared.lists.ItemList.TheVariants as 
 use crate::clauses::clause_left;
 use crate::lists::{InnerList, Item, ItemList, OuterList, inner, is_same, item_of, outer};
 use crate::position::Position;
+use crate::statements::statement_left;
 use crate::walk::{from_item, pass_inner, pass_outer, to_application, to_first};
 use fb_read::cursor::Cursor;
 use fb_read::fault::ParseFault;
@@ -172,6 +173,23 @@ fn left_past_inner(
     count: usize,
 ) -> Result<Option<usize>, AllocError>
     requires { length tokens.now ≤ most_bytes }
+    ensures { IfOk result (λ o. IfSome o (Leaves (spec.pass_inner list count) tokens.now)) }
+{
+    match list {
+        InnerList::Statements => Ok(statement_left(alloc, tokens, count)),
+        _ => left_past_others(alloc, tokens, list, count),
+    }
+}
+
+/// The same for a list of anything but statements.
+fn left_past_others(
+    alloc: Global,
+    tokens: &[Located],
+    list: InnerList,
+    count: usize,
+) -> Result<Option<usize>, AllocError>
+    requires few { length tokens.now ≤ most_bytes }
+    requires others { list ≢ InnerList.Statements }
     ensures { IfOk result (λ o. IfSome o (Leaves (spec.pass_inner list count) tokens.now)) }
 {
     let mut cursor = Cursor::new(alloc, tokens);

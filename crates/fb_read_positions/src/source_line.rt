@@ -10,15 +10,20 @@ const MOST_OF_LINE: usize = 200;
 /// How many of them are before the location, if the line is cut.
 const MOST_BEFORE: usize = 100;
 
-/// The bytes of a text from an offset up to the end of the line. A carriage return at the end is no part of it.
-fn rest_of_line(bytes: &[u8], from: usize) -> &[u8] {
-    let rest = bytes.get(from..).unwrap_or(&[]);
-    let line = match rest.iter().position(|b| *b == b'\n') {
-        Some(len) => rest.get(..len).unwrap_or(rest),
-        None => rest,
+/// The bytes of a text from the beginning of a line on, up to the end of the line, or as far past the marked byte as a line
+/// is shown. A carriage return at the end is no part of it.
+fn line_round(bytes: &[u8], start: usize, marked: usize) -> &[u8] {
+    let rest = bytes.get(start..).unwrap_or(&[]);
+    let before = marked.saturating_sub(start);
+    let near = front(rest, before.saturating_add(MOST_OF_LINE + 1));
+    let after = near.get(before..).unwrap_or(&[]);
+    // The line ends past the mark: it is the line of the mark.
+    let line = match after.iter().position(|b| *b == b'\n') {
+        Some(len) => front(near, before.saturating_add(len)),
+        None => near,
     };
     match line {
-        [before @ .., b'\r'] => before,
+        [shown @ .., b'\r'] => shown,
         _ => line,
     }
 }
@@ -37,7 +42,7 @@ fn shown_in_line(byte: u8) -> u8 {
 /// Adds the line of a text that begins at an offset, cut round the byte at the other offset, and a line with a mark under
 /// this byte. A tab before the byte is a tab in the line of the mark too, so that the mark is under the byte.
 fn push_marked(text: &mut Text, bytes: &[u8], start: usize, marked: usize) {
-    let line = rest_of_line(bytes, start);
+    let line = line_round(bytes, start, marked);
     let at = marked.saturating_sub(start);
     let first = first_shown(line.len(), at);
     for byte in front(line.get(first..).unwrap_or(&[]), MOST_OF_LINE) {

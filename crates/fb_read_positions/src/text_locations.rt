@@ -1,10 +1,12 @@
 //! Locations in a text.
 
-ghost use Rattle.std.specs.Prelude.{◌≡◌, ◌≤◌, ◌<◌, IfSome, IsTrue, length};
+ghost use Rattle.std.specs.Prelude.{◌≡◌, ◌≤◌, ◌<◌, ◌==◌, IfSome, IsTrue, count_by, length};
 ghost use Rattle.std.specs.Option.{is_some};
 ghost use Rattle.fb_read.specs.Blank as spec;
 ghost use Rattle.fb_read.specs.Tokens.{after_mark};
 ghost use Rattle.fb_read_positions.specs.Locations.{IsCounted, IsLocation, IsStretch, IsWithin};
+
+use memchr::{memchr_iter, memrchr};
 
 /// A location in a text: the bytes from `start` up to `end`, both offsets in bytes. It is empty at the end of the text.
 #[derive(Clone, Copy)]
@@ -46,6 +48,13 @@ pub struct Counted {
     pub column: usize,
 }
 
+/// How many line feeds these bytes have.
+fn line_feeds(bytes: &[u8]) -> usize
+    ensures { result ≡ count_by (λ b. b == 10) bytes.now }
+{
+    memchr_iter(b'\n', bytes).count()
+}
+
 /// The line and the column at an offset, from those at an earlier one.
 fn count_to(text: &[u8], from: usize, to: usize, earlier: Counted) -> Counted
     requires ordered { from ≤ to }
@@ -53,17 +62,18 @@ fn count_to(text: &[u8], from: usize, to: usize, earlier: Counted) -> Counted
     requires there { IsCounted text.now from earlier }
     ensures { IsCounted text.now to result }
 {
-    let mut line = earlier.line;
-    let mut column = earlier.column;
-    for at in from..to {
-        if text[at] == b'\n' {
-            line += 1;
-            column = 1;
-        } else {
-            column += 1;
-        }
+    let passed = &text[from..to];
+    let line = earlier.line + line_feeds(passed);
+    match memrchr(b'\n', passed) {
+        Some(at) => Counted {
+            line,
+            column: passed.len() - at,
+        },
+        None => Counted {
+            line,
+            column: earlier.column + passed.len(),
+        },
     }
-    Counted { line, column }
 }
 
 /// The line and the column at an offset, counted on from an earlier location, if there is one that is not after it.

@@ -1,14 +1,12 @@
 //! Lists and positions of a whole declaration.
 
-ghost use Rattle.std.specs.Prelude.{[]};
+ghost use Rattle.std.specs.Prelude.{◌≢◌, []};
 ghost use Rattle.fb_read.specs.Parser.{Reads, run_after};
 ghost use Rattle.fb_read.specs.Blocks.{block};
 ghost use Rattle.fb_read.specs.declared.token.Mark.TheVariants as mark;
 ghost use Rattle.fb_read_positions.specs.Walks as spec;
 
-use crate::basic::{
-    pass_in_basic, to_actions, to_basic_list, to_basic_part, to_body, to_guard, to_statement,
-};
+use crate::basic::{pass_in_basic, to_actions, to_basic_list, to_basic_part, to_body, to_guard};
 use crate::lists::{InnerList, ItemList, OuterList};
 use crate::network::{pass_in_network, to_network_list, to_network_part, to_parameters};
 use crate::ports::{pass_in_ports, to_port_list, to_with};
@@ -150,15 +148,17 @@ fn to_first_inner(cursor: &mut Cursor<'_>, list: InnerList) -> Result<(), ParseF
     }
 }
 
-/// Reads on to an item of a list of an item, this many items after the one that is next.
+/// Reads on to an item of a list of an item, this many items after the one that is next. Statements are searched in the
+/// tokens.
 pub fn pass_inner(cursor: &mut Cursor<'_>, list: InnerList, count: usize) -> Result<(), ParseFault>
+    requires { list ≢ InnerList.Statements }
     ensures { Reads (spec.pass_inner list count cursor.old) result cursor.new }
 {
     match list {
         InnerList::With => pass_separated::<Name>(cursor, count),
         InnerList::Parameters => pass_separated::<Parameter>(cursor, count),
         InnerList::Actions => pass_separated::<Action>(cursor, count),
-        InnerList::Statements => to_statement(cursor, count),
+        InnerList::Statements => unreachable!(),
         InnerList::Mentions => to_name(cursor, count),
         InnerList::GuardMentions => to_name(cursor, count),
     }

@@ -3,6 +3,7 @@
 use fb_check_names::{Named, PortKind};
 use fb_types::{Connection, Name, PortName, Ports, Value};
 use std::alloc::{AllocError, Global};
+use std::str::from_utf8;
 
 /// The most bytes that are shown as they are.
 const MOST_SHOWN: usize = 60;
@@ -132,8 +133,9 @@ impl Text {
     /// Appends words, and a name.
     pub fn named(&mut self, words: &str, name: &Name) {
         self.words(words);
-        for byte in name.as_bytes() {
-            self.letter(*byte);
+        match from_utf8(name.as_bytes()) {
+            Ok(name) => self.words(name),
+            Err(_) => self.shown(name.as_bytes()),
         }
     }
 

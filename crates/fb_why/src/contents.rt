@@ -1,7 +1,9 @@
-//! What an algorithm or a guard consists of, for the words of findings.
+//! What an algorithm or a guard consists of, and the names of a list, for the words of findings.
 
+use fb_check_names::Named;
 use fb_check_types::mentions::{Mention, push_body, push_expression};
 use fb_check_types::{Standing, all_statements};
+use fb_read_positions::Text;
 use fb_types::{Body, Expr, Stmt};
 use std::alloc::{AllocError, Global};
 
@@ -12,8 +14,15 @@ pub(crate) enum Source {
     Guard(usize, usize),
 }
 
-/// What the last algorithm or guard consists of. Findings follow the order of the text, so each is gone through once for all
-/// that are in it.
+/// A list of a basic type, by the index of the type.
+#[derive(Clone, Copy, PartialEq, Eq)]
+pub(crate) enum NameList {
+    States(usize),
+    Algorithms(usize),
+}
+
+/// What the last algorithm or guard consists of, and the names of the last list. Findings follow the order of the text, so
+/// each is gone through once for all that are in it.
 #[derive(Drop)]
 pub(crate) struct Contents<'a> {
     alloc: Global,
@@ -23,6 +32,9 @@ pub(crate) struct Contents<'a> {
     /// The algorithm or the guard that has these mentions.
     mentioned: Option<Source>,
     mentions: Vec<Mention<'a>>,
+    /// The list that has these names.
+    named: Option<NameList>,
+    names: String,
 }
 
 impl<'a> Contents<'a> {
@@ -34,6 +46,8 @@ impl<'a> Contents<'a> {
             statements: Vec::new(alloc),
             mentioned: None,
             mentions: Vec::new(alloc),
+            named: None,
+            names: String::new(alloc),
         }
     }
 
@@ -95,6 +109,26 @@ impl<'a> Contents<'a> {
             self.mentioned = Some(source);
         }
         Ok(self.mentions.get(index).copied())
+    }
+
+    /// Adds the names of a list, which has these items.
+    pub fn push_names<T: Named>(&mut self, text: &mut Text, list: NameList, items: &[T]) {
+        match self.list_names(list, items) {
+            Ok(()) => text.words(self.names.as_str()),
+            Err(_) => text.give_up(),
+        }
+    }
+
+    /// Goes to the names of a list, which has these items.
+    fn list_names<T: Named>(&mut self, list: NameList, items: &[T]) -> Result<(), AllocError> {
+        if self.named != Some(list) {
+            let mut text = Text::new(self.alloc);
+            text.names(items);
+            self.named = None;
+            self.names = text.into_string()?;
+            self.named = Some(list);
+        }
+        Ok(())
     }
 
     /// Begins with the mentions of another algorithm or guard.

@@ -1,6 +1,6 @@
 //! The text for an unknown name (E21), after the words for its position: what was expected there.
 
-use crate::contents::{Contents, Source};
+use crate::contents::{Contents, NameList, Source};
 use fb_check_names::{PortKind, Side, UnknownName};
 use fb_check_types::mentions::Mention;
 use fb_read_positions::headings::{basic_at, composite_at};
@@ -86,17 +86,25 @@ fn push_in_network(
     Some(())
 }
 
-fn push_in_basic(text: &mut Text, basic: &BasicType, part: BasicPart, required: &Name) {
+/// Adds what is unknown in the basic type at this index.
+fn push_in_basic<'a>(
+    text: &mut Text,
+    contents: &mut Contents<'a>,
+    block: usize,
+    basic: &BasicType,
+    (part, required): (BasicPart, &Name),
+) {
     match part {
         BasicPart::Transition(_, TransitionPart::From | TransitionPart::To) => {
             text.named(": ", &basic.name);
             text.named(" has no state ", required);
-            text.names(basic.states.as_slice());
+            contents.push_names(text, NameList::States(block), basic.states.as_slice());
         }
         BasicPart::Action(_, _) => {
             text.named(": ", &basic.name);
             text.named(" has no algorithm ", required);
-            text.names(basic.algorithms.as_slice());
+            let list = NameList::Algorithms(block);
+            contents.push_names(text, list, basic.algorithms.as_slice());
         }
         BasicPart::OutputAlone(_, _) | BasicPart::OutputAfter(_, _) => {
             text.lacks(&basic.name, PortKind::EventOutput, required, &basic.ports);
@@ -106,7 +114,12 @@ fn push_in_basic(text: &mut Text, basic: &BasicType, part: BasicPart, required: 
 }
 
 /// Adds what is unknown at a position at which the library has a name.
-fn push_at(text: &mut Text, types: &BlockTypes, position: Position) -> Option<()> {
+fn push_at<'a>(
+    text: &mut Text,
+    types: &BlockTypes<'a>,
+    contents: &mut Contents<'a>,
+    position: Position,
+) -> Option<()> {
     let library = types.library;
     let required = name_at(position, library)?;
     match position {
@@ -129,7 +142,8 @@ fn push_at(text: &mut Text, types: &BlockTypes, position: Position) -> Option<()
             text.lacks(block.type_name(), port_kind, required, block.ports());
         }
         Position::InBasic(block, part) => {
-            push_in_basic(text, basic_at(library, block)?, part, required);
+            let basic = basic_at(library, block)?;
+            push_in_basic(text, contents, block, basic, (part, required));
         }
     }
     Some(())
@@ -202,7 +216,7 @@ pub(crate) fn push_unknown<'a>(
             let source = Source::Algorithm(block, algorithm);
             push_mention(text, basic, contents.mention_in_body(source, body, at));
         }
-        _ => push_at(text, types, position)?,
+        _ => push_at(text, types, contents, position)?,
     }
     Some(())
 }

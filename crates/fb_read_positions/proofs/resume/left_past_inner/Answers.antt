@@ -1,11 +1,10 @@
-use Rattle.std.proofs.Common.{◌≡◌, Ok, sym, ap, ◌∙◌}
+use Rattle.std.proofs.Common.{sym, subst}
+use Rattle.std.specs.Prelude.{IfSome}
+use Rattle.fb_read_positions.specs.Resumed.{Leaves}
 use Rattle.fb_read_positions.specs.Walks.{pass_inner}
-use Rattle.fb_read_positions.proofs.Resuming.{was_read}
+use Rattle.fb_read_positions.specs.declared.lists.InnerList.{InnerList}
 use Rattle.fb_read_positions.proofs.resume.left_past_inner.Goals as goal
 
-pub returns : goal.returns
-returns c =
-    let ts = c.new-cursor.result in
-    let new = c.pass_inner.new.cursor in
-    let passed : pass_inner c.args.list c.args.count ts ≡ Ok (tt, new) = was_read (pass_inner c.args.list c.args.count ts) new c.pass_inner.result c.pass_inner.ensures (c.in_ok-is_read.ensures c.if-not-branch.false) in
-    (new, ap (pass_inner c.args.list c.args.count) (sym c.new-cursor.ensures) ∙ passed, sym c.left.ensures)
+pub returns-in-Statements : goal.returns-in-Statements
+returns-in-Statements c =
+    subst (λ (l : InnerList). IfSome c.statement_left.result (Leaves (pass_inner l c.args.count) c.args.tokens.now)) (sym c.in-Statements.is) c.statement_left.ensures
