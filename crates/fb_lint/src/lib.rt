@@ -28,6 +28,6 @@ pub mod words;
 
 pub use lines::line_of;
 pub use lint::warnings;
-pub use positions::position_of;
+pub use positions::{position_of, positions_of};
 pub use warning::Warning;
 pub use words::warning_message;

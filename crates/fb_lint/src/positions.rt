@@ -1,11 +1,12 @@
 //! Where warnings are in a declaration.
 
-ghost use Rattle.std.specs.Prelude.{◌≡◌};
+ghost use Rattle.std.specs.Prelude.{◌≡◌, IfOk, map};
 ghost use Rattle.fb_lint.specs.Positions as spec;
 
 use crate::warning::Warning;
 use fb_check_names::{PortKind, Site};
 use fb_read_positions::{BasicPart, NetworkPart, PortPart, Position, TransitionPart};
+use std::alloc::{AllocError, Global};
 
 /// The name of a port.
 fn port_of(port_kind: PortKind, port: usize) -> PortPart
@@ -77,4 +78,22 @@ pub fn position_of(warning: &Warning) -> Option<Position>
         Warning::UnusedLink { .. } => return None,
     };
     Some(position)
+}
+
+/// The positions at which these warnings are shown, each at the index of its warning.
+///
+/// # Errors
+///
+/// When memory runs out.
+pub fn positions_of(
+    alloc: Global,
+    warnings: &[Warning],
+) -> Result<Vec<Option<Position>>, AllocError>
+    ensures { IfOk result (λ positions. positions.items ≡ map spec.position_of warnings.now) }
+{
+    let mut positions = Vec::new(alloc);
+    for warning in warnings {
+        positions.push(position_of(warning))?;
+    }
+    Ok(positions)
 }

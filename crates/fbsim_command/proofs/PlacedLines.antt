@@ -1,12 +1,59 @@
--- Lines of warnings, one after another.
-use Rattle.std.proofs.Common.{◌≡◌, ℕ, ◌+◌, ◌<◌, ◌≤◌, List, [], ◌∷◌, ◌++◌, get_or, length, take, append_assoc, append-nil, refl, sym, ◌∙◌, ap, subst}
-use Rattle.std.proofs.lemmas.List.{take_more, take_all}
+-- Lines of warnings with their places, one after another.
+use Rattle.std.proofs.Common.{◌≡◌, ℕ, zero, suc, ◌+◌, ◌<◌, ◌≤◌, List, [], ◌∷◌, ◌++◌, ◌⊎◌, get_or, length, map, take, append_assoc, append-nil, Option, Some, None, Result, Ok, Err, inl, inr, refl, sym, ◌∙◌, ap, subst, arith}
+use Rattle.std.proofs.lemmas.List.{length-map, take_more, take_all}
+use Rattle.std.proofs.lemmas.Slice.Zip.{AllZip-long}
+use Rattle.std.specs.List.{AllZip}
+use Rattle.std.specs.Prelude.{IfOk}
 use Rattle.fb_types.specs.declared.library.Library.{Library}
+use Rattle.fb_lint.specs.Positions.{position_of}
 use Rattle.fb_lint.specs.declared.warning.Warning.{Warning}
+use Rattle.fb_lint.specs.declared.warning.Warning.TheVariants.{UnusedLink}
+use Rattle.fb_read_positions.specs.Locations.{IsPlaceFor}
+use Rattle.fb_read_positions.specs.declared.position.Position.{Position}
+use Rattle.fb_read_positions.specs.declared.text_locations.TextLocation.{TextLocation}
 use Rattle.fb_sim.specs.Given.{Given}
-use Rattle.fbsim_command.specs.WarningLines.{AreLines, IsAdded, IsPlacedLine, Naming}
+use Rattle.fbsim_command.specs.WarningLines.{AreLines, IsAdded, IsLinkPlace, IsPlace, IsPlaceText, IsPlacedLine, Naming}
 
 module _ (n : Naming) (given : Given) (library : Library) where
+  -- the text of a location is that of the warning at whose position it is
+  is_place : (w : Warning) (at : TextLocation) (text : List ℕ) → IsPlaceFor given.declaration library (position_of w) (Some at) → IsPlaceText n at.line at.column text → IsPlace n given library w text
+  is_place w at text placed shown = go (position_of w) refl placed
+    where
+      go : (p : Option Position) → position_of w ≡ p → IsPlaceFor given.declaration library p (Some at) → IsPlace n given library w text
+      go None is h = absurd cc
+      go (Some p) is h = inl (record { position = p; position_is = is; place = at; placed = h; shown = shown })
+
+  pub place_shown :
+      {S E : Type 0} (bytes : S → List ℕ) (r : Result S E) (w : Warning) (o : Option TextLocation) (at : TextLocation) → o ≡ Some at → IsPlaceFor given.declaration library (position_of w) o
+      → IfOk r (λ s. IsPlaceText n at.line at.column (bytes s)) → IfOk r (λ s. IsPlace n given library w (bytes s))
+  place_shown bytes (Err e) w o at is placed shown = tt
+  place_shown bytes (Ok s) w o at is placed shown =
+      is_place w at (bytes s) (subst (λ (q : Option TextLocation). IsPlaceFor given.declaration library (position_of w) q) is placed) shown
+
+  pub link_shown :
+      {S E : Type 0} (bytes : S → List ℕ) (r : Result S E) (w : Warning) (link : ℕ) → w ≡ UnusedLink link → IfOk r (λ s. IsLinkPlace n given.deploy link (bytes s) ⊎ (bytes s ≡ []))
+      → IfOk r (λ s. IsPlace n given library w (bytes s))
+  link_shown bytes (Err e) w link is shown = tt
+  link_shown bytes (Ok s) w link is (inl at) = inr (inl (link, is, at))
+  link_shown bytes (Ok s) w link is (inr none) = inr (inr none)
+
+  abbrev pub AreAt : List Warning → List (Option TextLocation) → Type 0
+  AreAt ws os = AllZip (IsPlaceFor given.declaration library) (map position_of ws) os
+
+  -- the location of a warning is at the same index
+  pub place_at_index :
+      (ws : List Warning) (os : List (Option TextLocation)) (k : ℕ) (w : Warning) (o : Option TextLocation) → AreAt ws os → k < length ws
+      → w ≡ get_or ws k w → o ≡ get_or os k o → IsPlaceFor given.declaration library (position_of w) o
+  place_at_index [] os k w o all within is at = absurd (omega arith)
+  place_at_index (x ∷ ws) [] k w o all within is at = absurd all
+  place_at_index (x ∷ ws) (y ∷ os) zero w o all within is at =
+      subst (λ (v : Warning). IsPlaceFor given.declaration library (position_of v) o) (sym is)
+      (subst (λ (q : Option TextLocation). IsPlaceFor given.declaration library (position_of x) q) (sym at) all.0)
+  place_at_index (x ∷ ws) (y ∷ os) (suc k) w o all within is at = place_at_index ws os k w o all.1 (omega arith) is at
+
+  pub as_many_places : (ws : List Warning) (os : List (Option TextLocation)) → AreAt ws os → length os ≡ length ws
+  as_many_places ws os all = AllZip-long (IsPlaceFor given.declaration library) (map position_of ws) os all ∙ length-map ws position_of
+
   -- one line more
   lines_push :
       (ws : List Warning) (w : Warning) (text line : List ℕ) → AreLines n given library ws text → IsPlacedLine n given library w line

@@ -1,13 +1,17 @@
 //! The lines of warnings, with their places.
 
-ghost use Rattle.std.specs.Prelude.{◌≡◌, ◌⊎◌, [], IfOk, option_map, string_bytes};
+ghost use Rattle.std.specs.Prelude.{◌≡◌, ◌⊎◌, [], IfOk, map, option_map, string_bytes};
+ghost use Rattle.std.specs.List.{AllZip};
+ghost use Rattle.fb_lint.specs.Positions.{position_of};
+ghost use Rattle.fb_types.specs.declared.library.Library.{Library};
+ghost use Rattle.fb_read_positions.specs.Locations.{IsPlaceFor};
 ghost use Rattle.fbsim_command.specs.WarningLines.{AreLines, IsAdded, IsLinkPlace, IsPlace, IsPlaceText, naming_of, place_text};
 
 use crate::call_names::Naming;
 use crate::join::{file_name, line_in_file};
 use fb_inputs::{DeployPosition, TableLocation};
-use fb_lint::{Warning, line_of, position_of};
-use fb_read_positions::{TextLocation, place_at};
+use fb_lint::{Warning, line_of, positions_of};
+use fb_read_positions::{TextLocation, places_of};
 use fb_sim::Inputs;
 use fb_types::{Library, Plan};
 use fb_why::place_in_deployment;
@@ -56,23 +60,20 @@ fn place_of_link(
     }
 }
 
-/// The place of a warning in the declaration, or for a link in the deployment.
+/// The text of the place of a warning: of its location in the declaration, or for a link of its table in the deployment.
 fn place_of(
     alloc: Global,
     naming: &Naming<'_, '_, '_>,
     inputs: &Inputs<'_>,
-    library: &Library,
     warning: &Warning,
+    at: Option<TextLocation>,
 ) -> Result<String, AllocError>
-    ensures { IfOk result (λ text. IsPlace (naming_of naming.now) inputs.now library.now warning.now (string_bytes text)) }
+    ensures { (library : Library) → IsPlaceFor inputs.now.declaration library (position_of warning.now) at → IfOk result (λ text. IsPlace (naming_of naming.now) inputs.now library warning.now (string_bytes text)) }
 {
     if let Warning::UnusedLink { link } = warning {
         return place_of_link(alloc, naming, inputs.deploy, *link);
     }
-    let Some(position) = position_of(warning) else {
-        return Ok(String::new(alloc));
-    };
-    match place_at(alloc, inputs.declaration, library, position)? {
+    match at {
         Some(at) => place_in_files(alloc, naming, at),
         None => Ok(String::new(alloc)),
     }
@@ -87,17 +88,41 @@ fn push_line(
     library: &Library,
     plan: &Plan,
     warning: &Warning,
+    at: Option<TextLocation>,
 ) -> Result<(), AllocError>
+    requires { IsPlaceFor inputs.now.declaration library.now (position_of warning.now) at }
     ensures { IfOk result (λ _. IsAdded (naming_of naming.now) inputs.now library.now warning.now text.old.items text.new.items) }
 {
-    let place = place_of(alloc, naming, inputs, library, warning)?;
+    let place = place_of(alloc, naming, inputs, warning, at)?;
     let words = line_of(alloc, library, plan, warning)?;
     text.extend_from_slice(place.as_bytes())?;
     text.extend_from_slice(words.as_bytes())?;
     Ok(())
 }
 
-/// The lines of warnings, with their places in the text of the declaration.
+/// The lines of warnings, each with its location in the declaration at the same index.
+fn lines_at(
+    alloc: Global,
+    naming: &Naming<'_, '_, '_>,
+    inputs: &Inputs<'_>,
+    library: &Library,
+    plan: &Plan,
+    warnings: &[Warning],
+    places: &[Option<TextLocation>],
+) -> Result<Vec<u8>, AllocError>
+    requires { AllZip (IsPlaceFor inputs.now.declaration library.now) (map position_of warnings.now) places.now }
+    ensures { IfOk result (λ text. AreLines (naming_of naming.now) inputs.now library.now warnings.now text.items) }
+{
+    let mut text = Vec::new(alloc);
+    for (warning, at) in warnings.iter().zip(places) {
+        push_line(
+            alloc, &mut text, naming, inputs, library, plan, warning, *at,
+        )?;
+    }
+    Ok(text)
+}
+
+/// The lines of warnings, with their places in the text of the declaration, which is read once more for all of them.
 pub(crate) fn all_lines(
     alloc: Global,
     naming: &Naming<'_, '_, '_>,
@@ -108,9 +133,15 @@ pub(crate) fn all_lines(
 ) -> Result<Vec<u8>, AllocError>
     ensures { IfOk result (λ text. AreLines (naming_of naming.now) inputs.now library.now warnings.now text.items) }
 {
-    let mut text = Vec::new(alloc);
-    for warning in warnings {
-        push_line(alloc, &mut text, naming, inputs, library, plan, warning)?;
-    }
-    Ok(text)
+    let positions = positions_of(alloc, warnings)?;
+    let places = places_of(alloc, inputs.declaration, library, positions.as_slice())?;
+    lines_at(
+        alloc,
+        naming,
+        inputs,
+        library,
+        plan,
+        warnings,
+        places.as_slice(),
+    )
 }

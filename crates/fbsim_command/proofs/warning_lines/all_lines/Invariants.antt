@@ -1,6 +1,0 @@
-use Rattle.std.proofs.Common.{take}
-use Rattle.fbsim_command.specs.WarningLines.{AreLines, naming_of}
-use Rattle.fbsim_command.proofs.warning_lines.all_lines.Given as goal
-
-abbrev pub invariant-loop-warning : goal.invariant-loop-warning
-invariant-loop-warning l = AreLines (naming_of l.naming) l.inputs l.library (take l.warning-index l.warnings) l.text.items
