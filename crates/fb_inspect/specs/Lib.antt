@@ -29,5 +29,5 @@ pub mod Stepping
 pub mod Faults
 pub mod Refusals
 pub mod Standing
-pub mod Walks
+pub mod OfWalk
 pub mod OfSystem

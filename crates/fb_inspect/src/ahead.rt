@@ -3,12 +3,10 @@
 ghost use Rattle.std.specs.Prelude.{◌≡◌, ◌∷◌, ◌++◌, ◌||◌, [], IfErr, IfNone, IfOk, IfSome, IsTrue, List, OnOk, true, false};
 ghost use Rattle.std.specs.Io.KnownBytes.{Consumes};
 ghost use Rattle.fb_types.specs.declared.run.Line as run;
-ghost use Rattle.fb_wave.specs.Lines.{IsTextOf};
-ghost use Rattle.fb_wave.specs.Named.{HasNames};
-ghost use Rattle.fb_inspect.specs.Walks.{system_in};
 ghost use Rattle.fb_inspect.specs.Refusals.{IsNoRefusal};
-ghost use Rattle.fb_inspect.specs.Standing.{AreAhead, IsLeft, MayBeAhead};
-ghost use Rattle.fb_inspect.specs.Walking.{AreCutOff, AreGathered, IsOwnRow, IsReadOn, unread};
+ghost use Rattle.fb_inspect.specs.Standing.{IsLeft};
+ghost use Rattle.fb_inspect.specs.Walking.{IsOwnRow, IsReadOn, unread};
+ghost use Rattle.fb_inspect.specs.OfWalk.{AreAhead, AreCutOff, AreGathered, HasNames, IsTextOf, MayBeAhead};
 
 use crate::error::InspectError;
 use crate::reading::{Next, Reading, judged};
@@ -161,9 +159,9 @@ impl Ahead {
         first: &Line,
         input: &mut R,
     ) -> Result<(), InspectError>
-        ensures gathered { OnOk result (AreGathered (system_in fixed.now) fixed.now.form first.now self.new.rows.items self.new.text.items self.new.last.items (R.remaining input.old) (R.remaining input.new)) }
+        ensures gathered { OnOk result (AreGathered fixed.now first.now self.new.rows.items self.new.text.items self.new.last.items (R.remaining input.old) (R.remaining input.new)) }
         ensures watched { OnOk result (self.new.watched ≡ self.old.watched) }
-        ensures other { HasNames (system_in fixed.now) → OnOk result ((m : run.Line) → IsTextOf (system_in fixed.now) fixed.now.form m self.new.last.items → IsOwnRow m first.now → ⊥) }
+        ensures other { HasNames fixed.now → OnOk result ((m : run.Line) → IsTextOf fixed.now m self.new.last.items → IsOwnRow m first.now → ⊥) }
         ensures fault { IfErr result IsNoRefusal }
     {
         self.text.clear();
@@ -199,11 +197,11 @@ impl Ahead {
         input: &mut R,
     ) -> Result<bool, InspectError>
         ensures whole { IfOk result (λ is_cut. is_cut ≡ false → Consumes (R.remaining input.old) (R.remaining input.new) self.new.text.items) }
-        ensures cut { IfOk result (λ is_cut. is_cut ≡ true → (cut ≡ Cut.Allowed) × AreCutOff (system_in fixed.now) fixed.now.form first.now self.new.rows.items self.new.text.items (R.remaining input.old)) }
+        ensures cut { IfOk result (λ is_cut. is_cut ≡ true → (cut ≡ Cut.Allowed) × AreCutOff fixed.now first.now self.new.rows.items self.new.text.items (R.remaining input.old)) }
         ensures watched { OnOk result (self.new.watched ≡ self.old.watched) }
-        ensures ahead { HasNames (system_in fixed.now) → IfOk result (λ is_cut. is_cut ≡ false
+        ensures ahead { HasNames fixed.now → IfOk result (λ is_cut. is_cut ≡ false
             → IfSome (R.remaining input.old) (λ before. IsLeft (R.remaining input.new) (λ rest. (before ≡ self.new.text.items ++ rest)
-            × AreAhead (system_in fixed.now) fixed.now.form first.now self.new.rows.items self.new.text.items self.new.last.items rest))) }
+            × AreAhead fixed.now first.now self.new.rows.items self.new.text.items self.new.last.items rest))) }
         ensures fault { IfErr result IsNoRefusal }
     {
         self.gather(fixed, first, input)?;
@@ -236,12 +234,12 @@ impl Ahead {
     ) -> Result<bool, InspectError>
         ensures whole { IfOk result (λ is_cut. is_cut ≡ false → IsReadOn (unread self.old (R.remaining input.old)) (unread self.new (R.remaining input.new))) }
         ensures watched { OnOk result (self.new.watched ≡ self.old.watched) }
-        ensures ahead { HasNames (system_in fixed.now) → IfOk result (λ is_cut. is_cut ≡ false
-            → IfSome (R.remaining input.old) (λ before. MayBeAhead (system_in fixed.now) fixed.now.form first.now self.old.text.items self.old.last.items before
+        ensures ahead { HasNames fixed.now → IfOk result (λ is_cut. is_cut ≡ false
+            → IfSome (R.remaining input.old) (λ before. MayBeAhead fixed.now first.now self.old.text.items self.old.last.items before
             → IsLeft (R.remaining input.new) (λ rest. (self.old.text.items ++ before ≡ self.new.text.items ++ rest)
-            × ((rows : List run.Line) × AreAhead (system_in fixed.now) fixed.now.form first.now rows self.new.text.items self.new.last.items rest)))) }
+            × ((rows : List run.Line) × AreAhead fixed.now first.now rows self.new.text.items self.new.last.items rest)))) }
         ensures fault { IfErr result IsNoRefusal }
-        ensures cut { IfOk result (λ is_cut. is_cut ≡ true → (cut ≡ Cut.Allowed) × (self.old.text.items ≡ []) × AreCutOff (system_in fixed.now) fixed.now.form first.now self.new.rows.items self.new.text.items (R.remaining input.old)) }
+        ensures cut { IfOk result (λ is_cut. is_cut ≡ true → (cut ≡ Cut.Allowed) × (self.old.text.items ≡ []) × AreCutOff fixed.now first.now self.new.rows.items self.new.text.items (R.remaining input.old)) }
     {
         if !self.is_passed() {
             return Ok(false);

@@ -11,15 +11,16 @@ ghost use Rattle.fb_st.specs.Frames.{values_of};
 ghost use Rattle.fb_ecc.specs.Indexes.{IsBlockOf, IsStateOf, IsWellFormed, index, sampled, state_at};
 ghost use Rattle.fb_ecc.specs.Sound.{IsSound};
 ghost use Rattle.fb_ecc.specs.Trials.{transition_at};
+ghost use Rattle.fb_coverage.specs.Sets.{with_cleared};
 ghost use Rattle.fb_inspect.specs.Chains.{Acting, ShowsChain, ShowsReaction};
-ghost use Rattle.fb_inspect.specs.Charting.{ChartGoes, HasLinked, IsChartOf, IsChartTaking, place, sys_of};
-ghost use Rattle.fb_wave.specs.Named.{HasNames};
-ghost use Rattle.fb_inspect.specs.Lines.{IsNext, IsPlain};
+ghost use Rattle.fb_inspect.specs.Charting.{ChartGoes, HasLinked, IsChartOf, IsChartTaking, place};
+ghost use Rattle.fb_inspect.specs.Lines.{IsPlain};
 ghost use Rattle.fb_inspect.specs.Markings as marking;
 ghost use Rattle.fb_inspect.specs.Moves.{shown_text};
 ghost use Rattle.fb_inspect.specs.Notes.{cleared_note, lost_if, ran_by_action, ran_text, stop_note};
 ghost use Rattle.fb_inspect.specs.Refusals.{ChartFails, IsNoRefusal, OfRefusal};
 ghost use Rattle.fb_inspect.specs.declared.charts.Linked.TheVariants.{Went};
+ghost use Rattle.fb_inspect.specs.OfWalk.{HasNames, IsNext};
 
 use crate::blocks::{Chart, keep_values};
 use crate::error::InspectError;
@@ -186,17 +187,17 @@ fn perform<R: BufRead>(
     requires taking { IsChartTaking taking.now }
     requires chart { IsChartOf taking.now.block.now chart.old }
     requires within { action < length (actions_of taking.now.block.now (state_at taking.now.block.now chart.old.state.state)) }
-    requires next { IsNext (sys_of taking.now) taking.now.fixed.form taking.now.line.now.key.tick trail.old.reading.line.items trail.old.reading.next }
+    requires next { IsNext taking.now.fixed taking.now.line.now.key.tick trail.old.reading }
     ensures shown { (a : Action) → slice_get (actions_of taking.now.block.now (state_at taking.now.block.now chart.old.state.state)) action ≡ Some a →
         IfOk result (λ stop. let t = taking.now.block.now in
         ChartGoes taking.now (Acting t (a ∷ [])) (place t chart.old meter.old.left) stop (place t chart.new meter.new.left) trail.old trail.new (R.remaining input.old) (R.remaining input.new)) }
     ensures refused { (a : Action) (others : List Action) → slice_get (actions_of taking.now.block.now (state_at taking.now.block.now chart.old.state.state)) action ≡ Some a
-        → HasNames (sys_of taking.now) → IsPlain taking.now.fixed.form taking.now.line.now.key → let t = taking.now.block.now in
+        → HasNames taking.now.fixed → IsPlain taking.now.fixed.form taking.now.line.now.key → let t = taking.now.block.now in
         IfErr result (OfRefusal (λ n. ChartFails taking.now (Acting t (a ∷ others)) (place t chart.old meter.old.left) trail.old.reading trail.new.reading (R.remaining input.old) (R.remaining input.new) n)) }
     ensures chart { OnOk result (IsChartOf taking.now.block.now chart.new) }
     ensures state { chart.new.state.state ≡ chart.old.state.state }
     ensures fewer { meter.new.left ≤ meter.old.left }
-    ensures next { OnOk result (IsNext (sys_of taking.now) taking.now.fixed.form taking.now.line.now.key.tick trail.new.reading.line.items trail.new.reading.next) }
+    ensures next { OnOk result (IsNext taking.now.fixed taking.now.line.now.key.tick trail.new.reading) }
 {
     let algorithm = algorithm_of(taking.block, chart.state.state, action);
     let variables = chart.own.as_slice();
@@ -229,14 +230,14 @@ fn perform_all<R: BufRead>(
 ) -> Result<Option<Reason>, InspectError>
     requires taking { IsChartTaking taking.now }
     requires chart { IsChartOf taking.now.block.now chart.old }
-    requires next { IsNext (sys_of taking.now) taking.now.fixed.form taking.now.line.now.key.tick trail.old.reading.line.items trail.old.reading.next }
+    requires next { IsNext taking.now.fixed taking.now.line.now.key.tick trail.old.reading }
     ensures shown { IfOk result (λ stop. let t = taking.now.block.now in
         ChartGoes taking.now (Acting t (actions_of t (state_at t chart.old.state.state))) (place t chart.old meter.old.left) stop (place t chart.new meter.new.left) trail.old trail.new (R.remaining input.old) (R.remaining input.new)) }
-    ensures refused { HasNames (sys_of taking.now) → IsPlain taking.now.fixed.form taking.now.line.now.key → let t = taking.now.block.now in
+    ensures refused { HasNames taking.now.fixed → IsPlain taking.now.fixed.form taking.now.line.now.key → let t = taking.now.block.now in
         IfErr result (OfRefusal (λ n. ChartFails taking.now (Acting t (actions_of t (state_at t chart.old.state.state))) (place t chart.old meter.old.left) trail.old.reading trail.new.reading (R.remaining input.old) (R.remaining input.new) n)) }
     ensures chart { OnOk result (IsChartOf taking.now.block.now chart.new) }
     ensures fewer { meter.new.left ≤ meter.old.left }
-    ensures next { OnOk result (IsNext (sys_of taking.now) taking.now.fixed.form taking.now.line.now.key.tick trail.new.reading.line.items trail.new.reading.next) }
+    ensures next { OnOk result (IsNext taking.now.fixed taking.now.line.now.key.tick trail.new.reading) }
 {
     for action in 0..action_count(&chart.state) {
         if let Some(reason) = perform(taking, trail, chart, meter, action, input)? {
@@ -297,6 +298,18 @@ fn note_cleared(
     put_cleared(alloc, text, &block.transitions.as_slice()[index])
 }
 
+/// Marks the transition at an index, which cleared, and the state to which it led.
+fn mark_cleared(
+    marks: &mut ChartMarks,
+    taking: &ChartTaking<'_, '_, '_>,
+    index: usize,
+    state: usize,
+)
+    ensures { marks.new ≡ with_cleared taking.now.number index state taking.now.line.now.event marks.old }
+{
+    marks.mark_cleared(taking.number, index, state, taking.line.event);
+}
+
 /// How a link of a chain ended.
 pub(crate) enum Linked {
     /// A transition cleared, and all actions of its target were performed.
@@ -319,15 +332,15 @@ fn link<R: BufRead>(
     requires taking { IsChartTaking taking.now }
     requires chart { IsChartOf taking.now.block.now chart.old }
     requires present { IfSome present (λ event. event < length taking.now.block.now.ports.event_inputs) }
-    requires next { IsNext (sys_of taking.now) taking.now.fixed.form taking.now.line.now.key.tick trail.old.reading.line.items trail.old.reading.next }
+    requires next { IsNext taking.now.fixed taking.now.line.now.key.tick trail.old.reading }
     ensures linked { let event = option_map (event_at taking.now.block.now.ports.event_inputs) present in let t = taking.now.block.now in
         IfOk result (HasLinked taking.now event (place t chart.old meter.old.left) (place t chart.new meter.new.left) trail.old trail.new (R.remaining input.old) (R.remaining input.new)) }
-    ensures refused { HasNames (sys_of taking.now) → IsPlain taking.now.fixed.form taking.now.line.now.key → let t = taking.now.block.now in
+    ensures refused { HasNames taking.now.fixed → IsPlain taking.now.fixed.form taking.now.line.now.key → let t = taking.now.block.now in
         IfErr result (OfRefusal (λ n. ChartFails taking.now (ShowsChain t (option_map (event_at t.ports.event_inputs) present)) (place t chart.old meter.old.left) trail.old.reading trail.new.reading (R.remaining input.old) (R.remaining input.new) n)) }
     ensures chart { OnOk result (IsChartOf taking.now.block.now chart.new) }
     ensures less { IfOk result (λ how. how ≡ Went → meter.new.left < meter.old.left) }
     ensures fewer { meter.new.left ≤ meter.old.left }
-    ensures next { OnOk result (IsNext (sys_of taking.now) taking.now.fixed.form taking.now.line.now.key.tick trail.new.reading.line.items trail.new.reading.next) }
+    ensures next { OnOk result (IsNext taking.now.fixed taking.now.line.now.key.tick trail.new.reading) }
 {
     match clear(&mut chart.state, taking.block, present, meter) {
         Err(reason) => Ok(Linked::Stopped(reason)),
@@ -342,8 +355,7 @@ fn link<R: BufRead>(
             let is_shown = trail.is_shown;
             let alloc = taking.fixed.alloc;
             note_cleared(alloc, &mut trail.page.text, is_shown, taking.block, index)?;
-            let marks = &mut trail.marks.charts;
-            marks.mark_cleared(taking.number, index, chart.state.state, taking.line.event);
+            mark_cleared(&mut trail.marks.charts, taking, index, chart.state.state);
             match perform_all(taking, trail, chart, meter, input)? {
                 Some(reason) => Ok(Linked::Stopped(reason)),
                 None => Ok(Linked::Went),
@@ -362,13 +374,13 @@ fn follow<R: BufRead>(
 ) -> Result<Option<Reason>, InspectError>
     requires taking { IsChartTaking taking.now }
     requires chart { IsChartOf taking.now.block.now chart.old }
-    requires next { IsNext (sys_of taking.now) taking.now.fixed.form taking.now.line.now.key.tick trail.old.reading.line.items trail.old.reading.next }
+    requires next { IsNext taking.now.fixed taking.now.line.now.key.tick trail.old.reading }
     ensures shown { let t = taking.now.block.now in
         IfOk result (λ stop. ChartGoes taking.now (ShowsChain t (Some (event_at t.ports.event_inputs taking.now.line.now.event))) (place t chart.old meter.old.left) stop (place t chart.new meter.new.left) trail.old trail.new (R.remaining input.old) (R.remaining input.new)) }
-    ensures refused { HasNames (sys_of taking.now) → IsPlain taking.now.fixed.form taking.now.line.now.key → let t = taking.now.block.now in
+    ensures refused { HasNames taking.now.fixed → IsPlain taking.now.fixed.form taking.now.line.now.key → let t = taking.now.block.now in
         IfErr result (OfRefusal (λ n. ChartFails taking.now (ShowsChain t (Some (event_at t.ports.event_inputs taking.now.line.now.event))) (place t chart.old meter.old.left) trail.old.reading trail.new.reading (R.remaining input.old) (R.remaining input.new) n)) }
     ensures chart { OnOk result (IsChartOf taking.now.block.now chart.new) }
-    ensures next { OnOk result (IsNext (sys_of taking.now) taking.now.fixed.form taking.now.line.now.key.tick trail.new.reading.line.items trail.new.reading.next) }
+    ensures next { OnOk result (IsNext taking.now.fixed taking.now.line.now.key.tick trail.new.reading) }
 {
     let mut present = Some(taking.line.event as usize);
     loop {
@@ -401,15 +413,15 @@ pub(crate) fn react_chart<R: BufRead>(
 ) -> Result<Option<Reason>, InspectError>
     requires taking { IsChartTaking taking.now }
     requires chart { IsChartOf taking.now.block.now chart.old }
-    requires next { IsNext (sys_of taking.now) taking.now.fixed.form taking.now.line.now.key.tick trail.old.reading.line.items trail.old.reading.next }
+    requires next { IsNext taking.now.fixed taking.now.line.now.key.tick trail.old.reading }
     ensures shown { let t = taking.now.block.now in let l = taking.now.line.now in
         let begun = record (place t chart.old meter.old.left) { vars = sampled t l.event l.values (values_of chart.old.state.frame) } in
         IfOk result (λ stop. ChartGoes taking.now (ShowsReaction t (event_at t.ports.event_inputs l.event)) begun stop (place t chart.new meter.new.left) trail.old trail.new (R.remaining input.old) (R.remaining input.new)) }
-    ensures refused { HasNames (sys_of taking.now) → IsPlain taking.now.fixed.form taking.now.line.now.key → let t = taking.now.block.now in let l = taking.now.line.now in
+    ensures refused { HasNames taking.now.fixed → IsPlain taking.now.fixed.form taking.now.line.now.key → let t = taking.now.block.now in let l = taking.now.line.now in
         let begun = record (place t chart.old meter.old.left) { vars = sampled t l.event l.values (values_of chart.old.state.frame) } in
         IfErr result (OfRefusal (λ n. ChartFails taking.now (ShowsReaction t (event_at t.ports.event_inputs l.event)) begun trail.old.reading trail.new.reading (R.remaining input.old) (R.remaining input.new) n)) }
     ensures chart { OnOk result (IsChartOf taking.now.block.now chart.new) }
-    ensures next { OnOk result (IsNext (sys_of taking.now) taking.now.fixed.form taking.now.line.now.key.tick trail.new.reading.line.items trail.new.reading.next) }
+    ensures next { OnOk result (IsNext taking.now.fixed taking.now.line.now.key.tick trail.new.reading) }
 {
     let event = taking.line.event;
     let values = taking.line.values.as_slice();

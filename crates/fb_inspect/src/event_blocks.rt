@@ -3,16 +3,14 @@
 ghost use Rattle.std.specs.Prelude.{◌≡◌, ◌≤◌, ◌^◌, ◌++◌, ◌&&◌, [], All, IfErr, IfOk, IsTrue, None, OnOk, false, if◌then◌else◌, true};
 ghost use Rattle.fb_event.specs.Reactions.{FitInputs, IsWellFormed, expiry_of, reaction_to};
 ghost use Rattle.fb_event.specs.Seen.{seen_memory};
-ghost use Rattle.fb_wave.specs.Lines.{IsTextOf};
-ghost use Rattle.fb_wave.specs.Named.{HasNames};
-ghost use Rattle.fb_inspect.specs.Walks.{system_in};
-ghost use Rattle.fb_inspect.specs.Lines.{IsNext, IsPlain};
+ghost use Rattle.fb_inspect.specs.Lines.{IsPlain};
 ghost use Rattle.fb_inspect.specs.Looks as spec;
 ghost use Rattle.fb_inspect.specs.Looks.{Seen, emissions_by};
 ghost use Rattle.fb_inspect.specs.Moves.{shown_text};
 ghost use Rattle.fb_inspect.specs.Notes.{memory_note};
-ghost use Rattle.fb_inspect.specs.Refusals.{EmitsFail, IsNoRefusal, IsNotDue, OfRefusal};
-ghost use Rattle.fb_inspect.specs.Timing.{BlockGoes, HasExpired, HasReacted, IsBlockKept, IsBlockLine, IsNoExpiry, IsNotOnly, IsOnly, TimerGoes, inputs_after, taken_reaction, taken_variables};
+ghost use Rattle.fb_inspect.specs.Refusals.{IsNoRefusal, OfRefusal};
+ghost use Rattle.fb_inspect.specs.Timing.{HasExpired, HasReacted, IsBlockKept, IsNoExpiry, IsNotOnly, IsOnly, inputs_after};
+ghost use Rattle.fb_inspect.specs.OfWalk.{EmitsFail, HasNames, IsBlockLine, IsNext, IsNotDue, IsTextOf, TakenGoes, TimerGoes, reaction_at};
 
 use crate::blocks::EventBlock;
 use crate::error::InspectError;
@@ -160,15 +158,14 @@ pub(crate) fn react_block<R: BufRead>(
     line: &Line,
     input: &mut R,
 ) -> Result<(), InspectError>
-    requires line { IsBlockLine (system_in fixed.now) block.old line.now }
+    requires line { IsBlockLine fixed.now block.old line.now }
     requires taken { line.now.taken ≡ true }
-    requires next { IsNext (system_in fixed.now) fixed.now.form line.now.key.tick trail.old.reading.line.items trail.old.reading.next }
-    ensures turned { (s : Seen) → IsBlockKept block.old.state.kind block.old s → OnOk result (let sys = system_in fixed.now in
-        BlockGoes sys fixed.now.form block.old.state.kind line.now (taken_reaction sys block.old.state.kind s line.now) (taken_variables sys s line.now) s.due s block.new trail.old trail.new (R.remaining input.old) (R.remaining input.new)) }
-    ensures refused { (s : Seen) → IsBlockKept block.old.state.kind block.old s → let sys = system_in fixed.now in
-        HasNames sys → IsPlain fixed.now.form line.now.key
-        → IfErr result (OfRefusal (λ n. EmitsFail sys fixed.now.form line.now (emissions_by block.old.state.kind (taken_reaction sys block.old.state.kind s line.now)) trail.old.reading trail.new.reading (R.remaining input.old) (R.remaining input.new) n)) }
-    ensures next { OnOk result (IsNext (system_in fixed.now) fixed.now.form line.now.key.tick trail.new.reading.line.items trail.new.reading.next) }
+    requires next { IsNext fixed.now line.now.key.tick trail.old.reading }
+    ensures turned { (s : Seen) → IsBlockKept block.old.state.kind block.old s → OnOk result (TakenGoes fixed.now block.old.state.kind line.now s block.new trail.old trail.new (R.remaining input.old) (R.remaining input.new)) }
+    ensures refused { (s : Seen) → IsBlockKept block.old.state.kind block.old s
+        → HasNames fixed.now → IsPlain fixed.now.form line.now.key
+        → IfErr result (OfRefusal (λ n. EmitsFail fixed.now line.now (emissions_by block.old.state.kind (reaction_at fixed.now block.old.state.kind s line.now)) trail.old.reading trail.new.reading (R.remaining input.old) (R.remaining input.new) n)) }
+    ensures next { OnOk result (IsNext fixed.now line.now.key.tick trail.new.reading) }
     ensures charts { trail.new.marks.charts ≡ trail.old.marks.charts }
 {
     let alloc = fixed.alloc;
@@ -238,14 +235,13 @@ pub(crate) fn expire_block<R: BufRead>(
     line: &Line,
     input: &mut R,
 ) -> Result<(), InspectError>
-    requires line { IsBlockLine (system_in fixed.now) block.old line.now }
-    requires text { IsTextOf (system_in fixed.now) fixed.now.form line.now trail.old.reading.line.items }
-    ensures turned { (s : Seen) → IsBlockKept block.old.state.kind block.old s → OnOk result (let sys = system_in fixed.now in
-        TimerGoes sys fixed.now.form block.old.state.kind line.now s block.new trail.old trail.new (R.remaining input.old) (R.remaining input.new)) }
-    ensures refused { (s : Seen) → IsBlockKept block.old.state.kind block.old s → let sys = system_in fixed.now in
-        HasNames sys → IsPlain fixed.now.form line.now.key
-        → IfErr result (OfRefusal (λ n. IsNotDue sys block.old.state.kind s line.now trail.old.reading trail.new.reading n)) }
-    ensures next { OnOk result (IsNext (system_in fixed.now) fixed.now.form line.now.key.tick trail.new.reading.line.items trail.new.reading.next) }
+    requires line { IsBlockLine fixed.now block.old line.now }
+    requires text { IsTextOf fixed.now line.now trail.old.reading.line.items }
+    ensures turned { (s : Seen) → IsBlockKept block.old.state.kind block.old s → OnOk result (TimerGoes fixed.now block.old.state.kind line.now s block.new trail.old trail.new (R.remaining input.old) (R.remaining input.new)) }
+    ensures refused { (s : Seen) → IsBlockKept block.old.state.kind block.old s
+        → HasNames fixed.now → IsPlain fixed.now.form line.now.key
+        → IfErr result (OfRefusal (λ n. IsNotDue fixed.now block.old.state.kind s line.now trail.old.reading trail.new.reading n)) }
+    ensures next { OnOk result (IsNext fixed.now line.now.key.tick trail.new.reading) }
     ensures charts { trail.new.marks.charts ≡ trail.old.marks.charts }
 {
     let before = seen_of(block);

@@ -2,9 +2,9 @@
 
 ghost use Rattle.std.specs.Prelude.{IfErr, IfOk, OnOk, ◌≡◌, ◌+◌};
 ghost use Rattle.std.specs.Io.KnownBytes.{Consumes};
-ghost use Rattle.fb_wave.specs.Tables.{system_in};
 ghost use Rattle.fb_wave.specs.Copying.{IsFirstLine};
-ghost use Rattle.fb_inspect.specs.Lines.{IsNext, IsPlain};
+ghost use Rattle.fb_inspect.specs.Lines.{IsPlain};
+ghost use Rattle.fb_inspect.specs.OfSystem.{IsNext};
 ghost use Rattle.fb_inspect.specs.Refusals.{IsNoRefusal, OfRefusal};
 ghost use Rattle.fb_inspect.specs.declared.error.InspectError.TheVariants.{Refused};
 
@@ -81,7 +81,7 @@ pub(crate) fn judged(
     tick: u64,
     line: &[u8],
 ) -> Result<Next, AllocError>
-    ensures { IfOk result (IsNext (system_in table.now) form tick line.now) }
+    ensures { IfOk result (IsNext table.now.system.now form tick line.now) }
 {
     if let Some(end) = read_last(table.system, line) {
         if !can_end(tick, end) {
@@ -109,7 +109,7 @@ impl Reading {
         tick: u64,
         input: &mut R,
     ) -> Result<(), InspectError>
-        ensures next { OnOk result (IsNext (system_in table.now) form tick self.new.line.items self.new.next) }
+        ensures next { OnOk result (IsNext table.now.system.now form tick self.new.line.items self.new.next) }
         ensures read { OnOk result (Consumes (R.remaining input.old) (R.remaining input.new) self.new.line.items) }
         ensures first { OnOk result (IsFirstLine self.new.line.items (R.remaining input.old)) }
         ensures number { OnOk result (self.new.number ≡ self.old.number + 1) }

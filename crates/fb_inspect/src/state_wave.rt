@@ -6,19 +6,15 @@ ghost use Rattle.fb_types.specs.Systems.{System as Flat};
 ghost use Rattle.fb_types.specs.declared.run.Line as run;
 ghost use Rattle.fb_types.specs.OfSystem.{IsInstance, kind_at, path_at};
 ghost use Rattle.fb_system.specs.OfSystem.{BelongsTo};
-ghost use Rattle.fb_inspect.specs.Walks.{system_in};
 ghost use Rattle.fb_inspect.specs.Inspections.{most};
-ghost use Rattle.fb_inspect.specs.Lines.{IsNext};
 ghost use Rattle.fb_inspect.specs.Looks.{Look};
-ghost use Rattle.fb_inspect.specs.Refusals.{IsNoRefusal, IsWrongAt, OfRefusal};
-ghost use Rattle.fb_inspect.specs.Standing.{GoesAfter, StandsWell};
-ghost use Rattle.fb_inspect.specs.Walking.{IsLookOf, unread};
-ghost use Rattle.fb_wave.specs.Named.{HasNames};
+ghost use Rattle.fb_inspect.specs.Refusals.{IsNoRefusal, OfRefusal};
+ghost use Rattle.fb_inspect.specs.Walking.{unread};
 ghost use Rattle.fb_inspect.specs.Saved.{IsBefore};
 ghost use Rattle.fb_inspect.specs.StateDumps.{Taken};
-ghost use Rattle.fb_inspect.specs.StateWaves.{IsShownWith, WritesFront};
-ghost use Rattle.fb_inspect.specs.Waving.{FinishesCut, HasGoneOn, HasWaved, SendsCutPart, WaveStarts};
+ghost use Rattle.fb_inspect.specs.Waving.{FinishesCut, SendsCutPart};
 ghost use Rattle.fb_inspect.specs.OfSystem.{AreKept, CanShow, Finishes, IsLineAt, IsNextKept, IsPortDump, SendsPart, Shows, ShowsTaking, ShowsUntaken};
+ghost use Rattle.fb_inspect.specs.OfWalk.{GoesAfter, HasGoneOn, HasLook, HasNames, HasWaved, IsNext, IsShownWith, IsWrongAt, StandsWell, WaveStarts, WritesFront};
 
 use crate::Terms;
 use crate::ahead::Ahead;
@@ -160,16 +156,16 @@ impl StateWave {
         ahead: &mut Ahead,
         input: &mut R,
     ) -> Result<Step, InspectError>
-        requires look { (look : Look) × IsLookOf (system_in fixed.now) self.old.walk.blocks.items self.old.walk.steps.items look }
-        requires next { (tick : ℕ) × IsNext (system_in fixed.now) fixed.now.form tick self.old.walk.trail.reading.line.items self.old.walk.trail.reading.next }
+        requires look { HasLook fixed.now self.old.walk }
+        requires next { (tick : ℕ) × IsNext fixed.now tick self.old.walk.trail.reading }
         requires limit { fixed.now.limit ≡ most }
         requires kept { self.old.walk.trail.passed.are_kept ≡ true }
         requires dump { IsPortDump fixed.now.table.now.system.now self.old.dump }
-        ensures goes { (known old new : Option (List ℕ)) → let sys = system_in fixed.now in
-            HasWaved sys fixed.now.form terms.steps self.old known (unread ahead.old (R.remaining input.old)) old new
-            → IfOk result (HasGoneOn sys fixed.now.form terms.steps self.new known (unread ahead.new (R.remaining input.new)) old new) }
-        ensures stands { (rest text : List ℕ) → let sys = system_in fixed.now in terms.steps ≤ most → HasNames sys → R.remaining input.old ≡ Some rest
-            → StandsWell sys fixed.now.form terms.steps self.old.walk ahead.old rest text → GoesAfter sys fixed.now.form terms.steps self.new.walk ahead.new (R.remaining input.new) text result }
+        ensures goes { (known old new : Option (List ℕ))
+            → HasWaved fixed.now terms.steps self.old known (unread ahead.old (R.remaining input.old)) old new
+            → IfOk result (HasGoneOn fixed.now terms.steps self.new known (unread ahead.new (R.remaining input.new)) old new) }
+        ensures stands { (rest text : List ℕ) → terms.steps ≤ most → HasNames fixed.now → R.remaining input.old ≡ Some rest
+            → StandsWell fixed.now terms.steps self.old.walk ahead.old rest text → GoesAfter fixed.now terms.steps self.new.walk ahead.new (R.remaining input.new) text result }
         ensures cut { IfOk result (λ step. step ≡ Step.CutOff → terms.cut ≡ Cut.Allowed) }
     {
         let system = fixed.table.system;
@@ -229,15 +225,15 @@ impl StateWave {
         input: &mut R,
         out: &mut W,
     ) -> Result<(), InspectError>
-        requires starts { WaveStarts (system_in fixed.now) fixed.now.form self.old }
+        requires starts { WaveStarts fixed.now self.old }
         requires limit { fixed.now.limit ≡ most }
         requires empty { ahead.old.text.items ≡ [] }
         ensures whole { (known : Option (List ℕ)) → Consumes known (R.remaining input.old) self.old.walk.trail.reading.line.items
-            → OnOk result (IfSome known (λ text. IsShownWith terms.cut (system_in fixed.now) terms.steps text (W.contents out.old) (W.contents out.new))) }
-        ensures fault { OnErr result (WritesFront (system_in fixed.now) terms.steps (W.contents out.old) (W.contents out.new)) }
-        ensures refused { (rest text : List ℕ) → let sys = system_in fixed.now in
-            terms.steps ≤ most → HasNames sys → R.remaining input.old ≡ Some rest → StandsWell sys fixed.now.form terms.steps self.old.walk ahead.old rest text → text ≡ self.old.walk.trail.reading.line.items ++ rest
-            → IfErr result (OfRefusal (λ n. IsWrongAt sys terms.steps n text)) }
+            → OnOk result (IfSome known (λ text. IsShownWith terms.cut fixed.now terms.steps text (W.contents out.old) (W.contents out.new))) }
+        ensures fault { OnErr result (WritesFront fixed.now terms.steps (W.contents out.old) (W.contents out.new)) }
+        ensures refused { (rest text : List ℕ)
+            → terms.steps ≤ most → HasNames fixed.now → R.remaining input.old ≡ Some rest → StandsWell fixed.now terms.steps self.old.walk ahead.old rest text → text ≡ self.old.walk.trail.reading.line.items ++ rest
+            → IfErr result (OfRefusal (λ n. IsWrongAt fixed.now terms.steps n text)) }
     {
         for _ in 0..u64::MAX {
             match self.step(fixed, terms, ahead, input)? {

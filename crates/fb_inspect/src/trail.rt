@@ -1,16 +1,13 @@
 //! The progress of a walk through a trace: its lines, and the text that is written of them.
 
 ghost use Rattle.std.specs.Prelude.{◌≡◌, [], ◌∷◌, ◌++◌, ◌<◌, ◌^◌, All, IfErr, IsTrue, OnOk, false, map};
-ghost use Rattle.fb_types.specs.Numbers.{emission_of, line_of, path_at, ports_at};
-ghost use Rattle.fb_types.specs.Text.{line_text};
+ghost use Rattle.fb_types.specs.Numbers.{emission_of};
 ghost use Rattle.fb_types.specs.declared.run.Line as run;
-ghost use Rattle.fb_wave.specs.Lines.{IsTextOf};
-ghost use Rattle.fb_inspect.specs.Walks.{system_in};
-ghost use Rattle.fb_inspect.specs.Lines.{IsNext};
 ghost use Rattle.fb_system.specs.Lines.{IsEmission as IsEmissionOf};
-ghost use Rattle.fb_inspect.specs.Refusals.{EmitsFail, IsNoRefusal, IsPlainLine, OfRefusal};
+ghost use Rattle.fb_inspect.specs.Refusals.{IsNoRefusal, OfRefusal};
 ghost use Rattle.fb_inspect.specs.declared.error.InspectError.TheVariants.{Refused};
-ghost use Rattle.fb_inspect.specs.Moves.{EmitsGo, Goes, HavePassed, IsEmission, StaysAlone, shown_text};
+ghost use Rattle.fb_inspect.specs.Moves.{HavePassed, IsEmission, StaysAlone, shown_text};
+ghost use Rattle.fb_inspect.specs.OfWalk.{EmitsFail, EmitsGo, GoesPast, IsNext, IsPlainLine, IsTextOf, ports_in};
 
 use crate::error::InspectError;
 use crate::finding::Finding;
@@ -201,10 +198,9 @@ impl Trail {
         line: &Line,
         input: &mut R,
     ) -> Result<(), InspectError>
-        requires { IsTextOf (system_in fixed.now) fixed.now.form line.now self.old.reading.line.items }
-        ensures goes { OnOk result (let sys = system_in fixed.now in
-            Goes sys fixed.now.form line.now.key.tick (line.now ∷ []) (shown_text self.old.is_shown (line_text fixed.now.form sys (line_of sys line.now))) self.old self.new (R.remaining input.old) (R.remaining input.new)) }
-        ensures next { OnOk result (IsNext (system_in fixed.now) fixed.now.form line.now.key.tick self.new.reading.line.items self.new.reading.next) }
+        requires { IsTextOf fixed.now line.now self.old.reading.line.items }
+        ensures goes { OnOk result (GoesPast fixed.now line.now.key.tick line.now self.old self.new (R.remaining input.old) (R.remaining input.new)) }
+        ensures next { OnOk result (IsNext fixed.now line.now.key.tick self.new.reading) }
         ensures charts { self.new.marks.charts ≡ self.old.marks.charts }
         ensures alone { OnOk result (StaysAlone self.old.reading self.new.reading (R.remaining input.old) (R.remaining input.new)) }
         ensures fault { IfErr result IsNoRefusal }
@@ -225,15 +221,15 @@ impl Trail {
         emission: &Emission,
         input: &mut R,
     ) -> Result<(), InspectError>
-        requires { IsNext (system_in fixed.now) fixed.now.form line.now.key.tick self.old.reading.line.items self.old.reading.next }
-        ensures goes { OnOk result (let sys = system_in fixed.now in (l : run.Line) × IsEmission l line.now emission.now
-            × Goes sys fixed.now.form line.now.key.tick (l ∷ []) (shown_text self.old.is_shown (line_text fixed.now.form sys (line_of sys l))) self.old self.new (R.remaining input.old) (R.remaining input.new)) }
-        ensures next { OnOk result (IsNext (system_in fixed.now) fixed.now.form line.now.key.tick self.new.reading.line.items self.new.reading.next) }
+        requires { IsNext fixed.now line.now.key.tick self.old.reading }
+        ensures goes { OnOk result ((l : run.Line) × IsEmission l line.now emission.now
+            × GoesPast fixed.now line.now.key.tick l self.old self.new (R.remaining input.old) (R.remaining input.new)) }
+        ensures next { OnOk result (IsNext fixed.now line.now.key.tick self.new.reading) }
         ensures charts { self.new.marks.charts ≡ self.old.marks.charts }
         ensures alone { OnOk result (StaysAlone self.old.reading self.new.reading (R.remaining input.old) (R.remaining input.new)) }
-        ensures refused { let sys = system_in fixed.now in let its = ports_at sys (path_at sys line.now.instance) in
-            IsPlainLine sys fixed.now.form line.now → IsEmissionOf its emission.now
-            → IfErr result (OfRefusal (λ n. EmitsFail sys fixed.now.form line.now (emission_of its emission.now ∷ []) self.old.reading self.new.reading (R.remaining input.old) (R.remaining input.new) n)) }
+        ensures refused { let its = ports_in fixed.now line.now in
+            IsPlainLine fixed.now line.now → IsEmissionOf its emission.now
+            → IfErr result (OfRefusal (λ n. EmitsFail fixed.now line.now (emission_of its emission.now ∷ []) self.old.reading self.new.reading (R.remaining input.old) (R.remaining input.new) n)) }
     {
         let next = mem::replace(&mut self.reading.next, Next::Bad);
         let Next::Event(next) = next else {
@@ -253,13 +249,13 @@ impl Trail {
         emits: &mut Emits,
         input: &mut R,
     ) -> Result<(), InspectError>
-        requires { IsNext (system_in fixed.now) fixed.now.form line.now.key.tick self.old.reading.line.items self.old.reading.next }
-        ensures goes { OnOk result (EmitsGo (system_in fixed.now) fixed.now.form line.now emits.old self.old self.new (R.remaining input.old) (R.remaining input.new)) }
-        ensures next { OnOk result (IsNext (system_in fixed.now) fixed.now.form line.now.key.tick self.new.reading.line.items self.new.reading.next) }
+        requires { IsNext fixed.now line.now.key.tick self.old.reading }
+        ensures goes { OnOk result (EmitsGo fixed.now line.now emits.old self.old self.new (R.remaining input.old) (R.remaining input.new)) }
+        ensures next { OnOk result (IsNext fixed.now line.now.key.tick self.new.reading) }
         ensures charts { self.new.marks.charts ≡ self.old.marks.charts }
-        ensures refused { let sys = system_in fixed.now in let its = ports_at sys (path_at sys line.now.instance) in
-            IsPlainLine sys fixed.now.form line.now → All (IsEmissionOf its) emits.old
-            → IfErr result (OfRefusal (λ n. EmitsFail sys fixed.now.form line.now (map (emission_of its) emits.old) self.old.reading self.new.reading (R.remaining input.old) (R.remaining input.new) n)) }
+        ensures refused { let its = ports_in fixed.now line.now in
+            IsPlainLine fixed.now line.now → All (IsEmissionOf its) emits.old
+            → IfErr result (OfRefusal (λ n. EmitsFail fixed.now line.now (map (emission_of its) emits.old) self.old.reading self.new.reading (R.remaining input.old) (R.remaining input.new) n)) }
     {
         while let Some(emission) = emits.pop_first() {
             self.emit(fixed, line, &emission, input)?;

@@ -5,29 +5,24 @@ ghost use Rattle.std.specs.Bool.{OnFalse, OnTrue};
 ghost use Rattle.std.specs.Io.KnownBytes.{Consumes};
 ghost use Rattle.fb_types.specs.Blocks.{Basic};
 ghost use Rattle.fb_types.specs.Names.{Name};
-ghost use Rattle.fb_types.specs.Numbers.{path_at};
 ghost use Rattle.fb_types.specs.Systems.{System};
-ghost use Rattle.fb_types.specs.declared.library.BasicType.{BasicType};
 ghost use Rattle.fb_types.specs.declared.run.Line as run;
 ghost use Rattle.fb_coverage.specs.declared.marks.Marks.{Marks};
 ghost use Rattle.fb_trace.specs.End.{ending_of};
 ghost use Rattle.fb_wave.specs.Dumps.{last_tick};
-ghost use Rattle.fb_wave.specs.Lines.{IsEndOf, IsLineOf, IsTextOf};
-ghost use Rattle.fb_wave.specs.Named.{HasNames};
+ghost use Rattle.fb_wave.specs.Lines.{IsEndOf};
 ghost use Rattle.fb_inspect.specs.Counted.{left_of};
-ghost use Rattle.fb_inspect.specs.Covering.{IsCoveredBy};
-ghost use Rattle.fb_inspect.specs.Walks.{system_in};
-ghost use Rattle.fb_inspect.specs.Inspections.{IsShownBy, KeepSteps, ShowsFront};
-ghost use Rattle.fb_inspect.specs.Lines.{IsAlone, IsNext, IsNextLine, IsPlain};
-ghost use Rattle.fb_inspect.specs.Looks.{Look, Turn, Turns, TurnsAt, left_at, most};
+ghost use Rattle.fb_inspect.specs.Inspections.{KeepSteps};
+ghost use Rattle.fb_inspect.specs.Lines.{IsAlone, IsPlain};
+ghost use Rattle.fb_inspect.specs.Looks.{Look, Turn, left_at, most};
 ghost use Rattle.fb_inspect.specs.Walking as spec;
 ghost use Rattle.fb_inspect.specs.Moves.{shown_text};
-ghost use Rattle.fb_inspect.specs.Refusals.{FailsBy, IsNoRefusal, IsWrongAt, OfRefusal};
+ghost use Rattle.fb_inspect.specs.Refusals.{IsNoRefusal, OfRefusal};
 ghost use Rattle.fb_inspect.specs.declared.error.InspectError.TheVariants.{Refused};
-ghost use Rattle.fb_inspect.specs.Standing.{AreAhead, AreApart, BeginsText, GoesAfter, IsNear, IsNotNear, IsStepsStop, StandsAfter, StandsAt, StandsWell, Watches};
-ghost use Rattle.fb_inspect.specs.Stepping.{LineGoes, StepGoes};
-ghost use Rattle.fb_inspect.specs.Walking.{AreKept, CanReact, Finishes, FinishesCut, HasAdvanced, HasCovered, HasLimited, HasStepped, IsKept, IsLookOf, KeptGoes, MayEnd, ReactGoes, SendsCutPart, SendsPart, Starts, TurnGoes, unread};
+ghost use Rattle.fb_inspect.specs.Standing.{IsStepsStop};
+ghost use Rattle.fb_inspect.specs.Walking.{Finishes, FinishesCut, HasLimited, HasStepped, IsLookOf, MayEnd, SendsCutPart, SendsPart, unread};
 ghost use Rattle.fb_inspect.specs.declared.blocks.Remembered.TheVariants as kept;
+ghost use Rattle.fb_inspect.specs.OfWalk.{AreAhead, AreApart, AreKept, BeginsText, CanReact, FailsAt, GoesAfter, HasAdvanced, HasCovered, HasLook, HasNames, IsCoveredBy, IsKeptAt, IsLineOf, IsNear, IsNext, IsNextLine, IsNotNear, IsShownBy, IsTextOf, IsWrongAt, KeptGoes, LineGoes, LooksAs, ReactGoes, ShowsFront, StandsAfter, StandsAt, StandsWell, Starts, StepGoes, TurnFails, TurnGoes, Watches, resource_count};
 
 use crate::ahead::Ahead;
 use crate::blocks::{Chart, EventBlock, Remembered, basic_type, type_number};
@@ -77,14 +72,14 @@ fn react_basic<R: BufRead>(
     line: &Line,
     input: &mut R,
 ) -> Result<Option<Reason>, InspectError>
-    requires { CanReact (system_in fixed.now) fixed.now.form (kept.Basic chart.old) line.now trail.old.reading.line.items }
-    ensures goes { (look : Look) → let sys = system_in fixed.now in let p = path_at sys line.now.instance in
-        IsKept (sys.kind p) (kept.Basic chart.old) (look.blocks p) → IfOk result (λ stop.
-        KeptGoes fixed.now.table.now.system.now.library.blocks sys fixed.now.form look meter.old.left line.now stop (kept.Basic chart.new) meter.new.left trail.old trail.new (R.remaining input.old) (R.remaining input.new)) }
-    ensures refused { (look : Look) → let sys = system_in fixed.now in let p = path_at sys line.now.instance in
-        HasNames sys → IsPlain fixed.now.form line.now.key → IsKept (sys.kind p) (kept.Basic chart.old) (look.blocks p)
-        → IfErr result (OfRefusal (FailsBy (TurnsAt meter.old.left look (sys.kind p)) sys fixed.now.form line.now trail.old.reading trail.new.reading (R.remaining input.old) (R.remaining input.new))) }
-    ensures next { OnOk result (IsNext (system_in fixed.now) fixed.now.form line.now.key.tick trail.new.reading.line.items trail.new.reading.next) }
+    requires { CanReact fixed.now (kept.Basic chart.old) line.now trail.old.reading.line.items }
+    ensures goes { (look : Look)
+        → IsKeptAt fixed.now line.now (kept.Basic chart.old) look → IfOk result (λ stop.
+        KeptGoes fixed.now look meter.old.left line.now stop (kept.Basic chart.new) meter.new.left trail.old trail.new (R.remaining input.old) (R.remaining input.new)) }
+    ensures refused { (look : Look)
+        → HasNames fixed.now → IsPlain fixed.now.form line.now.key → IsKeptAt fixed.now line.now (kept.Basic chart.old) look
+        → IfErr result (OfRefusal (FailsAt fixed.now meter.old.left look line.now trail.old.reading trail.new.reading (R.remaining input.old) (R.remaining input.new))) }
+    ensures next { OnOk result (IsNext fixed.now line.now.key.tick trail.new.reading) }
 {
     let Some(block) = basic_type(fixed.table.system, line.instance) else {
         unreachable!()
@@ -113,14 +108,14 @@ fn react_event<R: BufRead>(
     line: &Line,
     input: &mut R,
 ) -> Result<(), InspectError>
-    requires { CanReact (system_in fixed.now) fixed.now.form (kept.Event block.old) line.now trail.old.reading.line.items }
-    ensures goes { (look : Look) (left : ℕ) → let sys = system_in fixed.now in let p = path_at sys line.now.instance in
-        IsKept (sys.kind p) (kept.Event block.old) (look.blocks p) → OnOk result
-        (KeptGoes fixed.now.table.now.system.now.library.blocks sys fixed.now.form look left line.now None (kept.Event block.new) left trail.old trail.new (R.remaining input.old) (R.remaining input.new)) }
-    ensures refused { (look : Look) (left : ℕ) → let sys = system_in fixed.now in let p = path_at sys line.now.instance in
-        HasNames sys → IsPlain fixed.now.form line.now.key → IsKept (sys.kind p) (kept.Event block.old) (look.blocks p)
-        → IfErr result (OfRefusal (FailsBy (TurnsAt left look (sys.kind p)) sys fixed.now.form line.now trail.old.reading trail.new.reading (R.remaining input.old) (R.remaining input.new))) }
-    ensures next { OnOk result (IsNext (system_in fixed.now) fixed.now.form line.now.key.tick trail.new.reading.line.items trail.new.reading.next) }
+    requires { CanReact fixed.now (kept.Event block.old) line.now trail.old.reading.line.items }
+    ensures goes { (look : Look) (left : ℕ)
+        → IsKeptAt fixed.now line.now (kept.Event block.old) look → OnOk result
+        (KeptGoes fixed.now look left line.now None (kept.Event block.new) left trail.old trail.new (R.remaining input.old) (R.remaining input.new)) }
+    ensures refused { (look : Look) (left : ℕ)
+        → HasNames fixed.now → IsPlain fixed.now.form line.now.key → IsKeptAt fixed.now line.now (kept.Event block.old) look
+        → IfErr result (OfRefusal (FailsAt fixed.now left look line.now trail.old.reading trail.new.reading (R.remaining input.old) (R.remaining input.new))) }
+    ensures next { OnOk result (IsNext fixed.now line.now.key.tick trail.new.reading) }
 {
     if !line.taken {
         return expire_block(fixed, trail, block, line, input);
@@ -138,14 +133,14 @@ fn react_kept<R: BufRead>(
     line: &Line,
     input: &mut R,
 ) -> Result<Option<Reason>, InspectError>
-    requires { CanReact (system_in fixed.now) fixed.now.form block.old line.now trail.old.reading.line.items }
-    ensures goes { (look : Look) → let sys = system_in fixed.now in let p = path_at sys line.now.instance in
-        IsKept (sys.kind p) block.old (look.blocks p) → IfOk result (λ stop.
-        KeptGoes fixed.now.table.now.system.now.library.blocks sys fixed.now.form look meter.old.left line.now stop block.new meter.new.left trail.old trail.new (R.remaining input.old) (R.remaining input.new)) }
-    ensures refused { (look : Look) → let sys = system_in fixed.now in let p = path_at sys line.now.instance in
-        HasNames sys → IsPlain fixed.now.form line.now.key → IsKept (sys.kind p) block.old (look.blocks p)
-        → IfErr result (OfRefusal (FailsBy (TurnsAt meter.old.left look (sys.kind p)) sys fixed.now.form line.now trail.old.reading trail.new.reading (R.remaining input.old) (R.remaining input.new))) }
-    ensures next { OnOk result (IsNext (system_in fixed.now) fixed.now.form line.now.key.tick trail.new.reading.line.items trail.new.reading.next) }
+    requires { CanReact fixed.now block.old line.now trail.old.reading.line.items }
+    ensures goes { (look : Look)
+        → IsKeptAt fixed.now line.now block.old look → IfOk result (λ stop.
+        KeptGoes fixed.now look meter.old.left line.now stop block.new meter.new.left trail.old trail.new (R.remaining input.old) (R.remaining input.new)) }
+    ensures refused { (look : Look)
+        → HasNames fixed.now → IsPlain fixed.now.form line.now.key → IsKeptAt fixed.now line.now block.old look
+        → IfErr result (OfRefusal (FailsAt fixed.now meter.old.left look line.now trail.old.reading trail.new.reading (R.remaining input.old) (R.remaining input.new))) }
+    ensures next { OnOk result (IsNext fixed.now line.now.key.tick trail.new.reading) }
 {
     match block {
         Remembered::Basic(chart) => react_basic(fixed, trail, chart, meter, line, input),
@@ -268,16 +263,16 @@ impl Walk {
         line: &Line,
         input: &mut R,
     ) -> Result<Option<Reason>, InspectError>
-        requires is { IsTextOf (system_in fixed.now) fixed.now.form line.now self.old.trail.reading.line.items }
+        requires is { IsTextOf fixed.now line.now self.old.trail.reading.line.items }
         requires early { line.now.key.tick ≤ 10 ^ 12 }
-        requires blocks { (look : Look) × AreKept (system_in fixed.now) self.old.blocks.items look }
-        requires steps { length self.old.steps.items ≡ length (system_in fixed.now).resource_names }
-        ensures goes { (look : Look) → let sys = system_in fixed.now in AreKept sys self.old.blocks.items look
-            → IfOk result (λ stop. ReactGoes fixed.now.table.now.system.now.library.blocks sys fixed.now.form look line.now stop self.old self.new (R.remaining input.old) (R.remaining input.new)) }
-        ensures refused { (look : Look) (own : TickSteps) → let sys = system_in fixed.now in let p = path_at sys line.now.instance in
-            HasNames sys → IsPlain fixed.now.form line.now.key → AreKept sys self.old.blocks.items look → slice_get self.old.steps.items line.now.key.resource ≡ Some own
-            → IfErr result (OfRefusal (FailsBy (TurnsAt own.meter.left look (sys.kind p)) sys fixed.now.form line.now self.old.trail.reading self.new.trail.reading (R.remaining input.old) (R.remaining input.new))) }
-        ensures next { OnOk result (IsNext (system_in fixed.now) fixed.now.form line.now.key.tick self.new.trail.reading.line.items self.new.trail.reading.next) }
+        requires blocks { (look : Look) × AreKept fixed.now self.old.blocks.items look }
+        requires steps { length self.old.steps.items ≡ resource_count fixed.now }
+        ensures goes { (look : Look) → AreKept fixed.now self.old.blocks.items look
+            → IfOk result (λ stop. ReactGoes fixed.now look line.now stop self.old self.new (R.remaining input.old) (R.remaining input.new)) }
+        ensures refused { (look : Look) (own : TickSteps)
+            → HasNames fixed.now → IsPlain fixed.now.form line.now.key → AreKept fixed.now self.old.blocks.items look → slice_get self.old.steps.items line.now.key.resource ≡ Some own
+            → IfErr result (OfRefusal (FailsAt fixed.now own.meter.left look line.now self.old.trail.reading self.new.trail.reading (R.remaining input.old) (R.remaining input.new))) }
+        ensures next { OnOk result (IsNext fixed.now line.now.key.tick self.new.trail.reading) }
     {
         let Some(steps) = self.steps.get_mut(line.key.resource as usize) else {
             unreachable!()
@@ -301,15 +296,15 @@ impl Walk {
         line: &Line,
         input: &mut R,
     ) -> Result<Option<Reason>, InspectError>
-        requires is { IsTextOf (system_in fixed.now) fixed.now.form line.now self.old.trail.reading.line.items }
-        requires look { (look : Look) × IsLookOf (system_in fixed.now) self.old.blocks.items self.old.steps.items look }
-        ensures goes { (look : Look) → let sys = system_in fixed.now in IsLookOf sys self.old.blocks.items self.old.steps.items look
-            → IfOk result (λ stop. TurnGoes fixed.now.table.now.system.now.library.blocks sys fixed.now.form fixed.now.limit look line.now stop self.old self.new (R.remaining input.old) (R.remaining input.new)) }
+        requires is { IsTextOf fixed.now line.now self.old.trail.reading.line.items }
+        requires look { HasLook fixed.now self.old }
+        ensures goes { (look : Look) → LooksAs fixed.now self.old look
+            → IfOk result (λ stop. TurnGoes fixed.now look line.now stop self.old self.new (R.remaining input.old) (R.remaining input.new)) }
         ensures alone { OnOk result (IsAlone self.old.trail.reading.line.items (R.remaining input.old) → IsAlone self.new.trail.reading.line.items (R.remaining input.new)) }
-        ensures refused { (look : Look) → let sys = system_in fixed.now in
-            HasNames sys → IsPlain fixed.now.form line.now.key → IsLookOf sys self.old.blocks.items self.old.steps.items look
-            → IfErr result (OfRefusal (FailsBy (Turns sys fixed.now.limit look) sys fixed.now.form line.now self.old.trail.reading self.new.trail.reading (R.remaining input.old) (R.remaining input.new))) }
-        ensures next { OnOk result (IsNext (system_in fixed.now) fixed.now.form line.now.key.tick self.new.trail.reading.line.items self.new.trail.reading.next) }
+        ensures refused { (look : Look)
+            → HasNames fixed.now → IsPlain fixed.now.form line.now.key → LooksAs fixed.now self.old look
+            → IfErr result (OfRefusal (TurnFails fixed.now look line.now self.old.trail.reading self.new.trail.reading (R.remaining input.old) (R.remaining input.new))) }
+        ensures next { OnOk result (IsNext fixed.now line.now.key.tick self.new.trail.reading) }
     {
         fixed.table.system.facts();
         self.trail.is_shown = flag_at(self.shown.as_slice(), line.instance);
@@ -433,9 +428,9 @@ impl Walk {
     /// Whether the taking of the event of a line may end by its steps: the line that was read ahead is that of such a stop.
     fn is_near(&self, fixed: &Fixed<'_, '_>, ahead: &Ahead, line: &Line) -> bool
         requires { line.now.instance < length self.now.blocks.items }
-        ensures near { (look : Look) → let sys = system_in fixed.now in AreKept sys self.now.blocks.items look → IsTrue result → IsNear sys line.now ahead.now.last.items }
-        ensures other { (look : Look) → let sys = system_in fixed.now in AreKept sys self.now.blocks.items look → HasNames sys → AreApart sys → IsLineOf sys line.now
-            → result ≡ false → IsNotNear sys line.now ahead.now.last.items }
+        ensures near { (look : Look) → AreKept fixed.now self.now.blocks.items look → IsTrue result → IsNear fixed.now line.now ahead.now.last.items }
+        ensures other { (look : Look) → AreKept fixed.now self.now.blocks.items look → HasNames fixed.now → AreApart fixed.now → IsLineOf fixed.now line.now
+            → result ≡ false → IsNotNear fixed.now line.now ahead.now.last.items }
     {
         if !self.is_basic(line.instance) {
             return false;
@@ -457,17 +452,17 @@ impl Walk {
         line: &Line,
         ahead: &mut Ahead,
     ) -> Result<Option<Reason>, InspectError>
-        requires is { IsTextOf (system_in fixed.now) fixed.now.form line.now self.old.trail.reading.line.items }
-        requires look { (look : Look) × IsLookOf (system_in fixed.now) self.old.blocks.items self.old.steps.items look }
-        ensures goes { (look : Look) (remaining : Option (List ℕ)) → let sys = system_in fixed.now in IsLookOf sys self.old.blocks.items self.old.steps.items look
-            → IfOk result (λ stop. TurnGoes fixed.now.table.now.system.now.library.blocks sys fixed.now.form fixed.now.limit look line.now stop self.old self.new (unread ahead.old remaining) (unread ahead.new remaining)) }
+        requires is { IsTextOf fixed.now line.now self.old.trail.reading.line.items }
+        requires look { HasLook fixed.now self.old }
+        ensures goes { (look : Look) (remaining : Option (List ℕ)) → LooksAs fixed.now self.old look
+            → IfOk result (λ stop. TurnGoes fixed.now look line.now stop self.old self.new (unread ahead.old remaining) (unread ahead.new remaining)) }
         ensures alone { OnOk result (IsAlone self.old.trail.reading.line.items (Some ahead.old.text.items) → IsAlone self.new.trail.reading.line.items (Some ahead.new.text.items)) }
         ensures last { OnOk result (ahead.new.last ≡ ahead.old.last) }
         ensures watched { ahead.new.watched ≡ ahead.old.watched }
-        ensures refused { (look : Look) → let sys = system_in fixed.now in
-            HasNames sys → IsPlain fixed.now.form line.now.key → IsLookOf sys self.old.blocks.items self.old.steps.items look
-            → IfErr result (OfRefusal (λ n. (rest : List ℕ) × FailsBy (Turns sys fixed.now.limit look) sys fixed.now.form line.now self.old.trail.reading self.new.trail.reading (Some ahead.old.text.items) (Some rest) n)) }
-        ensures next { OnOk result (IsNext (system_in fixed.now) fixed.now.form line.now.key.tick self.new.trail.reading.line.items self.new.trail.reading.next) }
+        ensures refused { (look : Look)
+            → HasNames fixed.now → IsPlain fixed.now.form line.now.key → LooksAs fixed.now self.old look
+            → IfErr result (OfRefusal (λ n. (rest : List ℕ) × TurnFails fixed.now look line.now self.old.trail.reading self.new.trail.reading (Some ahead.old.text.items) (Some rest) n)) }
+        ensures next { OnOk result (IsNext fixed.now line.now.key.tick self.new.trail.reading) }
     {
         let mut rest = ahead.text.as_slice();
         let stop = self.take(fixed, line, &mut rest)?;
@@ -483,18 +478,18 @@ impl Walk {
         line: &Line,
         ahead: &mut Ahead,
     ) -> Result<Step, InspectError>
-        requires is { IsTextOf (system_in fixed.now) fixed.now.form line.now self.old.trail.reading.line.items }
-        requires look { (look : Look) × IsLookOf (system_in fixed.now) self.old.blocks.items self.old.steps.items look }
+        requires is { IsTextOf fixed.now line.now self.old.trail.reading.line.items }
+        requires look { HasLook fixed.now self.old }
         requires limit { fixed.now.limit ≡ most }
-        ensures goes { (first : Marks) (only : List Name) (steps : ℕ) (known remaining old new : Option (List ℕ)) → let sys = system_in fixed.now in
-            let types = fixed.now.table.now.system.now.library.blocks in (covered : HasCovered types first sys fixed.now.form only steps self.old known (unread ahead.old remaining) old new) → last_tick 0 covered.gone.gone.lines ≤ line.now.key.tick
-            → IfOk result (HasAdvanced types first sys fixed.now.form only steps self.new known (unread ahead.new remaining) old new) }
-        ensures turned { (look : Look) (steps : ℕ) (remaining : Option (List ℕ)) → let sys = system_in fixed.now in let types = fixed.now.table.now.system.now.library.blocks in
-            IsLookOf sys self.old.blocks.items self.old.steps.items look
-            → IfOk result (LineGoes types sys fixed.now.form steps look line.now self.old self.new ahead.new (unread ahead.old remaining) (unread ahead.new remaining)) }
-        ensures stands { (steps : ℕ) (turns : List Turn) (rest text : List ℕ) (rows : List run.Line) → let sys = system_in fixed.now in StandsAt sys fixed.now.form turns self.old ahead.old.text.items ahead.old.last.items line.now rest text
-            → AreAhead sys fixed.now.form line.now rows ahead.old.text.items ahead.old.last.items rest → IsNotNear sys line.now ahead.old.last.items
-            → StandsAfter sys fixed.now.form steps turns self.new ahead.new.text.items ahead.new.last.items line.now rest text result }
+        ensures goes { (first : Marks) (only : List Name) (steps : ℕ) (known remaining old new : Option (List ℕ))
+            → (covered : HasCovered fixed.now first only steps self.old known (unread ahead.old remaining) old new) → last_tick 0 covered.gone.gone.lines ≤ line.now.key.tick
+            → IfOk result (HasAdvanced fixed.now first only steps self.new known (unread ahead.new remaining) old new) }
+        ensures turned { (look : Look) (steps : ℕ) (remaining : Option (List ℕ))
+            → LooksAs fixed.now self.old look
+            → IfOk result (LineGoes fixed.now steps look line.now self.old self.new ahead.new (unread ahead.old remaining) (unread ahead.new remaining)) }
+        ensures stands { (steps : ℕ) (turns : List Turn) (rest text : List ℕ) (rows : List run.Line) → StandsAt fixed.now turns self.old ahead.old.text.items ahead.old.last.items line.now rest text
+            → AreAhead fixed.now line.now rows ahead.old.text.items ahead.old.last.items rest → IsNotNear fixed.now line.now ahead.old.last.items
+            → StandsAfter fixed.now steps turns self.new ahead.new.text.items ahead.new.last.items line.now rest text result }
         ensures watched { ahead.new.watched ≡ ahead.old.watched }
         ensures whole { IfOk result (λ step. step ≡ Step.CutOff → ⊥) }
     {
@@ -520,19 +515,19 @@ impl Walk {
         line: &Line,
         ahead: &mut Ahead,
     ) -> Result<Step, InspectError>
-        requires is { IsTextOf (system_in fixed.now) fixed.now.form line.now self.old.trail.reading.line.items }
-        requires look { (look : Look) × IsLookOf (system_in fixed.now) self.old.blocks.items self.old.steps.items look }
+        requires is { IsTextOf fixed.now line.now self.old.trail.reading.line.items }
+        requires look { HasLook fixed.now self.old }
         requires limit { fixed.now.limit ≡ most }
-        ensures goes { (first : Marks) (only : List Name) (known remaining old new : Option (List ℕ)) → let sys = system_in fixed.now in
-            let types = fixed.now.table.now.system.now.library.blocks in (covered : HasCovered types first sys fixed.now.form only steps self.old known (unread ahead.old remaining) old new) → last_tick 0 covered.gone.gone.lines ≤ line.now.key.tick
-            → IfOk result (HasAdvanced types first sys fixed.now.form only steps self.new known (unread ahead.new remaining) old new) }
-        ensures turned { (look : Look) (remaining : Option (List ℕ)) → let sys = system_in fixed.now in let types = fixed.now.table.now.system.now.library.blocks in
-            IsLookOf sys self.old.blocks.items self.old.steps.items look
-            → IfOk result (LineGoes types sys fixed.now.form steps look line.now self.old self.new ahead.new (unread ahead.old remaining) (unread ahead.new remaining)) }
-        ensures stands { (turns : List Turn) (rest text : List ℕ) (rows : List run.Line) → let sys = system_in fixed.now in StandsAt sys fixed.now.form turns self.old ahead.old.text.items ahead.old.last.items line.now rest text
-            → Watches sys fixed.now.form steps turns ahead.old.watched.number ahead.old.watched.text.items ahead.old.watched.is_excess
-            → AreAhead sys fixed.now.form line.now rows ahead.old.text.items ahead.old.last.items rest → IsNotNear sys line.now ahead.old.last.items
-            → GoesAfter sys fixed.now.form steps self.new ahead.new (Some rest) text result }
+        ensures goes { (first : Marks) (only : List Name) (known remaining old new : Option (List ℕ))
+            → (covered : HasCovered fixed.now first only steps self.old known (unread ahead.old remaining) old new) → last_tick 0 covered.gone.gone.lines ≤ line.now.key.tick
+            → IfOk result (HasAdvanced fixed.now first only steps self.new known (unread ahead.new remaining) old new) }
+        ensures turned { (look : Look) (remaining : Option (List ℕ))
+            → LooksAs fixed.now self.old look
+            → IfOk result (LineGoes fixed.now steps look line.now self.old self.new ahead.new (unread ahead.old remaining) (unread ahead.new remaining)) }
+        ensures stands { (turns : List Turn) (rest text : List ℕ) (rows : List run.Line) → StandsAt fixed.now turns self.old ahead.old.text.items ahead.old.last.items line.now rest text
+            → Watches fixed.now steps turns ahead.old.watched.number ahead.old.watched.text.items ahead.old.watched.is_excess
+            → AreAhead fixed.now line.now rows ahead.old.text.items ahead.old.last.items rest → IsNotNear fixed.now line.now ahead.old.last.items
+            → GoesAfter fixed.now steps self.new ahead.new (Some rest) text result }
         ensures whole { IfOk result (λ step. step ≡ Step.CutOff → ⊥) }
     {
         ahead.watch(&self.trail.reading)?;
@@ -550,18 +545,18 @@ impl Walk {
         line: &Line,
         ahead: &mut Ahead,
     ) -> Result<Step, InspectError>
-        requires is { IsTextOf (system_in fixed.now) fixed.now.form line.now self.old.trail.reading.line.items }
-        requires look { (look : Look) × IsLookOf (system_in fixed.now) self.old.blocks.items self.old.steps.items look }
-        ensures goes { (first : Marks) (only : List Name) (known remaining old new : Option (List ℕ)) → let sys = system_in fixed.now in
-            let types = fixed.now.table.now.system.now.library.blocks in (covered : HasCovered types first sys fixed.now.form only steps self.old known (unread ahead.old remaining) old new) → last_tick 0 covered.gone.gone.lines ≤ line.now.key.tick
-            → IfOk result (HasAdvanced types first sys fixed.now.form only steps self.new known (unread ahead.new remaining) old new) }
-        ensures turned { (look : Look) (remaining : Option (List ℕ)) → let sys = system_in fixed.now in let types = fixed.now.table.now.system.now.library.blocks in
-            IsLookOf sys self.old.blocks.items self.old.steps.items look
-            → IfOk result (LineGoes types sys fixed.now.form steps look line.now self.old self.new ahead.new (unread ahead.old remaining) (unread ahead.new remaining)) }
-        ensures stands { (turns : List Turn) (rest text : List ℕ) (rows : List run.Line) → let sys = system_in fixed.now in steps ≤ most → StandsAt sys fixed.now.form turns self.old ahead.old.text.items ahead.old.last.items line.now rest text
-            → Watches sys fixed.now.form steps turns ahead.old.watched.number ahead.old.watched.text.items ahead.old.watched.is_excess
-            → AreAhead sys fixed.now.form line.now rows ahead.old.text.items ahead.old.last.items rest → IsNear sys line.now ahead.old.last.items
-            → GoesAfter sys fixed.now.form steps self.new ahead.new (Some rest) text result }
+        requires is { IsTextOf fixed.now line.now self.old.trail.reading.line.items }
+        requires look { HasLook fixed.now self.old }
+        ensures goes { (first : Marks) (only : List Name) (known remaining old new : Option (List ℕ))
+            → (covered : HasCovered fixed.now first only steps self.old known (unread ahead.old remaining) old new) → last_tick 0 covered.gone.gone.lines ≤ line.now.key.tick
+            → IfOk result (HasAdvanced fixed.now first only steps self.new known (unread ahead.new remaining) old new) }
+        ensures turned { (look : Look) (remaining : Option (List ℕ))
+            → LooksAs fixed.now self.old look
+            → IfOk result (LineGoes fixed.now steps look line.now self.old self.new ahead.new (unread ahead.old remaining) (unread ahead.new remaining)) }
+        ensures stands { (turns : List Turn) (rest text : List ℕ) (rows : List run.Line) → steps ≤ most → StandsAt fixed.now turns self.old ahead.old.text.items ahead.old.last.items line.now rest text
+            → Watches fixed.now steps turns ahead.old.watched.number ahead.old.watched.text.items ahead.old.watched.is_excess
+            → AreAhead fixed.now line.now rows ahead.old.text.items ahead.old.last.items rest → IsNear fixed.now line.now ahead.old.last.items
+            → GoesAfter fixed.now steps self.new ahead.new (Some rest) text result }
         ensures whole { IfOk result (λ step. step ≡ Step.CutOff → ⊥) }
     {
         fixed.table.system.facts();
@@ -620,19 +615,19 @@ impl Walk {
         ahead: &mut Ahead,
         input: &mut R,
     ) -> Result<Step, InspectError>
-        requires is { IsTextOf (system_in fixed.now) fixed.now.form line.now self.old.trail.reading.line.items }
-        requires look { (look : Look) × IsLookOf (system_in fixed.now) self.old.blocks.items self.old.steps.items look }
+        requires is { IsTextOf fixed.now line.now self.old.trail.reading.line.items }
+        requires look { HasLook fixed.now self.old }
         requires limit { fixed.now.limit ≡ most }
-        ensures goes { (first : Marks) (only : List Name) (known old new : Option (List ℕ)) → let sys = system_in fixed.now in
-            let types = fixed.now.table.now.system.now.library.blocks in (covered : HasCovered types first sys fixed.now.form only terms.steps self.old known (unread ahead.old (R.remaining input.old)) old new) → last_tick 0 covered.gone.gone.lines ≤ line.now.key.tick
-            → IfOk result (HasAdvanced types first sys fixed.now.form only terms.steps self.new known (unread ahead.new (R.remaining input.new)) old new) }
-        ensures turned { (look : Look) → let sys = system_in fixed.now in let types = fixed.now.table.now.system.now.library.blocks in
-            IsLookOf sys self.old.blocks.items self.old.steps.items look
-            → IfOk result (LineGoes types sys fixed.now.form terms.steps look line.now self.old self.new ahead.new (unread ahead.old (R.remaining input.old)) (unread ahead.new (R.remaining input.new))) }
-        ensures stands { (turns : List Turn) (rest text : List ℕ) → let sys = system_in fixed.now in terms.steps ≤ most → R.remaining input.old ≡ Some rest
-            → StandsAt sys fixed.now.form turns self.old ahead.old.text.items ahead.old.last.items line.now rest text
-            → Watches sys fixed.now.form terms.steps turns ahead.old.watched.number ahead.old.watched.text.items ahead.old.watched.is_excess
-            → GoesAfter sys fixed.now.form terms.steps self.new ahead.new (R.remaining input.new) text result }
+        ensures goes { (first : Marks) (only : List Name) (known old new : Option (List ℕ))
+            → (covered : HasCovered fixed.now first only terms.steps self.old known (unread ahead.old (R.remaining input.old)) old new) → last_tick 0 covered.gone.gone.lines ≤ line.now.key.tick
+            → IfOk result (HasAdvanced fixed.now first only terms.steps self.new known (unread ahead.new (R.remaining input.new)) old new) }
+        ensures turned { (look : Look)
+            → LooksAs fixed.now self.old look
+            → IfOk result (LineGoes fixed.now terms.steps look line.now self.old self.new ahead.new (unread ahead.old (R.remaining input.old)) (unread ahead.new (R.remaining input.new))) }
+        ensures stands { (turns : List Turn) (rest text : List ℕ) → terms.steps ≤ most → R.remaining input.old ≡ Some rest
+            → StandsAt fixed.now turns self.old ahead.old.text.items ahead.old.last.items line.now rest text
+            → Watches fixed.now terms.steps turns ahead.old.watched.number ahead.old.watched.text.items ahead.old.watched.is_excess
+            → GoesAfter fixed.now terms.steps self.new ahead.new (R.remaining input.new) text result }
         ensures cut { IfOk result (λ step. step ≡ Step.CutOff → terms.cut ≡ Cut.Allowed) }
     {
         let is_cut = ahead.look(fixed, terms.cut, line, input)?;
@@ -657,17 +652,17 @@ impl Walk {
         ahead: &mut Ahead,
         input: &mut R,
     ) -> Result<Step, InspectError>
-        requires look { (look : Look) × IsLookOf (system_in fixed.now) self.old.blocks.items self.old.steps.items look }
-        requires next { (tick : ℕ) × IsNextLine (system_in fixed.now) fixed.now.form tick self.old.trail.reading.line.items self.old.trail.reading.next }
+        requires look { HasLook fixed.now self.old }
+        requires next { (tick : ℕ) × IsNextLine fixed.now tick self.old.trail.reading }
         requires limit { fixed.now.limit ≡ most }
-        ensures goes { (first : Marks) (only : List Name) (known old new : Option (List ℕ)) → let sys = system_in fixed.now in
-            let types = fixed.now.table.now.system.now.library.blocks in HasCovered types first sys fixed.now.form only terms.steps self.old known (unread ahead.old (R.remaining input.old)) old new
-            → IfOk result (HasAdvanced types first sys fixed.now.form only terms.steps self.new known (unread ahead.new (R.remaining input.new)) old new) }
-        ensures turned { (look : Look) → let sys = system_in fixed.now in let types = fixed.now.table.now.system.now.library.blocks in
-            IsLookOf sys self.old.blocks.items self.old.steps.items look
-            → IfOk result (StepGoes types sys fixed.now.form terms.steps look self.old self.new ahead.new (unread ahead.old (R.remaining input.old)) (unread ahead.new (R.remaining input.new))) }
-        ensures stands { (rest text : List ℕ) → let sys = system_in fixed.now in terms.steps ≤ most → HasNames sys → R.remaining input.old ≡ Some rest
-            → StandsWell sys fixed.now.form terms.steps self.old ahead.old rest text → GoesAfter sys fixed.now.form terms.steps self.new ahead.new (R.remaining input.new) text result }
+        ensures goes { (first : Marks) (only : List Name) (known old new : Option (List ℕ))
+            → HasCovered fixed.now first only terms.steps self.old known (unread ahead.old (R.remaining input.old)) old new
+            → IfOk result (HasAdvanced fixed.now first only terms.steps self.new known (unread ahead.new (R.remaining input.new)) old new) }
+        ensures turned { (look : Look)
+            → LooksAs fixed.now self.old look
+            → IfOk result (StepGoes fixed.now terms.steps look self.old self.new ahead.new (unread ahead.old (R.remaining input.old)) (unread ahead.new (R.remaining input.new))) }
+        ensures stands { (rest text : List ℕ) → terms.steps ≤ most → HasNames fixed.now → R.remaining input.old ≡ Some rest
+            → StandsWell fixed.now terms.steps self.old ahead.old rest text → GoesAfter fixed.now terms.steps self.new ahead.new (R.remaining input.new) text result }
         ensures cut { IfOk result (λ step. step ≡ Step.CutOff → terms.cut ≡ Cut.Allowed) }
     {
         fixed.table.system.facts();
@@ -732,20 +727,20 @@ impl Walk {
         input: &mut R,
         out: &mut W,
     ) -> Result<Extent, InspectError>
-        requires starts { (only : List Name) × Starts (system_in fixed.now) fixed.now.form only self.old }
+        requires starts { (only : List Name) × Starts fixed.now only self.old }
         requires limit { fixed.now.limit ≡ most }
         requires empty { ahead.old.text.items ≡ [] }
-        ensures whole { (only : List Name) (known : Option (List ℕ)) → let sys = system_in fixed.now in
-            Starts sys fixed.now.form only self.old → Consumes known (R.remaining input.old) self.old.trail.reading.line.items
-            → OnOk result (IfSome known (λ text. IsShownBy terms.cut sys only terms.steps text (W.contents out.old) (W.contents out.new))) }
-        ensures covered { (only : List Name) (known : Option (List ℕ)) → let sys = system_in fixed.now in
-            Starts sys fixed.now.form only self.old → Consumes known (R.remaining input.old) self.old.trail.reading.line.items
-            → IfOk result (λ extent. IfSome known (λ text. IsCoveredBy terms.cut fixed.now.table.now.system.now only terms.steps text self.old.trail.marks self.new.trail.marks extent)) }
-        ensures fault { (only : List Name) → let sys = system_in fixed.now in
-            Starts sys fixed.now.form only self.old → OnErr result (ShowsFront sys only terms.steps (W.contents out.old) (W.contents out.new)) }
-        ensures refused { (only : List Name) (rest text : List ℕ) → let sys = system_in fixed.now in
-            terms.steps ≤ most → HasNames sys → Starts sys fixed.now.form only self.old → R.remaining input.old ≡ Some rest → BeginsText sys fixed.now.form self.old.trail.reading.line.items ahead.old.watched.is_excess rest text
-            → IfErr result (OfRefusal (λ n. IsWrongAt sys terms.steps n text)) }
+        ensures whole { (only : List Name) (known : Option (List ℕ))
+            → Starts fixed.now only self.old → Consumes known (R.remaining input.old) self.old.trail.reading.line.items
+            → OnOk result (IfSome known (λ text. IsShownBy terms.cut fixed.now only terms.steps text (W.contents out.old) (W.contents out.new))) }
+        ensures covered { (only : List Name) (known : Option (List ℕ))
+            → Starts fixed.now only self.old → Consumes known (R.remaining input.old) self.old.trail.reading.line.items
+            → IfOk result (λ extent. IfSome known (λ text. IsCoveredBy terms.cut fixed.now only terms.steps text self.old.trail.marks self.new.trail.marks extent)) }
+        ensures fault { (only : List Name)
+            → Starts fixed.now only self.old → OnErr result (ShowsFront fixed.now only terms.steps (W.contents out.old) (W.contents out.new)) }
+        ensures refused { (only : List Name) (rest text : List ℕ)
+            → terms.steps ≤ most → HasNames fixed.now → Starts fixed.now only self.old → R.remaining input.old ≡ Some rest → BeginsText fixed.now self.old.trail.reading.line.items ahead.old.watched.is_excess rest text
+            → IfErr result (OfRefusal (λ n. IsWrongAt fixed.now terms.steps n text)) }
     {
         for _ in 0..u64::MAX {
             match self.step(fixed, terms, ahead, input)? {

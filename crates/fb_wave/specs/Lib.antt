@@ -18,5 +18,4 @@ pub mod Copying
 pub mod CutOff
 pub mod CurrentLines
 pub mod Faults
-pub mod Tables
 pub mod OfSystem

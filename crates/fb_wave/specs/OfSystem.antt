@@ -4,6 +4,7 @@ use Rattle.fb_types.specs.Headline.{Inputs, system_of}
 use Rattle.fb_types.specs.Names.{Name, Path}
 use Rattle.fb_types.specs.Simulation.{Ending}
 use Rattle.fb_types.specs.declared.library.Variable.{Variable}
+use Rattle.fb_types.specs.declared.run.Form.{Form}
 use Rattle.fb_types.specs.declared.run.Line.{Line}
 use Rattle.fb_types.specs.declared.run.StopMark.{StopMark}
 use Rattle.fb_types.specs.declared.value.Value.{Value}
@@ -64,6 +65,12 @@ AreValuesOf i = lines.AreValuesOf (system_of i)
 
 abbrev pub AreNoValuesOf : Inputs → Port → List ℕ → Type 0
 AreNoValuesOf i = lines.AreNoValuesOf (system_of i)
+
+abbrev pub IsTextOf : Inputs → (form : Form) → Line → (text : List ℕ) → Type 0
+IsTextOf i = lines.IsTextOf (system_of i)
+
+abbrev pub IsNoTextOf : Inputs → (form : Form) → List ℕ → Type 0
+IsNoTextOf i = lines.IsNoTextOf (system_of i)
 
 abbrev pub IsStop : Inputs → (text : List ℕ) → (mark : StopMark) → Type 0
 IsStop i = lines.IsStop (system_of i)
@@ -136,7 +143,13 @@ end_text i = dumps.end_text (system_of i)
 abbrev pub dump_text : Inputs → List Line → Ending → List ℕ
 dump_text i = dumps.dump_text (system_of i)
 
--- ---- What a writer got
+-- ---- What was taken of a trace, and what a writer got
+
+abbrev pub IsTaken : Inputs → (form : Form) → (text : List ℕ) → (old new : Progress) → Type 0
+IsTaken i = copying.IsTaken (system_of i)
+
+abbrev pub RefusesLine : Inputs → (form : Form) → (tick number : ℕ) → List ℕ → WaveError → Type 0
+RefusesLine i = copying.RefusesLine (system_of i)
 
 abbrev pub IsFinished : Inputs → (end : Outcome) → (before : Progress) → (left old new : Option (List ℕ)) → Type 0
 IsFinished i = copying.IsFinished (system_of i)

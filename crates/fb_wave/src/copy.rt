@@ -3,16 +3,11 @@
 ghost use Rattle.std.specs.Prelude.{◌≡◌, ◌<◌, ◌↔◌, ℕ, ◌+◌, ◌^◌, List, [], ◌∷◌, ◌++◌, true, false, length, if◌then◌else◌, IfErr, IfOk, IfSome, OnOk, IsTrue};
 ghost use Rattle.std.specs.Io.KnownBytes.{Consumes, IsAtEnd};
 ghost use Rattle.fb_types.specs.Systems.{System as Flat};
-ghost use Rattle.fb_wave.specs.Tables.{system_in};
-ghost use Rattle.fb_wave.specs.Writing.{HasShown, IsDump};
-ghost use Rattle.fb_wave.specs.Copying.{IsAfter, IsCutFinished, IsCutUnfinished, IsFirstLine, IsNoWriteFault, IsRefusedAt, IsTaken, RefusesEnd, RefusesLine};
-ghost use Rattle.fb_wave.specs.CutOff.{BlamesShown, FailsShown, IsShown};
-ghost use Rattle.fb_wave.specs.CurrentLines.{IsRefusedLine};
+ghost use Rattle.fb_wave.specs.Copying.{IsAfter, IsCutFinished, IsCutUnfinished, IsFirstLine, IsNoWriteFault, IsRefusedAt, RefusesEnd};
 ghost use Rattle.fb_wave.specs.Faults.{IsReadFault};
 ghost use Rattle.fb_wave.specs.Named as named;
-ghost use Rattle.fb_wave.specs.Named.{HasNames};
 ghost use Rattle.fb_wave.specs.Words.{is_word};
-ghost use Rattle.fb_wave.specs.OfSystem.{IsFinished, IsLast, IsUnfinished};
+ghost use Rattle.fb_wave.specs.OfSystem.{BlamesShown, FailsShown, HasNames, HasShown, IsDump, IsFinished, IsLast, IsRefusedLine, IsShown, IsTaken, IsUnfinished, RefusesLine};
 
 use crate::current_line::CurrentLine;
 use crate::dump::Dump;
@@ -110,12 +105,12 @@ impl Progress {
         number: u64,
         line: &[u8],
     ) -> Result<(), WaveError>
-        requires { IsDump (system_in table.now) self.old.dump }
-        ensures taken { OnOk result (IsTaken (system_in table.now) form line.now self.old self.new) }
+        requires { IsDump table.now.system.now self.old.dump }
+        ensures taken { OnOk result (IsTaken table.now.system.now form line.now self.old self.new) }
         ensures fault { IfErr result IsNoWriteFault }
         ensures tick { IfErr result (λ e. self.new.tick ≡ self.old.tick) }
-        ensures refused { HasNames (system_in table.now)
-            → IfErr result (RefusesLine (system_in table.now) form self.old.tick number line.now) }
+        ensures refused { HasNames table.now.system.now
+            → IfErr result (RefusesLine table.now.system.now form self.old.tick number line.now) }
     {
         let Some(line) = read_line(alloc, table, &mut self.guess, form, line)? else {
             return Err(WaveError::Refused(number));
@@ -176,17 +171,17 @@ impl Progress {
         input: &mut R,
         out: &mut W,
     ) -> Result<(), WaveError>
-        requires dump { IsDump (system_in table.now) self.old.dump }
+        requires dump { IsDump table.now.system.now self.old.dump }
         requires tick { self.old.tick ≡ 0 }
-        requires shown { HasShown (system_in table.now) [] self.old.page.text.items self.old.dump }
+        requires shown { HasShown table.now.system.now [] self.old.page.text.items self.old.dump }
         requires written { self.old.page.written ≡ 0 }
         requires current { current.old.after_end ≡ false }
-        ensures whole { OnOk result (IfSome (R.remaining input.old) (λ text. IsShown cut (system_in table.now) text (W.contents out.old) (W.contents out.new))) }
-        ensures part { IfErr result (FailsShown cut (system_in table.now) (W.contents out.old) (W.contents out.new)) }
-        ensures refused { HasNames (system_in table.now)
-            → IfErr result (BlamesShown cut (system_in table.now) (R.remaining input.old)) }
-        ensures current { HasNames (system_in table.now)
-            → IfErr result (IsRefusedLine (system_in table.now) (R.remaining input.old) (record current.new { tick = self.new.tick })) }
+        ensures whole { OnOk result (IfSome (R.remaining input.old) (λ text. IsShown cut table.now.system.now text (W.contents out.old) (W.contents out.new))) }
+        ensures part { IfErr result (FailsShown cut table.now.system.now (W.contents out.old) (W.contents out.new)) }
+        ensures refused { HasNames table.now.system.now
+            → IfErr result (BlamesShown cut table.now.system.now (R.remaining input.old)) }
+        ensures current { HasNames table.now.system.now
+            → IfErr result (IsRefusedLine table.now.system.now (R.remaining input.old) (record current.new { tick = self.new.tick })) }
     {
         next_line(input, &mut current.text)?;
         let form = form_of(current.text.as_slice());

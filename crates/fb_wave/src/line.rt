@@ -2,10 +2,8 @@
 
 ghost use Rattle.std.specs.Prelude.{◌≡◌, ◌≤◌, ◌^◌, IfNone, IfOk, IfSome, MatchOption};
 ghost use Rattle.fb_types.specs.Headline.{AreAccepted};
-ghost use Rattle.fb_wave.specs.Tables.{system_in};
-ghost use Rattle.fb_wave.specs.Lines.{AreInRange, HasNoHead, IsHead, IsNoTextOf, IsTextOf};
-ghost use Rattle.fb_wave.specs.Named.{HasNames};
-ghost use Rattle.fb_wave.specs.OfSystem.{AreNoValuesOf, AreValuesOf, IsPortOf};
+ghost use Rattle.fb_wave.specs.Lines.{AreInRange, HasNoHead, IsHead};
+ghost use Rattle.fb_wave.specs.OfSystem.{AreNoValuesOf, AreValuesOf, HasNames, IsNoTextOf, IsPortOf, IsTextOf};
 
 use crate::number::{number, tick};
 use crate::ports::{Port, holder_of};
@@ -91,8 +89,8 @@ pub fn read_line(
     form: Form,
     text: &[u8],
 ) -> Result<Option<Line>, AllocError>
-    ensures line { IfOk result (λ o. IfSome o (λ l. IsTextOf (system_in table.now) form l text.now)) }
-    ensures none { HasNames (system_in table.now) → IfOk result (λ o. IfNone o (IsNoTextOf (system_in table.now) form text.now)) }
+    ensures line { IfOk result (λ o. IfSome o (λ l. IsTextOf table.now.system.now form l text.now)) }
+    ensures none { HasNames table.now.system.now → IfOk result (λ o. IfNone o (IsNoTextOf table.now.system.now form text.now)) }
 {
     let Some(head) = parts_of(form, text) else {
         return Ok(None);

@@ -69,7 +69,7 @@ returns-in-Some-clause-linked g c =
     let present = option_map (event_at t.ports.event_inputs) c.args.present in
     let p : Position = place t c.args.chart.now c.args.meter.now.left in
     let cleared : Chart = record (c.args.chart.now) { state = now } in
-    let noted : Trail = record trail { page = record (trail.page) { text = c.note_cleared.new.text }; marks = record (trail.marks) { charts = c.mark_cleared.new.self } } in
+    let noted : Trail = record trail { page = record (trail.page) { text = c.note_cleared.new.text }; marks = record (trail.marks) { charts = c.mark_cleared.new.marks } } in
     let y = transition_at t c.in-Ok-Some.index in
     let m : Position = place t cleared c.clear.new.meter.left in
     let q : Position = place t c.perform_all.new.chart c.perform_all.new.meter.left in
@@ -100,7 +100,7 @@ returns-in-None-clause-linked g c =
     let present = option_map (event_at t.ports.event_inputs) c.args.present in
     let p : Position = place t c.args.chart.now c.args.meter.now.left in
     let cleared : Chart = record (c.args.chart.now) { state = now } in
-    let noted : Trail = record trail { page = record (trail.page) { text = c.note_cleared.new.text }; marks = record (trail.marks) { charts = c.mark_cleared.new.self } } in
+    let noted : Trail = record trail { page = record (trail.page) { text = c.note_cleared.new.text }; marks = record (trail.marks) { charts = c.mark_cleared.new.marks } } in
     let y = transition_at t c.in-Ok-Some.index in
     let m : Position = place t cleared c.clear.new.meter.left in
     let q : Position = place t c.perform_all.new.chart c.perform_all.new.meter.left in
