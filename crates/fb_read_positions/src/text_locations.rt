@@ -6,7 +6,7 @@ ghost use Rattle.fb_read.specs.Blank as spec;
 ghost use Rattle.fb_read.specs.Tokens.{after_mark};
 ghost use Rattle.fb_read_positions.specs.Locations.{IsCounted, IsLocation, IsStretch, IsWithin};
 
-use memchr::{memchr_iter, memrchr};
+use memchr::memrchr;
 
 /// A location in a text: the bytes from `start` up to `end`, both offsets in bytes. It is empty at the end of the text.
 #[derive(Clone, Copy)]
@@ -48,11 +48,33 @@ pub struct Counted {
     pub column: usize,
 }
 
+/// The most bytes whose line feeds are counted in one byte.
+const MOST_AT_ONCE: usize = 255;
+
+/// How many line feeds a few bytes have. The sum is a byte, so that the compiler adds up many at once.
+fn few_line_feeds(bytes: &[u8]) -> u8
+    requires { length bytes.now ≤ 255 }
+    ensures { result ≡ count_by (λ b. b == 10) bytes.now }
+{
+    let mut found = 0;
+    for byte in bytes {
+        found += u8::from(*byte == b'\n');
+    }
+    found
+}
+
 /// How many line feeds these bytes have.
 fn line_feeds(bytes: &[u8]) -> usize
     ensures { result ≡ count_by (λ b. b == 10) bytes.now }
 {
-    memchr_iter(b'\n', bytes).count()
+    let mut found = 0;
+    let mut from = 0;
+    while from < bytes.len() {
+        let to = bytes.len().min(from + MOST_AT_ONCE);
+        found += usize::from(few_line_feeds(&bytes[from..to]));
+        from = to;
+    }
+    found
 }
 
 /// The line and the column at an offset, from those at an earlier one.
