@@ -196,3 +196,7 @@ holds_more {i} {a} {b} {c} cs n d before within next =
           subst (λ (held : Port → Value). IsForest i c (record w { held = held })) e
           (next.represents (record w { held = late }) (before.represents w h));
     }
+
+-- the single value of a message
+pub holds_one : {i : Inputs} {a c : Forest} (d : Carried) → Holds i a (index_of d) d.value c → HoldsAll i a (d ∷ []) c
+holds_one {i} {a} {c} d next = holds_more (d ∷ []) 0 d (holds_none i a) (omega arith) next

@@ -602,6 +602,31 @@ impl Taking<'_> {
         }
     }
 
+    /// .. with its result read at once (see `take_waiting`).
+    #[inline(always)]
+    fn arrive_basic_apart(
+        &mut self,
+        block: &BasicType,
+        instance: u32,
+        event: u32,
+        meter: &mut Meter,
+        emits: &mut Emits,
+    ) -> Result<(), Halt>
+        requires index { MayArrive self.old (record { instance = instance; event = event; is_output = false }) }
+        requires kind { HasKind self.old instance (Basic block.now) }
+        requires one { IsOne self.old.system.now self.old.forest.now instance }
+        ensures reacted { HasArrived self.old (record { instance = instance; event = event; is_output = false }) meter.old.left result self.new meter.new.left }
+        ensures outs { Remembered result (ArePutOut self.old self.new) }
+        ensures fewer { meter.new.left ≤ meter.old.left }
+
+        // Also where memory runs out.
+        ensures kept { IsKept self.old self.new }
+        ensures same { IsSame self.old self.new }
+    {
+        self.arrive_basic(block, instance, event, meter, emits)?;
+        Ok(())
+    }
+
     /// An event arrives at a port of an instance. `emits` is room for what a leaf emits.
     ///
     /// # Errors
@@ -625,7 +650,7 @@ impl Taking<'_> {
         match system.kind(at.instance) {
             TypeNumber::Event(kind) => self.arrive_event(kind, at, emits),
             TypeNumber::Declared(index) => match system.library().blocks.get(index) {
-                Some(BlockType::Basic(block)) => self.arrive_basic(
+                Some(BlockType::Basic(block)) => self.arrive_basic_apart(
                     block,
                     at.instance,
                     at.event,

@@ -1,6 +1,6 @@
 //! Values that an event brings to variables, slots and held copies.
 
-ghost use Rattle.std.specs.Prelude.{◌≡◌, ◌<◌, ◌≢◌, false, length, All, Some};
+ghost use Rattle.std.specs.Prelude.{◌≡◌, ◌<◌, ◌≢◌, [], ◌∷◌, false, length, All, Some};
 ghost use Rattle.fb_types.specs.Blocks.{Basic};
 ghost use Rattle.fb_types.specs.declared.library.BasicType.{BasicType};
 ghost use Rattle.fb_types.specs.OfSystem.{IsInstance, kind_at, path_at, ports_at};
@@ -12,7 +12,7 @@ ghost use Rattle.fb_net.specs.OfSystem.{names_in, slots_set};
 
 use crate::resource::Forest;
 use fb_system::{SlotValue, System};
-use fb_types::{Carried, InstanceVariable, Target, Value};
+use fb_types::{Carried, InstanceVariable, MessageValues, Target, Value};
 
 /// Gives the variables WITH an event input, which are at `indexes`, the values that they sampled. The instance is an
 /// event block or a composite, and is in the resource.
@@ -57,7 +57,47 @@ pub fn set_slots(forest: &mut Forest, system: &System, instance: u32, sets: &[Sl
 }
 
 /// Puts the values that a message carries into the held copies of the resource.
-pub fn hold_carried(forest: &mut Forest, system: &System, carried: &[Carried])
+#[inline(always)]
+pub fn hold_carried(forest: &mut Forest, system: &System, values: &MessageValues)
+    requires { All (IsCarried system.now) values.now }
+    ensures { HoldsAll system.now forest.old values.now forest.new }
+{
+    // A message without values costs one comparison.
+    if values.is_empty() {
+        return;
+    }
+    hold_some(forest, system, values);
+}
+
+/// .. where there are some.
+#[inline(never)]
+fn hold_some(forest: &mut Forest, system: &System, values: &MessageValues)
+    requires { All (IsCarried system.now) values.now }
+    ensures { HoldsAll system.now forest.old values.now forest.new }
+{
+    match values.only() {
+        Ok(item) => hold_one(forest, system, &item),
+        Err(items) => hold_each(forest, system, items),
+    }
+}
+
+/// .. a single one, which was in place.
+#[inline(always)]
+fn hold_one(forest: &mut Forest, system: &System, item: &Carried)
+    requires { IsCarried system.now item.now }
+    ensures { HoldsAll system.now forest.old (item.now ∷ []) forest.new }
+{
+    let output = InstanceVariable {
+        instance: item.instance,
+        variable: item.variable,
+        is_output: true,
+    };
+    forest.hold(system, output, item.value);
+}
+
+/// .. those of a list.
+#[inline(never)]
+fn hold_each(forest: &mut Forest, system: &System, carried: &[Carried])
     requires { All (IsCarried system.now) carried.now }
     ensures { HoldsAll system.now forest.old carried.now forest.new }
 {

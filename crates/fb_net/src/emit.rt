@@ -18,7 +18,7 @@ use crate::resource::Forest;
 use crate::taking::Taking;
 use fb_system::{NextTarget, PortRow, System, With};
 use fb_types::{
-    Carried, Emission, Emits, InstanceVariable, Items, Key, Line, Target, Value, Values,
+    Carried, Emission, Emits, InstanceVariable, Key, Line, MessageValues, Target, Value, Values,
 };
 use std::alloc::{AllocError, Global};
 use std::slice::from_ref;
@@ -70,12 +70,12 @@ fn put_message(
     system.facts();
     let there = system.resource(target.instance);
     let link = system.link(resource, there) as u32;
-    let carried = carried_values(*outs.allocator(), instance, indexes, values)?;
+    let values = carried_values(*outs.allocator(), instance, indexes, values)?;
     outs.reserve(1)?;
     outs.push_reserved(Out::Send(OutgoingMessage {
         link,
         target,
-        values: Items::from_vec(carried),
+        values,
     }));
     Ok(())
 }
@@ -272,37 +272,29 @@ fn carried_values(
     instance: u32,
     indexes: &[u32],
     values: &[Value],
-) -> Result<Vec<Carried>, AllocError>
-    ensures { IfOk result (λ carried. carried.items ≡ carried_by instance indexes.now values.now) }
+) -> Result<MessageValues, AllocError>
+    ensures { IfOk result (λ carried. carried ≡ carried_by instance indexes.now values.now) }
 {
     // Mostly there is none or one, and there is nothing to walk over.
     match indexes {
-        [] => Ok(Vec::new(alloc)),
-        [index] => carried_value(alloc, instance, *index, values),
-        _ => carried_each(alloc, instance, indexes, values),
+        [] => Ok(MessageValues::none()),
+        [index] => Ok(carried_value(instance, *index, values)),
+        _ => {
+            let carried = carried_each(alloc, instance, indexes, values)?;
+            Ok(MessageValues::from_vec(carried))
+        }
     }
 }
 
 /// .. where there is at most one, which is of the data output at `index`.
 #[inline(always)]
-fn carried_value(
-    alloc: Global,
-    instance: u32,
-    index: u32,
-    values: &[Value],
-) -> Result<Vec<Carried>, AllocError>
-    ensures { IfOk result (λ carried. carried.items ≡ carried_by instance (index ∷ []) values.now) }
+fn carried_value(instance: u32, index: u32, values: &[Value]) -> MessageValues
+    ensures { result ≡ carried_by instance (index ∷ []) values.now }
 {
-    let Some(value) = values.first() else {
-        return Ok(Vec::new(alloc));
-    };
-    let mut carried = Vec::with_capacity(alloc, 1)?;
-    carried.push_reserved(Carried {
-        instance,
-        variable: index,
-        value: *value,
-    });
-    Ok(carried)
+    match values.first() {
+        Some(value) => MessageValues::one(instance, index, *value),
+        None => MessageValues::none(),
+    }
 }
 
 /// .. of any number.

@@ -3,7 +3,7 @@
 ghost use Rattle.std.specs.Prelude.{◌≡◌};
 ghost use Rattle.fb_net.specs.Outs.{asked};
 
-use fb_types::{Carried, Items, Line, Target, TimerAsk};
+use fb_types::{Line, MessageValues, Target, TimerAsk};
 
 /// An event on its way to another resource, before it has a number and a tick of arrival.
 #[derive(Drop)]
@@ -11,7 +11,7 @@ pub struct OutgoingMessage {
     pub link: u32,
     pub target: Target,
     /// The values of the variables WITH the event that was emitted.
-    pub values: Items<Carried>,
+    pub values: MessageValues,
 }
 
 /// What a reaction puts out: an event in the same resource, or one that goes to another.

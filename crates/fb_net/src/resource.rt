@@ -302,6 +302,7 @@ impl Forest {
 
     /// A message brings a value of a variable of another resource. Where nothing in this resource is connected to the
     /// variable, nothing is kept.
+    #[inline(always)]
     pub fn hold(&mut self, system: &System, output: InstanceVariable, value: Value)
         requires { IsVariable system.now output }
         ensures { Holds system.now self.old output value self.new }

@@ -34,6 +34,22 @@ impl Taking<'_> {
         self.arrive(at, meter, emits)
     }
 
+    /// .. with its result read at once (see `take_waiting`).
+    #[inline(always)]
+    fn take_stimulus_apart(
+        &mut self,
+        row: u32,
+        meter: &mut Meter,
+        emits: &mut Emits,
+    ) -> Result<(), Halt>
+        requires { MayTake self.old (Event.Stimulus row) }
+        ensures taken { WasTaken self.old (Event.Stimulus row) meter.old.left result self.new meter.new.left }
+        ensures same { IsSame self.old self.new }
+    {
+        self.take_stimulus(row, meter, emits)?;
+        Ok(())
+    }
+
     /// Takes a message, whose values are held before its event arrives.
     ///
     /// # Errors
@@ -48,8 +64,24 @@ impl Taking<'_> {
         ensures taken { WasTaken self.old (Event.Arrival message.now) meter.old.left result self.new meter.new.left }
         ensures same { IsSame self.old self.new }
     {
-        hold_carried(self.forest, self.system, message.values.as_slice());
+        hold_carried(self.forest, self.system, &message.values);
         self.arrive(message.target, meter, emits)
+    }
+
+    /// .. with its result read at once (see `take_waiting`).
+    #[inline(always)]
+    fn take_message_apart(
+        &mut self,
+        message: &Message,
+        meter: &mut Meter,
+        emits: &mut Emits,
+    ) -> Result<(), Halt>
+        requires { MayTake self.old (Event.Arrival message.now) }
+        ensures taken { WasTaken self.old (Event.Arrival message.now) meter.old.left result self.new meter.new.left }
+        ensures same { IsSame self.old self.new }
+    {
+        self.take_message(message, meter, emits)?;
+        Ok(())
     }
 
     /// The timer of an event block goes off.
@@ -107,6 +139,22 @@ impl Taking<'_> {
         }
     }
 
+    /// .. with its result read at once (see `take_waiting`).
+    #[inline(always)]
+    fn take_timer_apart(&mut self, instance: u32, emits: &mut Emits) -> Result<(), Halt>
+        requires { MayTake self.old (Event.Timer instance) }
+        ensures taken { OnOk result ((left : ℕ) → Came self.old.system.now self.old.key.now (Event.Timer instance) self.old.forest.now self.old.outbox.now left None self.new.forest.now left self.new.outbox.now) }
+        ensures outs { OnOk result (ArePutOut self.old self.new) }
+
+        // Also where memory runs out.
+        ensures kept { IsKept self.old self.new }
+        ensures same { IsSame self.old self.new }
+        ensures only_memory { IfErr result (λ halt. halt ≡ Halt.Memory) }
+    {
+        self.take_timer(instance, emits)?;
+        Ok(())
+    }
+
     /// Takes an event, whatever it is. `emits` is room for what a leaf emits.
     ///
     /// # Errors
@@ -147,10 +195,13 @@ impl Taking<'_> {
     {
         // The compiler drops the hint to inline a function that is too large with all that is always inlined into it. So
         // `arrive` is so inlined here once, for local events.
+        //
+        // A call puts its result into memory, and then that of each arm would go there. So each call is in a function that
+        // reads the result, and that of a local event stays in registers.
         match event {
-            Event::Stimulus(row) => self.take_stimulus(*row, meter, emits),
-            Event::Timer(instance) => self.take_timer(*instance, emits),
-            Event::Arrival(message) => self.take_message(message, meter, emits),
+            Event::Stimulus(row) => self.take_stimulus_apart(*row, meter, emits),
+            Event::Timer(instance) => self.take_timer_apart(*instance, emits),
+            Event::Arrival(message) => self.take_message_apart(message, meter, emits),
             Event::Local(target) => self.arrive(*target, meter, emits),
         }
     }

@@ -8,6 +8,7 @@ pub mod Spelt
 pub mod Syntax
 pub mod Values
 pub mod Held
+pub mod Carrying
 pub mod Emitted
 pub mod Bodies
 pub mod Blocks

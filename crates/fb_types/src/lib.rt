@@ -5,7 +5,8 @@
 //! examples have the traces that were worked out by hand.
 //!
 //! Read in this order: `library`, `text`, `value`, `value_kind`, `function` and `name`, what is read; `deploy` and `latency`;
-//! `event_kind` and `event_ports`, the event blocks; `limits`; `key`, `run` and `emits`, what a simulation gives;
+//! `event_kind` and `event_ports`, the event blocks; `limits`; `key`, `run`, `message_values` and `emits`, what a
+//! simulation gives;
 //! `items`, `numbered`, `few`, `short`, `boxed` and `reference`; `laws`. The definitions are in `specs/`.
 #![tactic(auto)]
 
@@ -22,6 +23,7 @@ pub mod latency;
 pub mod laws;
 pub mod library;
 pub mod limits;
+pub mod message_values;
 pub mod name;
 mod name_order;
 pub mod numbered;
@@ -53,6 +55,7 @@ pub use limits::{
     LATEST_TICK, MOST_BYTES, MOST_ENTRIES, MOST_LATENCY, MOST_LINKS, MOST_NESTING, MOST_RESOURCES,
     MOST_STEPS, MOST_STIMULI, MOST_STIMULI_BYTES, MOST_WORKERS,
 };
+pub use message_values::{HeldValues, MessageValues};
 pub use name::Name;
 pub use numbered::Numbered;
 pub use reference::Reference;

@@ -5,8 +5,8 @@ ghost use Rattle.std.specs.Prelude.{◌≡◌};
 ghost use Rattle.fb_types.specs.declared.run.Halt.TheVariants.{Memory, Stop};
 
 use crate::few::Few;
-use crate::items::Items;
 use crate::key::Key;
+use crate::message_values::MessageValues;
 use crate::value::{Reason, Value};
 use std::alloc::AllocError;
 
@@ -73,26 +73,26 @@ pub struct Carried {
     pub value: Value,
 }
 
-/// An event on its way over a link.
+/// An event on its way over a link. Its fields are in an order that leaves few gaps, since messages are moved often.
 pub struct Message {
-    /// The number of the link, from 0 in the order of the deployment.
-    pub link: u32,
-    /// Its number on that link, from 0.
+    /// Its number on its link, from 0.
     pub number: u128,
     /// The tick of its arrival.
     pub arrives: u64,
+    /// The number of the link, from 0 in the order of the deployment.
+    pub link: u32,
     /// The event input, or the composite's event output, at which it arrives.
     pub target: Target,
     /// The values that it carries.
-    pub values: Items<Carried>,
+    pub values: MessageValues,
 }
 
 impl Drop for Message {
     fn drop(self) {
         let Message {
-            link: _,
             number: _,
             arrives: _,
+            link: _,
             target: _,
             values: _,
         } = self;

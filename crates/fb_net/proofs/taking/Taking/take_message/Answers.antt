@@ -1,6 +1,3 @@
-use Rattle.std.proofs.Common.{List, subst}
-use Rattle.fb_types.specs.declared.run.Carried.{Carried}
-use Rattle.fb_net.specs.Samples.{HoldsAll}
 use Rattle.fb_net.proofs.ByEvent.{arrival-taken, arrival-typed}
 use Rattle.fb_net.specs.Outs.{StillAreOuts}
 use Rattle.fb_net.proofs.PutOut.{blocks-changed, remembered-then}
@@ -9,8 +6,7 @@ use Rattle.fb_net.proofs.taking.Taking.take_message.Goals as goal
 
 pub arrive-requires-clause-typed : goal.arrive-requires-clause-typed
 arrive-requires-clause-typed c =
-    let holds = subst (λ (l : List Carried). HoldsAll c.args.self.now.system.now c.args.self.now.forest.now l c.hold_carried.new.forest) c.as_slice.ensures c.hold_carried.ensures in
-    arrival-typed c.args.self.now.system.now c.args.self.now.key.now c.args.message.now c.args.self.now.forest.now c.hold_carried.new.forest holds c.requires.belongs c.requires.typed
+    arrival-typed c.args.self.now.system.now c.args.self.now.key.now c.args.message.now c.args.self.now.forest.now c.hold_carried.new.forest c.hold_carried.ensures c.requires.belongs c.requires.typed
 
 pub returns-clause-taken : goal.returns-clause-taken
 returns-clause-taken c =
@@ -18,7 +14,7 @@ returns-clause-taken c =
     let f = c.args.self.now.forest.now in
     let mid = c.hold_carried.new.forest in
     let done = c.arrive in
-    let holds = subst (λ (l : List Carried). HoldsAll i f l mid) c.as_slice.ensures c.hold_carried.ensures in
+    let holds = c.hold_carried.ensures in
     record {
       taken =
           arrival-taken i c.args.self.now.key.now c.args.message.now f mid holds done.new.self.forest.now c.args.self.now.outbox.now done.new.self.outbox.now

@@ -10,7 +10,7 @@ pub returns-in-Timer-clause-taken : goal.returns-in-Timer-clause-taken
 returns-in-Timer-clause-taken c =
     let i = c.args.self.now.system.now in
     let left = c.args.meter.now.left in
-    let done = c.take_timer in
+    let done = c.take_timer_apart in
     subst (λ (e : Event). WasTaken c.args.self.now e left done.result done.new.self left) (sym c.in-Timer.is)
     (record {
       taken = timer-ended i c.args.self.now.key.now c.in-Timer.instance c.args.self.now.forest.now done.new.self.forest.now c.args.self.now.outbox.now done.new.self.outbox.now left done.result
@@ -36,22 +36,22 @@ returns-in-Local-clause-taken c =
 
 pub returns-in-Stimulus-clause-taken : goal.returns-in-Stimulus-clause-taken
 returns-in-Stimulus-clause-taken c =
-    let done = c.take_stimulus in
+    let done = c.take_stimulus_apart in
     subst (λ (e : Event). WasTaken c.args.self.now e c.args.meter.now.left done.result done.new.self done.new.meter.left) (sym c.in-Stimulus.is) done.ensures.taken
 
 pub returns-in-Arrival-clause-taken : goal.returns-in-Arrival-clause-taken
 returns-in-Arrival-clause-taken c =
-    let done = c.take_message in
+    let done = c.take_message_apart in
     subst (λ (e : Event). WasTaken c.args.self.now e c.args.meter.now.left done.result done.new.self done.new.meter.left) (sym c.in-Arrival.is) done.ensures.taken
 
-pub take_stimulus-requires : goal.take_stimulus-requires
-take_stimulus-requires c = subst (λ (e : Event). MayTake c.args.self.now e) c.in-Stimulus.is c.requires
+pub take_stimulus_apart-requires : goal.take_stimulus_apart-requires
+take_stimulus_apart-requires c = subst (λ (e : Event). MayTake c.args.self.now e) c.in-Stimulus.is c.requires
 
-pub take_timer-requires : goal.take_timer-requires
-take_timer-requires c = subst (λ (e : Event). MayTake c.args.self.now e) c.in-Timer.is c.requires
+pub take_timer_apart-requires : goal.take_timer_apart-requires
+take_timer_apart-requires c = subst (λ (e : Event). MayTake c.args.self.now e) c.in-Timer.is c.requires
 
-pub take_message-requires : goal.take_message-requires
-take_message-requires c = subst (λ (e : Event). MayTake c.args.self.now e) c.in-Arrival.is c.requires
+pub take_message_apart-requires : goal.take_message_apart-requires
+take_message_apart-requires c = subst (λ (e : Event). MayTake c.args.self.now e) c.in-Arrival.is c.requires
 
 pub arrive-requires-clause-target : goal.arrive-requires-clause-target
 arrive-requires-clause-target c = subst (λ (e : Event). IsNumbered c.args.self.now.system.now e) c.in-Local.is c.requires.event.numbered

@@ -1,5 +1,5 @@
 use Rattle.fb_net.proofs.Changing.{holds_more}
-use Rattle.fb_net.proofs.bring.hold_carried.Goals as goal
+use Rattle.fb_net.proofs.bring.hold_each.Goals as goal
 
 pub loop-item-preserved : goal.loop-item-preserved
 loop-item-preserved c =
