@@ -1,47 +1,25 @@
 -- Rows with the heads of lines: what is read from them, and what they are made of.
-use Rattle.std.proofs.Common.{◌≡◌, ℕ, Bool, true, false, ◌&&◌, ◌<◌, List, [], ◌∷◌, ◌++◌, length, get_or, Option, Some, None, Bor, refl, sym, ◌∙◌, ap, subst, append-nil, append_assoc}
+use Rattle.std.proofs.Common.{◌≡◌, ℕ, ◌<◌, List, [], ◌∷◌, ◌++◌, length, get_or, Option, Some, None, Bor, refl, sym, ◌∙◌, ap, subst, append-nil, append_assoc}
 use Rattle.std.specs.Prelude.{codes, slice_get, IfNone, IfSome}
-use lib.Dec.{eqb}
-use mathlib.Core.Bool.{beq}
-use Rattle.std.proofs.lemmas.Bool.{and_parts, eqb-true, true≢false}
-use Rattle.std.proofs.lemmas.Option.{get_or_from_slice_get, same_Some, slice_get-get_or, slice_get-map, slice_get_within, slice_get_read}
+use Rattle.std.proofs.lemmas.Option.{same_Some, slice_get-get_or, slice_get-map, slice_get_within, slice_get_read}
 use Rattle.fb_types.specs.Names.{Name}
 use Rattle.fb_types.specs.Numbers.{event_at}
 use Rattle.fb_types.specs.Systems.{System}
 use Rattle.fb_types.specs.declared.library.EventPort.{EventPort}
 use Rattle.fb_types.specs.declared.library.Variable.{Variable}
-use Rattle.fb_system.specs.Heads.{AreHeads, IsHead, IsRowOfHead, first_text}
+use Rattle.fb_system.specs.Heads.{IsHead, IsRowAt, first_text}
 use Rattle.fb_system.specs.IndexLists.{AreIndexes, variable_at}
 use Rattle.fb_system.specs.declared.heads.Head.{Head}
 use Rattle.fb_system.specs.declared.heads.HeadOf.{HeadOf}
 
 -- ---- Reading
 
-pub same_truth : (x y : Bool) → beq x y ≡ true → x ≡ y
-same_truth true true h = refl
-same_truth true false h = absurd (true≢false (sym h))
-same_truth false true h = absurd (true≢false (sym h))
-same_truth false false h = refl
+-- the head of a row is the one that is looked up, if the resource is the same
+of_head : (sys : System) (x : HeadOf) (h : Head) → IsRowAt sys x.instance x.taken x.event h → h.of.resource ≡ x.resource → h.of ≡ x
+of_head sys x h own resource = λ j. record { resource = resource j; instance = own.instance j; event = own.event j; taken = own.taken j }
 
--- what is compared of two heads
-pub same_heads :
-    (x y : HeadOf) → true ≡ (eqb x.resource y.resource && (eqb x.instance y.instance && (eqb x.event y.event && beq x.taken y.taken))) → x ≡ y
-same_heads x y h =
-    let a = and_parts (eqb x.resource y.resource) (eqb x.instance y.instance && (eqb x.event y.event && beq x.taken y.taken)) (sym h) in
-    let b = and_parts (eqb x.instance y.instance) (eqb x.event y.event && beq x.taken y.taken) a.1 in
-    let c = and_parts (eqb x.event y.event) (beq x.taken y.taken) b.1 in
-    let resource = eqb-true x.resource y.resource a.0 in
-    let instance = eqb-true x.instance y.instance b.0 in
-    let event = eqb-true x.event y.event c.0 in
-    let taken = same_truth x.taken y.taken c.1 in
-    λ j. record { resource = resource j; instance = instance j; event = event j; taken = taken j }
-
-pub row_there :
-    (sys : System) (rows : List Head) (i : ℕ) (h : Head) (x : HeadOf) → AreHeads sys rows → slice_get rows i ≡ Some h → 0 < h.width → h.of ≡ x
-    → IsHead sys x h
-row_there sys rows i h x all there some same =
-    let row : IsRowOfHead sys h = subst (λ (r : Head). IsRowOfHead sys r) (get_or_from_slice_get rows i h h there) (all i h (slice_get_within rows i h there)) in
-    subst (λ (y : HeadOf). IsHead sys y h) same (row some)
+pub row_found : (sys : System) (x : HeadOf) (h : Head) → IsRowAt sys x.instance x.taken x.event h → 0 < h.width → h.of.resource ≡ x.resource → IsHead sys x h
+row_found sys x h own some resource = subst (λ (y : HeadOf). IsHead sys y h) (of_head sys x h own resource) (own.row some)
 
 -- ---- What a head is made of
 

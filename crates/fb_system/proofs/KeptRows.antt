@@ -1,16 +1,13 @@
 -- The rows that a system keeps: how contracts see them, and what a system is made of.
-use Rattle.std.proofs.Common.{◌≡◌, List, refl, sym, ◌∙◌, ap, subst}
-use Rattle.std.proofs.lemmas.List.Elements.{All-nil}
+use Rattle.std.proofs.Common.{◌≡◌, refl, sym, ◌∙◌, ap, subst}
 use Rattle.fb_types.specs.Headline.{Inputs, system_of}
-use Rattle.fb_system.specs.Ends.{AreSources, ComesFrom}
-use Rattle.fb_system.specs.PortRows.{ArePortRows, IsPortRow}
-use Rattle.fb_system.specs.Heads.{AreHeads, IsRowOfHead}
+use Rattle.fb_system.specs.Ends.{AreSources, IsSourceRowAt}
+use Rattle.fb_system.specs.PortRows.{ArePortRows, IsPortRowAt}
+use Rattle.fb_system.specs.Heads.{AreHeads, IsRowAt}
 use Rattle.fb_system.specs.Systems.{HaveRows, inputs_of, IsBare, IsKept, AreTables}
-use Rattle.fb_system.specs.declared.ends.PortRowAt.{PortRowAt}
-use Rattle.fb_system.specs.declared.ends.SourceRow.{SourceRow}
-use Rattle.fb_system.specs.declared.heads.Head.{Head}
 use Rattle.fb_system.specs.declared.kept.Kept.{Kept}
 use Rattle.fb_system.specs.declared.whole.Whole.{Whole}
+use Rattle.fb_system.proofs.InRanges.{none_in_ranges}
 
 -- ---- The rows of the inputs that a system represents
 
@@ -19,13 +16,13 @@ rows_kept h v w i e f s is =
     subst (λ (i : Inputs). IsKept i h) s
     (subst (λ (h : Kept). IsKept (inputs_of w) h) (sym (e ∙ ap (λ (w : Whole). w.kept) f)) (record { heads = is.heads; ports = is.ports; sources = is.sources }))
 
-pub heads_seen : (v w : Whole) (i : Inputs) → v ≡ w → inputs_of w ≡ i → HaveRows w → AreHeads (system_of i) v.kept.heads.rows
+pub heads_seen : (v w : Whole) (i : Inputs) → v ≡ w → inputs_of w ≡ i → HaveRows w → AreHeads (system_of i) v.kept.heads
 heads_seen v w i e s is = (rows_kept v.kept v w i refl e s is).heads
 
-pub ports_seen : (v w : Whole) (i : Inputs) → v ≡ w → inputs_of w ≡ i → HaveRows w → ArePortRows i v.kept.ends.ports
+pub ports_seen : (v w : Whole) (i : Inputs) → v ≡ w → inputs_of w ≡ i → HaveRows w → ArePortRows i v.kept.ends
 ports_seen v w i e s is = (rows_kept v.kept v w i refl e s is).ports
 
-pub sources_seen : (v w : Whole) (i : Inputs) → v ≡ w → inputs_of w ≡ i → HaveRows w → AreSources (system_of i) v.kept.ends.sources
+pub sources_seen : (v w : Whole) (i : Inputs) → v ≡ w → inputs_of w ≡ i → HaveRows w → AreSources (system_of i) v.kept.ends
 sources_seen v w i e s is = (rows_kept v.kept v w i refl e s is).sources
 
 -- ---- Making
@@ -50,7 +47,7 @@ without_rows v w e bare is =
     subst (λ (x : Whole). HaveRows x) (sym e)
     (record {
       tables = is;
-      heads = subst (λ (rows : List Head). AreHeads sys rows) (sym bare.heads) (All-nil (IsRowOfHead sys));
-      ports = subst (λ (rows : List PortRowAt). ArePortRows i rows) (sym bare.ports) (All-nil (λ (r : PortRowAt). IsPortRow i r.at r.row));
-      sources = subst (λ (rows : List SourceRow). AreSources sys rows) (sym bare.sources) (All-nil (λ (r : SourceRow). ComesFrom sys r.to r.source));
+      heads = none_in_ranges (IsRowAt sys) w.kept.heads.rows w.kept.heads.ranges bare.heads;
+      ports = none_in_ranges (IsPortRowAt i) w.kept.ends.ports w.kept.ends.port_ranges bare.ports;
+      sources = none_in_ranges (IsSourceRowAt sys) w.kept.ends.sources w.kept.ends.source_ranges bare.sources;
     })

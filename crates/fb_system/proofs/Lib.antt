@@ -30,6 +30,7 @@ pub mod Named
 pub mod Placing
 pub mod Naming
 pub mod Initial
+pub mod InRanges
 pub mod KeptHeads
 pub mod KeptEnds
 pub mod KeptRows

@@ -1,11 +1,13 @@
 -- Where connections lead to and come from, by number (this project's profile).
-use Rattle.std.specs.Prelude.{◌≡◌, ℕ, ◌<◌, ◌+◌, ◌↔◌, List, Option, length, All, IfSome, IsTrue, option_map, slice_get}
+use Rattle.std.specs.Prelude.{◌≡◌, ℕ, Bool, ◌<◌, ◌+◌, ◌↔◌, Option, length, IfSome, IsTrue, option_map, slice_get}
 use Rattle.fb_types.specs.Numbers.{port_of}
 use Rattle.fb_types.specs.Systems.{System}
 use Rattle.fb_types.specs.declared.run.InstanceVariable.{InstanceVariable}
 use Rattle.fb_types.specs.declared.run.Target.{Target}
 use Rattle.fb_system.specs.declared.next_target.NextTarget.{NextTarget}
 use Rattle.fb_system.specs.Ports.{IsSource, IsTarget, variable_of}
+use Rattle.fb_system.specs.RowRanges.{AreInRanges}
+use Rattle.fb_system.specs.declared.ends.Ends.{Ends}
 use Rattle.fb_system.specs.declared.ends.SourceRow.{SourceRow}
 
 -- Where the event connection with an index among those from a port leads, if there is one.
@@ -19,5 +21,9 @@ pub record ComesFrom (sys : System) (to : InstanceVariable) (o : Option Instance
   pub comes : option_map (variable_of sys) o ≡ sys.source (variable_of sys to)
   pub within : IfSome o (IsSource sys)
 
-abbrev pub AreSources : System → List SourceRow → Type 0
-AreSources sys rows = All (λ (r : SourceRow). ComesFrom sys r.to r.source) rows
+-- The row of a data input, or of a data output, of an instance.
+abbrev pub IsSourceRowAt : System → (instance : ℕ) → (is_output : Bool) → (variable : ℕ) → SourceRow → Type 0
+IsSourceRowAt sys i side v r = ComesFrom sys (record { instance = i; variable = v; is_output = side }) r.source
+
+abbrev pub AreSources : System → Ends → Type 0
+AreSources sys ends = AreInRanges (IsSourceRowAt sys) ends.sources ends.source_ranges

@@ -1,13 +1,15 @@
 -- The heads of lines, by number (this project's profile).
-use Rattle.std.specs.Prelude.{◌≡◌, ◌<◌, ◌≤◌, ℕ, List, [], ◌∷◌, ◌++◌, length, take, All, if◌then◌else◌, codes, slice_get, unwrap_or}
+use Rattle.std.specs.Prelude.{◌≡◌, ◌<◌, ◌≤◌, ℕ, Bool, List, [], ◌∷◌, ◌++◌, length, take, if◌then◌else◌, codes, slice_get, unwrap_or}
 use Rattle.fb_types.specs.Names.{Name}
 use Rattle.fb_types.specs.Blocks.{inputs_with, outputs_with}
 use Rattle.fb_types.specs.Numbers.{event_at, path_at, ports_at}
 use Rattle.fb_types.specs.Systems.{System}
 use Rattle.fb_types.specs.Text.{path_text}
 use Rattle.fb_types.specs.declared.library.EventPort.{EventPort}
+use Rattle.fb_system.specs.RowRanges.{AreInRanges}
 use Rattle.fb_system.specs.declared.heads.Head.{Head}
 use Rattle.fb_system.specs.declared.heads.HeadOf.{HeadOf}
+use Rattle.fb_system.specs.declared.heads.Heads.{Heads}
 
 -- the events among which the event of a head has its index
 abbrev pub head_events : System → HeadOf → List EventPort
@@ -52,5 +54,12 @@ pub record IsHead (sys : System) (x : HeadOf) (h : Head) : Type 0 where
 abbrev pub IsRowOfHead : System → Head → Type 0
 IsRowOfHead sys h = 0 < h.width → IsHead sys h.of h
 
-abbrev pub AreHeads : System → List Head → Type 0
-AreHeads sys hs = All (IsRowOfHead sys) hs
+-- The row of an event that an instance takes, or emits.
+pub record IsRowAt (sys : System) (i : ℕ) (side : Bool) (e : ℕ) (h : Head) : Type 0 where
+  pub instance : h.of.instance ≡ i
+  pub taken : h.of.taken ≡ side
+  pub event : h.of.event ≡ e
+  pub row : IsRowOfHead sys h
+
+abbrev pub AreHeads : System → Heads → Type 0
+AreHeads sys heads = AreInRanges (IsRowAt sys) heads.rows heads.ranges

@@ -14,6 +14,7 @@ pub mod Lookups
 pub mod Tables
 pub mod Begins
 pub mod Rows
+pub mod RowRanges
 pub mod Heads
 pub mod Ends
 pub mod PortRows

@@ -1,5 +1,5 @@
 -- What contracts say of the numbers of a system: its value is the accepted inputs, and each of these is of the flat system.
-use Rattle.std.specs.Prelude.{ℕ, List, Option}
+use Rattle.std.specs.Prelude.{ℕ, Bool, List, Option}
 use Rattle.fb_types.specs.Names.{Name, Path, Port}
 use Rattle.fb_types.specs.Headline.{Inputs, system_of}
 use Rattle.fb_types.specs.declared.library.Variable.{Variable}
@@ -14,9 +14,11 @@ use Rattle.fb_system.specs.Lines as lines
 use Rattle.fb_system.specs.PortRows as port_rows
 use Rattle.fb_system.specs.Ports as ports
 use Rattle.fb_system.specs.Stimuli as stimuli
+use Rattle.fb_system.specs.declared.ends.Ends.{Ends}
 use Rattle.fb_system.specs.declared.ends.SourceRow.{SourceRow}
 use Rattle.fb_system.specs.declared.heads.Head.{Head}
 use Rattle.fb_system.specs.declared.heads.HeadOf.{HeadOf}
+use Rattle.fb_system.specs.declared.heads.Heads.{Heads}
 use Rattle.fb_system.specs.declared.next_target.NextTarget.{NextTarget}
 use Rattle.fb_system.specs.declared.port_row.With.{With}
 
@@ -81,7 +83,10 @@ LeadsTo i = ends.LeadsTo (system_of i)
 abbrev pub ComesFrom : Inputs → (to : InstanceVariable) → Option InstanceVariable → Type 0
 ComesFrom i = ends.ComesFrom (system_of i)
 
-abbrev pub AreSources : Inputs → List SourceRow → Type 0
+abbrev pub IsSourceRowAt : Inputs → (instance : ℕ) → (is_output : Bool) → (variable : ℕ) → SourceRow → Type 0
+IsSourceRowAt i = ends.IsSourceRowAt (system_of i)
+
+abbrev pub AreSources : Inputs → Ends → Type 0
 AreSources i = ends.AreSources (system_of i)
 
 -- ---- Links
@@ -117,7 +122,10 @@ head_variables i = heads.head_variables (system_of i)
 abbrev pub IsHead : Inputs → HeadOf → Head → Type 0
 IsHead i = heads.IsHead (system_of i)
 
-abbrev pub AreHeads : Inputs → List Head → Type 0
+abbrev pub IsRowAt : Inputs → (instance : ℕ) → (taken : Bool) → (event : ℕ) → Head → Type 0
+IsRowAt i = heads.IsRowAt (system_of i)
+
+abbrev pub AreHeads : Inputs → Heads → Type 0
 AreHeads i = heads.AreHeads (system_of i)
 
 abbrev pub head_event : Inputs → HeadOf → Name

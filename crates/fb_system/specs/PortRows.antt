@@ -1,5 +1,5 @@
 -- What a row says of an event port (IEC 61499-1, 5.1 and 5.3; the numbers are this project's profile).
-use Rattle.std.specs.Prelude.{ℕ, List, [], ◌∷◌, Bool, All, Option, if◌then◌else◌}
+use Rattle.std.specs.Prelude.{ℕ, List, [], ◌∷◌, Bool, Option, if◌then◌else◌}
 use Rattle.fb_types.specs.Names.{Name}
 use Rattle.fb_types.specs.Blocks as types
 use Rattle.fb_types.specs.Headline.{Inputs, system_of}
@@ -11,7 +11,8 @@ use Rattle.fb_types.specs.declared.run.InstanceVariable.{InstanceVariable}
 use Rattle.fb_types.specs.declared.run.Target.{Target}
 use Rattle.fb_system.specs.Ends.{ComesFrom, LeadsTo}
 use Rattle.fb_system.specs.IndexLists.{AreIndexes}
-use Rattle.fb_system.specs.declared.ends.PortRowAt.{PortRowAt}
+use Rattle.fb_system.specs.RowRanges.{AreInRanges}
+use Rattle.fb_system.specs.declared.ends.Ends.{Ends}
 use Rattle.fb_system.specs.declared.port_row.PortRow.{PortRow}
 use Rattle.fb_system.specs.declared.port_row.With.{With}
 use Rattle.fb_system.specs.declared.port_row.With.TheVariants.{Nothing, One, Several}
@@ -47,5 +48,9 @@ pub record IsPortRow (i : Inputs) (at : Target) (r : PortRow) : Type 0 where
   pub with : IsWith (system_of i) at r.with
   pub first : LeadsTo (system_of i) at 0 r.first
 
-abbrev pub ArePortRows : Inputs → List PortRowAt → Type 0
-ArePortRows i rows = All (λ (r : PortRowAt). IsPortRow i r.at r.row) rows
+-- The row of an event input, or of an event output, of an instance.
+abbrev pub IsPortRowAt : Inputs → (instance : ℕ) → (is_output : Bool) → (event : ℕ) → PortRow → Type 0
+IsPortRowAt i n side e r = IsPortRow i (record { instance = n; event = e; is_output = side }) r
+
+abbrev pub ArePortRows : Inputs → Ends → Type 0
+ArePortRows i ends = AreInRanges (IsPortRowAt i) ends.ports ends.port_ranges

@@ -36,18 +36,18 @@ pub record AreTables (w : Whole) : Type 0 where
 -- .. and the rows that are kept among them: heads of lines, event ports, and sources of variables
 pub record HaveRows (w : Whole) : Type 0 where
   pub tables : AreTables w
-  pub heads : AreHeads (system_of (inputs_of w)) w.kept.heads.rows
-  pub ports : ArePortRows (inputs_of w) w.kept.ends.ports
-  pub sources : AreSources (system_of (inputs_of w)) w.kept.ends.sources
+  pub heads : AreHeads (system_of (inputs_of w)) w.kept.heads
+  pub ports : ArePortRows (inputs_of w) w.kept.ends
+  pub sources : AreSources (system_of (inputs_of w)) w.kept.ends
 
 -- No rows are kept.
 pub record IsBare (k : Kept) : Type 0 where
-  pub heads : k.heads.rows ≡ []
-  pub ports : k.ends.ports ≡ []
-  pub sources : k.ends.sources ≡ []
+  pub heads : k.heads.ranges ≡ []
+  pub ports : k.ends.port_ranges ≡ []
+  pub sources : k.ends.source_ranges ≡ []
 
 -- Rows that may be kept in a system of these inputs.
 pub record IsKept (i : Inputs) (k : Kept) : Type 0 where
-  pub heads : AreHeads (system_of i) k.heads.rows
-  pub ports : ArePortRows i k.ends.ports
-  pub sources : AreSources (system_of i) k.ends.sources
+  pub heads : AreHeads (system_of i) k.heads
+  pub ports : ArePortRows i k.ends
+  pub sources : AreSources (system_of i) k.ends

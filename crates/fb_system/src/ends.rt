@@ -7,94 +7,68 @@ ghost use Rattle.fb_system.specs.Ends.{AreSources, ComesFrom};
 ghost use Rattle.fb_system.specs.PortRows.{ArePortRows, IsPortRow};
 
 use crate::port_row::PortRow;
+use crate::row_ranges::RowRanges;
 use fb_types::{InstanceVariable, Items, Target};
 use std::alloc::Global;
 
 /// The most rows that are kept of each kind. They take 2 MB.
 pub(crate) const MOST_ENDS: usize = 16384;
 
-/// The row of an event port.
-#[derive(Clone, Copy)]
-pub(crate) struct PortRowAt {
-    /// The port.
-    pub at: Target,
-    /// What is kept of it.
-    pub row: PortRow,
-}
-
 /// What a variable is connected to.
 #[derive(Clone, Copy)]
 pub(crate) struct SourceRow {
-    /// The variable at the end of the connection.
-    pub to: InstanceVariable,
     /// `None` if the variable has no connection.
     pub source: Option<InstanceVariable>,
-}
-
-/// Where the rows of an instance begin.
-#[derive(Clone, Copy)]
-pub(crate) struct FirstRows {
-    /// The row of its first event input.
-    pub event_inputs: u32,
-    /// The row of its first event output.
-    pub event_outputs: u32,
-    /// The row of its first data input.
-    pub inputs: u32,
-    /// The row of its first data output.
-    pub outputs: u32,
 }
 
 /// The event ports and the ends of the connections of a system.
 #[derive(Drop)]
 pub(crate) struct Ends {
     /// The rows of event ports.
-    pub ports: Items<PortRowAt>,
+    pub ports: Items<PortRow>,
+    /// For each instance that has rows, where those of its event inputs are, and then those of its event outputs.
+    pub port_ranges: Items<RowRanges>,
     /// The rows of data connections.
     pub sources: Items<SourceRow>,
-    /// For each instance, the first of its rows.
-    pub firsts: Items<FirstRows>,
+    /// For each instance that has rows, where those of its data inputs are, and then those of its data outputs.
+    pub source_ranges: Items<RowRanges>,
 }
 
 impl Ends {
     /// A table without rows.
     pub(crate) fn new(alloc: Global) -> Ends
-        ensures ports { result.ports ≡ [] }
-        ensures sources { result.sources ≡ [] }
+        ensures ports { result.port_ranges ≡ [] }
+        ensures sources { result.source_ranges ≡ [] }
     {
         Ends {
             ports: Items::new(alloc),
+            port_ranges: Items::new(alloc),
             sources: Items::new(alloc),
-            firsts: Items::new(alloc),
+            source_ranges: Items::new(alloc),
         }
     }
 
     /// The row of an event port, if it is kept.
     #[inline(always)]
-    pub(crate) fn port(&self, at: Target) -> Option<&PortRowAt>
-        ensures { (i : Inputs) → ArePortRows i self.now.ports → IfSome result (λ r. IsPortRow i at r.now.row) }
+    pub(crate) fn port(&self, at: Target) -> Option<&PortRow>
+        requires { (i : Inputs) × ArePortRows i self.now }
+        ensures { (i : Inputs) → ArePortRows i self.now → IfSome result (λ r. IsPortRow i at r.now) }
     {
-        let firsts = self.firsts.get(at.instance as usize)?;
-        let first = if at.is_output {
-            firsts.event_outputs
-        } else {
-            firsts.event_inputs
-        };
-        let row = self.ports.get(first as usize + at.event as usize)?;
-        if row.at == at { Some(row) } else { None }
+        let ranges = self.port_ranges.get(at.instance as usize)?;
+        let row = ranges.row(at.is_output, at.event)?;
+        let ports = self.ports.as_slice();
+        Some(&ports[row])
     }
 
     /// What a variable is connected to, if its row is kept.
     #[inline(always)]
     pub(crate) fn source(&self, to: InstanceVariable) -> Option<&SourceRow>
-        ensures { (sys : System) → AreSources sys self.now.sources → IfSome result (λ r. ComesFrom sys to r.now.source) }
+        requires { (sys : System) × AreSources sys self.now }
+        ensures { (sys : System) → AreSources sys self.now → IfSome result (λ r. ComesFrom sys to r.now.source) }
     {
-        let firsts = self.firsts.get(to.instance as usize)?;
-        let first = if to.is_output {
-            firsts.outputs
-        } else {
-            firsts.inputs
-        };
-        let row = self.sources.get(first as usize + to.variable as usize)?;
-        if row.to == to { Some(row) } else { None }
+        let ranges = self.source_ranges.get(to.instance as usize)?;
+        let row = ranges.row(to.is_output, to.variable)?;
+        let sources = self.sources.as_slice();
+        Some(&sources[row])
     }
 }

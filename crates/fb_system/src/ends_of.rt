@@ -1,11 +1,14 @@
 //! Makes the rows of the event ports and of the sources of a system.
 
-ghost use Rattle.std.specs.Prelude.{◌≤◌, length, if◌then◌else◌, IfOk, OnOk};
+ghost use Rattle.std.specs.Prelude.{◌≡◌, ◌≤◌, length, min, if◌then◌else◌, IfOk, OnOk};
 ghost use Rattle.fb_types.specs.OfSystem.{IsInstance, path_at, ports_at};
-ghost use Rattle.fb_system.specs.PortRows.{ArePortRows};
-ghost use Rattle.fb_system.specs.OfSystem.{AreSources};
+ghost use Rattle.fb_system.specs.RowRanges.{AreInRanges, HasRows, Keeps};
+ghost use Rattle.fb_system.specs.PortRows.{ArePortRows, IsPortRowAt};
+ghost use Rattle.fb_system.specs.OfSystem.{AreSources, IsSourceRowAt};
 
-use crate::ends::{Ends, FirstRows, MOST_ENDS, PortRowAt, SourceRow};
+use crate::ends::{Ends, MOST_ENDS, SourceRow};
+use crate::port_row::PortRow;
+use crate::row_ranges::RowRanges;
 use crate::system::System;
 use fb_types::{InstanceVariable, Items, Target};
 use std::alloc::{AllocError, Global};
@@ -43,14 +46,14 @@ fn count_variables(system: &System, instance: u32, are_outputs: bool) -> u32
 
 /// Adds the rows of the event outputs, or of the event inputs, of an instance, as long as there is room.
 fn add_ports(
-    rows: &mut Items<PortRowAt>,
+    rows: &mut Items<PortRow>,
     system: &System,
     instance: u32,
     is_output: bool,
 ) -> Result<(), AllocError>
-    requires instance { IsInstance system.now instance }
-    requires rows { ArePortRows system.now rows.old }
-    ensures { OnOk result (ArePortRows system.now rows.new) }
+    requires { IsInstance system.now instance }
+    ensures kept { OnOk result (Keeps rows.old rows.new) }
+    ensures added { OnOk result (HasRows (IsPortRowAt system.now instance is_output) rows.new (length rows.old) (length rows.new)) }
 {
     for event in 0..count_events(system, instance, is_output) {
         if rows.len() >= MOST_ENDS {
@@ -61,8 +64,7 @@ fn add_ports(
             event,
             is_output,
         };
-        let row = system.port_by_tables(at);
-        rows.push(PortRowAt { at, row })?;
+        rows.push(system.port_by_tables(at))?;
     }
     Ok(())
 }
@@ -74,9 +76,9 @@ fn add_sources(
     instance: u32,
     is_output: bool,
 ) -> Result<(), AllocError>
-    requires instance { IsInstance system.now instance }
-    requires rows { AreSources system.now rows.old }
-    ensures { OnOk result (AreSources system.now rows.new) }
+    requires { IsInstance system.now instance }
+    ensures kept { OnOk result (Keeps rows.old rows.new) }
+    ensures added { OnOk result (HasRows (IsSourceRowAt system.now instance is_output) rows.new (length rows.old) (length rows.new)) }
 {
     for variable in 0..count_variables(system, instance, is_output) {
         if rows.len() >= MOST_ENDS {
@@ -88,44 +90,79 @@ fn add_sources(
             is_output,
         };
         let source = system.source(to);
-        rows.push(SourceRow { to, source })?;
+        rows.push(SourceRow { source })?;
     }
     Ok(())
 }
 
 /// The number of the row after these, of those that are kept.
-fn row_after(rows: usize) -> u32 {
+fn row_after(rows: usize) -> u32
+    ensures { result ≡ min rows MOST_ENDS }
+{
     rows.min(MOST_ENDS) as u32
+}
+
+/// Adds the rows of the event ports of an instance, if all instances before it have their ranges.
+fn add_ports_of(
+    rows: &mut Items<PortRow>,
+    ranges: &mut Items<RowRanges>,
+    system: &System,
+    instance: u32,
+) -> Result<(), AllocError>
+    requires instance { IsInstance system.now instance }
+    requires rows { AreInRanges (IsPortRowAt system.now) rows.old ranges.old }
+    ensures { OnOk result (AreInRanges (IsPortRowAt system.now) rows.new ranges.new) }
+{
+    if ranges.len() != instance as usize {
+        return Ok(());
+    }
+    let first = row_after(rows.len());
+    add_ports(rows, system, instance, false)?;
+    let second = row_after(rows.len());
+    add_ports(rows, system, instance, true)?;
+    let end = row_after(rows.len());
+    ranges.push(RowRanges { first, second, end })
+}
+
+/// Adds the rows of the data inputs and outputs of an instance, if all instances before it have their ranges.
+fn add_sources_of(
+    rows: &mut Items<SourceRow>,
+    ranges: &mut Items<RowRanges>,
+    system: &System,
+    instance: u32,
+) -> Result<(), AllocError>
+    requires instance { IsInstance system.now instance }
+    requires rows { AreInRanges (IsSourceRowAt system.now) rows.old ranges.old }
+    ensures { OnOk result (AreInRanges (IsSourceRowAt system.now) rows.new ranges.new) }
+{
+    if ranges.len() != instance as usize {
+        return Ok(());
+    }
+    let first = row_after(rows.len());
+    add_sources(rows, system, instance, false)?;
+    let second = row_after(rows.len());
+    add_sources(rows, system, instance, true)?;
+    let end = row_after(rows.len());
+    ranges.push(RowRanges { first, second, end })
 }
 
 /// Adds the rows of an instance.
 fn add_instance(ends: &mut Ends, system: &System, instance: u32) -> Result<(), AllocError>
     requires instance { IsInstance system.now instance }
-    requires ports { ArePortRows system.now ends.old.ports }
-    requires sources { AreSources system.now ends.old.sources }
-    ensures ports { OnOk result (ArePortRows system.now ends.new.ports) }
-    ensures sources { OnOk result (AreSources system.now ends.new.sources) }
+    requires ports { ArePortRows system.now ends.old }
+    requires sources { AreSources system.now ends.old }
+    ensures ports { OnOk result (ArePortRows system.now ends.new) }
+    ensures sources { OnOk result (AreSources system.now ends.new) }
 {
-    let event_inputs = row_after(ends.ports.len());
-    add_ports(&mut ends.ports, system, instance, false)?;
-    let event_outputs = row_after(ends.ports.len());
-    add_ports(&mut ends.ports, system, instance, true)?;
-    let inputs = row_after(ends.sources.len());
-    add_sources(&mut ends.sources, system, instance, false)?;
-    let outputs = row_after(ends.sources.len());
-    add_sources(&mut ends.sources, system, instance, true)?;
-    ends.firsts.push(FirstRows {
-        event_inputs,
-        event_outputs,
-        inputs,
-        outputs,
-    })
+    add_ports_of(&mut ends.ports, &mut ends.port_ranges, system, instance)?;
+    add_sources_of(&mut ends.sources, &mut ends.source_ranges, system, instance)?;
+    Ok(())
 }
 
 /// The rows of a system, as many as there is room for.
 pub(crate) fn ends_of(alloc: Global, system: &System) -> Result<Ends, AllocError>
-    ensures ports { IfOk result (λ e. ArePortRows system.now e.ports) }
-    ensures sources { IfOk result (λ e. AreSources system.now e.sources) }
+    ensures ports { IfOk result (ArePortRows system.now) }
+    ensures sources { IfOk result (AreSources system.now) }
 {
     system.facts();
     let mut ends = Ends::new(alloc);

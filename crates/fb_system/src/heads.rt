@@ -4,6 +4,7 @@ ghost use Rattle.std.specs.Prelude.{◌≡◌, ◌<◌, ◌≤◌, [], take, IfS
 ghost use Rattle.fb_types.specs.Systems.{System};
 ghost use Rattle.fb_system.specs.Heads.{AreHeads, IsHead};
 
+use crate::row_ranges::RowRanges;
 use fb_types::Items;
 use std::alloc::Global;
 
@@ -14,7 +15,7 @@ pub const ROW: usize = 48;
 pub(crate) const MOST_ROWS: usize = 65536;
 
 /// What a head belongs to: an event that an instance takes or emits, with the resource that the line names.
-#[derive(Clone, Copy, PartialEq, Eq)]
+#[derive(Clone, Copy)]
 pub struct HeadOf {
     /// The number of the resource.
     pub resource: u32,
@@ -37,22 +38,13 @@ pub struct Head {
     pub text: [u8; ROW],
 }
 
-/// Where the rows of an instance begin.
-#[derive(Clone, Copy)]
-pub(crate) struct Firsts {
-    /// The row of its first event output.
-    pub outputs: u32,
-    /// The row of its first event input.
-    pub inputs: u32,
-}
-
 /// The heads of a system.
 #[derive(Drop)]
 pub(crate) struct Heads {
     /// The heads of all instances, one after another.
     pub rows: Items<Head>,
-    /// For each instance, the first of its rows.
-    pub firsts: Items<Firsts>,
+    /// For each instance that has rows, where they are: those of the events that it emits, and then of those that it takes.
+    pub ranges: Items<RowRanges>,
 }
 
 impl Head {
@@ -90,27 +82,26 @@ impl Head {
 impl Heads {
     /// A table without rows.
     pub(crate) fn new(alloc: Global) -> Heads
-        ensures { result.rows ≡ [] }
+        ensures { result.ranges ≡ [] }
     {
         Heads {
             rows: Items::new(alloc),
-            firsts: Items::new(alloc),
+            ranges: Items::new(alloc),
         }
     }
 
     /// The row with the text of a head, if it is kept.
     #[inline(always)]
     pub(crate) fn find(&self, of: HeadOf) -> Option<&Head>
-        ensures { (sys : System) → AreHeads sys self.now.rows → IfSome result (λ h. IsHead sys of h.now) }
+        requires { (sys : System) × AreHeads sys self.now }
+        ensures { (sys : System) → AreHeads sys self.now → IfSome result (λ h. IsHead sys of h.now) }
     {
-        let firsts = self.firsts.get(of.instance as usize)?;
-        let first = if of.taken {
-            firsts.inputs
-        } else {
-            firsts.outputs
-        };
-        let head = self.rows.get(first as usize + of.event as usize)?;
-        if head.width > 0 && head.of == of {
+        let ranges = self.ranges.get(of.instance as usize)?;
+        let row = ranges.row(of.taken, of.event)?;
+        let rows = self.rows.as_slice();
+        let head = &rows[row];
+        // By its index the row is that of the event. Only the resource can be another.
+        if head.width > 0 && head.of.resource == of.resource {
             Some(head)
         } else {
             None

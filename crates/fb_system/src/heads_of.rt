@@ -1,13 +1,15 @@
 //! Makes the heads of the lines of a system.
 
-ghost use Rattle.std.specs.Prelude.{◌≡◌, ◌<◌, List, [], ◌++◌, codes, length, if◌then◌else◌, IfNone, IfOk, IfSome, OnOk};
+ghost use Rattle.std.specs.Prelude.{◌≡◌, List, [], ◌++◌, codes, length, min, if◌then◌else◌, IfNone, IfOk, IfSome, OnOk};
 ghost use Rattle.fb_types.specs.Names.{Name};
 ghost use Rattle.fb_types.specs.OfSystem.{IsInstance, IsResource};
 ghost use Rattle.fb_system.specs.IndexLists.{AreIndexes};
 ghost use Rattle.fb_system.specs.Heads.{first_text};
-ghost use Rattle.fb_system.specs.OfSystem.{AreHeads, IsOfHead, IsRowOfHead, head_event, head_variables};
+ghost use Rattle.fb_system.specs.RowRanges.{HasRows, Keeps};
+ghost use Rattle.fb_system.specs.OfSystem.{AreHeads, IsOfHead, IsRowAt, IsRowOfHead, head_event, head_variables};
 
-use crate::heads::{Firsts, Head, HeadOf, Heads, MOST_ROWS, ROW};
+use crate::heads::{Head, HeadOf, Heads, MOST_ROWS, ROW};
+use crate::row_ranges::RowRanges;
 use crate::system::System;
 use fb_types::{Items, Ports, Variable};
 use std::alloc::{AllocError, Global};
@@ -113,7 +115,8 @@ fn add_first(text: &mut Vec<u8>, first: Option<&[u8]>) -> Result<(), AllocError>
 /// The row of a head. The text is joined in the buffer.
 fn row_of(system: &System, text: &mut Vec<u8>, of: HeadOf) -> Result<Head, AllocError>
     requires { IsOfHead system.now of }
-    ensures { IfOk result (IsRowOfHead system.now) }
+    ensures row { IfOk result (IsRowOfHead system.now) }
+    ensures of { IfOk result (λ head. head.of ≡ of) }
 {
     let parts = Parts {
         resource: system.resource_name(of.resource as usize),
@@ -152,8 +155,8 @@ fn add_rows(
 ) -> Result<(), AllocError>
     requires resource { IsResource system.now resource }
     requires instance { IsInstance system.now instance }
-    requires rows { AreHeads system.now rows.old }
-    ensures { OnOk result (AreHeads system.now rows.new) }
+    ensures kept { OnOk result (Keeps rows.old rows.new) }
+    ensures added { OnOk result (HasRows (IsRowAt system.now instance taken) rows.new (length rows.old) (length rows.new)) }
 {
     for event in 0..events_of(system.ports(instance), taken) {
         if rows.len() >= MOST_ROWS {
@@ -171,11 +174,13 @@ fn add_rows(
 }
 
 /// The number of the row after these, of those that are kept.
-fn row_after(rows: usize) -> u32 {
+fn row_after(rows: usize) -> u32
+    ensures { result ≡ min rows MOST_ROWS }
+{
     rows.min(MOST_ROWS) as u32
 }
 
-/// Adds the heads of an instance.
+/// Adds the heads of an instance, if all instances before it have their ranges.
 fn add_instance(
     heads: &mut Heads,
     system: &System,
@@ -183,25 +188,26 @@ fn add_instance(
     instance: u32,
 ) -> Result<(), AllocError>
     requires instance { IsInstance system.now instance }
-    requires rows { AreHeads system.now heads.old.rows }
-    ensures { OnOk result (AreHeads system.now heads.new.rows) }
+    requires heads { AreHeads system.now heads.old }
+    ensures { OnOk result (AreHeads system.now heads.new) }
 {
     system.facts();
     let resource = system.resource(instance);
-    if resource >= system.resources() {
+    if resource >= system.resources() || heads.ranges.len() != instance as usize {
         return Ok(());
     }
     let resource = resource as u32;
-    let inputs = row_after(heads.rows.len());
-    add_rows(&mut heads.rows, system, text, resource, instance, true)?;
-    let outputs = row_after(heads.rows.len());
+    let first = row_after(heads.rows.len());
     add_rows(&mut heads.rows, system, text, resource, instance, false)?;
-    heads.firsts.push(Firsts { inputs, outputs })
+    let second = row_after(heads.rows.len());
+    add_rows(&mut heads.rows, system, text, resource, instance, true)?;
+    let end = row_after(heads.rows.len());
+    heads.ranges.push(RowRanges { first, second, end })
 }
 
 /// The heads of the lines of a system, as many as there is room for.
 pub(crate) fn heads_of(alloc: Global, system: &System) -> Result<Heads, AllocError>
-    ensures { IfOk result (λ h. AreHeads system.now h.rows) }
+    ensures { IfOk result (AreHeads system.now) }
 {
     system.facts();
     let mut text = Vec::new(alloc);

@@ -28,9 +28,9 @@ impl Drop for Kept {
 impl Kept {
     /// No rows.
     pub(crate) fn new(alloc: Global) -> Kept
-        ensures heads { result.heads.rows ≡ [] }
-        ensures ports { result.ends.ports ≡ [] }
-        ensures sources { result.ends.sources ≡ [] }
+        ensures heads { result.heads.ranges ≡ [] }
+        ensures ports { result.ends.port_ranges ≡ [] }
+        ensures sources { result.ends.source_ranges ≡ [] }
     {
         Kept {
             heads: Heads::new(alloc),

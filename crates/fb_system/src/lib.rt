@@ -8,10 +8,9 @@
 //! connections: `layout`, the tree of composites as a list; `wiring`, where the connections of a network lead, with
 //! `connection_table`; `netlist`, the lookups in both, and `reached`, where a connection leads; `tables` and `declared`, how
 //! a lookup works; `making`. Then `links`, resources and links; `homes`, the resources of all instances; `interfaces`
-//! with `with_indexes` and `event_block_with_indexes`, the variables WITH each event; `kept`, rows for lookups in one step:
-//! `heads` with `heads_of`, the heads of lines, and `ends` with `ends_of`, event ports (`port_row`, which `port_tables` makes) and
-//! where variables come from;
-//! `initial_values`; `rows`, the stimuli by number. The check fills them: `given`. `with_all` passes owned values around
+//! with `with_indexes` and `event_block_with_indexes`, the variables WITH each event; `kept`, rows for lookups in one step
+//! by `row_ranges`: `heads` with `heads_of`, the heads of lines, and `ends` with `ends_of`, event ports (`port_row`, which
+//! `port_tables` makes) and where variables come from; `initial_values`; `rows`, the stimuli by number. The check fills them: `given`. `with_all` passes owned values around
 //! calls that may fail, so that each is dropped at one point.
 #![tactic(auto)]
 
@@ -34,6 +33,7 @@ pub mod netlist;
 pub mod next_target;
 pub mod port_row;
 mod port_tables;
+mod row_ranges;
 pub mod rows;
 pub mod stimulus;
 pub mod system;

@@ -264,7 +264,7 @@ impl System {
         // Usually a port has one connection, and its row is kept.
         if index == 0 {
             if let Some(row) = self.whole.kept.ends.port(from) {
-                return row.row.first;
+                return row.first;
             }
         }
         self.reached_by_tables(from, index)
@@ -276,10 +276,7 @@ impl System {
     pub fn kept_port(&self, at: Target) -> Option<&PortRow>
         ensures { IfSome result (λ r. IsPortRow self.now at r.now) }
     {
-        match self.whole.kept.ends.port(at) {
-            Some(kept) => Some(&kept.row),
-            None => None,
-        }
+        self.whole.kept.ends.port(at)
     }
 
     /// Where a connection leads, by its network.

@@ -1,6 +1,12 @@
+use Rattle.std.specs.Prelude.{◌≡◌, ◌+◌, length}
 use Rattle.fb_types.specs.Headline.{system_of}
-use Rattle.fb_system.specs.Ends.{AreSources}
+use Rattle.fb_system.specs.Ends.{IsSourceRowAt}
+use Rattle.fb_system.specs.RowRanges.{HasRows, Keeps}
 use Rattle.fb_system.proofs.ends_of.add_sources.Given as goal
 
 abbrev pub invariant-loop-variable : goal.invariant-loop-variable
-invariant-loop-variable l = AreSources (system_of l.system) l.rows
+invariant-loop-variable l = record {
+  kept : Keeps l.fn.rows l.rows;
+  count : length l.rows ≡ length l.fn.rows + l.variable;
+  added : HasRows (IsSourceRowAt (system_of l.system) l.instance l.is_output) l.rows (length l.fn.rows) (length l.rows);
+}

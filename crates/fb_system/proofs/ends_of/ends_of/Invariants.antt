@@ -4,4 +4,4 @@ use Rattle.fb_system.specs.PortRows.{ArePortRows}
 use Rattle.fb_system.proofs.ends_of.ends_of.Given as goal
 
 abbrev pub invariant-loop-instance : goal.invariant-loop-instance
-invariant-loop-instance l = ArePortRows l.system l.ends.ports × AreSources (system_of l.system) l.ends.sources
+invariant-loop-instance l = ArePortRows l.system l.ends × AreSources (system_of l.system) l.ends

@@ -1,12 +1,32 @@
-use Rattle.std.proofs.Common.{List, subst, sym}
-use Rattle.std.proofs.lemmas.List.Elements.{All-push}
+use Rattle.std.proofs.Common.{◌≡◌, ℕ, ◌+◌, List, ◌++◌, ◌∷◌, [], length, length-append, ap, arith, subst, sym}
 use Rattle.fb_types.specs.Headline.{system_of}
-use Rattle.fb_system.specs.Heads.{AreHeads, IsRowOfHead}
+use Rattle.fb_system.specs.Heads.{IsRowAt}
+use Rattle.fb_system.specs.RowRanges.{HasRows, Keeps}
 use Rattle.fb_system.specs.declared.heads.Head.{Head}
+use Rattle.fb_system.specs.declared.heads.HeadOf.{HeadOf}
+use Rattle.fb_system.proofs.InRanges.{keeps_push, rows_push}
 use Rattle.fb_system.proofs.heads_of.add_rows.Goals as goal
 
 pub loop-event-preserved : goal.loop-event-preserved
 loop-event-preserved c =
     let sys = system_of c.args.system.now in
-    subst (λ (rows : List Head). AreHeads sys rows) (sym c.in_ok-push.ensures.ok)
-    (All-push (IsRowOfHead sys) _ _ c.loop-event.invariant c.in_ok-row_of.ensures)
+    let was = c.loop-event.invariant in
+    let rows : List Head = c.loop-event.rows in
+    let row : Head = c.in_ok-row_of.field-0 in
+    let first : ℕ = length c.args.rows.now in
+    let grown = sym c.in_ok-push.ensures.ok in
+    let of = c.in_ok-row_of.ensures.of in
+    let own : IsRowAt sys c.args.instance c.args.taken c.loop-event.event row =
+    record {
+      instance = ap (λ (o : HeadOf). o.instance) of;
+      taken = ap (λ (o : HeadOf). o.taken) of;
+      event = ap (λ (o : HeadOf). o.event) of;
+      row = c.in_ok-row_of.ensures.row;
+    } in
+    record {
+      kept = subst (λ (l : List Head). Keeps c.args.rows.now l) grown (keeps_push c.args.rows.now rows row was.kept);
+      count = (let long : length (rows ++ row ∷ []) ≡ length rows + 1 = length-append rows (row ∷ []) in omega (arith, ap length c.in_ok-push.ensures.ok, long, was.count));
+      added =
+          subst (λ (l : List Head). HasRows (IsRowAt sys c.args.instance c.args.taken) l first (length l)) grown
+          (rows_push (IsRowAt sys c.args.instance c.args.taken) rows row first c.loop-event.event was.count was.added own);
+    }

@@ -3,4 +3,4 @@ use Rattle.fb_system.specs.Heads.{AreHeads}
 use Rattle.fb_system.proofs.heads_of.heads_of.Given as goal
 
 abbrev pub invariant-loop-instance : goal.invariant-loop-instance
-invariant-loop-instance l = AreHeads (system_of l.system) l.heads.rows
+invariant-loop-instance l = AreHeads (system_of l.system) l.heads

@@ -5,8 +5,8 @@ use Rattle.fb_system.specs.Heads.{first_text, head_text, head_variables}
 use Rattle.fb_system.proofs.KeptHeads.{first_added}
 use Rattle.fb_system.proofs.heads_of.row_of.Goals as goal
 
-pub returns : goal.returns
-returns c = λ some.
+pub returns-clause-row : goal.returns-clause-row
+returns-clause-row c = λ some.
     let sys = system_of c.args.system.now in
     let vars = head_variables sys c.args.of in
     let name = c.resource_name.ensures ∙ sym (unwrap_or-slice_get sys.resource_names c.args.of.resource []) in

@@ -1,6 +1,31 @@
-use Rattle.std.proofs.Common.{sym}
-use Rattle.fb_system.proofs.KeptHeads.{row_there, same_heads}
+use Rattle.std.proofs.Common.{◌<◌, length, arith, sym}
+use Rattle.fb_system.specs.Heads.{IsRowAt}
+use Rattle.fb_system.proofs.KeptHeads.{row_found}
+use Rattle.fb_system.proofs.InRanges.{found, found_within}
 use Rattle.fb_system.proofs.heads.Heads.find.Goals as goal
 
-pub returns-then-eq : goal.returns-then-eq
-returns-then-eq c = λ sys all. row_there sys c.args.self.now.rows _ c.in_ok-head.head.now c.args.of all (sym c.in_ok-head.ensures.value) c.if-head-gt0.true (same_heads _ _ c.if-eq.ensures)
+pub bounds-rows-row : goal.bounds-rows-row
+bounds-rows-row c =
+    let heads = c.args.self.now in
+    let x = c.args.of in
+    found_within (IsRowAt c.requires.0) heads.rows _ heads.ranges x.instance x.taken x.event _ _ c.as_slice-rows.ensures c.requires.1 (sym c.in_ok-ranges.ensures.value)
+    c.in_ok-row.ensures.at c.in_ok-row.ensures.within
+
+pub offset_bounds-rows-row : goal.offset_bounds-rows-row
+offset_bounds-rows-row c =
+    let heads = c.args.self.now in
+    let x = c.args.of in
+    let within : c.in_ok-row.row < length c.as_slice-rows.result.now =
+    found_within (IsRowAt c.requires.0) heads.rows _ heads.ranges x.instance x.taken x.event _ _ c.as_slice-rows.ensures c.requires.1 (sym c.in_ok-ranges.ensures.value)
+    c.in_ok-row.ensures.at c.in_ok-row.ensures.within in
+    let sized = c.as_slice-rows.type_inv in
+    omega arith
+
+pub returns-then-head-of : goal.returns-then-head-of
+returns-then-head-of c = λ sys all.
+    let heads = c.args.self.now in
+    let x = c.args.of in
+    row_found sys x _
+    (found (IsRowAt sys) heads.rows _ heads.ranges x.instance x.taken x.event _ _ _ c.as_slice-rows.ensures all (sym c.in_ok-ranges.ensures.value)
+    c.in_ok-row.ensures.at c.in_ok-row.ensures.within)
+    c.if-head-gt0.true c.if-head-of.true

@@ -16,3 +16,6 @@ pub returns-in-Some-clause-more : goal.returns-in-Some-clause-more
 returns-in-Some-clause-more c =
     (first_read c.args.self.now c.args.from c.args.index _
     (row_read c.args.self.now c.args.from _ _ c.in-Some.is (c.port.ensures _ (ports_seen _ _ _ c.deref.ensures c.self.view_is c.self.invariant))) c.if-index-eq0.true).more
+
+pub port-requires : goal.port-requires
+port-requires c = (c.args.self.now, ports_seen _ _ _ c.deref.ensures c.self.view_is c.self.invariant)

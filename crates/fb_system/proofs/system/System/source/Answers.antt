@@ -10,3 +10,6 @@ returns-in-Some-clause-comes c =
 pub returns-in-Some-clause-within : goal.returns-in-Some-clause-within
 returns-in-Some-clause-within c =
     (source_read (system_of c.args.self.now) c.args.to _ _ c.in-Some.is (c.source.ensures _ (sources_seen _ _ _ c.deref.ensures c.self.view_is c.self.invariant))).within
+
+pub source-requires : goal.source-requires
+source-requires c = (system_of c.args.self.now, sources_seen _ _ _ c.deref.ensures c.self.view_is c.self.invariant)
