@@ -3,7 +3,7 @@ use Rattle.std.proofs.Common.{◌≡◌, ℕ, ℤ, ◌&&◌, Bool, true, false, 
 use Rattle.std.specs.Prelude.{slice_get, if◌then◌else◌, codes, pos, neg_ℤ, int_div, ◌+ℤ◌, ◌-ℤ◌, ◌*ℤ◌, not}
 use Rattle.std.specs.Int.{int_min, int_max}
 use Rattle.std.proofs.lemmas.Bool.{false≢true}
-use Rattle.fb_types.specs.Values.{Values, value_of, and_then, judged, absolute, binary_value, unary_value, within_signed, value_if_known, function_named, truth, truth_of, same_whole}
+use Rattle.fb_types.specs.Values.{Values, value_of, and_then, judged, absolute, binary_value, unary_value, within_signed, value_if_known, function_named, truth, whole, truth_of, same_whole}
 use Rattle.fb_types.specs.declared.text.UnaryOperator.TheVariants as unary
 use Rattle.fb_types.specs.declared.text.BinaryOperator.{BinaryOperator}
 use Rattle.fb_types.specs.declared.text.BinaryOperator.TheVariants.{Or, Xor, And, Equal, NotEqual, Less, Greater, LessOrEqual, GreaterOrEqual, Add, Subtract, Multiply, Divide, Modulo}
@@ -30,25 +30,26 @@ again_if : (b : Bool) (r : Result Value Reason) (s : Result Value Reason) → as
 again_if true r s e f = e
 again_if false r s e f = f
 
-again_judged : (z : ℤ) → as_whole (wholes (judged z)) ≡ judged z
+pub again_judged : (z : ℤ) → as_whole (wholes (judged z)) ≡ judged z
 again_judged z = again_if (within_signed 127 z) (Ok (value.Whole z)) (Err reason.Range) refl refl
 
-again_two : (o : BinaryOperator) (x y : ℤ) → gives_number o ≡ true → as_whole (wholes (binary_value o (value.Whole x) (value.Whole y))) ≡ binary_value o (value.Whole x) (value.Whole y)
-again_two Add x y g = again_judged (x +ℤ y)
-again_two Subtract x y g = again_judged (x -ℤ y)
-again_two Multiply x y g = again_judged (x *ℤ y)
-again_two Divide x y g = again_if (same_whole y (pos 0)) (Err reason.Divide) (judged (int_div x y)) refl (again_judged (int_div x y))
-again_two Modulo x y g =
-    again_if (same_whole y (pos 0)) (judged (pos 0)) (judged (x -ℤ (int_div x y *ℤ y))) (again_judged (pos 0)) (again_judged (x -ℤ (int_div x y *ℤ y)))
-again_two Or x y g = absurd (false≢true g)
-again_two Xor x y g = absurd (false≢true g)
-again_two And x y g = absurd (false≢true g)
-again_two Equal x y g = absurd (false≢true g)
-again_two NotEqual x y g = absurd (false≢true g)
-again_two Less x y g = absurd (false≢true g)
-again_two Greater x y g = absurd (false≢true g)
-again_two LessOrEqual x y g = absurd (false≢true g)
-again_two GreaterOrEqual x y g = absurd (false≢true g)
+-- an operator that gives a number looks at its operands as numbers
+pub again_two : (o : BinaryOperator) (v w : Value) → gives_number o ≡ true → as_whole (wholes (binary_value o (value.Whole (whole v)) (value.Whole (whole w)))) ≡ binary_value o v w
+again_two Add v w g = again_judged (whole v +ℤ whole w)
+again_two Subtract v w g = again_judged (whole v -ℤ whole w)
+again_two Multiply v w g = again_judged (whole v *ℤ whole w)
+again_two Divide v w g = again_if (same_whole (whole w) (pos 0)) (Err reason.Divide) (judged (int_div (whole v) (whole w))) refl (again_judged (int_div (whole v) (whole w)))
+again_two Modulo v w g =
+    again_if (same_whole (whole w) (pos 0)) (judged (pos 0)) (judged (whole v -ℤ (int_div (whole v) (whole w) *ℤ whole w))) (again_judged (pos 0)) (again_judged (whole v -ℤ (int_div (whole v) (whole w) *ℤ whole w)))
+again_two Or v w g = absurd (false≢true g)
+again_two Xor v w g = absurd (false≢true g)
+again_two And v w g = absurd (false≢true g)
+again_two Equal v w g = absurd (false≢true g)
+again_two NotEqual v w g = absurd (false≢true g)
+again_two Less v w g = absurd (false≢true g)
+again_two Greater v w g = absurd (false≢true g)
+again_two LessOrEqual v w g = absurd (false≢true g)
+again_two GreaterOrEqual v w g = absurd (false≢true g)
 
 comparison_of_two : (o : BinaryOperator) (x y : ℤ) → is_comparison o ≡ true → binary_value o (value.Whole x) (value.Whole y) ≡ Ok (value.Bool (compared_by o x y))
 comparison_of_two Equal x y g = refl
@@ -86,7 +87,7 @@ joined_two Modulo a b g = absurd (false≢true g)
 
 binary_numbers : (o : BinaryOperator) (r s : Result ℤ Reason) → gives_number o ≡ true
     → and_then (as_whole r) (λ v. and_then (as_whole s) (λ w. binary_value o v w)) ≡ as_whole (two_numbers o r s)
-binary_numbers o (Ok x) (Ok y) g = sym (again_two o x y g)
+binary_numbers o (Ok x) (Ok y) g = sym (again_two o (value.Whole x) (value.Whole y) g)
 binary_numbers o (Ok x) (Err q) g = refl
 binary_numbers o (Err q) s g = refl
 

@@ -1,8 +1,6 @@
 pub mod Arguments
 pub mod Divided
-pub mod Faults
 pub mod Knowing
-pub mod Required
 pub mod Once
 pub mod Indexes
 pub mod Ranges

@@ -10,7 +10,7 @@ use Rattle.fb_types.specs.Bodies.{Point, End, Went, Left, Returned, Stopped, Run
 use Rattle.fb_types.specs.declared.text.Label.{Label}
 use Rattle.fb_types.specs.declared.text.Expr as expr
 use Rattle.fb_types.specs.declared.text.Stmt as read
-use Rattle.fb_types.specs.declared.text.Stmt.{fold_out-Stmt, fold-roll-Stmt}
+use Rattle.fb_types.specs.declared.text.Stmt.{fold-roll-Stmt}
 use Rattle.fb_types.specs.declared.text.Stmt.TheVariants as variants
 use Rattle.fb_types.specs.declared.text.Choice.{Choice, out-Choice, fold_out-Choice}
 use Rattle.fb_types.specs.declared.text.Branch.{Branch, out-Branch, fold_out-Branch}
@@ -259,20 +259,6 @@ while_says c body = rw (← variants.rolls-While c body) (rw fold-roll-Stmt refl
 pub case_runs : (T : Types) (c : Expr) (bs : Branches) (others : Stmts) (vars : Values) (left : ℕ) (v : Value) (e : End) (q : Point) → value_of c vars ≡ Ok v
     → RunsBranch T bs (whole v) (RunsAll T others) (record { vars = vars; left = left }) e q → Runs T (Case c bs others) (record { vars = vars; left = suc left }) e q
 case_runs T c bs others vars left v e q is run = rw is run
-
--- ---- One statement alone
-
-ends_there : (T : Types) (e : End) (q : Point) → After e (RunsAll T (all_of [])) q e q
-ends_there T Went q = (refl, refl)
-ends_there T Left q = (refl, refl)
-ends_there T Returned q = (refl, refl)
-ends_there T (Stopped r) q = (refl, refl)
-
-pub one_runs : (T : Types) (ss : List read.Stmt) (s : read.Stmt) (p q : Point) (e : End) → length ss ≡ 1 → s ≡ get_or ss 0 s → Runs T (stmt_of s) p e q → RunsAll T (all_of ss) p e q
-one_runs T [] s p q e one is run = absurd (omega arith)
-one_runs T (t ∷ []) s p q e one is run =
-    subst (λ (u : read.Stmt). RunsAll T (all_of (u ∷ [])) p e q) is (e, q, run, ends_there T e q)
-one_runs T (t ∷ u ∷ ss) s p q e one is run = absurd (omega arith)
 
 -- ---- What is known of a loop's frame, said of the frame that it began with
 

@@ -1,8 +1,9 @@
 -- What the expressions that were read say, each by its parts, and their results (IEC 61131-3, 7.3.2).
 use Rattle.std.proofs.Common.{◌≡◌, ℤ, Bool, List, map, Ok, refl, sym, ap}
 use Rattle.fb_types.specs.Names.{Name}
-use Rattle.fb_types.specs.Syntax.{Whole, Truth, Variable, Binary, Call, expr_of, exprs}
-use Rattle.fb_types.specs.Values.{Values, value_of, values_of, value_if_known, function_named, and_then}
+use Rattle.fb_types.specs.Syntax.{Whole, Truth, Variable, Unary, Binary, Call, expr_of, exprs}
+use Rattle.fb_types.specs.Values.{Values, value_of, values_of, value_if_known, function_named, and_then, unary_value, binary_value}
+use Rattle.fb_types.specs.declared.text.UnaryOperator.{UnaryOperator}
 use Rattle.fb_types.specs.declared.text.BinaryOperator.{BinaryOperator}
 use Rattle.fb_types.specs.declared.text.Expr as read
 use Rattle.fb_types.specs.declared.text.Expr.{fold-roll-Expr}
@@ -25,6 +26,9 @@ module _ (d : read.Expr) where
   pub call_is : (f : Name) (es : List read.Expr) → d ≡ variant.Call f es → expr_of d ≡ Call f (exprs (map expr_of es))
   call_is f es is = rw is (rw (← variant.rolls-Call f es) (rw fold-roll-Expr refl))
 
+  pub unary_is : (o : UnaryOperator) (e : read.Expr) → d ≡ variant.Unary o e → expr_of d ≡ Unary o (expr_of e)
+  unary_is o e is = rw is (rw (← variant.rolls-Unary o e) (rw fold-roll-Expr refl))
+
   pub binary_is : (o : BinaryOperator) (e f : read.Expr) → d ≡ variant.Binary o e f → expr_of d ≡ Binary o (expr_of e) (expr_of f)
   binary_is o e f is = rw is (rw (← variant.rolls-Binary o e f) (rw fold-roll-Expr refl))
 
@@ -44,3 +48,10 @@ module _ (d : read.Expr) where
     pub call_comes : (f : Name) (es : List read.Expr) → d ≡ variant.Call f es
         → and_then (values_of (exprs (map expr_of es)) vars) (value_if_known (function_named f)) ≡ value_of (expr_of d) vars
     call_comes f es is = ap (λ e. value_of e vars) (sym (call_is f es is))
+
+    pub unary_comes : (o : UnaryOperator) (e : read.Expr) → d ≡ variant.Unary o e → and_then (value_of (expr_of e) vars) (unary_value o) ≡ value_of (expr_of d) vars
+    unary_comes o e is = ap (λ e. value_of e vars) (sym (unary_is o e is))
+
+    pub binary_comes : (o : BinaryOperator) (e f : read.Expr) → d ≡ variant.Binary o e f
+        → and_then (value_of (expr_of e) vars) (λ v. and_then (value_of (expr_of f) vars) (λ w. binary_value o v w)) ≡ value_of (expr_of d) vars
+    binary_comes o e f is = ap (λ e. value_of e vars) (sym (binary_is o e f is))

@@ -1,4 +1,3 @@
-pub mod Faults
 pub mod Flows
 pub mod Frames
 pub mod Required

@@ -1,9 +1,9 @@
 //! Runs of statements (IEC 61131-3, 7.3.3; the count of steps is this project's profile).
 
 ghost use Rattle.std.specs.Prelude.{◌≡◌, ◌≤◌, ◌<◌, true, false, OnOk, IfOk};
-ghost use Rattle.fb_types.specs.Syntax.{body_of, expr_of, stmt_of, step_of, Assign, If, Case, For, While, Repeat};
+ghost use Rattle.fb_types.specs.Syntax.{body_of, expr_of, stmt_of, step_of, If, For, While, Repeat};
 ghost use Rattle.fb_types.specs.Values.{whole};
-ghost use Rattle.fb_types.specs.Bodies.{Runs, RunsAll, RunsChoice, RunsBranch, Counts, Loop, Step, Then, Advances, passed};
+ghost use Rattle.fb_types.specs.Bodies.{Runs, RunsAll, RunsBranch, Counts, Step, Then, Advances, passed};
 ghost use Rattle.fb_st.specs.Frames.{declared_in, types_in, values_of, is_declared};
 ghost use Rattle.fb_st.specs.Flows.{end_of, point, before_step, all_of, choices_of, branches_of};
 ghost use Rattle.fb_st.specs.Known.{AssignsKnown, AllKnown, ChoicesKnown, BranchesKnown};
@@ -24,32 +24,7 @@ pub fn exec(body: &Body, frame: &mut Frame, meter: &mut Meter) -> Result<Flow, R
     ensures declared { declared_in frame.new ≡ declared_in frame.old }
     ensures fewer { meter.new.left ≤ meter.old.left }
 {
-    let statements = body.statements.as_slice();
-    // Many algorithms are one IF, which needs no loop over statements.
-    if let [statement] = statements {
-        if let Stmt::If(choices, others) = statement {
-            return choose(choices.as_slice(), others.as_slice(), frame, meter);
-        }
-    }
-    run_all(statements, frame, meter)
-}
-
-/// A run of IF.
-#[inline(always)]
-fn choose(
-    choices: &[Choice],
-    others: &[Stmt],
-    frame: &mut Frame,
-    meter: &mut Meter,
-) -> Result<Flow, Reason>
-    requires known { ChoicesKnown (declared_in frame.old) (choices_of choices.now) }
-    requires others_known { AllKnown (declared_in frame.old) (all_of others.now) }
-    ensures run { Runs (types_in (declared_in frame.old)) (If (choices_of choices.now) (all_of others.now)) (point frame.old meter.old) (end_of result) (point frame.new meter.new) }
-    ensures declared { declared_in frame.new ≡ declared_in frame.old }
-    ensures fewer { meter.new.left ≤ meter.old.left }
-{
-    meter.step()?;
-    run_choice(choices, others, frame, meter)
+    run_all(body.statements.as_slice(), frame, meter)
 }
 
 /// A run of one statement.
@@ -82,43 +57,9 @@ fn run(statement: &Stmt, frame: &mut Frame, meter: &mut Meter) -> Result<Flow, R
     }
 }
 
-/// A run of statements. One assignment alone, as many bodies are, needs no loop over statements.
-#[cycle(exec)]
-#[inline(always)]
-fn run_all(statements: &[Stmt], frame: &mut Frame, meter: &mut Meter) -> Result<Flow, Reason>
-    requires known { AllKnown (declared_in frame.old) (all_of statements.now) }
-    ensures run { RunsAll (types_in (declared_in frame.old)) (all_of statements.now) (point frame.old meter.old) (end_of result) (point frame.new meter.new) }
-    ensures declared { declared_in frame.new ≡ declared_in frame.old }
-    ensures fewer { meter.new.left ≤ meter.old.left }
-{
-    if let [statement] = statements {
-        if let Stmt::Assign(variable, expr) = statement {
-            return assign(variable, expr, frame, meter);
-        }
-    }
-    run_each(statements, frame, meter)
-}
-
-/// A run of an assignment.
-#[inline(always)]
-fn assign(
-    variable: &Reference,
-    expr: &Expr,
-    frame: &mut Frame,
-    meter: &mut Meter,
-) -> Result<Flow, Reason>
-    requires known { is_declared (declared_in frame.old) variable.now ≡ true }
-    ensures run { Runs (types_in (declared_in frame.old)) (Assign variable.now (expr_of expr.now)) (point frame.old meter.old) (end_of result) (point frame.new meter.new) }
-    ensures declared { declared_in frame.new ≡ declared_in frame.old }
-    ensures fewer { meter.new.left ≤ meter.old.left }
-{
-    meter.step()?;
-    run_assignment(variable, expr, frame)
-}
-
 /// A run of statements, one after the other.
 #[cycle(exec)]
-fn run_each(statements: &[Stmt], frame: &mut Frame, meter: &mut Meter) -> Result<Flow, Reason>
+fn run_all(statements: &[Stmt], frame: &mut Frame, meter: &mut Meter) -> Result<Flow, Reason>
     requires known { AllKnown (declared_in frame.old) (all_of statements.now) }
     ensures run { RunsAll (types_in (declared_in frame.old)) (all_of statements.now) (point frame.old meter.old) (end_of result) (point frame.new meter.new) }
     ensures declared { declared_in frame.new ≡ declared_in frame.old }

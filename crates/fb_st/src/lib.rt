@@ -4,7 +4,7 @@
 //! `execution::exec` runs an algorithm as the definitions say, steps counted. `algorithm::exec_compiled` does the same with
 //! the form that `compile_body` makes once for each type. A `frame::Frame` keeps variables within their types.
 //!
-//! Read in this order: `frame` and `slot_list`, the variables; `evaluation` with `operator`, `fault` and `function`;
+//! Read in this order: `frame` and `slot_list`, the variables; `evaluation` with `operator` and `function`;
 //! `meter`, the steps; `execution` with `assign`; `known`. Then `layout` and `compiled`; `scope`, `compile_expr` and
 //! `compile_stmt`; `short`, for numbers that fit 64 bits, and `exact`, for all; `running`; `algorithm`.
 #![tactic(auto)]
@@ -17,7 +17,6 @@ pub mod compiled;
 pub mod evaluation;
 mod exact;
 pub mod execution;
-mod fault;
 pub mod frame;
 mod function;
 pub mod known;

@@ -1,10 +1,10 @@
 //! Operators (IEC 61131-3, 7.3.2). Whole numbers are exact: a result outside 128 bits is a reason.
 
 ghost use Rattle.std.specs.Prelude.{◌≡◌, false, ◌+ℤ◌, ◌-ℤ◌, ◌*ℤ◌, neg_ℤ, int_div, int_rem, IfSome};
-ghost use Rattle.fb_types.specs.Values.{judged, bool_result, whole, truth, binary_value, same_value, quotient, modulus};
-ghost use Rattle.fb_st.specs.Required.{wholes, gives_number, both_joined};
+ghost use Rattle.fb_types.specs.Values.{and_then, judged, bool_result, whole, truth, unary_value, binary_value, same_value, quotient, modulus};
+ghost use Rattle.fb_st.specs.Required.{wholes, as_whole, gives_number};
 
-use fb_types::{BinaryOperator, Reason, Value};
+use fb_types::{BinaryOperator, Reason, UnaryOperator, Value};
 
 /// The whole number that a value is. A truth value, which no accepted text has here, counts as 0.
 #[inline(always)]
@@ -136,18 +136,6 @@ pub fn are_same(left: Value, right: Value) -> bool
     }
 }
 
-/// Two truth values, joined by OR, XOR or else AND.
-#[inline(always)]
-pub fn joined(operator: BinaryOperator, a: bool, b: bool) -> bool
-    ensures { result ≡ both_joined operator a b }
-{
-    match operator {
-        BinaryOperator::Or => a || b,
-        BinaryOperator::Xor => a != b,
-        _ => a && b,
-    }
-}
-
 /// The whole number that an operator gives at two. One that gives a truth value counts as 0.
 #[inline(always)]
 pub fn number_of_two(operator: BinaryOperator, x: i128, y: i128) -> Result<i128, Reason>
@@ -163,27 +151,6 @@ pub fn number_of_two(operator: BinaryOperator, x: i128, y: i128) -> Result<i128,
     }
 }
 
-/// The truth value that an operator gives at two numbers, where it does not give a number.
-#[inline(always)]
-pub fn comparison_holds(operator: BinaryOperator, x: i128, y: i128) -> bool
-    ensures { gives_number operator ≡ false → binary_value operator (Value.Whole x) (Value.Whole y) ≡ bool_result result }
-{
-    match operator {
-        BinaryOperator::Or | BinaryOperator::Xor | BinaryOperator::And => false,
-        BinaryOperator::Equal => x == y,
-        BinaryOperator::NotEqual => x != y,
-        BinaryOperator::Less => x < y,
-        BinaryOperator::Greater => y < x,
-        BinaryOperator::LessOrEqual => x <= y,
-        BinaryOperator::GreaterOrEqual => y <= x,
-        BinaryOperator::Add
-        | BinaryOperator::Subtract
-        | BinaryOperator::Multiply
-        | BinaryOperator::Divide
-        | BinaryOperator::Modulo => false,
-    }
-}
-
 /// Whether an operator gives a number.
 pub fn is_arithmetic(operator: BinaryOperator) -> bool
     ensures { result ≡ gives_number operator }
@@ -196,4 +163,60 @@ pub fn is_arithmetic(operator: BinaryOperator) -> bool
             | BinaryOperator::Divide
             | BinaryOperator::Modulo
     )
+}
+
+/// The truth value that an operator gives at two values, where it does not give a number.
+fn truth_of_two(operator: BinaryOperator, left: Value, right: Value) -> bool
+    ensures { gives_number operator ≡ false → binary_value operator left right ≡ bool_result result }
+{
+    match operator {
+        BinaryOperator::Or => truth_value(left) || truth_value(right),
+        BinaryOperator::Xor => truth_value(left) != truth_value(right),
+        BinaryOperator::And => truth_value(left) && truth_value(right),
+        BinaryOperator::Equal => are_same(left, right),
+        BinaryOperator::NotEqual => !are_same(left, right),
+        BinaryOperator::Less => whole_of(left) < whole_of(right),
+        BinaryOperator::Greater => whole_of(right) < whole_of(left),
+        BinaryOperator::LessOrEqual => whole_of(left) <= whole_of(right),
+        BinaryOperator::GreaterOrEqual => whole_of(right) <= whole_of(left),
+        BinaryOperator::Add
+        | BinaryOperator::Subtract
+        | BinaryOperator::Multiply
+        | BinaryOperator::Divide
+        | BinaryOperator::Modulo => false,
+    }
+}
+
+/// The value that a number is, or the reason why there is none.
+fn whole_value(number: Result<i128, Reason>) -> Result<Value, Reason>
+    ensures { result ≡ as_whole number }
+{
+    Ok(Value::Whole(number?))
+}
+
+/// The value of a unary operator at an operand, or the reason of the operand.
+pub fn unary(operator: UnaryOperator, operand: Result<Value, Reason>) -> Result<Value, Reason>
+    ensures { result ≡ and_then operand (unary_value operator) }
+{
+    let value = operand?;
+    match operator {
+        UnaryOperator::Negate => whole_value(negated(whole_of(value))),
+        UnaryOperator::Not => Ok(Value::Bool(!truth_value(value))),
+    }
+}
+
+/// The value of a binary operator at two operands, or the first reason.
+pub fn binary(
+    operator: BinaryOperator,
+    left: Result<Value, Reason>,
+    right: Result<Value, Reason>,
+) -> Result<Value, Reason>
+    ensures { result ≡ and_then left (λ v. and_then right (λ w. binary_value operator v w)) }
+{
+    let first = left?;
+    let second = right?;
+    if is_arithmetic(operator) {
+        return whole_value(number_of_two(operator, whole_of(first), whole_of(second)));
+    }
+    Ok(Value::Bool(truth_of_two(operator, first, second)))
 }

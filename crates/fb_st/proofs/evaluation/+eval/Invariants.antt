@@ -15,35 +15,11 @@ invariant-call-loop-argument l =
 
 -- ---- How deep the trees are
 
-abbrev pub decreases-number_with_fault : goal.decreases-number_with_fault
-decreases-number_with_fault l = 16 * expr.the_size l.expr.now
-
-abbrev pub decreases-operand : goal.decreases-operand
-decreases-operand l = 16 * expr.the_size l.expr.now + 1
-
-abbrev pub decreases-number : goal.decreases-number
-decreases-number l = 16 * expr.the_size l.expr.now + 1
-
-abbrev pub decreases-untrue : goal.decreases-untrue
-decreases-untrue l = 16 * expr.the_size l.expr.now + 2
-
-abbrev pub decreases-truth : goal.decreases-truth
-decreases-truth l = 16 * expr.the_size l.expr.now + 3
-
-abbrev pub decreases-bool_value : goal.decreases-bool_value
-decreases-bool_value l = 16 * expr.the_size l.expr.now + 4
-
 abbrev pub decreases-eval : goal.decreases-eval
 decreases-eval l = 16 * expr.the_size l.expr.now + 6
 
-abbrev pub decreases-joined_truths : goal.decreases-joined_truths
-decreases-joined_truths l = 16 * max (expr.the_size l.left.now) (expr.the_size l.right.now) + 4
-
 abbrev pub decreases-both_values : goal.decreases-both_values
 decreases-both_values l = 16 * max (expr.the_size l.left.now) (expr.the_size l.right.now) + 7
-
-abbrev pub decreases-are_equal : goal.decreases-are_equal
-decreases-are_equal l = 16 * max (expr.the_size l.left.now) (expr.the_size l.right.now) + 8
 
 abbrev pub decreases-call : goal.decreases-call
 decreases-call l = 16 * most expr.the_size l.arguments.now + 8

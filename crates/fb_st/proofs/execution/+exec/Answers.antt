@@ -1,4 +1,4 @@
-use Rattle.std.proofs.Common.{List, length, subst, ◌≡◌, sym, ◌∙◌, ap, not, Bool, ℤ, refl, Result, Ok, Err, false, true, arith}
+use Rattle.std.proofs.Common.{List, subst, ◌≡◌, sym, ◌∙◌, ap, not, Bool, ℤ, refl, Result, Ok, Err, false, true, arith}
 use Rattle.std.proofs.lemmas.Result.{err_from_is_err_and}
 use Rattle.fb_types.specs.Names.{Name}
 use Rattle.fb_types.specs.Syntax.{Stmt, Stmts, Assign, If, Case, For, While, Repeat, expr_of, stmt_of, step_of}
@@ -13,7 +13,7 @@ use Rattle.fb_st.specs.declared.frame.Slot.{Slot}
 use Rattle.fb_st.specs.declared.meter.Flow.TheVariants as flow
 use Rattle.fb_st.specs.Frames.{declared_in, types_in, values_of}
 use Rattle.fb_st.specs.Flows.{end_of, point, before_step, all_of, branches_of, choices_of}
-use Rattle.fb_st.proofs.Runs.{one_runs, assign_says, if_says, case_says, for_says, while_says, case_runs, began, for_counts, for_not_begun, stopped_by, ended_by, ok_by, turn_as, whole_as, counts_as, all_goes_on, all_ends, all_known, all_as, nothing_left, runs_as, ends_at, choice_holds, choice_ran, choice_taken, choice_passed, choice_stops, choices_known, branch_fits, branch_ran, branch_taken, branch_passed, branches_known, loop_over, loop_stops, loop_left, loop_returned, loop_stopped, loop_goes_on, repeat_says, repeat_goes_on, repeat_over, repeat_stops, repeat_left, repeat_returned, repeat_stopped}
+use Rattle.fb_st.proofs.Runs.{assign_says, if_says, case_says, for_says, while_says, case_runs, began, for_counts, for_not_begun, stopped_by, ended_by, ok_by, turn_as, whole_as, counts_as, all_goes_on, all_ends, all_known, all_as, nothing_left, runs_as, ends_at, choice_holds, choice_ran, choice_taken, choice_passed, choice_stops, choices_known, branch_fits, branch_ran, branch_taken, branch_passed, branches_known, loop_over, loop_stops, loop_left, loop_returned, loop_stopped, loop_goes_on, repeat_says, repeat_goes_on, repeat_over, repeat_stops, repeat_left, repeat_returned, repeat_stopped}
 use Rattle.fb_st.proofs.execution.+exec.Goals as goal
 
 -- ---- FOR
@@ -353,24 +353,10 @@ run_counts-returns-in-Returned-clause-run t c =
     (ended_by c.turn_of_for.result c.in_ok-turn_of_for.field-0 flow.Returned c.in_ok-turn_of_for.was c.in-Returned.is) c.turn_of_for.ensures.run in
     c.loop.invariant.run Returned m (loop_returned test turn p m (ap (λ b. Ok (not b)) here) ran)
 
--- ---- One assignment
-
-pub run_all-returns-in-Assign-clause-run : goal.run_all-returns-in-Assign-clause-run
-run_all-returns-in-Assign-clause-run t c =
-    let T : Types = types_in (declared_in c.args.frame.now) in
-    let s : read.Stmt = c.statement-item.result in
-    let p : Point = point c.args.frame.now c.args.meter.now in
-    let q : Point = point c.assign.new.frame c.assign.new.meter in
-    let e : End = end_of c.assign.result in
-    let one : length c.args.statements.now ≡ 1 = let least = c.in-len1.len_at_least in let below = c.in-len1.len_below in omega arith in
-    let said : stmt_of s ≡ Assign c.in-Assign.variable (expr_of c.in-Assign.expr) = ap stmt_of c.in-Assign.is ∙ assign_says c.in-Assign.variable c.in-Assign.expr in
-    one_runs T c.args.statements.now s p q e one c.statement-item.is
-    (subst (λ (u : Stmt). Runs T u p e q) (sym said) c.assign.ensures.run)
-
 -- ---- Statements, one after the other
 
-pub run_each-loop-statement-preserved : goal.run_each-loop-statement-preserved
-run_each-loop-statement-preserved t c =
+pub run_all-loop-statement-preserved : goal.run_all-loop-statement-preserved
+run_all-loop-statement-preserved t c =
     let T : Types = types_in (declared_in c.args.frame.now) in
     let s : read.Stmt = c.statement-item.result in
     let p : Point = point c.loop-statement.frame c.loop-statement.meter in
@@ -385,8 +371,8 @@ run_each-loop-statement-preserved t c =
       fewer = let a = c.run.ensures.fewer in let b = c.loop-statement.invariant.fewer in omega arith;
     }
 
-pub run_each-returns-in_err-run-clause-run : goal.run_each-returns-in_err-run-clause-run
-run_each-returns-in_err-run-clause-run t c =
+pub run_all-returns-in_err-run-clause-run : goal.run_all-returns-in_err-run-clause-run
+run_all-returns-in_err-run-clause-run t c =
     let T : Types = types_in (declared_in c.args.frame.now) in
     let s : read.Stmt = c.statement-item.result in
     let p : Point = point c.loop-statement.frame c.loop-statement.meter in
@@ -398,8 +384,8 @@ run_each-returns-in_err-run-clause-run t c =
     rw (x.1, x.2) (c.loop-statement.invariant.run (Stopped r) m
     (all_ends T c.args.statements.now c.loop-statement.statement-index s p m (Stopped r) c.loop-statement-test.true c.statement-item.is ran (refl, refl)))
 
-pub run_each-returns-in-Left-clause-run : goal.run_each-returns-in-Left-clause-run
-run_each-returns-in-Left-clause-run t c =
+pub run_all-returns-in-Left-clause-run : goal.run_all-returns-in-Left-clause-run
+run_all-returns-in-Left-clause-run t c =
     let T : Types = types_in (declared_in c.args.frame.now) in
     let s : read.Stmt = c.statement-item.result in
     let p : Point = point c.loop-statement.frame c.loop-statement.meter in
@@ -409,8 +395,8 @@ run_each-returns-in-Left-clause-run t c =
     c.loop-statement.invariant.run Left m
     (all_ends T c.args.statements.now c.loop-statement.statement-index s p m Left c.loop-statement-test.true c.statement-item.is ran (refl, refl))
 
-pub run_each-returns-in-Returned-clause-run : goal.run_each-returns-in-Returned-clause-run
-run_each-returns-in-Returned-clause-run t c =
+pub run_all-returns-in-Returned-clause-run : goal.run_all-returns-in-Returned-clause-run
+run_all-returns-in-Returned-clause-run t c =
     let T : Types = types_in (declared_in c.args.frame.now) in
     let s : read.Stmt = c.statement-item.result in
     let p : Point = point c.loop-statement.frame c.loop-statement.meter in
@@ -420,8 +406,8 @@ run_each-returns-in-Returned-clause-run t c =
     c.loop-statement.invariant.run Returned m
     (all_ends T c.args.statements.now c.loop-statement.statement-index s p m Returned c.loop-statement-test.true c.statement-item.is ran (refl, refl))
 
-pub run_each-returns-clause-run : goal.run_each-returns-clause-run
-run_each-returns-clause-run t c =
+pub run_all-returns-clause-run : goal.run_all-returns-clause-run
+run_all-returns-clause-run t c =
     let T : Types = types_in (declared_in c.args.frame.now) in
     let p : Point = point c.loop-statement.frame c.loop-statement.meter in
     c.loop-statement.invariant.run Went p

@@ -13,8 +13,8 @@ use Rattle.fb_st.proofs.Runs.{Leads, repeats}
 use Rattle.fb_st.proofs.execution.+exec.Given as goal
 
 -- what the rest runs to from here, all runs to from the start
-abbrev pub invariant-run_each-loop-statement : goal.invariant-run_each-loop-statement
-invariant-run_each-loop-statement l = record {
+abbrev pub invariant-run_all-loop-statement : goal.invariant-run_all-loop-statement
+invariant-run_all-loop-statement l = record {
   run : Leads (RunsAll (types_in (declared_in l.fn.frame)) (all_of (drop l.statement-index l.statements))) (point l.frame l.meter)
       (RunsAll (types_in (declared_in l.fn.frame)) (all_of l.statements)) (point l.fn.frame l.fn.meter);
   known : AllKnown (declared_in l.fn.frame) (all_of (drop l.statement-index l.statements));
@@ -81,11 +81,8 @@ decreases-run_counts-loop l = l.meter.left
 abbrev pub decreases-run : goal.decreases-run
 decreases-run l = 6 * stmt.the_size l.statement.now
 
-abbrev pub decreases-run_each : goal.decreases-run_each
-decreases-run_each l = 6 * most stmt.the_size l.statements.now + 1
-
 abbrev pub decreases-run_all : goal.decreases-run_all
-decreases-run_all l = 6 * most stmt.the_size l.statements.now + 2
+decreases-run_all l = 6 * most stmt.the_size l.statements.now + 1
 
 -- the depth of ELSE counts as well
 abbrev pub decreases-run_choice : goal.decreases-run_choice
