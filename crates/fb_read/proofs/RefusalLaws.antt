@@ -1,6 +1,6 @@
 -- What is parsed of a text's tokens, or the refusal of the text.
-use Rattle.std.proofs.Common.{◌≡◌, ℕ, zero, suc, ◌-◌, ◌<◌, ◌≤◌, Bool, true, false, List, [], ◌∷◌, length, take, drop, Ok, Err, refl, sym, ap, subst, ◌∙◌, arith}
-use Rattle.std.proofs.lemmas.List.{nil_from_length, take_all}
+use Rattle.std.proofs.Common.{◌≡◌, ℕ, zero, suc, ◌-◌, ◌<◌, ◌≤◌, Bool, true, false, List, [], ◌∷◌, ◌++◌, length, take, drop, Ok, Err, refl, sym, ap, subst, ◌∙◌, arith}
+use Rattle.std.proofs.lemmas.List.{length-take, map-append, nil_from_length, take-append-drop, take-take, take_all}
 use Rattle.fb_types.specs.declared.library.Library.{Library}
 use Rattle.fb_read.specs.declared.token.Located.{Located}
 use Rattle.fb_read.specs.declared.refused.ReadFault.{ReadFault}
@@ -18,7 +18,7 @@ use Rattle.fb_read.specs.Whole.{most_bytes, ended, IsLibraryText}
 use Rattle.fb_read.specs.Refusals.{IsAtNext, IsDeepLen, IsFaultAt, IsFirstDeep, IsRefused, IsSameFault, IsTooDeep}
 use Rattle.fb_read.proofs.TokenLaws.{tokens-located}
 use Rattle.fb_read.proofs.WholeLaws.{parsed-derived, parsed-fits}
-use Rattle.fb_read.proofs.StopLaws.{none-deep, none-fits, stops}
+use Rattle.fb_read.proofs.StopLaws.{deep-more, none-deep, none-fits, stops}
 
 module _ (text : Text) (ps : List Located) (short : length text ≤ most_bytes) (a : AreLocated text ps (after_mark text)) where
   pub whole-declared : (x : Library) (left : Tokens) → library (tokens_of ps) ≡ Ok (x, left) → length left ≡ 0 → IsLibraryText text x
@@ -77,6 +77,20 @@ deep-len ps (suc n) fits h = (omega arith, fits, h)
 
 pub all-deep : (ps : List Located) → IsTooDeep ps → IsDeepLen ps (length ps)
 all-deep ps h = deep-len ps (length ps) (omega arith) (subst (λ (qs : List Located). IsTooDeep qs) (sym (take_all (length ps) ps (omega arith))) h)
+
+-- if the first tokens nest too deep, all do
+pub front-deep : (ps : List Located) (n : ℕ) → IsTooDeep (take n ps) → IsTooDeep ps
+front-deep ps n h =
+    let joined : tokens_of (take n ps) ++ tokens_of (drop n ps) ≡ tokens_of ps = sym (map-append (λ (p : Located). p.token) (take n ps) (drop n ps)) ∙ ap (λ (qs : List Located). tokens_of qs) (take-append-drop n ps) in
+    subst (λ (ts : Tokens). ended (library ts) ≡ Err too_deep) joined (deep-more (tokens_of (take n ps)) (tokens_of (drop n ps)) h)
+
+-- the first that nests too deep among the first tokens is the first of all
+pub first-front : (ps : List Located) (k n : ℕ) → IsFirstDeep (take k ps) n → IsFirstDeep ps n
+first-front ps k n d =
+    let fits : n ≤ length (take k ps) = d.0.1 in
+    let len = length-take k ps in
+    let deep : IsTooDeep (take n ps) = subst (λ (qs : List Located). IsTooDeep qs) (take-take n k ps (omega arith)) d.0.2 in
+    ((d.0.0, omega arith, deep), λ t. d.1 (subst (λ (qs : List Located). IsTooDeep qs) (sym (take-take (n - 1) k ps (omega arith))) t))
 
 pub first-deep : (ps : List Located) (n : ℕ) (b : Bool) → IsDeepLen ps n → IsTrue b ↔ IsTooDeep (take (n - 1) ps) → b ≡ false → IsFirstDeep ps n
 first-deep ps n b d w none = (d, λ t. let some : b ≡ true = w.1 t in let e : true ≡ false = sym some ∙ none in absurd cc)

@@ -84,6 +84,10 @@ ended-deep (Err f) e = cc
 pub none-deep : ended (library []) ≡ Err too_deep → ⊥
 none-deep h = local-library.flat (ended-deep (library []) h)
 
+-- what is refused for its nesting is, whatever follows
+pub deep-more : (front more : Tokens) → ended (library front) ≡ Err too_deep → ended (library (front ++ more)) ≡ Err too_deep
+deep-more front more h = ap ended (local-library.deep front more (ended-deep (library front) h))
+
 -- no library that keeps the limit of nesting begins with tokens that are refused for theirs
 pub none-fits : (front : Tokens) → ended (library front) ≡ Err too_deep → BeginsNoneThatFits front
 none-fits front h x more l fits =

@@ -322,7 +322,7 @@ fn expected_after(alloc: Global, tokens: Items<Located>, end: usize) -> Result<E
 
 /// The number of tokens that begin before this offset.
 fn tokens_before(tokens: &[Located], start: usize) -> usize {
-    tokens.iter().filter(|token| token.index < start).count()
+    tokens.partition_point(|token| token.index < start)
 }
 
 /// The kinds of tokens with which a text could go on in place of the one of its tokens that is at `start`, at which its

@@ -7,8 +7,9 @@
 //! Read in this order: `read`, the entry, and `error`. From bytes to tokens: `token`, `tokens` and `front`, with `blank`,
 //! `word`, `keyword`, `number` and `time`. The rules: `cursor`, `rule` and `fault`, how a rule reads; `block`, `ports`,
 //! `network`, `chart`, `operator`, `expression` and `statement`. Then `refused`, where a text is refused; `expected`, what
-//! could be there instead; `laws`; `discarding`, which frees what was read. The modules from tokens to rules are public
-//! for `fb_read_positions`, which reads a text once more up to a position.
+//! could be there instead; `nesting`, where the search for a nesting begins; `laws`; `discarding`, which frees what was
+//! read. The modules from tokens to rules are public for `fb_read_positions`, which reads a text once more up to a
+//! position.
 #![tactic(auto)]
 
 mod blank;
@@ -23,6 +24,7 @@ pub mod fault;
 pub mod front;
 mod keyword;
 pub mod laws;
+mod nesting;
 mod network;
 mod number;
 mod operator;

@@ -1,6 +1,6 @@
 //! Whole declaration texts.
 
-ghost use Rattle.std.specs.Prelude.{◌≡◌, ◌+◌, ◌-◌, ◌≤◌, ◌<◌, ◌==◌, ◌↔◌, length, take, drop, count_by, Err, IfOk, IfErr, IsErrOf, IsTrue};
+ghost use Rattle.std.specs.Prelude.{◌≡◌, ◌+◌, ◌-◌, ◌≤◌, ◌<◌, ◌==◌, ◌↔◌, length, take, drop, count_by, Err, IfOk, IfErr, IfSome, IsErrOf, IsTrue, is_some};
 ghost use Rattle.fb_types.specs.declared.library.Library.{Library};
 ghost use Rattle.fb_read.specs.Front.{bad_byte, bad_token};
 ghost use Rattle.fb_read.specs.Tokens.{after_mark};
@@ -14,6 +14,7 @@ use crate::error::ReadError;
 use crate::expected::{Expected, expected_at};
 use crate::fault::ParseFault;
 use crate::front::{LexFault, front};
+use crate::nesting::probable_len;
 use crate::refused::{ReadFault, Refusal, TextFault};
 use crate::rule::Rule;
 use crate::token::{Located, Span};
@@ -101,21 +102,29 @@ fn refused_before(
     }
 }
 
-/// Whether these tokens are refused for their nesting.
-fn nests_too_deep(alloc: Global, tokens: &[Located]) -> Result<bool, AllocError>
+/// The number of tokens that a rule leaves where it refuses these for their nesting. `None` if none does.
+fn nesting_left(alloc: Global, tokens: &[Located]) -> Result<Option<usize>, AllocError>
     requires { length tokens.now ≤ most_bytes }
-    ensures { IfOk result (λ b. IsTrue b ↔ IsTooDeep tokens.now) }
+    ensures { IfOk result (λ left. IsTrue (is_some left) ↔ IsTooDeep tokens.now) }
 {
     let mut cursor = Cursor::new(alloc, tokens);
     match Library::read(&mut cursor) {
         Ok(library) => {
             drop(library);
-            Ok(false)
+            Ok(None)
         }
         Err(ParseFault::Memory) => Err(AllocError),
-        Err(ParseFault::Syntax) => Ok(false),
-        Err(ParseFault::Nesting) => Ok(true),
+        Err(ParseFault::Syntax) => Ok(None),
+        Err(ParseFault::Nesting) => Ok(Some(cursor.left())),
     }
+}
+
+/// Whether these tokens are refused for their nesting.
+fn nests_too_deep(alloc: Global, tokens: &[Located]) -> Result<bool, AllocError>
+    requires { length tokens.now ≤ most_bytes }
+    ensures { IfOk result (λ b. IsTrue b ↔ IsTooDeep tokens.now) }
+{
+    Ok(nesting_left(alloc, tokens)?.is_some())
 }
 
 /// The first of these tokens, at most this number.
@@ -131,12 +140,16 @@ fn front_of(tokens: &[Located], len: usize) -> &[Located]
 
 /// How many of these tokens there are up to the first that nests too deep, or more. It is that token after which this
 /// number is left: a rule refuses its nesting there.
-fn probable_len(alloc: Global, tokens: &[Located], left: usize) -> Result<usize, AllocError>
+fn refused_len(alloc: Global, tokens: &[Located], left: usize) -> Result<usize, AllocError>
     requires few { length tokens.now ≤ most_bytes }
     requires deep { IsTooDeep tokens.now }
     ensures { IfOk result (IsDeepLen tokens.now) }
 {
     let len = tokens.len().saturating_sub(left);
+    // All of them have been read.
+    if left == 0 {
+        return Ok(len);
+    }
     let nests = nests_too_deep(alloc, front_of(tokens, len))?;
     if nests { Ok(len) } else { Ok(tokens.len()) }
 }
@@ -148,7 +161,7 @@ fn deep_len(alloc: Global, tokens: &[Located], left: usize) -> Result<usize, All
     requires deep { IsTooDeep tokens.now }
     ensures { IfOk result (IsFirstDeep tokens.now) }
 {
-    let most = probable_len(alloc, tokens, left)?;
+    let most = refused_len(alloc, tokens, left)?;
     for turn in 0..most {
         let len = most - turn;
         let nests = nests_too_deep(alloc, front_of(tokens, len - 1))?;
@@ -159,20 +172,49 @@ fn deep_len(alloc: Global, tokens: &[Located], left: usize) -> Result<usize, All
     Ok(most)
 }
 
-/// The refusal of tokens that nest too deep, where a rule that refuses them leaves this number.
-fn refused_nesting(alloc: Global, text: &[u8], tokens: &[Located], left: usize) -> ReadFault
+/// The refusal of tokens of which this many first ones nest too deep, where a rule that refuses those leaves this number of
+/// them.
+fn refused_nesting(
+    alloc: Global,
+    text: &[u8],
+    tokens: &[Located],
+    most: usize,
+    left: usize,
+) -> ReadFault
     requires short { length text.now ≤ most_bytes }
     requires few { length tokens.now ≤ most_bytes }
     requires located { AreLocated text.now tokens.now (after_mark text.now) }
-    requires deep { IsTooDeep tokens.now }
+    requires deep { IsTooDeep (take most tokens.now) }
     ensures { IsRefused text.now result }
 {
-    match deep_len(alloc, tokens, left) {
+    match deep_len(alloc, front_of(tokens, most), left) {
         Ok(len) => {
             let left = tokens.len() - len + 1;
             refused_before(alloc, text, tokens, left, TextFault::Nesting)
         }
         Err(_) => ReadFault::Memory,
+    }
+}
+
+/// The refusal of tokens that nest too deep, if their marks show where. They are read up to there.
+fn shown_nesting(
+    alloc: Global,
+    text: &[u8],
+    tokens: &[Located],
+) -> Result<Option<ReadFault>, AllocError>
+    requires short { length text.now ≤ most_bytes }
+    requires few { length tokens.now ≤ most_bytes }
+    requires located { AreLocated text.now tokens.now (after_mark text.now) }
+    ensures { IfOk result (λ fault. IfSome fault (IsRefused text.now)) }
+{
+    let most = probable_len(tokens);
+    if most == tokens.len() {
+        return Ok(None);
+    }
+    let read = nesting_left(alloc, front_of(tokens, most))?;
+    match read {
+        Some(left) => Ok(Some(refused_nesting(alloc, text, tokens, most, left))),
+        None => Ok(None),
     }
 }
 
@@ -214,10 +256,16 @@ fn parse_located(alloc: Global, text: &[u8], tokens: &[Located]) -> Result<Libra
     ensures declared { IfOk result (λ library. IsLibraryText text.now library) }
     ensures refused { IfErr result (λ e. IsRefused text.now e) }
 {
+    if let Some(fault) = shown_nesting(alloc, text, tokens)? {
+        return Err(fault);
+    }
     match parse(alloc, text, tokens) {
         Ok(found) => Ok(found),
         Err(Unread::Fault(fault)) => Err(fault),
-        Err(Unread::Nesting(left)) => Err(refused_nesting(alloc, text, tokens, left)),
+        Err(Unread::Nesting(left)) => {
+            let most = tokens.len();
+            Err(refused_nesting(alloc, text, tokens, most, left))
+        }
     }
 }
 

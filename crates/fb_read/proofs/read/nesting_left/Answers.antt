@@ -1,5 +1,5 @@
 use Rattle.fb_read.proofs.RefusalLaws.{deep-is, read-not-deep, stuck-not-deep}
-use Rattle.fb_read.proofs.read.nests_too_deep.Goals as goal
+use Rattle.fb_read.proofs.read.nesting_left.Goals as goal
 
 pub returns-in-Ok : goal.returns-in-Ok
 returns-in-Ok c = read-not-deep c.args.tokens.now c.in-Ok.library c.read.new.cursor (rw c.new-cursor.ensures at c.in-Ok.ensures)
