@@ -13,3 +13,5 @@ pub mod Values
 pub mod Outcomes
 pub mod Placing
 pub mod DeployLaws
+pub mod ReadOn
+pub mod Nearest

@@ -5,7 +5,7 @@ use Rattle.csv.specs.Records.{fields_of}
 use Rattle.csv.specs.declared.iter.ByteRecordsIntoIter.{ByteRecordsIntoIter}
 use Rattle.csv.specs.declared.record.ByteRecord.{ByteRecord}
 use Rattle.fb_read.specs.declared.token.Span.{Span}
-use Rattle.fb_inputs.specs.Readers.{IsAt, rows_from}
+use Rattle.fb_inputs.specs.Readers.{IsAt, IsReaderOf, rows_from}
 use Rattle.fb_inputs.specs.declared.deploy_location.DeployKey.{DeployKey}
 use Rattle.fb_inputs.specs.declared.deploy_location.TableLocation.{TableLocation}
 use Rattle.fb_inputs.specs.declared.deploy_location.TableLocation.TheVariants as table
@@ -14,7 +14,8 @@ use Rattle.fb_inputs.specs.Arrays.{IsArrayAfter, IsElement}
 use Rattle.fb_inputs.specs.Counts.{Text, IsNth, mark_len}
 use Rattle.fb_inputs.specs.Lines.{IsKeyIn, begins_table, link_heading, resource_heading}
 use Rattle.fb_inputs.specs.Positions.{around_deploy, around_stimuli, stepped}
-use Rattle.fb_inputs.specs.Records.{BeginsField, HasLength, HasWordLength, IsReadAt, begins_record, begins_word, said, skipped}
+use Rattle.fb_inputs.specs.Records.{BeginsField, HasLength, HasWordLength, IsReadAt, IsScan, begins_record, begins_word, said, skipped}
+use Rattle.fb_inputs.specs.declared.near_stimuli.Search.{Search}
 use Rattle.fb_inputs.specs.declared.position.DeployPosition.{DeployPosition}
 use Rattle.fb_inputs.specs.declared.position.DeployPosition.TheVariants as in_deploy
 use Rattle.fb_inputs.specs.declared.position.StimuliPosition.{StimuliPosition}
@@ -35,6 +36,10 @@ abbrev pub IsNextRow : (old new : ByteRecordsIntoIter (Bor (List ℕ))) → Text
 IsNextRow old new left None = rows_from old.rdr.state left ≡ []
 IsNextRow old new left (Some row) =
     (rest : Text) × IsAt new rest × (rows_from old.rdr.state left ≡ fields_of row ∷ rows_from new.rdr.state rest)
+
+-- The text was searched so far.
+abbrev pub IsSearch : Text → Search → Type 0
+IsSearch text search = IsScan text search.scan × IsReaderOf text search.reader
 
 -- The bytes are those of a field, by the indices of the record, the heading among them, and of the field in it.
 pub record IsFieldAt (text : Text) (record_index field : ℕ) (span : Span) : Type 0 where

@@ -1,5 +1,5 @@
 -- A reader of the records of a text.
-use Rattle.std.specs.Prelude.{◌≡◌, ◌<◌, ◌+◌, ◌++◌, ℕ, Bool, true, false, List, [], ◌∷◌, length, Option, Some, None, IfSome, Result, Ok, Err}
+use Rattle.std.specs.Prelude.{◌≡◌, ◌<◌, ◌+◌, ◌++◌, ℕ, Bool, true, false, List, [], ◌∷◌, length, Option, Some, None, IfSome, Result, Ok, Err, slice_get}
 use Rattle.std.specs.Borrow.{Bor}
 use Rattle.csv.specs.Machine.{ends_at_end}
 use Rattle.csv.specs.Records.{fields_of}
@@ -16,6 +16,7 @@ use Rattle.fb_inputs.specs.declared.location.StimuliFault.TheVariants.{Memory}
 use Rattle.fb_inputs.specs.declared.location.StimuliLocation.TheVariants.{Heading}
 use Rattle.fb_inputs.specs.Places.{place_of}
 use Rattle.fb_inputs.specs.Rows.{Row}
+use Rattle.fb_inputs.specs.declared.row_positions.RecordReader.{RecordReader}
 use Rattle.fb_inputs.specs.Stimuli.{is_head, stimulus_at}
 use Rattle.fb_inputs.specs.Words.{Text}
 
@@ -39,6 +40,18 @@ IsOpened it z = IsAt it z × (it.rdr.state ≡ st.StartRecord)
 -- the records from an offset on
 abbrev pub rows_from : State → Text → List Row
 rows_from s z = records_from default_config (length z + 1) s z
+
+-- the last record that was read, after this many
+abbrev pub IsLast : Text → ℕ → Option ByteRecord → Type 0
+IsLast text count None = Unit {0}
+IsLast text count (Some row) = (before : ℕ) × (count ≡ before + 1) × (slice_get (records default_config (strip_bom text)) before ≡ Some (fields_of row))
+
+-- The reader has read some records of the text, and has the others left.
+pub record IsReaderOf (text : Text) (reader : RecordReader) : Type 0 where
+  pub left : Text
+  pub here : IsAt reader.rows left
+  pub others : (k : ℕ) → slice_get (rows_from reader.rows.rdr.state left) k ≡ slice_get (records default_config (strip_bom text)) (reader.read + k)
+  pub last : IsLast text reader.read reader.last
 
 -- the reader is after a heading
 pub record IsHeaded (bytes : Text) (it : ByteRecordsIntoIter (Bor (List ℕ))) : Type 0 where

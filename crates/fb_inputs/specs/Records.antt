@@ -3,6 +3,7 @@ use Rattle.std.specs.Prelude.{◌≡◌, ◌⊎◌, ◌<◌, ◌≤◌, ℕ, ◌
 use Rattle.csv.specs.Reading.{records, default_config, strip_bom}
 use Rattle.csv.specs.Records.{field_at}
 use Rattle.fb_inputs.specs.Rows.{Row}
+use Rattle.fb_inputs.specs.declared.csv_records.RecordScan.{RecordScan}
 use Rattle.fb_inputs.specs.Counts.{Text, IsNth, at, count_below, mark_len}
 
 -- ---- Records
@@ -24,6 +25,14 @@ begins_line text i = i == mark_len text || (nat_lt 0 i && is_line_end (at text (
 -- A record begins at the offset: a line that is not empty does, outside quotes.
 abbrev pub begins_record : Text → ℕ → Bool
 begins_record text i = is_outside text i && (begins_line text i && not (is_line_end (at text i)))
+
+-- The text was scanned for records up to an offset. The scan counts the quotes and the beginnings of records before it.
+pub record IsScan (text : Text) (scan : RecordScan) : Type 0 where
+  pub within : scan.at ≤ length text
+  pub quotes : scan.quotes ≡ count_below (is_quote text) scan.at
+  pub records : scan.records ≡ count_below (begins_record text) scan.at
+  pub few_quotes : scan.quotes ≤ scan.at
+  pub few_records : scan.records ≤ scan.at
 
 -- ---- Fields, in what follows the beginning of a record
 

@@ -7,7 +7,7 @@ ghost use Rattle.fb_inputs.specs.Lines.{is_blank};
 ghost use Rattle.fb_inputs.specs.Passing.{IsPassed};
 
 use crate::lines::is_blank;
-use crate::scan::counted;
+use crate::scan::count_if;
 
 /// Whether a byte may be between a key and its array.
 fn is_lead(byte: u8) -> bool
@@ -117,8 +117,8 @@ fn passed_after(z: &[u8], at: usize, passed: Passed) -> Passed
     } = passed;
     Passed {
         quote: quote_after(z[at], quote),
-        opened: counted(opened, opens(z, quote, at)),
-        closed: counted(closed, closes(z, quote, at)),
+        opened: count_if(opened, opens(z, quote, at)),
+        closed: count_if(closed, closes(z, quote, at)),
         is_free: is_free_after(z, at, passed),
     }
 }
@@ -178,7 +178,7 @@ pub(crate) fn element_begin(z: &[u8], index: usize) -> Option<usize>
         if stops(z, at, passed) {
             return None;
         }
-        before = counted(before, begins);
+        before = count_if(before, begins);
         passed = passed_after(z, at, passed);
     }
     None

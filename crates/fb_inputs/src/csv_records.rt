@@ -1,10 +1,10 @@
 //! Scans for the records and fields of a text in CSV, and for the words of a field.
 
 ghost use Rattle.std.specs.Prelude.{◌≡◌, ◌⊎◌, ◌+◌, ◌<◌, ◌≤◌, ℕ, IfSome, false, true, length};
-ghost use Rattle.fb_inputs.specs.Counts.{IsNth, count_below, mark_len};
+ghost use Rattle.fb_inputs.specs.Counts.{IsNth, Text, count_below, mark_len};
 ghost use Rattle.fb_inputs.specs.Records as spec;
 
-use crate::scan::{counted, mark_len};
+use crate::scan::{count_if, mark_len};
 
 /// Whether a byte is a line end.
 fn is_line_end(byte: u8) -> bool
@@ -32,22 +32,63 @@ fn begins_record(text: &[u8], mark: usize, quotes: usize, at: usize) -> bool
     quotes % 2 == 0 && begins_line(text, mark, at) && !is_line_end(text[at])
 }
 
-/// The offset at which the record with this index begins.
-pub(crate) fn record_begin(text: &[u8], index: usize) -> Option<usize>
-    ensures { IfSome result (IsNth text.now (spec.begins_record text.now) index) }
+/// How far a text was scanned for records.
+#[derive(Clone, Copy)]
+pub(crate) struct RecordScan {
+    /// The offset up to which it was scanned.
+    pub(crate) at: usize,
+    /// How many quotes are before that.
+    quotes: usize,
+    /// How many records begin before that.
+    records: usize,
+}
+
+/// The scan of which nothing is done.
+pub(crate) fn first_scan() -> RecordScan
+    ensures { (text : Text) → spec.IsScan text result }
+{
+    RecordScan {
+        at: 0,
+        quotes: 0,
+        records: 0,
+    }
+}
+
+/// Scans on to the record with this index, which does not begin before.
+fn scan_on(text: &[u8], from: RecordScan, index: usize) -> Option<RecordScan>
+    requires { spec.IsScan text.now from }
+    ensures scanned { IfSome result (spec.IsScan text.now) }
+    ensures begins { IfSome result (λ scan. IsNth text.now (spec.begins_record text.now) index scan.at) }
 {
     let mark = mark_len(text);
-    let mut quotes = 0;
-    let mut before = 0;
-    for at in 0..text.len() {
+    let mut quotes = from.quotes;
+    let mut records = from.records;
+    for at in from.at..text.len() {
         let begins = begins_record(text, mark, quotes, at);
-        if begins && before == index {
-            return Some(at);
+        if begins && records == index {
+            return Some(RecordScan {
+                at,
+                quotes,
+                records,
+            });
         }
-        before = counted(before, begins);
-        quotes = counted(quotes, text[at] == b'"');
+        records = count_if(records, begins);
+        quotes = count_if(quotes, text[at] == b'"');
     }
     None
+}
+
+/// Scans to the beginning of the record with this index: on, or from the beginning of the text if it begins before.
+pub(crate) fn scan_to(text: &[u8], from: RecordScan, index: usize) -> Option<RecordScan>
+    requires { spec.IsScan text.now from }
+    ensures scanned { IfSome result (spec.IsScan text.now) }
+    ensures begins { IfSome result (λ scan. IsNth text.now (spec.begins_record text.now) index scan.at) }
+{
+    if index < from.records {
+        scan_on(text, first_scan(), index)
+    } else {
+        scan_on(text, from, index)
+    }
 }
 
 /// Whether an offset that this number of quotes precedes is that of a comma between fields.
@@ -82,8 +123,8 @@ fn comma(rest: &[u8], index: usize) -> Option<usize>
         if parts && before == index {
             return Some(at);
         }
-        before = counted(before, parts);
-        quotes = counted(quotes, rest[at] == b'"');
+        before = count_if(before, parts);
+        quotes = count_if(quotes, rest[at] == b'"');
     }
     None
 }
@@ -117,7 +158,7 @@ pub(crate) fn field_len(field: &[u8]) -> usize
         if ends_field(field, quotes, at) {
             return at;
         }
-        quotes = counted(quotes, field[at] == b'"');
+        quotes = count_if(quotes, field[at] == b'"');
     }
     field.len()
 }
@@ -166,7 +207,7 @@ pub(crate) fn word_begin(said: &[u8], index: usize) -> Option<usize>
         if begins && before == index {
             return Some(at);
         }
-        before = counted(before, begins);
+        before = count_if(before, begins);
     }
     None
 }

@@ -90,8 +90,8 @@ pub enum DeployLocation {
     NoEntry {
         link: usize,
     },
-    /// An entry of a link's table is not later than the one before it, is the first one and not at tick 0, or is too late
-    /// (E16).
+    /// An entry of a link's table is not later than the one before it, is the first one and not at tick 0, or is too
+    /// late (E16).
     Entry {
         link: usize,
         entry: usize,

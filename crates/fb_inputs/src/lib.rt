@@ -1,19 +1,20 @@
 //! The readers of deployments and stimuli, and where what they read is in its text.
 //!
 //! Guarantees to callers: `read_deploy` returns the plan that the definitions make of the TOML reader's document, and
-//! `read_stimuli` the stimuli that they make of the CSV reader's records, or the number of the refusal. `locate_deploy` and
-//! `locate_stimuli` return where they are refused, and what is wrong there; `deployment_location` and `stimuli_location`
-//! return that alone, or `None` exactly if they are accepted.
+//! `read_stimuli` the stimuli that they make of the CSV reader's records, or the number of the refusal. `locate_deploy`
+//! and `locate_stimuli` return where they are refused, and what is wrong there; `deployment_location` and
+//! `stimuli_location` return that alone, or `None` exactly if they are accepted.
 //!
-//! The bytes that `span_in_stimuli` and `span_in_deployment` return for a position are in the text. Those of a field begin
-//! the field with its index, in the record with its index, and the reader of CSV reads there what they say. Those of a table
-//! or a key are its heading or its name, the first thing on its line. That of an element of an array begins it.
-//! `nearest_in_stimuli` and `nearest_in_deployment` return those of the nearest position around that is found. No second
-//! reader of TOML is here: a document in another form than by headings of tables, or with keys in quotes, has no bytes.
+//! The bytes that are found for a position are in the text. Those of a field begin the field with its index, in the
+//! record with its index, and the reader of CSV reads there what they say. Those of a table or a key are its heading or
+//! its name, the first thing on its line. That of an element of an array begins it. `nearest_in_deployment` returns
+//! those of the nearest position around that is found, and `nearest_spans` the same for several positions of stimuli,
+//! by one reading of the text. No second reader of TOML is here: a document in another form than by headings of tables,
+//! or with keys in quotes, has no bytes.
 //!
-//! Read in this order: `deployment`, `deploy_location`, `document` and `table`; `stimuli`, `location` and `row`; `paired`;
-//! `text`, `number`, `keyword` and `error`. Then what runs only after a refusal, and for warnings: `position`; `scan`;
-//! `csv_records`, `row_positions` and `near_stimuli`; `lines`, `arrays` and `near_deployment`.
+//! Read in this order: `deployment`, `deploy_location`, `document` and `table`; `stimuli`, `location` and `row`;
+//! `paired`; `text`, `number`, `keyword` and `error`. Then what runs only after a refusal, and for warnings:
+//! `position`; `scan`; `csv_records`, `row_positions` and `near_stimuli`; `lines`, `arrays` and `near_deployment`.
 #![tactic(auto)]
 
 mod arrays;
@@ -42,7 +43,7 @@ pub use deployment::{deployment_location, locate_deploy, read_deploy};
 pub use error::InputError;
 pub use location::{RowFault, StimuliFault, StimuliLocation};
 pub use near_deployment::{nearest_in_deployment, span_in_deployment};
-pub use near_stimuli::{nearest_in_stimuli, span_in_stimuli};
+pub use near_stimuli::nearest_spans;
 pub use position::{DeployPosition, StimuliPosition, deploy_position, stimuli_position};
 pub use stimuli::{locate_stimuli, read_stimuli, records_of, stimuli_location};
 pub use text::name;

@@ -5,7 +5,7 @@ ghost use Rattle.fb_inputs.specs.Counts.{IsNth};
 ghost use Rattle.fb_inputs.specs.Lines as spec;
 ghost use Rattle.fb_inputs.specs.Lines.{IsKeyIn};
 
-use crate::scan::counted;
+use crate::scan::count_if;
 use fb_read::token::Span;
 
 /// The heading of a resource.
@@ -93,14 +93,14 @@ pub(crate) fn heading_begin(text: &[u8], heading: &[u8], index: usize) -> Option
         if begins && before == index {
             return Some(at);
         }
-        before = counted(before, begins);
+        before = count_if(before, begins);
         first = is_first_after(text[at], first);
     }
     None
 }
 
-/// The bytes of the name of a key at its first place from an offset on, if no table begins before it. It is known whether
-/// only blanks are before the offset on its line.
+/// The bytes of the name of a key at its first place from an offset on, if no table begins before it. It is known
+/// whether only blanks are before the offset on its line.
 pub(crate) fn key_from(text: &[u8], from: usize, first: bool, name: &[u8]) -> Option<Span>
     requires within { from ≤ length text.now }
     requires known { first ≡ spec.is_first text.now from }

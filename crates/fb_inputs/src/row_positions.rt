@@ -1,8 +1,8 @@
 //! The fields of a text in CSV, as the reader of CSV reads them.
 
-ghost use Rattle.std.specs.Prelude.{◌≡◌, IfOk, IfSome, IsTrue, Some, slice_get};
+ghost use Rattle.std.specs.Prelude.{◌≡◌, ◌+◌, ◌<◌, ◌^◌, IfOk, IfSome, IsSomeAnd, IsTrue, Some};
 ghost use Rattle.csv.specs.Records.{field_at, fields_of};
-ghost use Rattle.fb_inputs.specs.Readers.{IsAt, rows_from};
+ghost use Rattle.fb_inputs.specs.Readers.{IsAt, IsReaderOf};
 ghost use Rattle.fb_inputs.specs.Counts.{Text};
 ghost use Rattle.fb_inputs.specs.NearPlaces.{IsNextRow};
 ghost use Rattle.fb_inputs.specs.Records.{IsReadAt};
@@ -25,51 +25,120 @@ fn next_row(rows: &mut ByteRecordsIntoIter<&[u8]>) -> Result<Option<ByteRecord>,
     }
 }
 
-/// The record with this index among those that are left.
-fn row_after(
-    rows: &mut ByteRecordsIntoIter<&[u8]>,
-    index: usize,
-) -> Result<Option<ByteRecord>, AllocError>
-    requires { (left : Text) × IsAt rows.old left }
-    ensures { (left : Text) → IsAt rows.old left → IfOk result (λ o. IfSome o (λ row. slice_get (rows_from rows.old.rdr.state left) index ≡ Some (fields_of row))) }
-{
-    let mut left = index;
-    while left > 0 {
-        let Some(row) = next_row(rows)? else {
-            return Ok(None);
-        };
-        drop(row);
-        left -= 1;
-    }
-    next_row(rows)
+/// A reader of the records of a text, one after another.
+#[derive(Drop)]
+pub(crate) struct RecordReader<'a> {
+    rows: ByteRecordsIntoIter<&'a [u8]>,
+    /// How many records were read.
+    read: usize,
+    /// The last one that was read.
+    last: Option<ByteRecord>,
 }
 
-/// Whether a field of a record is this value. The record is dropped here, so that no caller has to drop it at its exits.
-fn is_field(row: ByteRecord, field: usize, value: &[u8]) -> bool
-    ensures { IsTrue result → field_at (fields_of row) field ≡ Some value.now }
+/// A reader that has read nothing of a text.
+pub(crate) fn reader_of(alloc: Global, text: &[u8]) -> RecordReader<'_>
+    ensures { IsReaderOf text.now result }
 {
-    match row.get(field) {
-        Some(read) => read == value,
+    RecordReader {
+        rows: records_of(alloc, text),
+        read: 0,
+        last: None,
+    }
+}
+
+/// Reads one record more, if there is one, and returns whether there was. After the last one it begins again.
+fn read_next<'a>(
+    alloc: Global,
+    text: &'a [u8],
+    reader: &mut RecordReader<'a>,
+) -> Result<bool, AllocError>
+    requires reader { IsReaderOf text.now reader.old }
+    requires room { reader.old.read + 1 < 2 ^ 64 }
+    ensures reader { IfOk result (λ _. IsReaderOf text.now reader.new) }
+    ensures one { IfOk result (λ more. IsTrue more → reader.new.read ≡ reader.old.read + 1) }
+{
+    match next_row(&mut reader.rows)? {
+        Some(row) => {
+            reader.last = Some(row);
+            reader.read += 1;
+            Ok(true)
+        }
+        None => {
+            *reader = reader_of(alloc, text);
+            Ok(false)
+        }
+    }
+}
+
+/// Reads on until this number of records was read, or no more are left.
+fn read_up_to<'a>(
+    alloc: Global,
+    text: &'a [u8],
+    reader: &mut RecordReader<'a>,
+    count: usize,
+) -> Result<(), AllocError>
+    requires { IsReaderOf text.now reader.old }
+    ensures { IfOk result (λ _. IsReaderOf text.now reader.new) }
+{
+    while reader.read < count {
+        if !read_next(alloc, text, reader)? {
+            return Ok(());
+        }
+    }
+    Ok(())
+}
+
+/// Begins again, if more records than this number were read.
+fn go_back<'a>(alloc: Global, text: &'a [u8], reader: &mut RecordReader<'a>, count: usize)
+    requires { IsReaderOf text.now reader.old }
+    ensures { IsReaderOf text.now reader.new }
+{
+    if count < reader.read {
+        *reader = reader_of(alloc, text);
+    }
+}
+
+/// Whether a field of a record, if there is one, is this value.
+fn is_field(row: &Option<ByteRecord>, field: usize, value: &[u8]) -> bool
+    ensures { IsTrue result → IsSomeAnd row.now (λ r. field_at (fields_of r) field ≡ Some value.now) }
+{
+    match row {
+        Some(row) => match row.get(field) {
+            Some(read) => read == value,
+            None => false,
+        },
         None => false,
     }
 }
 
-/// Whether the reader of CSV reads this value as a field of a text, by the indices of the record and the field.
-pub(crate) fn reads_field(
+/// How many records are read once the one with this index is.
+fn count_to(record_index: usize) -> Option<usize>
+    ensures { IfSome result (λ count. count ≡ record_index + 1) }
+{
+    record_index.checked_add(1)
+}
+
+/// Whether the reader of CSV reads this value as a field of a text, by the indices of the record and the field. It
+/// reads on for that, or from the beginning of the text if it has read a later record.
+pub(crate) fn reads_field<'a>(
     alloc: Global,
-    text: &[u8],
+    text: &'a [u8],
+    reader: &mut RecordReader<'a>,
     record_index: usize,
     field: usize,
     value: &[u8],
 ) -> Result<bool, AllocError>
-    ensures { IfOk result (λ b. IsTrue b → IsReadAt text.now record_index field value.now) }
+    requires { IsReaderOf text.now reader.old }
+    ensures reader { IfOk result (λ _. IsReaderOf text.now reader.new) }
+    ensures read { IfOk result (λ b. IsTrue b → IsReadAt text.now record_index field value.now) }
 {
-    let mut rows = records_of(alloc, text);
-    let found = row_after(&mut rows, record_index);
-    // Dropped by one call: each exit would drop each part of the reader.
-    drop(rows);
-    match found? {
-        Some(row) => Ok(is_field(row, field, value)),
-        None => Ok(false),
+    let Some(count) = count_to(record_index) else {
+        return Ok(false);
+    };
+    go_back(alloc, text, reader, count);
+    read_up_to(alloc, text, reader, count)?;
+    if reader.read != count {
+        return Ok(false);
     }
+    Ok(is_field(&reader.last, field, value))
 }

@@ -29,7 +29,7 @@ pub(crate) fn start_of(text: &[u8]) -> Span
 }
 
 /// A count, and one more if a test was passed.
-pub(crate) fn counted(count: usize, passes: bool) -> usize
+pub(crate) fn count_if(count: usize, passes: bool) -> usize
     requires { count < 2 ^ 63 }
     ensures { result ≡ (if passes then count + 1 else count) }
 {

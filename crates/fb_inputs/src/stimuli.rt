@@ -244,8 +244,8 @@ pub fn locate_stimuli(alloc: Global, bytes: &[u8]) -> Result<Vec<Stimulus>, Stim
 ///
 /// # Errors
 ///
-/// More than 16 MiB (E15), otherwise the first faulty row: its shape (E13), a tick or a value that is not a number (E14),
-/// a tick over 10^12 or a row after 100,000 others (E15). `Memory` if memory runs out.
+/// More than 16 MiB (E15), otherwise the first faulty row: its shape (E13), a tick or a value that is not a number
+/// (E14), a tick over 10^12 or a row after 100,000 others (E15). `Memory` if memory runs out.
 #[tactic(auto, unfolding(crate::specs::Stimuli::stimuli_of))]
 pub fn read_stimuli(alloc: Global, bytes: &[u8]) -> Result<Vec<Stimulus>, InputError>
     ensures { Answers (λ v. v.items) (spec.stimuli_of bytes.now) result }

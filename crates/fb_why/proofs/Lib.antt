@@ -3,3 +3,5 @@ mod Reading
 mod Numbered
 mod Checked
 mod Shown
+pub mod Paired
+pub mod Inputs

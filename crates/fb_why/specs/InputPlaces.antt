@@ -1,8 +1,10 @@
 -- Where a location is in the deployment or in the stimuli (this project's own).
-use Rattle.std.specs.Prelude.{◌≡◌, ℕ, ◌+◌, ◌-◌, nat_lt, if◌then◌else◌, List, [], ◌∷◌, length, Option, Some, None, Ok}
+use Rattle.std.specs.Prelude.{◌≡◌, ℕ, ◌+◌, ◌-◌, nat_lt, if◌then◌else◌, List, [], ◌∷◌, length, Option, Some, None, Ok, IfSome}
 use Rattle.fb_types.specs.declared.deploy.Plan.{Plan}
 use Rattle.fb_types.specs.declared.deploy.ResourceEntry.{ResourceEntry}
+use Rattle.fb_read.specs.declared.token.Span.{Span}
 use Rattle.fb_inputs.specs.Deployments.{deploy_of}
+use Rattle.fb_inputs.specs.NearPlaces.{IsNearInStimuli}
 use Rattle.fb_inputs.specs.declared.deploy_location.DeployKey.{DeployKey}
 use Rattle.fb_inputs.specs.declared.deploy_location.DeployKey.TheVariants as key
 use Rattle.fb_inputs.specs.declared.deploy_location.TableLocation.TheVariants as table
@@ -11,6 +13,7 @@ use Rattle.fb_inputs.specs.declared.position.DeployPosition.{DeployPosition}
 use Rattle.fb_inputs.specs.declared.position.DeployPosition.TheVariants as in_deploy
 use Rattle.fb_inputs.specs.declared.position.StimuliPosition.{StimuliPosition}
 use Rattle.fb_inputs.specs.declared.position.StimuliPosition.TheVariants as in_stimuli
+use Rattle.fb_read_positions.specs.Locations.{IsLocation, IsStretch}
 use Rattle.fb_why.specs.InputStretches.{IsDeployPlace, IsStimuliPlace}
 use Rattle.fb_check_names.specs.declared.location.Side.{Side}
 use Rattle.fb_check_names.specs.declared.location.Side.TheVariants as side
@@ -24,6 +27,7 @@ use Rattle.fb_check.specs.declared.location.StimulusFault.TheVariants as fault
 use Rattle.fb_check.specs.declared.location.StimulusLocation.{StimulusLocation}
 use Rattle.fb_why.specs.declared.input_place.InputFile.TheVariants as file
 use Rattle.fb_why.specs.declared.input_place.Place.{Place}
+use Rattle.fb_why.specs.declared.place.PlacedFinding.{PlacedFinding}
 use Rattle.fb_why.specs.declared.spot.Spot.{Spot}
 use Rattle.fb_why.specs.declared.spot.Spot.TheVariants as spot
 use Rattle.fb_check_names.specs.declared.twice.GivenTwice.{GivenTwice}
@@ -76,6 +80,12 @@ position_of (spot.Stimulus location) = Some (input.Stimuli (stimulus_position lo
 position_of (spot.Limit limit.Stimuli) = Some (input.Stimuli in_stimuli.Start)
 position_of _ = None
 
+-- the position in the stimuli; for one elsewhere it is their beginning
+abbrev pub row_of : Option InputPosition → StimuliPosition
+row_of (Some (input.Stimuli position)) = position
+row_of (Some (input.Deployment position)) = in_stimuli.Start
+row_of None = in_stimuli.Start
+
 -- the position of the name at an index in the lists of resources, one after another, by the index of the first one
 unfoldable pub listed_at : ℕ → List ResourceEntry → ℕ → Option InputPosition
 listed_at r [] index = None
@@ -108,7 +118,30 @@ abbrev pub IsPlaceIn : (deploy stimuli : Option Text) → InputPosition → Plac
 IsPlaceIn deploy stimuli (input.Deployment position) place = IsPlaceInDeploy deploy position place
 IsPlaceIn deploy stimuli (input.Stimuli position) place = IsPlaceInRows stimuli position place
 
+-- The bytes are at the position, or near it, in the stimuli that are given.
+abbrev pub IsNearIn : (stimuli : Option Text) → StimuliPosition → Span → Type 0
+IsNearIn None position span = Unit {0}
+IsNearIn (Some bytes) position span = IsNearInStimuli bytes position span
+
+-- The place is that of these bytes of the stimuli that are given.
+abbrev pub IsPlaceOfBytes : (stimuli : Option Text) → Span → Place → Type 0
+IsPlaceOfBytes stimuli span place =
+    (bytes : Text) × (stimuli ≡ Some bytes) × (place.file ≡ file.Stimuli) × IsStretch span.start span.end place.at × IsLocation bytes place.at
+
+-- The place, if there is one, is that of the position.
+abbrev pub IsPlaceFor : (deploy stimuli : Option Text) → Option InputPosition → Option Place → Type 0
+IsPlaceFor deploy stimuli None place = place ≡ None
+IsPlaceFor deploy stimuli (Some position) place = IfSome place (IsPlaceIn deploy stimuli position)
+
+-- The finding is shown at the position, if there is one.
+abbrev pub IsShownAt : (deploy : Option Text) → PlacedFinding → Option InputPosition → Type 0
+IsShownAt deploy found position = IfSome position (IsInputPosition deploy found.finding.location)
+
 -- The place is that of the position at which the location is shown.
 abbrev pub IsInputPlace : (deploy stimuli : Option Text) → Spot → Place → Type 0
 IsInputPlace deploy stimuli location place =
     (position : InputPosition) × IsInputPosition deploy location position × IsPlaceIn deploy stimuli position place
+
+-- The place, if there is one, is that of the finding.
+abbrev pub IsPlaceOf : (deploy stimuli : Option Text) → PlacedFinding → Option Place → Type 0
+IsPlaceOf deploy stimuli found place = IfSome place (IsInputPlace deploy stimuli found.finding.location)

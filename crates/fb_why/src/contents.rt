@@ -21,8 +21,8 @@ pub(crate) enum NameList {
     Algorithms(usize),
 }
 
-/// What the last algorithm or guard consists of, and the names of the last list. Findings follow the order of the text, so
-/// each is gone through once for all that are in it.
+/// What the last algorithm or guard consists of, and the names of the last list. Findings follow the order of the text,
+/// so each is gone through once for all that are in it.
 #[derive(Drop)]
 pub(crate) struct Contents<'a> {
     alloc: Global,

@@ -35,8 +35,8 @@ fn spots_of(alloc: Global, refusal: &Refusal) -> Result<Vec<Spot>, AllocError>
     }
 }
 
-/// The locations at which the refusal applies to inputs, if the check refuses them for this fault: all, in the order of the
-/// declaration or of the stimuli. Of types that are too high and of limits it is one.
+/// The locations at which the refusal applies to inputs, if the check refuses them for this fault: all, in the order of
+/// the declaration or of the stimuli. Of types that are too high and of limits it is one.
 pub fn spots_in(alloc: Global, fault: Fault, case: &Case) -> Result<Vec<Spot>, AllocError>
     ensures { IfOk result (λ spots. AreSpots fault case.now.library.now case.now.plan.now case.now.stimuli.now spots.items) }
 {

@@ -81,8 +81,8 @@ fn or_look_up(found: Option<Explanation>, table: &[Explanation], name: &str) -> 
     }
 }
 
-/// The explanation of a refusal or a warning by its name in the line, such as `E21`, `file fault` or `L01`, or of a reason
-/// by its name in the last line of a trace, such as `divide`. Letter case makes no difference.
+/// The explanation of a refusal or a warning by its name in the line, such as `E21`, `file fault` or `L01`, or of a
+/// reason by its name in the last line of a trace, such as `divide`. Letter case makes no difference.
 pub fn explain(name: &str) -> Option<Explanation>
     ensures named { IfSome result (λ e. str_eq_ignore_ascii_case e.name.now name.now ≡ true) }
     ensures all { is_some result ≡ list_any (λ n. str_eq_ignore_ascii_case n name.now) explained }

@@ -109,7 +109,8 @@ fn flaws_with(
     flaws_of(alloc, flaw, declaration, &case)
 }
 
-/// Where the refusal applies to a library, which this text declares, and to the deployment and the stimuli in these bytes.
+/// Where the refusal applies to a library, which this text declares, and to the deployment and the stimuli in these
+/// bytes.
 fn flaws_in(
     alloc: Global,
     flaw: Fault,

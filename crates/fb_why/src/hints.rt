@@ -1,5 +1,5 @@
-//! What is probably meant at a place of a declaration at which its text is refused: a word that the profile leaves out, a
-//! semicolon or ELSIF, a time with a fraction, a comment inside another one.
+//! What is probably meant at a place of a declaration at which its text is refused: a word that the profile leaves out,
+//! a semicolon or ELSIF, a time with a fraction, a comment inside another one.
 
 use fb_read::Expected;
 use fb_read::token::{Located, Mark, Token};

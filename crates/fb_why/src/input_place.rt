@@ -1,22 +1,25 @@
 //! Where a location is in the deployment or in the stimuli.
 
-ghost use Rattle.std.specs.Prelude.{◌≡◌, IfOk, IfSome, option_map};
+ghost use Rattle.std.specs.Prelude.{◌≡◌, IfOk, IfSome, map, option_map};
+ghost use Rattle.std.specs.List.{AllZip};
 ghost use Rattle.fb_why.specs.InputPlaces as spec;
-ghost use Rattle.fb_why.specs.InputPlaces.{IsInputPlace, IsInputPosition, IsListedIn, IsPlaceInDeploy, IsPlaceInRows};
-ghost use Rattle.fb_why.specs.InputStretches.{IsDeployPlace, IsStimuliPlace};
+ghost use Rattle.fb_why.specs.InputPlaces.{IsInputPosition, IsListedIn, IsNearIn, IsPlaceFor, IsPlaceInDeploy, IsPlaceOf, IsPlaceOfBytes, IsShownAt};
+ghost use Rattle.fb_why.specs.InputStretches.{IsDeployPlace};
 
+use crate::place::PlacedFinding;
 use crate::spot::Spot;
 use fb_check::{Limit, StimulusFault, StimulusLocation};
 use fb_check_names::{GivenTwice, Side, UnknownName, Unmapped};
 use fb_inputs::{
     DeployKey, DeployPosition, InputError, StimuliPosition, TableLocation, deploy_position,
-    nearest_in_deployment, nearest_in_stimuli, read_deploy, stimuli_position,
+    nearest_in_deployment, nearest_spans, read_deploy, stimuli_position,
 };
+use fb_read::token::Span;
 use fb_read_positions::{TextLocation, location_at};
 use fb_types::ResourceEntry;
 use std::alloc::{AllocError, Global};
 
-/// An input beside the declaration.
+/// An input other than the declaration.
 #[derive(Clone, Copy)]
 pub enum InputFile {
     Deployment,
@@ -45,22 +48,6 @@ pub fn place_in_deployment(bytes: &[u8], position: DeployPosition) -> Option<Tex
 {
     let span = nearest_in_deployment(bytes, position);
     location_at(bytes, span.start, span.end)
-}
-
-/// The place of a position of stimuli: where its word, field or row is, or else the beginning of the text.
-///
-/// # Errors
-///
-/// When memory runs out.
-pub fn place_in_stimuli(
-    alloc: Global,
-    bytes: &[u8],
-    position: StimuliPosition,
-) -> Result<Option<TextLocation>, AllocError>
-    ensures { IfOk result (λ o. IfSome o (IsStimuliPlace bytes.now position)) }
-{
-    let span = nearest_in_stimuli(alloc, bytes, position)?;
-    Ok(location_at(bytes, span.start, span.end))
 }
 
 /// An instance that a resource lists.
@@ -121,8 +108,8 @@ fn stimulus_position(location: StimulusLocation) -> StimuliPosition
     }
 }
 
-/// The position at which a location is shown, if it is one in the deployment or in the stimuli. For a name that is listed
-/// twice the deployment says where it is.
+/// The position at which a location is shown, if it is one in the deployment or in the stimuli. For a name that is
+/// listed twice the deployment says where it is.
 fn position_of(location: Spot) -> Option<InputPosition>
     ensures { result ≡ spec.position_of location }
 {
@@ -195,42 +182,127 @@ fn place_in_deploy(deploy: Option<&[u8]>, position: DeployPosition) -> Option<Pl
     })
 }
 
-/// The place of a position of the stimuli, if some are given.
-fn place_in_rows(
+/// The positions at which findings are shown, if they are in the deployment or in the stimuli, each at the index of its
+/// finding.
+fn input_positions(
     alloc: Global,
-    stimuli: Option<&[u8]>,
-    position: StimuliPosition,
-) -> Result<Option<Place>, AllocError>
-    ensures { IfOk result (λ o. IfSome o (IsPlaceInRows (option_map (λ b. b.now) stimuli.entry) position)) }
+    deploy: Option<&[u8]>,
+    found: &[PlacedFinding],
+) -> Result<Vec<Option<InputPosition>>, AllocError>
+    ensures { IfOk result (λ positions. AllZip (IsShownAt (option_map (λ b. b.now) deploy.entry)) found.now positions.items) }
 {
-    let Some(bytes) = stimuli else {
-        return Ok(None);
-    };
-    match place_in_stimuli(alloc, bytes, position)? {
-        Some(at) => Ok(Some(Place {
-            file: InputFile::Stimuli,
-            at,
-        })),
-        None => Ok(None),
+    let mut positions = Vec::new(alloc);
+    for one in found {
+        positions.push(input_position(alloc, deploy, one.finding.location)?)?;
+    }
+    Ok(positions)
+}
+
+/// The position in the stimuli. For one elsewhere it is their beginning.
+fn row_of(position: Option<InputPosition>) -> StimuliPosition
+    ensures { result ≡ spec.row_of position }
+{
+    match position {
+        Some(InputPosition::Stimuli(position)) => position,
+        Some(InputPosition::Deployment(_)) | None => StimuliPosition::Start,
     }
 }
 
-/// Where a location is in the deployment or in the stimuli. `None` for one in the declaration.
+/// The positions in the stimuli, in the same order.
+fn stimuli_rows(
+    alloc: Global,
+    positions: &[Option<InputPosition>],
+) -> Result<Vec<StimuliPosition>, AllocError>
+    ensures { IfOk result (λ rows. rows.items ≡ map spec.row_of positions.now) }
+{
+    let mut rows = Vec::new(alloc);
+    for position in positions {
+        rows.push(row_of(*position))?;
+    }
+    Ok(rows)
+}
+
+/// The bytes of the stimuli that are nearest to these positions, if some are given.
+fn spans_near(
+    alloc: Global,
+    stimuli: Option<&[u8]>,
+    rows: &[StimuliPosition],
+) -> Result<Vec<Span>, AllocError>
+    ensures { IfOk result (λ spans. AllZip (IsNearIn (option_map (λ b. b.now) stimuli.entry)) rows.now spans.items) }
+{
+    match stimuli {
+        Some(bytes) => nearest_spans(alloc, bytes, rows),
+        None => nearest_spans(alloc, &[], rows),
+    }
+}
+
+/// The place of bytes in the stimuli, if some are given.
+fn place_of_bytes(stimuli: Option<&[u8]>, span: Span) -> Option<Place>
+    ensures { IfSome result (IsPlaceOfBytes (option_map (λ b. b.now) stimuli.entry) span) }
+{
+    let at = location_at(stimuli?, span.start, span.end)?;
+    Some(Place {
+        file: InputFile::Stimuli,
+        at,
+    })
+}
+
+/// The place of a position, if there is one. Of one in the stimuli it is that of `span`, the bytes nearest to it.
+fn place_of(
+    deploy: Option<&[u8]>,
+    stimuli: Option<&[u8]>,
+    position: Option<InputPosition>,
+    span: Span,
+) -> Option<Place>
+    requires { IsNearIn (option_map (λ b. b.now) stimuli) (spec.row_of position) span }
+    ensures { IsPlaceFor (option_map (λ b. b.now) deploy.entry) (option_map (λ b. b.now) stimuli.entry) position result }
+{
+    match position? {
+        InputPosition::Deployment(position) => place_in_deploy(deploy, position),
+        InputPosition::Stimuli(_) => place_of_bytes(stimuli, span),
+    }
+}
+
+/// The places of positions, each at the index of its position. `spans` has the bytes nearest to those in the stimuli.
+fn places_of(
+    alloc: Global,
+    deploy: Option<&[u8]>,
+    stimuli: Option<&[u8]>,
+    positions: &[Option<InputPosition>],
+    spans: &[Span],
+) -> Result<Vec<Option<Place>>, AllocError>
+    requires { AllZip (IsNearIn (option_map (λ b. b.now) stimuli)) (map spec.row_of positions.now) spans.now }
+    ensures { IfOk result (λ places. AllZip (IsPlaceFor (option_map (λ b. b.now) deploy.entry) (option_map (λ b. b.now) stimuli.entry)) positions.now places.items) }
+{
+    let mut places = Vec::new(alloc);
+    for (position, span) in positions.iter().zip(spans) {
+        places.push(place_of(deploy, stimuli, *position, *span))?;
+    }
+    Ok(places)
+}
+
+/// Where findings are in the deployment or in the stimuli, each at the index of its finding. `None` means that it is in
+/// the declaration. The stimuli are read once for all of them.
 ///
 /// # Errors
 ///
 /// When memory runs out.
-pub fn place_in_inputs(
+pub fn places_in_inputs(
     alloc: Global,
     deploy: Option<&[u8]>,
     stimuli: Option<&[u8]>,
-    location: Spot,
-) -> Result<Option<Place>, AllocError>
-    ensures { IfOk result (λ o. IfSome o (IsInputPlace (option_map (λ b. b.now) deploy.entry) (option_map (λ b. b.now) stimuli.entry) location)) }
+    found: &[PlacedFinding],
+) -> Result<Vec<Option<Place>>, AllocError>
+    ensures { IfOk result (λ places. AllZip (IsPlaceOf (option_map (λ b. b.now) deploy.entry) (option_map (λ b. b.now) stimuli.entry)) found.now places.items) }
 {
-    match input_position(alloc, deploy, location)? {
-        Some(InputPosition::Deployment(position)) => Ok(place_in_deploy(deploy, position)),
-        Some(InputPosition::Stimuli(position)) => place_in_rows(alloc, stimuli, position),
-        None => Ok(None),
-    }
+    let positions = input_positions(alloc, deploy, found)?;
+    let rows = stimuli_rows(alloc, positions.as_slice())?;
+    let spans = spans_near(alloc, stimuli, rows.as_slice())?;
+    places_of(
+        alloc,
+        deploy,
+        stimuli,
+        positions.as_slice(),
+        spans.as_slice(),
+    )
 }

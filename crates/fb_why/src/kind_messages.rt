@@ -1,5 +1,5 @@
-//! The texts for a wrong kind (E22) and a wrong range (E23), after the words for its position: what is there, and what was
-//! expected.
+//! The texts for a wrong kind (E22) and a wrong range (E23), after the words for its position: what is there, and what
+//! was expected.
 
 use crate::contents::{Contents, Source};
 use fb_check_names::{Misfit, Misjoin, Site, StatementPart, Variables};

@@ -1,17 +1,18 @@
-//! Explains refusals and stops: what each refusal and each reason means, and, for most numbers, the locations at which the
-//! refusal applies.
+//! Explains refusals and stops: what each refusal and each reason means, and, for most numbers, the locations at which
+//! the refusal applies.
 //!
 //! Guarantees to callers: `explanation::explain` has an explanation for each refusal and each reason of a stop, and for
-//! nothing else. The locations that `finding::findings_of` reports are in the bytes or in what they declare, and the refusal
-//! applies there. Each place is in the text of the declaration, and the token there is the name that the library has at
-//! this location. For the numbers of the check, whose locations the check lists, it reports none only if the inputs are
-//! refused for something else or can't be read. `find::text_refusal` returns a location in the text, with its line and
-//! column, at which a declaration is refused. The wording of the texts is not part of any contract.
+//! nothing else. The locations that `finding::findings_of` reports are in the bytes or in what they declare, and the
+//! refusal applies there. Each place is in the text of the declaration, and the token there is the name that the
+//! library has at this location. For the numbers of the check, whose locations the check lists, it reports none only if
+//! the inputs are refused for something else or can't be read. `find::text_refusal` returns a location in the text,
+//! with its line and column, at which a declaration is refused. The wording of the texts is not part of any contract.
 //!
-//! Read in this order: `explanation` and `table`; `cause` and `spot`, what each number is about, and where. Then the bytes:
-//! `find`, the refusal of a text and its location. Then a location as text: the modules `.._messages`, with `contents` and
-//! `hints`. Then `refused` and `declared`, locations in bytes and in what they declare; `place` and `input_place`, where a
-//! location is in its text; `listing` and `finding`, which reads the bytes again. All of this runs only after a refusal.
+//! Read in this order: `explanation` and `table`; `cause` and `spot`, what each number is about, and where. Then the
+//! bytes: `find`, the refusal of a text and its location. Then a location as text: the modules `.._messages`, with
+//! `contents` and `hints`. Then `refused` and `declared`, locations in bytes and in what they declare; `place` and
+//! `input_place`, where a location is in its text; `listing` and `finding`, which reads the bytes again. All of this
+//! runs only after a refusal.
 #![tactic(auto)]
 
 pub mod cause;
@@ -41,7 +42,7 @@ pub use deployment_messages::deployment_message;
 pub use explanation::explain;
 pub use find::{TextRefusal, text_refusal};
 pub use finding::findings_of;
-pub use input_place::{InputFile, Place, place_in_deployment, place_in_inputs, place_in_stimuli};
+pub use input_place::{InputFile, Place, place_in_deployment, places_in_inputs};
 pub use listing::{Findings, MOST_FINDINGS, discard_findings};
 pub use place::PlacedFinding;
 pub use rules_messages::{rules_message, unknown_key_message};

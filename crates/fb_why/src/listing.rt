@@ -86,7 +86,7 @@ fn first_of(locations: &[Spot]) -> &[Spot]
     }
 }
 
-/// The findings at these locations of inputs. The text that declares the library is read once more for their places.
+/// The findings at these locations of inputs. The text that declares the library is read again for their places.
 pub(crate) fn listed(
     alloc: Global,
     declaration: &[u8],
@@ -108,7 +108,7 @@ pub(crate) fn listed(
     Ok(Findings { shown, more })
 }
 
-/// Frees findings. Each crate that drops some proves their destructors once more, so other crates call this function.
+/// Frees findings. Each crate that drops some proves their destructors again, so other crates call this function.
 pub fn discard_findings(findings: Findings) {
     drop(findings);
 }

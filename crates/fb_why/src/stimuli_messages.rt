@@ -8,8 +8,8 @@ use std::alloc::{AllocError, Global};
 /// The most fields of a record that are shown.
 const MOST_FIELDS: usize = 6;
 
-/// What is wrong at a location of stimuli, and what was expected there. Rows are counted from 0 after the heading, as in the
-/// keys of events.
+/// What is wrong at a location of stimuli, and what was expected there. Rows are counted from 0 after the heading, as
+/// in the keys of events.
 pub fn stimuli_message(
     alloc: Global,
     bytes: &[u8],
@@ -27,8 +27,8 @@ pub fn stimuli_message(
     text.into_string()
 }
 
-/// Adds what is wrong with the record at this index; the one at 0 is the heading. There is no text if it was not read because
-/// memory ran out.
+/// Adds what is wrong with the record at this index; the one at 0 is the heading. There is no text if it was not read
+/// because memory ran out.
 fn push_record(alloc: Global, text: &mut Text, bytes: &[u8], at: usize, fault: Option<RowFault>) {
     let mut records = records_of(alloc, bytes);
     match (records.nth(at), fault) {

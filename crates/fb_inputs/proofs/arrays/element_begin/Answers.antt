@@ -16,7 +16,7 @@ loop-at-init c = record {
 pub loop-at-preserved : goal.loop-at-preserved
 loop-at-preserved c = record {
   passed = c.passed_after-passed.ensures;
-  before = counts (begins_element c.args.z.now) c.loop-at.at c.loop-at.before _ _ c.loop-at.invariant.before c.begins_element-begins.ensures c.counted-before.ensures;
-  before_fits = fits c.loop-at.at c.loop-at.before _ _ c.counted-before.ensures c.loop-at.invariant.before_fits;
+  before = counts (begins_element c.args.z.now) c.loop-at.at c.loop-at.before _ _ c.loop-at.invariant.before c.begins_element-begins.ensures c.count_if-before.ensures;
+  before_fits = fits c.loop-at.at c.loop-at.before _ _ c.count_if-before.ensures c.loop-at.invariant.before_fits;
   inside = below_more _ c.loop-at.at c.loop-at.invariant.inside (sym c.stops.ensures ∙ c.if-stops.false);
 }

@@ -10,9 +10,9 @@ returns c =
     let had = c.requires.passed in
     record {
       quote = quote_more z n p.quote _ had.quote c.quote_after.ensures;
-      opened = counts (opens z) n p.opened _ _ had.opened c.opens.ensures c.counted.ensures;
-      opened_fit = fits n p.opened _ _ c.counted.ensures had.opened_fit;
-      closed = counts (closes z) n p.closed _ _ had.closed c.closes.ensures c.counted-2.ensures;
-      closed_fit = fits n p.closed _ _ c.counted-2.ensures had.closed_fit;
+      opened = counts (opens z) n p.opened _ _ had.opened c.opens.ensures c.count_if.ensures;
+      opened_fit = fits n p.opened _ _ c.count_if.ensures had.opened_fit;
+      closed = counts (closes z) n p.closed _ _ had.closed c.closes.ensures c.count_if-2.ensures;
+      closed_fit = fits n p.closed _ _ c.count_if-2.ensures had.closed_fit;
       free = free_more z n p.is_free _ had.free c.is_free_after.ensures;
     }

@@ -10,9 +10,9 @@ loop-at-init c = record { quotes = refl; before = refl; inside = λ k lt. absurd
 
 pub loop-at-preserved : goal.loop-at-preserved
 loop-at-preserved c = record {
-  quotes = counts (is_quote c.args.rest.now) c.loop-at.at c.loop-at.quotes _ _ c.loop-at.invariant.quotes refl c.counted-quotes.ensures;
-  before = counts (is_comma c.args.rest.now) c.loop-at.at c.loop-at.before _ _ c.loop-at.invariant.before c.is_comma-parts.ensures c.counted-before.ensures;
+  quotes = counts (is_quote c.args.rest.now) c.loop-at.at c.loop-at.quotes _ _ c.loop-at.invariant.quotes refl c.count_if-quotes.ensures;
+  before = counts (is_comma c.args.rest.now) c.loop-at.at c.loop-at.before _ _ c.loop-at.invariant.before c.is_comma-parts.ensures c.count_if-before.ensures;
   inside = below_more _ _ c.loop-at.invariant.inside (sym c.ends_record.ensures ∙ c.if-ends_record.false);
-  quotes_fit = fits c.loop-at.at c.loop-at.quotes _ _ c.counted-quotes.ensures c.loop-at.invariant.quotes_fit;
-  before_fits = fits c.loop-at.at c.loop-at.before _ _ c.counted-before.ensures c.loop-at.invariant.before_fits;
+  quotes_fit = fits c.loop-at.at c.loop-at.quotes _ _ c.count_if-quotes.ensures c.loop-at.invariant.quotes_fit;
+  before_fits = fits c.loop-at.at c.loop-at.before _ _ c.count_if-before.ensures c.loop-at.invariant.before_fits;
 }

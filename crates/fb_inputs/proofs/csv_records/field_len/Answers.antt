@@ -10,7 +10,7 @@ loop-at-init c = record { quotes = refl; inside = λ k lt. absurd (omega arith);
 
 pub loop-at-preserved : goal.loop-at-preserved
 loop-at-preserved c = record {
-  quotes = counts (is_quote c.args.field.now) c.loop-at.at c.loop-at.quotes _ _ c.loop-at.invariant.quotes refl c.counted-quotes.ensures;
+  quotes = counts (is_quote c.args.field.now) c.loop-at.at c.loop-at.quotes _ _ c.loop-at.invariant.quotes refl c.count_if-quotes.ensures;
   inside = below_more _ _ c.loop-at.invariant.inside (sym c.ends_field.ensures ∙ c.if-ends_field.false);
-  quotes_fit = fits c.loop-at.at c.loop-at.quotes _ _ c.counted-quotes.ensures c.loop-at.invariant.quotes_fit;
+  quotes_fit = fits c.loop-at.at c.loop-at.quotes _ _ c.count_if-quotes.ensures c.loop-at.invariant.quotes_fit;
 }

@@ -10,6 +10,6 @@ loop-at-init c = record { before = refl; before_fits = omega arith }
 
 pub loop-at-preserved : goal.loop-at-preserved
 loop-at-preserved c = record {
-  before = counts (begins_word c.args.said.now) c.loop-at.at c.loop-at.before _ _ c.loop-at.invariant.before c.begins_word-begins.ensures c.counted-before.ensures;
-  before_fits = fits c.loop-at.at c.loop-at.before _ _ c.counted-before.ensures c.loop-at.invariant.before_fits;
+  before = counts (begins_word c.args.said.now) c.loop-at.at c.loop-at.before _ _ c.loop-at.invariant.before c.begins_word-begins.ensures c.count_if-before.ensures;
+  before_fits = fits c.loop-at.at c.loop-at.before _ _ c.count_if-before.ensures c.loop-at.invariant.before_fits;
 }

@@ -11,6 +11,6 @@ loop-at-init c = record { first = refl; before = refl; before_fits = omega arith
 pub loop-at-preserved : goal.loop-at-preserved
 loop-at-preserved c = record {
   first = first_more c.args.text.now c.loop-at.at c.loop-at.first _ c.loop-at.invariant.first c.is_first_after-first.ensures;
-  before = counts (begins_table c.args.heading.now c.args.text.now) c.loop-at.at c.loop-at.before _ _ c.loop-at.invariant.before c.begins_table-begins.ensures c.counted-before.ensures;
-  before_fits = fits c.loop-at.at c.loop-at.before _ _ c.counted-before.ensures c.loop-at.invariant.before_fits;
+  before = counts (begins_table c.args.heading.now c.args.text.now) c.loop-at.at c.loop-at.before _ _ c.loop-at.invariant.before c.begins_table-begins.ensures c.count_if-before.ensures;
+  before_fits = fits c.loop-at.at c.loop-at.before _ _ c.count_if-before.ensures c.loop-at.invariant.before_fits;
 }

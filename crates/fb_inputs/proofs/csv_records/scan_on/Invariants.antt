@@ -1,12 +1,12 @@
 use Rattle.std.proofs.Common.{◌≡◌, ◌≤◌}
 use Rattle.fb_inputs.specs.Counts.{count_below}
 use Rattle.fb_inputs.specs.Records.{begins_record, is_quote}
-use Rattle.fb_inputs.proofs.csv_records.record_begin.Given as goal
+use Rattle.fb_inputs.proofs.csv_records.scan_on.Given as goal
 
 abbrev pub invariant-loop-at : goal.invariant-loop-at
 invariant-loop-at l = record {
   quotes : l.quotes ≡ count_below (is_quote l.text) l.at;
-  before : l.before ≡ count_below (begins_record l.text) l.at;
-  quotes_fit : l.quotes ≤ l.at;
-  before_fits : l.before ≤ l.at;
+  records : l.records ≡ count_below (begins_record l.text) l.at;
+  few_quotes : l.quotes ≤ l.at;
+  few_records : l.records ≤ l.at;
 }

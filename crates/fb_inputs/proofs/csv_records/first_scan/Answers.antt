@@ -1,0 +1,7 @@
+use Rattle.std.proofs.Common.{refl, arith}
+use Rattle.fb_inputs.specs.Counts.{count_below}
+use Rattle.fb_inputs.proofs.csv_records.first_scan.Goals as goal
+
+pub returns : goal.returns
+unfolding count_below
+returns c = λ text. record { within = omega arith; quotes = refl; records = refl; few_quotes = omega arith; few_records = omega arith }

@@ -1,6 +1,0 @@
-use Rattle.std.proofs.Common.{◌≡◌}
-use Rattle.fb_inputs.specs.Positions.{around_stimuli, stepped}
-use Rattle.fb_inputs.proofs.near_stimuli.nearest_in_stimuli.Given as goal
-
-abbrev pub invariant-loop : goal.invariant-loop
-invariant-loop l = l.here ≡ stepped around_stimuli l.counter l.fn.position
