@@ -80,8 +80,8 @@ fn depth_at(tokens: &[Located]) -> usize
     }
 }
 
-/// The number of tokens that are left at a clause, this many clauses after the one with which these tokens begin. `None` if
-/// there is no such clause.
+/// The number of tokens that are left at a clause, this many clauses after the one with which these tokens begin.
+/// `None` if there is no such clause.
 pub(crate) fn clause_left(tokens: &[Located], count: usize) -> Option<usize>
     requires { length tokens.now ≤ most_bytes }
     ensures { IfSome result (Leaves (spec.pass_clauses count) tokens.now) }

@@ -77,7 +77,7 @@ pub fn tokens_of(alloc: Global, text: &[u8]) -> Result<Items<Located>, AllocErro
     }
 }
 
-/// Frees tokens. Each crate that drops some proves their destructors once more, so other crates call this function.
+/// Frees tokens. Each crate that drops some proves their destructors again, so other crates call this function.
 pub fn discard(tokens: Items<Located>) {
     drop(tokens);
 }
@@ -112,8 +112,8 @@ fn span_at_stop(
     }
 }
 
-/// The bytes of the token at a position of a declaration, from the tokens of the text that declares this library, and from
-/// where they were read before. Positions that follow the order of the block types are found by one walk.
+/// The bytes of the token at a position of a declaration, from the tokens of the text that declares this library, and
+/// from where they were read before. Positions that follow the order of the block types are found by one walk.
 ///
 /// # Errors
 ///
@@ -146,7 +146,7 @@ pub(crate) fn span_from(
 }
 
 /// The bytes of the token at a position of a declaration, in the text that declares this library. `None` if there is no
-/// such position. The text is read once more for that, up to the position.
+/// such position. The text is read again for that, up to the position.
 ///
 /// # Errors
 ///

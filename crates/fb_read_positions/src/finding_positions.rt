@@ -284,8 +284,8 @@ fn variable_position(block: usize, variables: Variables, variable: usize) -> Pos
     }
 }
 
-/// A part of a statement: a condition of an IF at its IF or ELSIF, that of a REPEAT at UNTIL, and anything else where the
-/// statement begins.
+/// A part of a statement: a condition of an IF at its IF or ELSIF, that of a REPEAT at UNTIL, and anything else where
+/// the statement begins.
 fn statement_part(algorithm: usize, statement: usize, part: StatementPart) -> BasicPart
     ensures { result ≡ spec.statement_part algorithm statement part }
 {

@@ -1,19 +1,20 @@
-//! Positions of a declaration: the name of an instance, a variable or a state, the beginning of a connection or a statement,
-//! and so on. Says where a position is in the text, which position a finding of a check has, and what the position is called.
-//! No offset is kept in a `Library`; a text is read once more for a position.
+//! Positions of a declaration: the name of an instance, a variable or a state, the beginning of a connection or a
+//! statement, and so on. Says where a position is in the text, which position a finding of a check has, and what the
+//! position is called. No offset is kept in a `Library`; a text is read again for a position.
 //!
-//! Guarantees to callers. `find::span_of`: the bytes are those of a token of the text. The parser of `fb_read` reads the tokens
-//! before it as the entries before the position. If the library has a name at the position, the token is this name. `place`:
-//! a place has the line and the column of the token at its position. `finding_positions`: a finding is shown at the position of what it is about, and what is given twice at its
-//! later occurrence. `lookup::BlockTypes` has the ports of the type that a name represents. The words of `headings`, and what
-//! `source_line` shows, are not part of any contract.
+//! Guarantees to callers. `find::span_of`: the bytes are those of a token of the text. The parser of `fb_read` reads
+//! the tokens before it as the entries before the position. If the library has a name at the position, the token is
+//! this name. `place`: a place has the line and the column of the token at its position. `finding_positions`: a finding
+//! is shown at the position of what it is about, and what is given twice at its later occurrence. `lookup::BlockTypes`
+//! has the ports of the type that a name represents. The words of `headings`, and what `source_line` shows, are not
+//! part of any contract.
 //!
-//! Read in this order: `position`; `lists`, the item to which a position belongs; `skip`, `network`, `ports`, `basic` and
-//! `walk`, what is read up to it; `statements` and `clauses`, which are searched in the tokens; `resume`, from one position of
-//! a list to the next; `names`, the names that a library has at positions; `find`; `text_locations` and `place`, lines and
-//! columns; `finding_positions`. Then words: `words`, texts that grow; `lookup`, the meaning of names; `headings`, what a
-//! position is called; `source_line`, the source line of a place. All of this runs only after a refusal, and for warnings
-//! and stops.
+//! Read in this order: `position`; `lists`, the item to which a position belongs; `skip`, `network`, `ports`, `basic`
+//! and `walk`, what is read up to it; `statements` and `clauses`, which are searched in the tokens; `resume`, from one
+//! position of a list to the next; `names`, the names that a library has at positions; `find`; `text_locations` and
+//! `place`, lines and columns; `finding_positions`. Then words: `words`, texts that grow; `lookup`, the meaning of
+//! names; `headings`, what a position is called; `source_line`, the source line of a place. All of this runs only after
+//! a refusal, and for warnings and stops.
 #![tactic(auto)]
 
 mod basic;

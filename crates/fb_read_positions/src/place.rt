@@ -73,7 +73,8 @@ fn place_of(
     }
 }
 
-/// Where a position of a library is, from the tokens of the text that declares it, and from where an earlier place was found.
+/// Where a position of a library is, from the tokens of the text that declares it, and from where an earlier place was
+/// found.
 fn place_from(
     alloc: Global,
     declaration: &[u8],
@@ -140,9 +141,9 @@ fn places_among(
     Ok(places)
 }
 
-/// Where positions of a library are in the text that declares it, each at the index of its position. `None` stands for no
-/// position and no place. The text is read once more for that; positions that follow the order of a list are found by one
-/// walk.
+/// Where positions of a library are in the text that declares it, each at the index of its position. `None` stands for
+/// no position and no place. The text is read again for that; positions that follow the order of a list are found by
+/// one walk.
 ///
 /// # Errors
 ///

@@ -84,8 +84,8 @@ pub enum BasicPart {
     /// they begin in the text, those inside others too.
     Statement(usize, usize),
     /// The beginning of a clause of a statement, by the index of the algorithm, that of the statement and that of the
-    /// clause. Of an IF, 0 is the IF and a number from 1 its ELSIF of this number. Of a REPEAT, 0 is the REPEAT and 1 its
-    /// UNTIL.
+    /// clause. Of an IF, 0 is the IF and a number from 1 its ELSIF of this number. Of a REPEAT, 0 is the REPEAT and 1
+    /// its UNTIL.
     Clause(usize, usize, usize),
     /// A variable or a function that an algorithm names, counted as they occur in the text.
     Mention(usize, usize),

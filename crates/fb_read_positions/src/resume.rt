@@ -1,6 +1,6 @@
 //! Positions one after another: a position goes on from where an earlier one of the same list was.
 
-ghost use Rattle.std.specs.Prelude.{◌≡◌, ◌≢◌, ◌≤◌, ◌-◌, List, IfOk, IfSome, IsTrue, Ok, drop, length};
+ghost use Rattle.std.specs.Prelude.{◌≡◌, ◌≤◌, ◌-◌, List, IfOk, IfSome, IsTrue, Ok, drop, length};
 ghost use Rattle.fb_read.specs.Parser.{pure};
 ghost use Rattle.fb_read.specs.Whole.{most_bytes};
 ghost use Rattle.fb_read.specs.declared.token.Located.{Located};
@@ -13,11 +13,14 @@ ghost use Rattle.fb_read_positions.specs.declared.lists.ItemList.TheVariants as 
 use crate::clauses::clause_left;
 use crate::lists::{InnerList, Item, ItemList, OuterList, inner, is_same, item_of, outer};
 use crate::position::Position;
+use crate::skip::{pass_separated, to_name};
 use crate::statements::statement_left;
-use crate::walk::{from_item, pass_inner, pass_outer, to_application, to_first};
+use crate::walk::{from_item, pass_outer, to_application, to_first};
 use fb_read::cursor::Cursor;
 use fb_read::fault::ParseFault;
+use fb_read::rule::Rule;
 use fb_read::token::Located;
+use fb_types::{Action, Name, Parameter};
 use std::alloc::{AllocError, Global};
 
 /// How far a list was read.
@@ -109,7 +112,7 @@ fn listed_of(reached: Reached, list: ItemList) -> Option<Listed>
 }
 
 /// What was read, after this list too.
-fn noted(reached: Reached, listed: Listed) -> Reached
+fn with_list(reached: Reached, listed: Listed) -> Reached
     ensures { (tokens : List Located) → IsReached tokens reached → IsListed tokens listed → IsReached tokens result }
 {
     let now = Some(listed);
@@ -143,7 +146,7 @@ fn stop_at(reached: Reached, item: Item, left: usize) -> Stop
 {
     Stop {
         left,
-        reached: noted(reached, Listed { item, left }),
+        reached: with_list(reached, Listed { item, left }),
     }
 }
 
@@ -164,8 +167,40 @@ fn left_past_outer(
     Ok(Some(cursor.left()))
 }
 
-/// The number of tokens that are left at an item of a list of an item, this many items after the one with which these tokens
-/// begin.
+/// The number of tokens that are left where this many items, with a comma after each, were read from these tokens.
+fn left_past_separated<T: Rule>(
+    alloc: Global,
+    tokens: &[Located],
+    count: usize,
+) -> Result<Option<usize>, AllocError>
+    requires { length tokens.now ≤ most_bytes }
+    ensures { IfOk result (λ o. IfSome o (Leaves (spec.pass_separated T.parser count) tokens.now)) }
+{
+    let mut cursor = Cursor::new(alloc, tokens);
+    if !is_read(pass_separated::<T>(&mut cursor, count))? {
+        return Ok(None);
+    }
+    Ok(Some(cursor.left()))
+}
+
+/// The number of tokens that are left at the name at an index among the names in these tokens.
+fn left_at_name(
+    alloc: Global,
+    tokens: &[Located],
+    index: usize,
+) -> Result<Option<usize>, AllocError>
+    requires { length tokens.now ≤ most_bytes }
+    ensures { IfOk result (λ o. IfSome o (Leaves (λ ts. spec.to_name ts index) tokens.now)) }
+{
+    let mut cursor = Cursor::new(alloc, tokens);
+    if !is_read(to_name(&mut cursor, index))? {
+        return Ok(None);
+    }
+    Ok(Some(cursor.left()))
+}
+
+/// The number of tokens that are left at an item of a list of an item, this many items after the one with which these
+/// tokens begin.
 fn left_past_inner(
     alloc: Global,
     tokens: &[Located],
@@ -176,27 +211,13 @@ fn left_past_inner(
     ensures { IfOk result (λ o. IfSome o (Leaves (spec.pass_inner list count) tokens.now)) }
 {
     match list {
+        InnerList::With => left_past_separated::<Name>(alloc, tokens, count),
+        InnerList::Parameters => left_past_separated::<Parameter>(alloc, tokens, count),
+        InnerList::Actions => left_past_separated::<Action>(alloc, tokens, count),
         InnerList::Statements => Ok(statement_left(alloc, tokens, count)),
-        _ => left_past_others(alloc, tokens, list, count),
+        InnerList::Mentions => left_at_name(alloc, tokens, count),
+        InnerList::GuardMentions => left_at_name(alloc, tokens, count),
     }
-}
-
-/// The same for a list of anything but statements.
-fn left_past_others(
-    alloc: Global,
-    tokens: &[Located],
-    list: InnerList,
-    count: usize,
-) -> Result<Option<usize>, AllocError>
-    requires few { length tokens.now ≤ most_bytes }
-    requires others { list ≢ InnerList.Statements }
-    ensures { IfOk result (λ o. IfSome o (Leaves (spec.pass_inner list count) tokens.now)) }
-{
-    let mut cursor = Cursor::new(alloc, tokens);
-    if !is_read(pass_inner(&mut cursor, list, count))? {
-        return Ok(None);
-    }
-    Ok(Some(cursor.left()))
 }
 
 /// The number of tokens that are left at an item of a list, this many items after the one with which these tokens begin.

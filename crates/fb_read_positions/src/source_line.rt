@@ -10,8 +10,8 @@ const MOST_OF_LINE: usize = 200;
 /// How many of them are before the location, if the line is cut.
 const MOST_BEFORE: usize = 100;
 
-/// The bytes of a text from the beginning of a line on, up to the end of the line, or as far past the marked byte as a line
-/// is shown. A carriage return at the end is no part of it.
+/// The bytes of a text from the beginning of a line on, up to the end of the line, or as far past the marked byte as a
+/// line is shown. A carriage return at the end is no part of it.
 fn line_round(bytes: &[u8], start: usize, marked: usize) -> &[u8] {
     let rest = bytes.get(start..).unwrap_or(&[]);
     let before = marked.saturating_sub(start);
@@ -39,8 +39,8 @@ fn shown_in_line(byte: u8) -> u8 {
     if byte == b'\t' { byte } else { shown(byte) }
 }
 
-/// Adds the line of a text that begins at an offset, cut round the byte at the other offset, and a line with a mark under
-/// this byte. A tab before the byte is a tab in the line of the mark too, so that the mark is under the byte.
+/// Adds the line of a text that begins at an offset, cut round the byte at the other offset, and a line with a mark
+/// under this byte. A tab before the byte is a tab in the line of the mark too, so that the mark is under the byte.
 fn push_marked(text: &mut Text, bytes: &[u8], start: usize, marked: usize) {
     let line = line_round(bytes, start, marked);
     let at = marked.saturating_sub(start);

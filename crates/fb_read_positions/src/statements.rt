@@ -1,5 +1,5 @@
-//! Statements. They are searched in the tokens themselves: a CASE may have thousands of labels, and between statements each
-//! token is passed in a few instructions.
+//! Statements. They are searched in the tokens themselves: a CASE may have thousands of labels, and between statements
+//! each token is passed in a few instructions.
 
 ghost use Rattle.std.specs.Prelude.{◌≡◌, ◌≤◌, ◌∷◌, [], true, IfSome, length};
 ghost use Rattle.fb_read.specs.Parser.{is_mark};

@@ -1,6 +1,6 @@
 //! Lists and positions of a whole declaration.
 
-ghost use Rattle.std.specs.Prelude.{◌≢◌, []};
+ghost use Rattle.std.specs.Prelude.{[]};
 ghost use Rattle.fb_read.specs.Parser.{Reads, run_after};
 ghost use Rattle.fb_read.specs.Blocks.{block};
 ghost use Rattle.fb_read.specs.declared.token.Mark.TheVariants as mark;
@@ -11,12 +11,12 @@ use crate::lists::{InnerList, ItemList, OuterList};
 use crate::network::{pass_in_network, to_network_list, to_network_part, to_parameters};
 use crate::ports::{pass_in_ports, to_port_list, to_with};
 use crate::position::Position;
-use crate::skip::{pass_separated, skip, to_name};
+use crate::skip::skip;
 use fb_read::cursor::Cursor;
 use fb_read::fault::ParseFault;
 use fb_read::rule::run_after;
 use fb_read::token::Mark;
-use fb_types::{Action, Application, BlockType, Name, Parameter, Ports};
+use fb_types::{Application, BlockType, Name, Ports};
 
 /// Reads the application, if it is next.
 #[tactic(auto, unfolding(crate::specs::Walks::past_application))]
@@ -96,7 +96,8 @@ fn to_network(cursor: &mut Cursor<'_>) -> Result<(), ParseFault>
     skip::<Name>(cursor)
 }
 
-/// Reads up to the first item of a list that is in no item, from the beginning of the text or the block type that has it.
+/// Reads up to the first item of a list that is in no item, from the beginning of the text or the block type that has
+/// it.
 fn to_first_outer(cursor: &mut Cursor<'_>, list: OuterList) -> Result<(), ParseFault>
     ensures { Reads (spec.to_first_outer list cursor.old) result cursor.new }
 {
@@ -148,24 +149,8 @@ fn to_first_inner(cursor: &mut Cursor<'_>, list: InnerList) -> Result<(), ParseF
     }
 }
 
-/// Reads on to an item of a list of an item, this many items after the one that is next. Statements are searched in the
-/// tokens.
-pub fn pass_inner(cursor: &mut Cursor<'_>, list: InnerList, count: usize) -> Result<(), ParseFault>
-    requires { list ≢ InnerList.Statements }
-    ensures { Reads (spec.pass_inner list count cursor.old) result cursor.new }
-{
-    match list {
-        InnerList::With => pass_separated::<Name>(cursor, count),
-        InnerList::Parameters => pass_separated::<Parameter>(cursor, count),
-        InnerList::Actions => pass_separated::<Action>(cursor, count),
-        InnerList::Statements => unreachable!(),
-        InnerList::Mentions => to_name(cursor, count),
-        InnerList::GuardMentions => to_name(cursor, count),
-    }
-}
-
-/// Reads up to the first item of a list, from the beginning of the text, the block type, the item or the statement that has
-/// it.
+/// Reads up to the first item of a list, from the beginning of the text, the block type, the item or the statement that
+/// has it.
 pub fn to_first(cursor: &mut Cursor<'_>, list: ItemList) -> Result<(), ParseFault>
     ensures { Reads (spec.to_first list cursor.old) result cursor.new }
 {
